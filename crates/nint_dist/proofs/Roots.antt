@@ -1,0 +1,54 @@
+-- The nearest root as it is computed is the least number that the definition asks for.
+use Rattle.std.proofs.Common.{◌≡◌, ℕ, zero, suc, ◌+◌, ◌-◌, ◌*◌, ◌/◌, ◌%◌, ◌<◌, ◌≤◌, ⊎_elim, cond, sym, arith}
+use Rattle.std.specs.Prelude.{nat_le, nat_lt}
+use Rattle.std.proofs.Math.Nat.{suc-mul}
+use Rattle.std.proofs.lemmas.Nat.{mul-le, div-add-mod', mod_below}
+use Rattle.std.proofs.lemmas.Bool.{cases_lt, cond_both, ltb-true, ltb-false, leb-true, leb-false}
+use Rattle.nint_dist.specs.NearestRoot.{IsNearestRoot, doubled_root, whole_root, nearest_root}
+
+-- r is the whole part of the root of s
+record IsWholeRoot (s r : ℕ) : Type 0 where
+  below : r * r ≤ s
+  above : s < (r + 1) * (r + 1)
+
+-- a quarter's whole root, doubled
+doubled : (s q t r : ℕ) → s ≡ q * 4 + t → t < 4 → IsWholeRoot q r → IsWholeRoot s (doubled_root s r)
+doubled s q t r e h w =
+    cond_both (nat_le ((2 * r + 1) * (2 * r + 1)) s) (2 * r + 1) (2 * r) (IsWholeRoot s)
+    (λ yes. let reached : (2 * r + 1) * (2 * r + 1) ≤ s = leb-true _ _ yes in record { below = reached; above = omega arith })
+    (λ no. let missed : s < (2 * r + 1) * (2 * r + 1) = leb-false _ _ no in record { below = omega arith; above = missed })
+
+whole : (depth s : ℕ) → s ≤ depth → IsWholeRoot s (whole_root depth s)
+unfolding whole_root
+whole zero zero h = record { below = omega arith; above = omega arith }
+whole zero (suc s) h = absurd (omega arith)
+whole (suc depth) zero h = record { below = omega arith; above = omega arith }
+whole (suc depth) (suc s) h =
+    doubled (suc s) (suc s / 4) (suc s % 4) (whole_root depth (suc s / 4)) (sym (div-add-mod' (suc s) 4))
+    (mod_below (suc s) 4 (omega arith)) (whole depth (suc s / 4) (omega arith))
+
+-- where the number before d is too small, no smaller one is large enough
+pub least_from : (s d : ℕ) → (0 < d → (d - 1) * d < s) → (e : ℕ) → s ≤ e * (e + 1) → d ≤ e
+least_from s d before e h =
+    ⊎_elim (λ (small : e < d). absurd (omega (arith, before (omega arith), mul-le e (e + 1) (d - 1) d (omega arith) (omega arith)))) (λ (k : d ≤ e). k) (cases_lt e d)
+
+-- two nearest roots of one number are the same
+pub same_root : (s d e : ℕ) → IsNearestRoot s d → IsNearestRoot s e → d ≡ e
+same_root s d e p q = omega (arith, p.least e q.reaches, q.least d p.reaches)
+
+-- a number times the one before it, with the number added, is its square
+before_square : (r : ℕ) → 0 < r → (r - 1) * r + r ≡ r * r
+before_square zero h = absurd (omega arith)
+before_square (suc q) h =
+    let one_less : suc q - 1 ≡ q = omega arith in rw one_less (sym (suc-mul q (suc q)))
+
+-- the nearest root from the whole part of the root
+rounded : (s r : ℕ) → IsWholeRoot s r → IsNearestRoot s (cond (nat_lt (r * (r + 1)) s) (r + 1) r)
+rounded s r w =
+    cond_both (nat_lt (r * (r + 1)) s) (r + 1) r (IsNearestRoot s)
+    (λ yes. let past : r * (r + 1) < s = ltb-true _ _ yes in record { reaches = omega arith; least = least_from s (r + 1) (λ _. let one_less : r + 1 - 1 ≡ r = omega arith in rw one_less past) })
+    (λ no. let within : s ≤ r * (r + 1) = ltb-false _ _ no in record { reaches = within; least = least_from s r (λ positive. omega (arith, before_square r positive)) })
+
+pub nearest : (s : ℕ) → IsNearestRoot s (nearest_root s)
+unfolding nearest_root
+nearest s = rounded s (whole_root s s) (whole s s (omega arith))

@@ -1,0 +1,18 @@
+-- The distance of two stops (TSPLIB95, EUC_2D).
+use Rattle.std.specs.Prelude.{ℕ, ◌+◌, ◌*◌, ◌-ℤ◌, unsigned_abs}
+use Rattle.plan_types.specs.Limits.{IsCoordinate}
+use Rattle.plan_types.specs.declared.requests.Stop.{Stop}
+use Rattle.nint_dist.specs.NearestRoot.{nearest_root}
+
+-- its coordinates keep their limits
+abbrev pub IsPlaced : Stop → Type 0
+IsPlaced s = IsCoordinate s.x × IsCoordinate s.y
+
+-- the sum of the squares of the coordinates' differences
+abbrev pub squared_distance : Stop → Stop → ℕ
+squared_distance a b =
+    let dx = unsigned_abs (a.x -ℤ b.x) in let dy = unsigned_abs (a.y -ℤ b.y) in dx * dx + dy * dy
+
+-- its root, rounded to the nearest whole number
+unfoldable pub distance : Stop → Stop → ℕ
+distance a b = nearest_root (squared_distance a b)

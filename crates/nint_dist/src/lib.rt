@@ -1,0 +1,75 @@
+//! Distances rounded to the nearest whole number, as TSPLIB95 defines them for EUC_2D.
+#![tactic(auto)]
+
+ghost use Rattle.std.specs.Prelude.{◌≡◌, ◌+◌, ◌*◌, ◌≤◌, ◌-ℤ◌, unsigned_abs};
+ghost use Rattle.plan_types.specs.Limits.{IsCoordinate};
+ghost use Rattle.nint_dist.specs.Distance.{IsPlaced, distance, squared_distance};
+
+mod root;
+
+use plan_types::Stop;
+pub use root::nint_root;
+
+/// The distance of two stops: the root of the sum of the squares of their coordinates' differences,
+/// rounded to the nearest whole number (TSPLIB95, EUC_2D).
+///
+/// Rounded distances break the triangle inequality: a way over a third stop can be shorter.
+#[tactic(auto, unfolding(crate::specs::Distance::distance))]
+pub fn dist(a: &Stop, b: &Stop) -> u32
+    requires from { IsPlaced a.now }
+    requires to { IsPlaced b.now }
+    ensures value { result ≡ distance a.now b.now }
+    ensures bound { result ≤ 2828427 }
+{
+    let dx = gap(a.x, b.x);
+    let dy = gap(a.y, b.y);
+    nint_root(dx * dx + dy * dy) as u32
+}
+
+/// How far two coordinates are apart.
+fn gap(x: i32, y: i32) -> u64
+    requires from { IsCoordinate x }
+    requires to { IsCoordinate y }
+    ensures value { result ≡ unsigned_abs (x -ℤ y) }
+    ensures bound { result ≤ 2000000 }
+{
+    u64::from(x.abs_diff(y))
+}
+
+#[cfg(test)]
+mod tests {
+    use super::*;
+
+    fn stop_at(x: i32, y: i32) -> Stop
+        requires { IsCoordinate x × IsCoordinate y }
+        ensures { IsPlaced result }
+    {
+        Stop {
+            number: 1,
+            x,
+            y,
+            demand: 0,
+            earliest: 0,
+            latest: 0,
+            service: 0,
+        }
+    }
+
+    #[test]
+    fn rounds_to_the_nearest(rt: HostRuntime) {
+        for (s, root) in [(0, 0), (2, 1), (6, 2), (7, 3), (12, 3), (13, 4)] {
+            assert_eq!(rt; nint_root(s), root, "the root of {s}");
+        }
+        assert_eq!(rt; nint_root(u64::MAX), 1 << 32);
+    }
+
+    #[test]
+    fn measures_distances(rt: HostRuntime) {
+        assert_eq!(rt; dist(&stop_at(0, 0), &stop_at(1, 1)), 1);
+        assert_eq!(rt; dist(&stop_at(1, 1), &stop_at(2, 2)), 1);
+        assert_eq!(rt; dist(&stop_at(0, 0), &stop_at(2, 2)), 3);
+        let low = stop_at(-1_000_000, -1_000_000);
+        let high = stop_at(1_000_000, 1_000_000);
+        assert_eq!(rt; dist(&low, &high), 2_828_427);
+    }
+}

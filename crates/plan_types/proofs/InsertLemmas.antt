@@ -1,0 +1,86 @@
+-- One more request among those that stand by name.
+use Rattle.std.proofs.Common.{◌≡◌, ℕ, suc, zero, ◌<◌, ◌≤◌, cond, List, [], ◌∷◌, ◌++◌, length, get_or, take, drop, Option, Some, None, Result, Ok, Err, refl, sym, ap, ◌∙◌, nat_eq, inl, inr, arith, slice_get, ◌-◌}
+use Rattle.std.proofs.lemmas.Bool.{lt-ltb, le-ltb}
+use Rattle.std.proofs.lemmas.Bool.Decides.{eqb_tells}
+use Rattle.std.proofs.Math.Seq.{get_or-append_seam}
+use Rattle.std.proofs.lemmas.List.{length-append}
+use Rattle.std.proofs.lemmas.List.Edits.{remove-append_right}
+use Rattle.std.proofs.lemmas.Option.{slice_get-get_or}
+use Rattle.std.specs.List.{remove}
+use Rattle.std.specs.Map.{keys_of, lookup}
+use Rattle.std.specs.List.{insert, position_or_len}
+use Rattle.std.specs.List.Sorted.{IsStrictlySortedBy, IsBinarySearchResult}
+use Rattle.std.specs.Option.{option_map_or}
+use Rattle.std.specs.Ordering.{nat_cmp}
+use Rattle.std.specs.Result.{MatchResult}
+use Rattle.std.proofs.lemmas.List.Sorted.{searched}
+use Rattle.std.proofs.lemmas.List.{length-map, append-nil}
+use Rattle.std.proofs.lemmas.Map.Keys.{non_decreasing_from_sorted}
+use Rattle.indexmap.proofs.MapLemmas.{absent_from_lookup, or_len-absent, insert_entry-absent}
+use Rattle.indexmap.specs.IndexMap.{move_index, insert_entry, index_before}
+use Rattle.plan_types.proofs.LookupLemmas.{none_some}
+use Rattle.plan_types.specs.Instance.{lesser_names, greater_names, with_entry}
+use Rattle.plan_types.specs.Request.{request_name}
+use Rattle.plan_types.specs.declared.requests.Request.{Request}
+
+-- the first i names are lesser and the others greater
+pub names_split : (name : ℕ) (es : List (ℕ × Request)) (i : ℕ) → i ≤ length es
+    → ((k : ℕ) → k < i → get_or (keys_of es) k 0 < name)
+    → ((k : ℕ) → i ≤ k → k < length es → name < get_or (keys_of es) k 0)
+    → (lesser_names es name ≡ take i es) × (greater_names es name ≡ drop i es)
+names_split name [] zero le low high = (refl, refl)
+names_split name [] (suc i) le low high = absurd (omega arith)
+names_split name (e ∷ es) zero le low high =
+    let above : name < e.0 = high 0 (omega arith) (omega arith) in
+    let rest = names_split name es zero (omega arith) (λ k b. absurd (omega arith)) (λ k a b. high (suc k) (omega arith) (omega arith)) in
+    (rw (le-ltb e.0 name (omega arith)) (rest.0), rw (lt-ltb name e.0 above) (ap (λ l. e ∷ l) rest.1))
+names_split name (e ∷ es) (suc i) le low high =
+    let below : e.0 < name = low 0 (omega arith) in
+    let rest = names_split name es i (omega arith) (λ k b. low (suc k) (omega arith)) (λ k a b. high (suc k) (omega arith) (omega arith)) in
+    (rw (lt-ltb e.0 name below) (ap (λ l. e ∷ l) rest.0), rw (le-ltb name e.0 (omega arith)) (rest.1))
+
+-- a name that is found nowhere stands at no place
+lookup-none_at : (name : ℕ) (es : List (ℕ × Request)) (i : ℕ) → lookup (nat_eq name) es ≡ None → i < length es → get_or (keys_of es) i 0 ≡ name → ⊥
+lookup-none_at name [] i none within at = omega arith
+lookup-none_at name (e ∷ es) i none within at = elim (eqb_tells name e.0) [
+  | inl t ↦ none_some e.1 (sym none ∙ rw t.0 refl)
+  | inr t ↦ further i within at t.1 (λ j b h. lookup-none_at name es j (let n : lookup (nat_eq name) (e ∷ es) ≡ None = none in rw t.0 at n) b h)
+]
+  where
+    further : (i : ℕ) → i < length (e ∷ es) → get_or (keys_of (e ∷ es)) i 0 ≡ name → (name ≡ e.0 → ⊥) → ((j : ℕ) → j < length es → get_or (keys_of es) j 0 ≡ name → ⊥) → ⊥
+    further zero b at apart rest = apart (sym at)
+    further (suc j) b at apart rest = rest j (omega arith) at
+
+-- what a binary search of the names says of a name that is not there
+module _ (name : ℕ) (es : List (ℕ × Request)) (rising : IsStrictlySortedBy nat_cmp (keys_of es)) (none : lookup (nat_eq name) es ≡ None) where
+  pub search_split : (r : Result ℕ ℕ) → IsBinarySearchResult (λ y. nat_cmp y name) (keys_of es) r → MatchResult r (λ i. ⊥) (λ i. (lesser_names es name ≡ take i es) × (greater_names es name ≡ drop i es))
+  search_split (Ok i) h =
+      let s = searched (keys_of es) name (Ok i) h (λ i j a b. non_decreasing_from_sorted _ rising i j 0 a b) in
+      lookup-none_at name es i none (let b : i < length (keys_of es) = s.0 in rw length-map at b) s.1
+  search_split (Err i) h =
+      let s = searched (keys_of es) name (Err i) h (λ i j a b. non_decreasing_from_sorted _ rising i j 0 a b) in
+      names_split name es i (let b : i ≤ length (keys_of es) = s.0 in rw length-map at b) s.1 (λ k a b. s.2 k a (rw length-map b))
+
+-- moving the last element to place i
+pub move_index-last : (es : List (ℕ × Request)) (e : ℕ × Request) (i : ℕ) → move_index (es ++ e ∷ []) (length es) i ≡ take i es ++ e ∷ drop i es
+move_index-last es e i =
+    let there : slice_get (es ++ e ∷ []) (length es) ≡ Some e = slice_get-get_or (es ++ e ∷ []) (length es) e (simp length-append (omega arith)) ∙ ap Some (get_or-append_seam es e [] e) in
+    let one : length es - length es ≡ 0 = omega arith in
+    let front : remove (es ++ e ∷ []) (length es) ≡ es = remove-append_right es (e ∷ []) (length es) (length es) refl (omega arith) ∙ rw one (append-nil es) in
+    ap (λ (o : Option (ℕ × Request)). option_map_or (λ x. insert (remove (es ++ e ∷ []) (length es)) i x) o (es ++ e ∷ [])) there ∙ ap (λ l. insert l i e) front
+
+-- a new name that goes before place i
+pub inserted_before : (name : ℕ) (r : Request) (es : List (ℕ × Request)) (i j : ℕ) → i ≤ length es → lookup (nat_eq name) es ≡ None
+    → j ≡ index_before (position_or_len (nat_eq name) (keys_of es)) i
+    → move_index (insert_entry nat_eq es name r) (position_or_len (nat_eq name) (keys_of es)) j ≡ take i es ++ (name, r) ∷ drop i es
+inserted_before name r es i j le none is =
+    let absent = absent_from_lookup (nat_eq name) es none in
+    let last = or_len-absent (nat_eq name) es absent in
+    let place : j ≡ i = is ∙ ap (λ n. index_before n i) last ∙ ap (λ b. cond b (i - 1) i) (le-ltb (length es) i le) in
+    ap (λ l. move_index l (position_or_len (nat_eq name) (keys_of es)) j) (insert_entry-absent nat_eq name r es absent)
+    ∙ ap (λ n. move_index (es ++ (name, r) ∷ []) n j) last ∙ ap (λ n. move_index (es ++ (name, r) ∷ []) (length es) n) place
+    ∙ move_index-last es (name, r) i
+
+-- where the names split at place i, that is the list with the request among them
+pub with_entry-at : (es : List (ℕ × Request)) (name : ℕ) (r : Request) (i : ℕ) → name ≡ request_name r → lesser_names es name ≡ take i es → greater_names es name ≡ drop i es → take i es ++ (name, r) ∷ drop i es ≡ with_entry es r
+with_entry-at es name r i is lesser greater = rw (← lesser, ← greater) (ap (λ n. lesser_names es n ++ (n, r) ∷ greater_names es n) is)

@@ -1,0 +1,30 @@
+use Rattle.std.proofs.Common.{rules, List, Option, ap, ◌∙◌}
+use Rattle.plan_types.specs.Request.{IsRequest}
+use Rattle.plan_types.specs.Located.{instance_of, located_in, located_at}
+use Rattle.plan_types.specs.Instance.{IsTaken}
+use Rattle.plan_types.proofs.InstanceLemmas.{IsInstance-with_request}
+use Rattle.plan_types.proofs.LookupLemmas.{lookup-name-free, located-with_entry, take-overwritten}
+use Rattle.std.specs.Option.{option_or}
+use Rattle.plan_types.specs.declared.problems.Located.{Located}
+use Rattle.plan_types.proofs.problems.Problem.put.Goals as goal
+
+pub insert_by_name-requires-clause-absent : goal.insert_by_name-requires-clause-absent
+insert_by_name-requires-clause-absent c =
+    let free : IsTaken (instance_of c.self.inside) c.args.request → ⊥ = search rules in
+    lookup-name-free (instance_of c.self.inside) c.args.request c.self.invariant.valid free
+
+pub invariant_of-self-2 : goal.invariant_of-self-2
+invariant_of-self-2 c =
+    let p = instance_of c.self.inside in
+    let fits : IsRequest c.args.request = search rules in
+    let free : IsTaken (instance_of c.self.inside) c.args.request → ⊥ = search rules in
+    let put = c.in_ok-insert_by_name.ensures in
+    record {
+      valid = rw (put.ok, c.max-self-inside.ensures, c.number_after-after.ensures) (IsInstance-with_request p c.args.request c.self.invariant.valid fits free put.split);
+      located = λ n.
+          rw (put.ok)
+          (ap (λ (l : List (Option Located)). located_at l n) (take-overwritten c.make_room.new.located.len c.locate.new.located c.make_room.new.located.items (search rules))
+          ∙ c.locate.ensures n
+          ∙ ap (option_or (located_in n c.args.request)) (ap (λ (l : List (Option Located)). located_at l n) c.deref_mut.ensures.value ∙ c.in_ok-make_room.ensures.same n ∙ c.self.invariant.located n)
+          ∙ located-with_entry (instance_of c.self.inside) c.args.request n free put.split);
+    }

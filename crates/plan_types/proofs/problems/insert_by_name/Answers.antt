@@ -1,0 +1,14 @@
+use Rattle.std.proofs.Common.{sym, ◌∙◌, ◌≡◌, None, subst, nat_eq, ℕ}
+use Rattle.std.specs.Map.{lookup}
+use Rattle.plan_types.proofs.InsertLemmas.{inserted_before, with_entry-at}
+use Rattle.plan_types.proofs.problems.insert_by_name.Goals as goal
+
+pub returns-clause-ok : goal.returns-clause-ok
+returns-clause-ok c =
+    let es = c.args.requests.now.entries in
+    let named = c.name-name.ensures in
+    let place = c.place_of-place in
+    let absent : lookup (nat_eq c.name-name.result) es ≡ None = subst (λ (n : ℕ). lookup (nat_eq n) es ≡ None) (sym named) c.requires.absent in
+    c.in_ok-insert_before.ensures.entries
+    ∙ inserted_before c.name-name.result c.args.request es place.result c.in_ok-insert_before.field-0.0 place.ensures.within absent c.in_ok-insert_before.ensures.index
+    ∙ with_entry-at es c.name-name.result c.args.request place.result named place.ensures.lesser place.ensures.greater

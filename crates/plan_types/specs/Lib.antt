@@ -1,0 +1,4 @@
+pub mod Instance
+pub mod Limits
+pub mod Located
+pub mod Request

@@ -1,0 +1,18 @@
+//! The data of pickup and delivery and of capacitated routing: stops, requests, problems, plans, pins and costs.
+#![tactic(auto)]
+
+pub mod limits;
+mod plans;
+mod problems;
+mod requests;
+
+pub use plans::{Cost, Pins, Plan, Route, Routes};
+pub use problems::{Problem, PutFault};
+pub use requests::{Kind, Request, Stop};
+use std::alloc::AllocError;
+
+/// Why a call that needed memory gave up: an allocation was refused.
+pub type OutOfMemory = AllocError;
+
+#[cfg(test)]
+mod tests;

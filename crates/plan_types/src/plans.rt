@@ -1,0 +1,153 @@
+ghost use Rattle.std.specs.Prelude.{◌≡◌, IfOk};
+ghost use Rattle.std.specs.Prelude.{List, ℕ};
+
+use crate::OutOfMemory;
+use std::alloc::Global;
+use std::marker::Model;
+
+/// The stops of one vehicle in the order of its visits, by number. The depot at both ends is left out.
+#[derive(Debug, Drop)]
+pub struct Route {
+    stops: Vec<u32>,
+}
+
+impl Model for Route {
+    ghost Value = { List ℕ };
+
+    ghost view = { λ r. r.stops.items };
+}
+
+impl Route {
+    /// The stop numbers in order.
+    pub fn as_slice(&self) -> &[u32]
+        ensures { result.now ≡ self.now }
+    {
+        self.stops.as_slice()
+    }
+
+    /// Gives the numbers back, without taking memory.
+    pub fn into_vec(self) -> Vec<u32>
+        ensures { result.items ≡ self }
+    {
+        let Route { stops } = self;
+        stops
+    }
+
+    /// A second route with the same stops.
+    pub fn copy(&self) -> Result<Route, OutOfMemory>
+        ensures { IfOk result (λ copy. copy ≡ self.now) }
+    {
+        let stops = Vec::from_slice(*self.stops.allocator(), self.stops.as_slice())?;
+        Ok(Route { stops })
+    }
+}
+
+impl From<Vec<u32>> for Route {
+    ghost from_gives = { λ stops route. route ≡ stops.items };
+
+    /// Takes no memory.
+    fn from(stops: Vec<u32>) -> Route {
+        Route { stops }
+    }
+}
+
+/// One route for each vehicle, in the order of the vehicles.
+#[derive(Debug, Drop)]
+pub struct Routes {
+    routes: Vec<Route>,
+}
+
+impl Model for Routes {
+    ghost Value = { List (List ℕ) };
+
+    ghost view = { λ r. r.routes.items };
+}
+
+impl Routes {
+    /// The routes in order.
+    pub fn as_slice(&self) -> &[Route]
+        ensures { result.now ≡ self.now }
+    {
+        self.routes.as_slice()
+    }
+
+    /// Gives the routes back, without taking memory.
+    pub fn into_vec(self) -> Vec<Route>
+        ensures { result.items ≡ self }
+    {
+        let Routes { routes } = self;
+        routes
+    }
+
+    /// A second list of the same routes.
+    pub fn copy(&self) -> Result<Routes, OutOfMemory>
+        ensures { IfOk result (λ copy. copy ≡ self.now) }
+    {
+        let routes = copies(*self.routes.allocator(), self.routes.as_slice())?;
+        Ok(Routes { routes })
+    }
+}
+
+fn copies(alloc: Global, routes: &[Route]) -> Result<Vec<Route>, OutOfMemory>
+    ensures { IfOk result (λ copies. copies.items ≡ routes.now) }
+{
+    let mut copies = Vec::with_capacity(alloc, routes.len())?;
+    for route in routes {
+        copies.push(route.copy()?)?;
+    }
+    Ok(copies)
+}
+
+impl From<Vec<Route>> for Routes {
+    ghost from_gives = { λ routes list. list ≡ routes.items };
+
+    /// Takes no memory.
+    fn from(routes: Vec<Route>) -> Routes {
+        Routes { routes }
+    }
+}
+
+/// What each vehicle does. A request with no stop in any route is unplanned.
+#[derive(Debug, Drop)]
+pub struct Plan {
+    pub routes: Routes,
+}
+
+impl Plan {
+    /// A second plan with the same routes.
+    pub fn copy(&self) -> Result<Plan, OutOfMemory>
+        ensures { IfOk result (λ copy. copy ≡ self.now) }
+    {
+        Ok(Plan {
+            routes: self.routes.copy()?,
+        })
+    }
+}
+
+/// For each vehicle the stops that its route must begin with.
+#[derive(Debug, Drop)]
+pub struct Pins {
+    pub routes: Routes,
+}
+
+impl Pins {
+    /// A second list of the same pins.
+    pub fn copy(&self) -> Result<Pins, OutOfMemory>
+        ensures { IfOk result (λ copy. copy ≡ self.now) }
+    {
+        Ok(Pins {
+            routes: self.routes.copy()?,
+        })
+    }
+}
+
+/// What a plan costs, compared part by part in this order.
+#[derive(Clone, Copy, Debug, PartialEq, Eq, PartialOrd, Ord)]
+pub struct Cost {
+    /// How many requests have no stop in any route.
+    pub unplanned: u64,
+    /// How many routes are not empty; 0 in a problem of kind `Vrp`, where distance alone counts.
+    pub vehicles: u64,
+    /// The sum of the distances between neighbouring places.
+    pub distance: u64,
+}

@@ -1,0 +1,277 @@
+ghost use Rattle.std.specs.Prelude.{◌≡◌, ℕ, IsTrue, ◌<◌, ◌≤◌, ◌↔◌, length, IsOk, IfOk, IfErr, IfSome, OnOk, OnErr, IsErrOf, IsSome, None, Some, nat_eq, ◌==◌, if◌then◌else◌, take, drop, vec_len};
+ghost use Rattle.std.specs.List.{AllByRecursion};
+ghost use Rattle.std.specs.List.Sorted.{IsStrictlySortedBy};
+ghost use Rattle.std.specs.Ordering.{nat_cmp};
+ghost use Rattle.std.specs.Map.{lookup};
+ghost use Rattle.std.specs.Option.{option_copied, option_or};
+ghost use Rattle.indexmap.specs.IndexMap.{get, keys, index_map_len};
+ghost use Rattle.plan_types.specs.Limits.{IsDepot, IsCapacity, IsFleet, IsStop};
+ghost use Rattle.plan_types.specs.Request.{request_name, number_after, IsRequest};
+ghost use Rattle.plan_types.specs.Instance.{stop_at, name_at, request_with, new_instance, with_entry, with_request, lesser_names, greater_names, Splits, numbers_among, first_some, IsInstance, IsTaken};
+ghost use Rattle.plan_types.specs.Located.{located_at, located_in};
+
+use crate::OutOfMemory;
+use crate::limits::{MAX_CAPACITY, MAX_FLEET};
+use crate::requests::{Kind, Request, Stop};
+use indexmap::IndexMap;
+use std::alloc::{AllocError, AllocFailed, Global};
+use std::marker::Model;
+use thiserror::Error;
+
+/// Why a problem does not take a request.
+#[derive(Clone, Copy, Debug, PartialEq, Eq, Error)]
+pub enum PutFault {
+    #[error("a field is outside its limits")]
+    Range,
+    #[error("a stop number is taken")]
+    Taken,
+    #[error("out of memory")]
+    OutOfMemory,
+}
+
+impl From<AllocError> for PutFault {
+    ghost use Rattle.std.specs.Prelude.{◌≡◌};
+    ghost use Rattle.plan_types.specs.declared.problems.PutFault.TheVariants.{OutOfMemory};
+
+    ghost from_gives = { λ _ fault. fault ≡ OutOfMemory };
+
+    fn from(_: AllocError) -> PutFault {
+        PutFault::OutOfMemory
+    }
+}
+
+// A stop, and the name of its request.
+#[derive(Clone, Copy, Debug)]
+pub(crate) struct Located {
+    name: u32,
+    stop: Stop,
+}
+
+/// What is to be planned: a depot, a fleet of equal vehicles, and requests.
+///
+/// Every number keeps its limits, no stop number stands twice, and the requests stand by name in rising order.
+#[derive(Debug, Drop)]
+pub struct Problem {
+    pub kind: Kind,
+    pub depot: Stop,
+    /// What one vehicle can carry, 0..=1,000,000.
+    pub capacity: u32,
+    /// How many vehicles there are, 1..=40,000.
+    pub fleet: u32,
+    pub requests: IndexMap<u32, Request>,
+    /// The number that the next new stop takes, 1..=40,001: above each number that is there.
+    pub next_number: u32,
+    // By number, so that looking up a stop is one read of memory.
+    located: Vec<Option<Located>>,
+}
+
+impl Model for Problem {
+    ghost use Rattle.plan_types.specs.Instance.{Instance};
+
+    ghost Value = { Instance };
+
+    ghost use Rattle.plan_types.specs.Located.{IsConsistent, instance_of};
+
+    ghost view = { instance_of };
+
+    ghost invariant = { IsConsistent };
+}
+
+impl Problem {
+    /// A problem without requests. The depot has number, demand and service 0; what is outside its limits is `Range`.
+    pub fn new(
+        alloc: Global,
+        kind: Kind,
+        depot: Stop,
+        capacity: u32,
+        fleet: u32,
+    ) -> Result<Problem, PutFault>
+        ensures ok { IfOk result (λ p. (p ≡ new_instance kind depot capacity fleet) × IsInstance p) }
+        ensures err { IfErr result (λ e. (e ≡ PutFault.Range) × ¬ (IsDepot depot × IsCapacity capacity × IsFleet fleet)) }
+    {
+        if !depot.is_depot() || capacity > MAX_CAPACITY || fleet == 0 || fleet > MAX_FLEET {
+            return Err(PutFault::Range);
+        }
+        Ok(Problem {
+            kind,
+            depot,
+            capacity,
+            fleet,
+            requests: IndexMap::new(alloc),
+            next_number: 1,
+            located: Vec::new(alloc),
+        })
+    }
+
+    /// The stop with this number.
+    pub fn stop(&self, number: u32) -> Option<&Stop>
+        ensures found { option_copied result ≡ stop_at self.now number }
+        ensures stop { IfSome result (λ s. (s.now.number ≡ number) × IsStop s.now × (number < self.now.next_number)) }
+        ensures valid { IsInstance self.now }
+    {
+        match self.located(number) {
+            Some(located) => Some(&located.stop),
+            None => None,
+        }
+    }
+
+    /// The name of the request that has the stop with this number.
+    pub fn name_of(&self, number: u32) -> Option<u32>
+        ensures found { result ≡ name_at self.now number }
+        ensures request { IfSome result (λ name. lookup (nat_eq name) self.now.requests ≡ request_with self.now number) }
+        ensures valid { IsInstance self.now }
+    {
+        match self.located(number) {
+            Some(located) => Some(located.name),
+            None => None,
+        }
+    }
+
+    /// Adds a request under its name, and raises `next_number` above its numbers. A refusal changes nothing.
+    pub fn put(&mut self, request: Request) -> Result<(), PutFault>
+        ensures ok { OnOk result ((self.new ≡ with_request self.old request) × IsRequest request × ¬ IsTaken self.old request) }
+        ensures range { IsErrOf result PutFault.Range ↔ ¬ IsRequest request }
+        ensures taken { IsErrOf result PutFault.Taken ↔ (IsRequest request × IsTaken self.old request) }
+        ensures err { OnErr result (self.new ≡ self.old) }
+    {
+        if !request.is_request() {
+            return Err(PutFault::Range);
+        }
+        if self.is_taken(&request) {
+            return Err(PutFault::Taken);
+        }
+        let after = request.number_after();
+        make_room(&mut self.located, after as usize)?;
+        insert_by_name(&mut self.requests, request)?;
+        locate(&mut self.located, &request);
+        self.next_number = self.next_number.max(after);
+        Ok(())
+    }
+
+    // Whether one of the request's numbers is there.
+    fn is_taken(&self, request: &Request) -> bool
+        ensures taken { IsTrue result ↔ IsTaken self.now request.now }
+        ensures valid { IsInstance self.now }
+    {
+        match request {
+            Request::Single(stop) => self.is_live(stop.number),
+            Request::Pair(pickup, delivery) => {
+                self.is_live(pickup.number) || self.is_live(delivery.number)
+            }
+        }
+    }
+
+    // Whether a stop has this number.
+    fn is_live(&self, number: u32) -> bool
+        ensures live { IsTrue result ↔ IsSome (stop_at self.now number) }
+        ensures valid { IsInstance self.now }
+    {
+        self.stop(number).is_some()
+    }
+
+    /// Sets the number that the next new stop takes.
+    pub fn set_next_number(&mut self, number: u32)
+        requires from_one { 1 ≤ number }
+        requires to_most { number ≤ 40001 }
+        requires above { AllByRecursion (λ n. n < number) (numbers_among self.old.requests) }
+        ensures { self.new ≡ record self.old { next_number = number } }
+    {
+        self.next_number = number;
+    }
+
+    /// A second problem like this one.
+    pub fn copy(&self) -> Result<Problem, OutOfMemory>
+        ensures { IfOk result (λ copy. copy ≡ self.now) }
+    {
+        let requests = self.requests.clone()?;
+        let located = Vec::from_slice(*self.located.allocator(), self.located.as_slice())?;
+        Ok(Problem {
+            kind: self.kind,
+            depot: self.depot,
+            capacity: self.capacity,
+            fleet: self.fleet,
+            requests,
+            next_number: self.next_number,
+            located,
+        })
+    }
+
+    // The table's entry at this number.
+    fn located(&self, number: u32) -> Option<&Located>
+        ensures found { option_copied result ≡ first_some (located_in number) self.now.requests }
+        ensures valid { IsInstance self.now }
+    {
+        entry_at(&self.located, number)
+    }
+}
+
+fn entry_at(located: &[Option<Located>], number: u32) -> Option<&Located>
+    ensures { option_copied result ≡ located_at located.now number }
+{
+    match located.get(number as usize) {
+        Some(entry) => entry.as_ref(),
+        None => None,
+    }
+}
+
+// Lengthens the table to this length, with empty entries. A refusal leaves its entries.
+fn make_room(located: &mut Vec<Option<Located>>, len: usize) -> Result<(), AllocError>
+    ensures same { (n : ℕ) → located_at located.new.items n ≡ located_at located.old.items n }
+    ensures room { OnOk result (len ≤ vec_len located.new) }
+{
+    while located.len() < len {
+        located.push(None)?;
+    }
+    Ok(())
+}
+
+// Puts the request between those of lesser and those of greater names.
+fn insert_by_name(requests: &mut IndexMap<u32, Request>, request: Request) -> Result<(), AllocError>
+    requires rising { IsStrictlySortedBy nat_cmp (keys requests.old) }
+    requires absent { get nat_eq requests.old (request_name request) ≡ None }
+    ensures ok { OnOk result (requests.new.entries ≡ with_entry requests.old.entries request) }
+    ensures err { OnErr result (requests.new.entries ≡ requests.old.entries) }
+    ensures split { Splits requests.old.entries (request_name request) }
+{
+    let name = request.name();
+    let place = place_of(requests, name);
+    requests.insert_before(place, name, request)?;
+    Ok(())
+}
+
+// How many requests have a lesser name.
+fn place_of(requests: &IndexMap<u32, Request>, name: u32) -> usize
+    requires rising { IsStrictlySortedBy nat_cmp (keys requests.now) }
+    requires absent { get nat_eq requests.now name ≡ None }
+    ensures within { result ≤ index_map_len requests.now }
+    ensures lesser { lesser_names requests.now.entries name ≡ take result requests.now.entries }
+    ensures greater { greater_names requests.now.entries name ≡ drop result requests.now.entries }
+{
+    match requests.binary_search_keys(&name) {
+        Ok(place) => place,
+        Err(place) => place,
+    }
+}
+
+// Enters the stops of a request into the table, which has room for them.
+fn locate(located: &mut [Option<Located>], request: &Request)
+    requires { number_after request.now ≤ length located.old }
+    ensures { (n : ℕ) → located_at located.new n ≡ option_or (located_in n request.now) (located_at located.old n) }
+{
+    let name = request.name();
+    match request {
+        Request::Single(stop) => enter(located, name, stop),
+        Request::Pair(pickup, delivery) => {
+            // The pickup last, as a look-up by number finds it first.
+            enter(located, name, delivery);
+            enter(located, name, pickup);
+        }
+    }
+}
+
+fn enter(located: &mut [Option<Located>], name: u32, stop: &Stop)
+    requires { stop.now.number < length located.old }
+    ensures { (n : ℕ) → located_at located.new n ≡ (if stop.now.number == n then Some (record { name = name; stop = stop.now }) else located_at located.old n) }
+{
+    located[stop.number as usize] = Some(Located { name, stop: *stop });
+}

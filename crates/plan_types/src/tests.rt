@@ -1,0 +1,74 @@
+use crate::{Cost, Kind, Pins, Plan, Problem, PutFault, Request, Route, Routes, Stop};
+use std::alloc::{AllocError, Global};
+use std::test::Fail;
+
+fn stop_at(number: u32, x: i32, y: i32, demand: i32) -> Stop {
+    Stop {
+        number,
+        x,
+        y,
+        demand,
+        earliest: 0,
+        latest: 100,
+        service: 0,
+    }
+}
+
+fn one_route(alloc: Global, numbers: &[u32]) -> Result<Routes, AllocError> {
+    let mut routes = Vec::new(alloc);
+    routes.push(Route::from(Vec::from_slice(alloc, numbers)?))?;
+    Ok(Routes::from(routes))
+}
+
+#[test]
+fn keeps_requests_by_name(rt: HostRuntime) -> Result<(), Fail> {
+    let depot = stop_at(0, 0, 0, 0);
+    let mut problem = Problem::new(rt.alloc(), Kind::LiLim, depot, 10, 2)?;
+    problem.put(Request::Pair(stop_at(3, 3, 4, 4), stop_at(4, 6, 8, -4)))?;
+    problem.put(Request::Single(stop_at(1, 1, 1, 1)))?;
+    assert_eq!(rt; problem.next_number, 5);
+    assert_eq!(rt; problem.stop(4).map(|stop| stop.x), Some(6));
+    assert_eq!(rt; problem.stop(2), None);
+    assert_eq!(rt; problem.name_of(4), Some(3));
+    assert_eq!(rt; problem.requests.get_index(0).map(|entry| *entry.0), Some(1));
+    let taken = problem.put(Request::Single(stop_at(4, 0, 0, 1)));
+    assert_eq!(rt; taken, Err(PutFault::Taken));
+    let range = problem.put(Request::Single(stop_at(40_001, 0, 0, 1)));
+    assert_eq!(rt; range, Err(PutFault::Range));
+    let copy = problem.copy()?;
+    assert_eq!(rt; copy.requests.len(), 2);
+    assert_eq!(rt; copy.stop(3).map(|stop| stop.demand), Some(4));
+    Ok(())
+}
+
+#[test]
+fn copies_plans_and_pins(rt: HostRuntime) -> Result<(), Fail> {
+    let plan = Plan {
+        routes: one_route(rt.alloc(), &[2, 1])?,
+    };
+    let routes = plan.copy()?.routes.into_vec();
+    assert_eq!(rt; routes.len(), 1);
+    assert_eq!(rt; routes[0].as_slice(), [2, 1].as_slice());
+    let pins = Pins {
+        routes: one_route(rt.alloc(), &[])?,
+    };
+    assert_eq!(rt; pins.copy()?.routes.as_slice().len(), 1);
+    Ok(())
+}
+
+#[test]
+fn compares_costs_part_by_part(rt: HostRuntime) {
+    let costs = [(0, 2, 9), (0, 3, 1), (1, 0, 0), (1, 0, 1)];
+    for pair in costs.windows(2) {
+        let [less, more] = pair else { continue };
+        assert!(rt; cost(*less) < cost(*more), "{less:?} before {more:?}");
+    }
+}
+
+fn cost(parts: (u64, u64, u64)) -> Cost {
+    Cost {
+        unplanned: parts.0,
+        vehicles: parts.1,
+        distance: parts.2,
+    }
+}

@@ -1,0 +1,103 @@
+//! What a plan costs.
+
+ghost use Rattle.std.specs.Prelude.{◌≡◌, ◌==◌, ◌+◌, length};
+ghost use Rattle.std.specs.List.{concat, list_any};
+ghost use Rattle.plan_types.specs.Instance.{IsInstance};
+ghost use Rattle.route_sched.specs.Route.{IsPlan};
+ghost use Rattle.route_sched.specs.Cost.{has_stop, used_count, vehicle_count, total_length, unplanned_count, cost_of};
+ghost use Rattle.route_sched.specs.Counted.{counts, counted_among, IsPart};
+
+use crate::schedule::route_distance;
+use plan_types::{Cost, Kind, Plan, Problem, Route};
+
+/// What a plan costs: its unplanned requests, its nonempty routes (0 in a problem of kind `Vrp`) and its
+/// distance. Takes no memory.
+pub fn plan_cost(problem: &Problem, plan: &Plan) -> Cost
+    requires { IsPlan problem.now plan.now.routes }
+    ensures { result ≡ cost_of problem.now plan.now.routes }
+{
+    let routes = plan.routes.as_slice();
+    Cost {
+        unplanned: problem.requests.len() as u64 - planned_count(problem, routes),
+        vehicles: vehicle_count(problem.kind, routes),
+        distance: total_distance(problem, routes),
+    }
+}
+
+/// How many requests have a stop in a route.
+fn planned_count(problem: &Problem, routes: &[Route]) -> u64
+    requires problem { IsInstance problem.now }
+    requires plan { IsPlan problem.now routes.now }
+    ensures { result + unplanned_count problem.now routes.now ≡ length problem.now.requests }
+{
+    let mut planned = 0;
+    for route in routes {
+        planned += counted_in(problem, routes, route.as_slice());
+    }
+    planned
+}
+
+/// How many requests are counted at a stop of this route.
+fn counted_in(problem: &Problem, routes: &[Route], route: &[u32]) -> u64
+    requires { IsPart route.now routes.now }
+    ensures { result ≡ counted_among problem.now (concat routes.now) route.now }
+{
+    route
+        .iter()
+        .filter(|number| is_counted_at(problem, routes, route, **number))
+        .count() as u64
+}
+
+/// Whether a request is counted at this stop: at its single stop, at its pickup, or at a delivery whose
+/// pickup is in no route. The pickup is mostly in the delivery's own route, so that is searched first.
+fn is_counted_at(problem: &Problem, routes: &[Route], route: &[u32], number: u32) -> bool
+    requires { IsPart route.now routes.now }
+    ensures { result ≡ counts problem.now (concat routes.now) number }
+{
+    match problem.name_of(number) {
+        Some(name) => name == number || !(route.contains(&name) || has_stop(routes, name)),
+        None => false,
+    }
+}
+
+fn has_stop(routes: &[Route], number: u32) -> bool
+    ensures { result ≡ has_stop routes.now number }
+{
+    routes.iter().any(|route| is_in(route, number))
+}
+
+fn is_in(route: &Route, number: u32) -> bool
+    ensures { result ≡ list_any (λ n. n == number) route.now }
+{
+    route.as_slice().contains(&number)
+}
+
+fn vehicle_count(kind: Kind, routes: &[Route]) -> u64
+    ensures { result ≡ vehicle_count kind routes.now }
+{
+    match kind {
+        Kind::LiLim => used_count(routes),
+        Kind::Vrp => 0,
+    }
+}
+
+fn used_count(routes: &[Route]) -> u64
+    ensures { result ≡ used_count routes.now }
+{
+    routes
+        .iter()
+        .filter(|route| !route.as_slice().is_empty())
+        .count() as u64
+}
+
+fn total_distance(problem: &Problem, routes: &[Route]) -> u64
+    requires problem { IsInstance problem.now }
+    requires plan { IsPlan problem.now routes.now }
+    ensures { result ≡ total_length problem.now routes.now }
+{
+    let mut total = 0;
+    for route in routes {
+        total += route_distance(problem, route.as_slice());
+    }
+    total
+}

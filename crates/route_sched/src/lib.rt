@@ -1,0 +1,14 @@
+//! When a route's stops are served, what the vehicle carries, how far it drives, and what a plan costs.
+#![tactic(auto)]
+
+mod cost;
+mod places;
+mod schedule;
+mod visits;
+
+pub use cost::plan_cost;
+pub use schedule::{loads, route_distance, starts};
+pub use visits::{Visit, Visits};
+
+#[cfg(test)]
+mod tests;

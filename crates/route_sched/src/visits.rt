@@ -1,0 +1,123 @@
+//! A vehicle's way along its route, place by place.
+
+ghost use Rattle.std.specs.Prelude.{◌≡◌, ℕ, ◌+◌, ◌≤◌, ◌^◌, ◌+ℤ◌, unsigned_abs};
+ghost use Rattle.plan_types.specs.Limits.{IsVisit};
+ghost use Rattle.route_sched.specs.Route.{AreLiveOnce};
+ghost use Rattle.route_sched.specs.Visiting.{next_visit};
+
+use crate::places::stop_behind;
+use nint_dist::dist;
+use plan_types::{Problem, Stop};
+use std::marker::Model;
+
+/// What happens at a place of a route.
+#[derive(Clone, Copy, Debug, PartialEq, Eq)]
+pub struct Visit {
+    /// The stop, or the depot at the return.
+    pub stop: Stop,
+    /// When its service starts.
+    pub start: u64,
+    /// What the vehicle carries after it.
+    pub load: i64,
+    /// The distance from the place before.
+    pub leg: u32,
+}
+
+/// The visits of a route: each stop in order, then the return to the depot.
+#[derive(Drop)]
+pub struct Visits<'a> {
+    problem: &'a Problem,
+    route: &'a [u32],
+    // How many places the vehicle has left, and what happened at the last one.
+    place: usize,
+    last: Visit,
+}
+
+impl<'a> Model for Visits<'a> {
+    ghost use Rattle.route_sched.specs.Walk.{Walk};
+
+    ghost Value = { Walk };
+
+    ghost use Rattle.route_sched.specs.Walking.{walk_of, IsWalk};
+
+    ghost view = { walk_of };
+
+    ghost invariant = { IsWalk };
+}
+
+impl<'a> Visits<'a> {
+    /// The visits of a route. Takes no memory.
+    pub fn new(problem: &'a Problem, route: &'a [u32]) -> Visits<'a>
+        requires { AreLiveOnce problem.now route.now }
+        ensures { result ≡ record { problem = problem.now; route = route.now; place = 0 } }
+    {
+        let stop = problem.depot;
+        let last = Visit {
+            stop,
+            start: u64::from(stop.earliest),
+            load: 0,
+            leg: 0,
+        };
+        Visits {
+            problem,
+            route,
+            place: 0,
+            last,
+        }
+    }
+}
+
+impl<'a> Iterator for Visits<'a> {
+    type Item = Visit;
+
+    ghost use Rattle.std.specs.Iterator.{YieldsFirst, item_count};
+    ghost use Rattle.route_sched.specs.Visiting.{visits_from};
+
+    ghost next_gives = { YieldsFirst (λ v. visits_from v.problem v.route v.place) };
+
+    ghost remaining = { item_count (λ v. visits_from v.problem v.route v.place) };
+
+    fn next(&mut self) -> Option<Visit> {
+        if self.place > self.route.len() {
+            return None;
+        }
+        let stop = stop_behind(self.problem, self.route, self.place);
+        self.last = visit_behind(&self.last, stop);
+        self.place += 1;
+        Some(self.last)
+    }
+
+    fn size_hint(&self) -> (usize, Option<usize>) {
+        let left = self.route.len() + 1 - self.place;
+        (left, Some(left))
+    }
+}
+
+/// The visit of a stop straight after another visit.
+fn visit_behind(last: &Visit, stop: &Stop) -> Visit
+    requires last { IsVisit last.now.stop }
+    requires stop { IsVisit stop.now }
+    requires start { last.now.start ≤ 2 ^ 60 }
+    requires load { unsigned_abs last.now.load ≤ 2 ^ 60 }
+    ensures value { result ≡ next_visit last.now stop.now }
+    ensures leg { result.leg ≤ 2828427 }
+    ensures load { unsigned_abs result.load ≤ unsigned_abs last.now.load + 2 ^ 31 }
+{
+    let leg = dist(&last.stop, stop);
+    let arrival = last.start + u64::from(last.stop.service) + u64::from(leg);
+    Visit {
+        stop: *stop,
+        start: arrival.max(u64::from(stop.earliest)),
+        load: load_behind(last.load, stop.demand),
+        leg,
+    }
+}
+
+/// What the vehicle carries after a stop with this demand.
+fn load_behind(load: i64, demand: i32) -> i64
+    requires { unsigned_abs load ≤ 2 ^ 60 }
+    ensures value { result ≡ load +ℤ demand }
+    ensures bound { unsigned_abs result ≤ unsigned_abs load + 2 ^ 31 }
+{
+    load + i64::from(demand)
+}

@@ -1,0 +1,4 @@
+pub mod PieceLemmas
+pub mod WordLemmas
+pub mod NumberLemmas
+pub mod WrittenLemmas

@@ -1,0 +1,111 @@
+-- Digits, their values, and where a number ends.
+use Rattle.std.proofs.Common.{◌≡◌, ℕ, ◌-◌, ◌<◌, ◌≤◌, Bool, true, false, ◌⊎◌, inl, inr, ⊎_elim, List, [], ◌∷◌, ◌++◌, length, map, get_or, take, drop, Option, Some, None, refl, sym, ap, subst, ◌∙◌, arith}
+use Rattle.std.specs.Prelude.{nat_lt, nat_le, ◌==◌, ◌^◌, MatchOption, Result, Ok, Err}
+use Rattle.std.specs.Result.{OkIff, result_ok}
+use Rattle.std.specs.Char.{is_ascii_digit, digit_value}
+use Rattle.std.specs.Int.Digits.{number_from_digits, number_from_digits_after}
+use Rattle.std.specs.List.{AllPass, list_all, prefix_len}
+use Rattle.std.specs.Str.Parse.{digits_value}
+use Rattle.std.proofs.lemmas.Bool.{and_parts, and_from, and_left, and_right, leb-true, lt-ltb, le-ltb, eq-eqb, ne_eqb, cond-true, cond-false, cases_Bool, false≢true}
+use Rattle.std.proofs.lemmas.Bool.Decides.{nat_tests}
+use Rattle.std.proofs.lemmas.Int.Digits.{digits_value_is, number_after_append, number_after_ge}
+use Rattle.std.proofs.lemmas.List.{map-append, take-append-drop, get_or-take, length-take}
+use Rattle.std.proofs.lemmas.List.Sums.{AllPass-from_list_all, list_all-from_AllPass, prefix_len_passes, prefix_len_is, prefix_len-le-length}
+use Rattle.text_lines.specs.Numbers.{is_digits, digits_of, is_zero_fraction, whole_of}
+
+pub digit_bounds : (c : ℕ) → is_ascii_digit c ≡ true → (48 ≤ c) × (c ≤ 57)
+digit_bounds c e = let both = and_parts (nat_le 48 c) (nat_le c 57) e in (leb-true 48 c both.0, leb-true c 57 both.1)
+
+pub digit_value-is : (c : ℕ) → is_ascii_digit c ≡ true → digit_value c ≡ c - 48
+digit_value-is c e = let bounds = digit_bounds c e in grind (arith, nat_tests)
+
+pub digit_at : (ds : List ℕ) → is_digits ds ≡ true → (i : ℕ) → i < length ds → is_ascii_digit (get_or ds i 0) ≡ true
+unfolding is_digits
+digit_at [] e i l = absurd (omega arith)
+digit_at (b ∷ bs) e i l = AllPass-from_list_all is_ascii_digit (b ∷ bs) e i 0 l
+
+-- more digits write no smaller number
+value_front : (xs ys : List ℕ) → digits_value 10 xs ≤ digits_value 10 (xs ++ ys)
+value_front xs ys =
+    let n = number_from_digits 10 (map digit_value xs) in
+    let whole : digits_value 10 (xs ++ ys) ≡ number_from_digits_after 10 n (map digit_value ys) =
+    digits_value_is 10 (xs ++ ys) ∙ ap (number_from_digits 10) (map-append digit_value xs ys) ∙ number_after_append 10 0 (map digit_value xs) (map digit_value ys) in
+    omega (arith, digits_value_is 10 xs, whole, number_after_ge 10 n (map digit_value ys) (omega arith))
+
+pub value-take-le : (ds : List ℕ) (i : ℕ) → digits_value 10 (take i ds) ≤ digits_value 10 ds
+value-take-le ds i = let P : List ℕ → Type 0 = λ xs. digits_value 10 (take i ds) ≤ digits_value 10 xs in subst P (take-append-drop i ds) (value_front (take i ds) (drop i ds))
+
+-- all pass where the passing front is as long as the list
+pub list_all-prefix_len : (p : ℕ → Bool) (xs : List ℕ) → list_all p xs ≡ (prefix_len p xs == length xs)
+list_all-prefix_len p xs =
+    ⊎_elim
+    (λ yes. yes ∙ sym (eq-eqb (prefix_len p xs) (length xs)
+    (prefix_len_is p xs (length xs) 0 (omega arith) (λ k h. AllPass-from_list_all p xs yes k 0 h) (λ h. absurd (omega arith)))))
+    (λ no. no ∙ sym (ne_eqb (prefix_len p xs) (length xs) (λ e.
+    let pass : AllPass p xs = λ k d h. prefix_len_passes p xs k d (omega (arith, e)) in
+    false≢true (sym no ∙ list_all-from_AllPass p xs pass))))
+    (cases_Bool (list_all p xs))
+
+pub is_digits-empty : (word : List ℕ) → length word ≡ 0 → is_digits word ≡ false
+unfolding is_digits
+is_digits-empty [] e = refl
+is_digits-empty (b ∷ bs) e = absurd (omega arith)
+
+pub is_digits-all : (word : List ℕ) → (length word ≡ 0 → ⊥) → is_digits word ≡ list_all is_ascii_digit word
+unfolding is_digits
+is_digits-all [] e = absurd (e refl)
+is_digits-all (b ∷ bs) e = refl
+
+pub is_digits-len : (word : List ℕ) → (length word ≡ 0 → ⊥) → is_digits word ≡ (prefix_len is_ascii_digit word == length word)
+is_digits-len word e = is_digits-all word e ∙ list_all-prefix_len is_ascii_digit word
+
+-- the digits at the front are digits
+pub is_digits-front : (body : List ℕ) (n : ℕ) → n ≡ prefix_len is_ascii_digit body → (length (take n body) ≡ 0 → ⊥) → is_digits (take n body) ≡ true
+is_digits-front body n same l =
+    let pass : AllPass is_ascii_digit (take n body) = λ k d h.
+    let small : k < n = omega (arith, length-take n body) in
+    rw get_or-take (prefix_len_passes is_ascii_digit body k d (omega (arith, same))) in
+    is_digits-all (take n body) l ∙ list_all-from_AllPass is_ascii_digit (take n body) pass
+
+pub whole_of-none : (body : List ℕ) → (nat_lt 0 (prefix_len is_ascii_digit body) ≡ false) ⊎ (is_zero_fraction (drop (prefix_len is_ascii_digit body) body) ≡ false) → whole_of body ≡ None
+unfolding whole_of
+whole_of-none body (inl e) = cond-false _ _ _ (and_left _ _ e)
+whole_of-none body (inr e) = cond-false _ _ _ (and_right _ _ e)
+
+pub whole_of-some : (body : List ℕ) → 0 < prefix_len is_ascii_digit body → is_zero_fraction (drop (prefix_len is_ascii_digit body) body) ≡ true → whole_of body ≡ Some (digits_value 10 (take (prefix_len is_ascii_digit body) body))
+unfolding whole_of
+whole_of-some body l e = cond-true _ _ _ (and_from _ _ (lt-ltb 0 (prefix_len is_ascii_digit body) l) e)
+
+-- What split_at gives at n: front, the digits, and back, the others.
+module _ (body front back : List ℕ) (n : ℕ) (len : n ≡ prefix_len is_ascii_digit body) (fronts : front ≡ take n body) (backs : back ≡ drop n body) where
+  front_length : length front ≡ n
+  front_length =
+      let fits = prefix_len-le-length is_ascii_digit body in
+      omega (arith, ap length fronts, length-take n body, len, fits)
+
+  pub front_digits : (length front ≡ 0 → ⊥) → is_digits front ≡ true
+  front_digits l = rw fronts (is_digits-front body n len (λ e. l (ap length fronts ∙ e)))
+
+  pub whole_none-empty : length front ≡ 0 → whole_of body ≡ None
+  whole_none-empty e = whole_of-none body (inl (le-ltb 0 (prefix_len is_ascii_digit body) (omega (arith, front_length, len, e))))
+
+  pub whole_none-fraction : is_zero_fraction back ≡ false → whole_of body ≡ None
+  whole_none-fraction e = whole_of-none body (inr (ap (λ k. is_zero_fraction (drop k body)) (sym len) ∙ sym (ap is_zero_fraction backs) ∙ e))
+
+  pub whole_some : (length front ≡ 0 → ⊥) → is_zero_fraction back ≡ true → whole_of body ≡ Some (digits_value 10 front)
+  whole_some l e =
+      whole_of-some body (omega (arith, front_length, len, l)) (ap (λ k. is_zero_fraction (drop k body)) (sym len) ∙ sym (ap is_zero_fraction backs) ∙ e)
+      ∙ ap (λ ds. Some (digits_value 10 ds)) (ap (λ k. take k body) (sym len) ∙ sym fronts)
+
+pub digits_of-yes : (word : List ℕ) → is_digits word ≡ true → digits_of word ≡ Some (digits_value 10 word)
+unfolding digits_of
+digits_of-yes word e = cond-true _ _ _ e
+
+pub digits_of-no : (word : List ℕ) → is_digits word ≡ false → digits_of word ≡ None
+unfolding digits_of
+digits_of-no word e = cond-false _ _ _ e
+
+-- what `try_from` and `ok` make of the value of a word of digits
+pub fits_u32 : {E : Type 0} (word : List ℕ) (v : ℕ) (o : Option ℕ) (r : Result ℕ E) → digits_of word ≡ Some v → o ≡ result_ok r → OkIff r (v < 2 ^ 32) v → MatchOption o ((n : ℕ) → digits_of word ≡ Some n → 2 ^ 32 ≤ n) (λ n. digits_of word ≡ Some n)
+fits_u32 word v o (Ok x) digits is h = rw is (digits ∙ ap (λ n. Some n) (sym h.1))
+fits_u32 word v o (Err e) digits is h = rw is (λ n same. let here : v ≡ n = cc in let no : v < 2 ^ 32 → ⊥ = h in omega (arith, here, no))

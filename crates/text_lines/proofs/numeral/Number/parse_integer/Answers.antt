@@ -1,0 +1,23 @@
+use Rattle.std.proofs.Common.{◌∙◌, sym, length, arith}
+use Rattle.std.proofs.lemmas.Bool.{le-leb, lt-leb}
+use Rattle.text_lines.specs.Numbers.{integer_of}
+use Rattle.text_lines.proofs.NumberLemmas.{digits_of-yes, digits_of-no}
+use Rattle.text_lines.proofs.numeral.Number.parse_integer.Goals as goal
+
+pub returns-then-digits-gt20 : goal.returns-then-digits-gt20
+unfolding integer_of
+returns-then-digits-gt20 c =
+    let digits = c.split_minus-negative.result.1.now in
+    rw (← c.split_minus-negative.ensures.rest, lt-leb (length digits) 20 (omega arith))
+
+pub returns-then-not-all_digits : goal.returns-then-not-all_digits
+unfolding integer_of
+returns-then-not-all_digits c =
+    let digits = c.split_minus-negative.result.1.now in
+    rw (← c.split_minus-negative.ensures.rest, le-leb (length digits) 20 (omega arith), digits_of-no digits (sym c.all_digits.ensures ∙ c.if-not-all_digits.true))
+
+pub returns : goal.returns
+unfolding integer_of
+returns c =
+    let digits = c.split_minus-negative.result.1.now in
+    rw (← c.split_minus-negative.ensures.rest, ← c.split_minus-negative.ensures.minus, le-leb (length digits) 20 (omega arith), digits_of-yes digits (sym c.all_digits.ensures ∙ c.if-not-all_digits.false))

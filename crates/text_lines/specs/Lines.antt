@@ -1,0 +1,23 @@
+-- The lines of a text.
+use Rattle.std.specs.Prelude.{◌≡◌, ℕ, ◌==◌, if◌then◌else◌, ◌⊎◌, List, [], ◌∷◌, ◌++◌, map, All, Contains}
+use Rattle.std.specs.List.{onto_first, flat_map}
+use Rattle.std.specs.Str.Lines.{strip_carriage_return}
+
+-- what each line feed ends, and what follows the last one, if that has a byte
+unfoldable pub pieces_of : List ℕ → List (List ℕ)
+pieces_of [] = []
+pieces_of (b ∷ bs) = if b == 10 then [] ∷ pieces_of bs else onto_first b (pieces_of bs)
+
+-- the lines in order, each without the one carriage return at its end, if it has one
+unfoldable pub lines_of : List ℕ → List (List ℕ)
+lines_of text = map strip_carriage_return (pieces_of text)
+
+-- a piece and the line feed that ends it
+abbrev pub ended : List ℕ → List ℕ
+ended piece = piece ++ 10 ∷ []
+
+-- No piece has a line feed, and the pieces, each with a line feed at its end, are the text, but for a
+-- last line feed that the text may lack.
+abbrev pub IsCutAtLineFeeds : List ℕ → List (List ℕ) → Type 0
+IsCutAtLineFeeds text pieces =
+    All (λ piece. ¬ Contains piece 10) pieces × ((flat_map ended pieces ≡ text) ⊎ (flat_map ended pieces ≡ text ++ 10 ∷ []))

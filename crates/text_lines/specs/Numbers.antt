@@ -1,0 +1,47 @@
+-- Words that are numbers, and their values.
+use Rattle.std.specs.Prelude.{ℕ, Bool, true, false, ◌&&◌, ◌==◌, nat_lt, nat_le, if◌then◌else◌, List, [], ◌∷◌, length, take, drop, Option, Some, None, ℤ, pos, neg_ℤ}
+use Rattle.std.specs.Char.{is_ascii_digit}
+use Rattle.std.specs.List.{list_all, prefix_len}
+use Rattle.std.specs.Option.{option_map}
+use Rattle.std.specs.Str.Parse.{digits_value, starts_with_minus, without_leading_sign}
+
+-- one digit or more, and nothing else
+unfoldable pub is_digits : List ℕ → Bool
+is_digits [] = false
+is_digits (b ∷ bs) = list_all is_ascii_digit (b ∷ bs)
+
+-- the value of a word of digits
+unfoldable pub digits_of : List ℕ → Option ℕ
+digits_of word = if is_digits word then Some (digits_value 10 word) else None
+
+abbrev pub is_zero : ℕ → Bool
+is_zero b = b == 48
+
+-- nothing, or a point with nothing but zeros after it
+abbrev pub is_zero_fraction : List ℕ → Bool
+is_zero_fraction [] = true
+is_zero_fraction (b ∷ zeros) = b == 46 && list_all is_zero zeros
+
+-- the value of the digits at the front, if there is one and a fraction of zeros or nothing follows them
+unfoldable pub whole_of : List ℕ → Option ℕ
+whole_of body =
+    let n = prefix_len is_ascii_digit body in
+    if nat_lt 0 n && is_zero_fraction (drop n body) then Some (digits_value 10 (take n body)) else None
+
+-- the number with this sign and magnitude
+abbrev pub signed : Bool → ℕ → ℤ
+signed true n = neg_ℤ (pos n)
+signed false n = pos n
+
+-- The value of a NUMBER: a plus, a minus or no sign, digits, and perhaps a point with zeros or nothing after it.
+unfoldable pub number_of : List ℕ → Option ℤ
+number_of word = option_map (signed (starts_with_minus word)) (whole_of (without_leading_sign word))
+
+-- word without the minus that it may begin with
+abbrev pub without_minus : List ℕ → List ℕ
+without_minus word = if starts_with_minus word then drop 1 word else word
+
+-- The value of an integer of at most 20 digits, with a minus or no sign.
+unfoldable pub integer_of : List ℕ → Option ℤ
+integer_of word =
+    if nat_le (length (without_minus word)) 20 then option_map (signed (starts_with_minus word)) (digits_of (without_minus word)) else None

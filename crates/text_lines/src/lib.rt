@@ -1,0 +1,13 @@
+//! Lines, words and numbers of a text, as parts of a slice of bytes, without memory of their own.
+#![tactic(auto)]
+
+mod line_iter;
+mod numeral;
+mod word_iter;
+
+pub use line_iter::{Lines, lines_join};
+pub use numeral::{Number, digits_to_u32};
+pub use word_iter::{Words, is_blank_line, trim_blanks_start};
+
+#[cfg(test)]
+mod tests;

@@ -1,0 +1,78 @@
+//! The lines of a text.
+ghost use Rattle.std.specs.Prelude.{◌≡◌, ◌<◌, ◌≤◌, ℕ, List, ◌∷◌, length};
+ghost use Rattle.std.specs.Iterator.{YieldsFirstRef, item_count};
+ghost use Rattle.std.specs.Str.Lines.{strip_carriage_return};
+ghost use Rattle.text_lines.specs.Lines.{IsCutAtLineFeeds, lines_of, pieces_of};
+
+use memchr::memchr;
+use std::marker::Model;
+
+/// The lines of a text, in order. Each ends at a line feed, or at the end of the text if a byte is
+/// left there. A line does not have its line feed, nor a carriage return just before that or at the end.
+#[derive(Drop)]
+pub struct Lines<'a> {
+    rest: &'a [u8],
+}
+
+impl<'a> Model for Lines<'a> {
+    ghost use Rattle.std.specs.Prelude.{ℕ, List};
+    ghost use Rattle.text_lines.specs.Lines.{lines_of};
+
+    ghost Value = { List (List ℕ) };
+
+    ghost view = { λ lines. lines_of lines.rest.now };
+}
+
+impl<'a> Lines<'a> {
+    /// The lines of `text`, of which there are no more than it has bytes.
+    #[inline]
+    pub fn new(text: &'a [u8]) -> Lines<'a>
+        ensures lines { result ≡ lines_of text.now }
+        ensures few { length result ≤ length text.now }
+    {
+        Lines { rest: text }
+    }
+}
+
+impl<'a> Iterator for Lines<'a> {
+    type Item = &'a [u8];
+
+    ghost next_gives = { YieldsFirstRef (λ lines. lines) };
+
+    ghost remaining = { item_count (λ lines. lines) };
+
+    #[inline]
+    fn next(&mut self) -> Option<&'a [u8]> {
+        if self.rest.is_empty() {
+            return None;
+        }
+        let (piece, rest) = first_piece(self.rest);
+        self.rest = rest;
+        Some(without_carriage_return(piece))
+    }
+}
+
+// What the first line feed ends, or all where there is none, and what follows it.
+fn first_piece(text: &[u8]) -> (&[u8], &[u8])
+    requires { 0 < length text.now }
+    ensures { pieces_of text.now ≡ result.0.now ∷ pieces_of result.1.now }
+{
+    match memchr(b'\n', text) {
+        Some(end) => (&text[..end], &text[end + 1..]),
+        None => (text, &text[text.len()..]),
+    }
+}
+
+fn without_carriage_return(piece: &[u8]) -> &[u8]
+    ensures { result.now ≡ strip_carriage_return piece.now }
+{
+    match piece {
+        [line @ .., b'\r'] => line,
+        _ => piece,
+    }
+}
+
+/// The lines of a text are what its line feeds cut it into, none lost and none made.
+pub fn lines_join()
+    ensures { (text : List ℕ) → IsCutAtLineFeeds text (pieces_of text) }
+{}

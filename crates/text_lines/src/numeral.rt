@@ -1,0 +1,205 @@
+//! Words that are numbers.
+ghost use Rattle.std.specs.Prelude.{◌≡◌, ◌+◌, ◌*◌, ◌^◌, ◌<◌, ◌≤◌, ◌↔◌, ℕ, true, Some, None, pos, ◌≤ℤ◌, ◌<ℤ◌, IsTrue, IfSome, MatchOption};
+ghost use Rattle.std.specs.Char.{digit_value, is_ascii_digit};
+ghost use Rattle.std.specs.List.{list_all, prefix_len};
+ghost use Rattle.std.specs.Int.RustNames.{unsigned_abs};
+ghost use Rattle.std.specs.Option.{SomeIff, option_map};
+ghost use Rattle.std.specs.Str.Parse.{digits_value, starts_with_minus, without_leading_sign};
+ghost use Rattle.text_lines.specs.Numbers.{digits_of, integer_of, is_digits, is_zero, is_zero_fraction, number_of, signed, whole_of, without_minus};
+
+use std::marker::Model;
+
+/// A word that is a number, of any length.
+#[derive(Drop)]
+pub struct Number<'a> {
+    negative: bool,
+    digits: &'a [u8],
+}
+
+impl<'a> Model for Number<'a> {
+    ghost use Rattle.std.specs.Prelude.{◌≡◌, true, ℤ};
+    ghost use Rattle.std.specs.Str.Parse.{digits_value};
+    ghost use Rattle.text_lines.specs.Numbers.{is_digits, signed};
+
+    ghost Value = { ℤ };
+
+    ghost view = { λ number. signed number.negative (digits_value 10 number.digits.now) };
+
+    ghost invariant = { λ number. is_digits number.digits.now ≡ true };
+}
+
+impl<'a> Number<'a> {
+    /// The number that a word is: a plus, a minus or no sign, digits, and perhaps a point with
+    /// nothing but zeros after it.
+    #[inline]
+    pub fn parse(word: &'a [u8]) -> Option<Number<'a>>
+        ensures { result ≡ number_of word.now }
+    {
+        let (negative, body) = split_sign(word);
+        let digits = whole_digits(body)?;
+        Some(Number { negative, digits })
+    }
+
+    /// The integer that a word is: a minus or no sign, and 1 to 20 digits.
+    #[inline]
+    pub fn parse_integer(word: &'a [u8]) -> Option<Number<'a>>
+        ensures { result ≡ integer_of word.now }
+    {
+        let (negative, digits) = split_minus(word);
+        if digits.len() > 20 {
+            return None;
+        }
+        if !all_digits(digits) {
+            return None;
+        }
+        Some(Number { negative, digits })
+    }
+
+    /// The number, if it lies in these limits.
+    #[inline]
+    pub fn within(&self, least: i32, most: i32) -> Option<i32>
+        ensures { SomeIff result ((least ≤ℤ self.now) × (self.now ≤ℤ most)) self.now }
+    {
+        let magnitude = u32::try_from(value_of(self.digits)?).ok()?;
+        let value = i32::try_from(signed_value(self.negative, magnitude)).ok()?;
+        if value < least || most < value {
+            return None;
+        }
+        Some(value)
+    }
+
+    /// The number, if a `u64` can hold it.
+    #[inline]
+    pub fn to_u64(&self) -> Option<u64>
+        ensures { SomeIff result ((pos 0 ≤ℤ self.now) × (self.now <ℤ pos (2 ^ 64))) (unsigned_abs self.now) }
+    {
+        let value = value_of(self.digits)?;
+        if self.negative && value > 0 {
+            return None;
+        }
+        Some(value)
+    }
+
+    /// Whether the number lies above a limit.
+    #[inline]
+    pub fn is_above(&self, limit: u32) -> bool
+        ensures { IsTrue result ↔ (pos limit <ℤ self.now) }
+    {
+        if self.negative {
+            return false;
+        }
+        match value_of(self.digits) {
+            Some(value) => value > u64::from(limit),
+            None => true,
+        }
+    }
+}
+
+/// The value of a word of digits, if a `u32` can hold it.
+#[inline]
+pub fn digits_to_u32(word: &[u8]) -> Option<u32>
+    ensures { MatchOption result ((n : ℕ) → digits_of word.now ≡ Some n → 2 ^ 32 ≤ n) (λ n. digits_of word.now ≡ Some n) }
+{
+    if !all_digits(word) {
+        return None;
+    }
+    u32::try_from(value_of(word)?).ok()
+}
+
+fn signed_value(negative: bool, magnitude: u32) -> i64
+    ensures { result ≡ signed negative magnitude }
+{
+    let value = i64::from(magnitude);
+    if negative { -value } else { value }
+}
+
+fn all_digits(word: &[u8]) -> bool
+    ensures { result ≡ is_digits word.now }
+{
+    if word.is_empty() {
+        return false;
+    }
+    digits_len(word) == word.len()
+}
+
+// How many digits stand at the front.
+fn digits_len(text: &[u8]) -> usize
+    ensures { result ≡ prefix_len is_ascii_digit text.now }
+{
+    for (i, byte) in text.iter().enumerate() {
+        if !byte.is_ascii_digit() {
+            return i;
+        }
+    }
+    text.len()
+}
+
+// The digits of a number without its sign.
+fn whole_digits(body: &[u8]) -> Option<&[u8]>
+    ensures digits { IfSome result (λ digits. is_digits digits.now ≡ true) }
+    ensures value { whole_of body.now ≡ option_map (λ digits. digits_value 10 digits.now) result }
+{
+    let (digits, rest) = body.split_at(digits_len(body));
+    if digits.is_empty() {
+        return None;
+    }
+    if !is_zero_fraction_text(rest) {
+        return None;
+    }
+    Some(digits)
+}
+
+fn all_zeros(text: &[u8]) -> bool
+    ensures { result ≡ list_all is_zero text.now }
+{
+    text.iter().all(|byte| *byte == b'0')
+}
+
+fn is_zero_fraction_text(text: &[u8]) -> bool
+    ensures { result ≡ is_zero_fraction text.now }
+{
+    match text {
+        [] => true,
+        [b'.', zeros @ ..] => all_zeros(zeros),
+        _ => false,
+    }
+}
+
+// The value of digits, if a `u64` can hold it.
+fn value_of(digits: &[u8]) -> Option<u64>
+    requires { is_digits digits.now ≡ true }
+    ensures { SomeIff result (digits_value 10 digits.now < 2 ^ 64) (digits_value 10 digits.now) }
+{
+    let mut value = 0;
+    for digit in digits {
+        value = with_digit(value, *digit)?;
+    }
+    Some(value)
+}
+
+fn with_digit(value: u64, digit: u8) -> Option<u64>
+    requires { is_ascii_digit digit ≡ true }
+    ensures { SomeIff result (value * 10 + digit_value digit < 2 ^ 64) (value * 10 + digit_value digit) }
+{
+    value.checked_mul(10)?.checked_add(u64::from(digit - b'0'))
+}
+
+fn split_minus(word: &[u8]) -> (bool, &[u8])
+    ensures minus { result.0 ≡ starts_with_minus word.now }
+    ensures rest { result.1.now ≡ without_minus word.now }
+{
+    match word {
+        [b'-', rest @ ..] => (true, rest),
+        _ => (false, word),
+    }
+}
+
+fn split_sign(word: &[u8]) -> (bool, &[u8])
+    ensures minus { result.0 ≡ starts_with_minus word.now }
+    ensures rest { result.1.now ≡ without_leading_sign word.now }
+{
+    match word {
+        [b'+', rest @ ..] => (false, rest),
+        _ => split_minus(word),
+    }
+}

@@ -1,0 +1,91 @@
+//! The words of a line.
+ghost use Rattle.std.specs.Prelude.{◌≡◌, ◌≤◌, ℕ, List, drop, length};
+ghost use Rattle.std.specs.Iterator.{YieldsFirstRef, item_count};
+ghost use Rattle.std.specs.List.{position_or_len, prefix_len};
+ghost use Rattle.text_lines.specs.Words.{is_blank, is_blank_line, words_of};
+
+use std::marker::Model;
+
+/// The words of a line, in order: what stands between blanks and tabs.
+#[derive(Drop)]
+pub struct Words<'a> {
+    rest: &'a [u8],
+}
+
+impl<'a> Model for Words<'a> {
+    ghost use Rattle.std.specs.Prelude.{ℕ, List};
+    ghost use Rattle.text_lines.specs.Words.{words_of};
+
+    ghost Value = { List (List ℕ) };
+
+    ghost view = { λ words. words_of words.rest.now };
+}
+
+impl<'a> Words<'a> {
+    /// The words of `line`, of which there are no more than it has bytes.
+    #[inline]
+    pub fn new(line: &'a [u8]) -> Words<'a>
+        ensures words { result ≡ words_of line.now }
+        ensures few { length result ≤ length line.now }
+    {
+        Words { rest: line }
+    }
+}
+
+impl<'a> Iterator for Words<'a> {
+    type Item = &'a [u8];
+
+    ghost next_gives = { YieldsFirstRef (λ words. words) };
+
+    ghost remaining = { item_count (λ words. words) };
+
+    #[inline]
+    fn next(&mut self) -> Option<&'a [u8]> {
+        let rest = trim_blanks_start(self.rest);
+        let (word, rest) = rest.split_at(word_len(rest));
+        self.rest = rest;
+        if word.is_empty() {
+            return None;
+        }
+        Some(word)
+    }
+}
+
+fn is_blank_byte(byte: u8) -> bool
+    ensures { result ≡ is_blank byte }
+{
+    byte == b' ' || byte == b'\t'
+}
+
+// How many bytes stand before the first blank.
+fn word_len(text: &[u8]) -> usize
+    ensures { result ≡ position_or_len is_blank text.now }
+{
+    for (i, byte) in text.iter().enumerate() {
+        if is_blank_byte(*byte) {
+            return i;
+        }
+    }
+    text.len()
+}
+
+/// What follows the blanks and tabs at the front.
+#[inline]
+pub fn trim_blanks_start(text: &[u8]) -> &[u8]
+    ensures { result.now ≡ drop (prefix_len is_blank text.now) text.now }
+{
+    for (i, byte) in text.iter().enumerate() {
+        if !is_blank_byte(*byte) {
+            return &text[i..];
+        }
+    }
+    &text[text.len()..]
+}
+
+/// Whether a line has nothing but blanks and tabs.
+#[inline]
+pub fn is_blank_line(line: &[u8]) -> bool
+    ensures { result ≡ is_blank_line line.now }
+{
+    line.iter().all(|byte| is_blank_byte(*byte))
+}
