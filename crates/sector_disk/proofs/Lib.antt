@@ -1,0 +1,5 @@
+mod Calls
+mod Contents
+mod Keeps
+mod LawProofs
+mod Steps

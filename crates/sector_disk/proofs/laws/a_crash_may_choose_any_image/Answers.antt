@@ -1,0 +1,5 @@
+use Rattle.sector_disk.proofs.LawProofs.{has_choices}
+use Rattle.sector_disk.proofs.laws.a_crash_may_choose_any_image.Goals as goal
+
+pub returns : goal.returns
+returns c = has_choices

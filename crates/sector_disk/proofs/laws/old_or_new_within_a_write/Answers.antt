@@ -1,0 +1,5 @@
+use Rattle.sector_disk.proofs.LawProofs.{has_old_or_new}
+use Rattle.sector_disk.proofs.laws.old_or_new_within_a_write.Goals as goal
+
+pub returns : goal.returns
+returns c = has_old_or_new

@@ -1,0 +1,31 @@
+use Rattle.std.proofs.Common.{◌≡◌, ◌+◌, ◌*◌, ◌≤◌, ◌∷◌, ◌++◌, [], length, drop, map, refl, rules, ap, arith, ◌∙◌}
+use Rattle.std.proofs.lemmas.List.{take_at}
+use Rattle.sector_disk.specs.Image.{written}
+use Rattle.sector_disk.specs.Memory.{Wrote, Tore}
+use Rattle.sector_disk.specs.MemoryLaws.{whole_sectors}
+use Rattle.sector_disk.specs.Kept.{call_of}
+use Rattle.sector_disk.proofs.Keeps.{keeps, image_size, is_run_from}
+use Rattle.sector_disk.proofs.mem_device.MemDevice.try_write.Goals as goal
+
+pub invariant_of-self-then-refused-2 : goal.invariant_of-self-then-refused-2
+invariant_of-self-then-refused-2 c =
+    let d = c.args.self.now in
+    let inside : 512 * c.args.first + length c.args.bytes.now ≤ length d.start.items = omega (arith, c.requires.inside, whole_sectors (length d.start.items) d.kept.whole) in
+    let fit = is_run_from (length d.start.items) c.args.first (length c.args.bytes.now) c.requires.some c.requires.whole inside in
+    let more : map call_of c.keep_write.new.events.items ≡ map call_of d.events.items ++ Tore c.args.first c.args.bytes.now ∷ [] = search rules in
+    record { kept = keeps d.start.items d.image.items d.image.items d.events.items c.keep_write.new.events.items (Tore c.args.first c.args.bytes.now) d.kept more fit refl }
+
+pub put-requires : goal.put-requires
+put-requires c =
+    let d = c.args.self.now in
+    omega (arith, c.requires.inside, ap length c.deref_mut.ensures.value, image_size d.start.items d.image.items d.events.items d.kept, whole_sectors (length d.start.items) d.kept.whole)
+
+pub invariant_of-self-2 : goal.invariant_of-self-2
+invariant_of-self-2 c =
+    let d = c.args.self.now in
+    let inside : 512 * c.args.first + length c.args.bytes.now ≤ length d.start.items = omega (arith, c.requires.inside, whole_sectors (length d.start.items) d.kept.whole) in
+    let fit = is_run_from (length d.start.items) c.args.first (length c.args.bytes.now) c.requires.some c.requires.whole inside in
+    let more : map call_of c.keep_write.new.events.items ≡ map call_of d.events.items ++ Wrote c.args.first c.args.bytes.now ∷ [] = search rules in
+    let size : length c.put.new.image ≡ d.image.len = search rules in
+    let same = take_at c.put.new.image (drop (length c.put.new.image) d.image.items) d.image.len size ∙ c.put.ensures ∙ ap (written c.args.first c.args.bytes.now) c.deref_mut.ensures.value in
+    record { kept = keeps d.start.items d.image.items _ d.events.items c.keep_write.new.events.items (Wrote c.args.first c.args.bytes.now) d.kept more fit same }

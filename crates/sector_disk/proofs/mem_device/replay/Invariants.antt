@@ -1,0 +1,9 @@
+use Rattle.std.proofs.Common.{◌≡◌, map, take}
+use Rattle.std.specs.List.{flat_map}
+use Rattle.sector_disk.specs.Model.{settled, run}
+use Rattle.sector_disk.specs.Memory.{events_of}
+use Rattle.sector_disk.specs.Kept.{call_of}
+use Rattle.sector_disk.proofs.mem_device.replay.Given as goal
+
+abbrev pub invariant-loop-event : goal.invariant-loop-event
+invariant-loop-event l = l.image ≡ (run (settled l.fn.image) (flat_map events_of (map call_of (take l.event-index l.events)))).seen

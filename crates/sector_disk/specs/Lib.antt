@@ -1,0 +1,13 @@
+pub mod Crash
+pub mod FileDevice
+pub mod Image
+pub mod ImageLaws
+pub mod Kept
+pub mod Laws
+pub mod MemDevice
+pub mod Memory
+pub mod MemoryLaws
+pub mod Model
+pub mod ModelLaws
+pub mod Sectors
+pub mod Throughout

@@ -1,0 +1,504 @@
+// A device in memory that can stop anywhere: it keeps a list of its writes and syncs.
+ghost use Rattle.std.specs.Prelude.{◌≡◌, ◌+◌, ◌-◌, ◌*◌, ◌/◌, ◌%◌, ◌^◌, ◌<◌, ◌≤◌, ◌≢◌, ◌↔◌, ◌++◌, ◌∷◌, [], List, ℕ, length, map, take, drop, slice_get, slice_index, Some, OnOk, OnErr, IfOk, IfSome, IsErr, IsTrue, false, if◌then◌else◌};
+ghost use Rattle.std.specs.Option.{option_copied};
+ghost use Rattle.std.specs.List.{flat_map, filter_map, list_all};
+ghost use Rattle.sector_disk.specs.Image.{sector, written};
+ghost use Rattle.sector_disk.specs.Model.{settled, run};
+ghost use Rattle.sector_disk.specs.Memory.{Wrote, Tore, Synced, TakesChoices, all_fit, events_of, is_now, one_less, one_less_or_out};
+ghost use Rattle.sector_disk.specs.Kept.{call_of, IsKept};
+ghost use Rattle.sector_disk.specs.Crash.{part_of, content_of, is_write, chosen, IsSettledBy};
+
+use crate::{DeviceFault, OutOfMemory, SECTOR_SIZE, Sectors};
+use std::alloc::{AllocError, Global};
+
+/// A write or a sync that happened.
+#[derive(Drop)]
+enum Event {
+    Write { first: u64, bytes: Vec<u8> },
+    /// A write that failed, whose sectors are possible contents all the same.
+    Torn { first: u64, bytes: Vec<u8> },
+    Sync,
+}
+
+/// A device in memory. It is always honest, and fails only by `fuse`, by `fail_once`, for want of memory, or where
+/// its calls stand at 2^64-1.
+#[derive(Drop)]
+pub struct MemDevice {
+    alloc: Global,
+    /// What was there when it was made or crashed.
+    start: Vec<u8>,
+    /// What reads give.
+    image: Vec<u8>,
+    /// The writes and syncs since it was made or crashed.
+    events: Vec<Event>,
+    calls: u64,
+    faults: u64,
+    /// How many more writes and syncs finish before every call fails.
+    fuse: Option<u64>,
+    /// Whether a write has failed by the fuse.
+    torn: bool,
+    /// How many more calls come before the one that fails once.
+    once: Option<u64>,
+    ghost kept: { IsKept start.items image.items events.items },
+}
+
+fn is_now(left: Option<u64>) -> bool
+    ensures { result ≡ is_now left }
+{
+    left == Some(0)
+}
+
+fn one_less(left: Option<u64>) -> Option<u64>
+    ensures { result ≡ one_less left }
+{
+    left.map(|k| k.saturating_sub(1))
+}
+
+fn one_less_or_out(left: Option<u64>) -> Option<u64>
+    ensures { result ≡ one_less_or_out left }
+{
+    match left {
+        Some(0) | None => None,
+        Some(k) => Some(k - 1),
+    }
+}
+
+/// Reads a run of sectors of the image.
+fn get(image: &[u8], first: u64, into: &mut [u8])
+    requires { 512 * first + length into.old ≤ length image.now }
+    ensures { into.new ≡ take (length into.old) (drop (512 * first) image.now) }
+{
+    let at = first as usize * SECTOR_SIZE;
+    into.copy_from_slice(&image[at..at + into.len()]);
+}
+
+/// Writes a run of sectors of the image.
+fn put(image: &mut [u8], first: u64, bytes: &[u8])
+    requires { 512 * first + length bytes.now ≤ length image.old }
+    ensures { image.new ≡ written first bytes.now image.old }
+{
+    let at = first as usize * SECTOR_SIZE;
+    image[at..at + bytes.len()].copy_from_slice(bytes);
+}
+
+/// Lists a write.
+fn keep_write(
+    alloc: Global,
+    events: &mut Vec<Event>,
+    first: u64,
+    bytes: &[u8],
+    is_torn: bool,
+) -> Result<(), AllocError>
+    ensures ok { OnOk result (map call_of events.new.items ≡ map call_of events.old.items
+        ++ (if is_torn then Tore first bytes.now else Wrote first bytes.now) ∷ []) }
+    ensures err { OnErr result (events.new.items ≡ events.old.items) }
+{
+    let bytes = bytes.to_vec(alloc)?;
+    let event = if is_torn {
+        Event::Torn { first, bytes }
+    } else {
+        Event::Write { first, bytes }
+    };
+    events.push(event)?;
+    Ok(())
+}
+
+/// Lists a sync.
+fn keep_sync(events: &mut Vec<Event>) -> Result<(), AllocError>
+    ensures ok { OnOk result (map call_of events.new.items ≡ map call_of events.old.items ++ Synced ∷ []) }
+    ensures err { OnErr result (events.new.items ≡ events.old.items) }
+{
+    events.push(Event::Sync)?;
+    Ok(())
+}
+
+impl MemDevice {
+    ghost use Rattle.std.specs.Prelude.{replicate};
+    ghost use Rattle.sector_disk.specs.Model.{Stops};
+    ghost use Rattle.sector_disk.specs.Sectors.{Only};
+    ghost use Rattle.sector_disk.specs.MemDevice.{memory};
+    ghost use Rattle.sector_disk.specs.Memory.{fresh, len_of, disk_of, seen_of, MayLeave, IsSameDevice, is_due, is_refused, tears, failed, read_of, write_of, sync_of, with_fault, Gives, GivesIfMemory, Crashes};
+
+    /// A device of zeros.
+    pub fn new(alloc: Global, sectors: u64) -> Result<MemDevice, OutOfMemory>
+        ensures fresh { IfOk result (λ device. memory device ≡ fresh sectors) }
+        ensures len { IfOk result (λ device. len_of (memory device) ≡ sectors) }
+        ensures zeros { IfOk result (λ device. seen_of (memory device) ≡ replicate (512 * sectors) 0) }
+        ensures only { IfOk result (λ device. Only (seen_of (memory device)) (MayLeave (memory device))) }
+    {
+        let Some(len) = (sectors as usize).checked_mul(SECTOR_SIZE) else {
+            return Err(AllocError);
+        };
+        Ok(MemDevice {
+            alloc,
+            start: vec![in alloc; 0; len]?,
+            image: vec![in alloc; 0; len]?,
+            events: Vec::new(alloc),
+            calls: 0,
+            faults: 0,
+            fuse: None,
+            torn: false,
+            once: None,
+        })
+    }
+
+    /// After `k` more finished writes and syncs every call fails, until the device is crashed. The sectors of the first
+    /// write that fails so are possible contents.
+    pub fn fuse(&mut self, k: u64)
+        ensures set { memory self.new ≡ record (memory self.old) { fuse = Some k; torn = false } }
+        ensures same { IsSameDevice (memory self.old) (memory self.new) }
+    {
+        self.fuse = Some(k);
+        self.torn = false;
+    }
+
+    /// The call after the next `k` calls of any kind fails. The sectors of a write that fails so are possible contents.
+    pub fn fail_once(&mut self, k: u64)
+        ensures set { memory self.new ≡ record (memory self.old) { once = Some k } }
+        ensures same { IsSameDevice (memory self.old) (memory self.new) }
+    {
+        self.once = Some(k);
+    }
+
+    /// Stops the device. Sector `i` takes its possible content number `choices[i]`, modulo their count: 0 is the synced
+    /// one, and then come those written since, in order. Sectors past the list take 0. What was to fail is taken out.
+    pub fn crash(&mut self, choices: &[u32])
+        ensures image { Crashes (λ i. slice_index choices.now i) (memory self.old) (memory self.new) }
+        ensures stop { Stops (len_of (memory self.old)) (disk_of (memory self.old)) (disk_of (memory self.new)) }
+        ensures possible { MayLeave (memory self.old) (seen_of (memory self.new)) }
+        ensures only { Only (seen_of (memory self.new)) (MayLeave (memory self.new)) }
+        ensures same_len { len_of (memory self.new) ≡ len_of (memory self.old) }
+        ensures same_calls { (memory self.new).calls ≡ (memory self.old).calls }
+        ensures same_faults { (memory self.new).faults ≡ (memory self.old).faults }
+    {
+        stop(&mut self.start, &self.events, choices);
+        self.image.copy_from_slice(&self.start);
+        self.events.clear();
+        self.fuse = None;
+        self.torn = false;
+        self.once = None;
+    }
+
+    /// Whether the call that comes now fails.
+    fn is_due(&self) -> bool
+        ensures { result ≡ is_due (memory self.now) }
+    {
+        is_now(self.once) || is_now(self.fuse)
+    }
+
+    /// Whether a write or a sync that comes now fails.
+    fn is_refused(&self) -> bool
+        ensures { result ≡ is_refused (memory self.now) }
+    {
+        self.is_due() || self.calls == u64::MAX
+    }
+
+    /// Whether the sectors of a write that fails now are possible contents.
+    fn tears(&self) -> bool
+        ensures { result ≡ tears (memory self.now) }
+    {
+        is_now(self.once) || is_now(self.fuse) && !self.torn
+    }
+
+    fn try_read(&mut self, first: u64, into: &mut [u8]) -> Result<(), DeviceFault>
+        requires { 512 * first + length into.old ≤ 512 * len_of (memory self.old) }
+        ensures exact { Gives (read_of (memory self.old)) result (memory self.new) }
+        ensures bytes { OnOk result (into.new ≡ take (length into.old) (drop (512 * first) (seen_of (memory self.old)))) }
+    {
+        if self.is_due() {
+            return self.fail();
+        }
+        get(&self.image, first, into);
+        self.once = one_less_or_out(self.once);
+        Ok(())
+    }
+
+    fn try_write(&mut self, first: u64, bytes: &[u8]) -> Result<(), DeviceFault>
+        requires some { 0 < length bytes.now }
+        requires whole { length bytes.now % 512 ≡ 0 }
+        requires inside { 512 * first + length bytes.now ≤ 512 * len_of (memory self.old) }
+        ensures { GivesIfMemory (memory self.old) (write_of (memory self.old) first bytes.now) result (memory self.new) }
+    {
+        let refused = self.is_refused();
+        if refused && !self.tears() {
+            return self.fail();
+        }
+        if keep_write(self.alloc, &mut self.events, first, bytes, refused).is_err() {
+            return self.fault();
+        }
+        if refused {
+            self.torn = self.torn || is_now(self.fuse);
+            return self.fail();
+        }
+        put(&mut self.image, first, bytes);
+        self.calls += 1;
+        self.fuse = one_less(self.fuse);
+        self.once = one_less_or_out(self.once);
+        Ok(())
+    }
+
+    fn try_sync(&mut self) -> Result<(), DeviceFault>
+        ensures { GivesIfMemory (memory self.old) (sync_of (memory self.old)) result (memory self.new) }
+    {
+        if self.is_refused() {
+            return self.fail();
+        }
+        if keep_sync(&mut self.events).is_err() {
+            return self.fault();
+        }
+        self.calls += 1;
+        self.fuse = one_less(self.fuse);
+        self.once = one_less_or_out(self.once);
+        Ok(())
+    }
+
+    /// A call that finds no memory.
+    fn fault(&mut self) -> Result<(), DeviceFault>
+        ensures fails { IsErr result }
+        ensures counted { memory self.new ≡ with_fault (memory self.old) }
+    {
+        self.faults = self.faults.saturating_add(1);
+        Err(DeviceFault)
+    }
+
+    /// A call that fails by `fuse`, by `fail_once` or at the last count.
+    fn fail(&mut self) -> Result<(), DeviceFault>
+        ensures { Gives (failed (memory self.old)) result (memory self.new) }
+    {
+        self.once = one_less_or_out(self.once);
+        self.fault()
+    }
+}
+
+/// How many of the events there are up to the last sync.
+fn synced_events(events: &[Event]) -> usize
+    ensures bound { result ≤ length events.now }
+    ensures settled { IsSettledBy (map call_of (take result events.now)) }
+    ensures rest { IsTrue (list_all is_write (map call_of (drop result events.now))) }
+{
+    let mut synced = 0;
+    for (i, event) in events.iter().enumerate() {
+        if let Event::Sync = event {
+            synced = i + 1;
+        }
+    }
+    synced
+}
+
+/// Writes into the image what the writes wrote that finished.
+fn replay(image: &mut [u8], events: &[Event])
+    requires { IsTrue (all_fit (length image.old) (map call_of events.now)) }
+    ensures { image.new ≡ (run (settled image.old) (flat_map events_of (map call_of events.now))).seen }
+{
+    for event in events {
+        if let Event::Write { first, bytes } = event {
+            put(image, *first, bytes);
+        }
+    }
+}
+
+/// What a write from sector `first` on writes to a sector.
+fn part_for(first: u64, bytes: &[u8], sector: u64) -> Option<&[u8]>
+    ensures part { option_copied result ≡ part_of first bytes.now sector }
+    ensures size { IfSome result (λ content. length content.now ≡ 512) }
+{
+    if sector < first || sector - first >= (bytes.len() / SECTOR_SIZE) as u64 {
+        return None;
+    }
+    let at = (sector - first) as usize * SECTOR_SIZE;
+    Some(&bytes[at..at + SECTOR_SIZE])
+}
+
+/// What an event writes to a sector, finished or not.
+fn content_for(event: &Event, sector: u64) -> Option<&[u8]>
+    ensures content { option_copied result ≡ content_of sector (call_of event.now) }
+    ensures size { IfSome result (λ content. length content.now ≡ 512) }
+{
+    match event {
+        Event::Write { first, bytes } | Event::Torn { first, bytes } => {
+            part_for(*first, bytes, sector)
+        }
+        Event::Sync => None,
+    }
+}
+
+/// How many of the events write to a sector.
+fn count_for(events: &[Event], sector: u64) -> usize
+    ensures count { result ≡ length (filter_map (content_of sector) (map call_of events.now)) }
+    ensures bound { result ≤ length events.now }
+{
+    let mut count = 0;
+    for event in events {
+        if content_for(event, sector).is_some() {
+            count += 1;
+        }
+    }
+    count
+}
+
+/// What the event writes to a sector that is the `number`th of those that write to it.
+fn nth_content(events: &[Event], sector: u64, number: usize) -> Option<&[u8]>
+    ensures content { option_copied result ≡ slice_get (filter_map (content_of sector) (map call_of events.now)) number }
+    ensures size { IfSome result (λ content. length content.now ≡ 512) }
+{
+    let mut left = number;
+    for event in events {
+        if let Some(content) = content_for(event, sector) {
+            if left == 0 {
+                return Some(content);
+            }
+            left -= 1;
+        }
+    }
+    None
+}
+
+/// Puts into a sector of the image the content that was chosen for it.
+fn choose_sector(image: &mut [u8], unsynced: &[Event], index: u64, choice: u32)
+    requires { 512 * index + 512 ≤ length image.old }
+    ensures chosen { sector index image.new ≡ chosen (sector index image.old) (filter_map (content_of index) (map call_of unsynced.now)) choice }
+    ensures others { (i : ℕ) → i ≢ index → sector i image.new ≡ sector i image.old }
+{
+    let number = choice as usize % (count_for(unsynced, index) + 1);
+    if number == 0 {
+        return;
+    }
+    if let Some(content) = nth_content(unsynced, index, number - 1) {
+        put(image, index, content);
+    }
+}
+
+/// The choice for a sector, which is 0 past the end of the list.
+fn choice_for(choices: &[u32], index: u64) -> u32
+    ensures { result ≡ slice_index choices.now index }
+{
+    choices.get(index as usize).copied().unwrap_or(0)
+}
+
+/// Puts into each sector of the image the content that was chosen for it.
+fn choose(image: &mut [u8], unsynced: &[Event], choices: &[u32])
+    ensures { (i : ℕ) → i < length image.old / 512 → sector i image.new
+        ≡ chosen (sector i image.old) (filter_map (content_of i) (map call_of unsynced.now)) (slice_index choices.now i) }
+{
+    for i in 0..(image.len() / SECTOR_SIZE) as u64 {
+        choose_sector(image, unsynced, i, choice_for(choices, i));
+    }
+}
+
+/// Leaves of the image at the start the one that was chosen of those that are possible after the events.
+fn stop(image: &mut [u8], events: &[Event], choices: &[u32])
+    requires { IsTrue (all_fit (length image.old) (map call_of events.now)) }
+    ensures { TakesChoices (length image.old / 512) (run (settled image.old) (flat_map events_of (map call_of events.now))) (λ i. slice_index choices.now i) image.new }
+{
+    let synced = synced_events(events);
+    replay(image, &events[..synced]);
+    choose(image, &events[synced..], choices);
+}
+
+impl Sectors for MemDevice {
+    ghost use Rattle.sector_disk.specs.Sectors.{calls_after, faults_after, Reached, AddsContents, Only, SameImages, Elapses};
+    ghost use Rattle.sector_disk.specs.MemDevice.{memory};
+    ghost use Rattle.sector_disk.specs.Memory.{len_of, seen_of, MayLeave, clock_of, MayHaveLeft, read_of, write_of, sync_of, with_fault, Gives, GivesIfMemory};
+
+    ghost len = { λ d. len_of (memory d) };
+
+    ghost calls = { λ d. (memory d).calls };
+
+    ghost faults = { λ d. (memory d).faults };
+
+    ghost honest = { λ d. Unit {0} };
+
+    ghost seen = { λ d. seen_of (memory d) };
+
+    ghost possible = { λ d. MayLeave (memory d) };
+
+    ghost clock = { λ d. clock_of (memory d) };
+
+    ghost possible_since = { λ d. MayHaveLeft (memory d) };
+
+    fn len(&self) -> u64 {
+        (self.image.len() / SECTOR_SIZE) as u64
+    }
+
+    fn calls(&self) -> u64 {
+        self.calls
+    }
+
+    fn faults(&self) -> u64 {
+        self.faults
+    }
+
+    fn read(&mut self, first: u64, into: &mut [u8]) -> Result<(), DeviceFault>
+        requires some { 0 < length into.old }
+        requires whole { length into.old % 512 ≡ 0 }
+        requires inside { 512 * first + length into.old ≤ 512 * len_of (memory self.old) }
+
+        ensures exact { Gives (read_of (memory self.old)) result (memory self.new) }
+
+        ensures same_len { len_of (memory self.new) ≡ len_of (memory self.old) }
+        ensures same_calls { (memory self.new).calls ≡ (memory self.old).calls }
+        ensures fault { (memory self.new).faults ≡ faults_after result (memory self.old).faults }
+        ensures honest { Unit {0} ↔ Unit {0} }
+        ensures bytes { Unit {0} → OnOk result (into.new ≡ take (length into.old) (drop (512 * first) (seen_of (memory self.old)))) }
+        ensures reads { Unit {0} → seen_of (memory self.new) ≡ seen_of (memory self.old) }
+        ensures contents { Unit {0} → SameImages (MayLeave (memory self.old)) (MayLeave (memory self.new)) }
+        ensures moments { Unit {0} → Elapses (clock_of (memory self.old)) (clock_of (memory self.new)) (MayHaveLeft (memory self.old)) (MayHaveLeft (memory self.new))
+            (memory self.old).calls (memory self.new).calls (MayLeave (memory self.old)) (MayLeave (memory self.new)) }
+    {
+        self.try_read(first, into)
+    }
+
+    fn write(&mut self, first: u64, bytes: &[u8]) -> Result<(), DeviceFault>
+        requires some { 0 < length bytes.now }
+        requires whole { length bytes.now % 512 ≡ 0 }
+        requires inside { 512 * first + length bytes.now ≤ 512 * len_of (memory self.old) }
+
+        ensures exact { GivesIfMemory (memory self.old) (write_of (memory self.old) first bytes.now) result (memory self.new) }
+
+        ensures same_len { len_of (memory self.new) ≡ len_of (memory self.old) }
+        ensures finished { (memory self.new).calls ≡ calls_after result (memory self.old).calls }
+        ensures fault { (memory self.new).faults ≡ faults_after result (memory self.old).faults }
+        ensures last { (memory self.old).calls ≡ 2 ^ 64 - 1 → IsErr result }
+        ensures honest { Unit {0} ↔ Unit {0} }
+        ensures written { Unit {0} → OnOk result (seen_of (memory self.new) ≡ written first bytes.now (seen_of (memory self.old))) }
+        ensures contents { Unit {0} → AddsContents result first bytes.now (MayLeave (memory self.old)) (MayLeave (memory self.new)) }
+        ensures within { Unit {0} → OnOk result ((t : ℕ) (image : List ℕ) → t ≤ clock_of (memory self.old) →
+            Reached first bytes.now (MayLeave (memory self.old)) image → MayHaveLeft (memory self.new) t (memory self.old).calls image) }
+        ensures moments { Unit {0} → Elapses (clock_of (memory self.old)) (clock_of (memory self.new)) (MayHaveLeft (memory self.old)) (MayHaveLeft (memory self.new))
+            (memory self.old).calls (memory self.new).calls (Reached first bytes.now (MayLeave (memory self.old))) (MayLeave (memory self.new)) }
+    {
+        self.try_write(first, bytes)
+    }
+
+    fn sync(&mut self) -> Result<(), DeviceFault>
+        ensures exact { GivesIfMemory (memory self.old) (sync_of (memory self.old)) result (memory self.new) }
+
+        ensures same_len { len_of (memory self.new) ≡ len_of (memory self.old) }
+        ensures finished { (memory self.new).calls ≡ calls_after result (memory self.old).calls }
+        ensures fault { (memory self.new).faults ≡ faults_after result (memory self.old).faults }
+        ensures last { (memory self.old).calls ≡ 2 ^ 64 - 1 → IsErr result }
+        ensures honest { Unit {0} ↔ Unit {0} }
+        ensures reads { Unit {0} → OnOk result (seen_of (memory self.new) ≡ seen_of (memory self.old)) }
+        ensures durable { Unit {0} → OnOk result (Only (seen_of (memory self.old)) (MayLeave (memory self.new))) }
+        ensures contents { Unit {0} → OnErr result (SameImages (MayLeave (memory self.old)) (MayLeave (memory self.new))) }
+        ensures moments { Unit {0} → Elapses (clock_of (memory self.old)) (clock_of (memory self.new)) (MayHaveLeft (memory self.old)) (MayHaveLeft (memory self.new))
+            (memory self.old).calls (memory self.new).calls (MayLeave (memory self.old)) (MayLeave (memory self.new)) }
+    {
+        self.try_sync()
+    }
+
+    ghost use Rattle.sector_disk.specs.MemoryLaws.{memory_reads_possible, memory_counts_now, memory_only_now, memory_since_earlier};
+
+    ghost reads_possible = { λ d _. memory_reads_possible (memory d) d.kept.whole d.kept.fit };
+
+    ghost image_size = { λ d image _ is_image. is_image.size };
+
+    ghost counts_now = { λ d t image _ le is_image. memory_counts_now (memory d) t image le is_image };
+
+    ghost only_now = { λ d m image _ left. memory_only_now (memory d) m image left };
+
+    ghost since_earlier = { λ d t u m image _ le left. memory_since_earlier (memory d) t u m image le left };
+}
+
+#[cfg(test)]
+mod tests;

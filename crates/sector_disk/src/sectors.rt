@@ -1,0 +1,127 @@
+// A device as the layers above see it.
+ghost use Rattle.std.specs.Prelude.{◌≡◌, ◌+◌, ◌-◌, ◌*◌, ◌%◌, ◌^◌, ◌<◌, ◌≤◌, ◌↔◌, List, ℕ, length, take, drop, OnOk, OnErr, IsErr};
+ghost use Rattle.sector_disk.specs.Image.{written};
+ghost use Rattle.sector_disk.specs.Sectors.{calls_after, faults_after, Reached, AddsContents, Only, SameImages, Elapses};
+
+use std::alloc::AllocError;
+use thiserror::Error;
+
+/// Bytes of a sector.
+pub const SECTOR_SIZE: usize = 512;
+
+/// A growth was refused.
+pub type OutOfMemory = AllocError;
+
+/// A read, a write or a sync failed.
+#[derive(Clone, Copy, Debug, PartialEq, Eq, Error)]
+#[error("the device failed")]
+pub struct DeviceFault;
+
+/// A device of sectors of 512 bytes. After a stop each sector holds, independently of the others, its content at the
+/// last successful sync or any content written to it since. That this is so is promised of an honest device.
+///
+/// `calls` and `faults` never pass 2^64-1: where `calls` stands there a write or a sync fails, and `faults` stays there.
+pub trait Sectors {
+    /// How many sectors there are.
+    ghost len: { Self → ℕ };
+
+    /// Finished writes and syncs.
+    ghost calls: { Self → ℕ };
+
+    /// Failed calls of any kind.
+    ghost faults: { Self → ℕ };
+
+    /// It behaves as the model says, and nobody else writes it.
+    ghost honest: { Self → Type 0 };
+
+    /// What reads give.
+    ghost seen: { Self → List ℕ };
+
+    /// The images that a stop at this moment may leave.
+    ghost possible: { Self → List ℕ → Type 0 };
+
+    /// The moment, as a number that doesn't fall.
+    ghost clock: { Self → ℕ };
+
+    /// The images that a stop at some moment from that one on might have left, with that many calls finished by then.
+    ghost possible_since: { Self → ℕ → ℕ → List ℕ → Type 0 };
+
+    /// The number of sectors.
+    fn len(&self) -> u64
+        ensures { result ≡ len self.now };
+
+    /// How many writes and syncs have finished.
+    fn calls(&self) -> u64
+        ensures { result ≡ calls self.now };
+
+    /// How many calls have failed.
+    fn faults(&self) -> u64
+        ensures { result ≡ faults self.now };
+
+    /// Reads a run of whole sectors, `first` the number of its first. After a fault the buffer's bytes are not known.
+    fn read(&mut self, first: u64, into: &mut [u8]) -> Result<(), DeviceFault>
+        requires some { 0 < length into.old }
+        requires whole { length into.old % 512 ≡ 0 }
+        requires inside { 512 * first + length into.old ≤ 512 * len self.old }
+
+        ensures same_len { len self.new ≡ len self.old }
+        ensures same_calls { calls self.new ≡ calls self.old }
+        ensures fault { faults self.new ≡ faults_after result (faults self.old) }
+        ensures honest { honest self.new ↔ honest self.old }
+
+        ensures bytes { honest self.old → OnOk result (into.new ≡ take (length into.old) (drop (512 * first) (seen self.old))) }
+        ensures reads { honest self.old → seen self.new ≡ seen self.old }
+        ensures contents { honest self.old → SameImages (possible self.old) (possible self.new) }
+        ensures moments { honest self.old → Elapses (clock self.old) (clock self.new) (possible_since self.old) (possible_since self.new)
+            (calls self.old) (calls self.new) (possible self.old) (possible self.new) };
+
+    /// Writes a run of whole sectors, `first` the number of its first. Until a sync succeeds a stop may leave the old
+    /// content or the new one in each of them; after a fault reads give one of the possible images.
+    fn write(&mut self, first: u64, bytes: &[u8]) -> Result<(), DeviceFault>
+        requires some { 0 < length bytes.now }
+        requires whole { length bytes.now % 512 ≡ 0 }
+        requires inside { 512 * first + length bytes.now ≤ 512 * len self.old }
+
+        ensures same_len { len self.new ≡ len self.old }
+        ensures finished { calls self.new ≡ calls_after result (calls self.old) }
+        ensures fault { faults self.new ≡ faults_after result (faults self.old) }
+        ensures last { calls self.old ≡ 2 ^ 64 - 1 → IsErr result }
+        ensures honest { honest self.new ↔ honest self.old }
+
+        ensures written { honest self.old → OnOk result (seen self.new ≡ written first bytes.now (seen self.old)) }
+        ensures contents { honest self.old → AddsContents result first bytes.now (possible self.old) (possible self.new) }
+        // Within the call each sector may have reached the device or not.
+        ensures within { honest self.old → OnOk result ((t : ℕ) (image : List ℕ) → t ≤ clock self.old →
+            Reached first bytes.now (possible self.old) image → possible_since self.new t (calls self.old) image) }
+        ensures moments { honest self.old → Elapses (clock self.old) (clock self.new) (possible_since self.old) (possible_since self.new)
+            (calls self.old) (calls self.new) (Reached first bytes.now (possible self.old)) (possible self.new) };
+
+    /// Makes durable what reads give. After a fault nothing more is durable, and reads give one of the possible images.
+    fn sync(&mut self) -> Result<(), DeviceFault>
+        ensures same_len { len self.new ≡ len self.old }
+        ensures finished { calls self.new ≡ calls_after result (calls self.old) }
+        ensures fault { faults self.new ≡ faults_after result (faults self.old) }
+        ensures last { calls self.old ≡ 2 ^ 64 - 1 → IsErr result }
+        ensures honest { honest self.new ↔ honest self.old }
+
+        ensures reads { honest self.old → OnOk result (seen self.new ≡ seen self.old) }
+        ensures durable { honest self.old → OnOk result (Only (seen self.old) (possible self.new)) }
+        ensures contents { honest self.old → OnErr result (SameImages (possible self.old) (possible self.new)) }
+        ensures moments { honest self.old → Elapses (clock self.old) (clock self.new) (possible_since self.old) (possible_since self.new)
+            (calls self.old) (calls self.new) (possible self.old) (possible self.new) };
+
+    /// What reads give is a possible image.
+    ghost reads_possible: { (d : Self) → honest d → possible d (seen d) };
+
+    /// A possible image has the device's length.
+    ghost image_size: { (d : Self) (image : List ℕ) → honest d → possible d image → length image ≡ 512 * len d };
+
+    /// This moment is one of those since an earlier one.
+    ghost counts_now: { (d : Self) (t : ℕ) (image : List ℕ) → honest d → t ≤ clock d → possible d image → possible_since d t (calls d) image };
+
+    /// Since this moment there is no other.
+    ghost only_now: { (d : Self) (m : ℕ) (image : List ℕ) → honest d → possible_since d (clock d) m image → (m ≡ calls d) × possible d image };
+
+    /// The moments since a later one are among those since an earlier one.
+    ghost since_earlier: { (d : Self) (t u m : ℕ) (image : List ℕ) → honest d → t ≤ u → possible_since d u m image → possible_since d t m image };
+}
