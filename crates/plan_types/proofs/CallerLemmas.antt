@@ -2,7 +2,7 @@
 use Rattle.std.proofs.Common.{◌≡◌, ℕ, zero, suc, ◌<◌, List, [], ◌∷◌, slice_get, Option, Some, None, subst}
 use Rattle.std.specs.List.{AllByRecursion}
 use Rattle.std.specs.Option.{option_map}
-use Rattle.plan_types.specs.Instance.{Instance, IsInstance, request_with, stop_at}
+use Rattle.plan_types.specs.Instance.{Instance, IsInstance, request_with}
 use Rattle.plan_types.specs.Request.{stops_of, stop_in}
 use Rattle.plan_types.specs.declared.requests.Stop.{Stop}
 use Rattle.plan_types.specs.declared.requests.Request.{Request}
@@ -33,6 +33,7 @@ numbers-below p n r valid is =
     all : (r : Request) → NumbersBelow p.next_number r → AllByRecursion (λ s. s.number < p.next_number) (stops_of r)
     all (Single s) h = (h, tt)
     all (Pair a b) h = (h.0, (h.1, tt))
+
     itself : (r q : Request) (o : Option Stop) → NumbersBelow p.next_number r → option_map (λ _. r) o ≡ Some q → AllByRecursion (λ s. s.number < p.next_number) (stops_of q)
     itself r q None below h = absurd (none_some q h)
     itself r q (Some s) below h = let same : r ≡ q = (let g : Some r ≡ Some q = h in cc) in subst (λ r. AllByRecursion (λ s. s.number < p.next_number) (stops_of r)) same (all r below)

@@ -30,7 +30,10 @@ fn keeps_requests_by_name(rt: HostRuntime) -> Result<(), Fail> {
     assert_eq!(rt; problem.stop(4).map(|stop| stop.x), Some(6));
     assert_eq!(rt; problem.stop(2), None);
     assert_eq!(rt; problem.name_of(4), Some(3));
-    assert_eq!(rt; problem.requests.get_index(0).map(|entry| *entry.0), Some(1));
+    assert_eq!(rt;
+        problem.requests.get_index(0).map(|entry| *entry.0),
+        Some(1)
+    );
     let taken = problem.put(Request::Single(stop_at(4, 0, 0, 1)));
     assert_eq!(rt; taken, Err(PutFault::Taken));
     let range = problem.put(Request::Single(stop_at(40_001, 0, 0, 1)));

@@ -6,6 +6,7 @@ use Rattle.std.specs.Option.{option_or}
 use Rattle.std.proofs.lemmas.Bool.{false≢true, ne_eqb, eqb-true}
 use Rattle.std.proofs.lemmas.Bool.Decides.{eqb_tells}
 use Rattle.std.proofs.lemmas.List.{get_or_past}
+use Rattle.std.proofs.lemmas.List.Elements.{recursion_from_All}
 use Rattle.std.proofs.lemmas.List.Folds.{Any-from_list_any}
 use Rattle.std.proofs.lemmas.Map.Steps.{length-le_from_distinct_below}
 use Rattle.plan_types.specs.Limits.{IsStop}
@@ -77,3 +78,9 @@ place-stop p route k n s at found is valid =
     let here : get_or route k 0 ≡ n = sym at in
     let positive : eqb n 0 ≡ false = ne_eqb n 0 (λ e. omega (arith, valid.from_one)) in
     rw (add-one k, here, positive, found) refl
+
+-- the numbers of live stops
+pub live_numbers : (p : Instance) (numbers : List ℕ) → IsInstance p → AreLiveOnce p numbers → AllByRecursion (λ n. n ≤ 40000) numbers
+unfolding IsNumber
+live_numbers p numbers valid once =
+    recursion_from_All (λ n. n ≤ 40000) numbers (λ k d h. (live_number p (get_or numbers k d) valid (once.live k d h)).1)

@@ -1,7 +1,7 @@
 //! What a plan costs.
 
-ghost use Rattle.std.specs.Prelude.{◌≡◌, ◌==◌, ◌+◌, length};
-ghost use Rattle.std.specs.List.{concat, list_any};
+ghost use Rattle.std.specs.Prelude.{◌≡◌, ◌==◌, ◌+◌, ◌≤◌, length};
+ghost use Rattle.std.specs.List.{AllByRecursion, concat, list_any};
 ghost use Rattle.plan_types.specs.Instance.{IsInstance};
 ghost use Rattle.route_sched.specs.Route.{IsPlan};
 ghost use Rattle.route_sched.specs.Cost.{has_stop, used_count, vehicle_count, total_length, unplanned_count, cost_of};
@@ -14,7 +14,8 @@ use plan_types::{Cost, Kind, Plan, Problem, Route};
 /// distance. Takes no memory.
 pub fn plan_cost(problem: &Problem, plan: &Plan) -> Cost
     requires { IsPlan problem.now plan.now.routes }
-    ensures { result ≡ cost_of problem.now plan.now.routes }
+    ensures cost { result ≡ cost_of problem.now plan.now.routes }
+    ensures numbers { AllByRecursion (λ n. n ≤ 40000) (concat plan.now.routes) }
 {
     let routes = plan.routes.as_slice();
     Cost {

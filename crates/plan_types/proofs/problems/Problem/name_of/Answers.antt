@@ -1,4 +1,4 @@
-use Rattle.std.proofs.Common.{◌≡◌, Option, None, sym, ap, ◌∙◌}
+use Rattle.std.proofs.Common.{sym, ap, ◌∙◌}
 use Rattle.std.specs.Option.{option_map}
 use Rattle.plan_types.proofs.LookupLemmas.{name_from_located, lookup-name_at}
 use Rattle.plan_types.proofs.problems.Problem.name_of.Goals as goal

@@ -1,0 +1,53 @@
+-- What the definitions give for two worked texts.
+use Rattle.std.proofs.Common.{◌≡◌, ℕ, true, false, List, [], ◌∷◌, ◌++◌, refl, pos, negsuc, map}
+use Rattle.std.specs.Prelude.{codes}
+use Rattle.text_lines.specs.Lines.{lines_of, pieces_of}
+use Rattle.text_lines.specs.Words.{words_of}
+use Rattle.text_lines.specs.Numbers.{number_of, whole_of, digits_of, is_digits}
+use Rattle.plan_types.specs.declared.requests.Request.TheVariants.{Pair, Single}
+use Rattle.instance_read.specs.Lilim.{customers_of}
+use Rattle.instance_read.specs.Pairs.{is_mismatched, pairs_of, task_of}
+use Rattle.instance_read.specs.Rows.{rows_from}
+use Rattle.instance_read.specs.VrpLines.{key_of, value_of, placed_from, placed_of, end_place, AfterEnd}
+use Rattle.instance_read.specs.Vrp.{lacks_key, vrp_problem, end_line}
+
+abbrev line_end : List ℕ → List ℕ
+line_end rest = 10 ∷ rest
+
+abbrev V : List ℕ
+V = codes "NAME : t3" ++ line_end (codes "TYPE : CVRP") ++ line_end (codes "DIMENSION : 4") ++ line_end (codes "EDGE_WEIGHT_TYPE : EUC_2D")
+    ++ line_end (codes "CAPACITY : 10") ++ line_end (codes "NODE_COORD_SECTION") ++ line_end (codes "1 0 0") ++ line_end (codes "2 3 4") ++ line_end (codes "3 6 8")
+    ++ line_end (codes "4 0 5") ++ line_end (codes "DEMAND_SECTION") ++ line_end (codes "1 0") ++ line_end (codes "2 6") ++ line_end (codes "3 4") ++ line_end (codes "4 5")
+    ++ line_end (codes "DEPOT_SECTION") ++ line_end (codes "1") ++ line_end (codes "-1") ++ line_end (codes "EOF") ++ line_end []
+
+ends : end_place V ≡ AfterEnd
+unfolding lines_of pieces_of words_of number_of whole_of digits_of is_digits rows_from key_of value_of placed_from
+ends = refl
+
+complete : lacks_key (placed_of V) ≡ false
+unfolding lines_of pieces_of words_of number_of whole_of digits_of is_digits rows_from key_of value_of placed_from
+complete = refl
+
+end_at : end_line V ≡ 19
+unfolding lines_of pieces_of words_of number_of whole_of digits_of is_digits rows_from key_of value_of placed_from
+end_at = refl
+
+last_request : (vrp_problem (placed_of V)).requests ≡ (1, Single (record { number = 1; x = pos 3; y = pos 4; demand = pos 6; earliest = 0; latest = 100000000; service = 0 })) ∷ (2, Single (record { number = 2; x = pos 6; y = pos 8; demand = pos 4; earliest = 0; latest = 100000000; service = 0 })) ∷ (3, Single (record { number = 3; x = pos 0; y = pos 5; demand = pos 5; earliest = 0; latest = 100000000; service = 0 })) ∷ []
+unfolding lines_of pieces_of words_of number_of whole_of digits_of is_digits rows_from key_of value_of placed_from
+last_request = refl
+
+-- a pickup and its delivery
+abbrev L : List ℕ
+L = codes "2 10 1" ++ line_end (codes "0 0 0 0 0 100 0 0 0") ++ line_end (codes "1 3 4 4 0 50 2 0 2") ++ line_end (codes "2 6 8 -4 0 60 2 1 0") ++ line_end []
+
+pairs : pairs_of (customers_of L) ≡ (1, Pair (record { number = 1; x = pos 3; y = pos 4; demand = pos 4; earliest = 0; latest = 50; service = 2 }) (record { number = 2; x = pos 6; y = pos 8; demand = negsuc 3; earliest = 0; latest = 60; service = 2 })) ∷ []
+unfolding lines_of pieces_of words_of number_of whole_of digits_of is_digits rows_from customers_of task_of
+pairs = refl
+
+-- the same where the delivery names task 3
+M : List ℕ
+M = codes "2 10 1" ++ line_end (codes "0 0 0 0 0 100 0 0 0") ++ line_end (codes "1 3 4 4 0 50 2 0 2") ++ line_end (codes "2 6 8 -4 0 60 2 3 0") ++ line_end []
+
+mismatched : map (is_mismatched (customers_of M)) (customers_of M) ≡ true ∷ true ∷ []
+unfolding M lines_of pieces_of words_of number_of whole_of digits_of is_digits rows_from customers_of task_of
+mismatched = refl

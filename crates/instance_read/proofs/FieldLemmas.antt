@@ -1,0 +1,22 @@
+-- The numbers of a line, one after another.
+use Rattle.std.proofs.Common.{◌≡◌, ◌≢◌, set, below_more, get_or-set_other, get_or-set_same, ℕ, zero, suc, ◌+◌, ◌<◌, List, [], ◌∷◌, length, drop, get_or, refl, sym, ap, ◌∙◌, arith, ℤ, pos}
+use Rattle.std.specs.Prelude.{slice_get}
+use Rattle.std.specs.Option.{option_and_then}
+use Rattle.text_lines.specs.Numbers.{number_of}
+use Rattle.instance_read.specs.Fields.{field}
+use Rattle.instance_read.specs.FieldValues.{IsValue, HasValue}
+
+slice_get-drop : (xs : List (List ℕ)) (i : ℕ) → slice_get (drop i xs) 0 ≡ slice_get xs i
+slice_get-drop xs zero = refl
+slice_get-drop [] (suc i) = refl
+slice_get-drop (x ∷ xs) (suc i) = slice_get-drop xs i
+
+pub field-drop : (words : List (List ℕ)) (i : ℕ) → field (drop i words) 0 ≡ field words i
+field-drop words i = ap (option_and_then number_of) (slice_get-drop words i)
+
+-- one field more is read
+pub values_more : (limits : List (ℤ × ℤ)) (words rest : List (List ℕ)) (values : List ℤ) (i : ℕ) (v : ℤ) → i < length values → rest ≡ drop i words → ((k : ℕ) → k < i → HasValue limits words values k) → IsValue (get_or limits i (pos 0, pos 0)) (field rest 0) v → (k : ℕ) → k < i + 1 → HasValue limits words (set values i v) k
+values_more limits words rest values i v l at before here =
+    below_more _ _
+    (λ k h. let ne : k ≢ i = omega arith in rw get_or-set_other (before k h))
+    (rw get_or-set_same (sym (field-drop words i) ∙ ap (λ ws. field ws 0) (sym at) ∙ here.0, here.1))

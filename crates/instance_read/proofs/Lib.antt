@@ -1,0 +1,11 @@
+pub mod RowLemmas
+pub mod FieldLemmas
+pub mod KindLemmas
+pub mod TaskLemmas
+pub mod WalkLemmas
+pub mod TableLemmas
+pub mod PairLemmas
+pub mod LilimLemmas
+pub mod LimitLemmas
+pub mod ReadLemmas
+pub mod Examples

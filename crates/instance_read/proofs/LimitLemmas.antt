@@ -1,0 +1,156 @@
+-- What lines without a fault say of the header and of the tasks.
+use Rattle.std.proofs.Common.{◌≡◌, ℕ, zero, suc, ◌<◌, ◌≤◌, Bool, true, false, not, List, [], ◌∷◌, length, get_or, map, Option, Some, None, inl, inr, refl, sym, ap, subst, ◌∙◌, arith, ℤ, pos, negsuc}
+use Rattle.std.specs.Prelude.{int_lt, ◌≤ℤ◌, is_none, ◌==◌, unwrap_or}
+use Rattle.std.specs.Int.RustNames.{unsigned_abs}
+use Rattle.std.specs.List.{AllByRecursion}
+use Rattle.std.proofs.lemmas.Bool.{or_parts, eqb-true, ltb-true, ltb-false, false≢true, false_from_ne_true}
+use Rattle.std.proofs.lemmas.Int.{ints}
+use Rattle.text_lines.specs.Numbers.{number_of}
+use Rattle.text_lines.specs.Words.{words_of}
+use Rattle.plan_types.specs.Limits.{IsFleet, IsVisit}
+use Rattle.instance_read.specs.declared.faults.ReadFaultKind.TheVariants.{BadNumber, Range, FieldCount, TaskOrder, EmptyWindow}
+use Rattle.instance_read.specs.declared.tasks.Header.{Header}
+use Rattle.instance_read.specs.declared.tasks.Task.{Task}
+use Rattle.instance_read.specs.Fields.{field, value_at, is_that, is_beyond, any_beyond, has_no_number, is_no_number, exceeds}
+use Rattle.instance_read.specs.FieldValues.{IsValue}
+use Rattle.instance_read.specs.Headers.{IsHeader}
+use Rattle.instance_read.specs.Lilim.{header_fault, header_limits, is_out_of_order, task_fault, task_limits}
+use Rattle.instance_read.specs.Pairs.{task_of}
+use Rattle.instance_read.specs.Rows.{Row}
+use Rattle.instance_read.specs.Tables.{AreTasks, HeaderKeepsLimits, IsCustomer, RisesFrom}
+use Rattle.instance_read.specs.Walk.{HasNoKind, HasNoTaskFault}
+use Rattle.instance_read.proofs.TaskLemmas.{from_zero}
+
+within_from : (least most z : ℤ) → is_beyond (least, most) z ≡ false → (least ≤ℤ z) × (z ≤ℤ most)
+within_from least most z e =
+    let parts = or_parts (int_lt z least) (int_lt most z) e in
+    let low = parts.0 in
+    let high = parts.1 in
+    (grind (arith, ints, low), grind (arith, ints, high))
+
+most_from : (most n : ℕ) → int_lt (pos most) (pos n) ≡ false → n ≤ most
+most_from most n e = ltb-false most n e
+
+-- a number of 0 or more, within its limit
+magnitude_le : (most : ℕ) (z : ℤ) → is_beyond (pos 0, pos most) z ≡ false → unsigned_abs z ≤ most
+magnitude_le most (pos n) e = most_from most n (or_parts (int_lt (pos n) (pos 0)) (int_lt (pos most) (pos n)) e).1
+magnitude_le most (negsuc n) e = absurd (false≢true (sym e))
+
+not_true : (b : Bool) → not b ≡ false → b ≡ true
+not_true true e = refl
+not_true false e = absurd (false≢true (sym e))
+
+-- each number of a line without a fault keeps its limits
+value_here : (limits : ℤ × ℤ) (number : Option ℤ) → is_none number ≡ false → is_that (is_beyond limits) number ≡ false → IsValue limits number (unwrap_or number (pos 0))
+value_here limits None some h = absurd (false≢true (sym some))
+value_here limits (Some z) some h = (refl, h)
+
+values_of : (limits : List (ℤ × ℤ)) (words : List (List ℕ)) (k : ℕ) → length limits ≤ length words → has_no_number words ≡ false → any_beyond limits words ≡ false → k < length limits → IsValue (get_or limits k (pos 0, pos 0)) (field words k) (value_at words k)
+values_of [] words k fits numbers h l = absurd (omega arith)
+values_of (x ∷ limits) [] k fits numbers h l = absurd (omega arith)
+values_of (x ∷ limits) (w ∷ words) zero fits numbers h l =
+    value_here x (number_of w) (or_parts (is_no_number w) (has_no_number words) numbers).0 (or_parts (is_that (is_beyond x) (number_of w)) (any_beyond limits words) h).0
+values_of (x ∷ limits) (w ∷ words) (suc k) fits numbers h l =
+    values_of limits words k (omega arith) (or_parts (is_no_number w) (has_no_number words) numbers).1 (or_parts (is_that (is_beyond x) (number_of w)) (any_beyond limits words) h).1 (omega arith)
+
+fleet_from : (z : ℤ) → is_beyond (pos 1, pos 40000) z ≡ false → IsFleet (unsigned_abs z)
+fleet_from (pos n) e =
+    let parts = or_parts (int_lt (pos n) (pos 1)) (int_lt (pos 40000) (pos n)) e in
+    (ltb-false n 1 parts.0, most_from 40000 n parts.1)
+fleet_from (negsuc n) e = absurd (false≢true (sym e))
+
+pub header_limits_of : (words : List (List ℕ)) (header : Header) → HasNoKind (header_fault words) → IsHeader words header → HeaderKeepsLimits header
+header_limits_of words header none is =
+    let three = eqb-true (length words) 3 (not_true (length words == 3) (none FieldCount)) in
+    let fleet = values_of header_limits words 0 (omega (arith, three)) (none BadNumber) (none Range) (omega arith) in
+    let capacity = values_of header_limits words 1 (omega (arith, three)) (none BadNumber) (none Range) (omega arith) in
+    record {
+      fleet = rw is.0 (fleet_from (value_at words 0) fleet.1);
+      capacity = rw is.1 (magnitude_le 1000000 (value_at words 1) capacity.1);
+    }
+
+-- the window is not empty
+window_from : (e l : ℤ) → is_beyond (pos 0, pos 100000000) e ≡ false → is_beyond (pos 0, pos 100000000) l ≡ false → int_lt l e ≡ false → unsigned_abs e ≤ unsigned_abs l
+window_from (pos a) (pos b) low high h = ltb-false b a h
+window_from (pos a) (negsuc b) low high h = absurd (false≢true (sym high))
+window_from (negsuc a) l low high h = absurd (false≢true (sym low))
+
+exceeds-is : (a b : ℤ) (x y : Option ℤ) → x ≡ Some a → y ≡ Some b → exceeds x y ≡ int_lt b a
+exceeds-is a b x y p q = ap (λ o. exceeds o y) p ∙ ap (λ o. exceeds (Some a) o) q
+
+-- The task of a line without a fault, after the task before it.
+module _ (previous : Option Task) (row : Row) (none : HasNoKind (task_fault previous (words_of row.text))) where
+  nine : length (words_of row.text) ≡ 9
+  nine = eqb-true (length (words_of row.text)) 9 (not_true (length (words_of row.text) == 9) (none FieldCount))
+
+  value : (k : ℕ) → k < 9 → IsValue (get_or task_limits k (pos 0, pos 0)) (field (words_of row.text) k) (value_at (words_of row.text) k)
+  value k l = values_of task_limits (words_of row.text) k (omega (arith, nine)) (none BadNumber) (none Range) (omega arith)
+
+  pub visit_of : IsVisit (task_of row).stop
+  unfolding task_of
+  visit_of =
+      let words = words_of row.text in
+      let e = value 4 (omega arith) in
+      let l = value 5 (omega arith) in
+      record {
+        x = within_from (negsuc 999999) (pos 1000000) (value_at words 1) (value 1 (omega arith)).1;
+        y = within_from (negsuc 999999) (pos 1000000) (value_at words 2) (value 2 (omega arith)).1;
+        window = window_from (value_at words 4) (value_at words 5) e.1 l.1 (sym (exceeds-is (value_at words 4) (value_at words 5) (field words 4) (field words 5) e.0 l.0) ∙ none EmptyWindow);
+        latest = magnitude_le 100000000 (value_at words 5) l.1;
+        service = magnitude_le 1000000 (value_at words 6) (value 6 (omega arith)).1;
+      }
+
+  number_small : (task_of row).stop.number ≤ 40000
+  unfolding task_of
+  number_small = magnitude_le 40000 (value_at (words_of row.text) 0) (value 0 (omega arith)).1
+
+  demand_small : (task_of row).stop.demand ≤ℤ pos 1000000
+  unfolding task_of
+  demand_small = (within_from (negsuc 999999) (pos 1000000) (value_at (words_of row.text) 3) (value 3 (omega arith)).1).1
+
+  pub customer_of : 0 < (task_of row).stop.number → IsCustomer (task_of row)
+  customer_of above = record { stop = record { from_one = omega arith; to_most = number_small; visit = visit_of }; demand = demand_small }
+
+  pub in_order : is_out_of_order previous (pos (task_of row).stop.number) ≡ false
+  unfolding task_of
+  in_order =
+      let words = words_of row.text in
+      let first = value 0 (omega arith) in
+      ap (is_out_of_order previous) (sym (from_zero (pos 40000) (value_at words 0) first.1))
+      ∙ sym (ap (is_that (is_out_of_order previous)) first.0) ∙ none TaskOrder
+
+none_head : (previous : Option Task) (row : Row) (rows : List Row) → HasNoTaskFault previous (row ∷ rows) → HasNoKind (task_fault previous (words_of row.text))
+none_head previous row rows h k = false_from_ne_true (task_fault previous (words_of row.text) k) (λ e. h row.line k (inl (refl, e)))
+
+none_tail : (previous : Option Task) (row : Row) (rows : List Row) → HasNoTaskFault previous (row ∷ rows) → HasNoTaskFault (Some (task_of row)) rows
+none_tail previous row rows h line kind f = h line kind (inr f)
+
+rises : (previous : Task) (row : Row) → HasNoKind (task_fault (Some previous) (words_of row.text)) → previous.stop.number < (task_of row).stop.number
+rises previous row none = ltb-true previous.stop.number (task_of row).stop.number (not_true (int_lt (pos previous.stop.number) (pos (task_of row).stop.number)) (in_order (Some previous) row none))
+
+rising_tasks : (previous : Task) (rows : List Row) → HasNoTaskFault (Some previous) rows → RisesFrom previous.stop.number (map task_of rows)
+rising_tasks previous [] h = tt
+rising_tasks previous (row ∷ rows) h =
+    (rises previous row (none_head (Some previous) row rows h), rising_tasks (task_of row) rows (none_tail (Some previous) row rows h))
+
+valid_tasks : (previous : Task) (rows : List Row) → HasNoTaskFault (Some previous) rows → AllByRecursion IsCustomer (map task_of rows)
+valid_tasks previous [] h = tt
+valid_tasks previous (row ∷ rows) h =
+    let none = none_head (Some previous) row rows h in
+    (customer_of (Some previous) row none (omega (arith, rises previous row none)), valid_tasks (task_of row) rows (none_tail (Some previous) row rows h))
+
+zero_from : (n : ℕ) → is_beyond (pos 0, pos 0) (pos n) ≡ false → n ≡ 0
+zero_from n e = omega (arith, most_from 0 n (or_parts (int_lt (pos n) (pos 0)) (int_lt (pos 0) (pos n)) e).1)
+
+pub are_tasks : (depot : Row) (customers : List Row) → HasNoTaskFault None (depot ∷ customers) → AreTasks (task_of depot) (map task_of customers)
+are_tasks depot customers h =
+    let none = none_head None depot customers h in
+    let rest = none_tail None depot customers h in
+    let first : (task_of depot).stop.number ≡ 0 = zero_from (task_of depot).stop.number (in_order None depot none) in
+    let P : ℕ → Type 0 = λ n. RisesFrom n (map task_of customers) in
+    record {
+      first = first;
+      visit = visit_of None depot none;
+      valid = valid_tasks (task_of depot) customers rest;
+      rising = subst P first (rising_tasks (task_of depot) customers rest);
+    }

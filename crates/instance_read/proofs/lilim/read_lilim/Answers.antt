@@ -1,0 +1,72 @@
+use Rattle.std.proofs.Common.{inl, inr, ⊎_elim, sym, subst, ◌∙◌, arith}
+use Rattle.std.proofs.lemmas.Result.{err_from_is_err_and, MatchResult-weaker}
+use Rattle.instance_read.specs.declared.faults.ReadFault.{ReadFault}
+use Rattle.instance_read.specs.Faults.{IsFirstFault}
+use Rattle.instance_read.specs.Lilim.{LilimFault}
+use Rattle.instance_read.specs.RowViews.{row_view}
+use Rattle.instance_read.proofs.LilimLemmas.{no_rows_first, header_first, rest_above, task_first, no_tasks_first}
+use Rattle.instance_read.proofs.LimitLemmas.{header_limits_of}
+use Rattle.instance_read.proofs.ReadLemmas.{known_tasks, spells, tells, no_rest}
+use Rattle.instance_read.proofs.WalkLemmas.{above_weaker}
+use Rattle.instance_read.proofs.lilim.read_lilim.Goals as goal
+
+pub returns-in_default-clause-fault : goal.returns-in_default-clause-fault
+returns-in_default-clause-fault c =
+    let text = c.args.text.now in
+    let P : ReadFault → Type 0 = IsFirstFault (LilimFault text) in
+    inr (subst P (sym c.truncated.ensures) (no_rows_first text (sym c.new-lines.ensures ∙ c.in_default.ensures.steps.0)))
+
+pub returns-in-Err-clause-fault : goal.returns-in-Err-clause-fault
+returns-in-Err-clause-fault c =
+    inr (header_first c.args.text.now (row_view c.in-Some.first) c.next.new.self (sym c.new-lines.ensures ∙ c.in-Some.ensures.steps) c.in-Err.kind c.in-Err.ensures)
+
+pub read_tasks-requires : goal.read_tasks-requires
+read_tasks-requires c =
+    let first = row_view c.in-Some.first in
+    above_weaker 0 first.line c.next.new.self (omega arith) (rest_above c.args.text.now first c.next.new.self (sym c.new-lines.ensures ∙ c.in-Some.ensures.steps))
+
+pub returns-in_err-tasks-clause-fault : goal.returns-in_err-tasks-clause-fault
+returns-in_err-tasks-clause-fault c =
+    let text = c.args.text.now in
+    let first = row_view c.in-Some.first in
+    let rest = c.next.new.self in
+    let is = sym c.new-lines.ensures ∙ c.in-Some.ensures.steps in
+    let p = err_from_is_err_and c.from_residual.result c.from_residual.ensures.1 in
+    rw (p.1, p.2) (⊎_elim
+    (λ memory. inl memory)
+    (λ h. inr (task_first text first rest is c.in-Ok.ensures.0 c.in_err-tasks.field-0.0 h))
+    c.in_err-tasks.ensures.err)
+
+pub returns-in-empty-clause-fault : goal.returns-in-empty-clause-fault
+returns-in-empty-clause-fault c =
+    let text = c.args.text.now in
+    let first = row_view c.in-Some.first in
+    let rest = c.next.new.self in
+    let is = sym c.new-lines.ensures ∙ c.in-Some.ensures.steps in
+    let P : ReadFault → Type 0 = IsFirstFault (LilimFault text) in
+    let none = no_rest rest c.as_slice.result.now c.in-empty.len_below (c.as_slice.ensures.value ∙ c.in_ok-tasks.ensures.ok.1) in
+    inr (subst P (sym c.truncated-in-empty.ensures) (no_tasks_first text first rest is c.in-Ok.ensures.0 none))
+
+pub pair_up-requires-clause-header : goal.pair_up-requires-clause-header
+pair_up-requires-clause-header c = header_limits_of _ c.in-Ok.header c.in-Ok.ensures.0 c.in-Ok.ensures.1
+
+pub pair_up-requires-clause-tasks : goal.pair_up-requires-clause-tasks
+pair_up-requires-clause-tasks c =
+    known_tasks c.args.text.now (row_view c.in-Some.first) c.in-Ok.header c.as_slice.result.now c.in-Ok.ensures.0 c.in-Ok.ensures.1 (omega arith)
+    c.next.new.self c.in_ok-tasks.ensures.ok.0 (c.as_slice.ensures.value ∙ c.in_ok-tasks.ensures.ok.1)
+
+pub returns-clause-value : goal.returns-clause-value
+returns-clause-value c =
+    let is = sym c.new-lines.ensures ∙ c.in-Some.ensures.steps in
+    MatchResult-weaker c.pair_up.result c.pair_up.ensures.ok
+    (λ p h. spells c.args.text.now (row_view c.in-Some.first) c.in-Ok.header c.as_slice.result.now c.in-Ok.ensures.0 c.in-Ok.ensures.1 (omega arith)
+    c.next.new.self is c.in_ok-tasks.ensures.ok.0 (c.as_slice.ensures.value ∙ c.in_ok-tasks.ensures.ok.1) p h)
+    (λ _ h. h)
+
+pub returns-clause-fault : goal.returns-clause-fault
+returns-clause-fault c =
+    let is = sym c.new-lines.ensures ∙ c.in-Some.ensures.steps in
+    MatchResult-weaker c.pair_up.result c.pair_up.ensures.err
+    (λ _ h. h)
+    (λ f h. tells c.args.text.now (row_view c.in-Some.first) c.in-Ok.header c.as_slice.result.now c.in-Ok.ensures.0 c.in-Ok.ensures.1 (omega arith)
+    c.next.new.self is c.in_ok-tasks.ensures.ok.0 (c.as_slice.ensures.value ∙ c.in_ok-tasks.ensures.ok.1) f h)

@@ -1,0 +1,13 @@
+pub mod Faults
+pub mod Fields
+pub mod Lilim
+pub mod Pairs
+pub mod Rows
+pub mod Names
+pub mod RowViews
+pub mod FieldValues
+pub mod Walk
+pub mod Headers
+pub mod Tables
+pub mod Vrp
+pub mod VrpLines

@@ -1,0 +1,108 @@
+-- The faults of a Li-Lim text, and the problem that a text without faults spells.
+use Rattle.std.specs.Prelude.{◌≡◌, ℕ, ◌+◌, ◌<◌, Bool, true, false, not, ◌==◌, List, [], ◌∷◌, ◌++◌, length, map, drop, Option, Some, None, ℤ, pos, negsuc, int_lt, Contains}
+use Rattle.std.specs.Int.RustNames.{unsigned_abs}
+use Rattle.std.specs.List.{last_or}
+use Rattle.text_lines.specs.Lines.{lines_of}
+use Rattle.text_lines.specs.Words.{words_of}
+use Rattle.plan_types.specs.Instance.{Instance}
+use Rattle.plan_types.specs.declared.requests.Kind.TheVariants.{LiLim}
+use Rattle.plan_types.specs.declared.requests.Stop.{Stop}
+use Rattle.instance_read.specs.declared.faults.ReadFaultKind.{ReadFaultKind}
+use Rattle.instance_read.specs.declared.faults.ReadFaultKind.TheVariants.{BadNumber, Range, FieldCount, TaskOrder, PairMismatch, EmptyWindow, TooManyStops, Truncated}
+use Rattle.instance_read.specs.declared.tasks.Task.{Task}
+use Rattle.instance_read.specs.Faults.{Class, OfLine, OfText, HasNone}
+use Rattle.instance_read.specs.Fields.{field, value_at, is_that, has_no_number, is_beyond, any_beyond, exceeds}
+use Rattle.instance_read.specs.Pairs.{task_of, is_mismatched, pairs_of, last_number}
+use Rattle.instance_read.specs.Rows.{Row, rows_of}
+
+-- fleet and capacity; the speed that follows them may be any number
+abbrev pub header_limits : List (ℤ × ℤ)
+header_limits = (pos 1, pos 40000) ∷ (pos 0, pos 1000000) ∷ []
+
+-- number, x, y, demand, earliest, latest, service, pickup, delivery
+abbrev pub task_limits : List (ℤ × ℤ)
+task_limits =
+    (pos 0, pos 40000)
+    ∷ (negsuc 999999, pos 1000000) ∷ (negsuc 999999, pos 1000000)
+    ∷ (negsuc 999999, pos 1000000)
+    ∷ (pos 0, pos 100000000) ∷ (pos 0, pos 100000000)
+    ∷ (pos 0, pos 1000000)
+    ∷ (pos 0, pos 40000) ∷ (pos 0, pos 40000)
+    ∷ []
+
+-- what may be wrong with the words of the first line
+abbrev pub header_fault : List (List ℕ) → ReadFaultKind → Bool
+header_fault words FieldCount = not (length words == 3)
+header_fault words BadNumber = has_no_number words
+header_fault words Range = any_beyond header_limits words
+header_fault words _ = false
+
+-- the first task has number 0, and each other a greater number than the one before it
+abbrev pub is_out_of_order : Option Task → ℤ → Bool
+is_out_of_order None z = is_beyond (pos 0, pos 0) z
+is_out_of_order (Some previous) z = not (int_lt (pos previous.stop.number) z)
+
+-- what may be wrong with the words of a task's line, after this task
+abbrev pub task_fault : Option Task → List (List ℕ) → ReadFaultKind → Bool
+task_fault previous words FieldCount = not (length words == 9)
+task_fault previous words BadNumber = has_no_number words
+task_fault previous words TooManyStops = is_that (λ z. int_lt (pos 40000) z) (field words 0)
+task_fault previous words Range = any_beyond task_limits words
+task_fault previous words TaskOrder = is_that (is_out_of_order previous) (field words 0)
+task_fault previous words EmptyWindow = exceeds (field words 4) (field words 5)
+task_fault previous words _ = false
+
+-- what may be wrong with a line, after these lines: the first is the header, the others are tasks
+abbrev pub row_fault : List Row → Row → ReadFaultKind → Bool
+row_fault [] row kind = header_fault (words_of row.text) kind
+row_fault (header ∷ before) row kind = task_fault (last_or None (map task_of before)) (words_of row.text) kind
+
+-- the tasks but the first, which is the depot
+unfoldable pub customers_of : List ℕ → List Task
+customers_of text = map task_of (drop 2 (rows_of text))
+
+-- All faults of a text.
+abbrev pub LilimFault : List ℕ → Class → ℕ → ReadFaultKind → Type 0
+-- a line that is read has a fault
+LilimFault text OfLine line kind =
+    (before : List Row) × (row : Row) × (after : List Row)
+    × (rows_of text ≡ before ++ row ∷ after) × (row.line ≡ line) × (row_fault before row kind ≡ true)
+-- a customer's task is no half of a pair
+LilimFault text OfText line PairMismatch =
+    (t : Task) × Contains (customers_of text) t × (t.line ≡ line) × (is_mismatched (customers_of text) t ≡ true)
+-- there is no header, or no depot
+LilimFault text OfText line Truncated = (length (rows_of text) < 2) × (line ≡ length (lines_of text) + 1)
+LilimFault text OfText line _ = ⊥
+
+-- the depot asks for nothing and takes no time
+abbrev pub depot_from : Task → Stop
+depot_from t = record {
+  number = 0;
+  x = t.stop.x;
+  y = t.stop.y;
+  demand = pos 0;
+  earliest = t.stop.earliest;
+  latest = t.stop.latest;
+  service = 0;
+}
+
+-- the problem of these lines: a pair for each pickup, and one above the last task's number as the next
+abbrev pub problem_from : Row → Row → List Row → Instance
+problem_from header depot customers =
+    let words = words_of header.text in
+    let tasks = map task_of customers in
+    record {
+      kind = LiLim;
+      depot = depot_from (task_of depot);
+      capacity = unsigned_abs (value_at words 1);
+      fleet = unsigned_abs (value_at words 0);
+      requests = pairs_of tasks;
+      next_number = last_number (task_of depot) tasks + 1;
+    }
+
+-- a text spells a problem: it has no fault, and the problem is that of its lines
+abbrev pub SpellsLilim : List ℕ → Instance → Type 0
+SpellsLilim text problem =
+    HasNone (LilimFault text)
+    × (header : Row) × (depot : Row) × (customers : List Row)
+    × (rows_of text ≡ header ∷ depot ∷ customers) × (problem ≡ problem_from header depot customers)

@@ -1,0 +1,67 @@
+-- The tasks of a Li-Lim text, and how they make pairs.
+use Rattle.std.specs.Prelude.{ℕ, Bool, true, not, ◌||◌, ◌==◌, if◌then◌else◌, List, [], ◌∷◌, Option, None, find, pos, ◌+ℤ◌, int_lt}
+use Rattle.std.specs.Int.RustNames.{unsigned_abs}
+use Rattle.std.specs.List.{filter_map}
+use Rattle.std.specs.Option.{option_map, option_map_or}
+use Rattle.text_lines.specs.Words.{words_of}
+use Rattle.plan_types.specs.declared.requests.Request.{Request}
+use Rattle.plan_types.specs.declared.requests.Request.TheVariants.{Pair}
+use Rattle.instance_read.specs.declared.tasks.Task.{Task}
+use Rattle.instance_read.specs.Fields.{value_at}
+use Rattle.instance_read.specs.Rows.{Row}
+
+-- The task of a line: its number, place, demand, window and service, and the tasks that its last two fields name.
+abbrev pub task_from : ℕ → List (List ℕ) → Task
+task_from line words = record {
+  line = line;
+  stop = record {
+    number = unsigned_abs (value_at words 0);
+    x = value_at words 1;
+    y = value_at words 2;
+    demand = value_at words 3;
+    earliest = unsigned_abs (value_at words 4);
+    latest = unsigned_abs (value_at words 5);
+    service = unsigned_abs (value_at words 6);
+  };
+  pickup = unsigned_abs (value_at words 7);
+  delivery = unsigned_abs (value_at words 8);
+}
+
+unfoldable pub task_of : Row → Task
+task_of row = task_from row.line (words_of row.text)
+
+-- the task with this number
+abbrev pub find_task : ℕ → List Task → Option Task
+find_task n tasks = find (λ t. t.stop.number == n) tasks
+
+-- what one picks up isn't what the other delivers
+abbrev pub is_uneven : Task → Task → Bool
+is_uneven a b = let sum = a.stop.demand +ℤ b.stop.demand in int_lt sum (pos 0) || int_lt (pos 0) sum
+
+-- d is no delivery for the pickup p: it doesn't name p as its pickup, their demands' sum isn't 0, or p's demand is negative
+abbrev pub is_wrong_delivery : Task → Task → Bool
+is_wrong_delivery p d = not (d.pickup == p.stop.number) || is_uneven p d || int_lt p.stop.demand (pos 0)
+
+-- p is no pickup for the delivery d: it doesn't name d as its delivery, or their demands' sum isn't 0
+abbrev pub is_wrong_pickup : Task → Task → Bool
+is_wrong_pickup d p = not (p.delivery == d.stop.number) || is_uneven d p
+
+-- A task is no half of a pair: it names neither a pickup nor a delivery, or both, or one that is not there or is wrong.
+abbrev pub is_mismatched : List Task → Task → Bool
+is_mismatched tasks t =
+    if t.pickup == 0
+    then (if t.delivery == 0 then true else option_map_or (is_wrong_delivery t) (find_task t.delivery tasks) true)
+    else (if t.delivery == 0 then option_map_or (is_wrong_pickup t) (find_task t.pickup tasks) true else true)
+
+-- the request of a pickup and the delivery that it names, under the pickup's number
+abbrev pub pair_of : List Task → Task → Option (ℕ × Request)
+pair_of tasks t = if t.pickup == 0 then option_map (λ d. (t.stop.number, Pair t.stop d.stop)) (find_task t.delivery tasks) else None
+
+-- the requests of the tasks, in the order of their pickups
+abbrev pub pairs_of : List Task → List (ℕ × Request)
+pairs_of tasks = filter_map (pair_of tasks) tasks
+
+-- the number of the last of the tasks
+abbrev pub last_number : Task → List Task → ℕ
+last_number t [] = t.stop.number
+last_number t (u ∷ more) = last_number u more

@@ -1,0 +1,57 @@
+-- What is known of the tasks of a text whose lines have no fault.
+use Rattle.std.specs.Prelude.{◌≡◌, ℕ, ◌+◌, ◌<◌, ◌⊎◌, false, List, [], ◌∷◌, Option, Some, None, find, slice_index_or, pos, ◌≤ℤ◌}
+use Rattle.std.specs.List.{AllByRecursion}
+use Rattle.plan_types.specs.Instance.{Instance}
+use Rattle.plan_types.specs.Limits.{IsCapacity, IsFleet, IsStop, IsVisit}
+use Rattle.plan_types.specs.declared.requests.Kind.TheVariants.{LiLim}
+use Rattle.instance_read.specs.declared.faults.ReadFault.{ReadFault}
+use Rattle.instance_read.specs.declared.faults.ReadFaultKind.TheVariants.{PairMismatch, OutOfMemory}
+use Rattle.instance_read.specs.declared.tasks.Header.{Header}
+use Rattle.instance_read.specs.declared.tasks.Task.{Task}
+use Rattle.instance_read.specs.Lilim.{depot_from}
+use Rattle.instance_read.specs.Pairs.{find_task, is_mismatched, last_number, pairs_of}
+
+-- the table has the task with each number
+abbrev pub IsTable : List Task → List (Option Task) → Type 0
+IsTable tasks table = (n : ℕ) → slice_index_or table n None ≡ find_task n tasks
+
+-- a customer's task within its limits
+pub record IsCustomer (t : Task) : Type 0 where
+  pub stop : IsStop t.stop
+  pub demand : t.stop.demand ≤ℤ pos 1000000
+
+-- each has a greater number than the one before it
+abbrev pub RisesFrom : ℕ → List Task → Type 0
+RisesFrom n [] = Unit {0}
+RisesFrom n (t ∷ ts) = (n < t.stop.number) × RisesFrom t.stop.number ts
+
+pub record AreTasks (depot : Task) (customers : List Task) : Type 0 where
+  pub first : depot.stop.number ≡ 0
+  pub visit : IsVisit depot.stop
+  pub valid : AllByRecursion IsCustomer customers
+  pub rising : RisesFrom 0 customers
+
+pub record HeaderKeepsLimits (header : Header) : Type 0 where
+  pub fleet : IsFleet header.fleet
+  pub capacity : IsCapacity header.capacity
+
+-- no task is mismatched
+abbrev pub ArePaired : List Task → Type 0
+ArePaired customers = AllByRecursion (λ t. is_mismatched customers t ≡ false) customers
+
+-- the problem of a header, a depot and customers
+abbrev pub problem_with : Header → Task → List Task → Instance
+problem_with header depot customers = record {
+  kind = LiLim;
+  depot = depot_from depot;
+  capacity = header.capacity;
+  fleet = header.fleet;
+  requests = pairs_of customers;
+  next_number = last_number depot customers + 1;
+}
+
+-- want of memory, or the first task that is no half of a pair
+abbrev pub TellsMismatch : List Task → ReadFault → Type 0
+TellsMismatch customers f =
+    (f ≡ record { line = 0; kind = OutOfMemory })
+    ⊎ ((t : Task) × (find (is_mismatched customers) customers ≡ Some t) × (f ≡ record { line = t.line; kind = PairMismatch }))

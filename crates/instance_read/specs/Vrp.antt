@@ -1,0 +1,193 @@
+-- The faults of a `.vrp` text, and the problem that a text without faults spells.
+use Rattle.std.specs.Prelude.{◌≡◌, ℕ, zero, suc, ◌+◌, ◌-◌, Bool, true, false, not, ◌&&◌, ◌||◌, ◌==◌, List, [], ◌∷◌, ◌++◌, length, map, find, codes, Option, ℤ, pos, negsuc, int_lt}
+use Rattle.std.specs.Int.RustNames.{unsigned_abs}
+use Rattle.std.specs.List.{list_any, range_with_len}
+use Rattle.std.specs.Option.{option_map, option_map_or}
+use Rattle.std.specs.Str.{str_eq_ignore_ascii_case}
+use Rattle.text_lines.specs.Lines.{lines_of}
+use Rattle.text_lines.specs.Words.{words_of}
+use Rattle.plan_types.specs.Instance.{Instance}
+use Rattle.plan_types.specs.declared.requests.Kind.TheVariants.{Vrp}
+use Rattle.plan_types.specs.declared.requests.Request.TheVariants.{Single}
+use Rattle.plan_types.specs.declared.requests.Stop.{Stop}
+use Rattle.instance_read.specs.declared.faults.ReadFaultKind.{ReadFaultKind}
+use Rattle.instance_read.specs.declared.faults.ReadFaultKind.TheVariants.{BadNumber, Range, FieldCount, TooManyStops, MissingKey, Unsupported, DepotNotFirst, NodeRepeated, Truncated}
+use Rattle.instance_read.specs.Faults.{Class, OfLine, OfText, HasNone}
+use Rattle.instance_read.specs.Fields.{field, value_at, is_that, has_no_number, is_beyond, any_beyond}
+use Rattle.instance_read.specs.Rows.{Row}
+use Rattle.instance_read.specs.VrpLines.{Key, Dimension, Capacity, ProblemType, WeightType, Refused, Coordinates, Demands, Depots, End, StrayNumber, Ignored, Place, Outside, CoordinateLine, DemandLine, DepotLine, AfterEnd, Placed, key_of, value_of, value_words, placed_of, end_place}
+
+-- two keys are one
+abbrev pub key_number : Key → ℕ
+key_number Dimension = 0
+key_number Capacity = 1
+key_number ProblemType = 2
+key_number WeightType = 3
+key_number Refused = 4
+key_number Coordinates = 5
+key_number Demands = 6
+key_number Depots = 7
+key_number End = 8
+key_number StrayNumber = 9
+key_number Ignored = 10
+
+-- a line outside the sections has this key
+abbrev pub stands_outside : Place → Bool
+stands_outside Outside = true
+stands_outside _ = false
+
+abbrev pub has_key : Key → Placed → Bool
+has_key key p = stands_outside p.place && key_number (key_of p.row) == key_number key
+
+-- some line of these has it
+abbrev pub any_key : Key → List Placed → Bool
+any_key key ps = list_any (has_key key) ps
+
+-- the first line that has it
+abbrev pub first_key : Key → List Placed → Option Row
+first_key key ps = option_map (λ p. p.row) (find (has_key key) ps)
+
+-- how many nodes the first DIMENSION line announces
+abbrev pub nodes_of : List Placed → ℕ
+nodes_of ps = option_map_or (λ row. unsigned_abs (value_at (value_words row) 0)) (first_key Dimension ps) 0
+
+-- what may be wrong with a line outside the sections, after these lines
+abbrev pub key_fault : List Placed → Row → Key → ReadFaultKind → Bool
+key_fault before row Dimension FieldCount = not (length (value_words row) == 1)
+key_fault before row Dimension BadNumber = has_no_number (value_words row)
+key_fault before row Dimension TooManyStops = is_that (λ z. int_lt (pos 40001) z) (field (value_words row) 0)
+key_fault before row Dimension Range = is_that (λ z. int_lt z (pos 2)) (field (value_words row) 0)
+key_fault before row Dimension NodeRepeated = any_key Dimension before
+key_fault before row Capacity FieldCount = not (length (value_words row) == 1)
+key_fault before row Capacity BadNumber = has_no_number (value_words row)
+key_fault before row Capacity Range = is_that (is_beyond (pos 0, pos 1000000)) (field (value_words row) 0)
+key_fault before row Capacity NodeRepeated = any_key Capacity before
+key_fault before row ProblemType Unsupported = not (str_eq_ignore_ascii_case (value_of row) (codes "CVRP"))
+key_fault before row ProblemType NodeRepeated = any_key ProblemType before
+key_fault before row WeightType Unsupported = not (str_eq_ignore_ascii_case (value_of row) (codes "EUC_2D"))
+key_fault before row WeightType NodeRepeated = any_key WeightType before
+key_fault before row Refused Unsupported = true
+key_fault before row Coordinates MissingKey = not (any_key Dimension before)
+key_fault before row Coordinates NodeRepeated = any_key Coordinates before
+key_fault before row Demands MissingKey = not (any_key Dimension before)
+key_fault before row Demands NodeRepeated = any_key Demands before
+key_fault before row Depots NodeRepeated = any_key Depots before
+key_fault before row StrayNumber FieldCount = true
+key_fault before row key kind = false
+
+abbrev pub in_coordinates : Place → Bool
+in_coordinates (CoordinateLine n) = true
+in_coordinates _ = false
+
+abbrev pub in_demands : Place → Bool
+in_demands (DemandLine n) = true
+in_demands _ = false
+
+-- the line of a section whose first number is this
+abbrev pub is_node_line : (Place → Bool) → ℤ → Placed → Bool
+is_node_line section node p = section p.place && is_that (λ z. not (int_lt z node || int_lt node z)) (field (words_of p.row.text) 0)
+
+-- a line of this section has the same node
+abbrev pub is_repeated : (Place → Bool) → List Placed → Row → Bool
+is_repeated section before row = is_that (λ node. list_any (is_node_line section node) before) (field (words_of row.text) 0)
+
+-- what may be wrong with a line of a section of nodes, with so many words within these limits
+abbrev pub node_fault : (Place → Bool) → ℕ → List (ℤ × ℤ) → List Placed → Row → ReadFaultKind → Bool
+node_fault section count limits before row FieldCount = not (length (words_of row.text) == count)
+node_fault section count limits before row BadNumber = has_no_number (words_of row.text)
+node_fault section count limits before row Range = any_beyond limits (words_of row.text)
+node_fault section count limits before row NodeRepeated = is_repeated section before row
+node_fault section count limits before row _ = false
+
+abbrev pub coordinate_limits : ℕ → List (ℤ × ℤ)
+coordinate_limits nodes = (pos 1, pos nodes) ∷ (negsuc 999999, pos 1000000) ∷ (negsuc 999999, pos 1000000) ∷ []
+
+abbrev pub demand_limits : ℕ → List (ℤ × ℤ)
+demand_limits nodes = (pos 1, pos nodes) ∷ (pos 0, pos 1000000) ∷ []
+
+-- the number is there, and is not this one
+abbrev pub is_other : ℤ → Option ℤ → Bool
+is_other n number = is_that (λ z. int_lt z n || int_lt n z) number
+
+-- some word but the last is a number of value -1
+abbrev pub goes_on_after_end : List (List ℕ) → Bool
+goes_on_after_end [] = false
+goes_on_after_end (w ∷ []) = false
+goes_on_after_end (w ∷ v ∷ words) = is_that (λ z. not (int_lt z (negsuc 0) || int_lt (negsuc 0) z)) (field (w ∷ []) 0) || goes_on_after_end (v ∷ words)
+
+-- What may be wrong with a line of the list of depots, after so many words of it: the list is 1, and then -1.
+abbrev pub depot_fault : ℕ → List (List ℕ) → ReadFaultKind → Bool
+depot_fault seen words FieldCount = goes_on_after_end words
+depot_fault seen words BadNumber = has_no_number words
+depot_fault zero words DepotNotFirst = is_other (pos 1) (field words 0) || is_other (negsuc 0) (field words 1)
+depot_fault (suc seen) words DepotNotFirst = is_other (negsuc 0) (field words 0)
+depot_fault seen words _ = false
+
+-- what may be wrong with a line, after these lines
+abbrev pub place_fault : List Placed → Row → Place → ReadFaultKind → Bool
+place_fault before row Outside kind = key_fault before row (key_of row) kind
+place_fault before row (CoordinateLine n) kind = node_fault in_coordinates 3 (coordinate_limits (nodes_of before)) before row kind
+place_fault before row (DemandLine n) kind = node_fault in_demands 2 (demand_limits (nodes_of before)) before row kind
+place_fault before row (DepotLine seen) kind = depot_fault seen (words_of row.text) kind
+place_fault before row AfterEnd kind = false
+
+-- the text may not end here
+abbrev pub is_inside : Place → Bool
+is_inside Outside = false
+is_inside AfterEnd = false
+is_inside _ = true
+
+-- a key or a section that each text has is missing
+abbrev pub lacks_key : List Placed → Bool
+lacks_key ps =
+    not (any_key Dimension ps && any_key Capacity ps && any_key WeightType ps && any_key Coordinates ps && any_key Demands ps && any_key Depots ps)
+
+-- the line at which a text ends: that of EOF, or one after the last
+abbrev pub end_line : List ℕ → ℕ
+end_line text = option_map_or (λ (row : Row). row.line) (first_key End (placed_of text)) (length (lines_of text) + 1)
+
+-- All faults of a text.
+abbrev pub VrpFault : List ℕ → Class → ℕ → ReadFaultKind → Type 0
+-- a line that is read has a fault
+VrpFault text OfLine line kind =
+    (before : List Placed) × (p : Placed) × (after : List Placed)
+    × (placed_of text ≡ before ++ p ∷ after) × (p.row.line ≡ line) × (place_fault before p.row p.place kind ≡ true)
+-- the text ends inside a section
+VrpFault text OfText line Truncated = (is_inside (end_place text) ≡ true) × (line ≡ length (lines_of text) + 1)
+-- it ends outside the sections, and lacks a key or a section
+VrpFault text OfText line MissingKey =
+    (is_inside (end_place text) ≡ false) × (lacks_key (placed_of text) ≡ true) × (line ≡ end_line text)
+VrpFault text OfText line _ = ⊥
+
+-- the number at this place of the line of a node
+abbrev pub node_value : (Place → Bool) → List Placed → ℕ → ℕ → ℤ
+node_value section ps node k = option_map_or (λ (p : Placed). value_at (words_of p.row.text) k) (find (is_node_line section (pos node)) ps) (pos 0)
+
+-- node n+1 as stop n, with this demand: windows and services are not of this format
+abbrev pub node_stop : List Placed → ℤ → ℕ → Stop
+node_stop ps demand n = record {
+  number = n;
+  x = node_value in_coordinates ps (n + 1) 1;
+  y = node_value in_coordinates ps (n + 1) 2;
+  demand = demand;
+  earliest = 0;
+  latest = 100000000;
+  service = 0;
+}
+
+-- the problem of these lines: node 1 is the depot, each other a customer that gives its demand
+abbrev pub vrp_problem : List Placed → Instance
+vrp_problem ps =
+    let nodes = nodes_of ps in
+    record {
+      kind = Vrp;
+      depot = node_stop ps (pos 0) 0;
+      capacity = option_map_or (λ row. unsigned_abs (value_at (value_words row) 0)) (first_key Capacity ps) 0;
+      fleet = nodes - 1;
+      requests = map (λ n. (n, Single (node_stop ps (node_value in_demands ps (n + 1) 1) n))) (range_with_len 1 (nodes - 1));
+      next_number = nodes;
+    }
+
+-- a text spells a problem: it has no fault, and the problem is that of its lines
+abbrev pub SpellsVrp : List ℕ → Instance → Type 0
+SpellsVrp text problem = HasNone (VrpFault text) × (problem ≡ vrp_problem (placed_of text))

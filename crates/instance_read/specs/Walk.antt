@@ -1,0 +1,48 @@
+-- The faults of task lines, one line after another.
+use Rattle.std.specs.Prelude.{not, ◌==◌, if◌then◌else◌, length, pos, int_lt, ◌≡◌, ℕ, ◌<◌, ◌≤◌, Bool, true, false, ◌⊎◌, List, [], ◌∷◌, Option, Some}
+use Rattle.text_lines.specs.Words.{words_of}
+use Rattle.instance_read.specs.declared.faults.ReadFault.{ReadFault}
+use Rattle.instance_read.specs.declared.faults.ReadFaultKind.{ReadFaultKind}
+use Rattle.instance_read.specs.declared.faults.ReadFaultKind.TheVariants.{BadNumber, Range, FieldCount, TooManyStops, OutOfMemory}
+use Rattle.instance_read.specs.declared.tasks.Task.{Task}
+use Rattle.instance_read.specs.Faults.{rank, IsNoLaterPlace}
+use Rattle.instance_read.specs.Fields.{field, is_that, has_no_number}
+use Rattle.instance_read.specs.Lilim.{task_fault}
+use Rattle.instance_read.specs.Pairs.{task_of}
+use Rattle.instance_read.specs.Rows.{Row}
+
+-- the line has the fault, and none of a lesser rank
+abbrev pub IsFirstKind : (ReadFaultKind → Bool) → ReadFaultKind → Type 0
+IsFirstKind fault kind = (fault kind ≡ true) × ((k : ReadFaultKind) → fault k ≡ true → rank kind ≤ rank k)
+
+abbrev pub HasNoKind : (ReadFaultKind → Bool) → Type 0
+HasNoKind fault = (k : ReadFaultKind) → fault k ≡ false
+
+-- what is told of a line of a task that has not nine numbers within their limits
+abbrev pub fields_fault : List (List ℕ) → ReadFaultKind
+fields_fault words =
+    if not (length words == 9) then FieldCount else
+    if has_no_number words then BadNumber else
+    if is_that (λ z. int_lt (pos 40000) z) (field words 0) then TooManyStops else Range
+
+-- a fault of one of these task lines, where previous is the task before them
+abbrev pub TaskLineFault : Option Task → List Row → ℕ → ReadFaultKind → Type 0
+TaskLineFault previous [] line kind = ⊥
+TaskLineFault previous (row ∷ rows) line kind =
+    ((row.line ≡ line) × (task_fault previous (words_of row.text) kind ≡ true)) ⊎ TaskLineFault (Some (task_of row)) rows line kind
+
+abbrev pub HasNoTaskFault : Option Task → List Row → Type 0
+HasNoTaskFault previous rows = (line : ℕ) (kind : ReadFaultKind) → TaskLineFault previous rows line kind → ⊥
+
+pub record IsFirstTaskFault (previous : Option Task) (rows : List Row) (f : ReadFault) : Type 0 where
+  pub here : TaskLineFault previous rows f.line f.kind
+  pub first : (line : ℕ) (kind : ReadFaultKind) → TaskLineFault previous rows line kind → IsNoLaterPlace f.line f.kind line kind
+
+-- want of memory, or the first fault of these task lines
+abbrev pub TellsTaskFault : Option Task → List Row → ReadFault → Type 0
+TellsTaskFault previous rows f = (f ≡ record { line = 0; kind = OutOfMemory }) ⊎ IsFirstTaskFault previous rows f
+
+-- the line numbers rise, from above n
+abbrev pub LinesAbove : ℕ → List Row → Type 0
+LinesAbove n [] = Unit {0}
+LinesAbove n (row ∷ rows) = (n < row.line) × LinesAbove row.line rows

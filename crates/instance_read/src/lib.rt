@@ -1,0 +1,15 @@
+//! Readers of instance texts: Li-Lim's pickup and delivery instances.
+#![tactic(auto)]
+
+mod faults;
+mod fields;
+mod lilim;
+mod pairs;
+mod rows;
+mod tasks;
+
+pub use faults::{ReadFault, ReadFaultKind};
+pub use lilim::read_lilim;
+
+#[cfg(test)]
+mod tests;

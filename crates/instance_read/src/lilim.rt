@@ -1,0 +1,81 @@
+//! Li-Lim's pickup and delivery instances.
+ghost use Rattle.std.specs.Prelude.{◌≡◌, ◌+◌, IfOk, IfErr, MatchResult, None, length, map};
+ghost use Rattle.text_lines.specs.Lines.{lines_of};
+ghost use Rattle.instance_read.specs.Faults.{Tells};
+ghost use Rattle.instance_read.specs.Lilim.{LilimFault, SpellsLilim};
+ghost use Rattle.instance_read.specs.Pairs.{task_of};
+ghost use Rattle.instance_read.specs.Walk.{HasNoTaskFault, LinesAbove, TellsTaskFault};
+
+use crate::pairs::pair_up;
+use crate::rows::NumberedLines;
+use crate::tasks::{Header, Task};
+use crate::{ReadFault, ReadFaultKind};
+use plan_types::Problem;
+use std::alloc::Global;
+use text_lines::Lines;
+
+/// Reads a pickup and delivery instance with time windows in Li and Lim's format.
+///
+/// The first line has the number of vehicles, their capacity and a speed that is not used. Each further
+/// line is a task: `number x y demand earliest latest service pickup delivery`. Task 0, the depot, comes
+/// first. Blank lines are skipped.
+///
+/// # Errors
+///
+/// The first fault of the text: those of single lines before those of the text as a whole, and on one
+/// line `FieldCount`, `BadNumber`, `TooManyStops`, `Range`, `TaskOrder`, `EmptyWindow`.
+pub fn read_lilim(alloc: Global, text: &[u8]) -> Result<Problem, ReadFault>
+    ensures value { IfOk result (SpellsLilim text.now) }
+    ensures fault { IfErr result (Tells (LilimFault text.now)) }
+{
+    let mut lines = NumberedLines::new(text);
+    let Some(first) = lines.next() else {
+        return Err(truncated(text));
+    };
+    let header = match Header::read(first.text) {
+        Ok(header) => header,
+        Err(kind) => {
+            return Err(ReadFault {
+                line: first.number,
+                kind,
+            });
+        }
+    };
+    let tasks = read_tasks(alloc, lines)?;
+    match tasks.as_slice() {
+        [] => Err(truncated(text)),
+        [depot, customers @ ..] => pair_up(alloc, header, depot, customers),
+    }
+}
+
+// The tasks of the lines after the first.
+fn read_tasks(alloc: Global, lines: NumberedLines<'_>) -> Result<Vec<Task>, ReadFault>
+    requires { LinesAbove 0 lines }
+    ensures ok { IfOk result (λ tasks. HasNoTaskFault None lines.entry × (tasks.items ≡ map task_of lines.entry)) }
+    ensures err { IfErr result (TellsTaskFault None lines.entry) }
+{
+    let mut tasks: Vec<Task> = Vec::new(alloc);
+    for line in lines {
+        let previous = tasks.last().copied();
+        match Task::read(previous, line.number, line.text) {
+            Ok(task) => tasks.push(task)?,
+            Err(kind) => {
+                return Err(ReadFault {
+                    line: line.number,
+                    kind,
+                });
+            }
+        }
+    }
+    Ok(tasks)
+}
+
+// What is missing is told one line after the last.
+fn truncated(text: &[u8]) -> ReadFault
+    ensures { result ≡ record { line = length (lines_of text.now) + 1; kind = ReadFaultKind.Truncated } }
+{
+    ReadFault {
+        line: Lines::new(text).count() as u64 + 1,
+        kind: ReadFaultKind::Truncated,
+    }
+}

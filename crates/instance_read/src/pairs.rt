@@ -1,0 +1,189 @@
+//! The pairs that tasks make.
+ghost use Rattle.std.specs.Prelude.{◌≡◌, ◌+◌, ◌<◌, ◌≤◌, ℕ, [], All, IfErr, IfOk, IfSome, OnOk, None, Some, find, slice_index_or};
+ghost use Rattle.std.specs.List.{AllByRecursion};
+ghost use Rattle.std.specs.Option.{option_copied, option_map};
+ghost use Rattle.plan_types.specs.Instance.{IsInstance, IsTaken, new_instance, with_request};
+ghost use Rattle.plan_types.specs.Limits.{IsVisit};
+ghost use Rattle.plan_types.specs.declared.requests.Kind.TheVariants.{LiLim};
+ghost use Rattle.plan_types.specs.Request.{IsRequest, request_name};
+ghost use Rattle.instance_read.specs.Lilim.{depot_from};
+ghost use Rattle.instance_read.specs.Pairs.{find_task, is_mismatched, is_uneven, is_wrong_delivery, is_wrong_pickup, last_number, pair_of, pairs_of};
+ghost use Rattle.instance_read.specs.Tables.{ArePaired, AreTasks, HeaderKeepsLimits, IsCustomer, IsTable, RisesFrom, TellsMismatch, problem_with};
+
+use crate::tasks::{Header, Task};
+use crate::{ReadFault, ReadFaultKind};
+use plan_types::{Kind, Problem, PutFault, Request, Stop};
+use std::alloc::{AllocError, Global};
+
+/// The problem of a header, a depot and customers, if each customer is half of a pair.
+pub fn pair_up(
+    alloc: Global,
+    header: Header,
+    depot: &Task,
+    customers: &[Task],
+) -> Result<Problem, ReadFault>
+    requires header { HeaderKeepsLimits header }
+    requires tasks { AreTasks depot.now customers.now }
+    ensures ok { IfOk result (λ p. ArePaired customers.now × (p ≡ problem_with header depot.now customers.now)) }
+    ensures err { IfErr result (TellsMismatch customers.now) }
+{
+    let table = task_table(alloc, customers)?;
+    if let Some(task) = first_mismatched(customers, &table) {
+        return Err(ReadFault {
+            line: task.line,
+            kind: ReadFaultKind::PairMismatch,
+        });
+    }
+    let mut problem = problem_without_requests(alloc, header, depot);
+    put_pairs(&mut problem, customers, &table)?;
+    problem.set_next_number(last_task(depot, customers).stop.number + 1);
+    Ok(problem)
+}
+
+// One more than the greatest number of the tasks.
+fn table_len(tasks: &[Task]) -> usize
+    ensures { All (λ task. task.stop.number < result) tasks.now }
+{
+    let mut len = 0;
+    for task in tasks {
+        len = len.max(task.stop.number as usize + 1);
+    }
+    len
+}
+
+// The tasks by their numbers, so that looking one up is one read of memory.
+fn task_table(alloc: Global, tasks: &[Task]) -> Result<Vec<Option<Task>>, AllocError>
+    ensures { IfOk result (λ table. IsTable tasks.now table.items) }
+{
+    let mut table = vec![in alloc; None; table_len(tasks)]?;
+    for i in (0..tasks.len()).rev() {
+        let task = tasks[i];
+        table[task.stop.number as usize] = Some(task);
+    }
+    Ok(table)
+}
+
+fn task_at(table: &[Option<Task>], number: u32) -> Option<Task>
+    ensures { result ≡ slice_index_or table.now number None }
+{
+    table.get(number as usize).copied().flatten()
+}
+
+// The first task that is no half of a pair.
+fn first_mismatched(tasks: &[Task], table: &[Option<Task>]) -> Option<Task>
+    requires { IsTable tasks.now table.now }
+    ensures { result ≡ find (is_mismatched tasks.now) tasks.now }
+{
+    for task in tasks {
+        if is_mismatched(tasks, table, task) {
+            return Some(*task);
+        }
+    }
+    None
+}
+
+fn is_mismatched(tasks: &[Task], table: &[Option<Task>], task: &Task) -> bool
+    requires { IsTable tasks.now table.now }
+    ensures { result ≡ is_mismatched tasks.now task.now }
+{
+    let _ = tasks;
+    match (task.pickup == 0, task.delivery == 0) {
+        (true, false) => match task_at(table, task.delivery) {
+            Some(delivery) => is_wrong_delivery(task, &delivery),
+            None => true,
+        },
+        (false, true) => match task_at(table, task.pickup) {
+            Some(pickup) => is_wrong_pickup(task, &pickup),
+            None => true,
+        },
+        _ => true,
+    }
+}
+
+fn is_uneven(a: &Task, b: &Task) -> bool
+    ensures { result ≡ is_uneven a.now b.now }
+{
+    i64::from(a.stop.demand) + i64::from(b.stop.demand) != 0
+}
+
+fn is_wrong_delivery(pickup: &Task, delivery: &Task) -> bool
+    ensures { result ≡ is_wrong_delivery pickup.now delivery.now }
+{
+    delivery.pickup != pickup.stop.number || is_uneven(pickup, delivery) || pickup.stop.demand < 0
+}
+
+fn is_wrong_pickup(delivery: &Task, pickup: &Task) -> bool
+    ensures { result ≡ is_wrong_pickup delivery.now pickup.now }
+{
+    pickup.delivery != delivery.stop.number || is_uneven(delivery, pickup)
+}
+
+fn problem_without_requests(alloc: Global, header: Header, depot: &Task) -> Problem
+    requires header { HeaderKeepsLimits header }
+    requires first { depot.now.stop.number ≡ 0 }
+    requires visit { IsVisit depot.now.stop }
+    ensures { (result ≡ new_instance LiLim (depot_from depot.now) header.capacity header.fleet) × IsInstance result }
+{
+    let stop = Stop {
+        number: 0,
+        demand: 0,
+        service: 0,
+        ..depot.stop
+    };
+    match Problem::new(alloc, Kind::LiLim, stop, header.capacity, header.fleet) {
+        Ok(problem) => problem,
+        Err(_) => unreachable!(),
+    }
+}
+
+// Adds a request for each pickup. The tasks are those of a text without faults.
+fn put_pairs(
+    problem: &mut Problem,
+    tasks: &[Task],
+    table: &[Option<Task>],
+) -> Result<(), AllocError>
+    requires empty { problem.old.requests ≡ [] }
+    requires table { IsTable tasks.now table.now }
+    requires valid { AllByRecursion IsCustomer tasks.now }
+    requires rising { RisesFrom 0 tasks.now }
+    requires paired { ArePaired tasks.now }
+    ensures { OnOk result (problem.new ≡ record problem.old { requests = pairs_of tasks.now; next_number = problem.new.next_number }) }
+{
+    for task in tasks {
+        if let Some(request) = pair_of(tasks, table, task) {
+            put_pair(problem, request)?;
+        }
+    }
+    Ok(())
+}
+
+// The request of a pickup and the delivery that it names.
+fn pair_of(tasks: &[Task], table: &[Option<Task>], task: &Task) -> Option<Request>
+    requires { IsTable tasks.now table.now }
+    ensures { option_map (λ r. (task.now.stop.number, r)) result ≡ pair_of tasks.now task.now }
+{
+    let _ = tasks;
+    if task.pickup != 0 {
+        return None;
+    }
+    let delivery = task_at(table, task.delivery)?;
+    Some(Request::Pair(task.stop, delivery.stop))
+}
+
+fn put_pair(problem: &mut Problem, pair: Request) -> Result<(), AllocError>
+    requires valid { IsRequest pair }
+    requires free { ¬ IsTaken problem.old pair }
+    ensures { OnOk result (problem.new ≡ with_request problem.old pair) }
+{
+    match problem.put(pair) {
+        Ok(()) => Ok(()),
+        Err(PutFault::OutOfMemory) => Err(AllocError),
+        Err(_) => unreachable!(),
+    }
+}
+
+fn last_task<'a>(depot: &'a Task, customers: &'a [Task]) -> &'a Task
+    ensures { result.now.stop.number ≡ last_number depot.now customers.now }
+{
+    customers.last().unwrap_or(depot)
+}

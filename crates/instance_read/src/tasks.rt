@@ -1,0 +1,158 @@
+//! The header and the tasks of a Li-Lim text, line by line.
+ghost use Rattle.std.specs.Prelude.{◌≡◌, pos, int_lt, if◌then◌else◌, MatchResult};
+ghost use Rattle.text_lines.specs.Words.{words_of};
+ghost use Rattle.instance_read.specs.Fields.{field, is_that};
+ghost use Rattle.instance_read.specs.Headers.{IsHeader, task_with};
+ghost use Rattle.instance_read.specs.Lilim.{header_fault, is_out_of_order, task_fault};
+ghost use Rattle.instance_read.specs.Pairs.{task_from};
+ghost use Rattle.instance_read.specs.Walk.{HasNoKind, IsFirstKind, fields_fault};
+
+use crate::ReadFaultKind;
+use crate::fields::{Limits, has_no_number, values, word_count};
+use plan_types::Stop;
+use text_lines::{Number, Words};
+
+/// Fleet and capacity.
+const HEADER_LIMITS: [Limits; 2] = [(1, 40_000), (0, 1_000_000)];
+
+/// The nine fields of a task.
+const TASK_LIMITS: [Limits; 9] = [
+    (0, 40_000),
+    (-1_000_000, 1_000_000),
+    (-1_000_000, 1_000_000),
+    (-1_000_000, 1_000_000),
+    (0, 100_000_000),
+    (0, 100_000_000),
+    (0, 1_000_000),
+    (0, 40_000),
+    (0, 40_000),
+];
+
+/// The first line.
+#[derive(Clone, Copy)]
+pub struct Header {
+    pub fleet: u32,
+    pub capacity: u32,
+}
+
+/// A task: a stop, and the two fields that name its pickup or its delivery.
+#[derive(Clone, Copy)]
+pub struct Task {
+    /// Its line in the text.
+    pub line: u64,
+    pub stop: Stop,
+    /// The number of its pickup, or 0.
+    pub pickup: u32,
+    /// The number of its delivery, or 0.
+    pub delivery: u32,
+}
+
+impl Header {
+    /// Reads the words of the first line.
+    pub fn read(line: &[u8]) -> Result<Header, ReadFaultKind>
+        ensures { MatchResult result (λ header. HasNoKind (header_fault (words_of line.now)) × IsHeader (words_of line.now) header)
+            (IsFirstKind (header_fault (words_of line.now))) }
+    {
+        if word_count(line) != 3 {
+            return Err(ReadFaultKind::FieldCount);
+        }
+        if has_no_number(line) {
+            return Err(ReadFaultKind::BadNumber);
+        }
+        let Some(values) = values(line, &HEADER_LIMITS) else {
+            return Err(ReadFaultKind::Range);
+        };
+        Ok(Header {
+            fleet: values[0].unsigned_abs(),
+            capacity: values[1].unsigned_abs(),
+        })
+    }
+}
+
+impl Task {
+    /// Reads the words of a task's line, after the line of the previous task.
+    pub fn read(previous: Option<Task>, number: u64, line: &[u8]) -> Result<Task, ReadFaultKind>
+        ensures { MatchResult result (λ task. HasNoKind (task_fault previous (words_of line.now)) × (task ≡ task_from number (words_of line.now)))
+            (IsFirstKind (task_fault previous (words_of line.now))) }
+    {
+        let Some(values) = values(line, &TASK_LIMITS) else {
+            return Err(fields_fault(line));
+        };
+        if word_count(line) != 9 {
+            return Err(ReadFaultKind::FieldCount);
+        }
+        let task = Task::from_values(number, values);
+        if is_out_of_order(previous, task.stop.number) {
+            return Err(ReadFaultKind::TaskOrder);
+        }
+        if task.stop.latest < task.stop.earliest {
+            return Err(ReadFaultKind::EmptyWindow);
+        }
+        Ok(task)
+    }
+
+    fn from_values(line: u64, values: [i32; 9]) -> Task
+        ensures { result ≡ task_with line values }
+    {
+        let [
+            number,
+            x,
+            y,
+            demand,
+            earliest,
+            latest,
+            service,
+            pickup,
+            delivery,
+        ] = values;
+        Task {
+            line,
+            stop: Stop {
+                number: number.unsigned_abs(),
+                x,
+                y,
+                demand,
+                earliest: earliest.unsigned_abs(),
+                latest: latest.unsigned_abs(),
+                service: service.unsigned_abs(),
+            },
+            pickup: pickup.unsigned_abs(),
+            delivery: delivery.unsigned_abs(),
+        }
+    }
+}
+
+fn is_out_of_order(previous: Option<Task>, number: u32) -> bool
+    ensures { result ≡ is_out_of_order previous (pos number) }
+{
+    match previous {
+        None => number != 0,
+        Some(task) => number <= task.stop.number,
+    }
+}
+
+// What is wrong with a line that has not nine numbers within their limits.
+fn fields_fault(line: &[u8]) -> ReadFaultKind
+    ensures { result ≡ fields_fault (words_of line.now) }
+{
+    if word_count(line) != 9 {
+        return ReadFaultKind::FieldCount;
+    }
+    if has_no_number(line) {
+        return ReadFaultKind::BadNumber;
+    }
+    beyond_limits(line)
+}
+
+// A number above 40,000 is one stop too many; any other number beyond its limits is out of range.
+fn beyond_limits(line: &[u8]) -> ReadFaultKind
+    ensures { result ≡ (if is_that (λ z. int_lt (pos 40000) z) (field (words_of line.now) 0) then ReadFaultKind.TooManyStops else ReadFaultKind.Range) }
+{
+    let Some(first) = Words::new(line).next() else {
+        return ReadFaultKind::Range;
+    };
+    match Number::parse(first) {
+        Some(number) if number.is_above(40_000) => ReadFaultKind::TooManyStops,
+        _ => ReadFaultKind::Range,
+    }
+}

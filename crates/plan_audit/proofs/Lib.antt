@@ -1,0 +1,12 @@
+pub mod FirstLemmas
+pub mod FleetLemmas
+pub mod PairLemmas
+pub mod PlanLemmas
+pub mod RuleLemmas
+pub mod SeatLemmas
+pub mod ServedLemmas
+pub mod SpotLemmas
+pub mod StepLemmas
+pub mod TimeLemmas
+pub mod VerdictLemmas
+pub mod VisitLemmas

@@ -1,0 +1,226 @@
+-- Each rule on where stops stand is the test that the auditor makes.
+use Rattle.std.proofs.Common.{◌≡◌, ◌≢◌, ℕ, zero, suc, ◌<◌, ◌≤◌, ◌⊎◌, Bool, true, false, cond, ◌&&◌, nat_lt, List, Option, Some, None, slice_get, is_some, refl, sym, ap, subst, ◌∙◌, inl, inr, arith, eqb}
+use Rattle.std.specs.Option.{option_and_then}
+use Rattle.std.proofs.lemmas.Bool.{cases_lt, lt-ltb, ltb-true}
+use Rattle.std.proofs.lemmas.Bool.Decides.{eqb_tells}
+use Rattle.plan_types.specs.Instance.{Instance, stop_at, partner_at, request_with}
+use Rattle.plan_types.specs.Request.{partner_in}
+use Rattle.plan_types.specs.declared.requests.Stop.{Stop}
+use Rattle.plan_types.specs.declared.requests.Request.{Request}
+use Rattle.plan_types.specs.declared.requests.Request.TheVariants.{Single, Pair}
+use Rattle.plan_audit.specs.Rules.{Stands, StandsSomewhere, IsEarlier, pickup_in, pickup_at, IsUnknown, IsRepeated, IsMissing, IsSplit, IsDeliveredFirst}
+use Rattle.plan_audit.specs.Passes.{seat_of, unknown_at, repeated_at, missing_at, split_at, delivered_at}
+use Rattle.plan_audit.specs.declared.seats.Seat.{Seat}
+use Rattle.plan_audit.proofs.FirstLemmas.{none_some, some_same}
+use Rattle.plan_audit.proofs.SeatLemmas.{Sits, seat_of-found, seat_of-none}
+use Rattle.plan_audit.proofs.SpotLemmas.{Spot, IsTestOf}
+
+-- a place counted from 1 is one counted from 0
+pub standing : (routes : List (List ℕ)) (r i n : ℕ) → Stands routes r i n → (q : ℕ) × (j : ℕ) × (r ≡ suc q) × (i ≡ suc j) × Sits routes q j n
+standing routes zero i n t = absurd (none_some t.0 t.1)
+standing routes (suc r) zero n t = absurd (none_some n t.2)
+standing routes (suc r) (suc i) n t = (r, i, refl, refl, t)
+
+-- who stands nowhere has no seat, and the other way round
+pub nowhere-seat : (routes : List (List ℕ)) (n : ℕ) → seat_of routes n ≡ None → StandsSomewhere routes n → ⊥
+nowhere-seat routes n none t = let s = standing routes t.0 t.1 n t.2 in seat_of-none routes n none s.0 s.1 s.4
+
+abbrev seat_test : ℕ → ℕ → ℕ → Option Seat → Option ℕ
+seat_test r i n o = option_and_then (λ s. cond (eqb s.route r && eqb s.place i) None (Some n)) o
+
+abbrev partner_test : List (List ℕ) → Option ℕ → Option ℕ
+partner_test routes o = option_and_then (λ m. cond (is_some (seat_of routes m)) None (Some m)) o
+
+abbrev split_seat : ℕ → ℕ → Option Seat → Option ℕ
+split_seat r n o = option_and_then (λ s. cond (eqb s.route r) None (Some n)) o
+
+abbrev split_test : List (List ℕ) → ℕ → ℕ → Option ℕ → Option ℕ
+split_test routes r n o = option_and_then (λ m. split_seat r n (seat_of routes m)) o
+
+abbrev delivered_seat : ℕ → ℕ → Option Seat → Option ℕ
+delivered_seat i n o = option_and_then (λ s. cond (nat_lt i s.place) (Some n) None) o
+
+abbrev delivered_test : List (List ℕ) → ℕ → ℕ → Option ℕ → Option ℕ
+delivered_test routes i n o = option_and_then (λ m. delivered_seat i n (seat_of routes m)) o
+
+-- the pickup of a delivery is its partner
+partner_from_pickup : (p : Instance) (n m : ℕ) → pickup_at p n ≡ Some m → partner_at p n ≡ Some m
+partner_from_pickup p n m is = by (request_with p n) is
+  where
+    by : (o : Option Request) → option_and_then (pickup_in n) o ≡ Some m → option_and_then (partner_in n) o ≡ Some m
+    by None h = absurd (none_some m h)
+    by (Some (Single s)) h = absurd (none_some m h)
+    by (Some (Pair a b)) h = first (eqb a.number n) h
+      where
+        first : (c : Bool) → cond c None (cond (eqb b.number n) (Some a.number) None) ≡ Some m → cond c (Some b.number) (cond (eqb b.number n) (Some a.number) None) ≡ Some m
+        first true h = absurd (none_some m h)
+        first false h = h
+
+module _ (p : Instance) (routes : List (List ℕ)) where
+  pub unknown_rule : IsTestOf (IsUnknown p routes) (λ _ _ _ n. unknown_at p routes n) routes
+  unknown_rule = record { to = λ r i s t. to r i s t (stop_at p t.1) refl; from = from }
+    where
+      to : (r i s : ℕ) (t : Spot (λ _ _ _ n. unknown_at p routes n) routes r i s) (o : Option Stop) → stop_at p (t.1) ≡ o → IsUnknown p routes (suc r) (suc i) s
+      to r i s t (Some x) e = absurd (none_some s (let h : cond (is_some (stop_at p t.1)) None (Some t.1) ≡ Some s = t.4 in rw e at h))
+      to r i s t None e =
+          let same : t.1 ≡ s = some_same _ _ (let h : cond (is_some (stop_at p t.1)) None (Some t.1) ≡ Some s = t.4 in rw e at h) in
+          ((t.0, t.2, subst (λ n. slice_get t.0 i ≡ Some n) same t.3), subst (λ n. stop_at p n ≡ None) same e)
+
+      from : (r i s : ℕ) → IsUnknown p routes r i s → (q : ℕ) × (j : ℕ) × (r ≡ suc q) × (i ≡ suc j) × Spot (λ _ _ _ n. unknown_at p routes n) routes q j s
+      from r i s b = let t = standing routes r i s b.0 in (t.0, t.1, t.2, t.3, (t.4.0, s, t.4.1, t.4.2, rw b.1 refl))
+
+  pub repeated_rule : IsTestOf (IsRepeated p routes) (λ r _ i n. repeated_at p routes r i n) routes
+  repeated_rule = record { to = λ r i s t. to r i s t (seat_of routes t.1) refl; from = from }
+    where
+      to : (r i s : ℕ) (t : Spot (λ r _ i n. repeated_at p routes r i n) routes r i s) (o : Option Seat) → seat_of routes (t.1) ≡ o → IsRepeated p routes (suc r) (suc i) s
+      to r i s t None e = absurd (none_some s (let h : seat_test r i t.1 (seat_of routes t.1) ≡ Some s = t.4 in rw e at h))
+      to r i s t (Some u) e =
+          let told : seat_test r i t.1 (Some u) ≡ Some s = (let h : seat_test r i t.1 (seat_of routes t.1) ≡ Some s = t.4 in rw e at h) in
+          let seat = seat_of-found routes t.1 u e in
+          let first = seat.least r i (t.0, t.2, t.3) in
+          elsewhere (eqb_tells u.route r) (eqb_tells u.place i) told first seat.sits
+        where
+          elsewhere : ((eqb u.route r ≡ true) × (u.route ≡ r)) ⊎ ((eqb u.route r ≡ false) × (u.route ≢ r)) → ((eqb u.place i ≡ true) × (u.place ≡ i)) ⊎ ((eqb u.place i ≡ false) × (u.place ≢ i))
+              → cond (eqb u.route r && eqb u.place i) None (Some (t.1)) ≡ Some s → (u.route < r) ⊎ ((u.route ≡ r) × (u.place ≤ i)) → Sits routes u.route u.place (t.1) → IsRepeated p routes (suc r) (suc i) s
+          elsewhere (inl a) (inl b) told first sits = absurd (none_some s (rw (a.0, b.0) at told))
+          elsewhere (inl a) (inr b) told first sits =
+              let same : t.1 ≡ s = some_same _ _ (rw (a.0, b.0) at told) in
+              let before : u.place < i = elim first [ inl lt ↦ (let e = a.1 in omega arith) | inr le ↦ (let ne = b.1 in let le' = le.1 in omega arith) ] in
+              ((t.0, t.2, subst (λ n. slice_get t.0 i ≡ Some n) same t.3), (suc u.route, suc u.place, inr (ap suc a.1, omega arith), subst (λ n. Sits routes u.route u.place n) same sits))
+          elsewhere (inr a) b told first sits =
+              let same : t.1 ≡ s = some_same _ _ (rw (a.0) at told) in
+              let before : u.route < r = elim first [ inl lt ↦ lt | inr le ↦ absurd (a.1 le.0) ] in
+              ((t.0, t.2, subst (λ n. slice_get t.0 i ≡ Some n) same t.3), (suc u.route, suc u.place, inl (omega arith), subst (λ n. Sits routes u.route u.place n) same sits))
+
+      from : (r i s : ℕ) → IsRepeated p routes r i s → (q : ℕ) × (j : ℕ) × (r ≡ suc q) × (i ≡ suc j) × Spot (λ r _ i n. repeated_at p routes r i n) routes q j s
+      from r i s b =
+          let t = standing routes r i s b.0 in
+          let u = standing routes b.1.0 b.1.1 s b.1.3 in
+          (t.0, t.1, t.2, t.3, (t.4.0, s, t.4.1, t.4.2, told (seat_of routes s) refl t.0 t.1 u.0 u.1 u.4 (earlier r i b.1.0 b.1.1 t.0 t.1 u.0 u.1 t.2 t.3 u.2 u.3 b.1.2)))
+        where
+          earlier : (r i q j r' i' q' j' : ℕ) → r ≡ suc r' → i ≡ suc i' → q ≡ suc q' → j ≡ suc j' → IsEarlier q j r i → IsEarlier q' j' r' i'
+          earlier r i q j r' i' q' j' er ei eq ej (inl lt) = inl (omega arith)
+          earlier r i q j r' i' q' j' er ei eq ej (inr e) = let a = e.0 in let b = e.1 in inr (omega arith, omega arith)
+
+          told : (o : Option Seat) → seat_of routes s ≡ o → (r i q j : ℕ) → Sits routes q j s → IsEarlier q j r i → option_and_then (λ t. cond (eqb t.route r && eqb t.place i) None (Some s)) (seat_of routes s) ≡ Some s
+          told None e r i q j sits before = absurd (seat_of-none routes s e q j sits)
+          told (Some u) e r i q j sits before =
+              let first = (seat_of-found routes s u e).least q j sits in
+              let away : (eqb u.route r && eqb u.place i) ≡ false = apart (eqb_tells u.route r) (eqb_tells u.place i) first before in
+              ap (λ (o : Option Seat). option_and_then (λ t. cond (eqb t.route r && eqb t.place i) None (Some s)) o) e ∙ ap (λ b. cond b None (Some s)) away
+            where
+              apart : ((eqb u.route r ≡ true) × (u.route ≡ r)) ⊎ ((eqb u.route r ≡ false) × (u.route ≢ r)) → ((eqb u.place i ≡ true) × (u.place ≡ i)) ⊎ ((eqb u.place i ≡ false) × (u.place ≢ i))
+                  → (u.route < q) ⊎ ((u.route ≡ q) × (u.place ≤ j)) → IsEarlier q j r i → (eqb u.route r && eqb u.place i) ≡ false
+              apart (inr a) b first before = rw (a.0) refl
+              apart (inl a) (inr b) first before = rw (a.0, b.0) refl
+              apart (inl a) (inl b) (inl f) (inl g) = let x = a.1 in absurd (omega arith)
+              apart (inl a) (inl b) (inl f) (inr g) = let x = a.1 in let y = g.0 in absurd (omega arith)
+              apart (inl a) (inl b) (inr f) (inl g) = let x = a.1 in let y = f.0 in absurd (omega arith)
+              apart (inl a) (inl b) (inr f) (inr g) = let x = b.1 in let y = f.1 in let z = g.1 in absurd (omega arith)
+
+  pub missing_rule : IsTestOf (IsMissing p routes) (λ _ _ _ n. missing_at p routes n) routes
+  missing_rule = record { to = λ r i s t. to r i s t (partner_at p t.1) refl; from = from }
+    where
+      to : (r i s : ℕ) (t : Spot (λ _ _ _ n. missing_at p routes n) routes r i s) (o : Option ℕ) → partner_at p (t.1) ≡ o → IsMissing p routes (suc r) (suc i) s
+      to r i s t None e = absurd (none_some s (let h : partner_test routes (partner_at p t.1) ≡ Some s = t.4 in rw e at h))
+      to r i s t (Some m) e = by (seat_of routes m) refl
+        where
+          by : (o : Option Seat) → seat_of routes m ≡ o → IsMissing p routes (suc r) (suc i) s
+          by (Some u) f = absurd (none_some s (let h : partner_test routes (partner_at p t.1) ≡ Some s = t.4 in let g : cond (is_some (seat_of routes m)) None (Some m) ≡ Some s = (rw e at h) in rw f at g))
+          by None f =
+              let same : m ≡ s = some_same _ _ (let h : partner_test routes (partner_at p t.1) ≡ Some s = t.4 in let g : cond (is_some (seat_of routes m)) None (Some m) ≡ Some s = (rw e at h) in rw f at g) in
+              (t.1, (t.0, t.2, t.3), e ∙ ap Some same, λ somewhere. nowhere-seat routes m f (subst (λ n. StandsSomewhere routes n) (sym same) somewhere))
+
+      from : (r i s : ℕ) → IsMissing p routes r i s → (q : ℕ) × (j : ℕ) × (r ≡ suc q) × (i ≡ suc j) × Spot (λ _ _ _ n. missing_at p routes n) routes q j s
+      from r i s b =
+          let t = standing routes r i b.0 b.1 in
+          (t.0, t.1, t.2, t.3, (t.4.0, b.0, t.4.1, t.4.2, rw b.2 (empty (seat_of routes s) refl)))
+        where
+          empty : (o : Option Seat) → seat_of routes s ≡ o → cond (is_some (seat_of routes s)) None (Some s) ≡ Some s
+          empty None e = rw e refl
+          empty (Some u) e = absurd (b.3 (suc u.route, suc u.place, (seat_of-found routes s u e).sits))
+
+  -- where no stop stands twice, a seat is the only one
+  only-seat : ((r i n : ℕ) → IsRepeated p routes r i n → ⊥) → (n : ℕ) (u : Seat) → seat_of routes n ≡ Some u → (r i : ℕ) → Sits routes r i n → (u.route ≡ r) × (u.place ≡ i)
+  only-seat once n u e r i sits =
+      let seat = seat_of-found routes n u e in
+      elim (seat.least r i sits) [
+        | inl lt ↦ absurd (once (suc r) (suc i) n (sits, (suc u.route, suc u.place, inl (omega arith), seat.sits)))
+        | inr le ↦ elim (cases_lt u.place i) [
+          | inl lt ↦ absurd (once (suc r) (suc i) n (sits, (suc u.route, suc u.place, inr (ap suc le.0, omega arith), seat.sits)))
+          | inr ge ↦ (let a = le.1 in (le.0, omega arith))
+        ]
+      ]
+
+  pub split_rule : ((r i n : ℕ) → IsRepeated p routes r i n → ⊥) → IsTestOf (IsSplit p routes) (λ r _ _ n. split_at p routes r n) routes
+  split_rule once = record { to = λ r i s t. to r i s t (partner_at p t.1) refl; from = from }
+    where
+      to : (r i s : ℕ) (t : Spot (λ r _ _ n. split_at p routes r n) routes r i s) (o : Option ℕ) → partner_at p (t.1) ≡ o → IsSplit p routes (suc r) (suc i) s
+      to r i s t None e = absurd (none_some s (let h : split_test routes r t.1 (partner_at p t.1) ≡ Some s = t.4 in rw e at h))
+      to r i s t (Some m) e = by (seat_of routes m) refl (let h : split_test routes r t.1 (partner_at p t.1) ≡ Some s = t.4 in rw e at h)
+        where
+          by : (o : Option Seat) → seat_of routes m ≡ o → split_seat r (t.1) (seat_of routes m) ≡ Some s → IsSplit p routes (suc r) (suc i) s
+          by None f told = absurd (none_some s (rw f at told))
+          by (Some u) f told =
+              let told' : split_seat r (t.1) (Some u) ≡ Some s = (rw f at told) in
+              away (eqb_tells u.route r) told' (seat_of-found routes m u f).sits
+            where
+              away : ((eqb u.route r ≡ true) × (u.route ≡ r)) ⊎ ((eqb u.route r ≡ false) × (u.route ≢ r)) → cond (eqb u.route r) None (Some (t.1)) ≡ Some s → Sits routes u.route u.place m → IsSplit p routes (suc r) (suc i) s
+              away (inl a) told sits = absurd (none_some s (rw (a.0) at told))
+              away (inr a) told sits =
+                  let same : t.1 ≡ s = some_same _ _ (rw (a.0) at told) in
+                  ((t.0, t.2, subst (λ n. slice_get t.0 i ≡ Some n) same t.3), (m, subst (λ n. partner_at p n ≡ Some m) same e, (suc u.route, suc u.place, (λ h. a.1 (omega arith)), sits)))
+
+      from : (r i s : ℕ) → IsSplit p routes r i s → (q : ℕ) × (j : ℕ) × (r ≡ suc q) × (i ≡ suc j) × Spot (λ r _ _ n. split_at p routes r n) routes q j s
+      from r i s b =
+          let t = standing routes r i s b.0 in
+          let u = standing routes b.1.2.0 b.1.2.1 b.1.0 b.1.2.3 in
+          (t.0, t.1, t.2, t.3, (t.4.0, s, t.4.1, t.4.2, rw (b.1.1) (told (seat_of routes b.1.0) refl t.0 t.2 u.0 u.1 u.2 u.4)))
+        where
+          told : (o : Option Seat) → seat_of routes (b.1.0) ≡ o → (r' : ℕ) → r ≡ suc r' → (q' j' : ℕ) → b.1.2.0 ≡ suc q' → Sits routes q' j' (b.1.0) → split_seat r' s (seat_of routes (b.1.0)) ≡ Some s
+          told None f r' er q' j' eq sits = absurd (seat_of-none routes (b.1.0) f q' j' sits)
+          told (Some x) f r' er q' j' eq sits =
+              let only = only-seat once (b.1.0) x f q' j' sits in
+              let ne = b.1.2.2 in
+              ap (split_seat r' s) f ∙ away (eqb_tells x.route r') (λ h. ne (eq ∙ ap suc (sym (only.0) ∙ h) ∙ sym er))
+            where
+              away : ((eqb x.route r' ≡ true) × (x.route ≡ r')) ⊎ ((eqb x.route r' ≡ false) × (x.route ≢ r')) → (x.route ≡ r' → ⊥) → cond (eqb x.route r') None (Some s) ≡ Some s
+              away (inl a) ne = absurd (ne a.1)
+              away (inr a) ne = rw (a.0) refl
+
+  pub delivered_rule : ((r i n : ℕ) → IsRepeated p routes r i n → ⊥) → ((r i n : ℕ) → IsSplit p routes r i n → ⊥) → IsTestOf (IsDeliveredFirst p routes) (λ _ _ i n. delivered_at p routes i n) routes
+  delivered_rule once whole = record { to = λ r i s t. to r i s t (pickup_at p t.1) refl; from = from }
+    where
+      to : (r i s : ℕ) (t : Spot (λ _ _ i n. delivered_at p routes i n) routes r i s) (o : Option ℕ) → pickup_at p (t.1) ≡ o → IsDeliveredFirst p routes (suc r) (suc i) s
+      to r i s t None e = absurd (none_some s (let h : delivered_test routes i t.1 (pickup_at p t.1) ≡ Some s = t.4 in rw e at h))
+      to r i s t (Some m) e = by (seat_of routes m) refl (let h : delivered_test routes i t.1 (pickup_at p t.1) ≡ Some s = t.4 in rw e at h)
+        where
+          by : (o : Option Seat) → seat_of routes m ≡ o → delivered_seat i (t.1) (seat_of routes m) ≡ Some s → IsDeliveredFirst p routes (suc r) (suc i) s
+          by None f told = absurd (none_some s (rw f at told))
+          by (Some u) f told =
+              let told' : delivered_seat i (t.1) (Some u) ≡ Some s = (rw f at told) in
+              later (nat_lt i u.place) refl told' (seat_of-found routes m u f).sits (eqb_tells u.route r)
+            where
+              later : (b : Bool) → nat_lt i u.place ≡ b → cond (nat_lt i u.place) (Some (t.1)) None ≡ Some s → Sits routes u.route u.place m → ((eqb u.route r ≡ true) × (u.route ≡ r)) ⊎ ((eqb u.route r ≡ false) × (u.route ≢ r)) → IsDeliveredFirst p routes (suc r) (suc i) s
+              later false lt told sits where_to = absurd (none_some s (rw lt at told))
+              later true lt told sits (inr a) =
+                  absurd (whole (suc r) (suc i) t.1 ((t.0, t.2, t.3), (m, partner_from_pickup p t.1 m e, (suc u.route, suc u.place, (λ h. a.1 (omega arith)), sits))))
+              later true lt told sits (inl a) =
+                  let same : t.1 ≡ s = some_same _ _ (rw lt at told) in
+                  let after : i < u.place = ltb-true i u.place lt in
+                  ((t.0, t.2, subst (λ n. slice_get t.0 i ≡ Some n) same t.3), (m, subst (λ n. pickup_at p n ≡ Some m) same e, (suc u.place, omega arith, subst (λ q. Sits routes q u.place m) (a.1) sits)))
+
+      from : (r i s : ℕ) → IsDeliveredFirst p routes r i s → (q : ℕ) × (j : ℕ) × (r ≡ suc q) × (i ≡ suc j) × Spot (λ _ _ i n. delivered_at p routes i n) routes q j s
+      from r i s b =
+          let t = standing routes r i s b.0 in
+          let u = standing routes r b.1.2.0 b.1.0 b.1.2.2 in
+          (t.0, t.1, t.2, t.3, (t.4.0, s, t.4.1, t.4.2, rw (b.1.1) (told (seat_of routes b.1.0) refl t.1 t.3 u.0 u.1 u.3 u.4)))
+        where
+          told : (o : Option Seat) → seat_of routes (b.1.0) ≡ o → (i' : ℕ) → i ≡ suc i' → (q' j' : ℕ) → b.1.2.0 ≡ suc j' → Sits routes q' j' (b.1.0) → delivered_seat i' s (seat_of routes (b.1.0)) ≡ Some s
+          told None f i' ei q' j' ej sits = absurd (seat_of-none routes (b.1.0) f q' j' sits)
+          told (Some x) f i' ei q' j' ej sits =
+              let only = only-seat once (b.1.0) x f q' j' sits in
+              let lt = b.1.2.1 in
+              let place = only.1 in
+              let after : i' < x.place = omega arith in
+              ap (delivered_seat i' s) f ∙ ap (λ c. cond c (Some s) None) (lt-ltb i' x.place after)

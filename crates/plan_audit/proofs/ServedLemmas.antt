@@ -1,0 +1,122 @@
+-- Requests that no route serves.
+use Rattle.std.proofs.Common.{◌≡◌, ℕ, suc, ◌<◌, ◌≤◌, Bool, true, false, cond, ◌||◌, List, [], ◌∷◌, Option, Some, None, is_some, refl, sym, subst, inl, inr, arith, nat_eq, eqb}
+use Rattle.std.specs.List.{AllByRecursion}
+use Rattle.std.specs.List.Sorted.{IsStrictlySortedBy}
+use Rattle.std.specs.Map.{lookup, keys_of}
+use Rattle.std.specs.Option.{option_or}
+use Rattle.std.specs.Ordering.{nat_cmp}
+use Rattle.std.specs.declared.cmp.Ordering.TheVariants.{Less, Equal, Greater}
+use Rattle.std.proofs.lemmas.Bool.{eq-eqb, cases_lt, le-ltb}
+use Rattle.std.proofs.lemmas.Bool.Decides.{eqb_tells}
+use Rattle.plan_types.specs.Request.{stops_of}
+use Rattle.plan_types.specs.declared.requests.Request.{Request}
+use Rattle.plan_types.specs.declared.requests.Request.TheVariants.{Single, Pair}
+use Rattle.plan_audit.specs.Rules.{StandsSomewhere}
+use Rattle.plan_audit.specs.Passes.{seat_of, is_served, first_unserved}
+use Rattle.plan_audit.specs.declared.seats.Seat.{Seat}
+use Rattle.plan_audit.proofs.FirstLemmas.{none_some, some_same}
+use Rattle.plan_audit.proofs.SeatLemmas.{seat_of-found}
+use Rattle.plan_audit.proofs.RuleLemmas.{nowhere-seat}
+
+-- none of its stops stands anywhere
+abbrev pub IsNowhere : List (List ℕ) → Request → Type 0
+IsNowhere routes r = AllByRecursion (λ s. StandsSomewhere routes s.number → ⊥) (stops_of r)
+
+no_seat : (routes : List (List ℕ)) (n : ℕ) → is_some (seat_of routes n) ≡ false → StandsSomewhere routes n → ⊥
+no_seat routes n none = by (seat_of routes n) refl
+  where
+    by : (o : Option Seat) → seat_of routes n ≡ o → StandsSomewhere routes n → ⊥
+    by None e = nowhere-seat routes n e
+    by (Some u) e = absurd (let h : is_some (seat_of routes n) ≡ false = none in let g : true ≡ false = (rw e at h) in cc)
+
+a_seat : (routes : List (List ℕ)) (n : ℕ) → is_some (seat_of routes n) ≡ true → StandsSomewhere routes n
+a_seat routes n some = by (seat_of routes n) refl
+  where
+    by : (o : Option Seat) → seat_of routes n ≡ o → StandsSomewhere routes n
+    by None e = absurd (let h : is_some (seat_of routes n) ≡ true = some in let g : false ≡ true = (rw e at h) in cc)
+    by (Some u) e = (suc u.route, suc u.place, (seat_of-found routes n u e).sits)
+
+not_served : (routes : List (List ℕ)) (r : Request) → is_served routes r ≡ false → IsNowhere routes r
+not_served routes (Single s) e = (no_seat routes s.number e, tt)
+not_served routes (Pair a b) e = by (is_some (seat_of routes a.number)) refl e
+  where
+    by : (c : Bool) → is_some (seat_of routes a.number) ≡ c → (c || is_some (seat_of routes b.number)) ≡ false → IsNowhere routes (Pair a b)
+    by true f e = absurd (let g : true ≡ false = e in cc)
+    by false f e = (no_seat routes a.number f, (no_seat routes b.number e, tt))
+
+served_somewhere : (routes : List (List ℕ)) (r : Request) → is_served routes r ≡ true → IsNowhere routes r → ⊥
+served_somewhere routes (Single s) e nowhere = nowhere.0 (a_seat routes s.number e)
+served_somewhere routes (Pair a b) e nowhere = by (is_some (seat_of routes a.number)) refl e
+  where
+    by : (c : Bool) → is_some (seat_of routes a.number) ≡ c → (c || is_some (seat_of routes b.number)) ≡ true → ⊥
+    by true f e = nowhere.0 (a_seat routes a.number f)
+    by false f e = nowhere.1.0 (a_seat routes b.number e)
+
+-- a key that is found is among the keys
+found-key : (P : ℕ → Type 0) (es : List (ℕ × Request)) (m : ℕ) (r : Request) → AllByRecursion P (keys_of es) → lookup (nat_eq m) es ≡ Some r → P m
+found-key P [] m r all is = absurd (none_some r is)
+found-key P (e ∷ es) m r all is = elim (eqb_tells m e.0) [
+  | inl t ↦ subst P (sym t.1) all.0
+  | inr t ↦ found-key P es m r all.1 (let h : lookup (nat_eq m) (e ∷ es) ≡ Some r = is in rw t.0 at h)
+]
+
+below_less : (a b : ℕ) → nat_cmp a b ≡ Less → a < b
+below_less a b h = elim (cases_lt a b) [
+  | inl lt ↦ lt
+  | inr ge ↦ (
+      let g : nat_cmp a b ≡ Less = h in
+      let z : cond (eqb a b) Equal Greater ≡ Less = (rw (le-ltb a b ge) at g) in
+      elim (eqb_tells a b) [
+        | inl t ↦ absurd (let y : Equal ≡ Less = (rw (t.0) at z) in cc)
+        | inr t ↦ absurd (let y : Greater ≡ Less = (rw (t.0) at z) in cc)
+      ])
+]
+
+-- the first that is not served
+pub record IsFirstUnserved (routes : List (List ℕ)) (es : List (ℕ × Request)) (n : ℕ) : Type 0 where
+  pub request : Request
+  pub found : lookup (nat_eq n) es ≡ Some request
+  pub nowhere : IsNowhere routes request
+  pub least : (m : ℕ) (r : Request) → lookup (nat_eq m) es ≡ Some r → IsNowhere routes r → n ≤ m
+
+pub unserved_found : (routes : List (List ℕ)) (es : List (ℕ × Request)) (n : ℕ) → IsStrictlySortedBy nat_cmp (keys_of es) → first_unserved routes es ≡ Some n → IsFirstUnserved routes es n
+unfolding IsStrictlySortedBy
+unserved_found routes [] n up is = absurd (none_some n is)
+unserved_found routes (e ∷ es) n up is = by (is_served routes e.1) refl (λ h. unserved_found routes es n up.1 h)
+  where
+    by : (b : Bool) → is_served routes e.1 ≡ b → (first_unserved routes es ≡ Some n → IsFirstUnserved routes es n) → IsFirstUnserved routes (e ∷ es) n
+    by false b rest =
+        let same : e.0 ≡ n = some_same _ _ (let h : option_or (cond (is_served routes e.1) None (Some e.0)) (first_unserved routes es) ≡ Some n = is in rw b at h) in
+        record {
+          request = e.1;
+          found = rw (eq-eqb n e.0 (sym same)) refl;
+          nowhere = not_served routes e.1 b;
+          least = λ m r at nowhere. elim (eqb_tells m e.0) [
+            | inl t ↦ (let a = t.1 in omega arith)
+            | inr t ↦ (let lt = below_less e.0 m (found-key (λ y. nat_cmp e.0 y ≡ Less) es m r up.0 (let h : lookup (nat_eq m) (e ∷ es) ≡ Some r = at in rw t.0 at h)) in omega arith)
+          ];
+        }
+    by true b rest =
+        let later = rest (let h : option_or (cond (is_served routes e.1) None (Some e.0)) (first_unserved routes es) ≡ Some n = is in rw b at h) in
+        let lt = below_less e.0 n (found-key (λ y. nat_cmp e.0 y ≡ Less) es n (later.request) up.0 (later.found)) in
+        let apart : nat_eq n e.0 ≡ false = elim (eqb_tells n e.0) [ inl t ↦ (let a = t.1 in absurd (omega arith)) | inr t ↦ t.0 ] in
+        record {
+          request = later.request;
+          found = rw apart (later.found);
+          nowhere = later.nowhere;
+          least = λ m r at nowhere. elim (eqb_tells m e.0) [
+            | inl t ↦ absurd (served_somewhere routes e.1 b (subst (IsNowhere routes) (some_same r e.1 (sym (let h : lookup (nat_eq m) (e ∷ es) ≡ Some r = at in rw t.0 at h))) nowhere))
+            | inr t ↦ later.least m r (let h : lookup (nat_eq m) (e ∷ es) ≡ Some r = at in rw t.0 at h) nowhere
+          ];
+        }
+
+pub unserved_nothing : (routes : List (List ℕ)) (es : List (ℕ × Request)) → first_unserved routes es ≡ None → (m : ℕ) (r : Request) → lookup (nat_eq m) es ≡ Some r → IsNowhere routes r → ⊥
+unserved_nothing routes [] is m r at nowhere = none_some r at
+unserved_nothing routes (e ∷ es) is m r at nowhere = by (is_served routes e.1) refl (λ h g. unserved_nothing routes es h m r g nowhere)
+  where
+    by : (b : Bool) → is_served routes e.1 ≡ b → (first_unserved routes es ≡ None → lookup (nat_eq m) es ≡ Some r → ⊥) → ⊥
+    by false b rest = none_some e.0 (sym (let h : option_or (cond (is_served routes e.1) None (Some e.0)) (first_unserved routes es) ≡ None = is in rw b at h))
+    by true b rest = elim (eqb_tells m e.0) [
+      | inl t ↦ served_somewhere routes e.1 b (subst (IsNowhere routes) (some_same r e.1 (sym (let h : lookup (nat_eq m) (e ∷ es) ≡ Some r = at in rw t.0 at h))) nowhere)
+      | inr t ↦ rest (let h : option_or (cond (is_served routes e.1) None (Some e.0)) (first_unserved routes es) ≡ None = is in rw b at h) (let h : lookup (nat_eq m) (e ∷ es) ≡ Some r = at in rw t.0 at h)
+    ]

@@ -1,0 +1,112 @@
+-- What an audit answers.
+use Rattle.std.specs.Prelude.{◌≡◌, ◌≢◌, ℕ, ◌+◌, ◌<◌, ◌≤◌, ◌⊎◌, List, [], length, take, nat_eq, Some, unwrap_or}
+use Rattle.std.specs.List.{AllByRecursion}
+use Rattle.std.specs.Map.{lookup}
+use Rattle.plan_types.specs.Instance.{Instance}
+use Rattle.plan_types.specs.Request.{stops_of}
+use Rattle.plan_types.specs.declared.requests.Request.{Request}
+use Rattle.route_sched.specs.Cost.{cost_of, used_count, total_length}
+use Rattle.plan_audit.specs.Rules.{item_at, StandsSomewhere, IsNotAfter, IsUnknown, IsRepeated, IsMissing, IsSplit, IsDeliveredFirst, IsOverloaded, IsLate, IsLateReturn}
+use Rattle.plan_audit.specs.declared.rules.Rule.{Rule}
+use Rattle.plan_audit.specs.declared.rules.Rule.TheVariants.{UnknownStop, Twice, Missing, SplitPair, DeliveryFirst, Load, Late, LateReturn, Fleet, Pin, PrintedCost}
+use Rattle.plan_audit.specs.declared.rules.Verdict.{Verdict}
+use Rattle.plan_audit.specs.declared.rules.Verdict.TheVariants.{Pass, Broken}
+
+-- what is audited beside the problem: a plan with its pins, or printed routes with their printed cost
+pub data Subject : Type 0 where
+  planned : List (List ℕ) → List (List ℕ) → Subject
+  printed : List (List ℕ) → ℕ → Subject
+
+abbrev pub routes_of : Subject → List (List ℕ)
+routes_of (planned routes pins) = routes
+routes_of (printed routes cost) = routes
+
+-- the number by which a rule is told
+abbrev pub rule_number : Rule → ℕ
+rule_number UnknownStop = 1
+rule_number Twice = 2
+rule_number Missing = 3
+rule_number SplitPair = 4
+rule_number DeliveryFirst = 5
+rule_number Load = 6
+rule_number Late = 7
+rule_number LateReturn = 8
+rule_number Fleet = 9
+rule_number Pin = 10
+rule_number PrintedCost = 11
+
+-- request n has no stop in any route
+abbrev pub IsUnserved : Instance → List (List ℕ) → ℕ → Type 0
+IsUnserved p routes n = (request : Request) × (lookup (nat_eq n) p.requests ≡ Some request) × AllByRecursion (λ s. StandsSomewhere routes s.number → ⊥) (stops_of request)
+
+-- told of no route and no place
+abbrev pub IsOfNoRoute : ℕ → ℕ → Type 0
+IsOfNoRoute r i = (r ≡ 0) × (i ≡ 0)
+
+-- 3: printed routes must serve each request, too
+abbrev pub IsMissingIn : Instance → Subject → ℕ → ℕ → ℕ → Type 0
+IsMissingIn p (planned routes pins) r i n = IsMissing p routes r i n
+IsMissingIn p (printed routes cost) r i n = IsMissing p routes r i n ⊎ (IsOfNoRoute r i × IsUnserved p routes n)
+
+-- route r is the first beyond the fleet: it is not empty, and with it one more is used than there are vehicles
+abbrev pub IsBeyondFleet : Instance → List (List ℕ) → ℕ → ℕ → ℕ → Type 0
+IsBeyondFleet p routes r i n = (i ≡ 0) × (n ≡ 0) × (used_count (take r routes) ≡ p.fleet + 1) × ((route : List ℕ) × (item_at routes r ≡ Some route) × (0 < length route))
+
+-- 9: a plan has one route for each vehicle; no more routes are used than there are vehicles
+abbrev pub IsFleetBroken : Instance → Subject → ℕ → ℕ → ℕ → Type 0
+IsFleetBroken p (planned routes pins) r i n = IsBeyondFleet p routes r i n ⊎ (IsOfNoRoute r i × (n ≡ 0) × (length routes ≢ p.fleet))
+IsFleetBroken p (printed routes cost) r i n = IsBeyondFleet p routes r i n
+
+-- 10: place i is the first at which route r is not as its pin, whose stop there is n
+abbrev pub IsOffPin : List (List ℕ) → List (List ℕ) → ℕ → ℕ → ℕ → Type 0
+IsOffPin routes pins r i n =
+    let route = unwrap_or (item_at routes r) [] in
+    (pin : List ℕ) × (item_at pins r ≡ Some pin) × (item_at pin i ≡ Some n) × (item_at route i ≢ Some n) × ((j : ℕ) → 1 ≤ j → j < i → item_at route j ≡ item_at pin j)
+
+abbrev pub IsPinBroken : Instance → Subject → ℕ → ℕ → ℕ → Type 0
+IsPinBroken p (planned routes pins) r i n = IsOffPin routes pins r i n
+IsPinBroken p (printed routes cost) r i n = ⊥
+
+-- 11: the printed cost is not the distance
+abbrev pub IsCostBroken : Instance → Subject → ℕ → ℕ → ℕ → Type 0
+IsCostBroken p (planned routes pins) r i n = ⊥
+IsCostBroken p (printed routes cost) r i n = IsOfNoRoute r i × (n ≡ 0) × (cost ≢ total_length p routes)
+
+-- the rule is broken at place i of route r, with stop n to tell
+abbrev pub Breaks : Instance → Subject → Rule → ℕ → ℕ → ℕ → Type 0
+Breaks p s UnknownStop r i n = IsUnknown p (routes_of s) r i n
+Breaks p s Twice r i n = IsRepeated p (routes_of s) r i n
+Breaks p s Missing r i n = IsMissingIn p s r i n
+Breaks p s SplitPair r i n = IsSplit p (routes_of s) r i n
+Breaks p s DeliveryFirst r i n = IsDeliveredFirst p (routes_of s) r i n
+Breaks p s Load r i n = IsOverloaded p (routes_of s) r i n
+Breaks p s Late r i n = IsLate p (routes_of s) r i n
+Breaks p s LateReturn r i n = IsLateReturn p (routes_of s) r i n
+Breaks p s Fleet r i n = IsFleetBroken p s r i n
+Breaks p s Pin r i n = IsPinBroken p s r i n
+Breaks p s PrintedCost r i n = IsCostBroken p s r i n
+
+-- no rule from low to high is broken
+abbrev pub KeepsRules : ℕ → ℕ → Instance → Subject → Type 0
+KeepsRules low high p s = (k : Rule) (r i n : ℕ) → low ≤ rule_number k → rule_number k ≤ high → Breaks p s k r i n → ⊥
+
+-- the rule is broken there, and no rule from low to high is broken at less by rule, route, place and stop
+pub record IsLeastBroken (low high : ℕ) (p : Instance) (s : Subject) (k : Rule) (r i n : ℕ) : Type 0 where
+  pub from : low ≤ rule_number k
+  pub to : rule_number k ≤ high
+  pub broken : Breaks p s k r i n
+  pub least : (m : Rule) (q j t : ℕ) → low ≤ rule_number m → rule_number m ≤ high → Breaks p s m q j t → (rule_number k < rule_number m) ⊎ ((rule_number k ≡ rule_number m) × IsNotAfter r i n q j t)
+
+-- an answer that tells the least broken rule
+abbrev pub IsBrokenOver : ℕ → ℕ → Instance → Subject → Verdict → Type 0
+IsBrokenOver low high p s (Pass cost) = ⊥
+IsBrokenOver low high p s (Broken rule r i n) = (k : Rule) × (rule ≡ rule_number k) × IsLeastBroken low high p s k r i n
+
+-- the verdict over the rules from low to high: the least broken one, or pass with the cost where none is broken
+abbrev pub IsVerdictOver : ℕ → ℕ → Instance → Subject → Verdict → Type 0
+IsVerdictOver low high p s (Pass cost) = KeepsRules low high p s × (cost ≡ cost_of p (routes_of s))
+IsVerdictOver low high p s (Broken rule r i n) = (k : Rule) × (rule ≡ rule_number k) × IsLeastBroken low high p s k r i n
+
+-- the verdict of the auditor
+abbrev pub IsVerdict : Instance → Subject → Verdict → Type 0
+IsVerdict = IsVerdictOver 1 11

@@ -1,0 +1,93 @@
+//! The audit itself: rule after rule, until one is broken.
+ghost use Rattle.std.specs.Prelude.{◌≡◌, ℕ, All, IfOk, MatchOption};
+ghost use Rattle.route_sched.specs.Route.{AreLiveOnce};
+ghost use Rattle.plan_types.specs.Instance.{IsInstance};
+ghost use Rattle.plan_audit.specs.Verdict.{Subject, printed, routes_of, KeepsRules, IsBrokenOver, IsVerdict};
+
+use crate::fleet::first_beyond;
+use crate::rules::{Rule, Verdict};
+use crate::scan::Scan;
+use crate::seats::seats;
+use crate::timing::{first_late, first_late_return, first_overload};
+use plan_types::{Kind, OutOfMemory, Plan, Problem, Route};
+use route_sched::plan_cost;
+use sol_text::Solution;
+use std::alloc::Global;
+
+/// Audits a printed solution: the least broken rule, by rule, route, place and stop, or pass with the cost. A printed solution has no
+/// pins, so rule 10 is not asked.
+pub fn audit_solution(
+    alloc: Global,
+    problem: &Problem,
+    solution: &Solution,
+) -> Result<Verdict, OutOfMemory>
+    ensures { IfOk result (IsVerdict problem.now (printed solution.now.routes solution.now.cost)) }
+{
+    let routes = solution.routes.as_slice();
+    let seats = seats(alloc, problem.next_number as usize, routes)?;
+    let scan = Scan {
+        problem,
+        routes,
+        seats: seats.as_slice(),
+    };
+    if let Some(broken) = misplaced(&scan) {
+        return Ok(broken);
+    }
+    if let Some(broken) = mistimed(problem, routes) {
+        return Ok(broken);
+    }
+    if let Some(route) = first_beyond(problem.fleet, routes) {
+        return Ok(Rule::Fleet.broken_from(route));
+    }
+    let plan = Plan {
+        routes: solution.routes.copy()?,
+    };
+    let cost = plan_cost(problem, &plan);
+    if cost.distance != solution.cost {
+        return Ok(Rule::PrintedCost.broken_by(0));
+    }
+    Ok(Verdict::Pass(cost))
+}
+
+// The least broken one of the rules on where stops stand.
+fn misplaced(scan: &Scan) -> Option<Verdict>
+    requires { IsInstance scan.now.problem.now }
+    ensures least { (cost : ℕ) → MatchOption result (KeepsRules 1 5 scan.now.problem.now (printed scan.now.routes.now cost)) (IsBrokenOver 1 5 scan.now.problem.now (printed scan.now.routes.now cost)) }
+{
+    if let Some(fault) = scan.first_unknown() {
+        return Some(Rule::UnknownStop.broken_at(fault));
+    }
+    if let Some(fault) = scan.first_repeated() {
+        return Some(Rule::Twice.broken_at(fault));
+    }
+    if let Some(name) = scan.first_unserved() {
+        return Some(Rule::Missing.broken_by(name));
+    }
+    if let Some(fault) = scan.first_missing() {
+        return Some(Rule::Missing.broken_at(fault));
+    }
+    if let Some(fault) = scan.first_split() {
+        return Some(Rule::SplitPair.broken_at(fault));
+    }
+    let fault = scan.first_delivered()?;
+    Some(Rule::DeliveryFirst.broken_at(fault))
+}
+
+// The least broken one of the rules on loads and times.
+fn mistimed(problem: &Problem, routes: &[Route]) -> Option<Verdict>
+    requires { All (AreLiveOnce problem.now) routes.now }
+    ensures least { (s : Subject) → routes_of s ≡ routes.now → MatchOption result (KeepsRules 6 8 problem.now s) (IsBrokenOver 6 8 problem.now s) }
+{
+    if let Some(fault) = first_overload(problem, routes) {
+        return Some(Rule::Load.broken_at(fault));
+    }
+    match problem.kind {
+        Kind::LiLim => {}
+        Kind::Vrp => return None,
+    }
+    if let Some(fault) = first_late(problem, routes) {
+        return Some(Rule::Late.broken_at(fault));
+    }
+    let fault = first_late_return(problem, routes)?;
+    Some(Rule::LateReturn.broken_at(fault))
+}

@@ -1,0 +1,58 @@
+//! The search for the first place that breaks a rule. Routes and places count from 0 here.
+ghost use Rattle.std.specs.Prelude.{◌≡◌, ℕ, ◌+◌, ◌^◌, ◌<◌, List, Option, Contains, IfSome, length};
+ghost use Rattle.plan_audit.specs.Passes.{first_place, first_route};
+ghost use Rattle.std.specs.Borrow.{Bor};
+ghost use Rattle.plan_audit.specs.declared.faults.Told.{Told};
+
+use plan_types::Route;
+
+/// A place of a route that breaks a rule, and the stop to tell.
+#[derive(Clone, Copy, Debug, PartialEq, Eq)]
+pub(crate) struct Told {
+    pub place: usize,
+    pub stop: u32,
+}
+
+/// A place of a plan that breaks a rule, and the stop to tell.
+#[derive(Clone, Copy, Debug, PartialEq, Eq)]
+pub(crate) struct Fault {
+    pub route: usize,
+    pub place: usize,
+    pub stop: u32,
+}
+
+/// What the test answers first: it is given each place with its stop.
+pub(crate) fn first_place<F: Fn(usize, u32) -> Option<u32>>(route: &[u32], test: F) -> Option<Told>
+    requires { F.IsAlwaysCallable test }
+    ensures told { (tells : ℕ → ℕ → Option ℕ) → ((i n : ℕ) (o : Option ℕ) → Contains route.now n → F.post test i n o → o ≡ tells i n) → result ≡ first_place tells 0 route.now }
+    ensures fits { IfSome result (λ t. t.place + 1 < 2 ^ 64) }
+{
+    for (place, stop) in route.iter().enumerate() {
+        if let Some(stop) = test(place, *stop) {
+            return Some(Told { place, stop });
+        }
+    }
+    None
+}
+
+/// What the test of routes answers first: it is given each route with its number.
+pub(crate) fn first_fault<F: Fn(usize, &[u32]) -> Option<Told>>(
+    routes: &[Route],
+    test: F,
+) -> Option<Fault>
+    requires { (k : ℕ) (route : Bor (List ℕ)) → Contains routes.now route.now → F.pre test k route }
+    ensures told { (tells : ℕ → List ℕ → Option Told) → ((k : ℕ) (route : Bor (List ℕ)) (o : Option Told) → Contains routes.now route.now → F.post test k route o → o ≡ tells k route.now) → result ≡ first_route tells 0 routes.now }
+    ensures route { IfSome result (λ f. f.route + 1 < 2 ^ 64) }
+    ensures place { ((k : ℕ) (route : Bor (List ℕ)) (o : Option Told) → F.post test k route o → IfSome o (λ t. t.place + 1 < 2 ^ 64)) → IfSome result (λ f. f.place + 1 < 2 ^ 64) }
+{
+    for (number, route) in routes.iter().enumerate() {
+        if let Some(told) = test(number, route.as_slice()) {
+            return Some(Fault {
+                route: number,
+                place: told.place,
+                stop: told.stop,
+            });
+        }
+    }
+    None
+}

@@ -1,0 +1,22 @@
+//! The rule on the number of vehicles.
+ghost use Rattle.std.specs.Prelude.{◌≡◌, ◌+◌, ◌<◌, ◌^◌, IfSome};
+ghost use Rattle.plan_audit.specs.Passes.{first_beyond};
+
+use plan_types::Route;
+
+/// The first route that is used beyond so many vehicles, counted from 0.
+pub(crate) fn first_beyond(fleet: u32, routes: &[Route]) -> Option<usize>
+    ensures told { result ≡ first_beyond fleet 0 routes.now }
+    ensures fits { IfSome result (λ k. k + 1 < 2 ^ 64) }
+{
+    let mut left = fleet;
+    for (number, route) in routes.iter().enumerate() {
+        if !route.as_slice().is_empty() {
+            if left == 0 {
+                return Some(number);
+            }
+            left -= 1;
+        }
+    }
+    None
+}

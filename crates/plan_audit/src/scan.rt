@@ -1,0 +1,196 @@
+//! The rules that speak of where stops stand.
+ghost use Rattle.std.specs.Prelude.{◌≡◌, ℕ, ◌^◌, ◌+◌, ◌<◌, ◌≤◌, length, List, None, Option, All, IfSome, slice_index_or, slice_get};
+ghost use Rattle.std.specs.Option.{option_and_then};
+ghost use Rattle.plan_audit.specs.Passes.{first_place, first_route, told_by, is_served, first_unserved, unserved_in, seat_of, unknown_at, repeated_at, missing_at, split_at, delivered_at};
+ghost use Rattle.std.specs.List.{AllByRecursion};
+ghost use Rattle.plan_types.specs.Request.{stops_of};
+
+use crate::faults::{Fault, Told, first_fault, first_place};
+use crate::pairs::{partner, pickup};
+use crate::seats::Seat;
+use plan_types::{Problem, Request, Route};
+
+/// A plan under audit, with the first seat of each stop number.
+#[derive(Drop)]
+pub(crate) struct Scan<'a> {
+    pub problem: &'a Problem,
+    pub routes: &'a [Route],
+    pub seats: &'a [Option<Seat>],
+    ghost sized: { problem.now.next_number ≤ length seats.now },
+    ghost seated: { (n : ℕ) → n < length seats.now → slice_index_or seats.now n None ≡ seat_of routes.now n },
+}
+
+impl Scan<'_> {
+    // The first seat of a stop number of the problem.
+    fn seat(&self, stop: u32) -> Option<Seat>
+        ensures { stop < self.now.problem.now.next_number → result ≡ seat_of self.now.routes.now stop }
+    {
+        self.seats.get(stop as usize).copied().flatten()
+    }
+
+    /// The first stop of the plan that is of no request.
+    pub(crate) fn first_unknown(&self) -> Option<Fault>
+        ensures told { result ≡ first_route (told_by (λ _ _ _ n. unknown_at self.now.problem.now self.now.routes.now n)) 0 self.now.routes.now }
+        ensures route { IfSome result (λ f. f.route + 1 < 2 ^ 64) }
+        ensures place { IfSome result (λ f. f.place + 1 < 2 ^ 64) }
+    {
+        first_fault(self.routes, |_, route| self.unknown(route))
+    }
+
+    /// The first stop of the plan that stands at an earlier place too.
+    pub(crate) fn first_repeated(&self) -> Option<Fault>
+        requires { All (λ route. All (λ n. n < self.now.problem.now.next_number) route) self.now.routes.now }
+        ensures told { result ≡ first_route (told_by (λ r _ i n. repeated_at self.now.problem.now self.now.routes.now r i n)) 0 self.now.routes.now }
+        ensures route { IfSome result (λ f. f.route + 1 < 2 ^ 64) }
+        ensures place { IfSome result (λ f. f.place + 1 < 2 ^ 64) }
+    {
+        first_fault(self.routes, |number, route| self.repeated(number, route))
+    }
+
+    /// The first stop of the plan whose partner is in no route; the partner is told.
+    pub(crate) fn first_missing(&self) -> Option<Fault>
+        ensures told { result ≡ first_route (told_by (λ _ _ _ n. missing_at self.now.problem.now self.now.routes.now n)) 0 self.now.routes.now }
+        ensures route { IfSome result (λ f. f.route + 1 < 2 ^ 64) }
+        ensures place { IfSome result (λ f. f.place + 1 < 2 ^ 64) }
+    {
+        first_fault(self.routes, |_, route| self.missing(route))
+    }
+
+    /// The first stop of the plan whose partner is in another route.
+    pub(crate) fn first_split(&self) -> Option<Fault>
+        ensures told { result ≡ first_route (told_by (λ r _ _ n. split_at self.now.problem.now self.now.routes.now r n)) 0 self.now.routes.now }
+        ensures route { IfSome result (λ f. f.route + 1 < 2 ^ 64) }
+        ensures place { IfSome result (λ f. f.place + 1 < 2 ^ 64) }
+    {
+        first_fault(self.routes, |number, route| self.split(number, route))
+    }
+
+    /// The first delivery of the plan whose pickup stands later in its route.
+    pub(crate) fn first_delivered(&self) -> Option<Fault>
+        ensures told { result ≡ first_route (told_by (λ _ _ i n. delivered_at self.now.problem.now self.now.routes.now i n)) 0 self.now.routes.now }
+        ensures route { IfSome result (λ f. f.route + 1 < 2 ^ 64) }
+        ensures place { IfSome result (λ f. f.place + 1 < 2 ^ 64) }
+    {
+        first_fault(self.routes, |_, route| self.delivered(route))
+    }
+
+    /// The least name of a request with no stop in any route.
+    pub(crate) fn first_unserved(&self) -> Option<u32>
+        ensures { result ≡ first_unserved self.now.routes.now self.now.problem.now.requests }
+    {
+        let problem = self.problem;
+        for index in 0..problem.requests.len() {
+            if let Some(name) = self.unserved_at(index) {
+                return Some(name);
+            }
+        }
+        None
+    }
+
+    // The name of the request at this index, where it is not served.
+    fn unserved_at(&self, index: usize) -> Option<u32>
+        ensures { result ≡ option_and_then (unserved_in self.now.routes.now) (slice_get self.now.problem.now.requests index) }
+    {
+        let problem = self.problem;
+        let (name, request) = problem.requests.get_index(index)?;
+        if self.is_served(request) {
+            None
+        } else {
+            Some(*name)
+        }
+    }
+
+    fn is_served(&self, request: &Request) -> bool
+        ensures { AllByRecursion (λ s. s.number < self.now.problem.now.next_number) (stops_of request.now) → result ≡ is_served self.now.routes.now request.now }
+    {
+        match request {
+            Request::Single(stop) => self.seat(stop.number).is_some(),
+            Request::Pair(pickup, delivery) => {
+                self.seat(pickup.number).is_some() || self.seat(delivery.number).is_some()
+            }
+        }
+    }
+
+    // The first stop of a route that is of no request.
+    fn unknown(&self, route: &[u32]) -> Option<Told>
+        ensures told { result ≡ first_place (λ _ n. unknown_at self.now.problem.now self.now.routes.now n) 0 route.now }
+        ensures fits { IfSome result (λ t. t.place + 1 < 2 ^ 64) }
+    {
+        first_place(route, |_, stop| match self.problem.stop(stop) {
+            Some(_) => None,
+            None => Some(stop),
+        })
+    }
+
+    // The first stop of a route that stands at an earlier place too.
+    fn repeated(&self, number: usize, route: &[u32]) -> Option<Told>
+        requires { All (λ n. n < self.now.problem.now.next_number) route.now }
+        ensures told { result ≡ first_place (repeated_at self.now.problem.now self.now.routes.now number) 0 route.now }
+        ensures fits { IfSome result (λ t. t.place + 1 < 2 ^ 64) }
+    {
+        first_place(route, |place, stop| self.repeated_stop(number, place, stop))
+    }
+
+    fn repeated_stop(&self, number: usize, place: usize, stop: u32) -> Option<u32>
+        ensures { stop < self.now.problem.now.next_number → result ≡ repeated_at self.now.problem.now self.now.routes.now number place stop }
+    {
+        let seat = self.seat(stop)?;
+        if seat.route == number && seat.place == place {
+            None
+        } else {
+            Some(stop)
+        }
+    }
+
+    // The first stop of a route whose partner is in no route.
+    fn missing(&self, route: &[u32]) -> Option<Told>
+        ensures told { result ≡ first_place (λ _ n. missing_at self.now.problem.now self.now.routes.now n) 0 route.now }
+        ensures fits { IfSome result (λ t. t.place + 1 < 2 ^ 64) }
+    {
+        first_place(route, |_, stop| self.missing_partner(stop))
+    }
+
+    fn missing_partner(&self, stop: u32) -> Option<u32>
+        ensures { result ≡ missing_at self.now.problem.now self.now.routes.now stop }
+    {
+        let partner = partner(self.problem, stop)?;
+        match self.seat(partner) {
+            Some(_) => None,
+            None => Some(partner),
+        }
+    }
+
+    // The first stop of a route whose partner is in another one.
+    fn split(&self, number: usize, route: &[u32]) -> Option<Told>
+        ensures told { result ≡ first_place (λ _ n. split_at self.now.problem.now self.now.routes.now number n) 0 route.now }
+        ensures fits { IfSome result (λ t. t.place + 1 < 2 ^ 64) }
+    {
+        first_place(route, |_, stop| self.split_stop(number, stop))
+    }
+
+    fn split_stop(&self, number: usize, stop: u32) -> Option<u32>
+        ensures { result ≡ split_at self.now.problem.now self.now.routes.now number stop }
+    {
+        let seat = self.seat(partner(self.problem, stop)?)?;
+        if seat.route == number {
+            None
+        } else {
+            Some(stop)
+        }
+    }
+
+    // The first delivery of a route whose pickup stands later.
+    fn delivered(&self, route: &[u32]) -> Option<Told>
+        ensures told { result ≡ first_place (delivered_at self.now.problem.now self.now.routes.now) 0 route.now }
+        ensures fits { IfSome result (λ t. t.place + 1 < 2 ^ 64) }
+    {
+        first_place(route, |place, stop| self.delivered_stop(place, stop))
+    }
+
+    fn delivered_stop(&self, place: usize, stop: u32) -> Option<u32>
+        ensures { result ≡ delivered_at self.now.problem.now self.now.routes.now place stop }
+    {
+        let seat = self.seat(pickup(self.problem, stop)?)?;
+        if place < seat.place { Some(stop) } else { None }
+    }
+}

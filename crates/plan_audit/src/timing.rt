@@ -1,0 +1,120 @@
+//! The rules that speak of loads and times.
+ghost use Rattle.std.specs.Prelude.{◌≡◌, ℕ, ◌^◌, ◌<◌, ◌↔◌, ◌+◌, Bool, IsTrue, IfSome, All, length, int_lt, pos};
+ghost use Rattle.route_sched.specs.Route.{AreLiveOnce};
+ghost use Rattle.route_sched.specs.Schedule.{start};
+ghost use Rattle.route_sched.specs.declared.visits.Visit.{Visit};
+ghost use Rattle.plan_audit.specs.Passes.{first_place, first_route, told_by, return_told, visit_told, is_overloaded, is_late};
+
+use crate::faults::{Fault, Told, first_fault};
+use plan_types::{Problem, Route};
+use route_sched::{Visit, Visits};
+
+/// The first stop of the plan after which a vehicle carries more than it can.
+pub(crate) fn first_overload(problem: &Problem, routes: &[Route]) -> Option<Fault>
+    requires { All (AreLiveOnce problem.now) routes.now }
+    ensures told { result ≡ first_route (told_by (λ _ route i n. visit_told problem.now (is_overloaded problem.now) route i n)) 0 routes.now }
+    ensures route { IfSome result (λ f. f.route + 1 < 2 ^ 64) }
+    ensures place { IfSome result (λ f. f.place + 1 < 2 ^ 64) }
+{
+    first_fault(routes, |_, route| overload(problem, route))
+}
+
+/// The first stop of the plan whose service starts too late.
+pub(crate) fn first_late(problem: &Problem, routes: &[Route]) -> Option<Fault>
+    requires { All (AreLiveOnce problem.now) routes.now }
+    ensures told { result ≡ first_route (told_by (λ _ route i n. visit_told problem.now is_late route i n)) 0 routes.now }
+    ensures route { IfSome result (λ f. f.route + 1 < 2 ^ 64) }
+    ensures place { IfSome result (λ f. f.place + 1 < 2 ^ 64) }
+{
+    first_fault(routes, |_, route| late_stop(problem, route))
+}
+
+/// The first vehicle of the plan that is back too late; the place behind its last stop is told.
+pub(crate) fn first_late_return(problem: &Problem, routes: &[Route]) -> Option<Fault>
+    requires { All (AreLiveOnce problem.now) routes.now }
+    ensures told { result ≡ first_route (λ _ route. return_told problem.now route) 0 routes.now }
+    ensures route { IfSome result (λ f. f.route + 1 < 2 ^ 64) }
+    ensures place { IfSome result (λ f. f.place + 1 < 2 ^ 64) }
+{
+    first_fault(routes, |_, route| late_return(problem, route))
+}
+
+// The return of a vehicle that leaves the depot and is back too late.
+fn late_return(problem: &Problem, route: &[u32]) -> Option<Told>
+    requires { AreLiveOnce problem.now route.now }
+    ensures told { result ≡ return_told problem.now route.now }
+    ensures fits { IfSome result (λ t. t.place + 1 < 2 ^ 64) }
+{
+    if route.is_empty() || !returns_late(problem, route) {
+        return None;
+    }
+    Some(Told {
+        place: route.len(),
+        stop: 0,
+    })
+}
+
+// The first stop after which the vehicle carries more than it can.
+fn overload(problem: &Problem, route: &[u32]) -> Option<Told>
+    requires { AreLiveOnce problem.now route.now }
+    ensures told { result ≡ first_place (visit_told problem.now (is_overloaded problem.now) route.now) 0 route.now }
+    ensures fits { IfSome result (λ t. t.place + 1 < 2 ^ 64) }
+{
+    let capacity = problem.capacity;
+    first_visit(problem, route, |visit| carries_more(&visit, capacity))
+}
+
+fn carries_more(visit: &Visit, capacity: u32) -> bool
+    ensures { result ≡ int_lt (pos capacity) visit.now.load }
+{
+    visit.load > i64::from(capacity)
+}
+
+// The first stop whose service starts too late.
+fn late_stop(problem: &Problem, route: &[u32]) -> Option<Told>
+    requires { AreLiveOnce problem.now route.now }
+    ensures told { result ≡ first_place (visit_told problem.now is_late route.now) 0 route.now }
+    ensures fits { IfSome result (λ t. t.place + 1 < 2 ^ 64) }
+{
+    first_visit(problem, route, |visit| {
+        visit.start > u64::from(visit.stop.latest)
+    })
+}
+
+// The first stop whose visit fails the test.
+fn first_visit<F: Fn(Visit) -> bool>(problem: &Problem, route: &[u32], fails: F) -> Option<Told>
+    requires once { AreLiveOnce problem.now route.now }
+    requires callable { F.IsAlwaysCallable fails }
+    ensures told { (test : Visit → Bool) → ((v : Visit) (b : Bool) → F.post fails v b → b ≡ test v) → result ≡ first_place (visit_told problem.now test route.now) 0 route.now }
+    ensures fits { IfSome result (λ t. t.place + 1 < 2 ^ 64) }
+{
+    let mut visits = Visits::new(problem, route);
+    for (place, stop) in route.iter().enumerate() {
+        let Some(visit) = visits.next() else {
+            break;
+        };
+        if fails(visit) {
+            return Some(Told { place, stop: *stop });
+        }
+    }
+    None
+}
+
+// Whether the vehicle is back after the depot's latest time.
+fn returns_late(problem: &Problem, route: &[u32]) -> bool
+    requires { AreLiveOnce problem.now route.now }
+    ensures { IsTrue result ↔ (problem.now.depot.latest < start problem.now route.now (length route.now + 1)) }
+{
+    u64::from(problem.depot.latest) < time_back(problem, route)
+}
+
+// When the vehicle is back at the depot.
+fn time_back(problem: &Problem, route: &[u32]) -> u64
+    requires { AreLiveOnce problem.now route.now }
+    ensures { result ≡ start problem.now route.now (length route.now + 1) }
+{
+    match Visits::new(problem, route).nth(route.len()) {
+        Some(visit) => visit.start,
+        None => unreachable!(),
+    }
+}

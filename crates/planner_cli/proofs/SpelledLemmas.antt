@@ -1,0 +1,27 @@
+-- A text spells one value at most, and none where it has a fault.
+use Rattle.std.proofs.Common.{◌≡◌, ◌∙◌, ℕ, List, ◌∷◌, sym, ap, subst, inl, inr}
+use Rattle.plan_types.specs.Instance.{Instance}
+use Rattle.plan_types.specs.declared.requests.Kind.TheVariants.{LiLim}
+use Rattle.instance_read.specs.Lilim.{SpellsLilim, problem_from}
+use Rattle.sol_text.specs.Faults.{Spells}
+use Rattle.sol_text.specs.declared.read.Solution.{Solution}
+use Rattle.planner_cli.specs.Answer.{IsAnswer, JudgesSpelled, TellsVerdict}
+use Rattle.planner_cli.specs.declared.answer.AuditAnswer.{AuditAnswer}
+
+problem_once : (text : List ℕ) (p q : Instance) → SpellsLilim text p → SpellsLilim text q → p ≡ q
+problem_once text p q a b =
+    let rows : a.1 ∷ a.2 ∷ a.3 ≡ b.1 ∷ b.2 ∷ b.3 = sym a.4 ∙ b.4 in
+    let header : a.1 ≡ b.1 = cc in
+    let depot : a.2 ≡ b.2 = cc in
+    let customers : a.3 ≡ b.3 = cc in
+    a.5 ∙ (ap (λ h. problem_from h a.2 a.3) header ∙ (ap (λ d. problem_from b.1 d a.3) depot ∙ ap (λ c. problem_from b.1 b.2 c) customers)) ∙ sym b.5
+
+solution_once : (text : List ℕ) (s t : Solution) → Spells text s → Spells text t → s ≡ t
+solution_once text s t a b = a.1 ∙ sym b.1
+
+pub judges_spelled : (instance solution : List ℕ) (answer : AuditAnswer) → IsAnswer LiLim instance solution answer → JudgesSpelled instance solution answer
+judges_spelled instance solution answer (inl refuses) p s a b = absurd (a.0 refuses.first.0 refuses.fault.line refuses.fault.kind refuses.first.1)
+judges_spelled instance solution answer (inr (inl refuses)) p s a b = absurd (b.0 refuses.fault.line refuses.fault.kind refuses.first.0)
+judges_spelled instance solution answer (inr (inr judges)) p s a b =
+    subst (λ (q : Instance). TellsVerdict q s answer) (problem_once instance judges.problem p judges.problem_spelled a)
+    (subst (λ (t : Solution). TellsVerdict judges.problem t answer) (solution_once solution judges.plan s judges.plan_spelled b) judges.verdict)

@@ -1,0 +1,15 @@
+-- The lines that answer an audit, byte by byte. Numbers are in decimal.
+use Rattle.std.specs.Prelude.{ℕ, List, ◌++◌, codes, decimal}
+use Rattle.plan_types.specs.declared.plans.Cost.{Cost}
+
+-- no rule is broken: `pass UNPLANNED VEHICLES DISTANCE`
+abbrev pub pass_text : Cost → List ℕ
+pass_text cost = codes "pass " ++ decimal cost.unplanned ++ codes " " ++ decimal cost.vehicles ++ codes " " ++ decimal cost.distance
+
+-- the least broken rule, and where: `broken RULE route R place P stop S`
+abbrev pub broken_text : ℕ → ℕ → ℕ → ℕ → List ℕ
+broken_text rule route place stop = codes "broken " ++ decimal rule ++ codes " route " ++ decimal route ++ codes " place " ++ decimal place ++ codes " stop " ++ decimal stop
+
+-- a text that spells no value: `TEXT NAME LINE`, with the name of its fault
+abbrev pub fault_text : List ℕ → List ℕ → ℕ → List ℕ
+fault_text text name line = text ++ codes " " ++ name ++ codes " " ++ decimal line

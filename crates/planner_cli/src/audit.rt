@@ -1,0 +1,102 @@
+//! The audit of two texts.
+ghost use Rattle.std.specs.Prelude.{◌≡◌, ◌≢◌, ◌≤◌, IfOk, codes};
+ghost use Rattle.instance_read.specs.Names as instance_names;
+ghost use Rattle.sol_text.specs.Names as solution_names;
+ghost use Rattle.planner_cli.specs.Answer.{IsAnswer, JudgesSpelled, refused_answer, verdict_answer};
+
+use crate::answer::{AuditAnswer, broken_line, fault_line, pass_line};
+use crate::status::{BROKEN, DONE, REFUSED};
+use instance_read::{ReadFault, ReadFaultKind, read_lilim};
+use plan_audit::{Verdict, audit_solution};
+use plan_types::{Kind, OutOfMemory};
+use sol_text::{SolFault, SolFaultKind, read_sol};
+use std::alloc::{AllocError, Global};
+
+/// Audits a solution's text against an instance's text.
+///
+/// The line is `pass UNPLANNED VEHICLES DISTANCE` with status 0, `broken RULE route R place P stop S` with
+/// status 1 for the least broken rule, or `instance NAME LINE` or `solution NAME LINE` with status 2 for a text
+/// that is refused, the instance first. Instances of kind `Vrp` are not read yet: `instance Unsupported 1`.
+pub fn audit_text(
+    alloc: Global,
+    kind: Kind,
+    instance: &[u8],
+    solution: &[u8],
+) -> Result<AuditAnswer, OutOfMemory>
+    ensures answer { IfOk result (IsAnswer kind instance.now solution.now) }
+    ensures verdict { kind ≡ Kind.LiLim → IfOk result (JudgesSpelled instance.now solution.now) }
+    ensures status { IfOk result (λ answer. answer.status ≤ 2) }
+{
+    match kind {
+        Kind::LiLim => audit_lilim(alloc, instance, solution),
+        Kind::Vrp => refused(alloc, "instance", "Unsupported", 1),
+    }
+}
+
+fn audit_lilim(alloc: Global, instance: &[u8], solution: &[u8]) -> Result<AuditAnswer, OutOfMemory>
+    ensures answer { IfOk result (IsAnswer Kind.LiLim instance.now solution.now) }
+    ensures status { IfOk result (λ answer. answer.status ≤ 2) }
+{
+    let problem = match read_lilim(alloc, instance) {
+        Ok(problem) => problem,
+        Err(fault) => return instance_refused(alloc, fault),
+    };
+    let solution = match read_sol(alloc, solution) {
+        Ok(solution) => solution,
+        Err(fault) => return solution_refused(alloc, fault),
+    };
+    let verdict = audit_solution(alloc, &problem, &solution)?;
+    verdict_told(alloc, verdict)
+}
+
+fn instance_refused(alloc: Global, fault: ReadFault) -> Result<AuditAnswer, OutOfMemory>
+    ensures memory { IfOk result (λ _. fault.kind ≢ ReadFaultKind.OutOfMemory) }
+    ensures answer { IfOk result (λ answer.
+        answer ≡ refused_answer (codes "instance") (instance_names.kind_name fault.kind) fault.line) }
+{
+    match fault.kind {
+        ReadFaultKind::OutOfMemory => Err(AllocError),
+        _ => refused(alloc, "instance", fault.name(), fault.line),
+    }
+}
+
+fn solution_refused(alloc: Global, fault: SolFault) -> Result<AuditAnswer, OutOfMemory>
+    ensures memory { IfOk result (λ _. fault.kind ≢ SolFaultKind.OutOfMemory) }
+    ensures answer { IfOk result (λ answer.
+        answer ≡ refused_answer (codes "solution") (solution_names.kind_name fault.kind) fault.line) }
+{
+    match fault.kind {
+        SolFaultKind::OutOfMemory => Err(AllocError),
+        _ => refused(alloc, "solution", fault.name(), fault.line),
+    }
+}
+
+fn refused(alloc: Global, text: &str, name: &str, line: u64) -> Result<AuditAnswer, OutOfMemory>
+    ensures { IfOk result (λ answer. answer ≡ refused_answer text.now name.now line) }
+{
+    let line = fault_line(alloc, text, name, line)?;
+    Ok(AuditAnswer {
+        line,
+        status: REFUSED,
+    })
+}
+
+fn verdict_told(alloc: Global, verdict: Verdict) -> Result<AuditAnswer, OutOfMemory>
+    ensures { IfOk result (λ answer. answer ≡ verdict_answer verdict) }
+{
+    match verdict {
+        Verdict::Pass(cost) => Ok(AuditAnswer {
+            line: pass_line(alloc, cost)?,
+            status: DONE,
+        }),
+        Verdict::Broken {
+            rule,
+            route,
+            place,
+            stop,
+        } => Ok(AuditAnswer {
+            line: broken_line(alloc, rule, route, place, stop)?,
+            status: BROKEN,
+        }),
+    }
+}

@@ -1,0 +1,16 @@
+//! The texts of the program: what its words ask for, and the lines that answer them.
+#![tactic(auto)]
+
+pub mod answer;
+mod audit;
+mod program;
+pub mod status;
+mod words;
+
+pub use answer::{AuditAnswer, Line};
+pub use audit::audit_text;
+pub use program::run_words;
+pub use words::{Invocation, read_words};
+
+#[cfg(test)]
+mod tests;

@@ -1,0 +1,154 @@
+use crate::{Invocation, audit_text, read_words};
+use clap::error::ErrorKind;
+use plan_types::Kind;
+use std::test::Fail;
+
+/// One pickup and its delivery, with the capacity, the depot's latest return and the delivery's latest start in turn.
+const ONE_PAIR: &str = "2 10 1\n0 0 0 0 0 100 0 0 0\n1 3 4 4 0 50 2 0 2\n2 6 8 -4 0 60 2 1 0\n";
+
+const LATEST_11: &str = "2 10 1\n0 0 0 0 0 100 0 0 0\n1 3 4 4 0 50 2 0 2\n2 6 8 -4 0 11 2 1 0\n";
+
+const LATEST_12: &str = "2 10 1\n0 0 0 0 0 100 0 0 0\n1 3 4 4 0 50 2 0 2\n2 6 8 -4 0 12 2 1 0\n";
+
+const RETURN_23: &str = "2 10 1\n0 0 0 0 0 23 0 0 0\n1 3 4 4 0 50 2 0 2\n2 6 8 -4 0 60 2 1 0\n";
+
+const RETURN_24: &str = "2 10 1\n0 0 0 0 0 24 0 0 0\n1 3 4 4 0 50 2 0 2\n2 6 8 -4 0 60 2 1 0\n";
+
+const CAPACITY_3: &str = "2 3 1\n0 0 0 0 0 100 0 0 0\n1 3 4 4 0 50 2 0 2\n2 6 8 -4 0 60 2 1 0\n";
+
+const OTHER_PICKUP: &str = "2 10 1\n0 0 0 0 0 100 0 0 0\n1 3 4 4 0 50 2 0 2\n2 6 8 -4 0 60 2 3 0\n";
+
+const BOTH: &str = "Route #1: 1 2\nCost 20\n";
+
+#[test]
+fn audits(rt: HostRuntime) -> Result<(), Fail> {
+    for (instance, solution, line, status) in [
+        (ONE_PAIR, BOTH, "pass 0 1 20", 0),
+        (
+            ONE_PAIR,
+            "Route #1: 2 1\nCost 20\n",
+            "broken 5 route 1 place 1 stop 2",
+            1,
+        ),
+        (LATEST_11, BOTH, "broken 7 route 1 place 2 stop 2", 1),
+        (LATEST_12, BOTH, "pass 0 1 20", 0),
+        (RETURN_23, BOTH, "broken 8 route 1 place 3 stop 0", 1),
+        (RETURN_24, BOTH, "pass 0 1 20", 0),
+        (CAPACITY_3, BOTH, "broken 6 route 1 place 1 stop 1", 1),
+        (
+            ONE_PAIR,
+            "Route #1: 1\nCost 10\n",
+            "broken 3 route 1 place 1 stop 2",
+            1,
+        ),
+        (ONE_PAIR, "Cost 0\n", "broken 3 route 0 place 0 stop 1", 1),
+        (
+            ONE_PAIR,
+            "Route #1: 1\nRoute #2: 2\nCost 30\n",
+            "broken 4 route 1 place 1 stop 1",
+            1,
+        ),
+        (
+            ONE_PAIR,
+            "Route #1: 1 2 1\nCost 20\n",
+            "broken 2 route 1 place 3 stop 1",
+            1,
+        ),
+        (
+            LATEST_11,
+            "Route #1: 1 2\nRoute #2: 9\nCost 20\n",
+            "broken 1 route 2 place 1 stop 9",
+            1,
+        ),
+        ("", BOTH, "instance Truncated 1", 2),
+        (OTHER_PICKUP, BOTH, "instance PairMismatch 3", 2),
+        (
+            ONE_PAIR,
+            "Route #1: 1\nRoute #2: 2\n",
+            "solution NoCost 3",
+            2,
+        ),
+        ("", "", "instance Truncated 1", 2),
+    ] {
+        let answer = audit_text(
+            rt.alloc(),
+            Kind::LiLim,
+            instance.as_bytes(),
+            solution.as_bytes(),
+        )?;
+        assert_eq!(rt; answer.status, status, "{line}");
+        assert_eq!(rt; answer.line.as_bytes(), line.as_bytes(), "{line}");
+    }
+    let answer = audit_text(rt.alloc(), Kind::Vrp, b"", b"")?;
+    assert_eq!(rt; answer.status, 2);
+    assert_eq!(rt;
+        answer.line.into_vec().as_slice(),
+        b"instance Unsupported 1".as_slice()
+    );
+    Ok(())
+}
+
+#[test]
+fn reads_words(rt: HostRuntime) -> Result<(), Fail> {
+    let none = read_words(rt.alloc(), ["planner"].as_slice())?;
+    assert!(rt; matches!(none, Invocation::BuiltIn));
+
+    let words = ["planner", "audit", "vrp", "a b.vrp", "c.sol"];
+    let Invocation::Audit {
+        kind,
+        instance,
+        solution,
+    } = read_words(rt.alloc(), words.as_slice())?
+    else {
+        return Err(Fail::from("not read as an audit"));
+    };
+    assert!(rt; kind == Kind::Vrp && instance == "a b.vrp" && solution == "c.sol");
+    Ok(())
+}
+
+#[test]
+fn refuses_words(rt: HostRuntime) -> Result<(), Fail> {
+    for (words, kind) in [
+        (
+            ["planner", "audit", "lilim", "a"].as_slice(),
+            ErrorKind::MissingRequiredArgument,
+        ),
+        (
+            ["planner", "audit", "lilim", "a", "b", "c"].as_slice(),
+            ErrorKind::UnknownArgument,
+        ),
+        (
+            ["planner", "audit", "cvrp", "a", "b"].as_slice(),
+            ErrorKind::InvalidValue,
+        ),
+        (
+            ["planner", "audit", "Vrp", "a", "b"].as_slice(),
+            ErrorKind::InvalidValue,
+        ),
+        (
+            ["planner", "check"].as_slice(),
+            ErrorKind::InvalidSubcommand,
+        ),
+        (
+            ["planner", "--kind", "vrp"].as_slice(),
+            ErrorKind::UnknownArgument,
+        ),
+        (["planner", "help"].as_slice(), ErrorKind::DisplayHelp),
+        (
+            ["planner", "audit", "--help"].as_slice(),
+            ErrorKind::DisplayHelp,
+        ),
+    ] {
+        let error = read_words(rt.alloc(), words).expect_err(&rt, "an error");
+        assert_eq!(rt; error.kind(), kind);
+    }
+    let error = read_words(rt.alloc(), ["planner", "audit", "lilim", "a"].as_slice()).expect_err(
+        &rt, "an error",
+    );
+    assert_eq!(rt;
+        error.to_string(rt.alloc())?.as_str(),
+        "error: the following required arguments were not provided:\n  <SOLUTION>\n\n\
+        Usage: planner audit <KIND> <INSTANCE> <SOLUTION>\n\nFor more information, try '--help'.\n"
+    );
+    Ok(())
+}

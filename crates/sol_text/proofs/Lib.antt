@@ -1,0 +1,5 @@
+pub mod FaultLemmas
+pub mod ReadLemmas
+pub mod TextLemmas
+pub mod ValueLemmas
+pub mod WrittenRead

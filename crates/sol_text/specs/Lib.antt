@@ -1,0 +1,6 @@
+pub mod Faults
+pub mod LineShapes
+pub mod Names
+pub mod Reading
+pub mod Values
+pub mod Written

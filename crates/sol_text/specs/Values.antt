@@ -1,0 +1,35 @@
+-- The numbers of a solution text, and the solution that a text spells.
+use Rattle.std.specs.Prelude.{◌^◌, ℕ, nat_lt, List, map, find, Option, Some, None, unwrap_or, if◌then◌else◌, ℤ, pos, negsuc}
+use Rattle.std.specs.List.{before_first, filter_map}
+use Rattle.std.specs.Option.{option_and_then, option_map}
+use Rattle.text_lines.specs.Numbers.{digits_of, number_of}
+use Rattle.sol_text.specs.LineShapes.{customer_words, cost_word, is_cost_line}
+use Rattle.sol_text.specs.declared.read.Solution.{Solution}
+
+abbrev pub below : ℕ → Option ℕ → Option ℕ
+below limit None = None
+below limit (Some n) = if nat_lt n limit then Some n else None
+
+-- the customer that a word of digits names, if it is at most 2^32 - 1
+unfoldable pub customer_of : List ℕ → Option ℕ
+customer_of word = below (2 ^ 32) (digits_of word)
+
+abbrev pub magnitude : ℤ → Option ℕ
+magnitude (pos n) = Some n
+magnitude (negsuc n) = None
+
+-- the cost that a NUMBER is, if it lies in 0..2^64 - 1
+unfoldable pub cost_of : List ℕ → Option ℕ
+cost_of word = below (2 ^ 64) (option_and_then magnitude (number_of word))
+
+-- the customers of a route line
+abbrev pub route_of : List ℕ → Option (List ℕ)
+route_of line = option_map (map (λ word. unwrap_or (customer_of word) 0)) (customer_words line)
+
+-- the cost of the first cost line
+abbrev pub first_cost : List (List ℕ) → ℕ
+first_cost lines = unwrap_or (option_and_then cost_of (option_and_then cost_word (find is_cost_line lines))) 0
+
+-- What a text without faults spells: the routes of the lines before the first cost line, in order, and its cost.
+abbrev pub solution_among : List (List ℕ) → Solution
+solution_among lines = record { routes = filter_map route_of (before_first is_cost_line lines); cost = first_cost lines }

@@ -1,0 +1,178 @@
+//! The lines of a solution text.
+
+ghost use Rattle.std.specs.Prelude.{◌≡◌, ◌≤◌, ◌∷◌, [], drop, length};
+ghost use Rattle.std.specs.Char.{is_ascii_digit};
+ghost use Rattle.std.specs.List.{prefix_len};
+ghost use Rattle.std.specs.Option.{option_copied};
+ghost use Rattle.text_lines.specs.Words.{words_of};
+ghost use Rattle.sol_text.specs.LineShapes.{after_key, after_one, after_digits, after_colon, after_separator, route_tail, cost_tail, cost_word, only_word};
+ghost use Rattle.sol_text.specs.Values.{customer_of, cost_of};
+ghost use Rattle.sol_text.specs.Reading.{Gives, customers_of, or_bad_number, line_of, cost_line};
+ghost use Rattle.sol_text.specs.declared.lines.Line.TheVariants.{Route as Routed};
+
+use crate::faults::{SolFault, SolFaultKind};
+use plan_types::Route;
+use std::alloc::Global;
+use text_lines::{Number, Words, digits_to_u32, is_blank_line, trim_blanks_start};
+
+/// What a line says.
+#[derive(Drop)]
+pub(crate) enum Line {
+    Blank,
+    /// The customers in order.
+    Route(Route),
+    /// The distance that the author claims.
+    Cost(u64),
+}
+
+/// Reads the line with this number.
+#[tactic(auto, unfolding(crate::specs::Reading::line_of))]
+pub(crate) fn read_line(alloc: Global, number: u64, line: &[u8]) -> Result<Line, SolFault>
+    ensures { Gives result (line_of number line.now) }
+{
+    if is_blank_line(line) {
+        return Ok(Line::Blank);
+    }
+    match route_tail(line) {
+        Some(tail) => read_route(alloc, number, tail),
+        None => read_cost(number, line),
+    }
+}
+
+/// Reads the customers of a route line, which follow its colon.
+fn read_route(alloc: Global, number: u64, tail: &[u8]) -> Result<Line, SolFault>
+    ensures { Gives result (or_bad_number Routed number (customers_of (words_of tail.now))) }
+{
+    let mut customers = Vec::new(alloc);
+    for word in Words::new(tail) {
+        let customer = customer_of(word).ok_or(SolFault {
+            line: number,
+            kind: SolFaultKind::BadNumber,
+        })?;
+        customers.push(customer)?;
+    }
+    Ok(Line::Route(Route::from(customers)))
+}
+
+/// Reads a line that can only be a cost line.
+fn read_cost(number: u64, line: &[u8]) -> Result<Line, SolFault>
+    ensures { Gives result (cost_line number (cost_word line.now)) }
+{
+    let word = cost_word(line).ok_or(SolFault {
+        line: number,
+        kind: SolFaultKind::BadLine,
+    })?;
+    let cost = cost_of(word).ok_or(SolFault {
+        line: number,
+        kind: SolFaultKind::BadNumber,
+    })?;
+    Ok(Line::Cost(cost))
+}
+
+fn customer_of(word: &[u8]) -> Option<u32>
+    ensures { result ≡ customer_of word.now }
+{
+    match digits_to_u32(word) {
+        Some(customer) => Some(customer),
+        None => None,
+    }
+}
+
+fn cost_of(word: &[u8]) -> Option<u64>
+    ensures { result ≡ cost_of word.now }
+{
+    Number::parse(word)?.to_u64()
+}
+
+/// What follows the colon of a route line.
+#[tactic(auto, unfolding(crate::specs::LineShapes::route_tail))]
+fn route_tail(line: &[u8]) -> Option<&[u8]>
+    ensures { option_copied result ≡ route_tail line.now }
+{
+    let rest = strip_key(line, b"route")?;
+    let rest = strip_one(trim_blanks_start(rest), b'#');
+    let rest = strip_digits(trim_blanks_start(rest))?;
+    strip_colon(trim_blanks_start(rest))
+}
+
+/// The word of a cost line that has exactly one.
+fn cost_word(line: &[u8]) -> Option<&[u8]>
+    ensures { option_copied result ≡ cost_word line.now }
+{
+    let mut words = Words::new(cost_tail(line)?);
+    let word = words.next()?;
+    match words.next() {
+        None => Some(word),
+        Some(_) => None,
+    }
+}
+
+/// What follows `Cost` and its separator.
+#[tactic(auto, unfolding(crate::specs::LineShapes::cost_tail))]
+fn cost_tail(line: &[u8]) -> Option<&[u8]>
+    ensures { option_copied result ≡ cost_tail line.now }
+{
+    let rest = strip_key(line, b"cost")?;
+    match rest {
+        [b' ' | b'\t' | b':', ..] => Some(strip_one(trim_blanks_start(rest), b':')),
+        _ => None,
+    }
+}
+
+/// What follows the key, which is in small letters and stands there in any letter case.
+fn strip_key<'a>(text: &'a [u8], key: &[u8]) -> Option<&'a [u8]>
+    ensures { option_copied result ≡ after_key key.now text.now }
+{
+    let mut rest = text;
+    for letter in key {
+        let (first, others) = rest.split_first()?;
+        if first.to_ascii_lowercase() != *letter {
+            return None;
+        }
+        rest = others;
+    }
+    Some(rest)
+}
+
+/// What follows the mark, if it is there.
+fn strip_one(text: &[u8], mark: u8) -> &[u8]
+    ensures { result.now ≡ after_one mark text.now }
+{
+    match text {
+        [first, rest @ ..] if *first == mark => rest,
+        _ => text,
+    }
+}
+
+fn strip_colon(text: &[u8]) -> Option<&[u8]>
+    ensures { option_copied result ≡ after_colon text.now }
+{
+    match text {
+        [b':', rest @ ..] => Some(rest),
+        _ => None,
+    }
+}
+
+/// What follows one or more digits.
+fn strip_digits(text: &[u8]) -> Option<&[u8]>
+    ensures { option_copied result ≡ after_digits text.now }
+{
+    let digits = digits_len(text);
+    if digits == 0 {
+        return None;
+    }
+    Some(&text[digits..])
+}
+
+/// How many digits stand at the front.
+fn digits_len(text: &[u8]) -> usize
+    ensures value { result ≡ prefix_len is_ascii_digit text.now }
+    ensures bound { result ≤ length text.now }
+{
+    for (i, byte) in text.iter().enumerate() {
+        if !byte.is_ascii_digit() {
+            return i;
+        }
+    }
+    text.len()
+}

@@ -1,0 +1,92 @@
+//! Writing a solution.
+
+ghost use Rattle.std.specs.Prelude.{◌≡◌, ◌≢◌, ◌<◌, ◌++◌, ◌∷◌, [], ◌+◌, ◌^◌, length, IfOk, OnOk, OnErr, IsErrOf, IsOkUnless};
+ghost use Rattle.std.specs.Fmt.{decimal};
+ghost use Rattle.route_sched.specs.Route.{IsPlan};
+ghost use Rattle.route_sched.specs.Cost.{unplanned_count, total_length};
+ghost use Rattle.sol_text.specs.Faults.{Spells};
+ghost use Rattle.sol_text.specs.Written.{used_routes, customers_text, route_text, routes_text, cost_text, solution_text};
+ghost use Rattle.sol_text.specs.declared.faults.WriteSolFault.TheVariants.{Unplanned, OutOfMemory};
+
+use crate::faults::WriteSolFault;
+use itoa::Buffer;
+use plan_types::{Plan, Problem, Route};
+use route_sched::plan_cost;
+use std::alloc::{AllocError, Global};
+
+/// The text of a plan: each nonempty route as `Route #1: 21 31 19`, numbered from 1, and then
+/// `Cost 784`, each with a line feed.
+///
+/// # Errors
+///
+/// `Unplanned` where a request is in no route, then `OutOfMemory`.
+pub fn write_sol(alloc: Global, problem: &Problem, plan: &Plan) -> Result<Vec<u8>, WriteSolFault>
+    requires { IsPlan problem.now plan.now.routes }
+    ensures text { IfOk result (λ text. text.items
+        ≡ solution_text (used_routes plan.now.routes) (total_length problem.now plan.now.routes)) }
+    ensures spells { IfOk result (λ text. Spells text.items
+        (record { routes = used_routes plan.now.routes; cost = total_length problem.now plan.now.routes })) }
+    ensures unplanned { let n = unplanned_count problem.now plan.now.routes in 0 < n → IsErrOf result (Unplanned n) }
+    ensures planned { unplanned_count problem.now plan.now.routes ≡ 0 → IsOkUnless result OutOfMemory }
+{
+    let cost = plan_cost(problem, plan);
+    if cost.unplanned > 0 {
+        return Err(WriteSolFault::Unplanned(cost.unplanned));
+    }
+    let mut text = Vec::new(alloc);
+    write_routes(&mut text, plan.routes.as_slice())?;
+    write_cost(&mut text, cost.distance)?;
+    Ok(text)
+}
+
+fn write_routes(text: &mut Vec<u8>, routes: &[Route]) -> Result<(), AllocError>
+    ensures { OnOk result (text.new.items ≡ text.old.items ++ routes_text 1 (used_routes routes.now)) }
+{
+    let mut number = 1u64;
+    for route in routes {
+        if !route.as_slice().is_empty() {
+            write_route(text, number, route.as_slice())?;
+            number += 1;
+        }
+    }
+    Ok(())
+}
+
+#[tactic(auto, unfolding(crate::specs::Written::route_text))]
+fn write_route(text: &mut Vec<u8>, number: u64, route: &[u32]) -> Result<(), AllocError>
+    ensures { OnOk result (text.new.items ≡ text.old.items ++ (route_text number route.now ++ 10 ∷ [])) }
+{
+    text.extend_from_slice(b"Route #")?;
+    write_number(text, number)?;
+    text.push(b':')?;
+    write_customers(text, route)?;
+    text.push(b'\n')?;
+    Ok(())
+}
+
+fn write_customers(text: &mut Vec<u8>, route: &[u32]) -> Result<(), AllocError>
+    ensures { OnOk result (text.new.items ≡ text.old.items ++ customers_text route.now) }
+{
+    for customer in route {
+        text.push(b' ')?;
+        write_number(text, u64::from(*customer))?;
+    }
+    Ok(())
+}
+
+#[tactic(auto, unfolding(crate::specs::Written::cost_text))]
+fn write_cost(text: &mut Vec<u8>, cost: u64) -> Result<(), AllocError>
+    ensures { OnOk result (text.new.items ≡ text.old.items ++ (cost_text cost ++ 10 ∷ [])) }
+{
+    text.extend_from_slice(b"Cost ")?;
+    write_number(text, cost)?;
+    text.push(b'\n')?;
+    Ok(())
+}
+
+fn write_number(text: &mut Vec<u8>, n: u64) -> Result<(), AllocError>
+    ensures { OnOk result (text.new.items ≡ text.old.items ++ decimal n) }
+{
+    let mut buffer = Buffer::new();
+    text.extend_from_slice(buffer.format(n).as_bytes())
+}
