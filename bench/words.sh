@@ -37,6 +37,18 @@ expect 0 'pass 0 1 20'
 expect 0 'pass 0 1 20' audit lilim one-pair.txt one-pair.sol
 expect 1 'broken 5 route 1 place 1 stop 2' audit lilim one-pair.txt one-pair-reversed.sol
 expect 0 'pass 0 10 829' audit lilim lc101.txt "$top/examples/lc101.sol"
+
+# Route lines in another order; the cost line before the last route, whose pairs are then in none; a stop that stands
+# twice; and a delivery that is missing.
+sed -e '1{h;d' -e '}' -e '2G' lc101.sol >"$folder/exchanged.sol"
+sed -e '10{h;d' -e '}' -e '11G' lc101.sol >"$folder/early-cost.sol"
+sed -e '2s/$/ 13/' lc101.sol >"$folder/twice.sol"
+sed -e '1s/ 75$//' lc101.sol >"$folder/missing.sol"
+expect 0 'pass 0 10 829' audit lilim lc101.txt "$folder/exchanged.sol"
+expect 1 'broken 3 route 0 place 0 stop 92' audit lilim lc101.txt "$folder/early-cost.sol"
+expect 1 'broken 2 route 2 place 9 stop 13' audit lilim lc101.txt "$folder/twice.sol"
+expect 1 'broken 3 route 1 place 2 stop 75' audit lilim lc101.txt "$folder/missing.sol"
+
 expect 2 'instance FieldCount 1' audit lilim one-pair.sol one-pair.sol
 expect 2 'solution BadLine 1' audit lilim one-pair.txt one-pair.txt
 expect 2 'instance Unsupported 1' audit vrp one-pair.txt one-pair.sol

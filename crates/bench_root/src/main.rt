@@ -4,10 +4,9 @@
 #![tactic(auto)]
 
 use nint_dist::nint_root;
-use std::env;
-use std::io;
 use std::rt::Clock;
 use std::time::Instant;
+use std::{env, io};
 
 /// Distances ask for roots of numbers of at most this many bits.
 const BITS: u32 = 43;
@@ -26,14 +25,22 @@ fn main(rt: HostRuntime) -> io::Result<()> {
             continue;
         };
         let bare = measure(&rt, calls, |s| s)?;
-        report(&rt, "nint_root", calls, &bare, &measure(&rt, calls, |s| nint_root(s))?)?;
-        report(&rt, "isqrt", calls, &bare, &measure(&rt, calls, |s| s.isqrt())?)?;
+        let ours = measure(&rt, calls, |s| nint_root(s))?;
+        report(&rt, "nint_root", calls, &bare, &ours)?;
+        let theirs = measure(&rt, calls, |s| s.isqrt())?;
+        report(&rt, "isqrt", calls, &bare, &theirs)?;
     }
     Ok(())
 }
 
 /// Prints tenths of a nanosecond a call.
-fn report(rt: &impl Print, name: &str, calls: u32, bare: &Timing, timing: &Timing) -> io::Result<()> {
+fn report(
+    rt: &impl Print,
+    name: &str,
+    calls: u32,
+    bare: &Timing,
+    timing: &Timing,
+) -> io::Result<()> {
     let nanos = timing.nanos.saturating_sub(bare.nanos);
     let tenths = nanos.saturating_mul(10) / u64::from(calls.max(1));
     let whole = tenths / 10;

@@ -18,9 +18,7 @@ fn main(rt: HostRuntime) -> ExitCode {
 /// The words of the command line, the program's name first, or the status that tells why there are none.
 fn words_of<R: Env + Eprint + AllocGlobal>(rt: &R) -> Result<Vec<String>, u8> {
     match env::args(rt) {
-        Ok(words) => words
-            .collect(rt.alloc())
-            .map_err(|_| status::OUT_OF_MEMORY),
+        Ok(words) => words.collect(rt.alloc()).map_err(|_| status::OUT_OF_MEMORY),
         Err(error) if error.kind() == ErrorKind::OutOfMemory => Err(status::OUT_OF_MEMORY),
         Err(_) => {
             let _ = eprintln!(rt; "error: a word is not UTF-8 text");
