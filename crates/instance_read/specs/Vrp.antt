@@ -12,10 +12,14 @@ use Rattle.plan_types.specs.declared.requests.Request.TheVariants.{Single}
 use Rattle.plan_types.specs.declared.requests.Stop.{Stop}
 use Rattle.instance_read.specs.declared.faults.ReadFaultKind.{ReadFaultKind}
 use Rattle.instance_read.specs.declared.faults.ReadFaultKind.TheVariants.{BadNumber, Range, FieldCount, TooManyStops, MissingKey, Unsupported, DepotNotFirst, NodeRepeated, Truncated}
-use Rattle.instance_read.specs.Faults.{Class, OfLine, OfText, HasNone}
+use Rattle.instance_read.specs.Faults.{Class, OfLine, OfText, HasNone, rank}
 use Rattle.instance_read.specs.Fields.{field, value_at, is_that, has_no_number, is_beyond, any_beyond}
 use Rattle.instance_read.specs.Rows.{Row}
-use Rattle.instance_read.specs.VrpLines.{Key, Dimension, Capacity, ProblemType, WeightType, Refused, Coordinates, Demands, Depots, End, StrayNumber, Ignored, Place, Outside, CoordinateLine, DemandLine, DepotLine, AfterEnd, Placed, key_of, value_of, value_words, placed_of, end_place}
+use Rattle.instance_read.specs.declared.vrp_lines.Key.{Key}
+use Rattle.instance_read.specs.declared.vrp_lines.Key.TheVariants.{Dimension, Capacity, ProblemType, WeightType, Refused, Coordinates, Demands, Depots, End, StrayNumber, Ignored}
+use Rattle.instance_read.specs.declared.vrp_lines.Place.{Place}
+use Rattle.instance_read.specs.declared.vrp_lines.Place.TheVariants.{Outside, CoordinateLine, DemandLine, DepotLine, AfterEnd}
+use Rattle.instance_read.specs.VrpLines.{Placed, key_of, value_of, value_words, placed_of, end_place}
 
 -- two keys are one
 abbrev pub key_number : Key → ℕ
@@ -51,29 +55,51 @@ first_key key ps = option_map (λ p. p.row) (find (has_key key) ps)
 abbrev pub nodes_of : List Placed → ℕ
 nodes_of ps = option_map_or (λ row. unsigned_abs (value_at (value_words row) 0)) (first_key Dimension ps) 0
 
--- what may be wrong with a line outside the sections, after these lines
-abbrev pub key_fault : List Placed → Row → Key → ReadFaultKind → Bool
-key_fault before row Dimension FieldCount = not (length (value_words row) == 1)
-key_fault before row Dimension BadNumber = has_no_number (value_words row)
-key_fault before row Dimension TooManyStops = is_that (λ z. int_lt (pos 40001) z) (field (value_words row) 0)
-key_fault before row Dimension Range = is_that (λ z. int_lt z (pos 2)) (field (value_words row) 0)
-key_fault before row Dimension NodeRepeated = any_key Dimension before
-key_fault before row Capacity FieldCount = not (length (value_words row) == 1)
-key_fault before row Capacity BadNumber = has_no_number (value_words row)
-key_fault before row Capacity Range = is_that (is_beyond (pos 0, pos 1000000)) (field (value_words row) 0)
-key_fault before row Capacity NodeRepeated = any_key Capacity before
-key_fault before row ProblemType Unsupported = not (str_eq_ignore_ascii_case (value_of row) (codes "CVRP"))
-key_fault before row ProblemType NodeRepeated = any_key ProblemType before
-key_fault before row WeightType Unsupported = not (str_eq_ignore_ascii_case (value_of row) (codes "EUC_2D"))
-key_fault before row WeightType NodeRepeated = any_key WeightType before
-key_fault before row Refused Unsupported = true
-key_fault before row Coordinates MissingKey = not (any_key Dimension before)
-key_fault before row Coordinates NodeRepeated = any_key Coordinates before
-key_fault before row Demands MissingKey = not (any_key Dimension before)
-key_fault before row Demands NodeRepeated = any_key Demands before
-key_fault before row Depots NodeRepeated = any_key Depots before
-key_fault before row StrayNumber FieldCount = true
-key_fault before row key kind = false
+-- what may be wrong with the words of a DIMENSION, where one may stand before it
+abbrev pub dimension_fault : Bool → List (List ℕ) → ReadFaultKind → Bool
+dimension_fault stands words FieldCount = not (length words == 1)
+dimension_fault stands words BadNumber = has_no_number words
+dimension_fault stands words TooManyStops = is_that (λ z. int_lt (pos 40001) z) (field words 0)
+dimension_fault stands words Range = is_that (λ z. int_lt z (pos 2)) (field words 0)
+dimension_fault stands words NodeRepeated = stands
+dimension_fault stands words _ = false
+
+-- the same of a CAPACITY
+abbrev pub capacity_fault : Bool → List (List ℕ) → ReadFaultKind → Bool
+capacity_fault stands words FieldCount = not (length words == 1)
+capacity_fault stands words BadNumber = has_no_number words
+capacity_fault stands words Range = is_that (is_beyond (pos 0, pos 1000000)) (field words 0)
+capacity_fault stands words NodeRepeated = stands
+capacity_fault stands words _ = false
+
+-- the same of a value that has to be this word, in any ASCII letter case
+abbrev pub spelling_fault : List ℕ → Bool → List ℕ → ReadFaultKind → Bool
+spelling_fault word stands value Unsupported = not (str_eq_ignore_ascii_case value word)
+spelling_fault word stands value NodeRepeated = stands
+spelling_fault word stands value _ = false
+
+-- the same of the first line of a section that has a line for each node
+abbrev pub opening_fault : Bool → Bool → ReadFaultKind → Bool
+opening_fault announced stands MissingKey = not announced
+opening_fault announced stands NodeRepeated = stands
+opening_fault announced stands _ = false
+
+abbrev pub is_kind : ReadFaultKind → ReadFaultKind → Bool
+is_kind kind other = rank kind == rank other
+
+-- what may be wrong with a line outside the sections, where these keys stand before it
+abbrev pub key_fault : (Key → Bool) → Row → Key → ReadFaultKind → Bool
+key_fault stands row Dimension kind = dimension_fault (stands Dimension) (value_words row) kind
+key_fault stands row Capacity kind = capacity_fault (stands Capacity) (value_words row) kind
+key_fault stands row ProblemType kind = spelling_fault (codes "CVRP") (stands ProblemType) (value_of row) kind
+key_fault stands row WeightType kind = spelling_fault (codes "EUC_2D") (stands WeightType) (value_of row) kind
+key_fault stands row Refused kind = is_kind Unsupported kind
+key_fault stands row Coordinates kind = opening_fault (stands Dimension) (stands Coordinates) kind
+key_fault stands row Demands kind = opening_fault (stands Dimension) (stands Demands) kind
+key_fault stands row Depots kind = is_kind NodeRepeated kind && stands Depots
+key_fault stands row StrayNumber kind = is_kind FieldCount kind
+key_fault stands row End kind = false
+key_fault stands row Ignored kind = false
 
 abbrev pub in_coordinates : Place → Bool
 in_coordinates (CoordinateLine n) = true
@@ -87,17 +113,17 @@ in_demands _ = false
 abbrev pub is_node_line : (Place → Bool) → ℤ → Placed → Bool
 is_node_line section node p = section p.place && is_that (λ z. not (int_lt z node || int_lt node z)) (field (words_of p.row.text) 0)
 
--- a line of this section has the same node
-abbrev pub is_repeated : (Place → Bool) → List Placed → Row → Bool
-is_repeated section before row = is_that (λ node. list_any (is_node_line section node) before) (field (words_of row.text) 0)
+-- a line of this section has this node
+abbrev pub has_node : (Place → Bool) → List Placed → ℤ → Bool
+has_node section before node = list_any (is_node_line section node) before
 
--- what may be wrong with a line of a section of nodes, with so many words within these limits
-abbrev pub node_fault : (Place → Bool) → ℕ → List (ℤ × ℤ) → List Placed → Row → ReadFaultKind → Bool
-node_fault section count limits before row FieldCount = not (length (words_of row.text) == count)
-node_fault section count limits before row BadNumber = has_no_number (words_of row.text)
-node_fault section count limits before row Range = any_beyond limits (words_of row.text)
-node_fault section count limits before row NodeRepeated = is_repeated section before row
-node_fault section count limits before row _ = false
+-- what may be wrong with the words of a line of a section of nodes: so many words within these limits, whose first is a node not yet taken
+abbrev pub node_fault : ℕ → List (ℤ × ℤ) → (ℤ → Bool) → List (List ℕ) → ReadFaultKind → Bool
+node_fault count limits taken words FieldCount = not (length words == count)
+node_fault count limits taken words BadNumber = has_no_number words
+node_fault count limits taken words Range = any_beyond limits words
+node_fault count limits taken words NodeRepeated = is_that taken (field words 0)
+node_fault count limits taken words _ = false
 
 abbrev pub coordinate_limits : ℕ → List (ℤ × ℤ)
 coordinate_limits nodes = (pos 1, pos nodes) ∷ (negsuc 999999, pos 1000000) ∷ (negsuc 999999, pos 1000000) ∷ []
@@ -125,9 +151,9 @@ depot_fault seen words _ = false
 
 -- what may be wrong with a line, after these lines
 abbrev pub place_fault : List Placed → Row → Place → ReadFaultKind → Bool
-place_fault before row Outside kind = key_fault before row (key_of row) kind
-place_fault before row (CoordinateLine n) kind = node_fault in_coordinates 3 (coordinate_limits (nodes_of before)) before row kind
-place_fault before row (DemandLine n) kind = node_fault in_demands 2 (demand_limits (nodes_of before)) before row kind
+place_fault before row Outside kind = key_fault (λ key. any_key key before) row (key_of row) kind
+place_fault before row (CoordinateLine n) kind = node_fault 3 (coordinate_limits (nodes_of before)) (has_node in_coordinates before) (words_of row.text) kind
+place_fault before row (DemandLine n) kind = node_fault 2 (demand_limits (nodes_of before)) (has_node in_demands before) (words_of row.text) kind
 place_fault before row (DepotLine seen) kind = depot_fault seen (words_of row.text) kind
 place_fault before row AfterEnd kind = false
 

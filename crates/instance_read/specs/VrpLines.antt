@@ -8,6 +8,10 @@ use Rattle.std.specs.Str.{str_eq_ignore_ascii_case}
 use Rattle.text_lines.specs.Words.{is_blank, words_of}
 use Rattle.instance_read.specs.Fields.{field}
 use Rattle.instance_read.specs.Rows.{Row, rows_of}
+use Rattle.instance_read.specs.declared.vrp_lines.Key.{Key}
+use Rattle.instance_read.specs.declared.vrp_lines.Key.TheVariants.{Dimension, Capacity, ProblemType, WeightType, Refused, Coordinates, Demands, Depots, End, StrayNumber, Ignored}
+use Rattle.instance_read.specs.declared.vrp_lines.Place.{Place}
+use Rattle.instance_read.specs.declared.vrp_lines.Place.TheVariants.{Outside, CoordinateLine, DemandLine, DepotLine, AfterEnd}
 
 -- without the blanks and tabs at both ends
 abbrev pub trimmed : List ℕ → List ℕ
@@ -34,22 +38,6 @@ ends_in end word = nat_le (length end) (length word) && str_eq_ignore_ascii_case
 abbrev pub begins_as_number : List ℕ → Bool
 begins_as_number line = let b = slice_index line 0 in is_ascii_digit b || b == 43 || b == 45
 
--- what a line outside a section is
-pub data Key : Type 0 where
-  Dimension : Key
-  Capacity : Key
-  ProblemType : Key
-  WeightType : Key
-  -- a limit of duration, or a section that is not known
-  Refused : Key
-  Coordinates : Key
-  Demands : Key
-  Depots : Key
-  End : Key
-  -- it begins as a line of a section does
-  StrayNumber : Key
-  Ignored : Key
-
 -- key is what stands before the colon, and line the whole line
 abbrev pub key_from : List ℕ → List ℕ → Key
 key_from key line =
@@ -74,16 +62,6 @@ value_of row = value_text row.text
 
 abbrev pub value_words : Row → List (List ℕ)
 value_words row = words_of (value_of row)
-
--- where a line stands
-pub data Place : Type 0 where
-  Outside : Place
-  -- in the section of coordinates or of demands, of which so many lines are left, with this one
-  CoordinateLine : ℕ → Place
-  DemandLine : ℕ → Place
-  -- in the list of depots, of which so many words stand on lines before
-  DepotLine : ℕ → Place
-  AfterEnd : Place
 
 -- a line and its place
 pub record Placed : Type 0 where

@@ -7,6 +7,7 @@ mod lilim;
 mod pairs;
 mod rows;
 mod tasks;
+mod vrp_lines;
 
 pub use faults::{ReadFault, ReadFaultKind};
 pub use lilim::read_lilim;
