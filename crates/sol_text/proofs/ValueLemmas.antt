@@ -1,12 +1,13 @@
 -- Words that are customers or costs.
 use Rattle.std.proofs.Common.{◌≡◌, ℕ, ◌≤◌, ◌<◌, List, [], ◌∷◌, ◌++◌, Option, Some, None, ℤ, pos, negsuc, refl, sym, ap, ◌∙◌, arith, ⊎_elim}
-use Rattle.std.specs.Prelude.{◌≤ℤ◌, ◌<ℤ◌, MatchOption}
+use Rattle.std.specs.Prelude.{◌≤ℤ◌, ◌<ℤ◌}
 use Rattle.std.specs.Int.RustNames.{unsigned_abs}
 use Rattle.std.specs.Option.{SomeIff, option_map}
 use Rattle.std.proofs.lemmas.Int.{ints}
 use Rattle.std.proofs.lemmas.Bool.{lt-ltb, le-ltb, cases_lt}
 use Rattle.std.proofs.lemmas.List.{append_assoc}
-use Rattle.sol_text.specs.Values.{below, magnitude, customer_of}
+use Rattle.text_lines.specs.Numbers.{below}
+use Rattle.sol_text.specs.Values.{magnitude, customer_of}
 use Rattle.sol_text.specs.Reading.{customers_of}
 
 below-some : (limit n : ℕ) → n < limit → below limit (Some n) ≡ Some n
@@ -24,12 +25,6 @@ below-from_SomeIff limit (pos n) None never = sym (below-none limit n (not_below
 below-from_SomeIff limit (pos n) (Some v) is = ap Some is.1 ∙ sym (below-some limit n (omega (arith, ints)))
 below-from_SomeIff limit (negsuc n) None never = refl
 below-from_SomeIff limit (negsuc n) (Some v) is = absurd (omega (arith, ints))
-
--- the value of digits, if it is below limit
-pub below-from_MatchOption : (limit : ℕ) (o r : Option ℕ) → MatchOption r ((n : ℕ) → o ≡ Some n → limit ≤ n) (λ n. (o ≡ Some n) × (n < limit)) → r ≡ below limit o
-below-from_MatchOption limit None None m = refl
-below-from_MatchOption limit (Some n) None m = sym (below-none limit n (m n refl))
-below-from_MatchOption limit o (Some n) m = sym (below-some limit n m.1) ∙ ap (λ p. below limit p) (sym m.0)
 
 -- one more customer
 pub customers_more : (done : List ℕ) (w : List ℕ) (ws : List (List ℕ)) (n : ℕ) → customer_of w ≡ Some n → option_map (λ ns. done ++ ns) (customers_of (w ∷ ws)) ≡ option_map (λ ns. (done ++ n ∷ []) ++ ns) (customers_of ws)

@@ -1,17 +1,16 @@
 -- A text that is written reads back.
 use Rattle.std.proofs.Common.{◌≡◌, ℕ, ◌+◌, ◌-◌, ◌≤◌, ◌<◌, ◌^◌, Bool, true, false, not, cond, eqb, List, [], ◌∷◌, ◌++◌, length, get_or, map, Some, None, Ok, refl, sym, ap, ◌∙◌, arith}
-use Rattle.std.specs.Prelude.{codes, nat_le}
+use Rattle.std.specs.Prelude.{codes, nat_le, ◌↔◌}
 use Rattle.std.specs.Char.{is_ascii_digit}
 use Rattle.std.specs.Fmt.{decimal}
 use Rattle.std.specs.List.{AllByRecursion, list_all, prefix_len, concat}
 use Rattle.std.specs.Str.Lines.{strip_carriage_return}
 use Rattle.std.proofs.lemmas.Bool.{and_parts, and_from, leb-true, le-leb, ne_eqb, false≢true, lt-ltb}
-use Rattle.std.proofs.lemmas.List.{append-nil, append_assoc, drop_at, length-append}
+use Rattle.std.proofs.lemmas.List.{append-nil, append_assoc, drop_at, get_or_default, length-append}
 use Rattle.std.proofs.lemmas.List.Sums.{AllPass-from_list_all}
-use Rattle.text_lines.specs.Lines.{lines_of}
-use Rattle.text_lines.specs.Words.{is_blank, is_blank_line, words_of}
-use Rattle.text_lines.specs.Numbers.{is_digits}
-use Rattle.text_lines.proofs.WrittenLemmas.{lines_of-line, words_of-blank, words_of-nil, words_of-front, words_of-last, is_digits-decimal, digits_of-decimal, number_of-decimal}
+use Rattle.text_lines.specs.Lines.{EndAtFeeds, HasNoFeed, lines_of}
+use Rattle.text_lines.specs.Words.{EndsWord, IsMadeOf, IsWord, is_blank, is_blank_line, words_of}
+use Rattle.text_lines.specs.Numbers.{AreRead, is_digits}
 use Rattle.sol_text.specs.LineShapes.{after_blanks, after_digits, after_one, route_tail, cost_tail, cost_word}
 use Rattle.sol_text.specs.Values.{customer_of, cost_of}
 use Rattle.sol_text.specs.Reading.{customers_of, line_of, onto_line, reading, with_routes}
@@ -43,9 +42,6 @@ unfolding is_digits
 all_digits [] is = absurd (false≢true is)
 all_digits (x ∷ xs) is = is
 
-decimal_digits : (n : ℕ) → n < 2 ^ 64 → list_all is_ascii_digit (decimal n) ≡ true
-decimal_digits n small = all_digits (decimal n) (is_digits-decimal n small)
-
 some_digit : (xs : List ℕ) → is_digits xs ≡ true → 0 < length xs
 unfolding is_digits
 some_digit [] is = absurd (false≢true is)
@@ -56,15 +52,14 @@ printable_at : (xs : List ℕ) (j b : ℕ) → Printable xs → j < length xs �
 unfolding printable
 printable_at xs j b p h is = omega (arith, leb-true 32 (get_or xs j 0) (AllPass-from_list_all printable xs p j 0 h), is)
 
+no_feed : (line : List ℕ) → Printable line → HasNoFeed line
+no_feed line p (j, h, here) = absurd (omega (arith, printable_at line j 10 p h (get_or_default line j 0 10 h ∙ here)))
+
 whole_line : (line : List ℕ) → Printable line → strip_carriage_return line ≡ line
 whole_line [] p = refl
 whole_line (x ∷ xs) p =
     let no_return : eqb (get_or (x ∷ xs) (length (x ∷ xs) - 1) 0) 13 ≡ false = ne_eqb (get_or (x ∷ xs) (length (x ∷ xs) - 1) 0) 13 (λ e. absurd (omega (arith, printable_at (x ∷ xs) (length (x ∷ xs) - 1) 13 p (omega arith) e))) in
     rw no_return refl
-
-line_ends : (line rest : List ℕ) → Printable line → lines_of (line ++ 10 ∷ rest) ≡ line ∷ lines_of rest
-line_ends line rest p =
-    lines_of-line line rest (λ j h is. absurd (omega (arith, printable_at line j 10 p h is))) ∙ ap (λ l. l ∷ lines_of rest) (whole_line line p)
 
 -- ---- blanks and digits
 digit_not_blank : (b : ℕ) → is_ascii_digit b ≡ true → is_blank b ≡ false
@@ -89,47 +84,6 @@ behind_digits ds rest is =
     let front = digits_front ds rest 58 (all_digits ds is) refl in
     rw (front, lt-ltb 0 (length ds) (some_digit ds is), drop_at ds (58 ∷ rest) (length ds) refl) refl
 
--- ---- a route line
-route_tail-written : (number : ℕ) (route : List ℕ) → number < 2 ^ 64 → route_tail (route_text number route) ≡ Some (customers_text route)
-unfolding route_tail route_text
-route_tail-written number route small =
-    let digits = is_digits-decimal number small in
-    rw (no_blanks (decimal number) (58 ∷ customers_text route) digits, behind_digits (decimal number) (customers_text route) digits) refl
-
--- a word of digits, and what a blank ends
-word_not_blank : (n : ℕ) → n < 2 ^ 64 → (j : ℕ) → j < length (decimal n) → is_blank (get_or (decimal n) j 0) ≡ false
-word_not_blank n small j h = digit_not_blank (get_or (decimal n) j 0) (AllPass-from_list_all is_ascii_digit (decimal n) (decimal_digits n small) j 0 h)
-
-words-written : (route : List ℕ) → AllByRecursion (λ n. n < 2 ^ 32) route → words_of (customers_text route) ≡ map decimal route
-words-written [] small = words_of-nil
-words-written (n ∷ []) small =
-    let fits : n < 2 ^ 64 = omega (arith, small.0) in
-    words_of-blank 32 (decimal n ++ []) refl
-    ∙ (ap words_of (append-nil (decimal n)) ∙ words_of-last (decimal n) (some_digit (decimal n) (is_digits-decimal n fits)) (word_not_blank n fits))
-words-written (n ∷ m ∷ route) small =
-    let fits : n < 2 ^ 64 = omega (arith, small.0) in
-    words_of-blank 32 (decimal n ++ customers_text (m ∷ route)) refl
-    ∙ (words_of-front (decimal n) 32 (decimal m ++ customers_text route) (some_digit (decimal n) (is_digits-decimal n fits)) (word_not_blank n fits) refl
-    ∙ ap (λ ws. decimal n ∷ ws) (sym (words_of-blank 32 (decimal m ++ customers_text route) refl) ∙ words-written (m ∷ route) small.1))
-
-customer-written : (n : ℕ) → n < 2 ^ 32 → customer_of (decimal n) ≡ Some n
-unfolding customer_of
-customer-written n small = rw (digits_of-decimal n (omega (arith, small)), lt-ltb n (2 ^ 32) small) refl
-
-customers-written : (route : List ℕ) → AllByRecursion (λ n. n < 2 ^ 32) route → customers_of (map decimal route) ≡ Some route
-customers-written [] small = refl
-customers-written (n ∷ route) small = rw (customer-written n small.0, customers-written route small.1) refl
-
-route_shown : (number : ℕ) (route : List ℕ) → is_blank_line (route_text number route) ≡ false
-unfolding route_text
-route_shown number route = refl
-
-line_of-route : (k number : ℕ) (route : List ℕ) → number < 2 ^ 64 → AllByRecursion (λ n. n < 2 ^ 32) route → line_of k (route_text number route) ≡ Ok (Route route)
-unfolding line_of
-line_of-route k number route fits small =
-    rw (route_shown number route, route_tail-written number route fits, words-written route small, customers-written route small) refl
-
--- ---- a cost line
 no_blank_front : (ds : List ℕ) → is_digits ds ≡ true → prefix_len is_blank ds ≡ 0
 unfolding is_digits
 no_blank_front [] is = absurd (false≢true is)
@@ -143,18 +97,22 @@ no_colon (d ∷ ds) is =
     let other : eqb d 58 ≡ false = ne_eqb d 58 (λ e. absurd (omega (arith, range, e))) in
     rw other refl
 
-cost_tail-written : (cost : ℕ) → cost < 2 ^ 64 → cost_tail (cost_text cost) ≡ Some (decimal cost)
-unfolding cost_tail cost_text
-cost_tail-written cost fits =
-    let digits = is_digits-decimal cost fits in rw (no_blank_front (decimal cost) digits) (ap Some (no_colon (decimal cost) digits))
+-- a word of digits has no blank
+digits_apart : (ds : List ℕ) → list_all is_ascii_digit ds ≡ true → AllByRecursion (λ b. is_blank b ≡ false) ds
+digits_apart [] is = tt
+digits_apart (d ∷ ds) is = let parts = and_parts (is_ascii_digit d) (list_all is_ascii_digit ds) is in (digit_not_blank d parts.0, digits_apart ds parts.1)
 
-cost_word-written : (cost : ℕ) → cost < 2 ^ 64 → cost_word (cost_text cost) ≡ Some (decimal cost)
-cost_word-written cost fits =
-    rw (cost_tail-written cost fits, words_of-last (decimal cost) (some_digit (decimal cost) (is_digits-decimal cost fits)) (word_not_blank cost fits)) refl
+digits_are_word : (ds : List ℕ) → is_digits ds ≡ true → IsWord ds
+digits_are_word ds is = (some_digit ds is, digits_apart ds (all_digits ds is))
 
-cost-written : (cost : ℕ) → cost < 2 ^ 64 → cost_of (decimal cost) ≡ Some cost
-unfolding cost_of
-cost-written cost fits = rw (number_of-decimal cost fits, lt-ltb cost (2 ^ 64) fits) refl
+-- what follows a customer is a blank or nothing
+customers_end : (route : List ℕ) → EndsWord (customers_text route)
+customers_end [] = tt
+customers_end (n ∷ route) = refl
+
+route_shown : (number : ℕ) (route : List ℕ) → is_blank_line (route_text number route) ≡ false
+unfolding route_text
+route_shown number route = refl
 
 cost_shown : (cost : ℕ) → is_blank_line (cost_text cost) ≡ false
 unfolding cost_text
@@ -164,52 +122,8 @@ no_route : (cost : ℕ) → route_tail (cost_text cost) ≡ None
 unfolding route_tail cost_text
 no_route cost = refl
 
-line_of-cost : (k cost : ℕ) → cost < 2 ^ 64 → line_of k (cost_text cost) ≡ Ok (Cost cost)
-unfolding line_of
-line_of-cost k cost fits = rw (cost_shown cost, no_route cost, cost_word-written cost fits, cost-written cost fits) refl
-
--- ---- the lines
-decimal_printable : (n : ℕ) → n < 2 ^ 64 → Printable (decimal n)
-decimal_printable n fits = digits_printable (decimal n) (decimal_digits n fits)
-
-customers_printable : (route : List ℕ) → AllByRecursion (λ n. n < 2 ^ 32) route → Printable (customers_text route)
-unfolding printable
-customers_printable [] small = refl
-customers_printable (n ∷ route) small =
-    printable-append (32 ∷ decimal n) (customers_text route) (space (decimal n) (decimal_printable n (omega (arith, small.0)))) (customers_printable route small.1)
-  where
-    space : (xs : List ℕ) → Printable xs → Printable (32 ∷ xs)
-    space xs p = and_from (printable 32) (list_all printable xs) (le-leb 32 32 (omega arith)) p
-
-route_printable : (number : ℕ) (route : List ℕ) → number < 2 ^ 64 → AllByRecursion (λ n. n < 2 ^ 32) route → Printable (route_text number route)
-unfolding route_text printable
-route_printable number route fits small =
-    printable-append (codes "Route #") (decimal number ++ (58 ∷ customers_text route)) refl
-    (printable-append (decimal number) (58 ∷ customers_text route) (decimal_printable number fits) (printable-append (58 ∷ []) (customers_text route) refl (customers_printable route small)))
-
-cost_printable : (cost : ℕ) → cost < 2 ^ 64 → Printable (cost_text cost)
-unfolding cost_text printable
-cost_printable cost fits = printable-append (codes "Cost ") (decimal cost) refl (decimal_printable cost fits)
-
 abbrev pub AreSmall : List (List ℕ) → Type 0
 AreSmall routes = AllByRecursion (λ route. AllByRecursion (λ n. n < 2 ^ 32) route) routes
-
--- what is written reads back
-reading-written : (k number : ℕ) (routes : List (List ℕ)) (cost : ℕ) → number + length routes < 2 ^ 64 → AreSmall routes → cost < 2 ^ 64 → reading k (lines_of (routes_text number routes ++ (cost_text cost ++ 10 ∷ []))) ≡ Ok (record { routes = routes; cost = cost })
-unfolding reading
-reading-written k number [] cost few small fits =
-    ap (λ ls. reading k ls) (line_ends (cost_text cost) [] (cost_printable cost fits))
-    ∙ ap (λ l. onto_line l (reading (k + 1) (lines_of []))) (line_of-cost (k + 1) cost fits)
-reading-written k number (route ∷ routes) cost few small fits =
-    let later = routes_text (number + 1) routes ++ (cost_text cost ++ 10 ∷ []) in
-    let small_number : number < 2 ^ 64 = omega arith in
-    ap (λ t. reading k (lines_of t)) (append_assoc (route_text number route) (10 ∷ routes_text (number + 1) routes) (cost_text cost ++ 10 ∷ []))
-    ∙ (ap (λ ls. reading k ls) (line_ends (route_text number route) later (route_printable number route small_number small.0))
-    ∙ (ap (λ l. onto_line l (reading (k + 1) (lines_of later))) (line_of-route (k + 1) number route small_number small.0)
-    ∙ ap (λ r. with_routes (route ∷ []) r) (reading-written (k + 1) (number + 1) routes cost (omega arith) small.1 fits)))
-
-pub reads_back : (routes : List (List ℕ)) (cost : ℕ) → 1 + length routes < 2 ^ 64 → AreSmall routes → cost < 2 ^ 64 → reading 0 (lines_of (solution_text routes cost)) ≡ Ok (record { routes = routes; cost = cost })
-reads_back routes cost few small fits = reading-written 0 1 routes cost few small fits
 
 -- ---- the numbers of a plan
 part_small : (xs ys : List ℕ) → AllByRecursion (λ n. n ≤ 40000) (xs ++ ys) → AllByRecursion (λ n. n < 2 ^ 32) xs × AllByRecursion (λ n. n ≤ 40000) ys
@@ -234,3 +148,102 @@ length-routes_text number (route ∷ routes) =
 pub length-solution_text : (routes : List (List ℕ)) (cost : ℕ) → 1 + length routes ≤ length (solution_text routes cost)
 length-solution_text routes cost =
     omega (arith, length-append (routes_text 1 routes) (cost_text cost ++ 10 ∷ []), length-append (cost_text cost) (10 ∷ []), length-routes_text 1 routes)
+
+-- How texts are read that are put together from lines, words and numbers.
+module _ (ended : EndAtFeeds) (made_of : (line : List ℕ) (words : List (List ℕ)) → (words_of line ≡ words) ↔ IsMadeOf line words) (read : AreRead) where
+  line_ends : (line rest : List ℕ) → Printable line → lines_of (line ++ 10 ∷ rest) ≡ line ∷ lines_of rest
+  line_ends line rest p =
+      ended line rest (no_feed line p) ∙ ap (λ l. l ∷ lines_of rest) (whole_line line p)
+
+  -- ---- numbers
+  decimal_digits : (n : ℕ) → n < 2 ^ 64 → list_all is_ascii_digit (decimal n) ≡ true
+  decimal_digits n small = all_digits (decimal n) ((read n small).0)
+
+  -- ---- a route line
+  route_tail-written : (number : ℕ) (route : List ℕ) → number < 2 ^ 64 → route_tail (route_text number route) ≡ Some (customers_text route)
+  unfolding route_tail route_text
+  route_tail-written number route small =
+      let digits = (read number small).0 in
+      rw (no_blanks (decimal number) (58 ∷ customers_text route) digits, behind_digits (decimal number) (customers_text route) digits) refl
+
+  words-written : (route : List ℕ) → AllByRecursion (λ n. n < 2 ^ 32) route → words_of (customers_text route) ≡ map decimal route
+  words-written route small = (made_of (customers_text route) (map decimal route)).1 (made route small)
+    where
+      made : (route : List ℕ) → AllByRecursion (λ n. n < 2 ^ 32) route → IsMadeOf (customers_text route) (map decimal route)
+      made [] small = refl
+      made (n ∷ route) small =
+          (32 ∷ [], customers_text route, refl, refl, digits_are_word (decimal n) (read n (omega (arith, small.0))).0, customers_end route, made route small.1)
+
+  only_digits : (ds : List ℕ) → is_digits ds ≡ true → words_of ds ≡ ds ∷ []
+  only_digits ds is = (made_of ds (ds ∷ [])).1 ([], [], sym (append-nil ds), refl, digits_are_word ds is, tt, refl)
+
+  customer-written : (n : ℕ) → n < 2 ^ 32 → customer_of (decimal n) ≡ Some n
+  unfolding customer_of
+  customer-written n small = rw ((read n (omega (arith, small))).1, lt-ltb n (2 ^ 32) small) refl
+
+  customers-written : (route : List ℕ) → AllByRecursion (λ n. n < 2 ^ 32) route → customers_of (map decimal route) ≡ Some route
+  customers-written [] small = refl
+  customers-written (n ∷ route) small = rw (customer-written n small.0, customers-written route small.1) refl
+
+  line_of-route : (k number : ℕ) (route : List ℕ) → number < 2 ^ 64 → AllByRecursion (λ n. n < 2 ^ 32) route → line_of k (route_text number route) ≡ Ok (Route route)
+  unfolding line_of
+  line_of-route k number route fits small =
+      rw (route_shown number route, route_tail-written number route fits, words-written route small, customers-written route small) refl
+
+  -- ---- a cost line
+  cost_tail-written : (cost : ℕ) → cost < 2 ^ 64 → cost_tail (cost_text cost) ≡ Some (decimal cost)
+  unfolding cost_tail cost_text
+  cost_tail-written cost fits =
+      let digits = (read cost fits).0 in rw (no_blank_front (decimal cost) digits) (ap Some (no_colon (decimal cost) digits))
+
+  cost_word-written : (cost : ℕ) → cost < 2 ^ 64 → cost_word (cost_text cost) ≡ Some (decimal cost)
+  cost_word-written cost fits =
+      rw (cost_tail-written cost fits, only_digits (decimal cost) (read cost fits).0) refl
+
+  cost-written : (cost : ℕ) → cost < 2 ^ 64 → cost_of (decimal cost) ≡ Some cost
+  unfolding cost_of
+  cost-written cost fits = rw ((read cost fits).2, lt-ltb cost (2 ^ 64) fits) refl
+
+  line_of-cost : (k cost : ℕ) → cost < 2 ^ 64 → line_of k (cost_text cost) ≡ Ok (Cost cost)
+  unfolding line_of
+  line_of-cost k cost fits = rw (cost_shown cost, no_route cost, cost_word-written cost fits, cost-written cost fits) refl
+
+  -- ---- the lines
+  decimal_printable : (n : ℕ) → n < 2 ^ 64 → Printable (decimal n)
+  decimal_printable n fits = digits_printable (decimal n) (decimal_digits n fits)
+
+  customers_printable : (route : List ℕ) → AllByRecursion (λ n. n < 2 ^ 32) route → Printable (customers_text route)
+  unfolding printable
+  customers_printable [] small = refl
+  customers_printable (n ∷ route) small =
+      printable-append (32 ∷ decimal n) (customers_text route) (space (decimal n) (decimal_printable n (omega (arith, small.0)))) (customers_printable route small.1)
+    where
+      space : (xs : List ℕ) → Printable xs → Printable (32 ∷ xs)
+      space xs p = and_from (printable 32) (list_all printable xs) (le-leb 32 32 (omega arith)) p
+
+  route_printable : (number : ℕ) (route : List ℕ) → number < 2 ^ 64 → AllByRecursion (λ n. n < 2 ^ 32) route → Printable (route_text number route)
+  unfolding route_text printable
+  route_printable number route fits small =
+      printable-append (codes "Route #") (decimal number ++ (58 ∷ customers_text route)) refl
+      (printable-append (decimal number) (58 ∷ customers_text route) (decimal_printable number fits) (printable-append (58 ∷ []) (customers_text route) refl (customers_printable route small)))
+
+  cost_printable : (cost : ℕ) → cost < 2 ^ 64 → Printable (cost_text cost)
+  unfolding cost_text printable
+  cost_printable cost fits = printable-append (codes "Cost ") (decimal cost) refl (decimal_printable cost fits)
+
+  -- what is written reads back
+  reading-written : (k number : ℕ) (routes : List (List ℕ)) (cost : ℕ) → number + length routes < 2 ^ 64 → AreSmall routes → cost < 2 ^ 64 → reading k (lines_of (routes_text number routes ++ (cost_text cost ++ 10 ∷ []))) ≡ Ok (record { routes = routes; cost = cost })
+  unfolding reading
+  reading-written k number [] cost few small fits =
+      ap (λ ls. reading k ls) (line_ends (cost_text cost) [] (cost_printable cost fits))
+      ∙ ap (λ l. onto_line l (reading (k + 1) (lines_of []))) (line_of-cost (k + 1) cost fits)
+  reading-written k number (route ∷ routes) cost few small fits =
+      let later = routes_text (number + 1) routes ++ (cost_text cost ++ 10 ∷ []) in
+      let small_number : number < 2 ^ 64 = omega arith in
+      ap (λ t. reading k (lines_of t)) (append_assoc (route_text number route) (10 ∷ routes_text (number + 1) routes) (cost_text cost ++ 10 ∷ []))
+      ∙ (ap (λ ls. reading k ls) (line_ends (route_text number route) later (route_printable number route small_number small.0))
+      ∙ (ap (λ l. onto_line l (reading (k + 1) (lines_of later))) (line_of-route (k + 1) number route small_number small.0)
+      ∙ ap (λ r. with_routes (route ∷ []) r) (reading-written (k + 1) (number + 1) routes cost (omega arith) small.1 fits)))
+
+  pub reads_back : (routes : List (List ℕ)) (cost : ℕ) → 1 + length routes < 2 ^ 64 → AreSmall routes → cost < 2 ^ 64 → reading 0 (lines_of (solution_text routes cost)) ≡ Ok (record { routes = routes; cost = cost })
+  reads_back routes cost few small fits = reading-written 0 1 routes cost few small fits

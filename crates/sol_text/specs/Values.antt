@@ -1,14 +1,10 @@
 -- The numbers of a solution text, and the solution that a text spells.
-use Rattle.std.specs.Prelude.{◌^◌, ℕ, nat_lt, List, map, find, Option, Some, None, unwrap_or, if◌then◌else◌, ℤ, pos, negsuc}
+use Rattle.std.specs.Prelude.{◌^◌, ℕ, List, map, find, Option, Some, None, unwrap_or, ℤ, pos, negsuc}
 use Rattle.std.specs.List.{before_first, filter_map}
 use Rattle.std.specs.Option.{option_and_then, option_map}
-use Rattle.text_lines.specs.Numbers.{digits_of, number_of}
+use Rattle.text_lines.specs.Numbers.{below, digits_of, number_of}
 use Rattle.sol_text.specs.LineShapes.{customer_words, cost_word, is_cost_line}
 use Rattle.sol_text.specs.declared.read.Solution.{Solution}
-
-abbrev pub below : ℕ → Option ℕ → Option ℕ
-below limit None = None
-below limit (Some n) = if nat_lt n limit then Some n else None
 
 -- the customer that a word of digits names, if it is at most 2^32 - 1
 unfoldable pub customer_of : List ℕ → Option ℕ

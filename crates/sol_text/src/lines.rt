@@ -69,13 +69,11 @@ fn read_cost(number: u64, line: &[u8]) -> Result<Line, SolFault>
     Ok(Line::Cost(cost))
 }
 
+#[tactic(auto, unfolding(crate::specs::Values::customer_of))]
 fn customer_of(word: &[u8]) -> Option<u32>
     ensures { result ≡ customer_of word.now }
 {
-    match digits_to_u32(word) {
-        Some(customer) => Some(customer),
-        None => None,
-    }
+    digits_to_u32(word)
 }
 
 fn cost_of(word: &[u8]) -> Option<u64>

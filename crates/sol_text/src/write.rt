@@ -13,6 +13,7 @@ use itoa::Buffer;
 use plan_types::{Plan, Problem, Route};
 use route_sched::plan_cost;
 use std::alloc::{AllocError, Global};
+use text_lines::{decimals_are_read, lines_follow, words_make_the_line};
 
 /// The text of a plan: each nonempty route as `Route #1: 21 31 19`, numbered from 1, and then
 /// `Cost 784`, each with a line feed.
@@ -36,6 +37,10 @@ pub fn write_sol(alloc: Global, problem: &Problem, plan: &Plan) -> Result<Vec<u8
     let mut text = Vec::new(alloc);
     write_routes(&mut text, plan.routes.as_slice())?;
     write_cost(&mut text, cost.distance)?;
+    // By these laws the text is read as what was written.
+    lines_follow();
+    words_make_the_line();
+    decimals_are_read();
     Ok(text)
 }
 

@@ -1,4 +1,4 @@
 pub mod PieceLemmas
 pub mod WordLemmas
 pub mod NumberLemmas
-pub mod WrittenLemmas
+pub mod LawProofs

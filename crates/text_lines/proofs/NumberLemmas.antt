@@ -1,6 +1,6 @@
 -- Digits, their values, and where a number ends.
 use Rattle.std.proofs.Common.{◌≡◌, ℕ, ◌-◌, ◌<◌, ◌≤◌, Bool, true, false, ◌⊎◌, inl, inr, ⊎_elim, List, [], ◌∷◌, ◌++◌, length, map, get_or, take, drop, Option, Some, None, refl, sym, ap, subst, ◌∙◌, arith}
-use Rattle.std.specs.Prelude.{nat_lt, nat_le, ◌==◌, ◌^◌, MatchOption, Result, Ok, Err}
+use Rattle.std.specs.Prelude.{nat_lt, nat_le, ◌==◌, ◌^◌, Result, Ok, Err}
 use Rattle.std.specs.Result.{OkIff, result_ok}
 use Rattle.std.specs.Char.{is_ascii_digit, digit_value}
 use Rattle.std.specs.Int.Digits.{number_from_digits, number_from_digits_after}
@@ -11,7 +11,7 @@ use Rattle.std.proofs.lemmas.Bool.Decides.{nat_tests}
 use Rattle.std.proofs.lemmas.Int.Digits.{digits_value_is, number_after_append, number_after_ge}
 use Rattle.std.proofs.lemmas.List.{map-append, take-append-drop, get_or-take, length-take}
 use Rattle.std.proofs.lemmas.List.Sums.{AllPass-from_list_all, list_all-from_AllPass, prefix_len_passes, prefix_len_is, prefix_len-le-length}
-use Rattle.text_lines.specs.Numbers.{is_digits, digits_of, is_zero_fraction, whole_of}
+use Rattle.text_lines.specs.Numbers.{below, is_digits, digits_of, is_zero_fraction, whole_of}
 
 pub digit_bounds : (c : ℕ) → is_ascii_digit c ≡ true → (48 ≤ c) × (c ≤ 57)
 digit_bounds c e = let both = and_parts (nat_le 48 c) (nat_le c 57) e in (leb-true 48 c both.0, leb-true c 57 both.1)
@@ -105,7 +105,14 @@ pub digits_of-no : (word : List ℕ) → is_digits word ≡ false → digits_of 
 unfolding digits_of
 digits_of-no word e = cond-false _ _ _ e
 
--- what `try_from` and `ok` make of the value of a word of digits
-pub fits_u32 : {E : Type 0} (word : List ℕ) (v : ℕ) (o : Option ℕ) (r : Result ℕ E) → digits_of word ≡ Some v → o ≡ result_ok r → OkIff r (v < 2 ^ 32) v → MatchOption o ((n : ℕ) → digits_of word ≡ Some n → 2 ^ 32 ≤ n) (λ n. digits_of word ≡ Some n)
-fits_u32 word v o (Ok x) digits is h = rw is (digits ∙ ap (λ n. Some n) (sym h.1))
-fits_u32 word v o (Err e) digits is h = rw is (λ n same. let here : v ≡ n = cc in let no : v < 2 ^ 32 → ⊥ = h in omega (arith, here, no))
+-- a value above those that a `u32` can hold
+pub below-large : (v : ℕ) → 2 ^ 32 ≤ v → below (2 ^ 32) (Some v) ≡ None
+below-large v large = cond-false _ _ _ (le-ltb v (2 ^ 32) large)
+
+-- what `try_from` and `ok` make of a value
+pub below-from_OkIff : {E : Type 0} (v : ℕ) (o : Option ℕ) (r : Result ℕ E) → o ≡ result_ok r → OkIff r (v < 2 ^ 32) v → o ≡ below (2 ^ 32) (Some v)
+below-from_OkIff v o (Ok x) is h = is ∙ (ap Some h.1 ∙ sym (cond-true _ _ _ (lt-ltb v (2 ^ 32) h.0)))
+below-from_OkIff v o (Err e) is h = is ∙ sym (below-large v (le-from_not v h))
+  where
+    le-from_not : (v : ℕ) → (v < 2 ^ 32 → ⊥) → 2 ^ 32 ≤ v
+    le-from_not v not_below = omega arith

@@ -1,11 +1,11 @@
 -- The first line of a text and the others, and the text from its lines.
 use Rattle.std.proofs.Common.{◌≡◌, ℕ, zero, suc, ◌+◌, ◌<◌, ◌≤◌, Bool, true, false, cond, ◌⊎◌, inl, inr, List, [], ◌∷◌, ◌++◌, length, get_or, take, drop, map, eqb, refl, ap, ◌∙◌, arith}
-use Rattle.std.specs.List.{All, Contains, onto_first, flat_map}
+use Rattle.std.specs.List.{All, onto_first, flat_map}
 use Rattle.std.specs.Str.Lines.{strip_carriage_return}
 use Rattle.std.proofs.lemmas.Bool.{eq-eqb, ne_eqb, eqb-true, eqb-false}
 use Rattle.std.proofs.lemmas.List.{length-map}
 use Rattle.std.proofs.lemmas.List.Elements.{All-nil, All-cons, All-head, All-tail}
-use Rattle.text_lines.specs.Lines.{pieces_of, lines_of, ended, IsCutAtLineFeeds}
+use Rattle.text_lines.specs.Lines.{pieces_of, lines_of, ended, HasNoFeed, IsCutAtLineFeeds}
 
 -- one byte more at the front
 pieces_cons : (b : ℕ) (bs : List ℕ) (t : Bool) → eqb b 10 ≡ t → pieces_of (b ∷ bs) ≡ cond t ([] ∷ pieces_of bs) (onto_first b (pieces_of bs))
@@ -72,10 +72,6 @@ joins_more b bs (p ∷ ps) (inr e) = inr (ap (λ l. b ∷ l) e)
 joins_feed : (bs : List ℕ) (ps : List (List ℕ)) → Joins bs ps → Joins (10 ∷ bs) ([] ∷ ps)
 joins_feed bs ps (inl e) = inl (ap (λ l. 10 ∷ l) e)
 joins_feed bs ps (inr e) = inr (ap (λ l. 10 ∷ l) e)
-
--- a byte has no line feed
-abbrev HasNoFeed : List ℕ → Type 0
-HasNoFeed piece = Contains piece 10 → ⊥
 
 no_feed_more : (b : ℕ) (p : List ℕ) → eqb b 10 ≡ false → HasNoFeed p → HasNoFeed (b ∷ p)
 no_feed_more b p e h (zero, l, here) = eqb-false b 10 e here

@@ -63,7 +63,7 @@ words_of-word xs l =
     (cases_lt n (length xs))
 
 -- what is left after the blanks at the front begins with no blank
-front_no_blank : (xs : List ℕ) → prefix_len is_blank xs < length xs → position_or_len is_blank (drop (prefix_len is_blank xs) xs) ≡ 0 → ⊥
+pub front_no_blank : (xs : List ℕ) → prefix_len is_blank xs < length xs → position_or_len is_blank (drop (prefix_len is_blank xs) xs) ≡ 0 → ⊥
 front_no_blank xs more e =
     let n = prefix_len is_blank xs in
     let stops = prefix_len_stops is_blank xs 0 more in

@@ -1,5 +1,5 @@
 -- The lines of a text.
-use Rattle.std.specs.Prelude.{◌≡◌, ℕ, ◌==◌, if◌then◌else◌, ◌⊎◌, List, [], ◌∷◌, ◌++◌, map, All, Contains}
+use Rattle.std.specs.Prelude.{◌≡◌, ℕ, ◌<◌, ◌==◌, if◌then◌else◌, ◌⊎◌, List, [], ◌∷◌, ◌++◌, length, map, All, Contains}
 use Rattle.std.specs.List.{onto_first, flat_map}
 use Rattle.std.specs.Str.Lines.{strip_carriage_return}
 
@@ -16,8 +16,20 @@ lines_of text = map strip_carriage_return (pieces_of text)
 abbrev pub ended : List ℕ → List ℕ
 ended piece = piece ++ 10 ∷ []
 
+-- no line feed is there
+abbrev pub HasNoFeed : List ℕ → Type 0
+HasNoFeed piece = ¬ Contains piece 10
+
 -- No piece has a line feed, and the pieces, each with a line feed at its end, are the text, but for a
 -- last line feed that the text may lack.
 abbrev pub IsCutAtLineFeeds : List ℕ → List (List ℕ) → Type 0
 IsCutAtLineFeeds text pieces =
-    All (λ piece. ¬ Contains piece 10) pieces × ((flat_map ended pieces ≡ text) ⊎ (flat_map ended pieces ≡ text ++ 10 ∷ []))
+    All HasNoFeed pieces × ((flat_map ended pieces ≡ text) ⊎ (flat_map ended pieces ≡ text ++ 10 ∷ []))
+
+-- What a line feed ends is the first line, and what follows it has the others.
+abbrev pub EndAtFeeds : Type 0
+EndAtFeeds = (piece rest : List ℕ) → HasNoFeed piece → lines_of (piece ++ 10 ∷ rest) ≡ strip_carriage_return piece ∷ lines_of rest
+
+-- What no line feed ends is a line if it has a byte.
+abbrev pub EndWithText : Type 0
+EndWithText = (piece : List ℕ) → HasNoFeed piece → 0 < length piece → lines_of piece ≡ strip_carriage_return piece ∷ []

@@ -1,6 +1,7 @@
 -- Words that are numbers, and their values.
-use Rattle.std.specs.Prelude.{ℕ, Bool, true, false, ◌&&◌, ◌==◌, nat_lt, nat_le, if◌then◌else◌, List, [], ◌∷◌, length, take, drop, Option, Some, None, ℤ, pos, neg_ℤ}
+use Rattle.std.specs.Prelude.{◌≡◌, ◌<◌, ◌^◌, ℕ, Bool, true, false, ◌&&◌, ◌==◌, nat_lt, nat_le, if◌then◌else◌, List, [], ◌∷◌, length, take, drop, Option, Some, None, ℤ, pos, neg_ℤ}
 use Rattle.std.specs.Char.{is_ascii_digit}
+use Rattle.std.specs.Fmt.{decimal}
 use Rattle.std.specs.List.{list_all, prefix_len}
 use Rattle.std.specs.Option.{option_map}
 use Rattle.std.specs.Str.Parse.{digits_value, starts_with_minus, without_leading_sign}
@@ -13,6 +14,11 @@ is_digits (b ∷ bs) = list_all is_ascii_digit (b ∷ bs)
 -- the value of a word of digits
 unfoldable pub digits_of : List ℕ → Option ℕ
 digits_of word = if is_digits word then Some (digits_value 10 word) else None
+
+-- a number, if it is below a limit
+abbrev pub below : ℕ → Option ℕ → Option ℕ
+below limit None = None
+below limit (Some n) = if nat_lt n limit then Some n else None
 
 abbrev pub is_zero : ℕ → Bool
 is_zero b = b == 48
@@ -45,3 +51,7 @@ without_minus word = if starts_with_minus word then drop 1 word else word
 unfoldable pub integer_of : List ℕ → Option ℤ
 integer_of word =
     if nat_le (length (without_minus word)) 20 then option_map (signed (starts_with_minus word)) (digits_of (without_minus word)) else None
+
+-- The decimal digits that print a number are a word of digits with its value, and that number.
+abbrev pub AreRead : Type 0
+AreRead = (n : ℕ) → n < 2 ^ 64 → (is_digits (decimal n) ≡ true) × (digits_of (decimal n) ≡ Some n) × (number_of (decimal n) ≡ Some (pos n))

@@ -1,6 +1,6 @@
 -- The words of a line.
-use Rattle.std.specs.Prelude.{ℕ, Bool, ◌==◌, ◌||◌, nat_lt, List, length, filter}
-use Rattle.std.specs.List.{list_all, slice_split}
+use Rattle.std.specs.Prelude.{◌≡◌, ℕ, ◌<◌, Bool, true, false, ◌==◌, ◌||◌, nat_lt, List, [], ◌∷◌, ◌++◌, length, filter}
+use Rattle.std.specs.List.{AllByRecursion, list_all, slice_split}
 
 -- a blank or a tab
 abbrev pub is_blank : ℕ → Bool
@@ -16,3 +16,18 @@ words_of line = filter has_a_byte (slice_split is_blank line)
 -- nothing but blanks and tabs
 abbrev pub is_blank_line : List ℕ → Bool
 is_blank_line line = list_all is_blank line
+
+-- one byte or more, and no blank
+abbrev pub IsWord : List ℕ → Type 0
+IsWord word = (0 < length word) × AllByRecursion (λ b. is_blank b ≡ false) word
+
+-- nothing, or a blank and what follows it
+abbrev pub EndsWord : List ℕ → Type 0
+EndsWord [] = Unit {0}
+EndsWord (b ∷ rest) = is_blank b ≡ true
+
+-- The line is these words in order, with blanks between them, and perhaps before the first and behind the last.
+abbrev pub IsMadeOf : List ℕ → List (List ℕ) → Type 0
+IsMadeOf line [] = is_blank_line line ≡ true
+IsMadeOf line (word ∷ words) =
+    (gap : List ℕ) × (rest : List ℕ) × (line ≡ gap ++ (word ++ rest)) × (is_blank_line gap ≡ true) × IsWord word × EndsWord rest × IsMadeOf rest words

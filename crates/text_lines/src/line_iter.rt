@@ -1,8 +1,8 @@
 //! The lines of a text.
-ghost use Rattle.std.specs.Prelude.{◌≡◌, ◌<◌, ◌≤◌, ℕ, List, ◌∷◌, length};
+ghost use Rattle.std.specs.Prelude.{◌≡◌, ◌<◌, ◌≤◌, ◌∷◌, length};
 ghost use Rattle.std.specs.Iterator.{YieldsFirstRef, item_count};
 ghost use Rattle.std.specs.Str.Lines.{strip_carriage_return};
-ghost use Rattle.text_lines.specs.Lines.{IsCutAtLineFeeds, lines_of, pieces_of};
+ghost use Rattle.text_lines.specs.Lines.{lines_of, pieces_of};
 
 use memchr::memchr;
 use std::marker::Model;
@@ -71,8 +71,3 @@ fn without_carriage_return(piece: &[u8]) -> &[u8]
         _ => piece,
     }
 }
-
-/// The lines of a text are what its line feeds cut it into, none lost and none made.
-pub fn lines_join()
-    ensures { (text : List ℕ) → IsCutAtLineFeeds text (pieces_of text) }
-{}

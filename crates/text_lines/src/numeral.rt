@@ -1,11 +1,11 @@
 //! Words that are numbers.
-ghost use Rattle.std.specs.Prelude.{◌≡◌, ◌+◌, ◌*◌, ◌^◌, ◌<◌, ◌≤◌, ◌↔◌, ℕ, true, Some, None, pos, ◌≤ℤ◌, ◌<ℤ◌, IsTrue, IfSome, MatchOption};
+ghost use Rattle.std.specs.Prelude.{◌≡◌, ◌+◌, ◌*◌, ◌^◌, ◌<◌, ◌≤◌, ◌↔◌, ℕ, true, Some, None, pos, ◌≤ℤ◌, ◌<ℤ◌, IsTrue, IfSome};
 ghost use Rattle.std.specs.Char.{digit_value, is_ascii_digit};
 ghost use Rattle.std.specs.List.{list_all, prefix_len};
 ghost use Rattle.std.specs.Int.RustNames.{unsigned_abs};
 ghost use Rattle.std.specs.Option.{SomeIff, option_map};
 ghost use Rattle.std.specs.Str.Parse.{digits_value, starts_with_minus, without_leading_sign};
-ghost use Rattle.text_lines.specs.Numbers.{digits_of, integer_of, is_digits, is_zero, is_zero_fraction, number_of, signed, whole_of, without_minus};
+ghost use Rattle.text_lines.specs.Numbers.{below, digits_of, integer_of, is_digits, is_zero, is_zero_fraction, number_of, signed, whole_of, without_minus};
 
 use std::marker::Model;
 
@@ -98,7 +98,7 @@ impl<'a> Number<'a> {
 /// The value of a word of digits, if a `u32` can hold it.
 #[inline]
 pub fn digits_to_u32(word: &[u8]) -> Option<u32>
-    ensures { MatchOption result ((n : ℕ) → digits_of word.now ≡ Some n → 2 ^ 32 ≤ n) (λ n. digits_of word.now ≡ Some n) }
+    ensures { result ≡ below (2 ^ 32) (digits_of word.now) }
 {
     if !all_digits(word) {
         return None;

@@ -1,7 +1,7 @@
 use Rattle.std.proofs.Common.{◌≡◌, ◌^◌, ◌∙◌, Some, None, sym, ap}
 use Rattle.std.specs.Option.{option_and_then}
-use Rattle.text_lines.specs.Numbers.{number_of}
-use Rattle.sol_text.specs.Values.{below, magnitude, cost_of}
+use Rattle.text_lines.specs.Numbers.{below, number_of}
+use Rattle.sol_text.specs.Values.{magnitude, cost_of}
 use Rattle.sol_text.proofs.ValueLemmas.{below-from_SomeIff}
 use Rattle.sol_text.proofs.lines.cost_of.Goals as goal
 

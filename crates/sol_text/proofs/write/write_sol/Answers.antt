@@ -20,4 +20,4 @@ returns-clause-spells c =
     in
     let fits : total_length c.args.problem.now c.args.plan.now.routes < 2 ^ 64 = omega (arith, distance, c.plan_cost-cost.type_inv) in
     subst (λ t. Spells t (record { routes = used_routes c.args.plan.now.routes; cost = total_length c.args.problem.now c.args.plan.now.routes })) (sym text)
-    (spells_from_told _ _ (reads_back (used_routes c.args.plan.now.routes) (total_length c.args.problem.now c.args.plan.now.routes) few (used_small c.args.plan.now.routes c.plan_cost-cost.ensures.numbers) fits))
+    (spells_from_told _ _ (reads_back c.lines_follow.ensures.ended c.words_make_the_line.ensures c.decimals_are_read.ensures (used_routes c.args.plan.now.routes) (total_length c.args.problem.now c.args.plan.now.routes) few (used_small c.args.plan.now.routes c.plan_cost-cost.ensures.numbers) fits))

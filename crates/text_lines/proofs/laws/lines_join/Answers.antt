@@ -1,5 +1,5 @@
 use Rattle.text_lines.proofs.PieceLemmas.{cut_at_line_feeds}
-use Rattle.text_lines.proofs.line_iter.lines_join.Goals as goal
+use Rattle.text_lines.proofs.laws.lines_join.Goals as goal
 
 pub returns : goal.returns
 returns c = cut_at_line_feeds

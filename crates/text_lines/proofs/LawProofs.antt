@@ -1,0 +1,202 @@
+-- The laws of lines, words and numbers.
+use Rattle.std.proofs.Common.{◌≡◌, ℕ, suc, ◌<◌, ◌≤◌, ◌^◌, true, false, not, List, [], ◌∷◌, ◌++◌, length, get_or, take, drop, map, Some, pos, refl, sym, ap, subst, ◌∙◌, arith, length-append, length-take, cond, eqb, ⊎_elim, get_or-take}
+use Rattle.std.specs.Char.{is_ascii_digit}
+use Rattle.std.specs.Fmt.{decimal}
+use Rattle.std.specs.List.{position_or_len, prefix_len, list_all}
+use Rattle.std.specs.Prelude.{option_map}
+use Rattle.std.specs.Str.Lines.{strip_carriage_return}
+use Rattle.std.specs.Str.Parse.{IsNumeral, digits_value, starts_with_minus, without_leading_plus, without_leading_sign}
+use Rattle.std.proofs.lemmas.Fmt.{decimal_is_IsNumeral}
+use Rattle.std.proofs.lemmas.List.{take_at, drop_at, get_or_at, get_or_append_left, drop_all, drop_more, take_all, take-append-drop, get_or_default}
+use Rattle.std.proofs.lemmas.List.Elements.{All-from_recursion, recursion_from_All}
+use Rattle.std.proofs.lemmas.List.Sums.{position_or_len_is, prefix_len_is, prefix_len_passes, prefix_len-le-length, fails_before_first, passes_at_first, list_all-from_AllPass}
+use Rattle.std.proofs.lemmas.Str.Parse.{digit_at}
+use Rattle.std.proofs.lemmas.Bool.{and_from, and_parts, cases_lt, le-leb, ne_eqb, cond-false}
+use Rattle.text_lines.proofs.NumberLemmas.{is_digits-all, digits_of-yes, whole_of-some}
+use Rattle.text_lines.specs.Lines.{lines_of, pieces_of, HasNoFeed, EndAtFeeds, EndWithText}
+use Rattle.text_lines.specs.Words.{is_blank, is_blank_line, words_of, IsWord, EndsWord, IsMadeOf}
+use Rattle.text_lines.specs.Numbers.{digits_of, is_digits, is_zero_fraction, number_of, signed, whole_of, AreRead}
+use Rattle.text_lines.proofs.PieceLemmas.{pieces_at, pieces_whole, lines_from_pieces}
+use Rattle.text_lines.proofs.WordLemmas.{words_of-word, words_of-trim, words_of-none, front_no_blank, words_blank, words_nil}
+
+-- ---- lines
+drop_after : (xs : List ℕ) (y : ℕ) (ys : List ℕ) → drop (suc (length xs)) (xs ++ y ∷ ys) ≡ ys
+drop_after [] y ys = refl
+drop_after (x ∷ xs) y ys = drop_after xs y ys
+
+-- no feed at a place
+no_feed_at : (piece : List ℕ) → HasNoFeed piece → (j : ℕ) → j < length piece → get_or piece j 0 ≡ 10 → ⊥
+no_feed_at piece none j h here = none (j, h, get_or_default piece j 10 0 h ∙ here)
+
+pub end_at_feeds : EndAtFeeds
+end_at_feeds line rest none =
+    let text = line ++ 10 ∷ rest in
+    let n = length line in
+    let cut : pieces_of text ≡ line ∷ pieces_of rest =
+    pieces_at text n (omega (arith, length-append line (10 ∷ rest))) (λ j h here. no_feed_at line none j h (sym (get_or_append_left line (10 ∷ rest) 0 j h) ∙ here)) (get_or_at line 10 rest 0 n refl)
+    ∙ ap (λ p. p ∷ pieces_of (drop (suc n) text)) (take_at line (10 ∷ rest) n refl)
+    ∙ ap (λ r. line ∷ pieces_of r) (drop_after line 10 rest) in
+    lines_from_pieces text line rest cut
+
+pub end_with_text : EndWithText
+unfolding lines_of
+end_with_text piece none some = ap (λ ps. map strip_carriage_return ps) (pieces_whole piece some (no_feed_at piece none))
+
+-- ---- words
+-- blanks at the front make no word
+words_of-gap : (gap rest : List ℕ) → is_blank_line gap ≡ true → words_of (gap ++ rest) ≡ words_of rest
+words_of-gap [] rest blank = refl
+words_of-gap (b ∷ gap) rest blank =
+    let parts = and_parts (is_blank b) (list_all is_blank gap) blank in words_blank b (gap ++ rest) parts.0 ∙ words_of-gap gap rest parts.1
+
+words_of-blanks : (line : List ℕ) → is_blank_line line ≡ true → words_of line ≡ []
+words_of-blanks [] blank = words_nil
+words_of-blanks (b ∷ line) blank =
+    let parts = and_parts (is_blank b) (list_all is_blank line) blank in words_blank b line parts.0 ∙ words_of-blanks line parts.1
+
+word_at : (word : List ℕ) → IsWord word → (j : ℕ) → j < length word → is_blank (get_or word j 0) ≡ false
+word_at word is j h = All-from_recursion (λ b. is_blank b ≡ false) word is.1 j 0 h
+
+-- a word at the front, up to its end
+word_length : (word rest : List ℕ) → IsWord word → EndsWord rest → position_or_len is_blank (word ++ rest) ≡ length word
+word_length word [] is ends =
+    position_or_len_is is_blank (word ++ []) (length word) 0 (omega (arith, length-append word []))
+    (λ j h. rw (get_or_append_left word [] 0 j h) (word_at word is j h))
+    (λ h. absurd (omega (arith, length-append word [])))
+word_length word (b ∷ rest) is ends =
+    position_or_len_is is_blank (word ++ b ∷ rest) (length word) 0 (omega (arith, length-append word (b ∷ rest)))
+    (λ j h. rw (get_or_append_left word (b ∷ rest) 0 j h) (word_at word is j h))
+    (λ h. rw (get_or_at word b rest 0 (length word) refl) ends)
+
+words_of-front : (word rest : List ℕ) → IsWord word → EndsWord rest → words_of (word ++ rest) ≡ word ∷ words_of rest
+words_of-front word rest is ends =
+    let line = word ++ rest in
+    let len = word_length word rest is ends in
+    words_of-word line (omega (arith, len, is.0))
+    ∙ ap (λ k. take k line ∷ words_of (drop k line)) len
+    ∙ ap (λ w. w ∷ words_of (drop (length word) line)) (take_at word rest (length word) refl)
+    ∙ ap (λ r. word ∷ words_of r) (drop_at word rest (length word) refl)
+
+-- what a line is made of are its words
+pub words_from_made : (words : List (List ℕ)) (line : List ℕ) → IsMadeOf line words → words_of line ≡ words
+words_from_made [] line made = words_of-blanks line made
+words_from_made (word ∷ words) line (gap, rest, whole, blank, is, ends, made) =
+    ap words_of whole
+    ∙ words_of-gap gap (word ++ rest) blank
+    ∙ words_of-front word rest is ends
+    ∙ ap (λ ws. word ∷ ws) (words_from_made words rest made)
+
+-- the blanks at the front of a line, what follows them, and the length of its first word
+abbrev gap_of : List ℕ → List ℕ
+gap_of line = take (prefix_len is_blank line) line
+
+abbrev body_of : List ℕ → List ℕ
+body_of line = drop (prefix_len is_blank line) line
+
+abbrev first_len : List ℕ → ℕ
+first_len body = position_or_len is_blank body
+
+gap_blank : (line : List ℕ) → is_blank_line (gap_of line) ≡ true
+gap_blank line =
+    let n = prefix_len is_blank line in
+    list_all-from_AllPass is_blank (take n line) (λ k d h.
+    let before : k < n = omega (arith, length-take n line) in
+    rw get_or-take (prefix_len_passes is_blank line k d before))
+
+-- no word, so nothing but blanks
+all_blank : (line : List ℕ) → first_len (body_of line) ≡ 0 → is_blank_line line ≡ true
+all_blank line e =
+    let n = prefix_len is_blank line in
+    ⊎_elim
+    (λ more. absurd (front_no_blank line more e))
+    (λ all. subst (λ xs. is_blank_line xs ≡ true) (take_all n line all) (gap_blank line))
+    (cases_lt n (length line))
+
+first_is_word : (body : List ℕ) → 0 < first_len body → IsWord (take (first_len body) body)
+first_is_word body some =
+    let n = first_len body in
+    let fits : n ≤ length body = prefix_len-le-length (λ b. not (is_blank b)) body in (
+      omega (arith, length-take n body),
+      recursion_from_All (λ b. is_blank b ≡ false) (take n body) (λ k d h.
+          let before : k < n = omega (arith, length-take n body) in
+          rw get_or-take (fails_before_first is_blank body k d before)),
+    )
+
+first_ends : (body : List ℕ) → EndsWord (drop (first_len body) body)
+first_ends body =
+    let n = first_len body in
+    ⊎_elim
+    (λ more. subst EndsWord (sym (drop_more body n 0 more)) (passes_at_first is_blank body 0 more))
+    (λ all. subst EndsWord (sym (drop_all n body all)) tt)
+    (cases_lt n (length body))
+
+same_head : {X : Type 0} {x y : X} {xs ys : List X} → x ∷ xs ≡ y ∷ ys → (x ≡ y) × (xs ≡ ys)
+same_head e = (cc, cc)
+
+nil_cons : {X : Type 0} {x : X} {xs : List X} → [] ≡ x ∷ xs → ⊥
+nil_cons e = cc
+
+-- a line is made of its words
+pub made_from_words : (words : List (List ℕ)) (line : List ℕ) → words_of line ≡ words → IsMadeOf line words
+made_from_words [] line is =
+    let body = body_of line in
+    ⊎_elim
+    (λ some. absurd (nil_cons (sym is ∙ (sym (words_of-trim line) ∙ words_of-word body some))))
+    (λ none. all_blank line (omega arith))
+    (cases_lt 0 (first_len body))
+made_from_words (word ∷ words) line is =
+    let body = body_of line in
+    let n = first_len body in
+    let rest = drop n body in
+    ⊎_elim
+    (λ some.
+    let both = same_head (sym (sym (words_of-trim line) ∙ words_of-word body some) ∙ is) in
+    let whole : line ≡ gap_of line ++ (word ++ rest) =
+    sym (take-append-drop (prefix_len is_blank line) line)
+    ∙ ap (λ b. gap_of line ++ b) (sym (take-append-drop n body) ∙ ap (λ w. w ++ rest) both.0) in
+    (gap_of line, rest, whole, gap_blank line, subst IsWord both.0 (first_is_word body some), first_ends body, made_from_words words rest both.1))
+    (λ none. absurd (nil_cons (sym (words_of-none line (omega arith)) ∙ is)))
+    (cases_lt 0 n)
+
+-- ---- the digits that print a number
+module _ (n : ℕ) (small : n < 2 ^ 64) where
+  numeral : IsNumeral 10 (decimal n) × (digits_value 10 (decimal n) ≡ n)
+  numeral = decimal_is_IsNumeral n small
+
+  decimal_digit_at : (k : ℕ) → k < length (decimal n) → is_ascii_digit (get_or (decimal n) k 0) ≡ true
+  decimal_digit_at k l = let range = digit_at (decimal n) k numeral.0.1 l in and_from _ _ (le-leb 48 _ range.0) (le-leb _ 57 range.1)
+
+  is_digits-decimal : is_digits (decimal n) ≡ true
+  is_digits-decimal =
+      is_digits-all (decimal n) (λ e. omega (arith, e, numeral.0.0))
+      ∙ list_all-from_AllPass is_ascii_digit (decimal n) (λ k d h. rw (get_or_default (decimal n) k d 0 h) (decimal_digit_at k h))
+
+  digits_of-decimal : digits_of (decimal n) ≡ Some n
+  digits_of-decimal = digits_of-yes (decimal n) is_digits-decimal ∙ ap (λ v. Some v) numeral.1
+
+  all_front : prefix_len is_ascii_digit (decimal n) ≡ length (decimal n)
+  all_front = prefix_len_is is_ascii_digit (decimal n) (length (decimal n)) 0 (omega arith) decimal_digit_at (λ h. absurd (omega arith))
+
+  whole_of-decimal : whole_of (decimal n) ≡ Some n
+  whole_of-decimal =
+      let k = prefix_len is_ascii_digit (decimal n) in
+      whole_of-some (decimal n) (omega (arith, all_front, numeral.0.0)) (ap is_zero_fraction (drop_all k (decimal n) (omega (arith, all_front))))
+      ∙ ap (λ ds. Some (digits_value 10 ds)) (take_all k (decimal n) (omega (arith, all_front)))
+      ∙ ap (λ v. Some v) numeral.1
+
+  first_range : (48 ≤ get_or (decimal n) 0 0) × (get_or (decimal n) 0 0 ≤ 57)
+  first_range = let range = digit_at (decimal n) 0 numeral.0.1 (omega (arith, numeral.0.0)) in (range.0, range.1)
+
+  number_of-decimal : number_of (decimal n) ≡ Some (pos n)
+  unfolding number_of
+  number_of-decimal =
+      let minus : starts_with_minus (decimal n) ≡ false = ne_eqb (get_or (decimal n) 0 0) 45 (λ e. omega (arith, e, first_range.0)) in
+      let plus : eqb (get_or (decimal n) 0 0) 43 ≡ false = ne_eqb (get_or (decimal n) 0 0) 43 (λ e. omega (arith, e, first_range.0)) in
+      let bare : without_leading_sign (decimal n) ≡ decimal n =
+      cond-false (starts_with_minus (decimal n)) (drop 1 (decimal n)) (without_leading_plus (decimal n)) minus ∙ ap (λ b. drop (cond b 1 0) (decimal n)) plus in
+      ap (λ b. option_map (signed b) (whole_of (without_leading_sign (decimal n)))) minus
+      ∙ ap (λ w. option_map (signed false) (whole_of w)) bare
+      ∙ ap (option_map (signed false)) whole_of-decimal
+
+pub are_read : AreRead
+are_read n small = (is_digits-decimal n small, digits_of-decimal n small, number_of-decimal n small)

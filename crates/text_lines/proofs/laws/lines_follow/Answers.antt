@@ -1,0 +1,6 @@
+use Rattle.text_lines.proofs.LawProofs.{end_at_feeds, end_with_text}
+use Rattle.text_lines.proofs.PieceLemmas.{lines_nil}
+use Rattle.text_lines.proofs.laws.lines_follow.Goals as goal
+
+pub returns : goal.returns
+returns c = record { ended = end_at_feeds; last = end_with_text; none = lines_nil }

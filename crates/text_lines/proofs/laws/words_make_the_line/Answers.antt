@@ -1,0 +1,5 @@
+use Rattle.text_lines.proofs.LawProofs.{made_from_words, words_from_made}
+use Rattle.text_lines.proofs.laws.words_make_the_line.Goals as goal
+
+pub returns : goal.returns
+returns c line words = (made_from_words words line, words_from_made words line)
