@@ -1,5 +1,6 @@
 pub mod FaultLemmas
 pub mod ReadLemmas
+pub mod ShapeLemmas
 pub mod TextLemmas
 pub mod ValueLemmas
 pub mod WrittenRead

@@ -1,19 +1,21 @@
 -- A text that is written reads back.
-use Rattle.std.proofs.Common.{◌≡◌, ℕ, ◌+◌, ◌-◌, ◌≤◌, ◌<◌, ◌^◌, Bool, true, false, not, cond, eqb, List, [], ◌∷◌, ◌++◌, length, get_or, map, Some, None, Ok, refl, sym, ap, ◌∙◌, arith}
+use Rattle.std.proofs.Common.{◌≡◌, ℕ, ◌+◌, ◌-◌, ◌≤◌, ◌<◌, ◌^◌, Bool, true, false, not, cond, eqb, List, [], ◌∷◌, ◌++◌, length, get_or, map, Some, None, Ok, inl, inr, refl, sym, ap, ◌∙◌, arith}
 use Rattle.std.specs.Prelude.{codes, nat_le, ◌↔◌}
 use Rattle.std.specs.Char.{is_ascii_digit}
 use Rattle.std.specs.Fmt.{decimal}
-use Rattle.std.specs.List.{AllByRecursion, list_all, prefix_len, concat}
+use Rattle.std.specs.List.{AllByRecursion, list_all, concat}
 use Rattle.std.specs.Str.Lines.{strip_carriage_return}
-use Rattle.std.proofs.lemmas.Bool.{and_parts, and_from, leb-true, le-leb, ne_eqb, false≢true, lt-ltb}
-use Rattle.std.proofs.lemmas.List.{append-nil, append_assoc, drop_at, get_or_default, length-append}
+use Rattle.std.proofs.lemmas.Bool.{and_parts, and_from, leb-true, le-leb, ne_eqb, lt-ltb}
+use Rattle.std.proofs.lemmas.List.{append-nil, append_assoc, get_or_default, length-append}
 use Rattle.std.proofs.lemmas.List.Sums.{AllPass-from_list_all}
 use Rattle.text_lines.specs.Lines.{EndAtFeeds, HasNoFeed, lines_of}
 use Rattle.text_lines.specs.Words.{EndsWord, IsMadeOf, IsWord, is_blank, is_blank_line, words_of}
 use Rattle.text_lines.specs.Numbers.{AreRead, is_digits}
-use Rattle.sol_text.specs.LineShapes.{after_blanks, after_digits, after_one, route_tail, cost_tail, cost_word}
+use Rattle.sol_text.specs.LineShapes.{route_tail, cost_word}
 use Rattle.sol_text.specs.Values.{customer_of, cost_of}
 use Rattle.sol_text.specs.Reading.{customers_of, line_of, onto_line, reading, with_routes}
+use Rattle.sol_text.specs.Laws.{begins_with_colon}
+use Rattle.sol_text.proofs.ShapeLemmas.{all_digits, cost_word_from_line, digit_not_blank, route_tail_from_line}
 use Rattle.sol_text.specs.Written.{used_routes, customers_text, route_text, routes_text, cost_text, solution_text}
 use Rattle.sol_text.specs.declared.lines.Line.TheVariants.{Route, Cost}
 
@@ -36,17 +38,6 @@ digits_printable : (xs : List ℕ) → list_all is_ascii_digit xs ≡ true → P
 digits_printable [] is = refl
 digits_printable (x ∷ xs) is = let parts = and_parts (is_ascii_digit x) (list_all is_ascii_digit xs) is in and_from (printable x) (list_all printable xs) (digit_printable x parts.0) (digits_printable xs parts.1)
 
--- a word of digits: it has a first digit
-all_digits : (xs : List ℕ) → is_digits xs ≡ true → list_all is_ascii_digit xs ≡ true
-unfolding is_digits
-all_digits [] is = absurd (false≢true is)
-all_digits (x ∷ xs) is = is
-
-some_digit : (xs : List ℕ) → is_digits xs ≡ true → 0 < length xs
-unfolding is_digits
-some_digit [] is = absurd (false≢true is)
-some_digit (x ∷ xs) is = omega arith
-
 -- a line of printable bytes stays itself
 printable_at : (xs : List ℕ) (j b : ℕ) → Printable xs → j < length xs → get_or xs j 0 ≡ b → 32 ≤ b
 unfolding printable
@@ -61,49 +52,21 @@ whole_line (x ∷ xs) p =
     let no_return : eqb (get_or (x ∷ xs) (length (x ∷ xs) - 1) 0) 13 ≡ false = ne_eqb (get_or (x ∷ xs) (length (x ∷ xs) - 1) 0) 13 (λ e. absurd (omega (arith, printable_at (x ∷ xs) (length (x ∷ xs) - 1) 13 p (omega arith) e))) in
     rw no_return refl
 
--- ---- blanks and digits
-digit_not_blank : (b : ℕ) → is_ascii_digit b ≡ true → is_blank b ≡ false
-digit_not_blank b is =
-    let range = leb-true 48 b (and_parts (nat_le 48 b) (nat_le b 57) is).0 in
-    let no_space : eqb b 32 ≡ false = ne_eqb b 32 (λ e. absurd (omega (arith, range, e))) in
-    let no_tab : eqb b 9 ≡ false = ne_eqb b 9 (λ e. absurd (omega (arith, range, e))) in
-    rw (no_space, no_tab) refl
-
-no_blanks : (ds rest : List ℕ) → is_digits ds ≡ true → after_blanks (ds ++ rest) ≡ ds ++ rest
-unfolding is_digits
-no_blanks [] rest is = absurd (false≢true is)
-no_blanks (d ∷ ds) rest is = rw (digit_not_blank d (and_parts (is_ascii_digit d) (list_all is_ascii_digit ds) is).0) refl
-
-digits_front : (ds rest : List ℕ) (b : ℕ) → list_all is_ascii_digit ds ≡ true → is_ascii_digit b ≡ false → prefix_len is_ascii_digit (ds ++ b ∷ rest) ≡ length ds
-digits_front [] rest b is other = rw other refl
-digits_front (d ∷ ds) rest b is other =
-    let parts = and_parts (is_ascii_digit d) (list_all is_ascii_digit ds) is in rw (parts.0, digits_front ds rest b parts.1 other) (omega arith)
-
-behind_digits : (ds rest : List ℕ) → is_digits ds ≡ true → after_digits (ds ++ 58 ∷ rest) ≡ Some (58 ∷ rest)
-behind_digits ds rest is =
-    let front = digits_front ds rest 58 (all_digits ds is) refl in
-    rw (front, lt-ltb 0 (length ds) (some_digit ds is), drop_at ds (58 ∷ rest) (length ds) refl) refl
-
-no_blank_front : (ds : List ℕ) → is_digits ds ≡ true → prefix_len is_blank ds ≡ 0
-unfolding is_digits
-no_blank_front [] is = absurd (false≢true is)
-no_blank_front (d ∷ ds) is = rw (digit_not_blank d (and_parts (is_ascii_digit d) (list_all is_ascii_digit ds) is).0) refl
-
-no_colon : (ds : List ℕ) → is_digits ds ≡ true → after_one 58 ds ≡ ds
-unfolding is_digits
-no_colon [] is = refl
-no_colon (d ∷ ds) is =
-    let range = leb-true d 57 (and_parts (nat_le 48 d) (nat_le d 57) (and_parts (is_ascii_digit d) (list_all is_ascii_digit ds) is).0).1 in
-    let other : eqb d 58 ≡ false = ne_eqb d 58 (λ e. absurd (omega (arith, range, e))) in
-    rw other refl
-
+-- ---- words
 -- a word of digits has no blank
 digits_apart : (ds : List ℕ) → list_all is_ascii_digit ds ≡ true → AllByRecursion (λ b. is_blank b ≡ false) ds
 digits_apart [] is = tt
 digits_apart (d ∷ ds) is = let parts = and_parts (is_ascii_digit d) (list_all is_ascii_digit ds) is in (digit_not_blank d parts.0, digits_apart ds parts.1)
 
 digits_are_word : (ds : List ℕ) → is_digits ds ≡ true → IsWord ds
-digits_are_word ds is = (some_digit ds is, digits_apart ds (all_digits ds is))
+digits_are_word ds is = let all = all_digits ds is in (all.0, digits_apart ds all.1)
+
+no_colon : (ds : List ℕ) → is_digits ds ≡ true → begins_with_colon ds ≡ false
+unfolding is_digits
+no_colon [] is = refl
+no_colon (d ∷ ds) is =
+    let range = leb-true d 57 (and_parts (nat_le 48 d) (nat_le d 57) (and_parts (is_ascii_digit d) (list_all is_ascii_digit ds) is).0).1 in
+    ne_eqb d 58 (λ e. absurd (omega (arith, range, e)))
 
 -- what follows a customer is a blank or nothing
 customers_end : (route : List ℕ) → EndsWord (customers_text route)
@@ -157,14 +120,27 @@ module _ (ended : EndAtFeeds) (made_of : (line : List ℕ) (words : List (List �
 
   -- ---- numbers
   decimal_digits : (n : ℕ) → n < 2 ^ 64 → list_all is_ascii_digit (decimal n) ≡ true
-  decimal_digits n small = all_digits (decimal n) ((read n small).0)
+  decimal_digits n small = (all_digits (decimal n) (read n small).0).1
 
   -- ---- a route line
   route_tail-written : (number : ℕ) (route : List ℕ) → number < 2 ^ 64 → route_tail (route_text number route) ≡ Some (customers_text route)
-  unfolding route_tail route_text
+  unfolding route_text
   route_tail-written number route small =
-      let digits = (read number small).0 in
-      rw (no_blanks (decimal number) (58 ∷ customers_text route) digits, behind_digits (decimal number) (customers_text route) digits) refl
+      route_tail_from_line (route_text number route) (customers_text route) (record {
+        key = codes "Route";
+        before_mark = 32 ∷ [];
+        mark = 35 ∷ [];
+        before_number = [];
+        number = decimal number;
+        before_colon = [];
+        whole = refl;
+        is_key = refl;
+        blank_mark = refl;
+        is_mark = inr refl;
+        blank_number = refl;
+        is_number = (read number small).0;
+        blank_colon = refl;
+      })
 
   words-written : (route : List ℕ) → AllByRecursion (λ n. n < 2 ^ 32) route → words_of (customers_text route) ≡ map decimal route
   words-written route small = (made_of (customers_text route) (map decimal route)).1 (made route small)
@@ -173,9 +149,6 @@ module _ (ended : EndAtFeeds) (made_of : (line : List ℕ) (words : List (List �
       made [] small = refl
       made (n ∷ route) small =
           (32 ∷ [], customers_text route, refl, refl, digits_are_word (decimal n) (read n (omega (arith, small.0))).0, customers_end route, made route small.1)
-
-  only_digits : (ds : List ℕ) → is_digits ds ≡ true → words_of ds ≡ ds ∷ []
-  only_digits ds is = (made_of ds (ds ∷ [])).1 ([], [], sym (append-nil ds), refl, digits_are_word ds is, tt, refl)
 
   customer-written : (n : ℕ) → n < 2 ^ 32 → customer_of (decimal n) ≡ Some n
   unfolding customer_of
@@ -191,14 +164,26 @@ module _ (ended : EndAtFeeds) (made_of : (line : List ℕ) (words : List (List �
       rw (route_shown number route, route_tail-written number route fits, words-written route small, customers-written route small) refl
 
   -- ---- a cost line
-  cost_tail-written : (cost : ℕ) → cost < 2 ^ 64 → cost_tail (cost_text cost) ≡ Some (decimal cost)
-  unfolding cost_tail cost_text
-  cost_tail-written cost fits =
-      let digits = (read cost fits).0 in rw (no_blank_front (decimal cost) digits) (ap Some (no_colon (decimal cost) digits))
-
   cost_word-written : (cost : ℕ) → cost < 2 ^ 64 → cost_word (cost_text cost) ≡ Some (decimal cost)
+  unfolding cost_text
   cost_word-written cost fits =
-      rw (cost_tail-written cost fits, only_digits (decimal cost) (read cost fits).0) refl
+      let digits = (read cost fits).0 in
+      cost_word_from_line made_of (cost_text cost) (decimal cost) (record {
+        key = codes "Cost";
+        before_colon = 32 ∷ [];
+        colon = [];
+        before_word = [];
+        behind = [];
+        whole = ap (λ ds. codes "Cost " ++ ds) (sym (append-nil (decimal cost)));
+        is_key = refl;
+        blank_colon = refl;
+        is_colon = inl refl;
+        separated = omega arith;
+        blank_word = refl;
+        is_word = digits_are_word (decimal cost) digits;
+        bare = λ _. no_colon (decimal cost) digits;
+        blank_behind = refl;
+      })
 
   cost-written : (cost : ℕ) → cost < 2 ^ 64 → cost_of (decimal cost) ≡ Some cost
   unfolding cost_of

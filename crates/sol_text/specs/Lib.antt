@@ -1,4 +1,5 @@
 pub mod Faults
+pub mod Laws
 pub mod LineShapes
 pub mod Names
 pub mod Reading

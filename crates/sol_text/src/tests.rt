@@ -20,6 +20,32 @@ fn reads_any_spelling(rt: HostRuntime) -> Result<(), Fail> {
 }
 
 #[test]
+fn reads_any_route_number(rt: HostRuntime) -> Result<(), Fail> {
+    let text =
+        b"Route1:2 1\nroute 0:3\nROUTE#7:\nRoute\t# 7 : 4\nRoute 99999999999999999999999999:5\nCost 1";
+    let solution = read_sol(rt.alloc(), text)?;
+    let routes = solution.routes.as_slice();
+    assert_eq!(rt; routes.len(), 5);
+    assert_eq!(rt; routes[0].as_slice(), [2, 1].as_slice());
+    assert_eq!(rt; routes[4].as_slice(), [5].as_slice());
+    Ok(())
+}
+
+#[test]
+fn ignores_what_follows_the_cost(rt: HostRuntime) -> Result<(), Fail> {
+    for text in [
+        b"Route #1: 1\nCost 7\nCost 8\n".as_slice(),
+        b"Route #1: 1\nCost 7\nCost 8 9\nRoute #2: 2",
+        b"Route #1: 1\nCost 7\nRoute #2: x\nnonsense",
+    ] {
+        let solution = read_sol(rt.alloc(), text)?;
+        assert_eq!(rt; solution.cost, 7);
+        assert_eq!(rt; solution.routes.as_slice().len(), 1);
+    }
+    Ok(())
+}
+
+#[test]
 fn reads_costs(rt: HostRuntime) -> Result<(), Fail> {
     for (text, cost) in [
         (b"Cost 784".as_slice(), 784),
@@ -50,6 +76,26 @@ fn tells_the_first_fault(rt: HostRuntime) {
         (b"Cost 18446744073709551616", 1, SolFaultKind::BadNumber),
         (b"Route #1: 4294967296\nRoute", 1, SolFaultKind::BadNumber),
         (b"Route #1: +1\nCost 1", 1, SolFaultKind::BadNumber),
+    ] {
+        let fault = read_sol(rt.alloc(), text).err();
+        assert_eq!(rt; fault, Some(SolFault { line, kind }));
+    }
+}
+
+#[test]
+fn tells_the_first_of_two_faults(rt: HostRuntime) {
+    for (text, line, kind) in [
+        // In one line the words come before their values.
+        (b"Cost x y".as_slice(), 1, SolFaultKind::BadLine),
+        (b"Cost", 1, SolFaultKind::BadLine),
+        // The lesser line, whatever its fault is.
+        (b"Cost 1 2\nCost x", 1, SolFaultKind::BadLine),
+        (b"Cost x\nCost 1 2", 1, SolFaultKind::BadNumber),
+        (b"Route #1: x\nRoute 2", 1, SolFaultKind::BadNumber),
+        (b"\n \t\r\nRoute 2\nRoute #1: x", 3, SolFaultKind::BadLine),
+        // A fault of a line comes before that of the whole text.
+        (b"Route #1: 1\nRoute 2", 2, SolFaultKind::BadLine),
+        (b"Route #1: x\nRoute #2: 1", 1, SolFaultKind::BadNumber),
     ] {
         let fault = read_sol(rt.alloc(), text).err();
         assert_eq!(rt; fault, Some(SolFault { line, kind }));

@@ -9,10 +9,10 @@ use Rattle.std.specs.Str.Parse.{IsNumeral, digits_value, starts_with_minus, with
 use Rattle.std.proofs.lemmas.Fmt.{decimal_is_IsNumeral}
 use Rattle.std.proofs.lemmas.List.{take_at, drop_at, get_or_at, get_or_append_left, drop_all, drop_more, take_all, take-append-drop, get_or_default}
 use Rattle.std.proofs.lemmas.List.Elements.{All-from_recursion, recursion_from_All}
-use Rattle.std.proofs.lemmas.List.Sums.{position_or_len_is, prefix_len_is, prefix_len_passes, prefix_len-le-length, fails_before_first, passes_at_first, list_all-from_AllPass}
+use Rattle.std.proofs.lemmas.List.Sums.{position_or_len_is, prefix_len_is, prefix_len-le-length, fails_before_first, passes_at_first, list_all-from_AllPass}
 use Rattle.std.proofs.lemmas.Str.Parse.{digit_at}
 use Rattle.std.proofs.lemmas.Bool.{and_from, and_parts, cases_lt, le-leb, ne_eqb, cond-false}
-use Rattle.text_lines.proofs.NumberLemmas.{is_digits-all, digits_of-yes, whole_of-some}
+use Rattle.text_lines.proofs.NumberLemmas.{front_passes, is_digits-all, digits_of-yes, whole_of-some}
 use Rattle.text_lines.specs.Lines.{lines_of, pieces_of, HasNoFeed, EndAtFeeds, EndWithText}
 use Rattle.text_lines.specs.Words.{is_blank, is_blank_line, words_of, IsWord, EndsWord, IsMadeOf}
 use Rattle.text_lines.specs.Numbers.{digits_of, is_digits, is_zero_fraction, number_of, signed, whole_of, AreRead}
@@ -96,20 +96,13 @@ body_of line = drop (prefix_len is_blank line) line
 abbrev first_len : List ℕ → ℕ
 first_len body = position_or_len is_blank body
 
-gap_blank : (line : List ℕ) → is_blank_line (gap_of line) ≡ true
-gap_blank line =
-    let n = prefix_len is_blank line in
-    list_all-from_AllPass is_blank (take n line) (λ k d h.
-    let before : k < n = omega (arith, length-take n line) in
-    rw get_or-take (prefix_len_passes is_blank line k d before))
-
 -- no word, so nothing but blanks
 all_blank : (line : List ℕ) → first_len (body_of line) ≡ 0 → is_blank_line line ≡ true
 all_blank line e =
     let n = prefix_len is_blank line in
     ⊎_elim
     (λ more. absurd (front_no_blank line more e))
-    (λ all. subst (λ xs. is_blank_line xs ≡ true) (take_all n line all) (gap_blank line))
+    (λ all. subst (λ xs. is_blank_line xs ≡ true) (take_all n line all) (front_passes is_blank line))
     (cases_lt n (length line))
 
 first_is_word : (body : List ℕ) → 0 < first_len body → IsWord (take (first_len body) body)
@@ -154,7 +147,7 @@ made_from_words (word ∷ words) line is =
     let whole : line ≡ gap_of line ++ (word ++ rest) =
     sym (take-append-drop (prefix_len is_blank line) line)
     ∙ ap (λ b. gap_of line ++ b) (sym (take-append-drop n body) ∙ ap (λ w. w ++ rest) both.0) in
-    (gap_of line, rest, whole, gap_blank line, subst IsWord both.0 (first_is_word body some), first_ends body, made_from_words words rest both.1))
+    (gap_of line, rest, whole, front_passes is_blank line, subst IsWord both.0 (first_is_word body some), first_ends body, made_from_words words rest both.1))
     (λ none. absurd (nil_cons (sym (words_of-none line (omega arith)) ∙ is)))
     (cases_lt 0 n)
 

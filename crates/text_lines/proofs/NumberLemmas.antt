@@ -59,13 +59,18 @@ is_digits-all (b ∷ bs) e = refl
 pub is_digits-len : (word : List ℕ) → (length word ≡ 0 → ⊥) → is_digits word ≡ (prefix_len is_ascii_digit word == length word)
 is_digits-len word e = is_digits-all word e ∙ list_all-prefix_len is_ascii_digit word
 
+-- the front that passes passes
+pub front_passes : (p : ℕ → Bool) (text : List ℕ) → list_all p (take (prefix_len p text) text) ≡ true
+front_passes p text =
+    let n = prefix_len p text in
+    list_all-from_AllPass p (take n text) (λ k d h.
+    let before : k < n = omega (arith, length-take n text) in
+    rw get_or-take (prefix_len_passes p text k d before))
+
 -- the digits at the front are digits
 pub is_digits-front : (body : List ℕ) (n : ℕ) → n ≡ prefix_len is_ascii_digit body → (length (take n body) ≡ 0 → ⊥) → is_digits (take n body) ≡ true
 is_digits-front body n same l =
-    let pass : AllPass is_ascii_digit (take n body) = λ k d h.
-    let small : k < n = omega (arith, length-take n body) in
-    rw get_or-take (prefix_len_passes is_ascii_digit body k d (omega (arith, same))) in
-    is_digits-all (take n body) l ∙ list_all-from_AllPass is_ascii_digit (take n body) pass
+    is_digits-all (take n body) l ∙ ap (λ k. list_all is_ascii_digit (take k body)) same ∙ front_passes is_ascii_digit body
 
 pub whole_of-none : (body : List ℕ) → (nat_lt 0 (prefix_len is_ascii_digit body) ≡ false) ⊎ (is_zero_fraction (drop (prefix_len is_ascii_digit body) body) ≡ false) → whole_of body ≡ None
 unfolding whole_of
