@@ -26,6 +26,29 @@ used-more : (r : List ℕ) (rs : List (List ℕ)) → eqb (length r) 0 ≡ false
 unfolding is_used
 used-more r rs e = let one : is_used r ≡ 1 = rw e refl in let step = used-cons r rs in omega arith
 
+-- no more are used than there are
+pub used-most : (rs : List (List ℕ)) → used_count rs ≤ length rs
+used-most [] = omega arith
+used-most (r ∷ rs) = by (eqb (length r) 0) refl (used-most rs)
+  where
+    by : (b : Bool) → eqb (length r) 0 ≡ b → used_count rs ≤ length rs → used_count (r ∷ rs) ≤ length (r ∷ rs)
+    by true e rest = let step = used-empty r rs e in omega arith
+    by false e rest = let step = used-more r rs e in omega arith
+
+pub used-take : (n : ℕ) (rs : List (List ℕ)) → used_count (take n rs) ≤ used_count rs
+used-take zero rs = omega arith
+used-take (suc n) [] = omega arith
+used-take (suc n) (r ∷ rs) =
+    let rest = used-take n rs in
+    let some = used-cons r (take n rs) in
+    let all = used-cons r rs in
+    omega arith
+
+pub length-take-most : (n : ℕ) (rs : List (List ℕ)) → length (take n rs) ≤ length rs
+length-take-most zero rs = omega arith
+length-take-most (suc n) [] = omega arith
+length-take-most (suc n) (r ∷ rs) = let rest = length-take-most n rs in omega arith
+
 -- up to a used route at least one is used
 used-some : (rs : List (List ℕ)) (y : ℕ) (r : List ℕ) → slice_get rs y ≡ Some r → 0 < length r → 1 ≤ used_count (take (suc y) rs)
 used-some [] y r at some = absurd (none_some r at)
@@ -110,6 +133,23 @@ beyond_found left k (x ∷ xs) m is = by (eqb (length x) 0) refl (eqb_tells left
           used = later.used;
           count = omega arith;
         }
+
+-- where no route is beyond so many, no more are used
+pub used-within : (left k : ℕ) (rs : List (List ℕ)) → first_beyond left k rs ≡ None → used_count rs ≤ left
+used-within left k [] is = omega arith
+used-within left k (r ∷ rs) is = by (eqb (length r) 0) refl (eqb_tells left 0) (λ h. used-within left (k + 1) rs h) (λ h. used-within (left - 1) (k + 1) rs h)
+  where
+    by : (b : Bool) → eqb (length r) 0 ≡ b → ((eqb left 0 ≡ true) × (left ≡ 0)) ⊎ ((eqb left 0 ≡ false) × (left ≢ 0)) → (first_beyond left (k + 1) rs ≡ None → used_count rs ≤ left) → (first_beyond (left - 1) (k + 1) rs ≡ None → used_count rs ≤ left - 1) → used_count (r ∷ rs) ≤ left
+    by true e t empty used =
+        let rest = empty (let h : cond (eqb (length r) 0) (first_beyond left (k + 1) rs) (cond (eqb left 0) (Some k) (first_beyond (left - 1) (k + 1) rs)) ≡ None = is in rw e at h) in
+        let step = used-empty r rs e in
+        omega arith
+    by false e (inl t) empty used = absurd (none_some k (sym (let h : cond (eqb (length r) 0) (first_beyond left (k + 1) rs) (cond (eqb left 0) (Some k) (first_beyond (left - 1) (k + 1) rs)) ≡ None = is in rw (e, t.0) at h)))
+    by false e (inr t) empty used =
+        let rest = used (let h : cond (eqb (length r) 0) (first_beyond left (k + 1) rs) (cond (eqb left 0) (Some k) (first_beyond (left - 1) (k + 1) rs)) ≡ None = is in rw (e, t.0) at h) in
+        let step = used-more r rs e in
+        let some = t.1 in
+        omega arith
 
 module _ (p : Instance) (routes : List (List ℕ)) where
   pub fleet_nothing : first_beyond p.fleet 0 routes ≡ None → (r i n : ℕ) → IsBeyondFleet p routes r i n → ⊥

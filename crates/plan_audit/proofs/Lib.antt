@@ -1,10 +1,15 @@
+pub mod AloneLemmas
 pub mod FirstLemmas
 pub mod FleetLemmas
+pub mod LawProofs
 pub mod PairLemmas
+pub mod PinLemmas
 pub mod PlanLemmas
 pub mod RuleLemmas
 pub mod SeatLemmas
 pub mod ServedLemmas
+pub mod ServiceLemmas
+pub mod SoundLemmas
 pub mod SpotLemmas
 pub mod StepLemmas
 pub mod TimeLemmas

@@ -16,7 +16,7 @@ use Rattle.plan_audit.proofs.FirstLemmas.{none_some, some_same, fault_found, fau
 use Rattle.plan_audit.proofs.SpotLemmas.{Spot, IsTestOf, IsLeastOf}
 
 -- a place of a route, counted from 1, is one counted from 0
-standing_in : (routes : List (List ℕ)) (route : List ℕ) (r i n : ℕ) → item_at routes r ≡ Some route → item_at route i ≡ Some n → (q : ℕ) × (j : ℕ) × (r ≡ suc q) × (i ≡ suc j) × (slice_get routes q ≡ Some route) × (slice_get route j ≡ Some n)
+pub standing_in : (routes : List (List ℕ)) (route : List ℕ) (r i n : ℕ) → item_at routes r ≡ Some route → item_at route i ≡ Some n → (q : ℕ) × (j : ℕ) × (r ≡ suc q) × (i ≡ suc j) × (slice_get routes q ≡ Some route) × (slice_get route j ≡ Some n)
 standing_in routes route zero i n at on = absurd (none_some route at)
 standing_in routes route (suc r) zero n at on = absurd (none_some n on)
 standing_in routes route (suc r) (suc i) n at on = (r, i, refl, refl, at, on)

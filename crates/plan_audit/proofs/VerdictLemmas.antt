@@ -1,14 +1,15 @@
 -- The least broken rule, rule after rule.
-use Rattle.std.proofs.Common.{◌≡◌, ℕ, suc, ◌+◌, ◌<◌, ◌≤◌, Some, None, refl, sym, ap, subst, ◌∙◌, inl, inr, arith, add-one, cond, eqb, List}
+use Rattle.std.proofs.Common.{◌≡◌, ℕ, suc, ◌+◌, ◌<◌, ◌≤◌, Option, Some, None, MatchOption, refl, sym, ap, subst, ◌∙◌, inl, inr, arith, add-one, cond, eqb}
 use Rattle.std.proofs.lemmas.Bool.{cases_lt}
 use Rattle.plan_types.specs.Instance.{Instance, IsInstance}
 use Rattle.plan_audit.specs.Rules.{IsNotAfter, IsMissing}
-use Rattle.plan_audit.specs.Passes.{first_unserved}
-use Rattle.plan_audit.specs.Verdict.{Subject, printed, rule_number, Breaks, KeepsRules, IsLeastBroken, IsBrokenOver, IsVerdictOver}
+use Rattle.plan_audit.specs.Passes.{unserved_of}
+use Rattle.plan_audit.specs.Verdict.{Subject, planned, printed, routes_of, rule_number, Breaks, KeepsRules, IsLeastBroken, IsBrokenOver, IsVerdictOver}
 use Rattle.plan_audit.specs.declared.rules.Rule.{Rule}
 use Rattle.plan_audit.specs.declared.rules.Rule.TheVariants.{UnknownStop, Twice, Missing, SplitPair, DeliveryFirst, Load, Late, LateReturn, Fleet, Pin, PrintedCost}
 use Rattle.plan_audit.specs.declared.rules.Verdict.{Verdict}
 use Rattle.plan_audit.specs.declared.rules.Verdict.TheVariants.{Pass, Broken}
+use Rattle.plan_audit.proofs.FirstLemmas.{none_some}
 use Rattle.plan_audit.proofs.SpotLemmas.{IsLeastOf}
 use Rattle.plan_audit.proofs.RuleLemmas.{standing}
 use Rattle.plan_audit.proofs.ServedLemmas.{unserved_found, unserved_nothing}
@@ -79,32 +80,10 @@ module _ (p : Instance) (s : Subject) where
     ];
   }
 
-  -- rules before the first and behind the last may be added where none of those before is broken
-  pub broken_over : (low mid high top : ℕ) (v : Verdict) → low ≤ mid + 1 → high ≤ top → KeepsRules low mid p s → IsBrokenOver (mid + 1) high p s v → IsVerdictOver low top p s v
-  broken_over low mid high top (Pass cost) le up kept b = absurd b
-  broken_over low mid high top (Broken rule r i n) le up kept b =
-      let least = b.2 in
-      let from = least.from in
-      let to = least.to in (
-        b.0,
-        b.1,
-        record {
-          from = omega arith;
-          to = omega arith;
-          broken = least.broken;
-          least = λ m q j t a c x. elim (cases_lt mid (rule_number m)) [
-            | inl lt ↦ elim (cases_lt high (rule_number m)) [
-              | inl above ↦ inl (omega arith)
-              | inr within ↦ least.least m q j t (omega arith) within x
-            ]
-            | inr ge ↦ absurd (kept m q j t a ge x)
-          ];
-        },
-      )
-
-  pub verdict_over : (low mid high : ℕ) (v : Verdict) → mid ≤ high → IsBrokenOver low mid p s v → IsVerdictOver low high p s v
-  verdict_over low mid high (Pass cost) le b = absurd b
-  verdict_over low mid high (Broken rule r i n) le b =
+  -- rules behind the last may be added
+  pub broken_wider : (low mid high : ℕ) (v : Verdict) → mid ≤ high → IsBrokenOver low mid p s v → IsBrokenOver low high p s v
+  broken_wider low mid high (Pass cost) le b = absurd b
+  broken_wider low mid high (Broken rule r i n) le b =
       let least = b.2 in
       let to = least.to in (
         b.0,
@@ -120,34 +99,66 @@ module _ (p : Instance) (s : Subject) where
         },
       )
 
+  -- rules before the first may be added where none of them is broken
+  pub broken_after : (low mid high : ℕ) (v : Verdict) → low ≤ mid + 1 → KeepsRules low mid p s → IsBrokenOver (mid + 1) high p s v → IsBrokenOver low high p s v
+  broken_after low mid high (Pass cost) le kept b = absurd b
+  broken_after low mid high (Broken rule r i n) le kept b =
+      let least = b.2 in
+      let from = least.from in (
+        b.0,
+        b.1,
+        record {
+          from = omega arith;
+          to = least.to;
+          broken = least.broken;
+          least = λ m q j t a c x. elim (cases_lt mid (rule_number m)) [
+            | inl lt ↦ least.least m q j t (omega arith) c x
+            | inr ge ↦ absurd (kept m q j t a ge x)
+          ];
+        },
+      )
+
+  -- a verdict may be that a rule is broken
+  pub broken_verdict : (low high : ℕ) (v : Verdict) → IsBrokenOver low high p s v → IsVerdictOver low high p s v
+  broken_verdict low high (Pass cost) b = absurd b
+  broken_verdict low high (Broken rule r i n) b = b
+
+  -- what the first rules tell, and where they are kept the others
+  pub told_after : (low mid high : ℕ) (o : Option Verdict) → low ≤ mid + 1 → KeepsRules low mid p s → MatchOption o (KeepsRules (mid + 1) high p s) (IsBrokenOver (mid + 1) high p s) → MatchOption o (KeepsRules low high p s) (IsBrokenOver low high p s)
+  told_after low mid high None le kept h = keeps_both low mid high kept h
+  told_after low mid high (Some v) le kept h = broken_after low mid high v le kept h
+
 -- what a place counted from 0 tells
 pub told_at : (low high : ℕ) (p : Instance) (s : Subject) (k : Rule) (r i n : ℕ) → IsLeastBroken low high p s k (suc r) (suc i) n → IsBrokenOver low high p s (Broken (rule_number k) (r + 1) (i + 1) n)
 told_at low high p s k r i n b = (k, refl, subst (λ r'. IsLeastBroken low high p s k r' (i + 1) n) (sym (add-one r)) (subst (λ i'. IsLeastBroken low high p s k (suc r) i' n) (sym (add-one i)) b))
 
--- the third rule of printed routes
-module _ (p : Instance) (routes : List (List ℕ)) (cost : ℕ) (valid : IsInstance p) where
-  pub unserved_least : (n : ℕ) → first_unserved routes p.requests ≡ Some n → IsLeastOf (Breaks p (printed routes cost) Missing) 0 0 n
-  unserved_least n is =
-      let first = unserved_found routes p.requests n valid.rising is in
+-- the third rule, of a subject of which u is the first request that must be served and is not
+module _ (p : Instance) where
+  pub unserved_least : IsInstance p → (s : Subject) (u : Option ℕ) → u ≡ unserved_of p s → (n : ℕ) → u ≡ Some n → IsLeastOf (Breaks p s Missing) 0 0 n
+  unserved_least valid (planned routes pins) u asked n is = absurd (none_some n (sym asked ∙ is))
+  unserved_least valid (printed routes cost) u asked n is =
+      let first = unserved_found routes p.requests n valid.rising (sym asked ∙ is) in
       record {
         broken = inr ((refl, refl), (first.request, first.found, first.nowhere));
         least = λ q j m b. elim b as (λ _. IsNotAfter 0 0 n q j m) [
           | inl a ↦ (let t = standing routes q j a.0 a.1 in let e = t.2 in inl (omega arith))
-          | inr u ↦ (let a = u.0.0 in let b = u.0.1 in inr (sym a, inr (sym b, first.least m u.1.0 u.1.1 u.1.2)))
+          | inr t ↦ (let a = t.0.0 in let b = t.0.1 in inr (sym a, inr (sym b, first.least m t.1.0 t.1.1 t.1.2)))
         ];
       }
 
-  pub missing_least : first_unserved routes p.requests ≡ None → (r i n : ℕ) → IsLeastOf (IsMissing p routes) r i n → IsLeastOf (Breaks p (printed routes cost) Missing) r i n
-  missing_least none r i n one = record {
+  pub missing_least : (s : Subject) (u : Option ℕ) → u ≡ unserved_of p s → u ≡ None → (r i n : ℕ) → IsLeastOf (IsMissing p (routes_of s)) r i n → IsLeastOf (Breaks p s Missing) r i n
+  missing_least (planned routes pins) u asked none r i n one = record { broken = one.broken; least = one.least }
+  missing_least (printed routes cost) u asked none r i n one = record {
     broken = inl (one.broken);
     least = λ q j m b. elim b as (λ _. IsNotAfter r i n q j m) [
       | inl a ↦ one.least q j m a
-      | inr u ↦ absurd (unserved_nothing routes p.requests none m u.1.0 u.1.1 u.1.2)
+      | inr t ↦ absurd (unserved_nothing routes p.requests (sym asked ∙ none) m t.1.0 t.1.1 t.1.2)
     ];
   }
 
-  pub missing_kept : first_unserved routes p.requests ≡ None → ((r i n : ℕ) → IsMissing p routes r i n → ⊥) → Keeps p (printed routes cost) Missing
-  missing_kept none kept r i n b = elim b [
+  pub missing_kept : (s : Subject) (u : Option ℕ) → u ≡ unserved_of p s → u ≡ None → ((r i n : ℕ) → IsMissing p (routes_of s) r i n → ⊥) → Keeps p s Missing
+  missing_kept (planned routes pins) u asked none kept = kept
+  missing_kept (printed routes cost) u asked none kept = λ r i n b. elim b [
     | inl a ↦ kept r i n a
-    | inr u ↦ unserved_nothing routes p.requests none n u.1.0 u.1.1 u.1.2
+    | inr t ↦ unserved_nothing routes p.requests (sym asked ∙ none) n t.1.0 t.1.1 t.1.2
   ]

@@ -1,5 +1,5 @@
 -- How the auditor looks for the first place that breaks a rule. Here routes and places count from 0, as in the code.
-use Rattle.std.specs.Prelude.{ℕ, ◌+◌, ◌-◌, nat_lt, ◌==◌, ◌&&◌, ◌||◌, not, List, [], ◌∷◌, Option, Some, None, is_some, if◌then◌else◌, Bool, int_lt, pos, length}
+use Rattle.std.specs.Prelude.{ℕ, ◌+◌, ◌-◌, nat_lt, ◌==◌, ◌&&◌, ◌||◌, not, List, [], ◌∷◌, Option, Some, None, is_some, if◌then◌else◌, Bool, int_lt, pos, length, false, slice_get, unwrap_or}
 use Rattle.route_sched.specs.Schedule.{start}
 use Rattle.route_sched.specs.Visiting.{visit_after}
 use Rattle.route_sched.specs.declared.visits.Visit.{Visit}
@@ -8,6 +8,7 @@ use Rattle.plan_types.specs.Instance.{Instance, stop_at, partner_at}
 use Rattle.plan_types.specs.declared.requests.Request.{Request}
 use Rattle.plan_types.specs.declared.requests.Request.TheVariants.{Single, Pair}
 use Rattle.plan_audit.specs.Rules.{pickup_at}
+use Rattle.plan_audit.specs.Verdict.{Subject, planned, printed}
 use Rattle.plan_audit.specs.declared.faults.Told.{Told}
 use Rattle.plan_audit.specs.declared.faults.Fault.{Fault}
 use Rattle.plan_audit.specs.declared.seats.Seat.{Seat}
@@ -84,6 +85,24 @@ unserved_in routes e = if is_served routes e.1 then None else Some e.0
 abbrev pub first_unserved : List (List ℕ) → List (ℕ × Request) → Option ℕ
 first_unserved routes [] = None
 first_unserved routes (e ∷ es) = option_or (unserved_in routes e) (first_unserved routes es)
+
+-- the name of the first request that must be served and is not; a plan may leave requests out
+abbrev pub unserved_of : Instance → Subject → Option ℕ
+unserved_of p (planned routes pins) = None
+unserved_of p (printed routes cost) = first_unserved routes p.requests
+
+-- stop n is found there
+abbrev pub is_found : ℕ → Option ℕ → Bool
+is_found n None = false
+is_found n (Some m) = m == n
+
+-- what is told of place i of a pin, whose stop there is n: that stop, where the route has another one there, or none
+abbrev pub off_pin_at : List ℕ → ℕ → ℕ → Option ℕ
+off_pin_at route i n = if is_found n (slice_get route i) then None else Some n
+
+-- what is told first of the pins, by route
+abbrev pub first_off_pin : List (List ℕ) → List (List ℕ) → Option Fault
+first_off_pin routes pins = first_route (told_by (λ r _ i n. off_pin_at (unwrap_or (slice_get routes r) []) i n)) 0 pins
 
 -- what is told of a vehicle that leaves the depot and is back too late
 abbrev pub return_told : Instance → List ℕ → Option Told

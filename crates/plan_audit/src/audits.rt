@@ -1,18 +1,49 @@
 //! The audit itself: rule after rule, until one is broken.
-ghost use Rattle.std.specs.Prelude.{◌≡◌, ℕ, All, IfOk, MatchOption};
+ghost use Rattle.std.specs.Prelude.{◌≡◌, All, IfNone, IfOk, MatchOption};
 ghost use Rattle.route_sched.specs.Route.{AreLiveOnce};
 ghost use Rattle.plan_types.specs.Instance.{IsInstance};
-ghost use Rattle.plan_audit.specs.Verdict.{Subject, printed, routes_of, KeepsRules, IsBrokenOver, IsVerdict};
+ghost use Rattle.plan_audit.specs.Verdict.{Subject, planned, printed, routes_of, KeepsRules, IsBrokenOver, IsVerdict};
+ghost use Rattle.plan_audit.specs.Passes.{unserved_of};
 
 use crate::fleet::first_beyond;
+use crate::pins::first_off_pin;
 use crate::rules::{Rule, Verdict};
 use crate::scan::Scan;
 use crate::seats::seats;
 use crate::timing::{first_late, first_late_return, first_overload};
-use plan_types::{Kind, OutOfMemory, Plan, Problem, Route};
+use plan_types::{Kind, OutOfMemory, Pins, Plan, Problem, Route};
 use route_sched::plan_cost;
 use sol_text::Solution;
 use std::alloc::Global;
+
+/// Audits a plan with its pins, one for each vehicle of the fleet: the least broken rule, by rule, route, place and stop, or pass with
+/// the cost. A plan may leave requests out and has no printed cost, so rule 11 is not asked.
+pub fn audit(
+    alloc: Global,
+    problem: &Problem,
+    pins: &Pins,
+    plan: &Plan,
+) -> Result<Verdict, OutOfMemory>
+    ensures { IfOk result (IsVerdict problem.now (planned plan.now.routes pins.now.routes)) }
+{
+    let routes = plan.routes.as_slice();
+    let seats = seats(alloc, problem.next_number as usize, routes)?;
+    let scan = Scan {
+        problem,
+        routes,
+        seats: seats.as_slice(),
+    };
+    if let Some(broken) = broken_stop(&scan, None) {
+        return Ok(broken);
+    }
+    if routes.len() != problem.fleet as usize {
+        return Ok(Rule::Fleet.broken_by(0));
+    }
+    if let Some(fault) = first_off_pin(routes, pins.routes.as_slice()) {
+        return Ok(Rule::Pin.broken_at(fault));
+    }
+    Ok(Verdict::Pass(plan_cost(problem, plan)))
+}
 
 /// Audits a printed solution: the least broken rule, by rule, route, place and stop, or pass with the cost. A printed solution has no
 /// pins, so rule 10 is not asked.
@@ -30,10 +61,7 @@ pub fn audit_solution(
         routes,
         seats: seats.as_slice(),
     };
-    if let Some(broken) = misplaced(&scan) {
-        return Ok(broken);
-    }
-    if let Some(broken) = mistimed(problem, routes) {
+    if let Some(broken) = broken_stop(&scan, scan.first_unserved()) {
         return Ok(broken);
     }
     if let Some(route) = first_beyond(problem.fleet, routes) {
@@ -49,10 +77,22 @@ pub fn audit_solution(
     Ok(Verdict::Pass(cost))
 }
 
-// The least broken one of the rules on where stops stand.
-fn misplaced(scan: &Scan) -> Option<Verdict>
+// The least broken one of the rules on stops. A request that must be served and is not is passed in.
+fn broken_stop(scan: &Scan, unserved: Option<u32>) -> Option<Verdict>
     requires { IsInstance scan.now.problem.now }
-    ensures least { (cost : ℕ) → MatchOption result (KeepsRules 1 5 scan.now.problem.now (printed scan.now.routes.now cost)) (IsBrokenOver 1 5 scan.now.problem.now (printed scan.now.routes.now cost)) }
+    ensures least { (s : Subject) → routes_of s ≡ scan.now.routes.now → unserved ≡ unserved_of scan.now.problem.now s → MatchOption result (KeepsRules 1 8 scan.now.problem.now s) (IsBrokenOver 1 8 scan.now.problem.now s) }
+{
+    if let Some(broken) = misplaced(scan, unserved) {
+        return Some(broken);
+    }
+    mistimed(scan.problem, scan.routes)
+}
+
+// The least broken one of the rules on where stops stand.
+fn misplaced(scan: &Scan, unserved: Option<u32>) -> Option<Verdict>
+    requires { IsInstance scan.now.problem.now }
+    ensures least { (s : Subject) → routes_of s ≡ scan.now.routes.now → unserved ≡ unserved_of scan.now.problem.now s → MatchOption result (KeepsRules 1 5 scan.now.problem.now s) (IsBrokenOver 1 5 scan.now.problem.now s) }
+    ensures live { IfNone result (All (AreLiveOnce scan.now.problem.now) scan.now.routes.now) }
 {
     if let Some(fault) = scan.first_unknown() {
         return Some(Rule::UnknownStop.broken_at(fault));
@@ -60,7 +100,7 @@ fn misplaced(scan: &Scan) -> Option<Verdict>
     if let Some(fault) = scan.first_repeated() {
         return Some(Rule::Twice.broken_at(fault));
     }
-    if let Some(name) = scan.first_unserved() {
+    if let Some(name) = unserved {
         return Some(Rule::Missing.broken_by(name));
     }
     if let Some(fault) = scan.first_missing() {

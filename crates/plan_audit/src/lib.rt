@@ -1,16 +1,28 @@
 //! The auditor: whether a plan or a printed solution keeps every rule, and if not, the first place that breaks the first broken one.
 #![tactic(auto)]
 
+mod alone;
 mod audits;
 mod faults;
 mod fleet;
+mod laws;
 mod pairs;
+mod pins;
 mod rules;
 mod scan;
 mod seats;
 #[cfg(test)]
+mod slow;
+#[cfg(test)]
 mod tests;
 mod timing;
+#[cfg(test)]
+mod words;
 
-pub use audits::audit_solution;
+pub use alone::route_fault;
+pub use audits::{audit, audit_solution};
+pub use laws::{
+    a_passing_plan_is_sound, an_unsound_plan_does_not_pass, plans_pass_where_they_are_sound,
+    routes_that_pass_are_feasible_alone, solutions_pass_where_they_are_sound,
+};
 pub use rules::Verdict;

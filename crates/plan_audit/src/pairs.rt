@@ -1,12 +1,45 @@
 //! The pair that a stop belongs to.
-ghost use Rattle.std.specs.Prelude.{◌≡◌, ◌<◌, IfSome};
+ghost use Rattle.std.specs.Prelude.{◌≡◌, ℕ, ◌<◌, List, Option, IfSome};
 ghost use Rattle.std.specs.List.{AllByRecursion};
 ghost use Rattle.plan_types.specs.Request.{stops_of};
 ghost use Rattle.std.specs.Option.{option_copied};
 ghost use Rattle.plan_types.specs.Instance.{partner_at, request_with};
 ghost use Rattle.plan_audit.specs.Rules.{pickup_at};
+ghost use Rattle.plan_audit.specs.Passes.{seat_of, missing_at, delivered_at};
+ghost use Rattle.plan_audit.specs.declared.seats.Seat.{Seat};
 
+use crate::seats::Seat;
 use plan_types::{Problem, Request};
+
+/// The other stop of the stop's pair, where `seat` finds no seat for it.
+pub(crate) fn missing_partner<F: Fn(u32) -> Option<Seat>>(
+    problem: &Problem,
+    stop: u32,
+    seat: F,
+) -> Option<u32>
+    requires { F.IsAlwaysCallable seat }
+    ensures { (routes : List (List ℕ)) → ((n : ℕ) (o : Option Seat) → n < problem.now.next_number → F.post seat n o → o ≡ seat_of routes n) → result ≡ missing_at problem.now routes stop }
+{
+    let partner = partner(problem, stop)?;
+    match seat(partner) {
+        Some(_) => None,
+        None => Some(partner),
+    }
+}
+
+/// The stop, where it is a delivery whose pickup has its seat behind this place.
+pub(crate) fn early_delivery<F: Fn(u32) -> Option<Seat>>(
+    problem: &Problem,
+    place: usize,
+    stop: u32,
+    seat: F,
+) -> Option<u32>
+    requires { F.IsAlwaysCallable seat }
+    ensures { (routes : List (List ℕ)) → ((n : ℕ) (o : Option Seat) → n < problem.now.next_number → F.post seat n o → o ≡ seat_of routes n) → result ≡ delivered_at problem.now routes place stop }
+{
+    let seat = seat(pickup(problem, stop)?)?;
+    if place < seat.place { Some(stop) } else { None }
+}
 
 /// The number of the other stop of the stop's pair.
 pub(crate) fn partner(problem: &Problem, stop: u32) -> Option<u32>

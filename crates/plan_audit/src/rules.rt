@@ -36,7 +36,8 @@ pub enum Verdict {
 }
 
 impl Rule {
-    fn number(self) -> u32
+    /// The number by which the rule is told.
+    pub(crate) fn number(self) -> u32
         ensures { result ≡ rule_number self }
     {
         match self {

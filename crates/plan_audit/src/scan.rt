@@ -6,7 +6,7 @@ ghost use Rattle.std.specs.List.{AllByRecursion};
 ghost use Rattle.plan_types.specs.Request.{stops_of};
 
 use crate::faults::{Fault, Told, first_fault, first_place};
-use crate::pairs::{partner, pickup};
+use crate::pairs::{early_delivery, missing_partner, partner};
 use crate::seats::Seat;
 use plan_types::{Problem, Request, Route};
 
@@ -147,17 +147,13 @@ impl Scan<'_> {
         ensures told { result ≡ first_place (λ _ n. missing_at self.now.problem.now self.now.routes.now n) 0 route.now }
         ensures fits { IfSome result (λ t. t.place + 1 < 2 ^ 64) }
     {
-        first_place(route, |_, stop| self.missing_partner(stop))
+        first_place(route, |_, stop| self.missing_stop(stop))
     }
 
-    fn missing_partner(&self, stop: u32) -> Option<u32>
+    fn missing_stop(&self, stop: u32) -> Option<u32>
         ensures { result ≡ missing_at self.now.problem.now self.now.routes.now stop }
     {
-        let partner = partner(self.problem, stop)?;
-        match self.seat(partner) {
-            Some(_) => None,
-            None => Some(partner),
-        }
+        missing_partner(self.problem, stop, |stop| self.seat(stop))
     }
 
     // The first stop of a route whose partner is in another one.
@@ -190,7 +186,6 @@ impl Scan<'_> {
     fn delivered_stop(&self, place: usize, stop: u32) -> Option<u32>
         ensures { result ≡ delivered_at self.now.problem.now self.now.routes.now place stop }
     {
-        let seat = self.seat(pickup(self.problem, stop)?)?;
-        if place < seat.place { Some(stop) } else { None }
+        early_delivery(self.problem, place, stop, |stop| self.seat(stop))
     }
 }

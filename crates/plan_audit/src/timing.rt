@@ -39,8 +39,8 @@ pub(crate) fn first_late_return(problem: &Problem, routes: &[Route]) -> Option<F
     first_fault(routes, |_, route| late_return(problem, route))
 }
 
-// The return of a vehicle that leaves the depot and is back too late.
-fn late_return(problem: &Problem, route: &[u32]) -> Option<Told>
+/// The return of a vehicle that leaves the depot and is back too late.
+pub(crate) fn late_return(problem: &Problem, route: &[u32]) -> Option<Told>
     requires { AreLiveOnce problem.now route.now }
     ensures told { result ≡ return_told problem.now route.now }
     ensures fits { IfSome result (λ t. t.place + 1 < 2 ^ 64) }
@@ -54,8 +54,8 @@ fn late_return(problem: &Problem, route: &[u32]) -> Option<Told>
     })
 }
 
-// The first stop after which the vehicle carries more than it can.
-fn overload(problem: &Problem, route: &[u32]) -> Option<Told>
+/// The first stop after which the vehicle carries more than it can.
+pub(crate) fn overload(problem: &Problem, route: &[u32]) -> Option<Told>
     requires { AreLiveOnce problem.now route.now }
     ensures told { result ≡ first_place (visit_told problem.now (is_overloaded problem.now) route.now) 0 route.now }
     ensures fits { IfSome result (λ t. t.place + 1 < 2 ^ 64) }
@@ -70,8 +70,8 @@ fn carries_more(visit: &Visit, capacity: u32) -> bool
     visit.load > i64::from(capacity)
 }
 
-// The first stop whose service starts too late.
-fn late_stop(problem: &Problem, route: &[u32]) -> Option<Told>
+/// The first stop whose service starts too late.
+pub(crate) fn late_stop(problem: &Problem, route: &[u32]) -> Option<Told>
     requires { AreLiveOnce problem.now route.now }
     ensures told { result ≡ first_place (visit_told problem.now is_late route.now) 0 route.now }
     ensures fits { IfSome result (λ t. t.place + 1 < 2 ^ 64) }

@@ -1,0 +1,5 @@
+use Rattle.plan_audit.proofs.LawProofs.{routes_are_feasible}
+use Rattle.plan_audit.proofs.laws.routes_that_pass_are_feasible_alone.Goals as goal
+
+pub returns : goal.returns
+returns c = routes_are_feasible

@@ -1,0 +1,5 @@
+use Rattle.std.proofs.Common.{rules}
+use Rattle.plan_audit.proofs.scan.Scan.missing_stop.Goals as goal
+
+pub returns : goal.returns
+returns c = c.missing_partner.ensures c.args.self.now.routes.now (λ n o below post. search (rules, below, post))
