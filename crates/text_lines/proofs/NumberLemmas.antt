@@ -6,7 +6,7 @@ use Rattle.std.specs.Char.{is_ascii_digit, digit_value}
 use Rattle.std.specs.Int.Digits.{number_from_digits, number_from_digits_after}
 use Rattle.std.specs.List.{AllPass, list_all, prefix_len}
 use Rattle.std.specs.Str.Parse.{digits_value}
-use Rattle.std.proofs.lemmas.Bool.{and_parts, and_from, and_left, and_right, leb-true, lt-ltb, le-ltb, eq-eqb, ne_eqb, cond-true, cond-false, cases_Bool, false≢true}
+use Rattle.std.proofs.lemmas.Bool.{and_parts, and_from, and_left, and_right, leb-true, lt-ltb, le-ltb, eq-eqb, ne_eqb, cond-true, cond-false, cases_Bool, false≢true, cases_lt}
 use Rattle.std.proofs.lemmas.Bool.Decides.{nat_tests}
 use Rattle.std.proofs.lemmas.Int.Digits.{digits_value_is, number_after_append, number_after_ge}
 use Rattle.std.proofs.lemmas.List.{map-append, take-append-drop, get_or-take, length-take}
@@ -58,6 +58,19 @@ is_digits-all (b ∷ bs) e = refl
 
 pub is_digits-len : (word : List ℕ) → (length word ≡ 0 → ⊥) → is_digits word ≡ (prefix_len is_ascii_digit word == length word)
 is_digits-len word e = is_digits-all word e ∙ list_all-prefix_len is_ascii_digit word
+
+-- digits at the front alone make no word of digits
+pub is_digits-short : (word : List ℕ) → prefix_len is_ascii_digit word < length word → is_digits word ≡ false
+is_digits-short word less = is_digits-len word (λ e. omega (arith, e)) ∙ ne_eqb (prefix_len is_ascii_digit word) (length word) (λ e. omega (arith, e))
+
+pub is_digits-none : (word : List ℕ) → prefix_len is_ascii_digit word ≡ 0 → is_digits word ≡ false
+is_digits-none word none =
+    ⊎_elim (λ some. is_digits-short word (omega (arith, none))) (λ empty. is_digits-empty word (omega arith)) (cases_lt 0 (length word))
+
+pub is_digits-full : (word : List ℕ) → 0 < prefix_len is_ascii_digit word → length word ≤ prefix_len is_ascii_digit word → is_digits word ≡ true
+is_digits-full word some all =
+    let fits = prefix_len-le-length is_ascii_digit word in
+    is_digits-len word (λ e. omega (arith, e)) ∙ eq-eqb (prefix_len is_ascii_digit word) (length word) (omega arith)
 
 -- the front that passes passes
 pub front_passes : (p : ℕ → Bool) (text : List ℕ) → list_all p (take (prefix_len p text) text) ≡ true

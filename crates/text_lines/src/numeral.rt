@@ -1,5 +1,5 @@
 //! Words that are numbers.
-ghost use Rattle.std.specs.Prelude.{◌≡◌, ◌+◌, ◌*◌, ◌^◌, ◌<◌, ◌≤◌, ◌↔◌, ℕ, true, Some, None, pos, ◌≤ℤ◌, ◌<ℤ◌, IsTrue, IfSome};
+ghost use Rattle.std.specs.Prelude.{◌≡◌, ◌+◌, ◌*◌, ◌^◌, ◌<◌, ◌≤◌, ◌↔◌, ℕ, true, Some, None, pos, ◌≤ℤ◌, ◌<ℤ◌, IsTrue, IfSome, is_some, length, take};
 ghost use Rattle.std.specs.Char.{digit_value, is_ascii_digit};
 ghost use Rattle.std.specs.List.{list_all, prefix_len};
 ghost use Rattle.std.specs.Int.RustNames.{unsigned_abs};
@@ -9,23 +9,29 @@ ghost use Rattle.text_lines.specs.Numbers.{below, digits_of, integer_of, is_digi
 
 use std::marker::Model;
 
+/// Each number of so many digits fits a `u64`.
+const LONGEST_FITTING: usize = 19;
+
 /// A word that is a number, of any length.
 #[derive(Drop)]
 pub struct Number<'a> {
     negative: bool,
     digits: &'a [u8],
+    // The digits' value, if a `u64` can hold it: known from the scan that found the digits.
+    value: Option<u64>,
 }
 
 impl<'a> Model for Number<'a> {
-    ghost use Rattle.std.specs.Prelude.{◌≡◌, true, ℤ};
+    ghost use Rattle.std.specs.Prelude.{◌<◌, ◌^◌, ℤ};
+    ghost use Rattle.std.specs.Option.{SomeIff};
     ghost use Rattle.std.specs.Str.Parse.{digits_value};
-    ghost use Rattle.text_lines.specs.Numbers.{is_digits, signed};
+    ghost use Rattle.text_lines.specs.Numbers.{signed};
 
     ghost Value = { ℤ };
 
     ghost view = { λ number. signed number.negative (digits_value 10 number.digits.now) };
 
-    ghost invariant = { λ number. is_digits number.digits.now ≡ true };
+    ghost invariant = { λ number. SomeIff number.value (digits_value 10 number.digits.now < 2 ^ 64) (digits_value 10 number.digits.now) };
 }
 
 impl<'a> Number<'a> {
@@ -36,8 +42,12 @@ impl<'a> Number<'a> {
         ensures { result ≡ number_of word.now }
     {
         let (negative, body) = split_sign(word);
-        let digits = whole_digits(body)?;
-        Some(Number { negative, digits })
+        let (digits, value) = whole_digits(body)?;
+        Some(Number {
+            negative,
+            digits,
+            value,
+        })
     }
 
     /// The integer that a word is: a minus or no sign, and 1 to 20 digits.
@@ -49,10 +59,12 @@ impl<'a> Number<'a> {
         if digits.len() > 20 {
             return None;
         }
-        if !all_digits(digits) {
-            return None;
-        }
-        Some(Number { negative, digits })
+        let value = word_value(digits)?;
+        Some(Number {
+            negative,
+            digits,
+            value,
+        })
     }
 
     /// The number, if it lies in these limits.
@@ -60,7 +72,7 @@ impl<'a> Number<'a> {
     pub fn within(&self, least: i32, most: i32) -> Option<i32>
         ensures { SomeIff result ((least ≤ℤ self.now) × (self.now ≤ℤ most)) self.now }
     {
-        let magnitude = u32::try_from(value_of(self.digits)?).ok()?;
+        let magnitude = u32::try_from(self.value?).ok()?;
         let value = i32::try_from(signed_value(self.negative, magnitude)).ok()?;
         if value < least || most < value {
             return None;
@@ -73,7 +85,7 @@ impl<'a> Number<'a> {
     pub fn to_u64(&self) -> Option<u64>
         ensures { SomeIff result ((pos 0 ≤ℤ self.now) × (self.now <ℤ pos (2 ^ 64))) (unsigned_abs self.now) }
     {
-        let value = value_of(self.digits)?;
+        let value = self.value?;
         if self.negative && value > 0 {
             return None;
         }
@@ -88,7 +100,7 @@ impl<'a> Number<'a> {
         if self.negative {
             return false;
         }
-        match value_of(self.digits) {
+        match self.value {
             Some(value) => value > u64::from(limit),
             None => true,
         }
@@ -100,10 +112,8 @@ impl<'a> Number<'a> {
 pub fn digits_to_u32(word: &[u8]) -> Option<u32>
     ensures { result ≡ below (2 ^ 32) (digits_of word.now) }
 {
-    if !all_digits(word) {
-        return None;
-    }
-    u32::try_from(value_of(word)?).ok()
+    let value = word_value(word)?;
+    u32::try_from(value?).ok()
 }
 
 fn signed_value(negative: bool, magnitude: u32) -> i64
@@ -113,13 +123,48 @@ fn signed_value(negative: bool, magnitude: u32) -> i64
     if negative { -value } else { value }
 }
 
-fn all_digits(word: &[u8]) -> bool
-    ensures { result ≡ is_digits word.now }
+// The value of a word of digits, and in it `None` where a `u64` can't hold it.
+fn word_value(word: &[u8]) -> Option<Option<u64>>
+    ensures digits { is_some result ≡ is_digits word.now }
+    ensures value { IfSome result (λ value. SomeIff value (digits_value 10 word.now < 2 ^ 64) (digits_value 10 word.now)) }
 {
-    if word.is_empty() {
-        return false;
+    let (len, value) = front_digits(word);
+    if len == 0 {
+        return None;
     }
-    digits_len(word) == word.len()
+    if len < word.len() {
+        return None;
+    }
+    Some(value)
+}
+
+// How many digits stand at the front, and their value, if a `u64` can hold it.
+fn front_digits(text: &[u8]) -> (usize, Option<u64>)
+    ensures len { result.0 ≡ prefix_len is_ascii_digit text.now }
+    ensures value { let front = take (prefix_len is_ascii_digit text.now) text.now in SomeIff result.1 (digits_value 10 front < 2 ^ 64) (digits_value 10 front) }
+{
+    if text.len() <= LONGEST_FITTING {
+        let (len, value) = short_front_digits(text);
+        return (len, Some(value));
+    }
+    let len = digits_len(text);
+    (len, value_of(&text[..len]))
+}
+
+// The same of a text that is so short that its value fits: one pass, as nearly every word takes.
+fn short_front_digits(text: &[u8]) -> (usize, u64)
+    requires { length text.now ≤ 19 }
+    ensures len { result.0 ≡ prefix_len is_ascii_digit text.now }
+    ensures value { result.1 ≡ digits_value 10 (take (prefix_len is_ascii_digit text.now) text.now) }
+{
+    let mut value = 0;
+    for (i, byte) in text.iter().enumerate() {
+        if !byte.is_ascii_digit() {
+            return (i, value);
+        }
+        value = value * 10 + u64::from(byte - b'0');
+    }
+    (text.len(), value)
 }
 
 // How many digits stand at the front.
@@ -134,19 +179,20 @@ fn digits_len(text: &[u8]) -> usize
     text.len()
 }
 
-// The digits of a number without its sign.
-fn whole_digits(body: &[u8]) -> Option<&[u8]>
-    ensures digits { IfSome result (λ digits. is_digits digits.now ≡ true) }
-    ensures value { whole_of body.now ≡ option_map (λ digits. digits_value 10 digits.now) result }
+// The digits of a number without its sign, and their value, if a `u64` can hold it.
+fn whole_digits(body: &[u8]) -> Option<(&[u8], Option<u64>)>
+    ensures whole { whole_of body.now ≡ option_map (λ found. digits_value 10 found.0.now) result }
+    ensures value { IfSome result (λ found. SomeIff found.1 (digits_value 10 found.0.now < 2 ^ 64) (digits_value 10 found.0.now)) }
 {
-    let (digits, rest) = body.split_at(digits_len(body));
+    let (len, value) = front_digits(body);
+    let (digits, rest) = body.split_at(len);
     if digits.is_empty() {
         return None;
     }
     if !is_zero_fraction_text(rest) {
         return None;
     }
-    Some(digits)
+    Some((digits, value))
 }
 
 fn all_zeros(text: &[u8]) -> bool
@@ -167,7 +213,7 @@ fn is_zero_fraction_text(text: &[u8]) -> bool
 
 // The value of digits, if a `u64` can hold it.
 fn value_of(digits: &[u8]) -> Option<u64>
-    requires { is_digits digits.now ≡ true }
+    requires { list_all is_ascii_digit digits.now ≡ true }
     ensures { SomeIff result (digits_value 10 digits.now < 2 ^ 64) (digits_value 10 digits.now) }
 {
     let mut value = 0;

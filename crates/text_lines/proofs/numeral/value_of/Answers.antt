@@ -1,12 +1,14 @@
 use Rattle.std.proofs.Common.{◌+◌, arith, ◌∙◌, ap}
 use Rattle.std.proofs.lemmas.Int.Digits.{digits_value_more}
 use Rattle.std.proofs.lemmas.List.{take_all}
+use Rattle.std.proofs.lemmas.List.Sums.{AllPass-from_list_all}
+use Rattle.std.specs.Char.{is_ascii_digit}
 use Rattle.std.specs.Str.Parse.{digits_value}
-use Rattle.text_lines.proofs.NumberLemmas.{digit_at, value-take-le}
+use Rattle.text_lines.proofs.NumberLemmas.{value-take-le}
 use Rattle.text_lines.proofs.numeral.value_of.Goals as goal
 
 pub with_digit-requires : goal.with_digit-requires
-with_digit-requires c = digit_at c.args.digits.now c.requires c.loop-digit.digit-index (omega arith)
+with_digit-requires c = AllPass-from_list_all is_ascii_digit c.args.digits.now c.requires c.loop-digit.digit-index 0 (omega arith)
 
 pub returns-in_err-value : goal.returns-in_err-value
 returns-in_err-value c =
