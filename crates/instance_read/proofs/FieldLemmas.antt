@@ -1,5 +1,5 @@
 -- The numbers of a line, one after another.
-use Rattle.std.proofs.Common.{◌≡◌, ◌≢◌, set, below_more, get_or-set_other, get_or-set_same, ℕ, zero, suc, ◌+◌, ◌<◌, List, [], ◌∷◌, length, drop, get_or, refl, sym, ap, ◌∙◌, arith, ℤ, pos}
+use Rattle.std.proofs.Common.{◌≡◌, ◌≢◌, set, below_more, get_or-set_other, get_or-set_same, ℕ, zero, suc, ◌+◌, ◌<◌, List, [], ◌∷◌, length, length-drop, drop, get_or, Some, refl, sym, ap, ◌∙◌, arith, ℤ, pos}
 use Rattle.std.specs.Prelude.{slice_get}
 use Rattle.std.specs.Option.{option_and_then}
 use Rattle.text_lines.specs.Numbers.{number_of}
@@ -20,3 +20,15 @@ values_more limits words rest values i v l at before here =
     below_more _ _
     (λ k h. let ne : k ≢ i = omega arith in rw get_or-set_other (before k h))
     (rw get_or-set_same (sym (field-drop words i) ∙ ap (λ ws. field ws 0) (sym at) ∙ here.0, here.1))
+
+field_within : (words : List (List ℕ)) (k : ℕ) (z : ℤ) → field words k ≡ Some z → k < length words
+field_within [] zero z e = cc
+field_within [] (suc k) z e = cc
+field_within (w ∷ words) zero z e = omega arith
+field_within (w ∷ words) (suc k) z e = let l = field_within words k z e in omega arith
+
+-- no word is left after so many numbers
+pub no_more : (count : ℕ) (limits : List (ℤ × ℤ)) (words : List (List ℕ)) (values : List ℤ) → ((k : ℕ) → k < count → HasValue limits words values k) → drop count words ≡ [] → length words ≡ count
+no_more zero limits words values read e = ap length e
+no_more (suc n) limits words values read e =
+    omega (arith, ap length e, length-drop (suc n) words, field_within words n (get_or values n (pos 0)) (read n (omega arith)).0)

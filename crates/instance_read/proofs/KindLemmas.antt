@@ -1,5 +1,5 @@
 -- The first of the faults of a line.
-use Rattle.std.proofs.Common.{◌≡◌, ℕ, ◌<◌, ◌≤◌, Bool, true, false, cond, ⊎_elim, sym, ◌∙◌, arith}
+use Rattle.std.proofs.Common.{◌≡◌, ℕ, ◌<◌, ◌≤◌, Bool, true, false, cond, ⊎_elim, refl, sym, ◌∙◌, arith}
 use Rattle.std.proofs.lemmas.Bool.{cases_lt, false≢true}
 use Rattle.instance_read.specs.declared.faults.ReadFaultKind.{ReadFaultKind}
 use Rattle.instance_read.specs.declared.faults.ReadFaultKind.TheVariants.{BadNumber, Range, FieldCount, TaskOrder, PairMismatch, EmptyWindow, TooManyStops, MissingKey, Unsupported, DepotNotFirst, NodeRepeated, Truncated, OutOfMemory}
@@ -26,11 +26,11 @@ none_below fault n small count number stops range order window Truncated e = ome
 none_below fault n small count number stops range order window OutOfMemory e = omega arith
 
 -- which of the two it is says the test
-pub stops_or_range : (fault : ReadFaultKind → Bool) (t : Bool) (kind : ReadFaultKind) → kind ≡ cond t TooManyStops Range → fault FieldCount ≡ false → fault BadNumber ≡ false → fault TooManyStops ≡ t → fault Range ≡ true → IsFirstKind fault kind
+pub stops_or_range : (fault : ReadFaultKind → Bool) (t : Bool) (kind : ReadFaultKind) → kind ≡ cond t TooManyStops Range → fault FieldCount ≡ false → fault BadNumber ≡ false → fault TooManyStops ≡ t → (t ≡ false → fault Range ≡ true) → IsFirstKind fault kind
 stops_or_range fault true kind is count number stops range =
     rw is (stops, none_below fault 3 (omega arith) (λ _. count) (λ _. number) (λ h. absurd (omega arith)) (λ h. absurd (omega arith)) (λ h. absurd (omega arith)) (λ h. absurd (omega arith)))
 stops_or_range fault false kind is count number stops range =
-    rw is (range, none_below fault 4 (omega arith) (λ _. count) (λ _. number) (λ _. stops) (λ h. absurd (omega arith)) (λ h. absurd (omega arith)) (λ h. absurd (omega arith)))
+    rw is (range refl, none_below fault 4 (omega arith) (λ _. count) (λ _. number) (λ _. stops) (λ h. absurd (omega arith)) (λ h. absurd (omega arith)) (λ h. absurd (omega arith)))
 
 -- a line without as many words as are due
 pub count_first : (fault : ReadFaultKind → Bool) → fault FieldCount ≡ true → IsFirstKind fault FieldCount
@@ -40,3 +40,11 @@ count_first fault e =
 pub number_first : (fault : ReadFaultKind → Bool) → fault FieldCount ≡ false → fault BadNumber ≡ true → IsFirstKind fault BadNumber
 number_first fault count e =
     (e, none_below fault 2 (omega arith) (λ _. count) (λ h. absurd (omega arith)) (λ h. absurd (omega arith)) (λ h. absurd (omega arith)) (λ h. absurd (omega arith)) (λ h. absurd (omega arith)))
+
+pub rank_small : (k : ReadFaultKind) → rank k < 14
+rank_small FieldCount = omega arith
+rank_small _ = omega arith
+
+-- a fault that the line has, where it has none of a lesser rank
+pub first_from : (fault : ReadFaultKind → Bool) (kind : ReadFaultKind) → fault kind ≡ true → ((k : ReadFaultKind) → rank k < rank kind → fault k ≡ false) → IsFirstKind fault kind
+first_from fault kind e none = (e, λ k h. no_lesser (rank kind) (rank k) (fault k) (none k) h)

@@ -1,6 +1,8 @@
 pub mod RowLemmas
 pub mod FieldLemmas
 pub mod KindLemmas
+pub mod NumberLemmas
+pub mod VrpFieldLemmas
 pub mod TaskLemmas
 pub mod WalkLemmas
 pub mod TableLemmas
@@ -9,3 +11,13 @@ pub mod LilimLemmas
 pub mod LimitLemmas
 pub mod ReadLemmas
 pub mod Examples
+pub mod NodeLemmas
+pub mod KeyLemmas
+pub mod CustomerLemmas
+pub mod KnowLemmas
+pub mod NodeStepLemmas
+pub mod LineLemmas
+pub mod ReadingLemmas
+pub mod VrpFaultLemmas
+pub mod VrpProblemLemmas
+pub mod ReadVrpLemmas

@@ -19,10 +19,10 @@ use Rattle.instance_read.specs.Tables.{ArePaired}
 use Rattle.instance_read.specs.Walk.{HasNoKind, IsFirstKind, TaskLineFault, HasNoTaskFault, IsFirstTaskFault, LinesAbove}
 use Rattle.instance_read.proofs.WalkLemmas.{rows_above, fault_above}
 
-cons_head : {X : Type 0} (x y : X) (xs ys : List X) → x ∷ xs ≡ y ∷ ys → x ≡ y
+pub cons_head : {X : Type 0} (x y : X) (xs ys : List X) → x ∷ xs ≡ y ∷ ys → x ≡ y
 cons_head x y xs ys e = cc
 
-cons_tail : {X : Type 0} (x y : X) (xs ys : List X) → x ∷ xs ≡ y ∷ ys → xs ≡ ys
+pub cons_tail : {X : Type 0} (x y : X) (xs ys : List X) → x ∷ xs ≡ y ∷ ys → xs ≡ ys
 cons_tail x y xs ys e = cc
 
 -- a task line with a fault, among task lines

@@ -7,7 +7,7 @@ use Rattle.std.proofs.lemmas.Bool.{or_parts, eqb-true, ltb-true, ltb-false, fals
 use Rattle.std.proofs.lemmas.Int.{ints}
 use Rattle.text_lines.specs.Numbers.{number_of}
 use Rattle.text_lines.specs.Words.{words_of}
-use Rattle.plan_types.specs.Limits.{IsFleet, IsVisit}
+use Rattle.plan_types.specs.Limits.{IsVisit}
 use Rattle.instance_read.specs.declared.faults.ReadFaultKind.TheVariants.{BadNumber, Range, FieldCount, TaskOrder, EmptyWindow}
 use Rattle.instance_read.specs.declared.tasks.Header.{Header}
 use Rattle.instance_read.specs.declared.tasks.Task.{Task}
@@ -21,7 +21,7 @@ use Rattle.instance_read.specs.Tables.{AreTasks, HeaderKeepsLimits, IsCustomer, 
 use Rattle.instance_read.specs.Walk.{HasNoKind, HasNoTaskFault}
 use Rattle.instance_read.proofs.TaskLemmas.{from_zero}
 
-within_from : (least most z : ℤ) → is_beyond (least, most) z ≡ false → (least ≤ℤ z) × (z ≤ℤ most)
+pub within_from : (least most z : ℤ) → is_beyond (least, most) z ≡ false → (least ≤ℤ z) × (z ≤ℤ most)
 within_from least most z e =
     let parts = or_parts (int_lt z least) (int_lt most z) e in
     let low = parts.0 in
@@ -36,7 +36,7 @@ magnitude_le : (most : ℕ) (z : ℤ) → is_beyond (pos 0, pos most) z ≡ fals
 magnitude_le most (pos n) e = most_from most n (or_parts (int_lt (pos n) (pos 0)) (int_lt (pos most) (pos n)) e).1
 magnitude_le most (negsuc n) e = absurd (false≢true (sym e))
 
-not_true : (b : Bool) → not b ≡ false → b ≡ true
+pub not_true : (b : Bool) → not b ≡ false → b ≡ true
 not_true true e = refl
 not_true false e = absurd (false≢true (sym e))
 
@@ -45,7 +45,7 @@ value_here : (limits : ℤ × ℤ) (number : Option ℤ) → is_none number ≡ 
 value_here limits None some h = absurd (false≢true (sym some))
 value_here limits (Some z) some h = (refl, h)
 
-values_of : (limits : List (ℤ × ℤ)) (words : List (List ℕ)) (k : ℕ) → length limits ≤ length words → has_no_number words ≡ false → any_beyond limits words ≡ false → k < length limits → IsValue (get_or limits k (pos 0, pos 0)) (field words k) (value_at words k)
+pub values_of : (limits : List (ℤ × ℤ)) (words : List (List ℕ)) (k : ℕ) → length limits ≤ length words → has_no_number words ≡ false → any_beyond limits words ≡ false → k < length limits → IsValue (get_or limits k (pos 0, pos 0)) (field words k) (value_at words k)
 values_of [] words k fits numbers h l = absurd (omega arith)
 values_of (x ∷ limits) [] k fits numbers h l = absurd (omega arith)
 values_of (x ∷ limits) (w ∷ words) zero fits numbers h l =
@@ -53,11 +53,11 @@ values_of (x ∷ limits) (w ∷ words) zero fits numbers h l =
 values_of (x ∷ limits) (w ∷ words) (suc k) fits numbers h l =
     values_of limits words k (omega arith) (or_parts (is_no_number w) (has_no_number words) numbers).1 (or_parts (is_that (is_beyond x) (number_of w)) (any_beyond limits words) h).1 (omega arith)
 
-fleet_from : (z : ℤ) → is_beyond (pos 1, pos 40000) z ≡ false → IsFleet (unsigned_abs z)
-fleet_from (pos n) e =
-    let parts = or_parts (int_lt (pos n) (pos 1)) (int_lt (pos 40000) (pos n)) e in
-    (ltb-false n 1 parts.0, most_from 40000 n parts.1)
-fleet_from (negsuc n) e = absurd (false≢true (sym e))
+pub from_one_to : (most : ℕ) (z : ℤ) → is_beyond (pos 1, pos most) z ≡ false → (1 ≤ unsigned_abs z) × (unsigned_abs z ≤ most)
+from_one_to most (pos n) e =
+    let parts = or_parts (int_lt (pos n) (pos 1)) (int_lt (pos most) (pos n)) e in
+    (ltb-false n 1 parts.0, most_from most n parts.1)
+from_one_to most (negsuc n) e = absurd (false≢true (sym e))
 
 pub header_limits_of : (words : List (List ℕ)) (header : Header) → HasNoKind (header_fault words) → IsHeader words header → HeaderKeepsLimits header
 header_limits_of words header none is =
@@ -65,7 +65,7 @@ header_limits_of words header none is =
     let fleet = values_of header_limits words 0 (omega (arith, three)) (none BadNumber) (none Range) (omega arith) in
     let capacity = values_of header_limits words 1 (omega (arith, three)) (none BadNumber) (none Range) (omega arith) in
     record {
-      fleet = rw is.0 (fleet_from (value_at words 0) fleet.1);
+      fleet = rw is.0 (from_one_to 40000 (value_at words 0) fleet.1);
       capacity = rw is.1 (magnitude_le 1000000 (value_at words 1) capacity.1);
     }
 

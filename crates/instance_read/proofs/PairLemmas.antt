@@ -215,7 +215,7 @@ pair_request tasks p d pair = (
   pair.even,
 )
 
-not_some : {X : Type 0} (o : Option X) → o ≡ None → IsSome o → ⊥
+pub not_some : {X : Type 0} (o : Option X) → o ≡ None → IsSome o → ⊥
 not_some None e h = false≢true h
 not_some (Some x) e h = none-some x (sym e)
 

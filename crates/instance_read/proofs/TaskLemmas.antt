@@ -1,39 +1,18 @@
 -- The words of a task's line, and the task that they make.
-use Rattle.std.proofs.Common.{◌≡◌, ℕ, zero, suc, ◌<◌, ◌≤◌, Bool, true, false, cond, List, [], ◌∷◌, length, get_or, Option, Some, None, refl, sym, ap, ◌∙◌, arith, ℤ, pos, negsuc}
-use Rattle.std.specs.Prelude.{int_lt, is_none, not, ◌==◌, unwrap_or}
+use Rattle.std.proofs.Common.{◌≡◌, ℕ, ◌<◌, ◌≤◌, true, false, List, length, get_or, Option, Some, refl, sym, ap, ◌∙◌, arith, ℤ, pos, negsuc}
+use Rattle.std.specs.Prelude.{int_lt, not, ◌==◌, unwrap_or}
 use Rattle.std.specs.Int.RustNames.{unsigned_abs}
-use Rattle.std.proofs.lemmas.Bool.{eqb-true, or_left, or_right, or_parts, or_from, lt-ltb, le-ltb, false≢true}
-use Rattle.text_lines.specs.Numbers.{number_of}
-use Rattle.instance_read.specs.declared.faults.ReadFaultKind.{ReadFaultKind}
+use Rattle.std.proofs.lemmas.Bool.{or_parts, lt-ltb, le-ltb, false≢true}
 use Rattle.instance_read.specs.declared.tasks.Task.{Task}
-use Rattle.instance_read.specs.Fields.{field, value_at, is_that, is_beyond, any_beyond, has_no_number, is_no_number, exceeds}
-use Rattle.instance_read.specs.FieldValues.{IsValue, IsNoValue, HasNoValue}
+use Rattle.instance_read.specs.Fields.{field, value_at, is_that, is_beyond, any_beyond, has_no_number, exceeds}
+use Rattle.instance_read.specs.FieldValues.{IsValue}
 use Rattle.instance_read.specs.Headers.{task_with}
 use Rattle.instance_read.specs.Lilim.{is_out_of_order, task_fault, task_limits}
 use Rattle.instance_read.specs.Pairs.{task_from}
-use Rattle.instance_read.specs.Walk.{HasNoKind, IsFirstKind, fields_fault}
+use Rattle.instance_read.specs.Walk.{HasNoKind, IsFirstKind}
 use Rattle.instance_read.specs.declared.faults.ReadFaultKind.TheVariants.{BadNumber, Range, FieldCount, TaskOrder, PairMismatch, EmptyWindow, TooManyStops, MissingKey, Unsupported, DepotNotFirst, NodeRepeated, Truncated, OutOfMemory}
-use Rattle.instance_read.proofs.KindLemmas.{count_first, none_below, number_first, stops_or_range}
-
--- a number beyond its limits
-beyond_first : (limits : ℤ × ℤ) (number : Option ℤ) → is_none number ≡ false → IsNoValue limits number → is_that (is_beyond limits) number ≡ true
-beyond_first limits None e h = absurd (false≢true (sym e))
-beyond_first limits (Some z) e h = h z refl
-
-pub any_beyond-true : (limits : List (ℤ × ℤ)) (words : List (List ℕ)) (k : ℕ) → k < length limits → length limits ≤ length words → has_no_number words ≡ false → HasNoValue limits words k → any_beyond limits words ≡ true
-any_beyond-true [] words k l fits e h = absurd (omega arith)
-any_beyond-true (x ∷ limits) [] k l fits e h = absurd (omega arith)
-any_beyond-true (x ∷ limits) (w ∷ words) zero l fits e h =
-    or_left _ _ (beyond_first x (number_of w) (or_parts (is_no_number w) (has_no_number words) e).0 h)
-any_beyond-true (x ∷ limits) (w ∷ words) (suc k) l fits e h =
-    or_right _ _ (any_beyond-true limits words k (omega arith) (omega arith) (or_parts (is_no_number w) (has_no_number words) e).1 h)
-
-pub any_beyond-false : (limits : List (ℤ × ℤ)) (words : List (List ℕ)) (value : ℕ → ℤ) → ((k : ℕ) → k < length limits → IsValue (get_or limits k (pos 0, pos 0)) (field words k) (value k)) → any_beyond limits words ≡ false
-any_beyond-false [] words value h = refl
-any_beyond-false (x ∷ limits) [] value h = refl
-any_beyond-false (x ∷ limits) (w ∷ words) value h =
-    let first = h 0 (omega arith) in
-    or_from _ _ (ap (is_that (is_beyond x)) first.0 ∙ first.1) (any_beyond-false limits words (λ k. value (suc k)) (λ k l. h (suc k) (omega arith)))
+use Rattle.instance_read.proofs.KindLemmas.{none_below}
+use Rattle.instance_read.proofs.NumberLemmas.{any_beyond-false}
 
 -- a number of 0 or more is that of its bits
 pub from_zero : (most z : ℤ) → is_beyond (pos 0, most) z ≡ false → z ≡ pos (unsigned_abs z)
@@ -117,28 +96,3 @@ module _ (words : List (List ℕ)) (values : List ℤ) (h : (k : ℕ) → k < 9 
     no_fault e l PairMismatch = refl
     no_fault e l Truncated = refl
     no_fault e l OutOfMemory = refl
-
--- the numbers of a line are numbers
-pub numbers_of : (words : List (List ℕ)) (v : ℕ → ℤ) → ((k : ℕ) → k < length words → field words k ≡ Some (v k)) → has_no_number words ≡ false
-numbers_of [] v h = refl
-numbers_of (w ∷ words) v h =
-    or_from (is_no_number w) (has_no_number words) (ap (λ (o : Option ℤ). is_none o) (h 0 (omega arith))) (numbers_of words (λ k. v (suc k)) (λ k l. h (suc k) (omega arith)))
-
--- which fault the fields of a line have, of which one is not within its limits
-number_cases : (fault : ReadFaultKind → Bool) (words : List (List ℕ)) (b : Bool) → has_no_number words ≡ b → fault FieldCount ≡ false → fault BadNumber ≡ has_no_number words → fault TooManyStops ≡ is_that (λ z. int_lt (pos 40000) z) (field words 0) → (has_no_number words ≡ false → fault Range ≡ true) → IsFirstKind fault (cond b BadNumber (cond (is_that (λ z. int_lt (pos 40000) z) (field words 0)) TooManyStops Range))
-number_cases fault words true e count number stops range = number_first fault count (number ∙ e)
-number_cases fault words false e count number stops range =
-    stops_or_range fault (is_that (λ z. int_lt (pos 40000) z) (field words 0)) _ refl count (number ∙ e) stops (range e)
-
-count_cases : (fault : ReadFaultKind → Bool) (words : List (List ℕ)) (b : Bool) → not (length words == 9) ≡ b → fault FieldCount ≡ not (length words == 9) → fault BadNumber ≡ has_no_number words → fault TooManyStops ≡ is_that (λ z. int_lt (pos 40000) z) (field words 0) → (not (length words == 9) ≡ false → has_no_number words ≡ false → fault Range ≡ true) → IsFirstKind fault (cond b FieldCount (cond (has_no_number words) BadNumber (cond (is_that (λ z. int_lt (pos 40000) z) (field words 0)) TooManyStops Range)))
-count_cases fault words true e count number stops range = count_first fault (count ∙ e)
-count_cases fault words false e count number stops range = number_cases fault words (has_no_number words) refl (count ∙ e) number stops (range e)
-
-not_false : (b : Bool) → not b ≡ false → b ≡ true
-not_false true e = refl
-not_false false e = absurd (false≢true (sym e))
-
-pub fields_first : (previous : Option Task) (words : List (List ℕ)) (k : ℕ) → k < 9 → HasNoValue task_limits words k → IsFirstKind (task_fault previous words) (fields_fault words)
-fields_first previous words k l h =
-    count_cases (task_fault previous words) words (not (length words == 9)) refl refl refl refl (λ nine numbers.
-    any_beyond-true task_limits words k l (omega (arith, eqb-true (length words) 9 (not_false (length words == 9) nine))) numbers h)

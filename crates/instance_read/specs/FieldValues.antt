@@ -1,6 +1,8 @@
 -- What reading the numbers of a line gives.
-use Rattle.std.specs.Prelude.{◌≡◌, ℕ, false, true, List, slice_index_or, Option, Some, ℤ, pos}
-use Rattle.instance_read.specs.Fields.{field, is_beyond}
+use Rattle.std.specs.Prelude.{◌≡◌, ℕ, ◌<◌, Bool, false, true, not, ◌==◌, if◌then◌else◌, List, length, slice_index_or, Option, Some, ℤ, pos}
+use Rattle.instance_read.specs.declared.faults.ReadFaultKind.{ReadFaultKind}
+use Rattle.instance_read.specs.declared.faults.ReadFaultKind.TheVariants.{BadNumber, Range, FieldCount}
+use Rattle.instance_read.specs.Fields.{field, has_no_number, is_beyond, any_beyond}
 
 -- the number is this value, and within these limits
 abbrev pub IsValue : ℤ × ℤ → Option ℤ → ℤ → Type 0
@@ -17,3 +19,22 @@ HasValue limits words values k = IsValue (slice_index_or limits k (pos 0, pos 0)
 -- no number is at this place, or one beyond its limits
 abbrev pub HasNoValue : List (ℤ × ℤ) → List (List ℕ) → ℕ → Type 0
 HasNoValue limits words k = IsNoValue (slice_index_or limits k (pos 0, pos 0)) (field words k)
+
+-- the line has so many words, each the number that stands at its place, within the limits for it
+abbrev pub HasNumbers : ℕ → List (ℤ × ℤ) → List (List ℕ) → List ℤ → Type 0
+HasNumbers count limits words values = (length words ≡ count) × ((k : ℕ) → k < count → HasValue limits words values k)
+
+-- the line has more words or less, or one that is no number within its limits
+abbrev pub HasNoNumbers : ℕ → List (ℤ × ℤ) → List (List ℕ) → Type 0
+HasNoNumbers count limits words = length words ≡ count → (k : ℕ) × (k < count) × HasNoValue limits words k
+
+-- what may be wrong with a line of so many numbers within these limits
+abbrev pub numbers_fault : ℕ → List (ℤ × ℤ) → List (List ℕ) → ReadFaultKind → Bool
+numbers_fault count limits words FieldCount = not (length words == count)
+numbers_fault count limits words BadNumber = has_no_number words
+numbers_fault count limits words Range = any_beyond limits words
+numbers_fault count limits words _ = false
+
+-- what is told of a line that has not so many numbers within their limits
+abbrev pub numbers_kind : ℕ → List (List ℕ) → ReadFaultKind
+numbers_kind count words = if not (length words == count) then FieldCount else if has_no_number words then BadNumber else Range

@@ -11,3 +11,6 @@ pub mod Headers
 pub mod Tables
 pub mod Vrp
 pub mod VrpLines
+pub mod Drafts
+pub mod VrpWalk
+pub mod VrpFields

@@ -87,19 +87,19 @@ opening_fault announced stands _ = false
 abbrev pub is_kind : ReadFaultKind → ReadFaultKind → Bool
 is_kind kind other = rank kind == rank other
 
--- what may be wrong with a line outside the sections, where these keys stand before it
-abbrev pub key_fault : (Key → Bool) → Row → Key → ReadFaultKind → Bool
-key_fault stands row Dimension kind = dimension_fault (stands Dimension) (value_words row) kind
-key_fault stands row Capacity kind = capacity_fault (stands Capacity) (value_words row) kind
-key_fault stands row ProblemType kind = spelling_fault (codes "CVRP") (stands ProblemType) (value_of row) kind
-key_fault stands row WeightType kind = spelling_fault (codes "EUC_2D") (stands WeightType) (value_of row) kind
-key_fault stands row Refused kind = is_kind Unsupported kind
-key_fault stands row Coordinates kind = opening_fault (stands Dimension) (stands Coordinates) kind
-key_fault stands row Demands kind = opening_fault (stands Dimension) (stands Demands) kind
-key_fault stands row Depots kind = is_kind NodeRepeated kind && stands Depots
-key_fault stands row StrayNumber kind = is_kind FieldCount kind
-key_fault stands row End kind = false
-key_fault stands row Ignored kind = false
+-- what may be wrong with a line outside the sections that has this key and value, where a DIMENSION and a line of the same key may stand before it
+abbrev pub key_fault : Bool → Bool → List ℕ → Key → ReadFaultKind → Bool
+key_fault announced stands value Dimension kind = dimension_fault stands (words_of value) kind
+key_fault announced stands value Capacity kind = capacity_fault stands (words_of value) kind
+key_fault announced stands value ProblemType kind = spelling_fault (codes "CVRP") stands value kind
+key_fault announced stands value WeightType kind = spelling_fault (codes "EUC_2D") stands value kind
+key_fault announced stands value Refused kind = is_kind Unsupported kind
+key_fault announced stands value Coordinates kind = opening_fault announced stands kind
+key_fault announced stands value Demands kind = opening_fault announced stands kind
+key_fault announced stands value Depots kind = is_kind NodeRepeated kind && stands
+key_fault announced stands value StrayNumber kind = is_kind FieldCount kind
+key_fault announced stands value End kind = false
+key_fault announced stands value Ignored kind = false
 
 abbrev pub in_coordinates : Place → Bool
 in_coordinates (CoordinateLine n) = true
@@ -151,7 +151,7 @@ depot_fault seen words _ = false
 
 -- what may be wrong with a line, after these lines
 abbrev pub place_fault : List Placed → Row → Place → ReadFaultKind → Bool
-place_fault before row Outside kind = key_fault (λ key. any_key key before) row (key_of row) kind
+place_fault before row Outside kind = key_fault (any_key Dimension before) (any_key (key_of row) before) (value_of row) (key_of row) kind
 place_fault before row (CoordinateLine n) kind = node_fault 3 (coordinate_limits (nodes_of before)) (has_node in_coordinates before) (words_of row.text) kind
 place_fault before row (DemandLine n) kind = node_fault 2 (demand_limits (nodes_of before)) (has_node in_demands before) (words_of row.text) kind
 place_fault before row (DepotLine seen) kind = depot_fault seen (words_of row.text) kind

@@ -1,12 +1,11 @@
 -- The faults of task lines, one line after another.
-use Rattle.std.specs.Prelude.{not, ◌==◌, if◌then◌else◌, length, pos, int_lt, ◌≡◌, ℕ, ◌<◌, ◌≤◌, Bool, true, false, ◌⊎◌, List, [], ◌∷◌, Option, Some}
+use Rattle.std.specs.Prelude.{◌≡◌, ℕ, ◌<◌, ◌≤◌, Bool, true, false, ◌⊎◌, List, [], ◌∷◌, Option, Some}
 use Rattle.text_lines.specs.Words.{words_of}
 use Rattle.instance_read.specs.declared.faults.ReadFault.{ReadFault}
 use Rattle.instance_read.specs.declared.faults.ReadFaultKind.{ReadFaultKind}
-use Rattle.instance_read.specs.declared.faults.ReadFaultKind.TheVariants.{BadNumber, Range, FieldCount, TooManyStops, OutOfMemory}
+use Rattle.instance_read.specs.declared.faults.ReadFaultKind.TheVariants.{OutOfMemory}
 use Rattle.instance_read.specs.declared.tasks.Task.{Task}
 use Rattle.instance_read.specs.Faults.{rank, IsNoLaterPlace}
-use Rattle.instance_read.specs.Fields.{field, is_that, has_no_number}
 use Rattle.instance_read.specs.Lilim.{task_fault}
 use Rattle.instance_read.specs.Pairs.{task_of}
 use Rattle.instance_read.specs.Rows.{Row}
@@ -17,13 +16,6 @@ IsFirstKind fault kind = (fault kind ≡ true) × ((k : ReadFaultKind) → fault
 
 abbrev pub HasNoKind : (ReadFaultKind → Bool) → Type 0
 HasNoKind fault = (k : ReadFaultKind) → fault k ≡ false
-
--- what is told of a line of a task that has not nine numbers within their limits
-abbrev pub fields_fault : List (List ℕ) → ReadFaultKind
-fields_fault words =
-    if not (length words == 9) then FieldCount else
-    if has_no_number words then BadNumber else
-    if is_that (λ z. int_lt (pos 40000) z) (field words 0) then TooManyStops else Range
 
 -- a fault of one of these task lines, where previous is the task before them
 abbrev pub TaskLineFault : Option Task → List Row → ℕ → ReadFaultKind → Type 0

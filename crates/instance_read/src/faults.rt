@@ -45,6 +45,7 @@ pub struct ReadFault {
 
 impl ReadFault {
     ghost use Rattle.instance_read.specs.Names.{kind_name};
+    ghost use Rattle.instance_read.specs.declared.faults.ReadFaultKind.TheVariants.{OutOfMemory};
 
     /// The name of its kind, as answers print it.
     pub fn name(&self) -> &'static str
@@ -64,6 +65,17 @@ impl ReadFault {
             ReadFaultKind::NodeRepeated => "NodeRepeated",
             ReadFaultKind::Truncated => "Truncated",
             ReadFaultKind::OutOfMemory => "OutOfMemory",
+        }
+    }
+
+    /// A fault that was met in a line. Want of memory has no line.
+    pub(crate) fn of_line(line: u64, kind: ReadFaultKind) -> ReadFault
+        ensures memory { kind ≡ OutOfMemory → result ≡ record { line = 0; kind = OutOfMemory } }
+        ensures other { ¬ (kind ≡ OutOfMemory) → result ≡ record { line = line; kind = kind } }
+    {
+        match kind {
+            ReadFaultKind::OutOfMemory => ReadFault { line: 0, kind },
+            _ => ReadFault { line, kind },
         }
     }
 }
@@ -93,5 +105,16 @@ impl<T: Drop> From<AllocFailed<T>> for ReadFault {
             line: 0,
             kind: ReadFaultKind::OutOfMemory,
         }
+    }
+}
+
+impl From<AllocError> for ReadFaultKind {
+    ghost use Rattle.std.specs.Prelude.{◌≡◌};
+    ghost use Rattle.instance_read.specs.declared.faults.ReadFaultKind.TheVariants.{OutOfMemory};
+
+    ghost from_gives = { λ _ kind. kind ≡ OutOfMemory };
+
+    fn from(_: AllocError) -> ReadFaultKind {
+        ReadFaultKind::OutOfMemory
     }
 }

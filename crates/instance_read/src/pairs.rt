@@ -10,6 +10,7 @@ ghost use Rattle.instance_read.specs.Lilim.{depot_from};
 ghost use Rattle.instance_read.specs.Pairs.{find_task, is_mismatched, is_uneven, is_wrong_delivery, is_wrong_pickup, last_number, pair_of, pairs_of};
 ghost use Rattle.instance_read.specs.Tables.{ArePaired, AreTasks, HeaderKeepsLimits, IsCustomer, IsTable, RisesFrom, TellsMismatch, problem_with};
 
+use crate::put::put_request;
 use crate::tasks::{Header, Task};
 use crate::{ReadFault, ReadFaultKind};
 use plan_types::{Kind, Problem, PutFault, Request, Stop};
@@ -151,7 +152,7 @@ fn put_pairs(
 {
     for task in tasks {
         if let Some(request) = pair_of(tasks, table, task) {
-            put_pair(problem, request)?;
+            put_request(problem, request)?;
         }
     }
     Ok(())
@@ -168,18 +169,6 @@ fn pair_of(tasks: &[Task], table: &[Option<Task>], task: &Task) -> Option<Reques
     }
     let delivery = task_at(table, task.delivery)?;
     Some(Request::Pair(task.stop, delivery.stop))
-}
-
-fn put_pair(problem: &mut Problem, pair: Request) -> Result<(), AllocError>
-    requires valid { IsRequest pair }
-    requires free { ¬ IsTaken problem.old pair }
-    ensures { OnOk result (problem.new ≡ with_request problem.old pair) }
-{
-    match problem.put(pair) {
-        Ok(()) => Ok(()),
-        Err(PutFault::OutOfMemory) => Err(AllocError),
-        Err(_) => unreachable!(),
-    }
 }
 
 fn last_task<'a>(depot: &'a Task, customers: &'a [Task]) -> &'a Task

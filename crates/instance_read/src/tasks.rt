@@ -5,12 +5,12 @@ ghost use Rattle.instance_read.specs.Fields.{field, is_that};
 ghost use Rattle.instance_read.specs.Headers.{IsHeader, task_with};
 ghost use Rattle.instance_read.specs.Lilim.{header_fault, is_out_of_order, task_fault};
 ghost use Rattle.instance_read.specs.Pairs.{task_from};
-ghost use Rattle.instance_read.specs.Walk.{HasNoKind, IsFirstKind, fields_fault};
+ghost use Rattle.instance_read.specs.Walk.{HasNoKind, IsFirstKind};
 
 use crate::ReadFaultKind;
-use crate::fields::{Limits, has_no_number, values, word_count};
+use crate::fields::{Limits, beyond_limits, has_no_number, next_values, read_numbers, word_count};
 use plan_types::Stop;
-use text_lines::{Number, Words};
+use text_lines::Words;
 
 /// Fleet and capacity.
 const HEADER_LIMITS: [Limits; 2] = [(1, 40_000), (0, 1_000_000)];
@@ -59,7 +59,7 @@ impl Header {
         if has_no_number(line) {
             return Err(ReadFaultKind::BadNumber);
         }
-        let Some(values) = values(line, &HEADER_LIMITS) else {
+        let Some(values) = next_values(&mut Words::new(line), &HEADER_LIMITS) else {
             return Err(ReadFaultKind::Range);
         };
         Ok(Header {
@@ -75,12 +75,11 @@ impl Task {
         ensures { MatchResult result (λ task. HasNoKind (task_fault previous (words_of line.now)) × (task ≡ task_from number (words_of line.now)))
             (IsFirstKind (task_fault previous (words_of line.now))) }
     {
-        let Some(values) = values(line, &TASK_LIMITS) else {
-            return Err(fields_fault(line));
+        let values = match read_numbers(line, &TASK_LIMITS) {
+            Ok(values) => values,
+            Err(ReadFaultKind::Range) => return Err(beyond_limits(line, 40_000)),
+            Err(kind) => return Err(kind),
         };
-        if word_count(line) != 9 {
-            return Err(ReadFaultKind::FieldCount);
-        }
         let task = Task::from_values(number, values);
         if is_out_of_order(previous, task.stop.number) {
             return Err(ReadFaultKind::TaskOrder);
@@ -128,31 +127,5 @@ fn is_out_of_order(previous: Option<Task>, number: u32) -> bool
     match previous {
         None => number != 0,
         Some(task) => number <= task.stop.number,
-    }
-}
-
-// What is wrong with a line that has not nine numbers within their limits.
-fn fields_fault(line: &[u8]) -> ReadFaultKind
-    ensures { result ≡ fields_fault (words_of line.now) }
-{
-    if word_count(line) != 9 {
-        return ReadFaultKind::FieldCount;
-    }
-    if has_no_number(line) {
-        return ReadFaultKind::BadNumber;
-    }
-    beyond_limits(line)
-}
-
-// A number above 40,000 is one stop too many; any other number beyond its limits is out of range.
-fn beyond_limits(line: &[u8]) -> ReadFaultKind
-    ensures { result ≡ (if is_that (λ z. int_lt (pos 40000) z) (field (words_of line.now) 0) then ReadFaultKind.TooManyStops else ReadFaultKind.Range) }
-{
-    let Some(first) = Words::new(line).next() else {
-        return ReadFaultKind::Range;
-    };
-    match Number::parse(first) {
-        Some(number) if number.is_above(40_000) => ReadFaultKind::TooManyStops,
-        _ => ReadFaultKind::Range,
     }
 }

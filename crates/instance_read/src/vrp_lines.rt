@@ -1,4 +1,11 @@
 //! The lines of a `.vrp` text.
+ghost use Rattle.std.specs.Prelude.{◌≡◌, ◌-◌, ◌<◌, ◌≤◌, codes, length, take, IfSome, MatchOption};
+ghost use Rattle.std.specs.List.{position_or_len, suffix_len};
+ghost use Rattle.std.specs.Str.{str_eq_ignore_ascii_case};
+ghost use Rattle.text_lines.specs.Words.{is_blank};
+ghost use Rattle.instance_read.specs.VrpLines.{begins_as_number, ends_in, is_colon, key_from, key_text, trimmed, value_text};
+
+use text_lines::trim_blanks_start;
 
 /// What a line outside a section is.
 #[derive(Clone, Copy, PartialEq, Eq)]
@@ -18,6 +25,33 @@ pub enum Key {
     Ignored,
 }
 
+/// How many keys there are.
+pub const KEYS: usize = 11;
+
+impl Key {
+    ghost use Rattle.instance_read.specs.Vrp.{key_number};
+
+    /// Its place among the keys.
+    pub fn index(self) -> usize
+        ensures is { result ≡ key_number self }
+        ensures below { result < 11 }
+    {
+        match self {
+            Key::Dimension => 0,
+            Key::Capacity => 1,
+            Key::ProblemType => 2,
+            Key::WeightType => 3,
+            Key::Refused => 4,
+            Key::Coordinates => 5,
+            Key::Demands => 6,
+            Key::Depots => 7,
+            Key::End => 8,
+            Key::StrayNumber => 9,
+            Key::Ignored => 10,
+        }
+    }
+}
+
 /// Where a line stands.
 #[derive(Clone, Copy, PartialEq, Eq)]
 pub enum Place {
@@ -28,4 +62,163 @@ pub enum Place {
     /// In the list of depots, of which so many words stand on lines before.
     DepotLine(usize),
     AfterEnd,
+}
+
+impl Place {
+    ghost use Rattle.std.specs.Prelude.{◌+◌};
+    ghost use Rattle.instance_read.specs.VrpLines.{coordinates_left, demands_left, depots_after, place_after_key};
+
+    /// The place of the next line, where so many lines of the section of coordinates are left.
+    pub fn with_coordinates(left: u32) -> Place
+        ensures { result ≡ coordinates_left left }
+    {
+        if left == 0 {
+            Place::Outside
+        } else {
+            Place::CoordinateLine(left)
+        }
+    }
+
+    /// The same of the section of demands.
+    pub fn with_demands(left: u32) -> Place
+        ensures { result ≡ demands_left left }
+    {
+        if left == 0 {
+            Place::Outside
+        } else {
+            Place::DemandLine(left)
+        }
+    }
+
+    /// The place after a line of the list of depots, with so many words after those seen.
+    pub fn after_depots(seen: usize, words: usize) -> Place
+        requires { seen < 2 }
+        ensures { result ≡ depots_after (seen + words) }
+    {
+        if words < 2 - seen {
+            Place::DepotLine(seen + words)
+        } else {
+            Place::Outside
+        }
+    }
+
+    /// The place after a line outside the sections, where so many nodes are announced.
+    pub fn after_key(nodes: Option<u32>, key: Key) -> Place
+        ensures { result ≡ place_after_key nodes key }
+    {
+        match (nodes, key) {
+            (Some(nodes), Key::Coordinates) => Place::with_coordinates(nodes),
+            (Some(nodes), Key::Demands) => Place::with_demands(nodes),
+            (_, Key::Depots) => Place::DepotLine(0),
+            (_, Key::End) => Place::AfterEnd,
+            _ => Place::Outside,
+        }
+    }
+}
+
+/// The key of a line outside the sections, and the value after its first colon.
+pub fn read_key(text: &[u8]) -> (Key, &[u8])
+    ensures key { result.0 ≡ key_from (key_text text.now) (trimmed text.now) }
+    ensures value { result.1.now ≡ value_text text.now }
+{
+    let (key, value) = split_key(text);
+    (key_from(key, trim_blanks(text)), value)
+}
+
+/// What stands before the first colon, or all where there is none, and what stands after it.
+fn split_key(line: &[u8]) -> (&[u8], &[u8])
+    ensures key { result.0.now ≡ key_text line.now }
+    ensures value { result.1.now ≡ value_text line.now }
+{
+    match colon_place(line) {
+        Some(colon) => (trim_blanks(&line[..colon]), trim_blanks(&line[colon + 1..])),
+        None => (trim_blanks(line), &[]),
+    }
+}
+
+// Where the first colon stands.
+fn colon_place(line: &[u8]) -> Option<usize>
+    ensures bound { IfSome result (λ colon. colon < length line.now) }
+    ensures place { MatchOption result (length line.now ≤ position_or_len is_colon line.now) (λ colon. colon ≡ position_or_len is_colon line.now) }
+{
+    line.iter().position(|byte| *byte == b':')
+}
+
+/// The line without the blanks and tabs at both ends.
+fn trim_blanks(line: &[u8]) -> &[u8]
+    ensures { result.now ≡ trimmed line.now }
+{
+    trim_blanks_end(trim_blanks_start(line))
+}
+
+fn trim_blanks_end(text: &[u8]) -> &[u8]
+    ensures { result.now ≡ take (length text.now - suffix_len is_blank text.now) text.now }
+{
+    let mut rest = text;
+    while let [front @ .., b' ' | b'\t'] = rest {
+        rest = front;
+    }
+    rest
+}
+
+/// The key that stands before the colon of this line.
+fn key_from(key: &[u8], line: &[u8]) -> Key
+    ensures { result ≡ key_from key.now line.now }
+{
+    if is_word(key, b"DIMENSION") {
+        return Key::Dimension;
+    }
+    if is_word(key, b"CAPACITY") {
+        return Key::Capacity;
+    }
+    if is_word(key, b"TYPE") {
+        return Key::ProblemType;
+    }
+    if is_word(key, b"EDGE_WEIGHT_TYPE") {
+        return Key::WeightType;
+    }
+    if is_word(key, b"DISTANCE") || is_word(key, b"SERVICE_TIME") {
+        return Key::Refused;
+    }
+    if is_word(key, b"NODE_COORD_SECTION") {
+        return Key::Coordinates;
+    }
+    if is_word(key, b"DEMAND_SECTION") {
+        return Key::Demands;
+    }
+    if is_word(key, b"DEPOT_SECTION") {
+        return Key::Depots;
+    }
+    if is_word(key, b"EOF") {
+        return Key::End;
+    }
+    if ends_in(b"_SECTION", key) {
+        return Key::Refused;
+    }
+    if begins_as_number(line) {
+        return Key::StrayNumber;
+    }
+    Key::Ignored
+}
+
+/// Whether a text is this word, in any ASCII letter case.
+pub fn is_word(text: &[u8], word: &[u8]) -> bool
+    ensures { result ≡ str_eq_ignore_ascii_case text.now word.now }
+{
+    text.eq_ignore_ascii_case(word)
+}
+
+fn ends_in(end: &[u8], word: &[u8]) -> bool
+    ensures { result ≡ ends_in end.now word.now }
+{
+    end.len() <= word.len() && is_word(&word[word.len() - end.len()..], end)
+}
+
+fn begins_as_number(line: &[u8]) -> bool
+    ensures { result ≡ begins_as_number line.now }
+{
+    match line {
+        [b'0'..=b'9' | b'+' | b'-', ..] => true,
+        _ => false,
+    }
 }

@@ -1,19 +1,12 @@
-use Rattle.std.proofs.Common.{drop, arith, ◌∙◌, ap, w32, rules}
-use Rattle.std.proofs.lemmas.List.{drop-drop, length-set}
-use Rattle.std.proofs.lemmas.Int.{to_z-of_z}
-use Rattle.std.specs.Prelude.{FitsSigned}
-use Rattle.text_lines.specs.Words.{words_of}
-use Rattle.instance_read.proofs.FieldLemmas.{values_more}
+use Rattle.std.proofs.Common.{ℕ, List, subst, sym, ◌∙◌}
+use Rattle.instance_read.specs.FieldValues.{HasNumbers}
+use Rattle.instance_read.proofs.FieldLemmas.{no_more}
 use Rattle.instance_read.proofs.fields.values.Goals as goal
 
-pub loop-i-preserved : goal.loop-i-preserved
-loop-i-preserved g c =
-    let i = c.loop-i.i in
-    let words = words_of c.args.line.now in
-    let value = c.in_ok-values.field-0 in
-    let fits : FitsSigned w32 value = search rules in
-    record {
-      rest = c.next_value.ensures.rest ∙ ap (λ ws. drop 1 ws) c.loop-i.invariant.rest ∙ drop-drop 1 i words;
-      sized = simp length-set c.loop-i.invariant.sized;
-      read = rw (to_z-of_z w32 value fits) (values_more c.args.limits.now words c.loop-i.words c.loop-i.values i value (omega (arith, c.loop-i.invariant.sized)) c.loop-i.invariant.rest c.loop-i.invariant.read c.in_ok-values.ensures.value);
-    }
+pub returns-in-None : goal.returns-in-None
+returns-in-None g c =
+    let limits = c.args.limits.now in
+    let values = c.in_ok-values.values in
+    let read = c.in_ok-values.ensures.values in
+    let P : List (List ℕ) → Type 0 = λ words. HasNumbers g.row.N limits words values in
+    subst P c.new-words.ensures.words (no_more g.row.N limits c.new-words.result values read (sym c.in_ok-values.ensures.rest ∙ c.in-None.ensures.steps.0), read)

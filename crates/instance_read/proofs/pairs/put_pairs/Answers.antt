@@ -5,18 +5,18 @@ use Rattle.plan_types.specs.Instance.{Instance}
 use Rattle.instance_read.specs.Pairs.{pair_of}
 use Rattle.instance_read.proofs.PairLemmas.{no_task, put_valid, put_free, put_last, put_none, put_step, same_instance}
 use Rattle.instance_read.proofs.pairs.put_pairs.Goals as goal
-use Rattle.instance_read.proofs.pairs.put_pairs.Goals.{in-Some+in_ok-put_pair, in_default}
+use Rattle.instance_read.proofs.pairs.put_pairs.Goals.{in-Some+in_ok-put_request, in_default}
 
-pub put_pair-requires-clause-valid : goal.put_pair-requires-clause-valid
-put_pair-requires-clause-valid c =
+pub put_request-requires-clause-valid : goal.put_request-requires-clause-valid
+put_request-requires-clause-valid c =
     let tasks = c.args.tasks.now in
     let i = c.loop-task.task-index in
     let t = get_or tasks i no_task in
     put_valid tasks i t c.requires.valid c.requires.rising c.requires.paired c.loop-task-test.true (get_or_default tasks i no_task t c.loop-task-test.true)
     c.in-Some.request (sym c.in-Some.ensures)
 
-pub put_pair-requires-clause-free : goal.put_pair-requires-clause-free
-put_pair-requires-clause-free c =
+pub put_request-requires-clause-free : goal.put_request-requires-clause-free
+put_request-requires-clause-free c =
     let tasks = c.args.tasks.now in
     let i = c.loop-task.task-index in
     let t = get_or tasks i no_task in
@@ -31,9 +31,9 @@ loop-task-preserved c =
     let at = get_or_default tasks i no_task t c.loop-task-test.true in
     let requests = ap (λ (p : Instance). p.requests) c.loop-task.invariant in
     elim c.match-pair_of.branch [
-      | in-Some+in_ok-put_pair w ↦
+      | in-Some+in_ok-put_request w ↦
           put_step c.args.problem.now c.loop-task.problem c.match-pair_of.problem w.in-Some.request
-          (filter_map (pair_of tasks) (take i tasks)) (filter_map (pair_of tasks) (take (i + 1) tasks)) c.loop-task.invariant (w.problem-is ∙ w.in_ok-put_pair.ensures)
+          (filter_map (pair_of tasks) (take i tasks)) (filter_map (pair_of tasks) (take (i + 1) tasks)) c.loop-task.invariant (w.problem-is ∙ w.in_ok-put_request.ensures)
           (put_last tasks i t c.requires.valid c.requires.rising c.requires.paired c.loop-task-test.true at w.in-Some.request (sym w.in-Some.ensures) (filter_map (pair_of tasks) (take i tasks)) refl)
       | in_default w ↦
           let kept = w.problem-is ∙ c.loop-task.invariant in

@@ -1,0 +1,83 @@
+-- The customers of a draft as requests.
+use Rattle.std.proofs.Common.{◌≡◌, ℕ, zero, suc, ◌+◌, ◌-◌, ◌<◌, ◌≤◌, false, cond, ⊎_elim, List, length, map, eqb, Option, Some, None, refl, sym, ap, subst, ◌∙◌, arith, ℤ, pos}
+use Rattle.std.specs.Prelude.{All, IfSome, unwrap_or, slice_index_or}
+use Rattle.std.specs.List.{AllByRecursion, range_with_len}
+use Rattle.std.specs.Option.{option_or}
+use Rattle.std.specs.Prelude.{max}
+use Rattle.std.proofs.lemmas.Bool.{cases_lt, ne_eqb}
+use Rattle.std.proofs.lemmas.Int.{ints}
+use Rattle.std.proofs.lemmas.List.{get_or_past}
+use Rattle.std.proofs.lemmas.List.FromFn.{map-range_with_len_more}
+use Rattle.plan_types.specs.Instance.{Instance, IsTaken, first_some, stop_at, with_request}
+use Rattle.plan_types.specs.Limits.{IsDemand, IsDepot, IsVisit}
+use Rattle.plan_types.specs.Request.{IsRequest, stop_in}
+use Rattle.plan_types.specs.declared.requests.Request.{Request}
+use Rattle.plan_types.specs.declared.requests.Request.TheVariants.{Single}
+use Rattle.instance_read.specs.declared.vrp_draft.Draft.{Draft}
+use Rattle.instance_read.specs.Drafts.{IsDraft, IsPoint, nodes_in}
+use Rattle.instance_read.specs.VrpWalk.{customer_in, customers_in, demand_at, drafted_stop, point_at}
+use Rattle.instance_read.proofs.PairLemmas.{not_some, with_entry-last}
+
+-- an entry within its limits, or what stands for one
+module _ {X : Type 0} (P : X → Type 0) (default : X) (here : P default) where
+  entry_within : (o : Option X) → IfSome o P → P (unwrap_or o default)
+  entry_within None h = here
+  entry_within (Some x) h = h
+
+  table_within : (table : List (Option X)) → All (λ entry. IfSome entry P) table → (n : ℕ) → P (unwrap_or (slice_index_or table n None) default)
+  table_within table all n =
+      let Q : Option X → Type 0 = λ o. P (unwrap_or o default) in
+      ⊎_elim
+      (λ l. entry_within (slice_index_or table n None) (all n None l))
+      (λ past. subst Q (sym (get_or_past table n None past)) here)
+      (cases_lt n (length table))
+
+module _ (draft : Draft) (valid : IsDraft draft) where
+  point_within : (n : ℕ) → IsPoint (point_at draft n)
+  point_within n = table_within IsPoint (pos 0, pos 0) ((grind (arith, ints), grind (arith, ints)), (grind (arith, ints), grind (arith, ints))) draft.coordinates.items valid.coordinates n
+
+  pub demand_within : (n : ℕ) → IsDemand (demand_at draft n)
+  demand_within n = table_within IsDemand (pos 0) (grind (arith, ints), grind (arith, ints)) draft.demands.items valid.demands n
+
+  pub visit_within : (demand : ℤ) (n : ℕ) → IsVisit (drafted_stop draft demand n)
+  visit_within demand n = record { x = (point_within n).0; y = (point_within n).1; window = omega arith; latest = omega arith; service = omega arith }
+
+  pub depot_within : IsDepot (drafted_stop draft (pos 0) 0)
+  depot_within = record { number = refl; demand = refl; service = refl; visit = visit_within (pos 0) 0 }
+
+  most_nodes : (o : Option ℕ) → IfSome o (λ n. (2 ≤ n) × (n ≤ 40001)) → unwrap_or o 0 ≤ 40001
+  most_nodes None h = omega arith
+  most_nodes (Some n) h = h.1
+
+  pub customer_valid : (n : ℕ) → 1 ≤ n → n < nodes_in draft → IsRequest (Single (drafted_stop draft (demand_at draft n) n))
+  customer_valid n one below =
+      (record { from_one = one; to_most = omega (arith, below, most_nodes draft.nodes valid.nodes); visit = visit_within (demand_at draft n) n }, demand_within n)
+
+-- a number above those of the customers is free
+none_before : (draft : Draft) (n from count : ℕ) → from + count ≤ n → first_some (stop_in n) (map (customer_in draft) (range_with_len from count)) ≡ None
+none_before draft n from zero le = refl
+none_before draft n from (suc count) le =
+    let other : eqb from n ≡ false = ne_eqb from n (omega (arith, le)) in
+    ap (λ b. option_or (cond b (Some (drafted_stop draft (demand_at draft from) from)) None) (first_some (stop_in n) (map (customer_in draft) (range_with_len (from + 1) count)))) other
+    ∙ none_before draft n (from + 1) count (omega (arith, le))
+
+pub customer_free : (draft : Draft) (problem : Instance) (n : ℕ) → 1 ≤ n → problem.requests ≡ customers_in draft (n - 1) → IsTaken problem (Single (drafted_stop draft (demand_at draft n) n)) → ⊥
+customer_free draft problem n one is taken =
+    not_some (stop_at problem n) (ap (first_some (stop_in n)) is ∙ none_before draft n 1 (n - 1) (omega (arith, one))) taken
+
+all_below : (draft : Draft) (n from count : ℕ) → from + count ≤ n → AllByRecursion (λ (e : ℕ × Request). e.0 < n) (map (customer_in draft) (range_with_len from count))
+all_below draft n from zero le = tt
+all_below draft n from (suc count) le = (omega (arith, le), all_below draft n (from + 1) count (omega (arith, le)))
+
+-- the problem with one customer more
+pub customer_put : (draft : Draft) (base before after : Instance) (n : ℕ) → 1 ≤ n → before ≡ record base { requests = customers_in draft (n - 1); next_number = n } → after ≡ with_request before (Single (drafted_stop draft (demand_at draft n) n)) → after ≡ record base { requests = customers_in draft n; next_number = n + 1 }
+customer_put draft base before after n one is put =
+    let s = drafted_stop draft (demand_at draft n) n in
+    let es = customers_in draft (n - 1) in
+    let count : n - 1 + 1 ≡ n = omega (arith, one) in
+    let more = with_entry-last n es (Single s) refl (all_below draft n 1 (n - 1) (omega (arith, one)))
+    ∙ sym (map-range_with_len_more (customer_in draft) 1 (n - 1) n (omega (arith, one))) ∙ ap (λ k. customers_in draft k) count in
+    let next : max n (n + 1) ≡ n + 1 = omega arith in
+    put ∙ ap (λ p. with_request p (Single s)) is
+    ∙ ap (λ xs. record base { requests = xs; next_number = max n (n + 1) }) more
+    ∙ ap (λ k. record base { requests = customers_in draft n; next_number = k }) next

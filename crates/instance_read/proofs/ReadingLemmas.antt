@@ -1,0 +1,251 @@
+-- The lines of a `.vrp` text that are read one after another.
+use Rattle.std.proofs.Common.{◌≡◌, ℕ, zero, suc, ◌+◌, ◌-◌, ◌≤◌, Bool, true, false, cond, eqb, ◌⊎◌, inl, inr, List, [], ◌∷◌, ◌++◌, length, Option, Some, None, refl, sym, ap, subst, ◌∙◌, arith, ℤ, pos, length-append, append_assoc, append-nil}
+use Rattle.std.specs.Prelude.{is_none, is_some, unwrap_or, nat_lt}
+use Rattle.std.specs.Int.RustNames.{unsigned_abs}
+use Rattle.std.specs.Option.{option_map}
+use Rattle.std.proofs.lemmas.Bool.{false≢true, or_parts, eqb-true, eqb-false, ltb-true}
+use Rattle.std.proofs.lemmas.List.{length-replicate, length-set}
+use Rattle.text_lines.specs.Numbers.{number_of}
+use Rattle.text_lines.specs.Words.{words_of}
+use Rattle.instance_read.specs.declared.faults.ReadFault.{ReadFault}
+use Rattle.instance_read.specs.declared.faults.ReadFaultKind.{ReadFaultKind}
+use Rattle.instance_read.specs.declared.faults.ReadFaultKind.TheVariants.{BadNumber, FieldCount, NodeRepeated, OutOfMemory}
+use Rattle.instance_read.specs.declared.vrp_draft.Draft.{Draft}
+use Rattle.instance_read.specs.declared.vrp_lines.Key.{Key}
+use Rattle.instance_read.specs.declared.vrp_lines.Key.TheVariants.{Dimension, Capacity, ProblemType, WeightType, Refused, Coordinates, Demands, Depots, End, StrayNumber, Ignored}
+use Rattle.instance_read.specs.declared.vrp_lines.Place.{Place}
+use Rattle.instance_read.specs.declared.vrp_lines.Place.TheVariants.{Outside, CoordinateLine, DemandLine, DepotLine, AfterEnd}
+use Rattle.instance_read.specs.Drafts.{FitsPlace, IsDraft, TakesLine, TakesValue, TellsKind, has_seen, line_fault, nodes_in, with_key}
+use Rattle.instance_read.specs.Fields.{field, has_no_number, is_no_number, value_at}
+use Rattle.instance_read.specs.Rows.{Row}
+use Rattle.instance_read.specs.Vrp.{key_fault, place_fault}
+use Rattle.instance_read.specs.VrpLines.{Placed, coordinates_left, demands_left, depots_after, end_from, key_of, nodes_after, nodes_in_key, place_after, place_after_key, placed_from, value_of, value_words}
+use Rattle.instance_read.specs.VrpWalk.{HasNoLineFault, IsFirstFaultyLine, Knows, TellsLine, placed_rows}
+use Rattle.instance_read.specs.Walk.{HasNoKind, IsFirstKind}
+use Rattle.instance_read.proofs.KnowLemmas.{placed}
+use Rattle.instance_read.proofs.LilimLemmas.{cons_head, cons_tail}
+use Rattle.instance_read.proofs.LimitLemmas.{not_true}
+use Rattle.instance_read.proofs.LineLemmas.{announced_is, knows_more, same_fault}
+use Rattle.instance_read.proofs.KnowLemmas.{some_false}
+
+-- One list, split at two elements: they stand at one place, or one of them stands before the other.
+pub compare_splits : {A : Type 0} (b : List A) (x : A) (a c : List A) (y : A) (d : List A) → b ++ x ∷ a ≡ c ++ y ∷ d → ((b ≡ c) × (x ≡ y)) ⊎ (((m : List A) × (c ≡ b ++ x ∷ m)) ⊎ ((m : List A) × (b ≡ c ++ y ∷ m)))
+compare_splits [] x a [] y d e = inl (refl, cons_head x y a d e)
+compare_splits [] x a (z ∷ c) y d e = inr (inl (c, ap (λ w. w ∷ c) (sym (cons_head x z a (c ++ y ∷ d) e))))
+compare_splits (z ∷ b) x a [] y d e = inr (inr (b, ap (λ w. w ∷ b) (cons_head z y (b ++ x ∷ a) d e)))
+compare_splits {A} (z ∷ b) x a (w ∷ c) y d e =
+    let head = cons_head z w (b ++ x ∷ a) (c ++ y ∷ d) e in
+    step (compare_splits b x a c y d (cons_tail z w (b ++ x ∷ a) (c ++ y ∷ d) e)) head
+  where
+    step : ((b ≡ c) × (x ≡ y)) ⊎ (((m : List A) × (c ≡ b ++ x ∷ m)) ⊎ ((m : List A) × (b ≡ c ++ y ∷ m))) → z ≡ w → ((z ∷ b ≡ w ∷ c) × (x ≡ y)) ⊎ (((m : List A) × (w ∷ c ≡ z ∷ (b ++ x ∷ m))) ⊎ ((m : List A) × (z ∷ b ≡ w ∷ (c ++ y ∷ m))))
+    step (inl same) h = inl (ap (λ q. q ∷ b) h ∙ ap (λ l. w ∷ l) same.0, same.1)
+    step (inr (inl later)) h = inr (inl (later.0, ap (λ q. q ∷ c) (sym h) ∙ ap (λ l. z ∷ l) later.1))
+    step (inr (inr earlier)) h = inr (inr (earlier.0, ap (λ q. q ∷ b) h ∙ ap (λ l. w ∷ l) earlier.1))
+
+-- one line more without a fault
+clean_more : (before : List Placed) (p : Placed) → HasNoLineFault before → HasNoKind (place_fault before p.row p.place) → HasNoLineFault (before ++ p ∷ [])
+clean_more before p clean none b q a e =
+    by (compare_splits before p [] b q a e)
+  where
+    by : ((before ≡ b) × (p ≡ q)) ⊎ (((m : List Placed) × (b ≡ before ++ p ∷ m)) ⊎ ((m : List Placed) × (before ≡ b ++ q ∷ m))) → HasNoKind (place_fault b q.row q.place)
+    by (inl same) =
+        let P : List Placed → Type 0 = λ l. HasNoKind (place_fault l q.row q.place) in
+        let Q : Placed → Type 0 = λ r. HasNoKind (place_fault before r.row r.place) in
+        subst P same.0 (subst Q same.1 none)
+    by (inr (inl longer)) =
+        absurd (omega (arith, ap length e, ap length longer.1, length-append before (p ∷ []), length-append b (q ∷ a), length-append before (p ∷ longer.0)))
+    by (inr (inr earlier)) = clean b q earlier.0 earlier.1
+
+-- the first number of a line that has one, and numbers alone
+field_there : (words : List (List ℕ)) → 1 ≤ length words → has_no_number words ≡ false → field words 0 ≡ Some (value_at words 0)
+field_there [] some numbers = absurd (omega (arith, some))
+field_there (w ∷ words) some numbers = by (number_of w) (or_parts (is_no_number w) (has_no_number words) numbers).0
+  where
+    by : (o : Option ℤ) → is_none o ≡ false → o ≡ Some (unwrap_or o (pos 0))
+    by None h = absurd (false≢true (sym h))
+    by (Some z) h = refl
+
+nodes_other : (row : Row) (key : Key) (o : Option ℕ) → key_of row ≡ key → nodes_in_key row key ≡ None → nodes_after o row Outside ≡ o
+nodes_other row key (Some n) key_is none = refl
+nodes_other row key None key_is none = ap (nodes_in_key row) key_is ∙ none
+
+-- how many nodes are announced after a line with a key
+nodes_key : (before : List Placed) (row : Row) (old new : Draft) (key : Key) → key_of row ≡ key → Knows before old → HasNoKind (key_fault (is_some old.nodes) (has_seen old key) (value_of row) key) → TakesValue (with_key old key) row.line (value_of row) key new → nodes_after old.nodes row Outside ≡ new.nodes
+nodes_key before row old new Dimension key_is known none takes =
+    let words = value_words row in
+    let count = eqb-true (length words) 1 (not_true (eqb (length words) 1) (none FieldCount)) in
+    let fresh = some_false old.nodes (sym (announced_is before old known) ∙ sym (known.seen Dimension) ∙ none NodeRepeated) in
+    ap (λ o. nodes_after o row Outside) fresh ∙ ap (nodes_in_key row) key_is
+    ∙ ap (option_map unsigned_abs) (field_there words (omega (arith, count)) (none BadNumber)) ∙ sym (ap (λ (d : Draft). d.nodes) takes)
+nodes_key before row old new Capacity key_is known none takes = nodes_other row Capacity old.nodes key_is refl ∙ sym (ap (λ (d : Draft). d.nodes) takes)
+nodes_key before row old new ProblemType key_is known none takes = nodes_other row ProblemType old.nodes key_is refl ∙ sym (ap (λ (d : Draft). d.nodes) takes)
+nodes_key before row old new WeightType key_is known none takes = nodes_other row WeightType old.nodes key_is refl ∙ sym (ap (λ (d : Draft). d.nodes) takes)
+nodes_key before row old new Refused key_is known none takes = nodes_other row Refused old.nodes key_is refl ∙ sym (ap (λ (d : Draft). d.nodes) takes)
+nodes_key before row old new Coordinates key_is known none takes = nodes_other row Coordinates old.nodes key_is refl ∙ sym (ap (λ (d : Draft). d.nodes) takes.0)
+nodes_key before row old new Demands key_is known none takes = nodes_other row Demands old.nodes key_is refl ∙ sym (ap (λ (d : Draft). d.nodes) takes.0)
+nodes_key before row old new Depots key_is known none takes = nodes_other row Depots old.nodes key_is refl ∙ sym (ap (λ (d : Draft). d.nodes) takes)
+nodes_key before row old new End key_is known none takes = nodes_other row End old.nodes key_is refl ∙ sym (ap (λ (d : Draft). d.nodes) takes)
+nodes_key before row old new StrayNumber key_is known none takes = nodes_other row StrayNumber old.nodes key_is refl ∙ sym (ap (λ (d : Draft). d.nodes) takes)
+nodes_key before row old new Ignored key_is known none takes = nodes_other row Ignored old.nodes key_is refl ∙ sym (ap (λ (d : Draft). d.nodes) takes)
+
+nodes_section : (o : Option ℕ) (row : Row) (place : Place) → ((n : ℕ) → nodes_after None row place ≡ None) → nodes_after o row place ≡ o
+nodes_section None row place none = none 0
+nodes_section (Some n) row place none = refl
+
+nodes_step : (before : List Placed) (row : Row) (place : Place) (old new : Draft) → Knows before old → HasNoKind (line_fault old row place) → TakesLine old row place new → nodes_after old.nodes row place ≡ new.nodes
+nodes_step before row Outside old new known none takes = nodes_key before row old new (key_of row) refl known none takes
+nodes_step before row (CoordinateLine n) old new known none takes = nodes_section old.nodes row (CoordinateLine n) (λ _. refl) ∙ sym (ap (λ (d : Draft). d.nodes) takes.0)
+nodes_step before row (DemandLine n) old new known none takes = nodes_section old.nodes row (DemandLine n) (λ _. refl) ∙ sym (ap (λ (d : Draft). d.nodes) takes.0)
+nodes_step before row (DepotLine n) old new known none takes = nodes_section old.nodes row (DepotLine n) (λ _. refl) ∙ sym (ap (λ (d : Draft). d.nodes) takes)
+nodes_step before row AfterEnd old new known none takes = nodes_section old.nodes row AfterEnd (λ _. refl) ∙ sym (ap (λ (d : Draft). d.nodes) takes)
+
+-- the place after a line finds what it needs
+fits_coordinates : (n : ℕ) (d : Draft) → length d.coordinates.items ≡ nodes_in d → FitsPlace (coordinates_left n) d
+fits_coordinates n d long = by (eqb n 0) refl
+  where
+    by : (b : Bool) → eqb n 0 ≡ b → FitsPlace (cond b Outside (CoordinateLine n)) d
+    by true e = tt
+    by false e = let ne = eqb-false n 0 e in (omega (arith, ne), long)
+
+fits_demands : (n : ℕ) (d : Draft) → length d.demands.items ≡ nodes_in d → FitsPlace (demands_left n) d
+fits_demands n d long = by (eqb n 0) refl
+  where
+    by : (b : Bool) → eqb n 0 ≡ b → FitsPlace (cond b Outside (DemandLine n)) d
+    by true e = tt
+    by false e = let ne = eqb-false n 0 e in (omega (arith, ne), long)
+
+fits_depots : (n : ℕ) (d : Draft) → FitsPlace (depots_after n) d
+fits_depots n d = by (nat_lt n 2) refl
+  where
+    by : (b : Bool) → nat_lt n 2 ≡ b → FitsPlace (cond b (DepotLine n) Outside) d
+    by true e = ltb-true n 2 e
+    by false e = tt
+
+fits_key : (row : Row) (old new : Draft) (nodes : Option ℕ) (key : Key) → nodes ≡ old.nodes → TakesValue (with_key old key) row.line (value_of row) key new → FitsPlace (place_after_key nodes key) new
+fits_key row old new (Some n) Coordinates is takes =
+    fits_coordinates n new (ap length takes.1 ∙ length-replicate {A = Option (ℤ × ℤ)} (nodes_in old) None ∙ sym (ap (λ (d : Draft). nodes_in d) takes.0))
+fits_key row old new (Some n) Demands is takes =
+    fits_demands n new (ap length takes.1 ∙ length-replicate {A = Option ℤ} (nodes_in old) None ∙ sym (ap (λ (d : Draft). nodes_in d) takes.0))
+fits_key row old new None Coordinates is takes = tt
+fits_key row old new None Demands is takes = tt
+fits_key row old new (Some n) Depots is takes = omega arith
+fits_key row old new None Depots is takes = omega arith
+fits_key row old new (Some n) End is takes = tt
+fits_key row old new None End is takes = tt
+fits_key row old new (Some n) Dimension is takes = tt
+fits_key row old new None Dimension is takes = tt
+fits_key row old new (Some n) Capacity is takes = tt
+fits_key row old new None Capacity is takes = tt
+fits_key row old new (Some n) ProblemType is takes = tt
+fits_key row old new None ProblemType is takes = tt
+fits_key row old new (Some n) WeightType is takes = tt
+fits_key row old new None WeightType is takes = tt
+fits_key row old new (Some n) Refused is takes = tt
+fits_key row old new None Refused is takes = tt
+fits_key row old new (Some n) StrayNumber is takes = tt
+fits_key row old new None StrayNumber is takes = tt
+fits_key row old new (Some n) Ignored is takes = tt
+fits_key row old new None Ignored is takes = tt
+
+fits_next : (row : Row) (place : Place) (old new : Draft) → FitsPlace place old → TakesLine old row place new → FitsPlace (place_after old.nodes row place) new
+fits_next row Outside old new fits takes = fits_key row old new old.nodes (key_of row) refl takes
+fits_next row (CoordinateLine n) old new fits takes =
+    fits_coordinates (n - 1) new (ap length takes.1 ∙ length-set old.coordinates.items _ _ ∙ fits.1 ∙ sym (ap (λ (d : Draft). nodes_in d) takes.0))
+fits_next row (DemandLine n) old new fits takes =
+    fits_demands (n - 1) new (ap length takes.1 ∙ length-set old.demands.items _ _ ∙ fits.1 ∙ sym (ap (λ (d : Draft). nodes_in d) takes.0))
+fits_next row (DepotLine n) old new fits takes = fits_depots (n + length (words_of row.text)) new
+fits_next row AfterEnd old new fits takes = tt
+
+-- The lines before those that are left are read: the draft knows them, and none has a fault.
+pub record IsReading (all : List Row) (draft : Draft) (place : Place) (rest : List Row) : Type 0 where
+  pub before : List Placed
+  pub splits : placed_rows all ≡ before ++ placed_from draft.nodes place rest
+  pub ends : end_from None Outside all ≡ end_from draft.nodes place rest
+  pub known : Knows before draft
+  pub clean : HasNoLineFault before
+  pub valid : IsDraft draft
+  pub fits : FitsPlace place draft
+
+pub placed_step : (nodes : Option ℕ) (place : Place) (row : Row) (more : List Row) → placed_from nodes place (row ∷ more) ≡ placed row place ∷ placed_from (nodes_after nodes row place) (place_after nodes row place) more
+unfolding placed_from
+placed_step nodes place row more = refl
+
+pub placed_none : (nodes : Option ℕ) (place : Place) → placed_from nodes place [] ≡ []
+unfolding placed_from
+placed_none nodes place = refl
+
+pub reading_start : (all : List Row) (draft : Draft) → Knows [] draft → IsDraft draft → draft.nodes ≡ None → IsReading all draft Outside all
+reading_start all draft known valid none =
+    record {
+      before = [];
+      splits = ap (λ o. placed_from o Outside all) (sym none);
+      ends = ap (λ o. end_from o Outside all) (sym none);
+      known = known;
+      clean = λ b q a e. absurd (omega (arith, ap length e, length-append b (q ∷ a)));
+      valid = valid;
+      fits = tt;
+    }
+
+-- What one line more makes of it.
+module _ (all : List Row) (old new : Draft) (place next : Place) (rest more : List Row) (row : Row) (steps : rest ≡ row ∷ more) (reading : IsReading all old place rest) where
+  split_here : placed_rows all ≡ reading.before ++ placed row place ∷ placed_from (nodes_after old.nodes row place) (place_after old.nodes row place) more
+  split_here = reading.splits ∙ ap (λ rows. reading.before ++ placed_from old.nodes place rows) steps ∙ ap (λ ps. reading.before ++ ps) (placed_step old.nodes place row more)
+
+  same : (kind : ReadFaultKind) → place_fault reading.before row place kind ≡ line_fault old row place kind
+  same kind = same_fault reading.before old reading.known row place kind
+
+  pub reading_more : HasNoKind (line_fault old row place) → TakesLine old row place new → next ≡ place_after old.nodes row place → IsDraft new → IsReading all new next more
+  reading_more none takes goes valid =
+      let nodes = nodes_step reading.before row place old new reading.known none takes in
+      let P : Place → Type 0 = λ p. FitsPlace p new in
+      record {
+        before = reading.before ++ placed row place ∷ [];
+        splits = split_here ∙ ap (λ o. reading.before ++ placed row place ∷ placed_from o (place_after old.nodes row place) more) nodes
+            ∙ ap (λ p. reading.before ++ placed row place ∷ placed_from new.nodes p more) (sym goes)
+            ∙ sym (append_assoc reading.before (placed row place ∷ []) (placed_from new.nodes next more));
+        ends = reading.ends ∙ ap (end_from old.nodes place) steps ∙ ap (λ o. end_from o (place_after old.nodes row place) more) nodes ∙ ap (λ p. end_from new.nodes p more) (sym goes);
+        known = knows_more reading.before row place old new reading.valid reading.known reading.fits none takes;
+        clean = clean_more reading.before (placed row place) reading.clean (λ kind. same kind ∙ none kind);
+        valid = valid;
+        fits = subst P (sym goes) (fits_next row place old new reading.fits takes);
+      }
+
+  first_here : (kind : ReadFaultKind) → IsFirstKind (line_fault old row place) kind → IsFirstKind (place_fault reading.before row place) kind
+  first_here kind h = (same kind ∙ h.0, λ k e. h.1 k (sym (same k) ∙ e))
+
+  pub reading_stops : (kind : ReadFaultKind) (f : ReadFault) → TellsKind (line_fault old row place) kind → (kind ≡ OutOfMemory → f ≡ record { line = 0; kind = OutOfMemory }) → ((kind ≡ OutOfMemory → ⊥) → f ≡ record { line = row.line; kind = kind }) → TellsLine (placed_rows all) f
+  reading_stops kind f (inl memory) told other = inl (told memory)
+  reading_stops kind f (inr first) told other =
+      let P : ReadFault → Type 0 = IsFirstFaultyLine (placed_rows all) in
+      let here = first_here kind first in
+      inr (subst P (sym (other (λ e. no_memory row place (subst (λ (k : ReadFaultKind). line_fault old row place k ≡ true) e first.0))))
+      (record { before = reading.before; here = placed row place; after = placed_from (nodes_after old.nodes row place) (place_after old.nodes row place) more; splits = split_here; line = refl; kind = here; clean = reading.clean }))
+    where
+      no_memory_key : (announced stands : Bool) (value : List ℕ) (key : Key) → key_fault announced stands value key OutOfMemory ≡ true → ⊥
+      no_memory_key announced stands value Dimension e = false≢true e
+      no_memory_key announced stands value Capacity e = false≢true e
+      no_memory_key announced stands value ProblemType e = false≢true e
+      no_memory_key announced stands value WeightType e = false≢true e
+      no_memory_key announced stands value Refused e = false≢true e
+      no_memory_key announced stands value Coordinates e = false≢true e
+      no_memory_key announced stands value Demands e = false≢true e
+      no_memory_key announced stands value Depots e = false≢true e
+      no_memory_key announced stands value End e = false≢true e
+      no_memory_key announced stands value StrayNumber e = false≢true e
+      no_memory_key announced stands value Ignored e = false≢true e
+
+      no_memory : (row : Row) (place : Place) → line_fault old row place OutOfMemory ≡ true → ⊥
+      no_memory row Outside e = no_memory_key (is_some old.nodes) (has_seen old (key_of row)) (value_of row) (key_of row) e
+      no_memory row (CoordinateLine n) e = false≢true e
+      no_memory row (DemandLine n) e = false≢true e
+      no_memory row (DepotLine zero) e = false≢true e
+      no_memory row (DepotLine (suc n)) e = false≢true e
+      no_memory row AfterEnd e = false≢true e
+
+-- all lines are read
+pub reading_done : (all : List Row) (draft : Draft) (place : Place) (rest : List Row) → rest ≡ [] → IsReading all draft place rest → Knows (placed_rows all) draft × IsDraft draft × HasNoLineFault (placed_rows all) × (place ≡ end_from None Outside all)
+reading_done all draft place rest none reading =
+    let is = reading.splits ∙ ap (λ rows. reading.before ++ placed_from draft.nodes place rows) none ∙ ap (λ ps. reading.before ++ ps) (placed_none draft.nodes place) ∙ append-nil reading.before in
+    let P : List Placed → Type 0 = λ ps. Knows ps draft in
+    let Q : List Placed → Type 0 = HasNoLineFault in
+    (subst P (sym is) reading.known, reading.valid, subst Q (sym is) reading.clean, sym (reading.ends ∙ ap (end_from draft.nodes place) none))

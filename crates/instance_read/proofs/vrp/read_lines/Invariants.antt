@@ -1,0 +1,6 @@
+use Rattle.instance_read.proofs.ReadingLemmas.{IsReading}
+use Rattle.instance_read.proofs.vrp.read_lines.Given as goal
+
+-- the lines so far are read
+abbrev pub invariant-loop-line : goal.invariant-loop-line
+invariant-loop-line l = IsReading l.fn.lines l.draft l.place l.line-iterator

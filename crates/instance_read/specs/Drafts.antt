@@ -1,0 +1,91 @@
+-- What a reader keeps of the lines of a `.vrp` text that it has read, and what one more line adds.
+use Rattle.std.specs.Prelude.{◌≡◌, ℕ, zero, suc, ◌-◌, ◌<◌, ◌≤◌, Bool, true, false, ◌⊎◌, is_some, All, IfSome, List, length, replicate, set, slice_index_or, unwrap_or, Option, Some, None, ℤ, pos, negsuc}
+use Rattle.std.specs.Int.RustNames.{unsigned_abs}
+use Rattle.std.specs.Option.{option_or}
+use Rattle.text_lines.specs.Words.{words_of}
+use Rattle.plan_types.specs.Limits.{IsCoordinate, IsDemand}
+use Rattle.instance_read.specs.declared.faults.ReadFaultKind.{ReadFaultKind}
+use Rattle.instance_read.specs.declared.faults.ReadFaultKind.TheVariants.{OutOfMemory}
+use Rattle.instance_read.specs.declared.vrp_draft.Draft.{Draft}
+use Rattle.instance_read.specs.declared.vrp_lines.Key.{Key}
+use Rattle.instance_read.specs.declared.vrp_lines.Key.TheVariants.{Dimension, Capacity, Coordinates, Demands, End}
+use Rattle.instance_read.specs.declared.vrp_lines.Place.{Place}
+use Rattle.instance_read.specs.declared.vrp_lines.Place.TheVariants.{Outside, CoordinateLine, DemandLine, DepotLine, AfterEnd}
+use Rattle.instance_read.specs.Fields.{value_at}
+use Rattle.instance_read.specs.Rows.{Row}
+use Rattle.instance_read.specs.Vrp.{key_number, key_fault, node_fault, depot_fault, coordinate_limits, demand_limits}
+use Rattle.instance_read.specs.VrpLines.{key_of, value_of}
+use Rattle.instance_read.specs.Walk.{IsFirstKind}
+
+-- the entry of a node, which counts from 1
+abbrev pub entry_at : {T : Type 0} → List (Option T) → ℤ → Option T
+entry_at table (pos zero) = None
+entry_at table (pos (suc n)) = slice_index_or table n None
+entry_at table (negsuc n) = None
+
+abbrev pub is_taken : {T : Type 0} → List (Option T) → ℤ → Bool
+is_taken table node = is_some (entry_at table node)
+
+abbrev pub nodes_in : Draft → ℕ
+nodes_in draft = unwrap_or draft.nodes 0
+
+abbrev pub has_seen : Draft → Key → Bool
+has_seen draft key = slice_index_or draft.seen (key_number key) false
+
+-- what may be wrong with a line at this place
+abbrev pub line_fault : Draft → Row → Place → ReadFaultKind → Bool
+line_fault draft row Outside kind = key_fault (is_some draft.nodes) (has_seen draft (key_of row)) (value_of row) (key_of row) kind
+line_fault draft row (CoordinateLine n) kind = node_fault 3 (coordinate_limits (nodes_in draft)) (is_taken draft.coordinates.items) (words_of row.text) kind
+line_fault draft row (DemandLine n) kind = node_fault 2 (demand_limits (nodes_in draft)) (is_taken draft.demands.items) (words_of row.text) kind
+line_fault draft row (DepotLine seen) kind = depot_fault seen (words_of row.text) kind
+line_fault draft row AfterEnd kind = false
+
+-- the draft after a line with this value and key
+abbrev pub TakesValue : Draft → ℕ → List ℕ → Key → Draft → Type 0
+TakesValue old line value Dimension new = new ≡ record old { nodes = Some (unsigned_abs (value_at (words_of value) 0)) }
+TakesValue old line value Capacity new = new ≡ record old { capacity = Some (unsigned_abs (value_at (words_of value) 0)) }
+TakesValue old line value Coordinates new = (new ≡ record old { coordinates = new.coordinates }) × (new.coordinates.items ≡ replicate (nodes_in old) None)
+TakesValue old line value Demands new = (new ≡ record old { demands = new.demands }) × (new.demands.items ≡ replicate (nodes_in old) None)
+TakesValue old line value End new = new ≡ record old { end = option_or old.end (Some line) }
+TakesValue old line value _ new = new ≡ old
+
+abbrev pub with_key : Draft → Key → Draft
+with_key draft key = record draft { seen = set draft.seen (key_number key) true }
+
+abbrev pub node_index : List (List ℕ) → ℕ
+node_index words = unsigned_abs (value_at words 0) - 1
+
+-- the draft after a line at this place
+abbrev pub TakesLine : Draft → Row → Place → Draft → Type 0
+TakesLine old row Outside new = TakesValue (with_key old (key_of row)) row.line (value_of row) (key_of row) new
+TakesLine old row (CoordinateLine n) new =
+    let words = words_of row.text in
+    (new ≡ record old { coordinates = new.coordinates })
+    × (new.coordinates.items ≡ set old.coordinates.items (node_index words) (Some (value_at words 1, value_at words 2)))
+TakesLine old row (DemandLine n) new =
+    let words = words_of row.text in
+    (new ≡ record old { demands = new.demands }) × (new.demands.items ≡ set old.demands.items (node_index words) (Some (value_at words 1)))
+TakesLine old row (DepotLine seen) new = new ≡ old
+TakesLine old row AfterEnd new = new ≡ old
+
+abbrev pub IsPoint : ℤ × ℤ → Type 0
+IsPoint point = IsCoordinate point.0 × IsCoordinate point.1
+
+-- every number is within its limits
+pub record IsDraft (draft : Draft) : Type 0 where
+  pub keys : length draft.seen ≡ 11
+  pub nodes : IfSome draft.nodes (λ n. (2 ≤ n) × (n ≤ 40001))
+  pub capacity : IfSome draft.capacity (λ q. q ≤ 1000000)
+  pub coordinates : All (λ entry. IfSome entry IsPoint) draft.coordinates.items
+  pub demands : All (λ entry. IfSome entry IsDemand) draft.demands.items
+
+-- a line at this place finds what it needs
+abbrev pub FitsPlace : Place → Draft → Type 0
+FitsPlace (CoordinateLine left) draft = (1 ≤ left) × (length draft.coordinates.items ≡ nodes_in draft)
+FitsPlace (DemandLine left) draft = (1 ≤ left) × (length draft.demands.items ≡ nodes_in draft)
+FitsPlace (DepotLine seen) draft = seen < 2
+FitsPlace place draft = Unit {0}
+
+-- want of memory, or the first of these faults
+abbrev pub TellsKind : (ReadFaultKind → Bool) → ReadFaultKind → Type 0
+TellsKind fault kind = (kind ≡ OutOfMemory) ⊎ IsFirstKind fault kind

@@ -1,0 +1,102 @@
+//! CVRPLIB's capacitated routing instances, in TSPLIB95's layout.
+ghost use Rattle.std.specs.Prelude.{◌≡◌, ◌+◌, IfOk, IfErr, None, length};
+ghost use Rattle.std.specs.Option.{option_map_or};
+ghost use Rattle.text_lines.specs.Lines.{lines_of};
+ghost use Rattle.instance_read.specs.Drafts.{IsDraft};
+ghost use Rattle.instance_read.specs.Faults.{Tells};
+ghost use Rattle.instance_read.specs.Vrp.{SpellsVrp, VrpFault, is_inside};
+ghost use Rattle.instance_read.specs.VrpLines.{end_from};
+ghost use Rattle.instance_read.specs.VrpWalk.{HasNoLineFault, Knows, TellsLine, draft_lacks_key, placed_rows};
+ghost use Rattle.instance_read.specs.declared.vrp_lines.Place.TheVariants.{Outside};
+
+use crate::rows::NumberedLines;
+use crate::vrp_draft::Draft;
+use crate::vrp_lines::{Key, Place};
+use crate::vrp_problem::problem_of;
+use crate::{ReadFault, ReadFaultKind};
+use plan_types::Problem;
+use std::alloc::Global;
+use text_lines::Lines;
+
+/// Reads a capacitated routing instance in CVRPLIB's format: TSPLIB95's keys and sections, of TYPE CVRP
+/// and EDGE_WEIGHT_TYPE EUC_2D.
+///
+/// Node 1 is the depot, node i+1 is customer i. Keys may be in any letter case, sections in any order.
+/// Further keys are ignored, and so is all that stands after EOF.
+///
+/// # Errors
+///
+/// The first fault of the text: those of single lines before those of the text as a whole, and on one
+/// line `FieldCount`, `BadNumber`, `TooManyStops`, `Range`, `Unsupported`, `MissingKey`, `NodeRepeated`,
+/// `DepotNotFirst`.
+pub fn read_vrp(alloc: Global, text: &[u8]) -> Result<Problem, ReadFault>
+    ensures value { IfOk result (SpellsVrp text.now) }
+    ensures fault { IfErr result (Tells (VrpFault text.now)) }
+{
+    let (draft, place) = read_lines(alloc, NumberedLines::new(text))?;
+    if is_inside(place) {
+        return Err(ReadFault {
+            line: line_after(text),
+            kind: ReadFaultKind::Truncated,
+        });
+    }
+    if lacks_key(&draft) {
+        return Err(ReadFault {
+            line: end_line(&draft, text),
+            kind: ReadFaultKind::MissingKey,
+        });
+    }
+    problem_of(alloc, &draft)
+}
+
+// What the lines say, and the place behind them.
+fn read_lines(alloc: Global, lines: NumberedLines<'_>) -> Result<(Draft, Place), ReadFault>
+    ensures ok { IfOk result (λ r. Knows (placed_rows lines.entry) r.0 × IsDraft r.0 × HasNoLineFault (placed_rows lines.entry)
+        × (r.1 ≡ end_from None Outside lines.entry)) }
+    ensures err { IfErr result (TellsLine (placed_rows lines.entry)) }
+{
+    let mut draft = Draft::new(alloc);
+    let mut place = Place::Outside;
+    for line in lines {
+        match draft.take(alloc, place, &line) {
+            Ok(next) => place = next,
+            Err(kind) => return Err(ReadFault::of_line(line.number, kind)),
+        }
+    }
+    Ok((draft, place))
+}
+
+fn is_inside(place: Place) -> bool
+    ensures { result ≡ is_inside place }
+{
+    !matches!(place, Place::Outside | Place::AfterEnd)
+}
+
+// Whether one is missing that each text has.
+fn lacks_key(draft: &Draft) -> bool
+    requires { IsDraft draft.now }
+    ensures { result ≡ draft_lacks_key draft.now }
+{
+    !(draft.has_seen(Key::Dimension)
+        && draft.has_seen(Key::Capacity)
+        && draft.has_seen(Key::WeightType)
+        && draft.has_seen(Key::Coordinates)
+        && draft.has_seen(Key::Demands)
+        && draft.has_seen(Key::Depots))
+}
+
+// The line of EOF, or one after the last.
+fn end_line(draft: &Draft, text: &[u8]) -> u64
+    ensures { result ≡ option_map_or (λ line. line) draft.now.end (length (lines_of text.now) + 1) }
+{
+    match draft.end {
+        Some(line) => line,
+        None => line_after(text),
+    }
+}
+
+fn line_after(text: &[u8]) -> u64
+    ensures { result ≡ length (lines_of text.now) + 1 }
+{
+    Lines::new(text).count() as u64 + 1
+}

@@ -1,0 +1,191 @@
+//! What the lines of a `.vrp` text say, one after another.
+ghost use Rattle.std.specs.Prelude.{◌≡◌, ◌≤◌, ◌<◌, ◌+◌, IfOk, IfErr, MatchResult, Some, None, is_some, false, length, set};
+ghost use Rattle.text_lines.specs.Words.{words_of};
+ghost use Rattle.instance_read.specs.Vrp.{key_fault};
+ghost use Rattle.instance_read.specs.Walk.{HasNoKind, IsFirstKind};
+
+use crate::ReadFaultKind;
+use crate::fields::word_count;
+use crate::rows::NumberedLine;
+use crate::vrp_fields::{
+    expect_word, open_section, read_capacity, read_coordinates, read_demand, read_depots,
+    read_dimension,
+};
+use crate::vrp_lines::{KEYS, Key, Place, read_key};
+use std::alloc::Global;
+
+/// What the lines so far have said.
+#[derive(Drop)]
+pub struct Draft {
+    /// Which keys stood, each at its index.
+    pub seen: [bool; KEYS],
+    /// How many nodes DIMENSION announces.
+    pub nodes: Option<u32>,
+    pub capacity: Option<u32>,
+    /// By node, from node 1: `None` until its line has come. Empty before the section.
+    pub coordinates: Vec<Option<(i32, i32)>>,
+    pub demands: Vec<Option<i32>>,
+    /// The line of EOF.
+    pub end: Option<u64>,
+}
+
+impl Draft {
+    ghost use Rattle.std.specs.Prelude.{◌≡◌};
+    ghost use Rattle.instance_read.specs.Drafts.{IsDraft, FitsPlace, TakesLine, TakesValue, TellsKind, line_fault, has_seen, with_key, nodes_in, is_taken, node_index};
+    ghost use Rattle.std.specs.Prelude.{[]};
+    ghost use Rattle.instance_read.specs.RowViews.{row_view};
+    ghost use Rattle.instance_read.specs.VrpWalk.{Knows};
+    ghost use Rattle.instance_read.specs.VrpLines.{place_after, place_after_key, key_of, value_of};
+
+    /// Before the first line.
+    pub fn new(alloc: Global) -> Draft
+        ensures known { Knows [] result }
+        ensures valid { IsDraft result }
+        ensures nodes { result.nodes ≡ None }
+    {
+        Draft {
+            seen: [false; KEYS],
+            nodes: None,
+            capacity: None,
+            coordinates: Vec::new(alloc),
+            demands: Vec::new(alloc),
+            end: None,
+        }
+    }
+
+    /// Takes one more line, which stands at this place, and gives the place of the next.
+    pub fn take(
+        &mut self,
+        alloc: Global,
+        place: Place,
+        line: &NumberedLine<'_>,
+    ) -> Result<Place, ReadFaultKind>
+        requires draft { IsDraft self.old }
+        requires place { FitsPlace place self.old }
+        ensures ok { IfOk result (λ next. HasNoKind (line_fault self.old (row_view line.now) place) × TakesLine self.old (row_view line.now) place self.new
+            × (next ≡ place_after self.old.nodes (row_view line.now) place) × IsDraft self.new) }
+        ensures err { IfErr result (TellsKind (line_fault self.old (row_view line.now) place)) }
+    {
+        match place {
+            Place::Outside => self.take_key(alloc, line),
+            Place::CoordinateLine(left) => {
+                self.take_coordinates(line.text)?;
+                Ok(Place::with_coordinates(left - 1))
+            }
+            Place::DemandLine(left) => {
+                self.take_demand(line.text)?;
+                Ok(Place::with_demands(left - 1))
+            }
+            Place::DepotLine(seen) => {
+                read_depots(seen, line.text)?;
+                Ok(Place::after_depots(seen, word_count(line.text)))
+            }
+            Place::AfterEnd => Ok(Place::AfterEnd),
+        }
+    }
+
+    fn take_key(&mut self, alloc: Global, line: &NumberedLine<'_>) -> Result<Place, ReadFaultKind>
+        requires { IsDraft self.old }
+        ensures ok { IfOk result (λ next. HasNoKind (line_fault self.old (row_view line.now) Place.Outside) × TakesLine self.old (row_view line.now) Place.Outside self.new
+            × (next ≡ place_after self.old.nodes (row_view line.now) Place.Outside) × IsDraft self.new) }
+        ensures err { IfErr result (TellsKind (line_fault self.old (row_view line.now) Place.Outside)) }
+    {
+        let (key, value) = read_key(line.text);
+        let next = Place::after_key(self.nodes, key);
+        let stands = self.mark(key);
+        self.take_value(alloc, key, stands, value, line.number)?;
+        Ok(next)
+    }
+
+    fn take_value(
+        &mut self,
+        alloc: Global,
+        key: Key,
+        stands: bool,
+        value: &[u8],
+        line: u64,
+    ) -> Result<(), ReadFaultKind>
+        requires { IsDraft self.old }
+        ensures ok { IfOk result (λ _. HasNoKind (key_fault (is_some self.old.nodes) stands value.now key) × TakesValue self.old line value.now key self.new × IsDraft self.new) }
+        ensures err { IfErr result (TellsKind (key_fault (is_some self.old.nodes) stands value.now key)) }
+    {
+        match key {
+            Key::Dimension => self.nodes = Some(read_dimension(stands, value)?),
+            Key::Capacity => self.capacity = Some(read_capacity(stands, value)?),
+            Key::ProblemType => expect_word(b"CVRP", stands, value)?,
+            Key::WeightType => expect_word(b"EUC_2D", stands, value)?,
+            Key::Coordinates => {
+                open_section(self.nodes.is_some(), stands)?;
+                self.coordinates = vec![in alloc; None; self.node_count() as usize]?;
+            }
+            Key::Demands => {
+                open_section(self.nodes.is_some(), stands)?;
+                self.demands = vec![in alloc; None; self.node_count() as usize]?;
+            }
+            Key::Depots if stands => return Err(ReadFaultKind::NodeRepeated),
+            Key::End => self.end = self.end.or(Some(line)),
+            Key::Refused => return Err(ReadFaultKind::Unsupported),
+            Key::StrayNumber => return Err(ReadFaultKind::FieldCount),
+            Key::Depots | Key::Ignored => {}
+        }
+        Ok(())
+    }
+
+    // Keeps that a key stood, and tells whether it did before.
+    fn mark(&mut self, key: Key) -> bool
+        requires { IsDraft self.old }
+        ensures before { result ≡ has_seen self.old key }
+        ensures after { self.new ≡ with_key self.old key }
+        ensures kept { IsDraft self.new }
+    {
+        let stands = self.has_seen(key);
+        self.seen[key.index()] = true;
+        stands
+    }
+
+    pub fn has_seen(&self, key: Key) -> bool
+        requires { IsDraft self.now }
+        ensures { result ≡ has_seen self.now key }
+    {
+        self.seen[key.index()]
+    }
+
+    /// How many nodes there are, or 0 before DIMENSION.
+    pub fn node_count(&self) -> u32
+        ensures { result ≡ nodes_in self.now }
+    {
+        self.nodes.unwrap_or(0)
+    }
+
+    fn take_coordinates(&mut self, text: &[u8]) -> Result<(), ReadFaultKind>
+        requires draft { IsDraft self.old }
+        requires fits { length self.old.coordinates.items ≡ nodes_in self.old }
+        ensures ok { IfOk result (λ _. HasNoKind (line_fault self.old (record { line = 0; text = text.now }) (Place.CoordinateLine 0))
+            × TakesLine self.old (record { line = 0; text = text.now }) (Place.CoordinateLine 0) self.new × IsDraft self.new) }
+        ensures err { IfErr result (IsFirstKind (line_fault self.old (record { line = 0; text = text.now }) (Place.CoordinateLine 0))) }
+    {
+        let (node, point) = read_coordinates(self.nodes.unwrap_or(0), text)?;
+        let entry = &mut self.coordinates[node as usize - 1];
+        if entry.is_some() {
+            return Err(ReadFaultKind::NodeRepeated);
+        }
+        *entry = Some(point);
+        Ok(())
+    }
+
+    fn take_demand(&mut self, text: &[u8]) -> Result<(), ReadFaultKind>
+        requires draft { IsDraft self.old }
+        requires fits { length self.old.demands.items ≡ nodes_in self.old }
+        ensures ok { IfOk result (λ _. HasNoKind (line_fault self.old (record { line = 0; text = text.now }) (Place.DemandLine 0))
+            × TakesLine self.old (record { line = 0; text = text.now }) (Place.DemandLine 0) self.new × IsDraft self.new) }
+        ensures err { IfErr result (IsFirstKind (line_fault self.old (record { line = 0; text = text.now }) (Place.DemandLine 0))) }
+    {
+        let (node, demand) = read_demand(self.nodes.unwrap_or(0), text)?;
+        let entry = &mut self.demands[node as usize - 1];
+        if entry.is_some() {
+            return Err(ReadFaultKind::NodeRepeated);
+        }
+        *entry = Some(demand);
+        Ok(())
+    }
+}

@@ -1,0 +1,175 @@
+//! The values of a `.vrp` text's keys, and the lines of its sections.
+ghost use Rattle.std.specs.Prelude.{◌≡◌, ◌≤◌, false, pos, Some, IfOk, MatchResult, option_copied};
+ghost use Rattle.std.specs.Int.RustNames.{unsigned_abs};
+ghost use Rattle.std.specs.Option.{option_and_then};
+ghost use Rattle.text_lines.specs.Numbers.{number_of};
+ghost use Rattle.text_lines.specs.Words.{words_of};
+ghost use Rattle.plan_types.specs.Limits.{IsCoordinate, IsDemand};
+ghost use Rattle.instance_read.specs.Fields.{field, has_no_number, value_at};
+ghost use Rattle.instance_read.specs.Vrp.{capacity_fault, coordinate_limits, demand_limits, depot_fault, dimension_fault, goes_on_after_end, is_other, node_fault, opening_fault, spelling_fault};
+ghost use Rattle.instance_read.specs.VrpFields.{is_end};
+ghost use Rattle.instance_read.specs.Walk.{HasNoKind, IsFirstKind};
+
+use crate::ReadFaultKind;
+use crate::fields::{Limits, beyond_limits, has_no_number, read_numbers};
+use crate::vrp_lines::is_word;
+use text_lines::{Number, Words};
+
+const DIMENSION: Limits = (2, 40_001);
+
+/// Of a capacity or a demand.
+const AMOUNT: Limits = (0, 1_000_000);
+
+const COORDINATE: Limits = (-1_000_000, 1_000_000);
+
+/// The number of nodes that the value of a DIMENSION announces, where one may stand before it.
+pub fn read_dimension(stands: bool, value: &[u8]) -> Result<u32, ReadFaultKind>
+    ensures read { MatchResult result (λ n. HasNoKind (dimension_fault stands (words_of value.now)) × (n ≡ unsigned_abs (value_at (words_of value.now) 0)))
+        (IsFirstKind (dimension_fault stands (words_of value.now))) }
+    ensures within { IfOk result (λ n. (2 ≤ n) × (n ≤ 40001)) }
+{
+    let [nodes] = match read_numbers(value, &[DIMENSION]) {
+        Ok(values) => values,
+        Err(ReadFaultKind::Range) => return Err(beyond_limits(value, 40_001)),
+        Err(kind) => return Err(kind),
+    };
+    if stands {
+        return Err(ReadFaultKind::NodeRepeated);
+    }
+    Ok(nodes.unsigned_abs())
+}
+
+/// The capacity that the value of a CAPACITY gives, where one may stand before it.
+pub fn read_capacity(stands: bool, value: &[u8]) -> Result<u32, ReadFaultKind>
+    ensures read { MatchResult result (λ n. HasNoKind (capacity_fault stands (words_of value.now)) × (n ≡ unsigned_abs (value_at (words_of value.now) 0)))
+        (IsFirstKind (capacity_fault stands (words_of value.now))) }
+    ensures within { IfOk result (λ n. n ≤ 1000000) }
+{
+    let [capacity] = read_numbers(value, &[AMOUNT])?;
+    if stands {
+        return Err(ReadFaultKind::NodeRepeated);
+    }
+    Ok(capacity.unsigned_abs())
+}
+
+/// Whether a value is the word that is supported, in any letter case.
+pub fn expect_word(word: &[u8], stands: bool, value: &[u8]) -> Result<(), ReadFaultKind>
+    ensures read { MatchResult result (λ _. HasNoKind (spelling_fault word.now stands value.now)) (IsFirstKind (spelling_fault word.now stands value.now)) }
+{
+    if !is_word(value, word) {
+        return Err(ReadFaultKind::Unsupported);
+    }
+    if stands {
+        return Err(ReadFaultKind::NodeRepeated);
+    }
+    Ok(())
+}
+
+/// Whether a section of nodes may begin: their number is announced, and no such section stands before it.
+pub fn open_section(announced: bool, stands: bool) -> Result<(), ReadFaultKind>
+    ensures read { MatchResult result (λ _. HasNoKind (opening_fault announced stands)) (IsFirstKind (opening_fault announced stands)) }
+{
+    if !announced {
+        return Err(ReadFaultKind::MissingKey);
+    }
+    if stands {
+        return Err(ReadFaultKind::NodeRepeated);
+    }
+    Ok(())
+}
+
+/// A node and where it lies.
+pub fn read_coordinates(nodes: u32, line: &[u8]) -> Result<(u32, (i32, i32)), ReadFaultKind>
+    requires { nodes ≤ 40001 }
+    ensures read { MatchResult result
+        (λ r. HasNoKind (node_fault 3 (coordinate_limits nodes) (λ _. false) (words_of line.now)) × (field (words_of line.now) 0 ≡ Some (pos r.0))
+        × (r.1 ≡ (value_at (words_of line.now) 1, value_at (words_of line.now) 2)))
+        (IsFirstKind (node_fault 3 (coordinate_limits nodes) (λ _. false) (words_of line.now))) }
+    ensures within { IfOk result (λ r. (1 ≤ r.0) × (r.0 ≤ nodes) × IsCoordinate r.1.0 × IsCoordinate r.1.1) }
+{
+    let [node, x, y] = read_numbers(line, &[node_limits(nodes), COORDINATE, COORDINATE])?;
+    Ok((node.unsigned_abs(), (x, y)))
+}
+
+/// A node and its demand.
+pub fn read_demand(nodes: u32, line: &[u8]) -> Result<(u32, i32), ReadFaultKind>
+    requires { nodes ≤ 40001 }
+    ensures read { MatchResult result
+        (λ r. HasNoKind (node_fault 2 (demand_limits nodes) (λ _. false) (words_of line.now)) × (field (words_of line.now) 0 ≡ Some (pos r.0))
+        × (r.1 ≡ value_at (words_of line.now) 1))
+        (IsFirstKind (node_fault 2 (demand_limits nodes) (λ _. false) (words_of line.now))) }
+    ensures within { IfOk result (λ r. (1 ≤ r.0) × (r.0 ≤ nodes) × IsDemand r.1) }
+{
+    let [node, demand] = read_numbers(line, &[node_limits(nodes), AMOUNT])?;
+    Ok((node.unsigned_abs(), demand))
+}
+
+fn node_limits(nodes: u32) -> Limits
+    requires { nodes ≤ 40001 }
+    ensures { result ≡ (pos 1, pos nodes) }
+{
+    (1, nodes as i32)
+}
+
+/// Whether a line of the list of depots goes on as the list 1 and then -1, of which so many words stand before.
+pub fn read_depots(seen: usize, line: &[u8]) -> Result<(), ReadFaultKind>
+    ensures read { MatchResult result (λ _. HasNoKind (depot_fault seen (words_of line.now))) (IsFirstKind (depot_fault seen (words_of line.now))) }
+{
+    if goes_on_after_end(line) {
+        return Err(ReadFaultKind::FieldCount);
+    }
+    if has_no_number(line) {
+        return Err(ReadFaultKind::BadNumber);
+    }
+    if is_other_list(seen, line) {
+        return Err(ReadFaultKind::DepotNotFirst);
+    }
+    Ok(())
+}
+
+// Whether a word stands after a -1.
+fn goes_on_after_end(line: &[u8]) -> bool
+    ensures { result ≡ goes_on_after_end (words_of line.now) }
+{
+    let mut ended = false;
+    for word in Words::new(line) {
+        if ended {
+            return true;
+        }
+        ended = is_end(word);
+    }
+    false
+}
+
+fn is_end(word: &[u8]) -> bool
+    ensures { result ≡ is_end word.now }
+{
+    match Number::parse(word) {
+        Some(number) => number.within(-1, -1).is_some(),
+        None => false,
+    }
+}
+
+// Whether the first words of a line are others than are due.
+fn is_other_list(seen: usize, line: &[u8]) -> bool
+    ensures { result ≡ depot_fault seen (words_of line.now) ReadFaultKind.DepotNotFirst }
+{
+    let mut words = Words::new(line);
+    if seen == 0 && is_other(words.next(), 1) {
+        return true;
+    }
+    is_other(words.next(), -1)
+}
+
+// Whether the word is there and another number than this one.
+fn is_other(word: Option<&[u8]>, number: i32) -> bool
+    ensures { result ≡ is_other number (option_and_then number_of (option_copied word.entry)) }
+{
+    let Some(word) = word else {
+        return false;
+    };
+    match Number::parse(word) {
+        Some(other) => other.within(number, number).is_none(),
+        None => false,
+    }
+}

@@ -1,0 +1,85 @@
+//! The problem that a `.vrp` text spells, from what its lines say.
+ghost use Rattle.std.specs.Prelude.{◌≡◌, ◌<◌, ◌≤◌, ◌+◌, ◌-◌, IfOk, IfErr, OnOk, [], None, true, is_some, pos, slice_index_or};
+ghost use Rattle.plan_types.specs.Instance.{IsInstance, new_instance};
+ghost use Rattle.plan_types.specs.Limits.{IsDemand};
+ghost use Rattle.plan_types.specs.declared.requests.Kind.TheVariants.{Vrp};
+ghost use Rattle.plan_types.specs.declared.requests.Request.TheVariants.{Single};
+ghost use Rattle.instance_read.specs.declared.faults.ReadFaultKind.TheVariants.{OutOfMemory};
+ghost use Rattle.instance_read.specs.Drafts.{IsDraft, nodes_in};
+ghost use Rattle.instance_read.specs.VrpWalk.{customers_in, demand_at, drafted_problem, drafted_stop};
+
+use crate::ReadFault;
+use crate::put::put_request;
+use crate::vrp_draft::Draft;
+use plan_types::{Kind, Problem, Request, Stop};
+use std::alloc::{AllocError, Global};
+
+/// CVRP has no windows: the end of the one that each stop keeps.
+const LATEST: u32 = 100_000_000;
+
+/// The problem of a text without faults: node 1 is the depot, each other a customer that gives its demand.
+pub fn problem_of(alloc: Global, draft: &Draft) -> Result<Problem, ReadFault>
+    requires draft { IsDraft draft.now }
+    requires announced { is_some draft.now.nodes ≡ true }
+    ensures ok { IfOk result (λ p. p ≡ drafted_problem draft.now) }
+    ensures err { IfErr result (λ f. f ≡ record { line = 0; kind = OutOfMemory }) }
+{
+    let mut problem = problem_without_customers(alloc, draft);
+    put_customers(&mut problem, draft)?;
+    Ok(problem)
+}
+
+fn problem_without_customers(alloc: Global, draft: &Draft) -> Problem
+    requires draft { IsDraft draft.now }
+    requires announced { is_some draft.now.nodes ≡ true }
+    ensures { result ≡ new_instance Vrp (drafted_stop draft.now (pos 0) 0) (drafted_problem draft.now).capacity (drafted_problem draft.now).fleet }
+{
+    let depot = node_stop(draft, 0, 0);
+    let capacity = draft.capacity.unwrap_or(0);
+    match Problem::new(alloc, Kind::Vrp, depot, capacity, draft.node_count() - 1) {
+        Ok(problem) => problem,
+        Err(_) => unreachable!(),
+    }
+}
+
+fn put_customers(problem: &mut Problem, draft: &Draft) -> Result<(), AllocError>
+    requires draft { IsDraft draft.now }
+    requires announced { is_some draft.now.nodes ≡ true }
+    requires empty { problem.old.requests ≡ [] }
+    requires next { problem.old.next_number ≡ 1 }
+    ensures { OnOk result (problem.new ≡ record problem.old { requests = customers_in draft.now (nodes_in draft.now - 1); next_number = nodes_in draft.now }) }
+{
+    for number in 1..draft.node_count() {
+        put_request(problem, customer(draft, number))?;
+    }
+    Ok(())
+}
+
+fn customer(draft: &Draft, number: u32) -> Request
+    ensures { result ≡ Single (drafted_stop draft.now (demand_at draft.now number) number) }
+{
+    let demand = entry_of(&draft.demands, number).unwrap_or(0);
+    Request::Single(node_stop(draft, number, demand))
+}
+
+// Node n+1 as stop n.
+fn node_stop(draft: &Draft, number: u32, demand: i32) -> Stop
+    ensures { result ≡ drafted_stop draft.now demand number }
+{
+    let (x, y) = entry_of(&draft.coordinates, number).unwrap_or((0, 0));
+    Stop {
+        number,
+        x,
+        y,
+        demand,
+        earliest: 0,
+        latest: LATEST,
+        service: 0,
+    }
+}
+
+fn entry_of<T: Copy>(table: &[Option<T>], number: u32) -> Option<T>
+    ensures { result ≡ slice_index_or table.now number None }
+{
+    table.get(number as usize).copied().flatten()
+}
