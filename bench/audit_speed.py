@@ -1,11 +1,12 @@
 #!/usr/bin/env python3
-"""How the time of an audit grows with the text.
+"""How fast instances are read and audited, and how the time grows with the text.
 
-Makes Li-Lim instances of 100, 1,000 and 4,000 tasks (or of the numbers of tasks given), each with a solution that
-passes, runs `planner audit lilim` on them, and prints the seconds and the ratio from one size to the next. The start
-of the process is measured by a run that has next to nothing to audit, and is taken off.
+Makes Li-Lim instances of 100 to 40,000 tasks and `.vrp` instances of 100 to 40,000 customers, each with a solution
+that passes, and runs `planner audit` on them. An audit with an empty solution, which is refused, reads the instance
+alone; its megabytes a second stand beside those of `wc -l` on the same file. The start of each process is measured by
+a run that has next to nothing to do, and is taken off.
 
-    bench/audit_speed.py [TASKS..]
+    bench/audit_speed.py [lilim|vrp] [SIZE..]
 """
 
 import math
@@ -19,7 +20,8 @@ import time
 TOP = pathlib.Path(__file__).resolve().parent.parent
 PROGRAM = TOP / "crates" / "planner" / "out" / "planner"
 RUNS = 40
-PAIRS_PER_ROUTE = 10
+SIZES = {"lilim": [100, 1000, 4000, 40000], "vrp": [100, 1000, 10000, 40000]}
+STOPS_PER_ROUTE = 20
 
 
 def distance(a, b):
@@ -29,66 +31,93 @@ def distance(a, b):
     return root if square <= root * (root + 1) else root + 1
 
 
-def make(tasks):
-    """The texts of an instance of so many tasks, and of a solution that passes."""
-    pairs = tasks // 2
-    rng = random.Random(tasks)
-    spots = [(rng.randint(-1000, 1000), rng.randint(-1000, 1000)) for _ in range(2 * pairs + 1)]
-    routes = [
-        [n for pair in range(first, min(first + PAIRS_PER_ROUTE, pairs)) for n in (2 * pair + 1, 2 * pair + 2)]
-        for first in range(0, pairs, PAIRS_PER_ROUTE)
-    ]
+def spots_of(stops):
+    """The depot and so many stops, at random places."""
+    rng = random.Random(stops)
+    return [(rng.randint(-1000, 1000), rng.randint(-1000, 1000)) for _ in range(stops + 1)]
 
-    instance = [f"{len(routes)} 200 1", f"0 {spots[0][0]} {spots[0][1]} 0 0 10000000 0 0 0"]
-    for pair in range(pairs):
-        pickup, delivery = 2 * pair + 1, 2 * pair + 2
-        load = rng.randint(1, 200)
-        for number, demand, fields in ((pickup, load, f"0 {delivery}"), (delivery, -load, f"{pickup} 0")):
-            x, y = spots[number]
-            instance.append(f"{number} {x} {y} {demand} 0 10000000 90 {fields}")
 
-    solution = [f"Route #{k}: {' '.join(map(str, route))}" for k, route in enumerate(routes, 1)]
+def routes_of(stops):
+    """The stops by number, so many to a route."""
+    return [list(range(first, min(first + STOPS_PER_ROUTE, stops + 1))) for first in range(1, stops + 1, STOPS_PER_ROUTE)]
+
+
+def solution_of(routes, spots):
+    """The text of a solution, and its cost."""
     legs = [zip([0] + route, route + [0]) for route in routes]
     cost = sum(distance(spots[a], spots[b]) for route in legs for a, b in route)
-    solution.append(f"Cost {cost}")
-    answer = f"pass 0 {len(routes)} {cost}\n"
-    return "\n".join(instance) + "\n", "\n".join(solution) + "\n", answer
+    lines = [f"Route #{k}: {' '.join(map(str, route))}" for k, route in enumerate(routes, 1)]
+    return "\n".join(lines + [f"Cost {cost}"]) + "\n", cost
 
 
-def least_seconds(words, answer):
+def make_lilim(tasks):
+    """An instance whose stop 2k-1 is picked up and delivered at stop 2k."""
+    spots, routes = spots_of(tasks), routes_of(tasks)
+    lines = [f"{len(routes)} 200 1", f"0 {spots[0][0]} {spots[0][1]} 0 0 10000000 0 0 0"]
+    for number in range(1, tasks + 1):
+        load = 1 + (number + 1) // 2 * 7919 % 200
+        demand, pair = (load, f"0 {number + 1}") if number % 2 else (-load, f"{number - 1} 0")
+        lines.append(f"{number} {spots[number][0]} {spots[number][1]} {demand} 0 10000000 90 {pair}")
+    solution, cost = solution_of(routes, spots)
+    return "\n".join(lines) + "\n", solution, f"pass 0 {len(routes)} {cost}\n"
+
+
+def make_vrp(customers):
+    """An instance of so many customers, in the layout of TSPLIB95."""
+    spots, routes = spots_of(customers), routes_of(customers)
+    lines = ["NAME : bench", "TYPE : CVRP", f"DIMENSION : {customers + 1}", "EDGE_WEIGHT_TYPE : EUC_2D", "CAPACITY : 10000"]
+    lines += ["NODE_COORD_SECTION"] + [f"{node} {x} {y}" for node, (x, y) in enumerate(spots, 1)]
+    lines += ["DEMAND_SECTION", "1 0"] + [f"{node} {1 + node * 7919 % 200}" for node in range(2, customers + 2)]
+    lines += ["DEPOT_SECTION", "1", "-1", "EOF"]
+    solution, cost = solution_of(routes, spots)
+    return "\n".join(lines) + "\n", solution, f"pass 0 0 {cost}\n"
+
+
+def least_seconds(words, status, answer):
     """The least time of some runs, each of which must give this answer."""
     least = math.inf
     for _ in range(RUNS):
         begin = time.perf_counter()
-        done = subprocess.run([PROGRAM, *words], stdout=subprocess.PIPE, text=True, check=False)
+        done = subprocess.run(words, stdout=subprocess.PIPE, text=True, check=False)
         least = min(least, time.perf_counter() - begin)
-        if done.returncode != 0 or done.stdout != answer:
+        if done.returncode != status or (answer is not None and done.stdout != answer):
             sys.exit(f"{words}: status {done.returncode}, answer {done.stdout!r}, wanted {answer!r}")
     return least
+
+
+def measure(kind, make, sizes):
+    """Prints a line for each size."""
+    start = least_seconds([PROGRAM], 0, "pass 0 1 20\n")
+    print(f"{kind}: start of the process {start:.6f} s")
+    before = None
+    with tempfile.TemporaryDirectory() as name:
+        folder = pathlib.Path(name)
+        (folder / "empty").write_text("", encoding="ascii")
+        start_wc = least_seconds(["wc", "-l", folder / "empty"], 0, None)
+        for size in sizes:
+            text, solution, answer = make(size)
+            (folder / "instance").write_text(text, encoding="ascii")
+            (folder / "solution").write_text(solution, encoding="ascii")
+            words = [PROGRAM, "audit", kind, folder / "instance"]
+            audit = max(least_seconds(words + [folder / "solution"], 0, answer) - start, 1e-9)
+            read = max(least_seconds(words + [folder / "empty"], 2, "solution NoCost 1\n") - start, 1e-9)
+            wc = max(least_seconds(["wc", "-l", folder / "instance"], 0, None) - start_wc, 1e-9)
+            line = f"{size:>6} stops, {len(text) / 1e6:.3f} MB: read in {read:.6f} s, {len(text) / read / 1e6:.0f} MB/s"
+            line += f" (wc -l {len(text) / wc / 1e6:.0f} MB/s), audited in {audit:.6f} s, {audit / size * 1e9:.0f} ns a stop"
+            if before is not None:
+                line += f", {audit / before[1]:.1f} times the time for {size / before[0]:.1f} times the stops"
+            print(line)
+            before = (size, audit)
 
 
 def main():
     if not PROGRAM.exists():
         sys.exit(f"{PROGRAM} is not built: run ./planner once")
-    sizes = [int(word) for word in sys.argv[1:]] or [100, 1000, 4000]
-    start = least_seconds([], "pass 0 1 20\n")
-    print(f"start of the process {start:.6f} s")
-
-    before = None
-    with tempfile.TemporaryDirectory() as folder:
-        for tasks in sizes:
-            instance, solution, answer = make(tasks)
-            paths = [pathlib.Path(folder, f"{tasks}.txt"), pathlib.Path(folder, f"{tasks}.sol")]
-            for path, text in zip(paths, (instance, solution)):
-                path.write_text(text, encoding="ascii")
-            seconds = least_seconds(["audit", "lilim", *map(str, paths)], answer)
-            audit = max(seconds - start, 1e-9)
-            per_task = audit / tasks * 1e9
-            line = f"{tasks:>6} tasks {audit:.6f} s past the start, {per_task:.0f} ns a task"
-            if before is not None:
-                line += f", {audit / before[1]:.2f} times the time for {tasks / before[0]:.2f} times the tasks"
-            print(line)
-            before = (tasks, audit)
+    makers = {"lilim": make_lilim, "vrp": make_vrp}
+    kinds = [word for word in sys.argv[1:] if word in makers] or list(makers)
+    sizes = [int(word) for word in sys.argv[1:] if word not in makers]
+    for kind in kinds:
+        measure(kind, makers[kind], sizes or SIZES[kind])
 
 
 if __name__ == "__main__":

@@ -1,15 +1,18 @@
 -- A text spells one value at most, and none where it has a fault.
 use Rattle.std.proofs.Common.{◌≡◌, ◌∙◌, ℕ, List, ◌∷◌, sym, ap, subst, inl, inr}
 use Rattle.plan_types.specs.Instance.{Instance}
-use Rattle.plan_types.specs.declared.requests.Kind.TheVariants.{LiLim}
-use Rattle.instance_read.specs.Lilim.{SpellsLilim, problem_from}
+use Rattle.plan_types.specs.declared.requests.Kind.{Kind}
+use Rattle.plan_types.specs.declared.requests.Kind.TheVariants.{LiLim, Vrp}
+use Rattle.instance_read.specs.Faults.{HasNone}
+use Rattle.instance_read.specs.Lilim.{problem_from}
 use Rattle.sol_text.specs.Faults.{Spells}
 use Rattle.sol_text.specs.declared.read.Solution.{Solution}
-use Rattle.planner_cli.specs.Answer.{IsAnswer, JudgesSpelled, TellsVerdict}
+use Rattle.planner_cli.specs.Answer.{InstanceFault, IsAnswer, JudgesSpelled, SpellsInstance, TellsVerdict}
 use Rattle.planner_cli.specs.declared.answer.AuditAnswer.{AuditAnswer}
 
-problem_once : (text : List ℕ) (p q : Instance) → SpellsLilim text p → SpellsLilim text q → p ≡ q
-problem_once text p q a b =
+problem_once : (kind : Kind) (text : List ℕ) (p q : Instance) → SpellsInstance kind text p → SpellsInstance kind text q → p ≡ q
+problem_once Vrp text p q a b = a.1 ∙ sym b.1
+problem_once LiLim text p q a b =
     let rows : a.1 ∷ a.2 ∷ a.3 ≡ b.1 ∷ b.2 ∷ b.3 = sym a.4 ∙ b.4 in
     let header : a.1 ≡ b.1 = cc in
     let depot : a.2 ≡ b.2 = cc in
@@ -19,9 +22,13 @@ problem_once text p q a b =
 solution_once : (text : List ℕ) (s t : Solution) → Spells text s → Spells text t → s ≡ t
 solution_once text s t a b = a.1 ∙ sym b.1
 
-pub judges_spelled : (instance solution : List ℕ) (answer : AuditAnswer) → IsAnswer LiLim instance solution answer → JudgesSpelled instance solution answer
-judges_spelled instance solution answer (inl refuses) p s a b = absurd (a.0 refuses.first.0 refuses.fault.line refuses.fault.kind refuses.first.1)
-judges_spelled instance solution answer (inr (inl refuses)) p s a b = absurd (b.0 refuses.fault.line refuses.fault.kind refuses.first.0)
-judges_spelled instance solution answer (inr (inr judges)) p s a b =
-    subst (λ (q : Instance). TellsVerdict q s answer) (problem_once instance judges.problem p judges.problem_spelled a)
+no_fault : (kind : Kind) (text : List ℕ) (p : Instance) → SpellsInstance kind text p → HasNone (InstanceFault kind text)
+no_fault LiLim text p spelled = spelled.0
+no_fault Vrp text p spelled = spelled.0
+
+pub judges_spelled : (kind : Kind) (instance solution : List ℕ) (answer : AuditAnswer) → IsAnswer kind instance solution answer → JudgesSpelled kind instance solution answer
+judges_spelled kind instance solution answer (inl refuses) p s a b = absurd (no_fault kind instance p a refuses.first.0 refuses.fault.line refuses.fault.kind refuses.first.1)
+judges_spelled kind instance solution answer (inr (inl refuses)) p s a b = absurd (b.0 refuses.fault.line refuses.fault.kind refuses.first.0)
+judges_spelled kind instance solution answer (inr (inr judges)) p s a b =
+    subst (λ (q : Instance). TellsVerdict q s answer) (problem_once kind instance judges.problem p judges.problem_spelled a)
     (subst (λ (t : Solution). TellsVerdict judges.problem t answer) (solution_once solution judges.plan s judges.plan_spelled b) judges.verdict)

@@ -3,10 +3,12 @@ use Rattle.std.specs.Prelude.{◌≡◌, ◌⊎◌, ℕ, List, codes}
 use Rattle.plan_types.specs.Instance.{Instance}
 use Rattle.plan_types.specs.declared.requests.Kind.{Kind}
 use Rattle.plan_types.specs.declared.requests.Kind.TheVariants.{LiLim, Vrp}
-use Rattle.instance_read.specs.Faults.{IsFirstFault}
+use Rattle.instance_read.specs.Faults.{Class, IsFirstFault}
 use Rattle.instance_read.specs.Lilim.{LilimFault, SpellsLilim}
 use Rattle.instance_read.specs.Names as instance_names
+use Rattle.instance_read.specs.Vrp.{SpellsVrp, VrpFault}
 use Rattle.instance_read.specs.declared.faults.ReadFault.{ReadFault}
+use Rattle.instance_read.specs.declared.faults.ReadFaultKind.{ReadFaultKind}
 use Rattle.sol_text.specs.Faults as sol_faults
 use Rattle.sol_text.specs.Names as solution_names
 use Rattle.sol_text.specs.declared.faults.SolFault.{SolFault}
@@ -26,16 +28,26 @@ abbrev pub verdict_answer : Verdict → AuditAnswer
 verdict_answer (Pass cost) = record { line = pass_text cost; status = 0 }
 verdict_answer (Broken rule route place stop) = record { line = broken_text rule route place stop; status = 1 }
 
+-- a fault of an instance's text, in the format of its kind
+abbrev pub InstanceFault : Kind → List ℕ → Class → ℕ → ReadFaultKind → Type 0
+InstanceFault LiLim text = LilimFault text
+InstanceFault Vrp text = VrpFault text
+
+-- the problem that it spells
+abbrev pub SpellsInstance : Kind → List ℕ → Instance → Type 0
+SpellsInstance LiLim text = SpellsLilim text
+SpellsInstance Vrp text = SpellsVrp text
+
 -- the instance spells no problem: its first fault is told
-pub record RefusesInstance (instance : List ℕ) (answer : AuditAnswer) : Type 0 where
+pub record RefusesInstance (kind : Kind) (instance : List ℕ) (answer : AuditAnswer) : Type 0 where
   pub fault : ReadFault
-  pub first : IsFirstFault (LilimFault instance) fault
+  pub first : IsFirstFault (InstanceFault kind instance) fault
   pub told : answer ≡ refused_answer (codes "instance") (instance_names.kind_name fault.kind) fault.line
 
 -- the instance spells a problem, and the solution's text is refused
-pub record RefusesSolution (instance solution : List ℕ) (answer : AuditAnswer) : Type 0 where
+pub record RefusesSolution (kind : Kind) (instance solution : List ℕ) (answer : AuditAnswer) : Type 0 where
   pub problem : Instance
-  pub spelled : SpellsLilim instance problem
+  pub spelled : SpellsInstance kind instance problem
   pub fault : SolFault
   pub first : sol_faults.IsFirstFault solution fault
   pub told : answer ≡ refused_answer (codes "solution") (solution_names.kind_name fault.kind) fault.line
@@ -51,18 +63,18 @@ pub record TellsVerdict (problem : Instance) (plan : Solution) (answer : AuditAn
   pub told : answer ≡ verdict_answer verdict
 
 -- both texts spell a value, and the answer is that of the verdict on the two values
-pub record Judges (instance solution : List ℕ) (answer : AuditAnswer) : Type 0 where
+pub record Judges (kind : Kind) (instance solution : List ℕ) (answer : AuditAnswer) : Type 0 where
   pub problem : Instance
-  pub problem_spelled : SpellsLilim instance problem
+  pub problem_spelled : SpellsInstance kind instance problem
   pub plan : Solution
   pub plan_spelled : sol_faults.Spells solution plan
   pub verdict : TellsVerdict problem plan answer
 
--- the answer to the audit of a solution of a Li-Lim instance; no other kind of instance is read yet
+-- the answer to the audit of a solution's text against the text of an instance of this kind
 abbrev pub IsAnswer : Kind → List ℕ → List ℕ → AuditAnswer → Type 0
-IsAnswer LiLim instance solution answer = RefusesInstance instance answer ⊎ (RefusesSolution instance solution answer ⊎ Judges instance solution answer)
-IsAnswer Vrp instance solution answer = answer ≡ refused_answer (codes "instance") (codes "Unsupported") 1
+IsAnswer kind instance solution answer = RefusesInstance kind instance answer ⊎ (RefusesSolution kind instance solution answer ⊎ Judges kind instance solution answer)
 
 -- whatever two values the texts spell, the answer is that of a verdict on these
-abbrev pub JudgesSpelled : List ℕ → List ℕ → AuditAnswer → Type 0
-JudgesSpelled instance solution answer = (problem : Instance) (plan : Solution) → SpellsLilim instance problem → sol_faults.Spells solution plan → TellsVerdict problem plan answer
+abbrev pub JudgesSpelled : Kind → List ℕ → List ℕ → AuditAnswer → Type 0
+JudgesSpelled kind instance solution answer =
+    (problem : Instance) (plan : Solution) → SpellsInstance kind instance problem → sol_faults.Spells solution plan → TellsVerdict problem plan answer

@@ -1,14 +1,15 @@
 //! The audit of two texts.
-ghost use Rattle.std.specs.Prelude.{◌≡◌, ◌≢◌, ◌≤◌, IfOk, codes};
+ghost use Rattle.std.specs.Prelude.{◌≡◌, ◌≢◌, ◌≤◌, IfErr, IfOk, codes};
 ghost use Rattle.instance_read.specs.Names as instance_names;
 ghost use Rattle.sol_text.specs.Names as solution_names;
-ghost use Rattle.planner_cli.specs.Answer.{IsAnswer, JudgesSpelled, refused_answer, verdict_answer};
+ghost use Rattle.instance_read.specs.Faults.{Tells};
+ghost use Rattle.planner_cli.specs.Answer.{InstanceFault, IsAnswer, JudgesSpelled, SpellsInstance, refused_answer, verdict_answer};
 
 use crate::answer::{AuditAnswer, broken_line, fault_line, pass_line};
 use crate::status::{BROKEN, DONE, REFUSED};
-use instance_read::{ReadFault, ReadFaultKind, read_lilim};
+use instance_read::{ReadFault, ReadFaultKind, read_lilim, read_vrp};
 use plan_audit::{Verdict, audit_solution};
-use plan_types::{Kind, OutOfMemory};
+use plan_types::{Kind, OutOfMemory, Problem};
 use sol_text::{SolFault, SolFaultKind, read_sol};
 use std::alloc::{AllocError, Global};
 
@@ -16,7 +17,7 @@ use std::alloc::{AllocError, Global};
 ///
 /// The line is `pass UNPLANNED VEHICLES DISTANCE` with status 0, `broken RULE route R place P stop S` with
 /// status 1 for the least broken rule, or `instance NAME LINE` or `solution NAME LINE` with status 2 for a text
-/// that is refused, the instance first. Instances of kind `Vrp` are not read yet: `instance Unsupported 1`.
+/// that is refused, the instance first.
 pub fn audit_text(
     alloc: Global,
     kind: Kind,
@@ -24,20 +25,22 @@ pub fn audit_text(
     solution: &[u8],
 ) -> Result<AuditAnswer, OutOfMemory>
     ensures answer { IfOk result (IsAnswer kind instance.now solution.now) }
-    ensures verdict { kind ≡ Kind.LiLim → IfOk result (JudgesSpelled instance.now solution.now) }
+    ensures verdict { IfOk result (JudgesSpelled kind instance.now solution.now) }
     ensures status { IfOk result (λ answer. answer.status ≤ 2) }
 {
-    match kind {
-        Kind::LiLim => audit_lilim(alloc, instance, solution),
-        Kind::Vrp => refused(alloc, "instance", "Unsupported", 1),
-    }
+    audit_read(alloc, kind, instance, solution)
 }
 
-fn audit_lilim(alloc: Global, instance: &[u8], solution: &[u8]) -> Result<AuditAnswer, OutOfMemory>
-    ensures answer { IfOk result (IsAnswer Kind.LiLim instance.now solution.now) }
+fn audit_read(
+    alloc: Global,
+    kind: Kind,
+    instance: &[u8],
+    solution: &[u8],
+) -> Result<AuditAnswer, OutOfMemory>
+    ensures answer { IfOk result (IsAnswer kind instance.now solution.now) }
     ensures status { IfOk result (λ answer. answer.status ≤ 2) }
 {
-    let problem = match read_lilim(alloc, instance) {
+    let problem = match read_instance(alloc, kind, instance) {
         Ok(problem) => problem,
         Err(fault) => return instance_refused(alloc, fault),
     };
@@ -47,6 +50,16 @@ fn audit_lilim(alloc: Global, instance: &[u8], solution: &[u8]) -> Result<AuditA
     };
     let verdict = audit_solution(alloc, &problem, &solution)?;
     verdict_told(alloc, verdict)
+}
+
+fn read_instance(alloc: Global, kind: Kind, text: &[u8]) -> Result<Problem, ReadFault>
+    ensures value { IfOk result (SpellsInstance kind text.now) }
+    ensures fault { IfErr result (Tells (InstanceFault kind text.now)) }
+{
+    match kind {
+        Kind::LiLim => read_lilim(alloc, text),
+        Kind::Vrp => read_vrp(alloc, text),
+    }
 }
 
 fn instance_refused(alloc: Global, fault: ReadFault) -> Result<AuditAnswer, OutOfMemory>

@@ -20,6 +20,16 @@ const OTHER_PICKUP: &str = "2 10 1\n0 0 0 0 0 100 0 0 0\n1 3 4 4 0 50 2 0 2\n2 6
 
 const BOTH: &str = "Route #1: 1 2\nCost 20\n";
 
+/// Three customers, one of which is half a unit off, and a limit of distance.
+const THREE_CUSTOMERS: &str =
+    "NAME : t3\nTYPE : CVRP\nDIMENSION : 4\nEDGE_WEIGHT_TYPE : EUC_2D\nCAPACITY : 10\nNODE_COORD_SECTION\n1 0 0\n2 3 4\n3 6 8\n4 0 5\nDEMAND_SECTION\n1 0\n2 6\n3 4\n4 5\nDEPOT_SECTION\n1\n-1\nEOF\n";
+
+const HALF_A_UNIT: &str =
+    "NAME : t3\nTYPE : CVRP\nDIMENSION : 4\nEDGE_WEIGHT_TYPE : EUC_2D\nCAPACITY : 10\nNODE_COORD_SECTION\n1 0 0\n2 30.5 4\n3 6 8\n4 0 5\nDEMAND_SECTION\n1 0\n2 6\n3 4\n4 5\nDEPOT_SECTION\n1\n-1\nEOF\n";
+
+const A_LIMIT: &str =
+    "NAME : t3\nTYPE : CVRP\nDIMENSION : 4\nEDGE_WEIGHT_TYPE : EUC_2D\nCAPACITY : 10\nDISTANCE : 200\n";
+
 #[test]
 fn audits(rt: HostRuntime) -> Result<(), Fail> {
     for (instance, solution, line, status) in [
@@ -79,12 +89,49 @@ fn audits(rt: HostRuntime) -> Result<(), Fail> {
         assert_eq!(rt; answer.status, status, "{line}");
         assert_eq!(rt; answer.line.as_bytes(), line.as_bytes(), "{line}");
     }
-    let answer = audit_text(rt.alloc(), Kind::Vrp, b"", b"")?;
-    assert_eq!(rt; answer.status, 2);
+    let answer = audit_text(rt.alloc(), Kind::LiLim, b"", b"")?;
     assert_eq!(rt;
         answer.line.into_vec().as_slice(),
-        b"instance Unsupported 1".as_slice()
+        b"instance Truncated 1".as_slice()
     );
+    Ok(())
+}
+
+#[test]
+fn audits_capacitated_routes(rt: HostRuntime) -> Result<(), Fail> {
+    for (instance, solution, line, status) in [
+        (
+            THREE_CUSTOMERS,
+            "Route 1 : 2 1\nroute #2:3\nRoute #3:\nCOST 30\n",
+            "pass 0 0 30",
+            0,
+        ),
+        (
+            THREE_CUSTOMERS,
+            "Route #1: 1 2 3\nCost 0\n",
+            "broken 6 route 1 place 3 stop 3",
+            1,
+        ),
+        (
+            THREE_CUSTOMERS,
+            "Route #1: 1 2 3\nRoute #2: 4\n",
+            "solution NoCost 3",
+            2,
+        ),
+        (HALF_A_UNIT, "", "instance BadNumber 8", 2),
+        (A_LIMIT, "", "instance Unsupported 6", 2),
+        ("DIMENSION : 40002\n", "", "instance TooManyStops 1", 2),
+        ("", "", "instance MissingKey 1", 2),
+    ] {
+        let answer = audit_text(
+            rt.alloc(),
+            Kind::Vrp,
+            instance.as_bytes(),
+            solution.as_bytes(),
+        )?;
+        assert_eq!(rt; answer.status, status, "{line}");
+        assert_eq!(rt; answer.line.as_bytes(), line.as_bytes(), "{line}");
+    }
     Ok(())
 }
 
