@@ -1,12 +1,11 @@
 -- What each step of `route_fault` has shown.
 use Rattle.std.proofs.Common.{◌≡◌, ℕ, zero, suc, ◌≤◌, true, false, List, [], ◌∷◌, Option, Some, None, is_some, slice_get, refl, sym, subst, ◌∙◌, inl, inr, arith, nat_eq}
 use Rattle.std.specs.List.{AllByRecursion, IsDistinct}
-use Rattle.std.specs.Option.{option_map}
 use Rattle.std.proofs.lemmas.Bool.{eq-eqb}
 use Rattle.plan_types.specs.Instance.{Instance}
 use Rattle.plan_types.specs.declared.requests.Kind.TheVariants.{LiLim, Vrp}
 use Rattle.route_sched.specs.Route.{AreLiveOnce}
-use Rattle.plan_audit.specs.Rules.{item_at, IsRepeated, IsMissing, IsSplit, IsDeliveredFirst, IsOverloaded, IsLate, IsLateReturn}
+use Rattle.plan_audit.specs.Rules.{item_at, IsRepeated, IsMissing, IsSplit, IsDeliveredFirst, IsOverloaded, IsLate}
 use Rattle.plan_audit.specs.Passes.{first_place, first_route, told_by, missing_at, delivered_at, visit_told, is_overloaded, is_late, return_told}
 use Rattle.plan_audit.specs.Verdict.{rule_number, Breaks, KeepsRules}
 use Rattle.plan_audit.specs.Alone.{alone, IsLeastAlone}

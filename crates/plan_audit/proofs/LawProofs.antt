@@ -1,5 +1,5 @@
 -- What a verdict means to a dispatcher, proved.
-use Rattle.std.proofs.Common.{◌≡◌, ◌↔◌, ℕ, zero, suc, ◌+◌, ◌<◌, ◌≤◌, ◌⊎◌, true, false, pos, ◌<ℤ◌, List, [], ◌∷◌, length, take, Option, Some, None, slice_get, unwrap_or, refl, sym, ap, subst, ◌∙◌, inl, inr, arith, eqb}
+use Rattle.std.proofs.Common.{◌≡◌, ℕ, suc, ◌+◌, ◌<◌, ◌≤◌, ◌⊎◌, true, false, pos, ◌<ℤ◌, List, [], ◌∷◌, length, Option, Some, None, unwrap_or, refl, sym, ap, subst, ◌∙◌, inl, inr, arith, eqb}
 use Rattle.std.specs.List.{AllByRecursion}
 use Rattle.std.proofs.lemmas.Bool.Decides.{eqb_tells}
 use Rattle.plan_types.specs.Instance.{Instance, IsInstance}
@@ -10,24 +10,21 @@ use Rattle.plan_types.specs.declared.requests.Request.TheVariants.{Single, Pair}
 use Rattle.route_sched.specs.Route.{place}
 use Rattle.route_sched.specs.Schedule.{start, load}
 use Rattle.route_sched.specs.Cost.{cost_of, used_count, total_length}
-use Rattle.plan_audit.specs.Rules.{item_at, Stands, StandsSomewhere, IsMissing}
-use Rattle.plan_audit.specs.Passes.{first_beyond, first_off_pin, seat_of}
-use Rattle.plan_audit.specs.Verdict.{Subject, planned, printed, routes_of, KeepsRules, IsUnserved, IsOffPin, IsVerdict}
+use Rattle.plan_audit.specs.Rules.{item_at, Stands, StandsSomewhere}
+use Rattle.plan_audit.specs.Passes.{first_beyond, first_off_pin}
+use Rattle.plan_audit.specs.Verdict.{Subject, planned, printed, routes_of, KeepsRules, IsUnserved, IsVerdict}
 use Rattle.plan_audit.specs.Alone.{alone}
-use Rattle.plan_audit.specs.Laws.{IsPlanned, IsNamed, IsSoundPlan, KeepsPins, AreAllPlanned, PassesAreSound, UnsoundIsBroken, PlansPassWhereSound, SolutionsPassWhereSound, RoutesAreFeasible}
+use Rattle.plan_audit.specs.Laws.{IsPlanned, IsNamed, IsSoundPlan, KeepsPins, AreAllPlanned, PassesAreSound, PassesArePlans, UnsoundIsBroken, PlansPassWhereSound, SolutionsPassWhereSound, RoutesAreFeasible}
 use Rattle.plan_audit.specs.declared.faults.Fault.{Fault}
 use Rattle.plan_audit.specs.declared.rules.Rule.TheVariants.{UnknownStop, Twice, Missing, SplitPair, DeliveryFirst, Load, Late, LateReturn, Fleet, Pin, PrintedCost}
 use Rattle.plan_audit.specs.declared.rules.Verdict.{Verdict}
 use Rattle.plan_audit.specs.declared.rules.Verdict.TheVariants.{Pass, Broken}
-use Rattle.plan_audit.specs.declared.seats.Seat.{Seat}
 use Rattle.plan_audit.proofs.AloneLemmas.{only_route, not_split}
-use Rattle.plan_audit.proofs.FirstLemmas.{none_some, some_same}
+use Rattle.plan_audit.proofs.FirstLemmas.{some_same}
 use Rattle.plan_audit.proofs.FleetLemmas.{fleet_found, used-within, used-take}
 use Rattle.plan_audit.proofs.PinLemmas.{pin_found, pins_kept}
-use Rattle.plan_audit.proofs.SeatLemmas.{seat_of-found}
-use Rattle.plan_audit.proofs.RuleLemmas.{nowhere-seat}
 use Rattle.plan_audit.proofs.SoundLemmas.{missing_in, somewhere_or_not, sound_from, keeps_from, keeps_partners}
-use Rattle.plan_audit.proofs.StepLemmas.{planned_step, pass_step}
+use Rattle.plan_audit.proofs.StepLemmas.{plan_from, live_passing, planned_step, pass_step}
 use Rattle.plan_audit.proofs.VerdictLemmas.{Keeps}
 
 -- fewer rules
@@ -36,6 +33,9 @@ fewer p s kept m r i n from to b = kept m r i n from (omega arith) b
 
 pub passes_are_sound : PassesAreSound
 passes_are_sound p s cost valid v = sound_from p s valid (fewer p s v.0)
+
+pub passes_are_plans : PassesArePlans
+passes_are_plans p s cost v = (plan_from p s (fewer p s v.0), live_passing p s cost v)
 
 pub unsound_is_broken : UnsoundIsBroken
 unsound_is_broken p s (Pass cost) valid unsound v = absurd (unsound (passes_are_sound p s cost valid v))

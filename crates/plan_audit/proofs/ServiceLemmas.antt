@@ -1,17 +1,16 @@
 -- Requests and their stops in the routes of a plan.
-use Rattle.std.proofs.Common.{◌≡◌, ◌≢◌, ℕ, zero, suc, ◌+◌, ◌<◌, ◌≤◌, ◌⊎◌, Bool, true, false, cond, max, List, [], ◌∷◌, ◌++◌, length, map, Option, Some, None, IsSome, slice_get, refl, sym, ap, subst, ◌∙◌, inl, inr, arith, eqb, nat_eq, add-one}
+use Rattle.std.proofs.Common.{◌≡◌, ◌≢◌, ℕ, ◌⊎◌, true, false, cond, List, [], ◌∷◌, Option, Some, None, refl, sym, ap, subst, ◌∙◌, inl, inr, eqb, nat_eq}
 use Rattle.std.specs.List.{AllByRecursion, IsDistinct}
 use Rattle.std.specs.Map.{lookup}
 use Rattle.std.specs.Option.{option_map, option_and_then, option_or}
-use Rattle.std.proofs.lemmas.Bool.{cases_lt, eq-eqb}
+use Rattle.std.proofs.lemmas.Bool.{eq-eqb}
 use Rattle.std.proofs.lemmas.Bool.Decides.{eqb_tells}
-use Rattle.plan_types.specs.Instance.{Instance, IsInstance, stop_at, partner_at, request_with, numbers_among, first_some}
-use Rattle.plan_types.specs.Request.{request_name, stop_in, partner_in, IsRequest}
+use Rattle.plan_types.specs.Instance.{Instance, IsInstance, partner_at, request_with, numbers_among, first_some}
+use Rattle.plan_types.specs.Request.{stop_in, partner_in, IsRequest}
 use Rattle.plan_types.specs.declared.requests.Stop.{Stop}
 use Rattle.plan_types.specs.declared.requests.Request.{Request}
 use Rattle.plan_types.specs.declared.requests.Request.TheVariants.{Single, Pair}
-use Rattle.route_sched.specs.Route.{IsLive}
-use Rattle.plan_audit.specs.Rules.{Stands, pickup_in, pickup_at}
+use Rattle.plan_audit.specs.Rules.{pickup_in, pickup_at}
 use Rattle.plan_audit.specs.Laws.{IsNamed}
 use Rattle.plan_audit.proofs.FirstLemmas.{none_some, some_same}
 

@@ -1,5 +1,5 @@
 -- What is kept by a sound plan, and the other way round.
-use Rattle.std.proofs.Common.{◌≡◌, ◌≢◌, ℕ, zero, suc, ◌+◌, ◌<◌, ◌≤◌, ◌⊎◌, true, false, cond, max, ℤ, pos, ◌<ℤ◌, ◌≤ℤ◌, List, [], ◌∷◌, length, map, fold, Option, Some, None, IsSome, slice_get, refl, sym, ap, subst, ◌∙◌, inl, inr, arith, eqb, nat_eq, add-one}
+use Rattle.std.proofs.Common.{◌≡◌, ℕ, zero, suc, ◌+◌, ◌<◌, ◌≤◌, ◌⊎◌, true, false, cond, max, ℤ, pos, ◌<ℤ◌, ◌≤ℤ◌, List, [], ◌∷◌, length, map, Option, Some, None, IsSome, slice_get, refl, sym, ap, subst, ◌∙◌, inl, inr, arith, eqb}
 use Rattle.std.specs.List.{range_with_len}
 use Rattle.std.specs.Option.{option_map, option_and_then, option_or}
 use Rattle.std.proofs.lemmas.Bool.{cases_lt}
@@ -18,7 +18,7 @@ use Rattle.route_sched.specs.Route.{IsLive, place}
 use Rattle.route_sched.specs.Schedule.{start, load, time_between, greatest}
 use Rattle.plan_audit.specs.Rules.{item_at, Stands, StandsSomewhere, pickup_in, pickup_at, IsUnknown, IsRepeated, IsMissing, IsSplit, IsDeliveredFirst, IsOverloaded, IsLate, IsLateReturn}
 use Rattle.plan_audit.specs.Passes.{seat_of}
-use Rattle.plan_audit.specs.Verdict.{Subject, planned, printed, routes_of, rule_number, Breaks, KeepsRules}
+use Rattle.plan_audit.specs.Verdict.{Subject, planned, printed, routes_of, Breaks, KeepsRules}
 use Rattle.plan_audit.specs.Laws.{StandsOnce, IsPlanned, IsServedOnce, IsNamed, IsVisit, IsSoundPlan}
 use Rattle.plan_audit.specs.declared.seats.Seat.{Seat}
 use Rattle.plan_audit.specs.declared.rules.Rule.TheVariants.{UnknownStop, Twice, Missing, SplitPair, DeliveryFirst, Load, Late, LateReturn, Fleet, Pin, PrintedCost}
@@ -26,7 +26,7 @@ use Rattle.plan_audit.proofs.FirstLemmas.{none_some, some_same}
 use Rattle.plan_audit.proofs.SeatLemmas.{seat_of-found}
 use Rattle.plan_audit.proofs.RuleLemmas.{nowhere-seat}
 use Rattle.plan_audit.proofs.VerdictLemmas.{Keeps}
-use Rattle.plan_audit.proofs.ServiceLemmas.{HasStop, has_found, with_named, pair_apart, partner_of_pickup, partner_of_delivery, pickup_of_delivery}
+use Rattle.plan_audit.proofs.ServiceLemmas.{HasStop, has_found, pair_apart, partner_of_pickup, partner_of_delivery, pickup_of_delivery}
 
 -- a partner that is missing breaks the third rule of a plan and of a printed solution
 pub missing_in : (p : Instance) (s : Subject) (r i n : ℕ) → IsMissing p (routes_of s) r i n → Breaks p s Missing r i n

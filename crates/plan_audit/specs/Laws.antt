@@ -1,12 +1,12 @@
 -- What a verdict means to a dispatcher.
-use Rattle.std.specs.Prelude.{◌≡◌, ◌↔◌, ℕ, ◌+◌, ◌<◌, ◌≤◌, ◌≤ℤ◌, pos, List, length, Some, ◌⊎◌, nat_eq}
+use Rattle.std.specs.Prelude.{◌≡◌, ◌↔◌, ℕ, ◌+◌, ◌<◌, ◌≤◌, ◌≤ℤ◌, pos, All, List, length, Some, ◌⊎◌, nat_eq}
 use Rattle.std.specs.Map.{lookup}
 use Rattle.plan_types.specs.Instance.{Instance, IsInstance}
 use Rattle.plan_types.specs.declared.requests.Request.{Request}
 use Rattle.plan_types.specs.declared.requests.Request.TheVariants.{Single, Pair}
 use Rattle.plan_types.specs.declared.requests.Kind.TheVariants.{LiLim}
 use Rattle.plan_types.specs.declared.plans.Cost.{Cost}
-use Rattle.route_sched.specs.Route.{IsLive, place}
+use Rattle.route_sched.specs.Route.{IsLive, AreLiveOnce, IsPlan, place}
 use Rattle.route_sched.specs.Schedule.{start, load}
 use Rattle.route_sched.specs.Cost.{cost_of, used_count, total_length}
 use Rattle.plan_audit.specs.Rules.{item_at, Stands, StandsSomewhere}
@@ -54,6 +54,10 @@ KeepsPins routes pins = (r i n : ℕ) → Stands pins r i n → Stands routes r 
 -- what passes is sound
 abbrev pub PassesAreSound : Type 0
 PassesAreSound = (p : Instance) (s : Subject) (cost : Cost) → IsInstance p → IsVerdict p s (Pass cost) → IsSoundPlan p (routes_of s)
+
+-- the routes of what passes are a plan: live stops, each once
+abbrev pub PassesArePlans : Type 0
+PassesArePlans = (p : Instance) (s : Subject) (cost : Cost) → IsVerdict p s (Pass cost) → IsPlan p (routes_of s) × All (AreLiveOnce p) (routes_of s)
 
 -- what is not sound in any of this does not pass: some rule is told
 abbrev pub UnsoundIsBroken : Type 0

@@ -1,10 +1,15 @@
 // Laws of the verdict, each for every problem, plan and verdict: what it means to a dispatcher.
-ghost use Rattle.plan_audit.specs.Laws.{PassesAreSound, UnsoundIsBroken, PlansPassWhereSound, SolutionsPassWhereSound, RoutesAreFeasible};
+ghost use Rattle.plan_audit.specs.Laws.{PassesAreSound, PassesArePlans, UnsoundIsBroken, PlansPassWhereSound, SolutionsPassWhereSound, RoutesAreFeasible};
 
 /// What passes is sound: each request that is planned is served once, by one vehicle, the pickup before the delivery; no vehicle carries
 /// more than it can; with time windows, each service starts within its window and each vehicle is back in time.
 pub fn a_passing_plan_is_sound()
     ensures { PassesAreSound }
+{}
+
+/// The routes of what passes are a plan, and each of them has live stops, each once, as `route_fault`, `plan_cost` and the schedules ask.
+pub fn routes_that_pass_are_a_plan()
+    ensures { PassesArePlans }
 {}
 
 /// What is not sound in any of this is told as broken.

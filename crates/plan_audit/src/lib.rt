@@ -23,6 +23,7 @@ pub use alone::route_fault;
 pub use audits::{audit, audit_solution};
 pub use laws::{
     a_passing_plan_is_sound, an_unsound_plan_does_not_pass, plans_pass_where_they_are_sound,
-    routes_that_pass_are_feasible_alone, solutions_pass_where_they_are_sound,
+    routes_that_pass_are_a_plan, routes_that_pass_are_feasible_alone,
+    solutions_pass_where_they_are_sound,
 };
 pub use rules::Verdict;

@@ -1,4 +1,4 @@
-use Rattle.std.proofs.Common.{◌≡◌, [], ◌∷◌, drop}
+use Rattle.std.proofs.Common.{◌≡◌, drop}
 use Rattle.plan_audit.specs.Passes.{place_of}
 use Rattle.plan_audit.proofs.alone.seat_alone.Given as goal
 
