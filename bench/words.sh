@@ -53,7 +53,7 @@ expect 2 'instance FieldCount 1' audit lilim one-pair.sol one-pair.sol
 expect 2 'solution BadLine 1' audit lilim one-pair.txt one-pair.txt
 expect 2 'instance FieldCount 1' audit vrp one-pair.txt one-pair.sol
 expect 0 'pass 0 0 450' audit vrp P-n16-k8.vrp P-n16-k8.sol
-expect 2 'instance FieldCount 1' audit lilim P-n16-k8.vrp P-n16-k8.sol
+expect 2 'instance BadNumber 1' audit lilim P-n16-k8.vrp P-n16-k8.sol
 
 expect 3 'cannot read no such file' audit lilim 'no such file' one-pair.sol
 expect 3 'cannot read nowhere' audit lilim one-pair.sol nowhere

@@ -87,3 +87,22 @@ fn tells_the_first_fault(rt: HostRuntime) -> Result<(), Fail> {
     assert_eq!(rt; fault.name(), "Truncated");
     Ok(())
 }
+
+#[test]
+fn reads_cut_texts(rt: HostRuntime) -> Result<(), Fail> {
+    let problem = read_lilim(rt.alloc(), b"2 10 1\n0 0 0 0 0 100 0 0 0\n")?;
+    assert_eq!(rt; problem.requests.len(), 0);
+    assert_eq!(rt; problem.next_number, 1);
+    for (text, line, kind) in [
+        (b"2 10 1\n".as_slice(), 2, ReadFaultKind::Truncated),
+        (
+            b"2 10 1\n0 0 0 0 0 100 0 0 0\n1 3 4 4 0 50 2 0 2\n".as_slice(),
+            3,
+            ReadFaultKind::PairMismatch,
+        ),
+    ] {
+        let fault = read_lilim(rt.alloc(), text).err().ok_or("a fault")?;
+        assert_eq!(rt; fault, ReadFault { line, kind });
+    }
+    Ok(())
+}
