@@ -126,24 +126,45 @@ fn stop_at(number: u32, x: i32, y: i32, demand: i32) -> Stop
     }
 }
 
-// One pickup and its delivery, with a fleet of two.
-fn one_pair(alloc: Global) -> Result<Problem, Fail>
-    ensures { IfOk result (λ problem. AreLiveOnce problem (1 ∷ 2 ∷ [])) }
+// Three customers of a fleet of three.
+fn three_customers(alloc: Global) -> Result<Problem, Fail>
+    ensures all { IfOk result (λ problem. AreLiveOnce problem (2 ∷ 1 ∷ 3 ∷ [])) }
+    ensures two { IfOk result (λ problem. AreLiveOnce problem (2 ∷ 1 ∷ [])) }
 {
     let depot = stop_at(0, 0, 0, 0);
-    let mut problem = Problem::new(alloc, Kind::LiLim, depot, 10, 2)?;
-    let pickup = stop_at(1, 3, 4, 4);
-    let delivery = stop_at(2, 6, 8, -4);
-    problem.put(Request::Pair(pickup, delivery))?;
+    let mut problem = Problem::new(alloc, Kind::Vrp, depot, 10, 3)?;
+    let first = stop_at(1, 3, 4, 6);
+    problem.put(Request::Single(first))?;
+    let second = stop_at(2, 6, 8, 4);
+    problem.put(Request::Single(second))?;
+    let third = stop_at(3, 0, 5, 5);
+    problem.put(Request::Single(third))?;
     Ok(problem)
 }
 
 #[test]
-fn writes_a_plan(rt: HostRuntime) -> Result<(), Fail> {
-    let problem = one_pair(rt.alloc())?;
-    let route = Route::from(vec![in rt.alloc(); 1, 2]?);
-    let routes = Routes::from(vec![in rt.alloc(); route, Route::from(Vec::new(rt.alloc()))]?);
+fn writes_used_routes(rt: HostRuntime) -> Result<(), Fail> {
+    let problem = three_customers(rt.alloc())?;
+    let first = Route::from(vec![in rt.alloc(); 2, 1]?);
+    let second = Route::from(vec![in rt.alloc(); 3]?);
+    let idle = Route::from(Vec::new(rt.alloc()));
+    let routes = Routes::from(vec![in rt.alloc(); first, second, idle]?);
     let text = write_sol(rt.alloc(), &problem, &Plan { routes })?;
-    assert_eq!(rt; text.as_slice(), b"Route #1: 1 2\nCost 20\n".as_slice());
+    assert_eq!(rt;
+        text.as_slice(),
+        b"Route #1: 2 1\nRoute #2: 3\nCost 30\n".as_slice()
+    );
+    Ok(())
+}
+
+#[test]
+fn writes_no_plan_that_leaves_a_request_out(rt: HostRuntime) -> Result<(), Fail> {
+    let problem = three_customers(rt.alloc())?;
+    let first = Route::from(vec![in rt.alloc(); 2, 1]?);
+    let idle = Route::from(Vec::new(rt.alloc()));
+    let last = Route::from(Vec::new(rt.alloc()));
+    let routes = Routes::from(vec![in rt.alloc(); first, idle, last]?);
+    let fault = write_sol(rt.alloc(), &problem, &Plan { routes }).err();
+    assert_eq!(rt; fault, Some(WriteSolFault::Unplanned(1)));
     Ok(())
 }
