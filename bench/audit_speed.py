@@ -85,6 +85,11 @@ def least_seconds(words, status, answer):
     return least
 
 
+def rate(size, seconds):
+    """Megabytes a second, unless the time is too short to say."""
+    return f"{size / seconds / 1e6:.0f} MB/s" if seconds > 5e-4 else "too short to say"
+
+
 def measure(kind, make, sizes):
     """Prints a line for each size."""
     start = least_seconds([PROGRAM], 0, "pass 0 1 20\n")
@@ -102,8 +107,8 @@ def measure(kind, make, sizes):
             audit = max(least_seconds(words + [folder / "solution"], 0, answer) - start, 1e-9)
             read = max(least_seconds(words + [folder / "empty"], 2, "solution NoCost 1\n") - start, 1e-9)
             wc = max(least_seconds(["wc", "-l", folder / "instance"], 0, None) - start_wc, 1e-9)
-            line = f"{size:>6} stops, {len(text) / 1e6:.3f} MB: read in {read:.6f} s, {len(text) / read / 1e6:.0f} MB/s"
-            line += f" (wc -l {len(text) / wc / 1e6:.0f} MB/s), audited in {audit:.6f} s, {audit / size * 1e9:.0f} ns a stop"
+            line = f"{size:>6} stops, {len(text) / 1e6:.3f} MB: read in {read:.6f} s, {rate(len(text), read)}"
+            line += f" (wc -l {wc:.6f} s, {rate(len(text), wc)}), audited in {audit:.6f} s, {audit / size * 1e9:.0f} ns a stop"
             if before is not None:
                 line += f", {audit / before[1]:.1f} times the time for {size / before[0]:.1f} times the stops"
             print(line)
