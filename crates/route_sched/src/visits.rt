@@ -70,7 +70,9 @@ impl<'a> Visits<'a> {
 impl<'a> Iterator for Visits<'a> {
     type Item = Visit;
 
-    ghost use Rattle.std.specs.Iterator.{YieldsFirst, item_count};
+    ghost use Rattle.std.specs.Prelude.{IfSome, Some, length};
+    ghost use Rattle.std.specs.Iterator.{UpTo, YieldsFirst, at_most, item_count};
+    ghost use Rattle.std.specs.Iterator.SizeHint.{IsWithinCount};
     ghost use Rattle.route_sched.specs.Visiting.{visits_from};
 
     ghost next_gives = { YieldsFirst (λ v. visits_from v.problem v.route v.place) };
@@ -87,7 +89,11 @@ impl<'a> Iterator for Visits<'a> {
         Some(self.last)
     }
 
-    fn size_hint(&self) -> (usize, Option<usize>) {
+    fn size_hint(&self) -> (usize, Option<usize>)
+        ensures lower { IsWithinCount result.0 (at_most (length (visits_from self.now.problem self.now.route self.now.place))) }
+        ensures upper { IfSome result.1 (UpTo (at_most (length (visits_from self.now.problem self.now.route self.now.place)))) }
+        ensures exact { let left = length (visits_from self.now.problem self.now.route self.now.place) in result ≡ (left, Some left) }
+    {
         let left = self.route.len() + 1 - self.place;
         (left, Some(left))
     }
