@@ -109,7 +109,7 @@ def measure(kind, make, sizes):
             wc = max(least_seconds(["wc", "-l", folder / "instance"], 0, None) - start_wc, 1e-9)
             line = f"{size:>6} stops, {len(text) / 1e6:.3f} MB: read in {read:.6f} s, {rate(len(text), read)}"
             line += f" (wc -l {wc:.6f} s, {rate(len(text), wc)}), audited in {audit:.6f} s, {audit / size * 1e9:.0f} ns a stop"
-            if before is not None:
+            if before is not None and before[1] > 1e-4:
                 line += f", {audit / before[1]:.1f} times the time for {size / before[0]:.1f} times the stops"
             print(line)
             before = (size, audit)
