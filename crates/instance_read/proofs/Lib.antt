@@ -21,3 +21,4 @@ pub mod ReadingLemmas
 pub mod VrpFaultLemmas
 pub mod VrpProblemLemmas
 pub mod ReadVrpLemmas
+pub mod VrpLawProofs

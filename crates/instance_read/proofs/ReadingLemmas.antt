@@ -65,7 +65,7 @@ field_there (w ∷ words) some numbers = by (number_of w) (or_parts (is_no_numbe
     by None h = absurd (false≢true (sym h))
     by (Some z) h = refl
 
-nodes_other : (row : Row) (key : Key) (o : Option ℕ) → key_of row ≡ key → nodes_in_key row key ≡ None → nodes_after o row Outside ≡ o
+pub nodes_other : (row : Row) (key : Key) (o : Option ℕ) → key_of row ≡ key → nodes_in_key row key ≡ None → nodes_after o row Outside ≡ o
 nodes_other row key (Some n) key_is none = refl
 nodes_other row key None key_is none = ap (nodes_in_key row) key_is ∙ none
 

@@ -14,3 +14,4 @@ pub mod VrpLines
 pub mod Drafts
 pub mod VrpWalk
 pub mod VrpFields
+pub mod VrpLaws

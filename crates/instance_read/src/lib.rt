@@ -3,6 +3,7 @@
 
 mod faults;
 mod fields;
+mod laws;
 mod lilim;
 mod pairs;
 mod put;
@@ -15,6 +16,7 @@ mod vrp_lines;
 mod vrp_problem;
 
 pub use faults::{ReadFault, ReadFaultKind};
+pub use laws::{depots_are_two_words, eof_is_the_end, sections_have_a_line_for_each_node};
 pub use lilim::read_lilim;
 pub use vrp::read_vrp;
 
