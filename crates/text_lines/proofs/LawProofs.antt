@@ -1,23 +1,22 @@
 -- The laws of lines, words and numbers.
-use Rattle.std.proofs.Common.{◌≡◌, ℕ, suc, ◌<◌, ◌≤◌, ◌^◌, true, false, not, List, [], ◌∷◌, ◌++◌, length, get_or, take, drop, map, Some, pos, refl, sym, ap, subst, ◌∙◌, arith, length-append, length-take, cond, eqb, ⊎_elim, get_or-take}
+use Rattle.std.proofs.Common.{◌≡◌, ℕ, suc, ◌<◌, ◌≤◌, ◌^◌, true, false, not, List, [], ◌∷◌, ◌++◌, length, get_or, take, drop, map, Some, pos, refl, sym, ap, subst, ◌∙◌, arith, length-append, length-take, ⊎_elim, get_or-take}
 use Rattle.std.specs.Char.{is_ascii_digit}
 use Rattle.std.specs.Fmt.{decimal}
 use Rattle.std.specs.List.{position_or_len, prefix_len, list_all}
-use Rattle.std.specs.Prelude.{option_map}
 use Rattle.std.specs.Str.Lines.{strip_carriage_return}
-use Rattle.std.specs.Str.Parse.{IsNumeral, digits_value, starts_with_minus, without_leading_plus, without_leading_sign}
+use Rattle.std.specs.Str.Parse.{IsNumeral, digits_value}
 use Rattle.std.proofs.lemmas.Fmt.{decimal_is_IsNumeral}
-use Rattle.std.proofs.lemmas.List.{take_at, drop_at, get_or_at, get_or_append_left, drop_all, drop_more, take_all, take-append-drop, get_or_default}
-use Rattle.std.proofs.lemmas.List.Elements.{All-from_recursion, recursion_from_All}
-use Rattle.std.proofs.lemmas.List.Sums.{position_or_len_is, prefix_len_is, prefix_len-le-length, fails_before_first, passes_at_first, list_all-from_AllPass}
+use Rattle.std.proofs.lemmas.List.{take_at, get_or_at, get_or_append_left, drop_all, drop_more, take_all, take-append-drop, get_or_default}
+use Rattle.std.proofs.lemmas.List.Elements.{recursion_from_All}
+use Rattle.std.proofs.lemmas.List.Sums.{prefix_len-le-length, fails_before_first, passes_at_first, list_all-from_AllPass}
 use Rattle.std.proofs.lemmas.Str.Parse.{digit_at}
-use Rattle.std.proofs.lemmas.Bool.{and_from, and_parts, cases_lt, le-leb, ne_eqb, cond-false}
-use Rattle.text_lines.proofs.NumberLemmas.{front_passes, is_digits-all, digits_of-yes, whole_of-some}
+use Rattle.std.proofs.lemmas.Bool.{and_from, and_parts, cases_lt, le-leb}
+use Rattle.text_lines.proofs.NumberLemmas.{front_passes, is_digits-all, digits_of-yes, number_of-digits}
 use Rattle.text_lines.specs.Lines.{lines_of, pieces_of, HasNoFeed, EndAtFeeds, EndWithText}
 use Rattle.text_lines.specs.Words.{is_blank, is_blank_line, words_of, IsWord, EndsWord, IsMadeOf}
-use Rattle.text_lines.specs.Numbers.{digits_of, is_digits, is_zero_fraction, number_of, signed, whole_of, AreRead}
+use Rattle.text_lines.specs.Numbers.{digits_of, is_digits, number_of, AreRead}
 use Rattle.text_lines.proofs.PieceLemmas.{pieces_at, pieces_whole, lines_from_pieces}
-use Rattle.text_lines.proofs.WordLemmas.{words_of-word, words_of-trim, words_of-none, front_no_blank, words_blank, words_nil}
+use Rattle.text_lines.proofs.WordLemmas.{words_of-word, words_of-trim, words_of-none, front_no_blank, words_blank, words_nil, words_of-front}
 
 -- ---- lines
 drop_after : (xs : List ℕ) (y : ℕ) (ys : List ℕ) → drop (suc (length xs)) (xs ++ y ∷ ys) ≡ ys
@@ -53,29 +52,6 @@ words_of-blanks : (line : List ℕ) → is_blank_line line ≡ true → words_of
 words_of-blanks [] blank = words_nil
 words_of-blanks (b ∷ line) blank =
     let parts = and_parts (is_blank b) (list_all is_blank line) blank in words_blank b line parts.0 ∙ words_of-blanks line parts.1
-
-word_at : (word : List ℕ) → IsWord word → (j : ℕ) → j < length word → is_blank (get_or word j 0) ≡ false
-word_at word is j h = All-from_recursion (λ b. is_blank b ≡ false) word is.1 j 0 h
-
--- a word at the front, up to its end
-word_length : (word rest : List ℕ) → IsWord word → EndsWord rest → position_or_len is_blank (word ++ rest) ≡ length word
-word_length word [] is ends =
-    position_or_len_is is_blank (word ++ []) (length word) 0 (omega (arith, length-append word []))
-    (λ j h. rw (get_or_append_left word [] 0 j h) (word_at word is j h))
-    (λ h. absurd (omega (arith, length-append word [])))
-word_length word (b ∷ rest) is ends =
-    position_or_len_is is_blank (word ++ b ∷ rest) (length word) 0 (omega (arith, length-append word (b ∷ rest)))
-    (λ j h. rw (get_or_append_left word (b ∷ rest) 0 j h) (word_at word is j h))
-    (λ h. rw (get_or_at word b rest 0 (length word) refl) ends)
-
-words_of-front : (word rest : List ℕ) → IsWord word → EndsWord rest → words_of (word ++ rest) ≡ word ∷ words_of rest
-words_of-front word rest is ends =
-    let line = word ++ rest in
-    let len = word_length word rest is ends in
-    words_of-word line (omega (arith, len, is.0))
-    ∙ ap (λ k. take k line ∷ words_of (drop k line)) len
-    ∙ ap (λ w. w ∷ words_of (drop (length word) line)) (take_at word rest (length word) refl)
-    ∙ ap (λ r. word ∷ words_of r) (drop_at word rest (length word) refl)
 
 -- what a line is made of are its words
 pub words_from_made : (words : List (List ℕ)) (line : List ℕ) → IsMadeOf line words → words_of line ≡ words
@@ -167,29 +143,8 @@ module _ (n : ℕ) (small : n < 2 ^ 64) where
   digits_of-decimal : digits_of (decimal n) ≡ Some n
   digits_of-decimal = digits_of-yes (decimal n) is_digits-decimal ∙ ap (λ v. Some v) numeral.1
 
-  all_front : prefix_len is_ascii_digit (decimal n) ≡ length (decimal n)
-  all_front = prefix_len_is is_ascii_digit (decimal n) (length (decimal n)) 0 (omega arith) decimal_digit_at (λ h. absurd (omega arith))
-
-  whole_of-decimal : whole_of (decimal n) ≡ Some n
-  whole_of-decimal =
-      let k = prefix_len is_ascii_digit (decimal n) in
-      whole_of-some (decimal n) (omega (arith, all_front, numeral.0.0)) (ap is_zero_fraction (drop_all k (decimal n) (omega (arith, all_front))))
-      ∙ ap (λ ds. Some (digits_value 10 ds)) (take_all k (decimal n) (omega (arith, all_front)))
-      ∙ ap (λ v. Some v) numeral.1
-
-  first_range : (48 ≤ get_or (decimal n) 0 0) × (get_or (decimal n) 0 0 ≤ 57)
-  first_range = let range = digit_at (decimal n) 0 numeral.0.1 (omega (arith, numeral.0.0)) in (range.0, range.1)
-
   number_of-decimal : number_of (decimal n) ≡ Some (pos n)
-  unfolding number_of
-  number_of-decimal =
-      let minus : starts_with_minus (decimal n) ≡ false = ne_eqb (get_or (decimal n) 0 0) 45 (λ e. omega (arith, e, first_range.0)) in
-      let plus : eqb (get_or (decimal n) 0 0) 43 ≡ false = ne_eqb (get_or (decimal n) 0 0) 43 (λ e. omega (arith, e, first_range.0)) in
-      let bare : without_leading_sign (decimal n) ≡ decimal n =
-      cond-false (starts_with_minus (decimal n)) (drop 1 (decimal n)) (without_leading_plus (decimal n)) minus ∙ ap (λ b. drop (cond b 1 0) (decimal n)) plus in
-      ap (λ b. option_map (signed b) (whole_of (without_leading_sign (decimal n)))) minus
-      ∙ ap (λ w. option_map (signed false) (whole_of w)) bare
-      ∙ ap (option_map (signed false)) whole_of-decimal
+  number_of-decimal = number_of-digits (decimal n) is_digits-decimal ∙ ap (λ v. Some (pos v)) numeral.1
 
 pub are_read : AreRead
 are_read n small = (is_digits-decimal n small, digits_of-decimal n small, number_of-decimal n small)

@@ -1,17 +1,18 @@
 -- Digits, their values, and where a number ends.
-use Rattle.std.proofs.Common.{◌≡◌, ℕ, ◌-◌, ◌<◌, ◌≤◌, Bool, true, false, ◌⊎◌, inl, inr, ⊎_elim, List, [], ◌∷◌, ◌++◌, length, map, get_or, take, drop, Option, Some, None, refl, sym, ap, subst, ◌∙◌, arith}
-use Rattle.std.specs.Prelude.{nat_lt, nat_le, ◌==◌, ◌^◌, Result, Ok, Err}
+use Rattle.std.proofs.Common.{◌≡◌, ℕ, ◌-◌, ◌<◌, ◌≤◌, Bool, true, false, ◌⊎◌, inl, inr, ⊎_elim, List, [], ◌∷◌, ◌++◌, length, map, get_or, take, drop, Option, Some, None, refl, sym, ap, subst, ◌∙◌, arith, eqb, ℤ, SomeIff, cond, pos, take_all, eqb-true, option_map, int_le}
+use Rattle.std.specs.Prelude.{◌≤ℤ◌, ◌&&◌, nat_lt, nat_le, ◌==◌, ◌^◌, Result, Ok, Err}
 use Rattle.std.specs.Result.{OkIff, result_ok}
 use Rattle.std.specs.Char.{is_ascii_digit, digit_value}
 use Rattle.std.specs.Int.Digits.{number_from_digits, number_from_digits_after}
 use Rattle.std.specs.List.{AllPass, list_all, prefix_len}
-use Rattle.std.specs.Str.Parse.{digits_value}
+use Rattle.std.specs.Str.Parse.{digits_value, starts_with_minus, without_leading_sign, without_leading_plus}
 use Rattle.std.proofs.lemmas.Bool.{and_parts, and_from, and_left, and_right, leb-true, lt-ltb, le-ltb, eq-eqb, ne_eqb, cond-true, cond-false, cases_Bool, false≢true, cases_lt}
 use Rattle.std.proofs.lemmas.Bool.Decides.{nat_tests}
 use Rattle.std.proofs.lemmas.Int.Digits.{digits_value_is, number_after_append, number_after_ge}
-use Rattle.std.proofs.lemmas.List.{map-append, take-append-drop, get_or-take, length-take}
+use Rattle.std.proofs.lemmas.List.{map-append, take-append-drop, get_or-take, length-take, drop_all, take-append-le}
 use Rattle.std.proofs.lemmas.List.Sums.{AllPass-from_list_all, list_all-from_AllPass, prefix_len_passes, prefix_len_is, prefix_len-le-length}
-use Rattle.text_lines.specs.Numbers.{below, is_digits, digits_of, is_zero_fraction, whole_of}
+use Rattle.std.proofs.lemmas.Int.{ints}
+use Rattle.text_lines.specs.Numbers.{below, is_digits, digits_of, is_zero_fraction, whole_of, number_of, signed, without_minus, within}
 
 pub digit_bounds : (c : ℕ) → is_ascii_digit c ≡ true → (48 ≤ c) × (c ≤ 57)
 digit_bounds c e = let both = and_parts (nat_le 48 c) (nat_le c 57) e in (leb-true 48 c both.0, leb-true c 57 both.1)
@@ -134,3 +135,70 @@ below-from_OkIff v o (Err e) is h = is ∙ sym (below-large v (le-from_not v h))
   where
     le-from_not : (v : ℕ) → (v < 2 ^ 32 → ⊥) → 2 ^ 32 ≤ v
     le-from_not v not_below = omega arith
+
+-- ---- words of digits
+pub digits_some : (ds : List ℕ) → is_digits ds ≡ true → 0 < length ds
+unfolding is_digits
+digits_some [] e = absurd (false≢true e)
+digits_some (d ∷ ds) e = omega arith
+
+digits_front : (ds : List ℕ) → is_digits ds ≡ true → prefix_len is_ascii_digit ds ≡ length ds
+digits_front ds e = prefix_len_is is_ascii_digit ds (length ds) 0 (omega arith) (digit_at ds e) (λ h. absurd (omega arith))
+
+pub whole_of-digits : (ds : List ℕ) → is_digits ds ≡ true → whole_of ds ≡ Some (digits_value 10 ds)
+whole_of-digits ds e =
+    let n = prefix_len is_ascii_digit ds in
+    whole_of-some ds (omega (arith, digits_front ds e, digits_some ds e)) (ap is_zero_fraction (drop_all n ds (omega (arith, digits_front ds e))))
+    ∙ ap (λ xs. Some (digits_value 10 xs)) (take_all n ds (omega (arith, digits_front ds e)))
+
+-- a word of digits is the number that they write
+pub number_of-digits : (ds : List ℕ) → is_digits ds ≡ true → number_of ds ≡ Some (pos (digits_value 10 ds))
+unfolding number_of
+number_of-digits ds e =
+    let range = digit_bounds (get_or ds 0 0) (digit_at ds e 0 (digits_some ds e)) in
+    let minus : starts_with_minus ds ≡ false = ne_eqb (get_or ds 0 0) 45 (λ is. omega (arith, is, range.0)) in
+    let plus : eqb (get_or ds 0 0) 43 ≡ false = ne_eqb (get_or ds 0 0) 43 (λ is. omega (arith, is, range.0)) in
+    let bare : without_leading_sign ds ≡ ds = cond-false (starts_with_minus ds) (drop 1 ds) (without_leading_plus ds) minus ∙ ap (λ b. drop (cond b 1 0) ds) plus in
+    ap (λ b. option_map (signed b) (whole_of (without_leading_sign ds))) minus
+    ∙ ap (λ w. option_map (signed false) (whole_of w)) bare
+    ∙ ap (option_map (signed false)) (whole_of-digits ds e)
+
+-- digits with a minus before them, or without
+abbrev pub with_sign : Bool → List ℕ → List ℕ
+with_sign true ds = 45 ∷ ds
+with_sign false ds = ds
+
+pub number_of-signed : (negative : Bool) (ds : List ℕ) → is_digits ds ≡ true → number_of (with_sign negative ds) ≡ Some (signed negative (digits_value 10 ds))
+unfolding number_of
+number_of-signed true ds e = ap (option_map (signed true)) (whole_of-digits ds e)
+number_of-signed false ds e = number_of-digits ds e
+
+split_cases : (b : ℕ) (bs : List ℕ) (t : Bool) → eqb b 45 ≡ t → with_sign t (cond t bs (b ∷ bs)) ≡ b ∷ bs
+split_cases b bs true e = ap (λ x. x ∷ bs) (sym (eqb-true b 45 e))
+split_cases b bs false e = refl
+
+-- a text is its minus, if it begins with one, and the others
+pub sign_and_rest : (text : List ℕ) → with_sign (starts_with_minus text) (without_minus text) ≡ text
+sign_and_rest [] = refl
+sign_and_rest (b ∷ bs) = split_cases b bs (eqb b 45) refl
+
+pub take_fewer : (j k : ℕ) (xs : List ℕ) → j ≤ length (take k xs) → take j (take k xs) ≡ take j xs
+take_fewer j k xs l = sym (take-append-le j (take k xs) (drop k xs) l) ∙ ap (take j) (take-append-drop k xs)
+
+le_from : (a b : ℤ) → int_le a b ≡ true → a ≤ℤ b
+le_from a b e = grind (arith, ints)
+
+not_le_from : (a b : ℤ) → int_le a b ≡ false → a ≤ℤ b → ⊥
+not_le_from a b e l = grind (arith, ints)
+
+-- a number that is asked to lie within limits
+pub within-from_SomeIff : (least most z : ℤ) (o : Option ℤ) → SomeIff o ((least ≤ℤ z) × (z ≤ℤ most)) z → o ≡ within least most (Some z)
+within-from_SomeIff least most z o h = within_cases (int_le least z) (int_le z most) refl refl o h
+  where
+    within_cases : (a b : Bool) → int_le least z ≡ a → int_le z most ≡ b → (o : Option ℤ) → SomeIff o ((least ≤ℤ z) × (z ≤ℤ most)) z → o ≡ cond (a && b) (Some z) None
+    within_cases true true low high (Some x) h = ap Some h.1
+    within_cases true true low high None h = absurd (h (le_from least z low, le_from z most high))
+    within_cases true false low high (Some x) h = absurd (not_le_from z most high h.0.1)
+    within_cases true false low high None h = refl
+    within_cases false b low high (Some x) h = absurd (not_le_from least z low h.0.0)
+    within_cases false b low high None h = refl

@@ -1,12 +1,13 @@
 -- The first word of a line and the others.
-use Rattle.std.proofs.Common.{◌≡◌, ℕ, ◌+◌, ◌<◌, ◌≤◌, one-add, Bool, true, false, not, cond, ⊎_elim, List, [], ◌∷◌, length, get_or, take, drop, refl, sym, ap, subst, ◌∙◌, arith}
+use Rattle.std.proofs.Common.{◌≡◌, ℕ, ◌+◌, ◌<◌, ◌≤◌, one-add, Bool, true, false, not, cond, ⊎_elim, List, [], ◌∷◌, ◌++◌, length, get_or, take, drop, refl, sym, ap, subst, ◌∙◌, arith, take_at, drop_at, length-append}
 use Rattle.std.specs.Prelude.{filter}
 use Rattle.std.specs.List.{All, onto_first, slice_split, prefix_len, position_or_len, after_first}
 use Rattle.std.proofs.lemmas.Bool.{cond_both, cases_lt, lt-ltb}
-use Rattle.std.proofs.lemmas.List.{drop_more, drop_all, take_all, length-take}
+use Rattle.std.proofs.lemmas.List.{drop_more, drop_all, take_all, length-take, get_or_append_left, get_or_at}
 use Rattle.std.proofs.lemmas.List.Splits.{slice_split-cons_yes, slice_split_none, slice_split_first}
-use Rattle.std.proofs.lemmas.List.Sums.{fails_before_first, passes_at_first, prefix_len-le-length, prefix_len_stops}
-use Rattle.text_lines.specs.Words.{is_blank, has_a_byte, words_of}
+use Rattle.std.proofs.lemmas.List.Sums.{fails_before_first, passes_at_first, prefix_len-le-length, prefix_len_stops, position_or_len_is}
+use Rattle.std.proofs.lemmas.List.Elements.{All-from_recursion}
+use Rattle.text_lines.specs.Words.{is_blank, has_a_byte, words_of, IsWord, EndsWord}
 
 pub words_blank : (b : ℕ) (bs : List ℕ) → is_blank b ≡ true → words_of (b ∷ bs) ≡ words_of bs
 unfolding words_of
@@ -121,3 +122,26 @@ pub length-words_of-le : (line : List ℕ) → length (words_of line) ≤ length
 unfolding words_of
 length-words_of-le [] = omega arith
 length-words_of-le (b ∷ bs) = omega (arith, split-le b bs (is_blank b), length-words_of-le bs)
+
+-- ---- a word at the front of a text
+word_at : (word : List ℕ) → IsWord word → (j : ℕ) → j < length word → is_blank (get_or word j 0) ≡ false
+word_at word is j h = All-from_recursion (λ b. is_blank b ≡ false) word is.1 j 0 h
+
+front_word_length : (word rest : List ℕ) → IsWord word → EndsWord rest → position_or_len is_blank (word ++ rest) ≡ length word
+front_word_length word [] is ends =
+    position_or_len_is is_blank (word ++ []) (length word) 0 (omega (arith, length-append word []))
+    (λ j h. rw (get_or_append_left word [] 0 j h) (word_at word is j h))
+    (λ h. absurd (omega (arith, length-append word [])))
+front_word_length word (b ∷ rest) is ends =
+    position_or_len_is is_blank (word ++ b ∷ rest) (length word) 0 (omega (arith, length-append word (b ∷ rest)))
+    (λ j h. rw (get_or_append_left word (b ∷ rest) 0 j h) (word_at word is j h))
+    (λ h. rw (get_or_at word b rest 0 (length word) refl) ends)
+
+pub words_of-front : (word rest : List ℕ) → IsWord word → EndsWord rest → words_of (word ++ rest) ≡ word ∷ words_of rest
+words_of-front word rest is ends =
+    let line = word ++ rest in
+    let len = front_word_length word rest is ends in
+    words_of-word line (omega (arith, len, is.0))
+    ∙ ap (λ k. take k line ∷ words_of (drop k line)) len
+    ∙ ap (λ w. w ∷ words_of (drop (length word) line)) (take_at word rest (length word) refl)
+    ∙ ap (λ r. word ∷ words_of r) (drop_at word rest (length word) refl)

@@ -1,10 +1,11 @@
 -- Words that are numbers, and their values.
-use Rattle.std.specs.Prelude.{◌≡◌, ◌<◌, ◌^◌, ℕ, Bool, true, false, ◌&&◌, ◌==◌, nat_lt, nat_le, if◌then◌else◌, List, [], ◌∷◌, length, take, drop, Option, Some, None, ℤ, pos, neg_ℤ}
+use Rattle.std.specs.Prelude.{◌≡◌, ◌<◌, ◌^◌, ℕ, Bool, true, false, ◌&&◌, ◌==◌, nat_lt, nat_le, if◌then◌else◌, List, [], ◌∷◌, length, take, drop, Option, Some, None, ℤ, pos, neg_ℤ, int_le, slice_get}
 use Rattle.std.specs.Char.{is_ascii_digit}
 use Rattle.std.specs.Fmt.{decimal}
 use Rattle.std.specs.List.{list_all, prefix_len}
-use Rattle.std.specs.Option.{option_map}
+use Rattle.std.specs.Option.{option_and_then, option_map}
 use Rattle.std.specs.Str.Parse.{digits_value, starts_with_minus, without_leading_sign}
+use Rattle.text_lines.specs.Words.{words_of}
 
 -- one digit or more, and nothing else
 unfoldable pub is_digits : List ℕ → Bool
@@ -42,6 +43,19 @@ signed false n = pos n
 -- The value of a NUMBER: a plus, a minus or no sign, digits, and perhaps a point with zeros or nothing after it.
 unfoldable pub number_of : List ℕ → Option ℤ
 number_of word = option_map (signed (starts_with_minus word)) (whole_of (without_leading_sign word))
+
+-- the number that the first word is, if there is one and it is a number
+abbrev pub first_number : List (List ℕ) → Option ℤ
+first_number words = option_and_then number_of (slice_get words 0)
+
+-- a number, if it lies within these limits
+abbrev pub within : ℤ → ℤ → Option ℤ → Option ℤ
+within least most None = None
+within least most (Some z) = if int_le least z && int_le z most then Some z else None
+
+-- the first word of the text is this number, and this rest has the other words
+abbrev pub BeginsWithNumber : List ℕ → ℤ → List ℕ → Type 0
+BeginsWithNumber text number rest = (word : List ℕ) × (words_of text ≡ word ∷ words_of rest) × (number_of word ≡ Some number)
 
 -- word without the minus that it may begin with
 abbrev pub without_minus : List ℕ → List ℕ

@@ -5,8 +5,9 @@ ghost use Rattle.std.specs.List.{list_all, prefix_len};
 ghost use Rattle.std.specs.Int.RustNames.{unsigned_abs};
 ghost use Rattle.std.specs.Option.{SomeIff, option_map};
 ghost use Rattle.std.specs.Str.Parse.{digits_value, starts_with_minus, without_leading_sign};
-ghost use Rattle.text_lines.specs.Numbers.{below, digits_of, integer_of, is_digits, is_zero, is_zero_fraction, number_of, signed, whole_of, without_minus};
+ghost use Rattle.text_lines.specs.Numbers.{BeginsWithNumber, below, digits_of, integer_of, is_digits, is_zero, is_zero_fraction, number_of, signed, whole_of, without_minus};
 
+use crate::word_iter::ends_word;
 use std::marker::Model;
 
 /// Each number of so many digits fits a `u64`.
@@ -48,6 +49,26 @@ impl<'a> Number<'a> {
             digits,
             value,
         })
+    }
+
+    /// The number that the first word of a text is, and what follows that word, where the text begins with it and the
+    /// word has at most 19 digits, a minus or no sign, and nothing else: the form of nearly every number.
+    #[inline(always)]
+    pub(crate) fn parse_front(text: &'a [u8]) -> Option<(Number<'a>, &'a [u8])>
+        ensures { IfSome result (λ found. BeginsWithNumber text.now found.0 found.1.now) }
+    {
+        let (negative, body) = split_minus(text);
+        let (len, value) = first_digits(body);
+        let (digits, rest) = body.split_at(len);
+        if digits.is_empty() || !ends_word(rest) {
+            return None;
+        }
+        let number = Number {
+            negative,
+            digits,
+            value: Some(value),
+        };
+        Some((number, rest))
     }
 
     /// The integer that a word is: a minus or no sign, and 1 to 20 digits.
@@ -167,6 +188,16 @@ fn short_front_digits(text: &[u8]) -> (usize, u64)
     (text.len(), value)
 }
 
+// How many of the first 19 bytes are digits before any other byte, and their value.
+#[inline(always)]
+fn first_digits(text: &[u8]) -> (usize, u64)
+    ensures fits { result.0 ≤ length text.now }
+    ensures digits { list_all is_ascii_digit (take result.0 text.now) ≡ true }
+    ensures value { result.1 ≡ digits_value 10 (take result.0 text.now) }
+{
+    short_front_digits(&text[..text.len().min(LONGEST_FITTING)])
+}
+
 // How many digits stand at the front.
 fn digits_len(text: &[u8]) -> usize
     ensures { result ≡ prefix_len is_ascii_digit text.now }
@@ -234,10 +265,9 @@ fn split_minus(word: &[u8]) -> (bool, &[u8])
     ensures minus { result.0 ≡ starts_with_minus word.now }
     ensures rest { result.1.now ≡ without_minus word.now }
 {
-    match word {
-        [b'-', rest @ ..] => (true, rest),
-        _ => (false, word),
-    }
+    let negative = matches!(word, [b'-', ..]);
+    // Signs come in no order, so that a branch on one would often be predicted wrong.
+    (negative, &word[usize::from(negative)..])
 }
 
 fn split_sign(word: &[u8]) -> (bool, &[u8])

@@ -71,3 +71,26 @@ fn reads_digits_and_integers(rt: HostRuntime) -> Result<(), Fail> {
     assert!(rt; Number::parse_integer(b"-").is_none());
     Ok(())
 }
+
+#[test]
+fn reads_the_next_numbers(rt: HostRuntime) -> Result<(), Fail> {
+    let rows: [(&[u8], [Option<i32>; 3]); 6] = [
+        (b"5 -6  007", [Some(5), Some(-6), Some(7)]),
+        (b"\t +5.0 -0.\t1000", [Some(5), Some(0), None]),
+        (b"5x 6 -", [None, Some(6), None]),
+        (b"999 1000 -1000", [Some(999), None, None]),
+        (
+            b"0000000000000000000000005 99999999999999999999 8",
+            [Some(5), None, Some(8)],
+        ),
+        (b"30.5 - ", [None, None, None]),
+    ];
+    for (line, values) in rows {
+        let mut words = Words::new(line);
+        for value in values {
+            assert!(rt; words.next_number(-999, 999) == value);
+        }
+        assert!(rt; words.next().is_none());
+    }
+    Ok(())
+}

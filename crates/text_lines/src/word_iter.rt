@@ -1,9 +1,11 @@
 //! The words of a line.
-ghost use Rattle.std.specs.Prelude.{◌≡◌, ◌≤◌, ℕ, List, drop, length};
+ghost use Rattle.std.specs.Prelude.{◌≡◌, ◌<◌, ◌≤◌, ◌↔◌, ℕ, IsTrue, List, drop, length};
 ghost use Rattle.std.specs.Iterator.{YieldsFirstRef, item_count};
 ghost use Rattle.std.specs.List.{position_or_len, prefix_len};
-ghost use Rattle.text_lines.specs.Words.{is_blank, is_blank_line, words_of};
+ghost use Rattle.text_lines.specs.Numbers.{first_number, within};
+ghost use Rattle.text_lines.specs.Words.{EndsWord, is_blank, is_blank_line, words_of};
 
+use crate::numeral::Number;
 use std::marker::Model;
 
 /// The words of a line, in order: what stands between blanks and tabs.
@@ -30,6 +32,19 @@ impl<'a> Words<'a> {
     {
         Words { rest: line }
     }
+
+    /// The number that the next word is, if it is one and lies in these limits. The word is taken in any case.
+    #[inline(always)]
+    pub fn next_number(&mut self, least: i32, most: i32) -> Option<i32>
+        ensures rest { self.new ≡ drop 1 self.old }
+        ensures number { result ≡ within least most (first_number self.old) }
+    {
+        let Some((number, rest)) = Number::parse_front(trim_blanks_start(self.rest)) else {
+            return Number::parse(self.next()?)?.within(least, most);
+        };
+        self.rest = rest;
+        number.within(least, most)
+    }
 }
 
 impl<'a> Iterator for Words<'a> {
@@ -48,6 +63,17 @@ impl<'a> Iterator for Words<'a> {
             return None;
         }
         Some(word)
+    }
+}
+
+/// Whether a word that stands before this text is over there.
+#[inline(always)]
+pub(crate) fn ends_word(text: &[u8]) -> bool
+    ensures { IsTrue result ↔ EndsWord text.now }
+{
+    match text {
+        [first, ..] => is_blank_byte(*first),
+        [] => true,
     }
 }
 
@@ -70,8 +96,27 @@ fn word_len(text: &[u8]) -> usize
 }
 
 /// What follows the blanks and tabs at the front.
-#[inline]
+#[inline(always)]
 pub fn trim_blanks_start(text: &[u8]) -> &[u8]
+    ensures { result.now ≡ drop (prefix_len is_blank text.now) text.now }
+{
+    match text {
+        // Nearly every gap between words is one blank.
+        [b' ', rest @ ..] if !begins_with_blank(rest) => rest,
+        _ => without_blanks(text),
+    }
+}
+
+fn begins_with_blank(text: &[u8]) -> bool
+    ensures { IsTrue result ↔ (0 < prefix_len is_blank text.now) }
+{
+    match text {
+        [first, ..] => is_blank_byte(*first),
+        [] => false,
+    }
+}
+
+fn without_blanks(text: &[u8]) -> &[u8]
     ensures { result.now ≡ drop (prefix_len is_blank text.now) text.now }
 {
     for (i, byte) in text.iter().enumerate() {

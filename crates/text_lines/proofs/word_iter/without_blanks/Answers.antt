@@ -3,7 +3,7 @@ use Rattle.std.proofs.lemmas.List.{take_rest}
 use Rattle.std.proofs.lemmas.List.Sums.{prefix_len_is}
 use Rattle.std.specs.List.{prefix_len}
 use Rattle.text_lines.specs.Words.{is_blank}
-use Rattle.text_lines.proofs.word_iter.trim_blanks_start.Goals as goal
+use Rattle.text_lines.proofs.word_iter.without_blanks.Goals as goal
 
 pub returns-then-not-is_blank_byte : goal.returns-then-not-is_blank_byte
 returns-then-not-is_blank_byte c =

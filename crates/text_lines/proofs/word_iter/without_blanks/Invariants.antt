@@ -1,6 +1,6 @@
 use Rattle.std.proofs.Common.{◌≡◌, ℕ, ◌<◌, true, get_or}
 use Rattle.text_lines.specs.Words.{is_blank}
-use Rattle.text_lines.proofs.word_iter.trim_blanks_start.Given as goal
+use Rattle.text_lines.proofs.word_iter.without_blanks.Given as goal
 
 -- the bytes so far are blanks
 abbrev pub invariant-loop-i : goal.invariant-loop-i
