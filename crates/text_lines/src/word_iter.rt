@@ -102,17 +102,8 @@ pub fn trim_blanks_start(text: &[u8]) -> &[u8]
 {
     match text {
         // Nearly every gap between words is one blank.
-        [b' ', rest @ ..] if !begins_with_blank(rest) => rest,
+        [b' ', rest @ ..] if !ends_word(rest) => rest,
         _ => without_blanks(text),
-    }
-}
-
-fn begins_with_blank(text: &[u8]) -> bool
-    ensures { IsTrue result ↔ (0 < prefix_len is_blank text.now) }
-{
-    match text {
-        [first, ..] => is_blank_byte(*first),
-        [] => false,
     }
 }
 
