@@ -77,12 +77,12 @@ pub fn next_values<const N: usize>(words: &mut Words<'_>, limits: &[Limits; N]) 
 }
 
 // The number that the next word is, if it is within these limits.
+#[inline(always)]
 fn next_value(words: &mut Words<'_>, limits: Limits) -> Option<i32>
     ensures rest { words.new ≡ drop 1 words.old }
     ensures value { MatchOption result (IsNoValue limits (field words.old 0)) (λ value. IsValue limits (field words.old 0) value) }
 {
-    let word = words.next()?;
-    Number::parse(word)?.within(limits.0, limits.1)
+    words.next_number(limits.0, limits.1)
 }
 
 /// What is wrong with a first number beyond its limits: above the most stops it is one too many, else it is out of range.
