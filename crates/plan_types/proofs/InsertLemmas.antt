@@ -1,16 +1,16 @@
 -- One more request among those that stand by name.
-use Rattle.std.proofs.Common.{◌≡◌, ℕ, suc, zero, ◌<◌, ◌≤◌, cond, List, [], ◌∷◌, ◌++◌, length, get_or, take, drop, Option, Some, None, Result, Ok, Err, refl, sym, ap, ◌∙◌, nat_eq, inl, inr, arith, slice_get, ◌-◌}
-use Rattle.std.proofs.lemmas.Bool.{lt-ltb, le-ltb}
+use Rattle.std.proofs.Common.{◌≡◌, ℕ, suc, zero, ◌<◌, ◌≤◌, cond, List, [], ◌∷◌, ◌++◌, length, get_or, take, drop, Option, Some, None, Result, Ok, Err, refl, sym, ap, ◌∙◌, nat_eq, inl, inr, arith, slice_get, ◌-◌, ◌↔◌, All, IsTrue, nat_lt}
+use Rattle.std.proofs.lemmas.Bool.{lt-ltb, le-ltb, ltb-true}
 use Rattle.std.proofs.lemmas.Bool.Decides.{eqb_tells}
 use Rattle.std.proofs.Math.Seq.{get_or-append_seam}
-use Rattle.std.proofs.lemmas.List.{length-append}
+use Rattle.std.proofs.lemmas.List.{length-append, take_all, drop_all}
 use Rattle.std.proofs.lemmas.List.Edits.{remove-append_right}
-use Rattle.std.proofs.lemmas.Option.{slice_get-get_or}
+use Rattle.std.proofs.lemmas.Option.{slice_get-get_or, slice_get-map, slice_get_within, get_or_from_slice_get}
 use Rattle.std.specs.List.{remove}
 use Rattle.std.specs.Map.{keys_of, lookup}
 use Rattle.std.specs.List.{insert, position_or_len}
 use Rattle.std.specs.List.Sorted.{IsStrictlySortedBy, IsBinarySearchResult}
-use Rattle.std.specs.Option.{option_map_or}
+use Rattle.std.specs.Option.{option_map, option_map_or}
 use Rattle.std.specs.Ordering.{nat_cmp}
 use Rattle.std.specs.Result.{MatchResult}
 use Rattle.std.proofs.lemmas.List.Sorted.{searched}
@@ -19,7 +19,7 @@ use Rattle.std.proofs.lemmas.Map.Keys.{non_decreasing_from_sorted}
 use Rattle.indexmap.proofs.MapLemmas.{absent_from_lookup, or_len-absent, insert_entry-absent}
 use Rattle.indexmap.specs.IndexMap.{move_index, insert_entry, index_before}
 use Rattle.plan_types.proofs.LookupLemmas.{none_some}
-use Rattle.plan_types.specs.Instance.{lesser_names, greater_names, with_entry}
+use Rattle.plan_types.specs.Instance.{lesser_names, greater_names, with_entry, Splits}
 use Rattle.plan_types.specs.Request.{request_name}
 use Rattle.plan_types.specs.declared.requests.Request.{Request}
 
@@ -84,3 +84,30 @@ inserted_before name r es i j le none is =
 -- where the names split at place i, that is the list with the request among them
 pub with_entry-at : (es : List (ℕ × Request)) (name : ℕ) (r : Request) (i : ℕ) → name ≡ request_name r → lesser_names es name ≡ take i es → greater_names es name ≡ drop i es → take i es ++ (name, r) ∷ drop i es ≡ with_entry es r
 with_entry-at es name r i is lesser greater = rw (← lesser, ← greater) (ap (λ n. lesser_names es n ++ (n, r) ∷ greater_names es n) is)
+
+-- the last of rising names is the greatest
+pub last_is_greatest : (name : ℕ) (es : List (ℕ × Request)) (e : ℕ × Request) → IsStrictlySortedBy nat_cmp (keys_of es) → slice_get es (length es - 1) ≡ Some e → IsTrue (nat_lt e.0 name) ↔ All (λ n. n < name) (keys_of es)
+last_is_greatest name es e rising at =
+    let last = length es - 1 in
+    let within = slice_get_within es last e at in
+    let key : (d : ℕ) → get_or (keys_of es) last d ≡ e.0 = λ d. get_or_from_slice_get (keys_of es) last e.0 d (slice_get-map (λ e. e.0) es last ∙ ap (option_map (λ e. e.0)) at) in (
+      λ less k d b.
+          let greatest = non_decreasing_from_sorted _ rising k last d (let short : k < length es = rw length-map at b in omega arith) (rw length-map (omega arith)) in
+          omega (arith, key d, ltb-true e.0 name less),
+      λ below. lt-ltb e.0 name (let least : get_or (keys_of es) last 0 < name = below last 0 (rw length-map (omega arith)) in rw (key 0) at least),
+    )
+
+-- where each name is lesser, the request goes last
+module _ (name : ℕ) (es : List (ℕ × Request)) (below : All (λ n. n < name) (keys_of es)) where
+  all_lesser : (lesser_names es name ≡ es) × (greater_names es name ≡ [])
+  all_lesser =
+      let split = names_split name es (length es) (omega arith) (λ k b. below k 0 (rw length-map b)) (λ k a b. absurd (omega arith)) in
+      (split.0 ∙ take_all (length es) es (omega arith), split.1 ∙ drop_all (length es) es (omega arith))
+
+  pub splits_last : (n : ℕ) → name ≡ n → Splits es n
+  splits_last n is = rw (sym is, all_lesser.0, all_lesser.1) (append-nil es)
+
+  pub inserted_last : (r : Request) → name ≡ request_name r → lookup (nat_eq name) es ≡ None → insert_entry nat_eq es name r ≡ with_entry es r
+  inserted_last r is none =
+      insert_entry-absent nat_eq name r es (absent_from_lookup (nat_eq name) es none)
+      ∙ sym (rw (sym is, all_lesser.0, all_lesser.1) refl)

@@ -1,4 +1,4 @@
-ghost use Rattle.std.specs.Prelude.{◌≡◌, ℕ, IsTrue, ◌<◌, ◌≤◌, ◌↔◌, length, IsOk, IfOk, IfErr, IfSome, OnOk, OnErr, IsErrOf, IsSome, None, Some, nat_eq, ◌==◌, if◌then◌else◌, take, drop, vec_len};
+ghost use Rattle.std.specs.Prelude.{◌≡◌, ℕ, All, IsTrue, ◌<◌, ◌≤◌, ◌↔◌, length, IsOk, IfOk, IfErr, IfSome, OnOk, OnErr, IsErrOf, IsSome, None, Some, nat_eq, ◌==◌, if◌then◌else◌, take, drop, vec_len};
 ghost use Rattle.std.specs.List.{AllByRecursion};
 ghost use Rattle.std.specs.List.Sorted.{IsStrictlySortedBy};
 ghost use Rattle.std.specs.Ordering.{nat_cmp};
@@ -234,9 +234,25 @@ fn insert_by_name(requests: &mut IndexMap<u32, Request>, request: Request) -> Re
     ensures split { Splits requests.old.entries (request_name request) }
 {
     let name = request.name();
+    // Requests mostly come in rising order: then there is nothing to search, and nothing to move.
+    if is_above_all(requests, name) {
+        requests.insert(name, request)?;
+        return Ok(());
+    }
     let place = place_of(requests, name);
     requests.insert_before(place, name, request)?;
     Ok(())
+}
+
+// Whether each request has a lesser name.
+fn is_above_all(requests: &IndexMap<u32, Request>, name: u32) -> bool
+    requires rising { IsStrictlySortedBy nat_cmp (keys requests.now) }
+    ensures { IsTrue result ↔ All (λ n. n < name) (keys requests.now) }
+{
+    match requests.last() {
+        Some((last, _)) => *last < name,
+        None => true,
+    }
 }
 
 // How many requests have a lesser name.
