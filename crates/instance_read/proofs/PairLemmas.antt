@@ -307,6 +307,11 @@ last_small : (t : Task) (ts : List Task) → t.stop.number ≤ 40000 → AllByRe
 last_small t [] small valid = small
 last_small t (u ∷ ts) small valid = last_small u ts valid.0.stop.to_most valid.1
 
+-- numbers that rise to 40,000 are at most so many
+pub few_tasks : (n : ℕ) (ts : List Task) → n ≤ 40000 → AllByRecursion IsCustomer ts → RisesFrom n ts → n + length ts ≤ 40000
+few_tasks n [] small valid rising = omega arith
+few_tasks n (t ∷ ts) small valid rising = omega (arith, rising.0, few_tasks t.stop.number ts valid.0.stop.to_most valid.1 rising.1)
+
 -- the numbers of the requests of tasks that are below n are below n
 below_step : (n : ℕ) (t : Task) (o : Option Task) (b : Bool) (es : List (ℕ × Request)) → t.stop.number < n → ((d : Task) → o ≡ Some d → d.stop.number < n) → AllByRecursion (λ m. m < n) (numbers_among es) → AllByRecursion (λ m. m < n) (numbers_among (cons_option (cond b (option_map {U = ℕ × Request} (λ d. (t.stop.number, Pair t.stop d.stop)) o) None) es))
 below_step n t o false es here found rest = rest

@@ -1,6 +1,6 @@
 -- What is known of the tasks of a text whose lines have no fault.
-use Rattle.std.specs.Prelude.{◌≡◌, ℕ, ◌+◌, ◌<◌, ◌⊎◌, false, List, [], ◌∷◌, Option, Some, None, find, slice_index_or, pos, ◌≤ℤ◌}
-use Rattle.std.specs.List.{AllByRecursion}
+use Rattle.std.specs.Prelude.{◌≡◌, ℕ, ◌+◌, ◌<◌, ◌⊎◌, false, List, [], ◌∷◌, Option, Some, None, find, slice_index_or, pos, ◌==◌, ◌≤ℤ◌}
+use Rattle.std.specs.List.{AllByRecursion, position_from}
 use Rattle.plan_types.specs.Instance.{Instance}
 use Rattle.plan_types.specs.Limits.{IsCapacity, IsFleet, IsStop, IsVisit}
 use Rattle.plan_types.specs.declared.requests.Kind.TheVariants.{LiLim}
@@ -9,11 +9,15 @@ use Rattle.instance_read.specs.declared.faults.ReadFaultKind.TheVariants.{PairMi
 use Rattle.instance_read.specs.declared.tasks.Header.{Header}
 use Rattle.instance_read.specs.declared.tasks.Task.{Task}
 use Rattle.instance_read.specs.Lilim.{depot_from}
-use Rattle.instance_read.specs.Pairs.{find_task, is_mismatched, last_number, pairs_of}
+use Rattle.instance_read.specs.Pairs.{is_mismatched, last_number, pairs_of}
 
--- the table has the task with each number
-abbrev pub IsTable : List Task → List (Option Task) → Type 0
-IsTable tasks table = (n : ℕ) → slice_index_or table n None ≡ find_task n tasks
+-- the place of the task with this number, from 0
+abbrev pub place_of : ℕ → List Task → Option ℕ
+place_of n tasks = position_from (λ t. t.stop.number == n) 0 tasks
+
+-- the table has the place of the task with each number
+abbrev pub IsTable : List Task → List (Option ℕ) → Type 0
+IsTable tasks table = (n : ℕ) → slice_index_or table n None ≡ place_of n tasks
 
 -- a customer's task within its limits
 pub record IsCustomer (t : Task) : Type 0 where

@@ -21,7 +21,7 @@ use Rattle.instance_read.specs.declared.vrp_lines.Place.{Place}
 use Rattle.instance_read.specs.declared.vrp_lines.Place.TheVariants.{Outside, CoordinateLine, DemandLine, DepotLine, AfterEnd}
 use Rattle.instance_read.specs.VrpLines.{Placed, key_of, value_of, value_words, placed_of, end_place}
 
--- two keys are one
+-- keys are compared by their number
 abbrev pub key_number : Key → ℕ
 key_number Dimension = 0
 key_number Capacity = 1

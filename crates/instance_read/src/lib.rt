@@ -1,6 +1,7 @@
 //! Readers of instance texts: Li-Lim's pickup and delivery instances, and CVRPLIB's capacitated ones.
 #![tactic(auto)]
 
+mod entries;
 mod faults;
 mod fields;
 mod laws;

@@ -1,5 +1,5 @@
 //! The pairs that tasks make.
-ghost use Rattle.std.specs.Prelude.{◌≡◌, ◌+◌, ◌<◌, ◌≤◌, ℕ, [], All, IfErr, IfOk, IfSome, OnOk, None, Some, find, slice_index_or};
+ghost use Rattle.std.specs.Prelude.{◌≡◌, ◌+◌, ◌<◌, ◌≤◌, ℕ, [], All, IfErr, IfOk, IfSome, OnOk, None, Some, find, length};
 ghost use Rattle.std.specs.List.{AllByRecursion};
 ghost use Rattle.std.specs.Option.{option_copied, option_map};
 ghost use Rattle.plan_types.specs.Instance.{IsInstance, IsTaken, new_instance, with_request};
@@ -10,6 +10,7 @@ ghost use Rattle.instance_read.specs.Lilim.{depot_from};
 ghost use Rattle.instance_read.specs.Pairs.{find_task, is_mismatched, is_uneven, is_wrong_delivery, is_wrong_pickup, last_number, pair_of, pairs_of};
 ghost use Rattle.instance_read.specs.Tables.{ArePaired, AreTasks, HeaderKeepsLimits, IsCustomer, IsTable, RisesFrom, TellsMismatch, problem_with};
 
+use crate::entries::entry_of;
 use crate::put::put_request;
 use crate::tasks::{Header, Task};
 use crate::{ReadFault, ReadFaultKind};
@@ -52,26 +53,28 @@ fn table_len(tasks: &[Task]) -> usize
     len
 }
 
-// The tasks by their numbers, so that looking one up is one read of memory.
-fn task_table(alloc: Global, tasks: &[Task]) -> Result<Vec<Option<Task>>, AllocError>
+// The places of the tasks by their numbers, so that looking one up needs no search.
+fn task_table(alloc: Global, tasks: &[Task]) -> Result<Vec<Option<u32>>, AllocError>
+    requires { length tasks.now ≤ 40000 }
     ensures { IfOk result (λ table. IsTable tasks.now table.items) }
 {
     let mut table = vec![in alloc; None; table_len(tasks)]?;
-    for i in (0..tasks.len()).rev() {
-        let task = tasks[i];
-        table[task.stop.number as usize] = Some(task);
+    for place in (0..tasks.len()).rev() {
+        table[tasks[place].stop.number as usize] = Some(place as u32);
     }
     Ok(table)
 }
 
-fn task_at(table: &[Option<Task>], number: u32) -> Option<Task>
-    ensures { result ≡ slice_index_or table.now number None }
+fn task_at<'a>(tasks: &'a [Task], table: &[Option<u32>], number: u32) -> Option<&'a Task>
+    requires { IsTable tasks.now table.now }
+    ensures { option_copied result ≡ find_task number tasks.now }
 {
-    table.get(number as usize).copied().flatten()
+    let place = entry_of(table, number)?;
+    tasks.get(place as usize)
 }
 
 // The first task that is no half of a pair.
-fn first_mismatched(tasks: &[Task], table: &[Option<Task>]) -> Option<Task>
+fn first_mismatched(tasks: &[Task], table: &[Option<u32>]) -> Option<Task>
     requires { IsTable tasks.now table.now }
     ensures { result ≡ find (is_mismatched tasks.now) tasks.now }
 {
@@ -83,18 +86,17 @@ fn first_mismatched(tasks: &[Task], table: &[Option<Task>]) -> Option<Task>
     None
 }
 
-fn is_mismatched(tasks: &[Task], table: &[Option<Task>], task: &Task) -> bool
+fn is_mismatched(tasks: &[Task], table: &[Option<u32>], task: &Task) -> bool
     requires { IsTable tasks.now table.now }
     ensures { result ≡ is_mismatched tasks.now task.now }
 {
-    let _ = tasks;
     match (task.pickup == 0, task.delivery == 0) {
-        (true, false) => match task_at(table, task.delivery) {
-            Some(delivery) => is_wrong_delivery(task, &delivery),
+        (true, false) => match task_at(tasks, table, task.delivery) {
+            Some(delivery) => is_wrong_delivery(task, delivery),
             None => true,
         },
-        (false, true) => match task_at(table, task.pickup) {
-            Some(pickup) => is_wrong_pickup(task, &pickup),
+        (false, true) => match task_at(tasks, table, task.pickup) {
+            Some(pickup) => is_wrong_pickup(task, pickup),
             None => true,
         },
         _ => true,
@@ -138,11 +140,7 @@ fn problem_without_requests(alloc: Global, header: Header, depot: &Task) -> Prob
 }
 
 // Adds a request for each pickup. The tasks are those of a text without faults.
-fn put_pairs(
-    problem: &mut Problem,
-    tasks: &[Task],
-    table: &[Option<Task>],
-) -> Result<(), AllocError>
+fn put_pairs(problem: &mut Problem, tasks: &[Task], table: &[Option<u32>]) -> Result<(), AllocError>
     requires empty { problem.old.requests ≡ [] }
     requires table { IsTable tasks.now table.now }
     requires valid { AllByRecursion IsCustomer tasks.now }
@@ -159,15 +157,14 @@ fn put_pairs(
 }
 
 // The request of a pickup and the delivery that it names.
-fn pair_of(tasks: &[Task], table: &[Option<Task>], task: &Task) -> Option<Request>
+fn pair_of(tasks: &[Task], table: &[Option<u32>], task: &Task) -> Option<Request>
     requires { IsTable tasks.now table.now }
     ensures { option_map (λ r. (task.now.stop.number, r)) result ≡ pair_of tasks.now task.now }
 {
-    let _ = tasks;
     if task.pickup != 0 {
         return None;
     }
-    let delivery = task_at(table, task.delivery)?;
+    let delivery = task_at(tasks, table, task.delivery)?;
     Some(Request::Pair(task.stop, delivery.stop))
 }
 

@@ -1,5 +1,5 @@
 //! The problem that a `.vrp` text spells, from what its lines say.
-ghost use Rattle.std.specs.Prelude.{◌≡◌, ◌<◌, ◌≤◌, ◌+◌, ◌-◌, IfOk, IfErr, OnOk, [], None, true, is_some, pos, slice_index_or};
+ghost use Rattle.std.specs.Prelude.{◌≡◌, ◌<◌, ◌≤◌, ◌+◌, ◌-◌, IfOk, IfErr, OnOk, [], true, is_some, pos};
 ghost use Rattle.plan_types.specs.Instance.{IsInstance, new_instance};
 ghost use Rattle.plan_types.specs.Limits.{IsDemand};
 ghost use Rattle.plan_types.specs.declared.requests.Kind.TheVariants.{Vrp};
@@ -9,6 +9,7 @@ ghost use Rattle.instance_read.specs.Drafts.{IsDraft, nodes_in};
 ghost use Rattle.instance_read.specs.VrpWalk.{customers_in, demand_at, drafted_problem, drafted_stop};
 
 use crate::ReadFault;
+use crate::entries::entry_of;
 use crate::put::put_request;
 use crate::vrp_draft::Draft;
 use plan_types::{Kind, Problem, Request, Stop};
@@ -76,10 +77,4 @@ fn node_stop(draft: &Draft, number: u32, demand: i32) -> Stop
         latest: LATEST,
         service: 0,
     }
-}
-
-fn entry_of<T: Copy>(table: &[Option<T>], number: u32) -> Option<T>
-    ensures { result ≡ slice_index_or table.now number None }
-{
-    table.get(number as usize).copied().flatten()
 }

@@ -3,8 +3,12 @@ use Rattle.std.specs.List.{AllByRecursion}
 use Rattle.plan_types.specs.Instance.{Instance, numbers_among}
 use Rattle.instance_read.specs.Pairs.{is_mismatched, last_number}
 use Rattle.plan_types.specs.declared.requests.Request.{Request}
-use Rattle.instance_read.proofs.PairLemmas.{none_found, next_small, next_above, finished}
+use Rattle.instance_read.proofs.PairLemmas.{few_tasks, none_found, next_small, next_above, finished}
 use Rattle.instance_read.proofs.pairs.pair_up.Goals as goal
+
+pub task_table-requires : goal.task_table-requires
+task_table-requires c =
+    omega (arith, few_tasks 0 c.args.customers.now (omega arith) c.requires.tasks.valid c.requires.tasks.rising)
 
 pub put_pairs-requires-clause-paired : goal.put_pairs-requires-clause-paired
 put_pairs-requires-clause-paired c =
