@@ -29,15 +29,15 @@ last_number-ref o d r ts last is =
     ∙ ap (λ p. (unwrap_or p d.now).stop.number) (last ∙ last_or-is ts) ∙ last_number-or d.now ts
 
 -- what a search finds stands at the place that it finds, where `at` gives the elements from the place k on
-found_cond : {X : Type 0} (at : ℕ → Option X) (k : ℕ) (x : X) (b : Bool) (place : Option ℕ) (found : Option X) → at k ≡ Some x → option_and_then at place ≡ found → option_and_then at (cond b (Some k) place) ≡ cond b (Some x) found
-found_cond at k x true place found here later = here
-found_cond at k x false place found here later = later
+place_cond : {X : Type 0} (at : ℕ → Option X) (k : ℕ) (x : X) (b : Bool) (place : Option ℕ) (found : Option X) → at k ≡ Some x → option_and_then at place ≡ found → option_and_then at (cond b (Some k) place) ≡ cond b (Some x) found
+place_cond at k x true place found here later = here
+place_cond at k x false place found here later = later
 
-found_from : {X : Type 0} (p : X → Bool) (at : ℕ → Option X) (k : ℕ) (xs : List X) → ((i : ℕ) → at (k + i) ≡ slice_get xs i) → option_and_then at (position_from p k xs) ≡ find p xs
-found_from p at k [] same = refl
-found_from p at k (x ∷ xs) same =
-    found_cond at k x (p x) (position_from p (k + 1) xs) (find p xs) (ap at (omega arith) ∙ same 0)
-    (found_from p at (k + 1) xs (λ i. ap at (omega arith) ∙ same (suc i)))
+place_from : {X : Type 0} (p : X → Bool) (at : ℕ → Option X) (k : ℕ) (xs : List X) → ((i : ℕ) → at (k + i) ≡ slice_get xs i) → option_and_then at (position_from p k xs) ≡ find p xs
+place_from p at k [] same = refl
+place_from p at k (x ∷ xs) same =
+    place_cond at k x (p x) (position_from p (k + 1) xs) (find p xs) (ap at (omega arith) ∙ same 0)
+    (place_from p at (k + 1) xs (λ i. ap at (omega arith) ∙ same (suc i)))
 
 -- what `get` gives
 pub slice_get-ref : {X : Type 0} (xs : List X) (i : ℕ) (o : Option (Bor X)) → is_some o ≡ ltb i (length xs) → IfSome o (λ x. x.now ≡ get_or xs i x.now) → option_copied o ≡ slice_get xs i
@@ -45,4 +45,4 @@ slice_get-ref xs i None there is = sym (slice_get_past xs i (ltb-false i (length
 slice_get-ref xs i (Some x) there is = sym (slice_get_read xs (length xs) i x.now refl (ltb-true i (length xs) (sym there)) is)
 
 pub find_task-place : (n : ℕ) (tasks : List Task) → option_and_then (slice_get tasks) (place_of n tasks) ≡ find_task n tasks
-find_task-place n tasks = found_from (λ t. t.stop.number == n) (slice_get tasks) 0 tasks (λ i. ap (slice_get tasks) (omega arith))
+find_task-place n tasks = place_from (λ t. t.stop.number == n) (slice_get tasks) 0 tasks (λ i. ap (slice_get tasks) (omega arith))
