@@ -140,6 +140,8 @@ fn problem_without_requests(alloc: Global, header: Header, depot: &Task) -> Prob
 }
 
 // Adds a request for each pickup. The tasks are those of a text without faults.
+// Apart from the loop over the lines, which then keeps its numbers in registers.
+#[inline(never)]
 fn put_pairs(problem: &mut Problem, tasks: &[Task], table: &[Option<u32>]) -> Result<(), AllocError>
     requires empty { problem.old.requests ≡ [] }
     requires table { IsTable tasks.now table.now }

@@ -14,6 +14,7 @@ pub fn make_room(problem: &mut Problem, requests: usize) -> Result<(), AllocErro
 }
 
 /// Adds a request that is within its limits and whose numbers are free.
+#[inline(always)]
 pub fn put_request(problem: &mut Problem, request: Request) -> Result<(), AllocError>
     requires valid { IsRequest request }
     requires free { ¬ IsTaken problem.old request }

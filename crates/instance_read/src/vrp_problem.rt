@@ -43,6 +43,8 @@ fn problem_without_customers(alloc: Global, draft: &Draft) -> Problem
     }
 }
 
+// Apart from the loop over the lines, which then keeps its numbers in registers.
+#[inline(never)]
 fn put_customers(problem: &mut Problem, draft: &Draft) -> Result<(), AllocError>
     requires draft { IsDraft draft.now }
     requires announced { is_some draft.now.nodes ≡ true }

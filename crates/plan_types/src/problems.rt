@@ -128,6 +128,8 @@ impl Problem {
     }
 
     /// Adds a request under its name, and raises `next_number` above its numbers. A refusal changes nothing.
+    // Inlined as far as the map, so that a request's fields need not pass through memory one by one.
+    #[inline(always)]
     pub fn put(&mut self, request: Request) -> Result<(), PutFault>
         ensures ok { OnOk result ((self.new ≡ with_request self.old request) × IsRequest request × ¬ IsTaken self.old request) }
         ensures range { IsErrOf result PutFault.Range ↔ ¬ IsRequest request }
@@ -226,6 +228,7 @@ fn make_room(located: &mut Vec<Option<Located>>, len: usize) -> Result<(), Alloc
 }
 
 // Puts the request between those of lesser and those of greater names.
+#[inline(always)]
 fn insert_by_name(requests: &mut IndexMap<u32, Request>, request: Request) -> Result<(), AllocError>
     requires rising { IsStrictlySortedBy nat_cmp (keys requests.old) }
     requires absent { get nat_eq requests.old (request_name request) ≡ None }
