@@ -5,12 +5,14 @@ Makes Li-Lim instances of 100 to 40,000 tasks and `.vrp` instances of 100 to 40,
 that passes, and runs `planner audit` on them. An audit with an empty solution, which is refused, reads the instance
 alone; its megabytes a second stand beside those of `wc -l` on the same file. The start of each process is measured by
 a run that has next to nothing to do, and is taken off. Where `bench_read` is built (by `rt run` in its folder), the
-reader's own rate, without the process and the file, is printed too.
+reader's own rate is printed too: of the fastest of many readings in one process, which keeps the memory of one for the
+next, so that neither the file nor the system's pages count.
 
     bench/audit_speed.py [lilim|vrp] [SIZE..]
 """
 
 import math
+import os
 import pathlib
 import random
 import subprocess
@@ -21,6 +23,8 @@ import time
 TOP = pathlib.Path(__file__).resolve().parent.parent
 PROGRAM = TOP / "crates" / "planner" / "out" / "planner"
 READER = TOP / "crates" / "bench_read" / "out" / "bench_read"
+# The C library's words for memory that is kept where it is given back.
+KEEPS_MEMORY = {"MALLOC_TRIM_THRESHOLD_": "1000000000", "MALLOC_MMAP_THRESHOLD_": "1000000000"}
 RUNS = 40
 SIZES = {"lilim": [100, 1000, 4000, 40000], "vrp": [100, 1000, 10000, 40000]}
 STOPS_PER_ROUTE = 20
@@ -92,12 +96,13 @@ def rate(size, seconds):
     return f"{size / seconds / 1e6:.0f} MB/s" if seconds > 5e-4 else "too short to say"
 
 
-def rate_in_memory(kind, path, size):
+def rate_by_itself(kind, path, size):
     """Megabytes a second of the reader alone, if its benchmark is built."""
     if not READER.exists():
         return ""
-    done = subprocess.run([READER, kind, path, str(RUNS)], stdout=subprocess.PIPE, text=True, check=True)
-    return f", in memory {rate(size, int(done.stdout.split()[0]) / 1e9)}"
+    words = [READER, kind, path, str(RUNS)]
+    done = subprocess.run(words, stdout=subprocess.PIPE, text=True, check=True, env={**os.environ, **KEEPS_MEMORY})
+    return f", by itself {rate(size, int(done.stdout.split()[0]) / 1e9)}"
 
 
 def measure(kind, make, sizes):
@@ -118,7 +123,7 @@ def measure(kind, make, sizes):
             read = max(least_seconds(words + [folder / "empty"], 2, "solution NoCost 1\n") - start, 1e-9)
             wc = max(least_seconds(["wc", "-l", folder / "instance"], 0, None) - start_wc, 1e-9)
             line = f"{size:>6} stops, {len(text) / 1e6:.3f} MB: read in {read:.6f} s, {rate(len(text), read)}"
-            line += rate_in_memory(kind, folder / "instance", len(text))
+            line += rate_by_itself(kind, folder / "instance", len(text))
             line += f" (wc -l {wc:.6f} s, {rate(len(text), wc)}), audited in {audit:.6f} s, {audit / size * 1e9:.0f} ns a stop"
             if before is not None and before[1] > 1e-4:
                 line += f", {audit / before[1]:.1f} times the time for {size / before[0]:.1f} times the stops"
