@@ -3,6 +3,7 @@ use Rattle.std.proofs.Common.{◌≡◌, ℕ, suc, ◌+◌, ◌<◌, ◌≤◌, 
 use Rattle.std.specs.List.{AllByRecursion}
 use Rattle.std.proofs.lemmas.Bool.Decides.{eqb_tells}
 use Rattle.plan_types.specs.Instance.{Instance, IsInstance}
+use Rattle.plan_types.specs.Laws.{RequestsStandByName}
 use Rattle.plan_types.specs.Request.{stops_of}
 use Rattle.plan_types.specs.declared.plans.Cost.{Cost}
 use Rattle.plan_types.specs.declared.requests.Request.{Request}
@@ -60,8 +61,8 @@ no_pin_off routes pins kept = by (first_off_pin routes pins) refl
         let t = kept (suc f.route) (suc f.place) f.stop (b.0, b.1, b.2) in
         absurd (b.3 (ap (λ (o : Option (List ℕ)). item_at (unwrap_or o []) (suc f.place)) t.1 ∙ t.2))
 
-pub plans_pass_where_sound : PlansPassWhereSound
-plans_pass_where_sound p routes pins v valid is = (
+pub plans_pass_where_sound : RequestsStandByName → PlansPassWhereSound
+plans_pass_where_sound by_name p routes pins v valid is = (
   λ passed. (
       let kept = kept_from p (planned routes pins) v (cost_of p routes) passed is in (
         sound_from p (planned routes pins) valid (fewer p (planned routes pins) kept),
@@ -70,7 +71,7 @@ plans_pass_where_sound p routes pins v valid is = (
       )),
   λ good. (
       passes p (planned routes pins) v
-      (planned_step p routes pins (keeps_from p valid (planned routes pins) good.0 (keeps_partners p valid (planned routes pins) good.0)) good.1 (no_pin_off routes pins good.2)) is),
+      (planned_step p routes pins (keeps_from by_name p valid (planned routes pins) good.0 (keeps_partners by_name p valid (planned routes pins) good.0)) good.1 (no_pin_off routes pins good.2)) is),
 )
   where
     in_number : KeepsRules 1 11 p (planned routes pins) → ((eqb (length routes) p.fleet ≡ true) × (length routes ≡ p.fleet)) ⊎ ((eqb (length routes) p.fleet ≡ false) × (length routes ≡ p.fleet → ⊥)) → length routes ≡ p.fleet
@@ -107,9 +108,9 @@ module _ (p : Instance) (routes : List (List ℕ)) (cost : ℕ) (valid : IsInsta
     | inr free ↦ absurd (kept Missing 0 0 name (omega arith) (omega arith) (inr ((refl, refl), not_planned p routes name request at free)))
   ]
 
-  serves_all : IsSoundPlan p routes → AreAllPlanned p routes → Keeps p (printed routes cost) Missing
-  serves_all sound all r i n b = elim b [
-    | inl a ↦ keeps_partners p valid (printed routes cost) sound r i n a
+  serves_all : RequestsStandByName → IsSoundPlan p routes → AreAllPlanned p routes → Keeps p (printed routes cost) Missing
+  serves_all by_name sound all r i n b = elim b [
+    | inl a ↦ keeps_partners by_name p valid (printed routes cost) sound r i n a
     | inr u ↦ is_planned p routes all n u.1
   ]
 
@@ -133,8 +134,8 @@ module _ (p : Instance) (routes : List (List ℕ)) (cost : ℕ) (valid : IsInsta
     | inr t ↦ absurd (kept PrintedCost 0 0 0 (omega arith) (omega arith) ((refl, refl), refl, t.1))
   ]
 
-pub solutions_pass_where_sound : SolutionsPassWhereSound
-solutions_pass_where_sound p routes cost v valid is = (
+pub solutions_pass_where_sound : RequestsStandByName → SolutionsPassWhereSound
+solutions_pass_where_sound by_name p routes cost v valid is = (
   λ passed. (
       let kept = kept_from p (printed routes cost) v (cost_of p routes) passed is in (
         sound_from p (printed routes cost) valid (fewer p (printed routes cost) kept),
@@ -144,7 +145,7 @@ solutions_pass_where_sound p routes cost v valid is = (
       )),
   λ good. (
       passes p (printed routes cost) v
-      (pass_step p routes cost (keeps_from p valid (printed routes cost) good.0 (serves_all p routes cost valid good.0 good.1)) (none_beyond p routes cost valid good.2) good.3) is),
+      (pass_step p routes cost (keeps_from by_name p valid (printed routes cost) good.0 (serves_all p routes cost valid by_name good.0 good.1)) (none_beyond p routes cost valid good.2) good.3) is),
 )
 
 -- what stands in the only route stands in the plan

@@ -1,23 +1,21 @@
 -- What is known of the request that has a stop.
-use Rattle.std.proofs.Common.{◌≡◌, ℕ, zero, suc, ◌+◌, ◌<◌, Bool, cond, List, [], ◌∷◌, drop, slice_get, Option, Some, None, IfSome, refl, sym, ap, ◌∙◌, add-one, Bor}
-use Rattle.std.specs.List.{AllByRecursion}
+use Rattle.std.proofs.Common.{◌≡◌, ℕ, zero, suc, ◌+◌, Bool, cond, List, [], ◌∷◌, drop, slice_get, Option, Some, None, IfSome, refl, sym, ap, ◌∙◌, add-one, Bor}
 use Rattle.std.specs.Option.{option_copied, option_and_then, option_or}
 use Rattle.plan_audit.specs.Passes.{is_served, unserved_in, first_unserved}
 use Rattle.plan_audit.proofs.FirstLemmas.{none_some}
 use Rattle.plan_types.specs.Instance.{Instance, IsInstance, request_with}
-use Rattle.plan_types.specs.Request.{stops_of}
+use Rattle.plan_types.specs.Laws.{IsBelowNext, RequestsAreBelowNext, FoundAreBelowNext}
 use Rattle.plan_types.specs.declared.requests.Request.{Request}
-use Rattle.plan_types.proofs.CallerLemmas.{numbers-below, entry-below}
 
-pub found-below : (p : Instance) (n : ℕ) (o : Option (Bor Request)) → IsInstance p → option_copied o ≡ request_with p n → IfSome o (λ r. AllByRecursion (λ s. s.number < p.next_number) (stops_of r.now))
-found-below p n None valid is = tt
-found-below p n (Some r) valid is = numbers-below p n r.now valid (sym is)
+pub found-below : FoundAreBelowNext → (p : Instance) (n : ℕ) (o : Option (Bor Request)) → IsInstance p → option_copied o ≡ request_with p n → IfSome o (λ r. IsBelowNext p r.now)
+found-below below p n None valid is = tt
+found-below below p n (Some r) valid is = below p n r.now valid (sym is)
 
 -- what is answered of the request at an index
-pub unserved_is : (p : Instance) (routes : List (List ℕ)) (k n : ℕ) (r : Request) (b : Bool) → IsInstance p → slice_get p.requests k ≡ Some (n, r) → (AllByRecursion (λ s. s.number < p.next_number) (stops_of r) → b ≡ is_served routes r)
+pub unserved_is : RequestsAreBelowNext → (p : Instance) (routes : List (List ℕ)) (k n : ℕ) (r : Request) (b : Bool) → IsInstance p → slice_get p.requests k ≡ Some (n, r) → (IsBelowNext p r → b ≡ is_served routes r)
     → cond b None (Some n) ≡ option_and_then (unserved_in routes) (slice_get p.requests k)
-unserved_is p routes k n r b valid at served =
-    ap (λ c. cond c None (Some n)) (served (entry-below p k (n, r) valid at)) ∙ sym (ap (option_and_then (unserved_in routes)) at)
+unserved_is below p routes k n r b valid at served =
+    ap (λ c. cond c None (Some n)) (served (below p k n r valid at)) ∙ sym (ap (option_and_then (unserved_in routes)) at)
 
 -- the requests from index k on
 pub unserved_here : (routes : List (List ℕ)) (es : List (ℕ × Request)) (k n : ℕ) → option_and_then (unserved_in routes) (slice_get es k) ≡ Some n → first_unserved routes (drop k es) ≡ Some n

@@ -1,12 +1,12 @@
 -- Plans whose stops are all known and stand once each.
-use Rattle.std.proofs.Common.{◌≡◌, ℕ, zero, suc, ◌<◌, true, false, List, [], ◌∷◌, ◌++◌, All, Option, Some, None, IsSome, slice_get, refl, sym, ap, ◌∙◌, inl, inr, arith, nat_eq}
+use Rattle.std.proofs.Common.{◌≡◌, ℕ, zero, suc, ◌<◌, false, List, [], ◌∷◌, ◌++◌, All, Option, Some, None, IsSome, slice_get, refl, sym, ap, ◌∙◌, inl, inr, arith, nat_eq}
 use Rattle.std.specs.List.{AllByRecursion, IsDistinct, concat}
 use Rattle.std.proofs.lemmas.Bool.{cases_lt}
 use Rattle.std.proofs.lemmas.Bool.Decides.{eqb_tells}
 use Rattle.std.proofs.lemmas.List.Elements.{All-from_recursion}
 use Rattle.plan_types.specs.Instance.{Instance, IsInstance, stop_at}
+use Rattle.plan_types.specs.Laws.{StopsAreBelowNext}
 use Rattle.plan_types.specs.declared.requests.Stop.{Stop}
-use Rattle.plan_types.proofs.CallerLemmas.{stop_at-below}
 use Rattle.route_sched.specs.Route.{IsLive, AreLiveOnce, IsPlan}
 use Rattle.plan_audit.specs.Rules.{IsUnknown, IsRepeated}
 use Rattle.plan_audit.proofs.SeatLemmas.{Sits}
@@ -67,14 +67,10 @@ module _ (p : Instance) (routes : List (List ℕ)) (known : (r i n : ℕ) → Is
       by None e = absurd (known (suc r) (suc i) n (sits, e))
 
   -- so every number is below the next
-  pub known_below : IsInstance p → All (λ route. All (λ n. n < p.next_number) route) routes
-  known_below valid =
+  pub known_below : StopsAreBelowNext → IsInstance p → All (λ route. All (λ n. n < p.next_number) route) routes
+  known_below stops_below valid =
       All-from_recursion (λ route. All (λ n. n < p.next_number) route) routes (all_by_get (λ route. All (λ n. n < p.next_number) route) routes (λ r route at.
-      All-from_recursion (λ n. n < p.next_number) route (all_by_get (λ n. n < p.next_number) route (λ i n on. below n (stop_at p n) refl (live-at r i n (route, at, on))))))
-    where
-      below : (n : ℕ) (o : Option Stop) → stop_at p n ≡ o → IsSome o → n < p.next_number
-      below n (Some s) e some = stop_at-below p n s valid e
-      below n None e some = absurd (let g : false ≡ true = some in cc)
+      All-from_recursion (λ n. n < p.next_number) route (all_by_get (λ n. n < p.next_number) route (λ i n on. stops_below p n valid (live-at r i n (route, at, on))))))
 
   live_in : AllByRecursion (AllByRecursion (IsLive p)) routes
   live_in = all_by_get (AllByRecursion (IsLive p)) routes (λ r route at. all_by_get (IsLive p) route (λ i n on. live-at r i n (route, at, on)))

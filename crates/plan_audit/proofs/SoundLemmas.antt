@@ -7,8 +7,8 @@ use Rattle.std.proofs.lemmas.Bool.Decides.{eqb_tells}
 use Rattle.std.proofs.lemmas.Int.{by_lt_z, ints}
 use Rattle.std.proofs.lemmas.List.Sums.{fold_push}
 use Rattle.std.proofs.lemmas.List.FromFn.{map-range_with_len_more}
-use Rattle.plan_types.proofs.LookupLemmas.{lookup-request_with}
 use Rattle.plan_types.specs.Instance.{Instance, IsInstance, stop_at, partner_at, request_with, first_some}
+use Rattle.plan_types.specs.Laws.{RequestsStandByName}
 use Rattle.plan_types.specs.Request.{request_name, stop_in, partner_in}
 use Rattle.plan_types.specs.declared.requests.Stop.{Stop}
 use Rattle.plan_types.specs.declared.requests.Request.{Request}
@@ -175,7 +175,7 @@ first_request n (e ∷ es) s is = by (stop_in n e.1) refl (λ h. first_request n
         let later = rest (sym (ap (λ (o : Option Stop). option_or o (first_some (stop_in n) es)) at) ∙ is) in
         (later.0, ap (λ (o : Option Stop). option_or (option_map (λ _. e.1) o) (first_some (λ r. option_map (λ _. r) (stop_in n r)) es)) at ∙ later.1, later.2)
 
-module _ (p : Instance) (valid : IsInstance p) where
+module _ (by_name : RequestsStandByName) (p : Instance) (valid : IsInstance p) where
   pair_of : (n m : ℕ) → partner_at p n ≡ Some m → (a : Stop) × (b : Stop) × IsPairOf p n m a b
   unfolding IsPairOf
   pair_of n m is = by (request_with p n) refl is
@@ -184,9 +184,9 @@ module _ (p : Instance) (valid : IsInstance p) where
       by None e told = absurd (none_some m told)
       by (Some (Single s)) e told = absurd (none_some m told)
       by (Some (Pair a b)) e told = elim (eqb_tells a.number n) [
-        | inl t ↦ (a, b, (lookup-request_with p n (Pair a b) valid e, inl (t.1, some_same _ _ (let h : cond (eqb a.number n) (Some b.number) (cond (eqb b.number n) (Some a.number) None) ≡ Some m = told in rw (t.0) at h))))
+        | inl t ↦ (a, b, (by_name p n (Pair a b) valid e, inl (t.1, some_same _ _ (let h : cond (eqb a.number n) (Some b.number) (cond (eqb b.number n) (Some a.number) None) ≡ Some m = told in rw (t.0) at h))))
         | inr t ↦ elim (eqb_tells b.number n) [
-          | inl u ↦ (a, b, (lookup-request_with p n (Pair a b) valid e, inr (u.1, some_same _ _ (let h : cond (eqb a.number n) (Some b.number) (cond (eqb b.number n) (Some a.number) None) ≡ Some m = told in rw (t.0, u.0) at h))))
+          | inl u ↦ (a, b, (by_name p n (Pair a b) valid e, inr (u.1, some_same _ _ (let h : cond (eqb a.number n) (Some b.number) (cond (eqb b.number n) (Some a.number) None) ≡ Some m = told in rw (t.0, u.0) at h))))
           | inr u ↦ absurd (none_some m (let h : cond (eqb a.number n) (Some b.number) (cond (eqb b.number n) (Some a.number) None) ≡ Some m = told in rw (t.0, u.0) at h))
         ]
       ]
@@ -200,7 +200,7 @@ module _ (p : Instance) (valid : IsInstance p) where
       by (Some (Pair a b)) e told = elim (eqb_tells a.number n) [
         | inl t ↦ absurd (none_some m (let h : cond (eqb a.number n) None (cond (eqb b.number n) (Some a.number) None) ≡ Some m = told in rw (t.0) at h))
         | inr t ↦ elim (eqb_tells b.number n) [
-          | inl u ↦ (a, b, lookup-request_with p n (Pair a b) valid e, u.1, some_same _ _ (let h : cond (eqb a.number n) None (cond (eqb b.number n) (Some a.number) None) ≡ Some m = told in rw (t.0, u.0) at h))
+          | inl u ↦ (a, b, by_name p n (Pair a b) valid e, u.1, some_same _ _ (let h : cond (eqb a.number n) None (cond (eqb b.number n) (Some a.number) None) ≡ Some m = told in rw (t.0, u.0) at h))
           | inr u ↦ absurd (none_some m (let h : cond (eqb a.number n) None (cond (eqb b.number n) (Some a.number) None) ≡ Some m = told in rw (t.0, u.0) at h))
         ]
       ]
@@ -210,17 +210,17 @@ module _ (p : Instance) (valid : IsInstance p) where
   request_of n is = by (stop_at p n) refl is
     where
       by : (o : Option Stop) → stop_at p n ≡ o → IsSome o → (r : Request) × IsNamed p (request_name r) r × HasStop n r
-      by (Some s) e some = let f = first_request n p.requests s e in (f.0, lookup-request_with p n f.0 valid f.1, f.2)
+      by (Some s) e some = let f = first_request n p.requests s e in (f.0, by_name p n f.0 valid f.1, f.2)
       by None e some = absurd (let g : false ≡ true = some in cc)
 
 z_apart : (a b : ℤ) → a <ℤ b → b ≤ℤ a → ⊥
 z_apart a b lt le = omega (arith, ints)
 
 -- a sound plan keeps the rules
-module _ (p : Instance) (valid : IsInstance p) (s : Subject) (sound : IsSoundPlan p (routes_of s)) where
+module _ (by_name : RequestsStandByName) (p : Instance) (valid : IsInstance p) (s : Subject) (sound : IsSoundPlan p (routes_of s)) where
   -- a stop that stands has one place
   one_place : (r i n : ℕ) → Stands (routes_of s) r i n → (q : ℕ) × (j : ℕ) × StandsOnce (routes_of s) q j n
-  one_place r i n t = let f = request_of p valid n (sound.live r i n t) in by f.0 f.1 f.2
+  one_place r i n t = let f = request_of by_name p valid n (sound.live r i n t) in by f.0 f.1 f.2
     where
       by : (q : Request) → IsNamed p (request_name q) q → HasStop n q → (q : ℕ) × (j : ℕ) × StandsOnce (routes_of s) q j n
       by (Single a) at has =
@@ -244,7 +244,7 @@ module _ (p : Instance) (valid : IsInstance p) (s : Subject) (sound : IsSoundPla
   keeps_missing : (r i n : ℕ) → IsMissing p (routes_of s) r i n → ⊥
   unfolding IsPairOf
   keeps_missing r i n b =
-      let pair = pair_of p valid b.0 n b.2 in
+      let pair = pair_of by_name p valid b.0 n b.2 in
       let x = pair.0 in let y = pair.1 in
       elim pair.2.1 [
         | inl e ↦ (
@@ -259,7 +259,7 @@ module _ (p : Instance) (valid : IsInstance p) (s : Subject) (sound : IsSoundPla
   unfolding IsPairOf
   keeps_whole r i n b =
       let m = b.1.0 in let q = b.1.2.0 in let j = b.1.2.1 in
-      let pair = pair_of p valid n m b.1.1 in
+      let pair = pair_of by_name p valid n m b.1.1 in
       let x = pair.0 in let y = pair.1 in
       elim pair.2.1 [
         | inl e ↦ (
@@ -277,7 +277,7 @@ module _ (p : Instance) (valid : IsInstance p) (s : Subject) (sound : IsSoundPla
   keeps_order : (r i n : ℕ) → IsDeliveredFirst p (routes_of s) r i n → ⊥
   keeps_order r i n b =
       let m = b.1.0 in let j = b.1.2.0 in
-      let pair = pickup_pair p valid n m b.1.1 in
+      let pair = pickup_pair by_name p valid n m b.1.1 in
       let x = pair.0 in let y = pair.1 in
       let here : Stands (routes_of s) r i y.number = subst (λ k. Stands (routes_of s) r i k) (sym pair.3) b.0 in
       let there : Stands (routes_of s) r j x.number = subst (λ k. Stands (routes_of s) r j k) (sym pair.4) b.1.2.2 in

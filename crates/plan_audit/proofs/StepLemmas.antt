@@ -1,6 +1,7 @@
 -- What each step of the audit has shown.
 use Rattle.std.proofs.Common.{◌≡◌, ℕ, suc, ◌+◌, ◌<◌, ◌≤◌, All, Option, Some, None, List, length, take, refl, sym, subst, ◌∙◌, arith, ◌≢◌, inl, inr, add-one}
 use Rattle.plan_types.specs.Instance.{Instance, IsInstance}
+use Rattle.plan_types.specs.Laws.{StopsAreBelowNext}
 use Rattle.plan_types.specs.declared.requests.Kind.TheVariants.{LiLim, Vrp}
 use Rattle.route_sched.specs.Route.{AreLiveOnce, IsPlan}
 use Rattle.plan_audit.specs.Rules.{IsNotAfter, IsUnknown, IsRepeated, IsMissing, IsSplit, IsDeliveredFirst, IsOverloaded, IsLate, IsLateReturn}
@@ -55,8 +56,8 @@ module _ (p : Instance) (routes : List (List ℕ)) where
   whole : NoneRepeated → NoneSplit → (r i n : ℕ) → IsSplit p routes r i n → ⊥
   whole b d = rule_nothing (IsSplit p routes) _ routes (split_rule p routes (once b)) d
 
-  pub below_from : IsInstance p → NoneUnknown → All (λ route. All (λ n. n < p.next_number) route) routes
-  below_from valid a = known_below p routes (known a) valid
+  pub below_from : StopsAreBelowNext → IsInstance p → NoneUnknown → All (λ route. All (λ n. n < p.next_number) route) routes
+  below_from stops_below valid a = known_below p routes (known a) stops_below valid
 
   pub live_where : NoneUnknown → NoneRepeated → All (AreLiveOnce p) routes
   live_where a b = live_routes p routes (known a) (once b)

@@ -11,7 +11,7 @@ use crate::rules::{Rule, Verdict};
 use crate::scan::Scan;
 use crate::seats::seats;
 use crate::timing::{first_late, first_late_return, first_overload};
-use plan_types::{Kind, OutOfMemory, Pins, Plan, Problem, Route};
+use plan_types::{Kind, OutOfMemory, Pins, Plan, Problem, Route, numbers_are_below_the_next};
 use route_sched::plan_cost;
 use sol_text::Solution;
 use std::alloc::Global;
@@ -97,6 +97,8 @@ fn misplaced(scan: &Scan, unserved: Option<u32>) -> Option<Verdict>
     if let Some(fault) = scan.first_unknown() {
         return Some(Rule::UnknownStop.broken_at(fault));
     }
+    // The stops are known from here on, and so their numbers are below the next one.
+    numbers_are_below_the_next();
     if let Some(fault) = scan.first_repeated() {
         return Some(Rule::Twice.broken_at(fault));
     }

@@ -1,6 +1,8 @@
 // Laws of the verdict, each for every problem, plan and verdict: what it means to a dispatcher.
 ghost use Rattle.plan_audit.specs.Laws.{PassesAreSound, PassesArePlans, UnsoundIsBroken, PlansPassWhereSound, SolutionsPassWhereSound, RoutesAreFeasible};
 
+use plan_types::requests_stand_by_name;
+
 /// What passes is sound: each request that is planned is served once, by one vehicle, the pickup before the delivery; no vehicle carries
 /// more than it can; with time windows, each service starts within its window and each vehicle is back in time.
 pub fn a_passing_plan_is_sound()
@@ -20,13 +22,17 @@ pub fn an_unsound_plan_does_not_pass()
 /// A plan passes exactly where it is sound, has a route for each vehicle, and each route begins with its pin.
 pub fn plans_pass_where_they_are_sound()
     ensures { PlansPassWhereSound }
-{}
+{
+    requests_stand_by_name();
+}
 
 /// A printed solution passes exactly where it is sound, plans every request, uses no more vehicles than there are, and its printed cost
 /// is the distance driven.
 pub fn solutions_pass_where_they_are_sound()
     ensures { SolutionsPassWhereSound }
-{}
+{
+    requests_stand_by_name();
+}
 
 /// Where the rules 3 to 8 are kept, each route is feasible alone.
 pub fn routes_that_pass_are_feasible_alone()

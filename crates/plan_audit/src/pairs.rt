@@ -1,15 +1,14 @@
 //! The pair that a stop belongs to.
 ghost use Rattle.std.specs.Prelude.{◌≡◌, ℕ, ◌<◌, List, Option, IfSome};
-ghost use Rattle.std.specs.List.{AllByRecursion};
-ghost use Rattle.plan_types.specs.Request.{stops_of};
 ghost use Rattle.std.specs.Option.{option_copied};
 ghost use Rattle.plan_types.specs.Instance.{partner_at, request_with};
+ghost use Rattle.plan_types.specs.Laws.{IsBelowNext};
 ghost use Rattle.plan_audit.specs.Rules.{pickup_at};
 ghost use Rattle.plan_audit.specs.Passes.{seat_of, missing_at, delivered_at};
 ghost use Rattle.plan_audit.specs.declared.seats.Seat.{Seat};
 
 use crate::seats::Seat;
-use plan_types::{Problem, Request};
+use plan_types::{Problem, Request, numbers_are_below_the_next};
 
 /// The other stop of the stop's pair, where `seat` finds no seat for it.
 pub(crate) fn missing_partner<F: Fn(u32) -> Option<Seat>>(
@@ -76,7 +75,8 @@ pub(crate) fn pickup(problem: &Problem, stop: u32) -> Option<u32>
 /// The request that has the stop.
 fn request_of(problem: &Problem, stop: u32) -> Option<&Request>
     ensures found { option_copied result ≡ request_with problem.now stop }
-    ensures below { IfSome result (λ r. AllByRecursion (λ s. s.number < problem.now.next_number) (stops_of r.now)) }
+    ensures below { IfSome result (λ r. IsBelowNext problem.now r.now) }
 {
+    numbers_are_below_the_next();
     problem.requests.get(&problem.name_of(stop)?)
 }

@@ -2,13 +2,12 @@
 ghost use Rattle.std.specs.Prelude.{◌≡◌, ℕ, ◌^◌, ◌+◌, ◌<◌, ◌≤◌, length, List, None, Option, All, IfSome, slice_index_or, slice_get};
 ghost use Rattle.std.specs.Option.{option_and_then};
 ghost use Rattle.plan_audit.specs.Passes.{first_place, first_route, told_by, is_served, first_unserved, unserved_in, seat_of, unknown_at, repeated_at, missing_at, split_at, delivered_at};
-ghost use Rattle.std.specs.List.{AllByRecursion};
-ghost use Rattle.plan_types.specs.Request.{stops_of};
+ghost use Rattle.plan_types.specs.Laws.{IsBelowNext};
 
 use crate::faults::{Fault, Told, first_fault, first_place};
 use crate::pairs::{early_delivery, missing_partner, partner};
 use crate::seats::Seat;
-use plan_types::{Problem, Request, Route};
+use plan_types::{Problem, Request, Route, numbers_are_below_the_next};
 
 /// A plan under audit, with the first seat of each stop number.
 #[derive(Drop)]
@@ -91,6 +90,7 @@ impl Scan<'_> {
     fn unserved_at(&self, index: usize) -> Option<u32>
         ensures { result ≡ option_and_then (unserved_in self.now.routes.now) (slice_get self.now.problem.now.requests index) }
     {
+        numbers_are_below_the_next();
         let problem = self.problem;
         let (name, request) = problem.requests.get_index(index)?;
         if self.is_served(request) {
@@ -101,7 +101,7 @@ impl Scan<'_> {
     }
 
     fn is_served(&self, request: &Request) -> bool
-        ensures { AllByRecursion (λ s. s.number < self.now.problem.now.next_number) (stops_of request.now) → result ≡ is_served self.now.routes.now request.now }
+        ensures { IsBelowNext self.now.problem.now request.now → result ≡ is_served self.now.routes.now request.now }
     {
         match request {
             Request::Single(stop) => self.seat(stop.number).is_some(),

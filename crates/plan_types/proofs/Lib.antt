@@ -1,4 +1,4 @@
-pub mod CallerLemmas
 pub mod InsertLemmas
 pub mod InstanceLemmas
+pub mod LawProofs
 pub mod LookupLemmas

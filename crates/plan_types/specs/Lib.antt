@@ -1,4 +1,5 @@
 pub mod Instance
+pub mod Laws
 pub mod Limits
 pub mod Located
 pub mod Request

@@ -1,11 +1,13 @@
 //! The data of pickup and delivery and of capacitated routing: stops, requests, problems, plans, pins and costs.
 #![tactic(auto)]
 
+mod laws;
 pub mod limits;
 mod plans;
 mod problems;
 mod requests;
 
+pub use laws::{numbers_are_below_the_next, requests_stand_by_name};
 pub use plans::{Cost, Pins, Plan, Route, Routes};
 pub use problems::{Problem, PutFault};
 pub use requests::{Kind, Request, Stop};

@@ -6,7 +6,7 @@ pub returns-in-Some-clause-least : goal.returns-in-Some-clause-least
 returns-in-Some-clause-least c = λ s is asked. unknown_step c.args.scan.now.problem.now c.args.scan.now.routes.now c.requires s is c.args.unserved asked c.in-Some.fault _ c.broken_at.ensures (sym c.in-Some.ensures.told)
 
 pub first_repeated-requires : goal.first_repeated-requires
-first_repeated-requires c = below_from c.args.scan.now.problem.now c.args.scan.now.routes.now c.requires (sym c.in_default.ensures.told)
+first_repeated-requires c = below_from c.args.scan.now.problem.now c.args.scan.now.routes.now c.numbers_are_below_the_next.ensures.stops c.requires (sym c.in_default.ensures.told)
 
 pub returns-in-Some-first_repeated-clause-least : goal.returns-in-Some-first_repeated-clause-least
 returns-in-Some-first_repeated-clause-least c = λ s is asked. repeated_step c.args.scan.now.problem.now c.args.scan.now.routes.now c.requires s is c.args.unserved asked (sym c.in_default.ensures.told) c.in-Some-first_repeated.fault _ c.broken_at-in-Some-first_repeated.ensures (sym c.in-Some-first_repeated.ensures.told)

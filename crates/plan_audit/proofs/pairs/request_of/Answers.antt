@@ -7,4 +7,4 @@ use Rattle.plan_audit.proofs.pairs.request_of.Goals as goal
 pub returns-clause-below : goal.returns-clause-below
 returns-clause-below c =
     let found : option_copied c.get.result ≡ request_with c.args.problem.now c.args.stop = search rules in
-    found-below c.args.problem.now c.args.stop c.get.result c.in_ok-name_of.ensures.valid found
+    found-below c.numbers_are_below_the_next.ensures.found c.args.problem.now c.args.stop c.get.result c.in_ok-name_of.ensures.valid found

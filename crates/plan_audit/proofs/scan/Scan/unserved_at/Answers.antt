@@ -14,10 +14,10 @@ pub returns-then-is_served : goal.returns-then-is_served
 returns-then-is_served c =
     let d = (goal.at.returns-then-is_served c).After-is_served in
     ap (λ b. cond b None (Some c.in_ok-name.name.now)) (sym c.if-is_served.true)
-    ∙ unserved_is c.args.self.now.problem.now c.args.self.now.routes.now c.args.index c.in_ok-name.name.now c.in_ok-name.request.now c.is_served.result (valid d) (here d) c.is_served.ensures
+    ∙ unserved_is c.numbers_are_below_the_next.ensures.requests c.args.self.now.problem.now c.args.self.now.routes.now c.args.index c.in_ok-name.name.now c.in_ok-name.request.now c.is_served.result (valid d) (here d) c.is_served.ensures
 
 pub returns-else-is_served : goal.returns-else-is_served
 returns-else-is_served c =
     let d = (goal.at.returns-else-is_served c).After-is_served in
     ap (λ b. cond b None (Some c.in_ok-name.name.now)) (sym c.if-is_served.false)
-    ∙ unserved_is c.args.self.now.problem.now c.args.self.now.routes.now c.args.index c.in_ok-name.name.now c.in_ok-name.request.now c.is_served.result (valid d) (here d) c.is_served.ensures
+    ∙ unserved_is c.numbers_are_below_the_next.ensures.requests c.args.self.now.problem.now c.args.self.now.routes.now c.args.index c.in_ok-name.name.now c.in_ok-name.request.now c.is_served.result (valid d) (here d) c.is_served.ensures
