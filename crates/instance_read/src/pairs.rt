@@ -11,7 +11,7 @@ ghost use Rattle.instance_read.specs.Pairs.{find_task, is_mismatched, is_uneven,
 ghost use Rattle.instance_read.specs.Tables.{ArePaired, AreTasks, HeaderKeepsLimits, IsCustomer, IsTable, RisesFrom, TellsMismatch, problem_with};
 
 use crate::entries::entry_of;
-use crate::put::{make_room, put_request};
+use crate::put::put_request;
 use crate::tasks::{Header, Task};
 use crate::{ReadFault, ReadFaultKind};
 use plan_types::{Kind, Problem, PutFault, Request, Stop};
@@ -150,7 +150,8 @@ fn put_pairs(problem: &mut Problem, tasks: &[Task], table: &[Option<u32>]) -> Re
     requires paired { ArePaired tasks.now }
     ensures { OnOk result (problem.new ≡ record problem.old { requests = pairs_of tasks.now; next_number = problem.new.next_number }) }
 {
-    make_room(problem, tasks.len() / 2)?;
+    // With room for all, none that is there has to be moved.
+    problem.requests.reserve(tasks.len() / 2)?;
     for task in tasks {
         if let Some(request) = pair_of(tasks, table, task) {
             put_request(problem, request)?;

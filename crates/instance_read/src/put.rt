@@ -6,13 +6,6 @@ ghost use Rattle.plan_types.specs.Request.{IsRequest};
 use plan_types::{Problem, PutFault, Request};
 use std::alloc::AllocError;
 
-/// Makes room for so many more requests, so that putting them moves none that is there.
-pub fn make_room(problem: &mut Problem, requests: usize) -> Result<(), AllocError>
-    ensures { problem.new ≡ problem.old }
-{
-    problem.requests.reserve(requests)
-}
-
 /// Adds a request that is within its limits and whose numbers are free.
 #[inline(always)]
 pub fn put_request(problem: &mut Problem, request: Request) -> Result<(), AllocError>

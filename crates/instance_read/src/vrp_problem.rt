@@ -10,7 +10,7 @@ ghost use Rattle.instance_read.specs.VrpWalk.{customers_in, demand_at, drafted_p
 
 use crate::ReadFault;
 use crate::entries::entry_of;
-use crate::put::{make_room, put_request};
+use crate::put::put_request;
 use crate::vrp_draft::Draft;
 use plan_types::{Kind, Problem, Request, Stop};
 use std::alloc::{AllocError, Global};
@@ -52,7 +52,8 @@ fn put_customers(problem: &mut Problem, draft: &Draft) -> Result<(), AllocError>
     requires next { problem.old.next_number ≡ 1 }
     ensures { OnOk result (problem.new ≡ record problem.old { requests = customers_in draft.now (nodes_in draft.now - 1); next_number = nodes_in draft.now }) }
 {
-    make_room(problem, draft.node_count() as usize - 1)?;
+    // With room for all, none that is there has to be moved.
+    problem.requests.reserve(draft.node_count() as usize - 1)?;
     for number in 1..draft.node_count() {
         put_request(problem, customer(draft, number))?;
     }
