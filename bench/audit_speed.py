@@ -102,7 +102,7 @@ def rate_by_itself(kind, path, size):
         return ""
     words = [READER, kind, path, str(RUNS)]
     done = subprocess.run(words, stdout=subprocess.PIPE, text=True, check=True, env={**os.environ, **KEEPS_MEMORY})
-    return f", by itself {rate(size, int(done.stdout.split()[0]) / 1e9)}"
+    return f", by itself {size / int(done.stdout.split()[0]) * 1e3:.0f} MB/s"
 
 
 def measure(kind, make, sizes):
