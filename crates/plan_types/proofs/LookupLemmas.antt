@@ -95,15 +95,6 @@ stop_at-free p (Pair a b) n s free is =
     chosen a.number n a _ (λ _. stop_at p n ≡ None) s (λ e. subst (λ m. stop_at p m ≡ None) e (none_from_not_some _ (λ t. free (inl t))))
     (chosen b.number n b None (λ _. stop_at p n ≡ None) s (λ e. subst (λ m. stop_at p m ≡ None) e (none_from_not_some _ (λ t. free (inr t)))) (λ e. absurd (none_some s e))) is
 
--- and so the table has nothing there
-pub located-free : (p : Instance) (r : Request) (n : ℕ) (l : Located) → (IsTaken p r → ⊥) → located_in n r ≡ Some l → first_some (located_in n) p.requests ≡ None
-located-free p r n l free is = by (first_some (located_in n) p.requests) refl (stop_in n r) refl
-  where
-    by : (o : Option Located) → first_some (located_in n) p.requests ≡ o → (t : Option Stop) → stop_in n r ≡ t → o ≡ None
-    by None o t e = refl
-    by (Some m) o None e = absurd (none_some l (sym (ap (option_map (λ s. record { name = request_name r; stop = s })) e) ∙ is))
-    by (Some m) o (Some s) e = absurd (none_some m.stop (sym (stop_at-free p r n s free e) ∙ stop_at_located p n m o))
-
 first_none : {X : Type 0} (o p : Option X) → option_or o p ≡ None → o ≡ None
 first_none None p h = refl
 first_none (Some x) p h = h
@@ -170,13 +161,36 @@ first_some-insert {X} f xs ys e apart = first_some-append f xs (e ∷ ys) ∙ by
     by None h = sym (first_some-append f xs ys)
     by (Some x) h = ap (λ o. option_or o (Some x)) (first_none (first_some f xs) (first_some f ys) (sym (first_some-append f xs ys) ∙ apart x h))
 
--- the table's entries after a request that is not taken is put among the others
-pub located-with_entry : (p : Instance) (r : Request) (n : ℕ) → (IsTaken p r → ⊥) → Splits p.requests (request_name r) → option_or (located_in n r) (first_some (located_in n) p.requests) ≡ first_some (located_in n) (with_entry p.requests r)
-located-with_entry p r n free split =
+-- the request, where it has the stop
+abbrev pub itself : ℕ → Request → Option Request
+itself n r = option_map (λ _. r) (stop_in n r)
+
+-- the look-up answers nothing of a request without such a stop
+abbrev pub AsksStop : {X : Type 0} → ℕ → (Request → Option X) → Type 0
+AsksStop n f = (r : Request) → stop_in n r ≡ None → f r ≡ None
+
+pub itself-asks : (n : ℕ) → AsksStop n (itself n)
+itself-asks n r h = ap (option_map (λ _. r)) h
+
+pub located-asks : (n : ℕ) → AsksStop n (located_in n)
+located-asks n r h = ap (option_map (λ s. record { name = request_name r; stop = s })) h
+
+-- it finds nothing where no request has the stop
+pub none-asked : {X : Type 0} (n : ℕ) (f : Request → Option X) → AsksStop n f → (es : List (ℕ × Request)) → first_some (stop_in n) es ≡ None → first_some f es ≡ None
+none-asked n f asks [] h = refl
+none-asked n f asks (e ∷ es) h = rw (asks e.1 (first_none _ _ h)) (none-asked n f asks es (rest_none _ _ h))
+
+-- what is found after a request that is not taken is put among the others
+pub found-with_entry : {X : Type 0} (p : Instance) (r : Request) (n : ℕ) (f : Request → Option X) → AsksStop n f → (IsTaken p r → ⊥) → Splits p.requests (request_name r) → first_some f (with_entry p.requests r) ≡ option_or (f r) (first_some f p.requests)
+found-with_entry p r n f asks free split =
     let lesser = lesser_names p.requests (request_name r) in
     let greater = greater_names p.requests (request_name r) in
-    let whole : first_some (located_in n) (lesser ++ greater) ≡ first_some (located_in n) p.requests = ap (first_some (located_in n)) split in
-    sym (first_some-insert (located_in n) lesser greater (request_name r, r) (λ l h. whole ∙ located-free p r n l free h) ∙ ap (option_or (located_in n r)) whole)
+    let whole : first_some f (lesser ++ greater) ≡ first_some f p.requests = ap (first_some f) split in
+    first_some-insert f lesser greater (request_name r, r) (λ x h. whole ∙ none-asked n f asks p.requests (nothing (stop_in n r) refl x h)) ∙ ap (option_or (f r)) whole
+  where
+    nothing : (o : Option Stop) → stop_in n r ≡ o → (x : _) → f r ≡ Some x → stop_at p n ≡ None
+    nothing None e x h = absurd (none_some x (sym (asks r e) ∙ h))
+    nothing (Some s) e x h = stop_at-free p r n s free e
 
 -- what is written over the whole of a list
 pub take-overwritten : {X : Type 0} (n : ℕ) (xs ys : List X) → length xs ≡ n → take n (xs ++ drop (length xs) ys) ≡ xs

@@ -3,11 +3,11 @@ ghost use Rattle.std.specs.List.{AllByRecursion};
 ghost use Rattle.std.specs.List.Sorted.{IsStrictlySortedBy};
 ghost use Rattle.std.specs.Ordering.{nat_cmp};
 ghost use Rattle.std.specs.Map.{lookup};
-ghost use Rattle.std.specs.Option.{option_copied, option_or};
+ghost use Rattle.std.specs.Option.{option_copied, option_or, is_some};
 ghost use Rattle.indexmap.specs.IndexMap.{get, keys, index_map_len};
 ghost use Rattle.plan_types.specs.Limits.{IsDepot, IsCapacity, IsFleet, IsStop};
-ghost use Rattle.plan_types.specs.Request.{request_name, number_after, IsRequest};
-ghost use Rattle.plan_types.specs.Instance.{stop_at, name_at, request_with, new_instance, with_entry, with_request, lesser_names, greater_names, Splits, numbers_among, first_some, IsInstance, IsTaken};
+ghost use Rattle.plan_types.specs.Request.{request_name, stop_in, number_after, IsRequest};
+ghost use Rattle.plan_types.specs.Instance.{stop_at, name_at, request_with, new_instance, with_entry, with_request, without_request, lesser_names, greater_names, numbers_among, first_some, IsInstance, IsTaken};
 ghost use Rattle.plan_types.specs.Located.{located_at, located_in};
 
 use crate::OutOfMemory;
@@ -150,6 +150,17 @@ impl Problem {
         Ok(())
     }
 
+    /// Takes out the request with this name, and no other. Its numbers are not given again, since `next_number`
+    /// stays. Takes no memory.
+    pub fn take(&mut self, name: u32) -> Option<Request>
+        ensures taken { result ≡ lookup (nat_eq name) self.old.requests }
+        ensures after { self.new ≡ without_request self.old name }
+    {
+        let request = self.requests.shift_remove(&name)?;
+        vacate(&mut self.located, &request);
+        Some(request)
+    }
+
     // Whether one of the request's numbers is there.
     fn is_taken(&self, request: &Request) -> bool
         ensures taken { IsTrue result ↔ IsTaken self.now request.now }
@@ -234,7 +245,6 @@ fn insert_by_name(requests: &mut IndexMap<u32, Request>, request: Request) -> Re
     requires absent { get nat_eq requests.old (request_name request) ≡ None }
     ensures ok { OnOk result (requests.new.entries ≡ with_entry requests.old.entries request) }
     ensures err { OnErr result (requests.new.entries ≡ requests.old.entries) }
-    ensures split { Splits requests.old.entries (request_name request) }
 {
     let name = request.name();
     // Requests mostly come in rising order: then there is nothing to search, and nothing to move.
@@ -293,4 +303,25 @@ fn enter(located: &mut [Option<Located>], name: u32, stop: &Stop)
     ensures { (n : ℕ) → located_at located.new n ≡ (if stop.now.number == n then Some (record { name = name; stop = stop.now }) else located_at located.old n) }
 {
     located[stop.number as usize] = Some(Located { name, stop: *stop });
+}
+
+// Takes the stops of a request out of the table.
+fn vacate(located: &mut [Option<Located>], request: &Request)
+    requires { number_after request.now ≤ length located.old }
+    ensures { (n : ℕ) → located_at located.new n ≡ (if is_some (stop_in n request.now) then None else located_at located.old n) }
+{
+    match request {
+        Request::Single(stop) => clear(located, stop.number),
+        Request::Pair(pickup, delivery) => {
+            clear(located, pickup.number);
+            clear(located, delivery.number);
+        }
+    }
+}
+
+fn clear(located: &mut [Option<Located>], number: u32)
+    requires { number < length located.old }
+    ensures { (n : ℕ) → located_at located.new n ≡ (if number == n then None else located_at located.old n) }
+{
+    located[number as usize] = None;
 }

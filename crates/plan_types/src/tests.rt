@@ -45,6 +45,25 @@ fn keeps_requests_by_name(rt: HostRuntime) -> Result<(), Fail> {
 }
 
 #[test]
+fn takes_out_one_request(rt: HostRuntime) -> Result<(), Fail> {
+    let depot = stop_at(0, 0, 0, 0);
+    let mut problem = Problem::new(rt.alloc(), Kind::LiLim, depot, 10, 2)?;
+    problem.put(Request::Pair(stop_at(1, 1, 1, 1), stop_at(2, 1, 1, -1)))?;
+    let pair = Request::Pair(stop_at(3, 2, 2, 1), stop_at(4, 2, 2, -1));
+    problem.put(pair)?;
+    assert_eq!(rt; problem.take(4), None);
+    assert_eq!(rt; problem.take(3), Some(pair));
+    assert_eq!(rt; problem.take(3), None);
+    for (number, name) in [(1, Some(1)), (2, Some(1)), (3, None), (4, None)] {
+        assert_eq!(rt; problem.name_of(number), name, "the name at {number}");
+    }
+    assert_eq!(rt; problem.next_number, 5);
+    problem.put(Request::Single(stop_at(4, 0, 0, 1)))?;
+    assert_eq!(rt; problem.name_of(4), Some(4));
+    Ok(())
+}
+
+#[test]
 fn copies_plans_and_pins(rt: HostRuntime) -> Result<(), Fail> {
     let plan = Plan {
         routes: one_route(rt.alloc(), &[2, 1])?,
