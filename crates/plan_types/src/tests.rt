@@ -79,6 +79,28 @@ fn copies_plans_and_pins(rt: HostRuntime) -> Result<(), Fail> {
 }
 
 #[test]
+fn builds_and_edits_routes(rt: HostRuntime) -> Result<(), Fail> {
+    let mut route = Route::with_capacity(rt.alloc(), 3)?;
+    route.push(2)?;
+    route.extend_from_slice(&[1, 3])?;
+    let mut routes = Routes::with_capacity(rt.alloc(), 2)?;
+    routes.push(Route::new(rt.alloc()))?;
+    routes.push(route)?;
+    let mut other = Route::new(rt.alloc());
+    other.push(4)?;
+    routes.set(0, other);
+    let old = routes.replace(1, Route::new(rt.alloc()));
+    assert_eq!(rt; old.as_slice(), [2, 1, 3].as_slice());
+    let [first, second] = routes.as_slice() else {
+        return Err("two routes".into());
+    };
+    assert_eq!(rt; first.as_slice(), [4].as_slice());
+    assert_eq!(rt; second.as_slice().len(), 0);
+    assert_eq!(rt; Routes::new(rt.alloc()).as_slice().len(), 0);
+    Ok(())
+}
+
+#[test]
 fn compares_costs_part_by_part(rt: HostRuntime) {
     let costs = [(0, 2, 9), (0, 3, 1), (1, 0, 0), (1, 0, 1)];
     for pair in costs.windows(2) {
