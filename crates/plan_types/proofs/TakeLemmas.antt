@@ -9,7 +9,7 @@ use Rattle.std.specs.Option.{option_map, option_or, option_and_then}
 use Rattle.std.proofs.lemmas.Bool.{eq-eqb, le-ltb, ne_eqb}
 use Rattle.std.proofs.lemmas.Bool.Decides.{eqb_tells}
 use Rattle.plan_types.specs.Instance.{Instance, IsInstance, first_some, stop_at, request_with, stops_among, numbers_among, without_entry, without_request}
-use Rattle.plan_types.specs.Request.{request_name, stop_in, stops_of, number_after, IsRequest}
+use Rattle.plan_types.specs.Request.{request_name, stop_in, partner_in, stops_of, number_after, IsRequest}
 use Rattle.plan_types.specs.Located.{located_in, located_at}
 use Rattle.plan_types.specs.declared.problems.Located.{Located}
 use Rattle.plan_types.specs.declared.requests.Stop.{Stop}
@@ -279,8 +279,8 @@ reaches p name r xs valid table at = by r refl
   where
     each : (n : ℕ) (s : Stop) → stop_in n r ≡ Some s → n < length xs
     each n s has =
-        let l : Located = record { name = request_name r; stop = s } in
-        within xs n l (table n ∙ named-found n (located_in n) (located-asks n) p.requests name r s l valid.distinct at has (ap (option_map (λ s. record { name = request_name r; stop = s })) has))
+        let l : Located = record { name = request_name r; partner = partner_in n r; stop = s } in
+        within xs n l (table n ∙ named-found n (located_in n) (located-asks n) p.requests name r s l valid.distinct at has (ap (option_map (λ s. record { name = request_name r; partner = partner_in n r; stop = s })) has))
 
     by : (q : Request) → r ≡ q → number_after q ≤ length xs
     by (Single a) is = let h = each a.number a (ap (stop_in a.number) is ∙ rw (eq-eqb a.number a.number refl) refl) in omega arith

@@ -7,7 +7,7 @@ ghost use Rattle.std.specs.Option.{option_copied, option_or, is_some};
 ghost use Rattle.indexmap.specs.IndexMap.{get, keys, index_map_len};
 ghost use Rattle.plan_types.specs.Limits.{IsDepot, IsCapacity, IsFleet, IsStop};
 ghost use Rattle.plan_types.specs.Request.{request_name, stop_in, number_after, IsRequest};
-ghost use Rattle.plan_types.specs.Instance.{stop_at, name_at, request_with, new_instance, with_entry, with_request, without_request, lesser_names, greater_names, numbers_among, first_some, IsInstance, IsTaken};
+ghost use Rattle.plan_types.specs.Instance.{stop_at, name_at, request_with, partner_at, pickup_at, new_instance, with_entry, with_request, without_request, lesser_names, greater_names, numbers_among, first_some, IsInstance, IsTaken};
 ghost use Rattle.plan_types.specs.Located.{located_at, located_in};
 
 use crate::OutOfMemory;
@@ -40,10 +40,11 @@ impl From<AllocError> for PutFault {
     }
 }
 
-// A stop, and the name of its request.
+// A stop, the name of its request, and the other stop of its pair.
 #[derive(Clone, Copy, Debug)]
 pub(crate) struct Located {
     name: u32,
+    partner: Option<u32>,
     stop: Stop,
 }
 
@@ -61,7 +62,7 @@ pub struct Problem {
     pub requests: IndexMap<u32, Request>,
     /// The number that the next new stop takes, 1..=40,001: above each number that is there.
     pub next_number: u32,
-    // By number, so that looking up a stop is one read of memory.
+    // By number, so that a look-up of a stop, its request or its partner is one read of memory.
     located: Vec<Option<Located>>,
 }
 
@@ -124,6 +125,30 @@ impl Problem {
         match self.located(number) {
             Some(located) => Some(located.name),
             None => None,
+        }
+    }
+
+    /// The number of the other stop of its pair. Takes no memory.
+    pub fn partner_of(&self, number: u32) -> Option<u32>
+        ensures found { result ≡ partner_at self.now number }
+        ensures below { IfSome result (λ n. n < self.now.next_number) }
+        ensures valid { IsInstance self.now }
+    {
+        match self.located(number) {
+            Some(located) => located.partner,
+            None => None,
+        }
+    }
+
+    /// The number of its pickup, where the stop with this number is a delivery. Takes no memory.
+    pub fn pickup_of(&self, number: u32) -> Option<u32>
+        ensures found { result ≡ pickup_at self.now number }
+        ensures below { IfSome result (λ n. n < self.now.next_number) }
+        ensures valid { IsInstance self.now }
+    {
+        match self.located(number) {
+            Some(located) if located.name != number => Some(located.name),
+            _ => None,
         }
     }
 
@@ -289,20 +314,24 @@ fn locate(located: &mut [Option<Located>], request: &Request)
 {
     let name = request.name();
     match request {
-        Request::Single(stop) => enter(located, name, stop),
+        Request::Single(stop) => enter(located, name, None, stop),
         Request::Pair(pickup, delivery) => {
             // The pickup last, as a look-up by number finds it first.
-            enter(located, name, delivery);
-            enter(located, name, pickup);
+            enter(located, name, Some(pickup.number), delivery);
+            enter(located, name, Some(delivery.number), pickup);
         }
     }
 }
 
-fn enter(located: &mut [Option<Located>], name: u32, stop: &Stop)
+fn enter(located: &mut [Option<Located>], name: u32, partner: Option<u32>, stop: &Stop)
     requires { stop.now.number < length located.old }
-    ensures { (n : ℕ) → located_at located.new n ≡ (if stop.now.number == n then Some (record { name = name; stop = stop.now }) else located_at located.old n) }
+    ensures { (n : ℕ) → located_at located.new n ≡ (if stop.now.number == n then Some (record { name = name; partner = partner; stop = stop.now }) else located_at located.old n) }
 {
-    located[stop.number as usize] = Some(Located { name, stop: *stop });
+    located[stop.number as usize] = Some(Located {
+        name,
+        partner,
+        stop: *stop,
+    });
 }
 
 // Takes the stops of a request out of the table.
