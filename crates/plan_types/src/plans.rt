@@ -1,4 +1,4 @@
-ghost use Rattle.std.specs.Prelude.{◌≡◌, ◌<◌, IfOk, OnOk, OnErr, Some, length, slice_get, slice_set};
+ghost use Rattle.std.specs.Prelude.{◌≡◌, ◌<◌, ◌≤◌, IfOk, OnOk, OnErr, Some, length, slice_get, slice_set, insert, remove};
 ghost use Rattle.std.specs.Prelude.{List, [], ◌∷◌, ◌++◌, ℕ};
 
 use crate::OutOfMemory;
@@ -54,6 +54,33 @@ impl Route {
         self.stops.extend_from_slice(stops)
     }
 
+    /// Visits one more stop at this place, counted from 0, before the one that stands there. A refusal changes nothing.
+    pub fn insert(&mut self, place: usize, stop: u32) -> Result<(), OutOfMemory>
+        requires { place ≤ length self.old }
+        ensures ok { OnOk result (self.new ≡ insert self.old place stop) }
+        ensures err { OnErr result (self.new ≡ self.old) }
+    {
+        self.stops.insert(place, stop)?;
+        Ok(())
+    }
+
+    /// Leaves out the stop at this place, counted from 0, and gives its number. Takes no memory.
+    pub fn remove(&mut self, place: usize) -> u32
+        requires { place < length self.old }
+        ensures stop { slice_get self.old place ≡ Some result }
+        ensures rest { self.new ≡ remove self.old place }
+    {
+        self.stops.remove(place)
+    }
+
+    /// Visits this stop in place of the one at this place, counted from 0. Takes no memory.
+    pub fn set(&mut self, place: usize, stop: u32)
+        requires { place < length self.old }
+        ensures { self.new ≡ slice_set self.old place stop }
+    {
+        self.stops[place] = stop;
+    }
+
     /// The stop numbers in order.
     pub fn as_slice(&self) -> &[u32]
         ensures { result.now ≡ self.now }
@@ -100,6 +127,9 @@ impl Model for Routes {
 }
 
 impl Routes {
+    ghost use Rattle.std.specs.Borrow.{sem};
+    ghost use Rattle.plan_types.specs.Lending.{LendsRoute};
+
     /// No routes. Takes no memory.
     pub fn new(alloc: Global) -> Routes
         ensures { result ≡ [] }
@@ -125,6 +155,15 @@ impl Routes {
     {
         self.routes.push(route)?;
         Ok(())
+    }
+
+    /// The route at this index, counted from 0, to be changed in its place.
+    pub fn route_mut(&mut self, index: usize) -> &mut Route
+        requires { index < length self.old }
+        ensures* writes_back { sem 𝓛 (LendsRoute self.entry index result) }
+        ensures value { slice_get self.old index ≡ Some result.now }
+    {
+        &mut self.routes[index]
     }
 
     /// Sets the route at this index, counted from 0. Takes no memory.

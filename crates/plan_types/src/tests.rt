@@ -99,14 +99,30 @@ fn builds_and_edits_routes(rt: HostRuntime) -> Result<(), Fail> {
     let mut other = Route::new(rt.alloc());
     other.push(4)?;
     routes.set(0, other);
+    routes.route_mut(0).insert(0, 6)?;
     let old = routes.replace(1, Route::new(rt.alloc()));
     assert_eq!(rt; old.as_slice(), [2, 1, 3].as_slice());
     let [first, second] = routes.as_slice() else {
         return Err("two routes".into());
     };
-    assert_eq!(rt; first.as_slice(), [4].as_slice());
+    assert_eq!(rt; first.as_slice(), [6, 4].as_slice());
     assert_eq!(rt; second.as_slice().len(), 0);
     assert_eq!(rt; Routes::new(rt.alloc()).as_slice().len(), 0);
+    Ok(())
+}
+
+#[test]
+fn edits_stops_in_place(rt: HostRuntime) -> Result<(), Fail> {
+    let mut route = Route::new(rt.alloc());
+    route.push(4)?;
+    route.insert(0, 5)?;
+    if route.as_slice().len() == 2 {
+        route.set(1, 6);
+    }
+    if !route.as_slice().is_empty() {
+        assert_eq!(rt; route.remove(0), 5);
+    }
+    assert_eq!(rt; route.as_slice(), [6].as_slice());
     Ok(())
 }
 
