@@ -1,7 +1,7 @@
 -- What is known of the request that has a stop.
 use Rattle.std.proofs.Common.{◌≡◌, ℕ, zero, suc, ◌+◌, Bool, cond, List, [], ◌∷◌, drop, slice_get, Option, Some, None, IfSome, refl, sym, ap, ◌∙◌, add-one, Bor}
 use Rattle.std.specs.Option.{option_copied, option_and_then, option_or}
-use Rattle.plan_audit.specs.Passes.{is_served, unserved_in, first_unserved}
+use Rattle.plan_audit.specs.Finding.{is_served, unserved_in, first_unserved}
 use Rattle.plan_audit.proofs.FirstLemmas.{none_some}
 use Rattle.plan_types.specs.Instance.{Instance, IsInstance, request_with}
 use Rattle.plan_types.specs.Laws.{IsBelowNext, RequestsAreBelowNext, FoundAreBelowNext}

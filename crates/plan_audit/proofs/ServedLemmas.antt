@@ -12,7 +12,7 @@ use Rattle.plan_types.specs.Request.{stops_of}
 use Rattle.plan_types.specs.declared.requests.Request.{Request}
 use Rattle.plan_types.specs.declared.requests.Request.TheVariants.{Single, Pair}
 use Rattle.plan_audit.specs.Rules.{StandsSomewhere}
-use Rattle.plan_audit.specs.Passes.{seat_of, is_served, first_unserved}
+use Rattle.plan_audit.specs.Finding.{seat_of, is_served, first_unserved}
 use Rattle.plan_audit.specs.declared.seats.Seat.{Seat}
 use Rattle.plan_audit.proofs.FirstLemmas.{none_some, some_same}
 use Rattle.plan_audit.proofs.SeatLemmas.{seat_of-found}

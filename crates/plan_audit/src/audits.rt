@@ -3,7 +3,7 @@ ghost use Rattle.std.specs.Prelude.{◌≡◌, All, IfNone, IfOk, MatchOption};
 ghost use Rattle.route_sched.specs.Route.{AreLiveOnce};
 ghost use Rattle.plan_types.specs.Instance.{IsInstance};
 ghost use Rattle.plan_audit.specs.Verdict.{Subject, planned, printed, routes_of, KeepsRules, IsBrokenOver, IsVerdict};
-ghost use Rattle.plan_audit.specs.Passes.{unserved_of};
+ghost use Rattle.plan_audit.specs.Finding.{unserved_of};
 
 use crate::fleet::first_beyond;
 use crate::pins::first_off_pin;

@@ -4,7 +4,7 @@ ghost use Rattle.std.specs.Option.{option_copied};
 ghost use Rattle.plan_types.specs.Instance.{partner_at, request_with};
 ghost use Rattle.plan_types.specs.Laws.{IsBelowNext};
 ghost use Rattle.plan_audit.specs.Rules.{pickup_at};
-ghost use Rattle.plan_audit.specs.Passes.{seat_of, missing_at, delivered_at};
+ghost use Rattle.plan_audit.specs.Finding.{seat_of, missing_at, delivered_at};
 ghost use Rattle.plan_audit.specs.declared.seats.Seat.{Seat};
 
 use crate::seats::Seat;

@@ -1,7 +1,7 @@
 //! The rules that speak of where stops stand.
 ghost use Rattle.std.specs.Prelude.{◌≡◌, ℕ, ◌^◌, ◌+◌, ◌<◌, ◌≤◌, length, List, None, Option, All, IfSome, slice_index_or, slice_get};
 ghost use Rattle.std.specs.Option.{option_and_then};
-ghost use Rattle.plan_audit.specs.Passes.{first_place, first_route, told_by, is_served, first_unserved, unserved_in, seat_of, unknown_at, repeated_at, missing_at, split_at, delivered_at};
+ghost use Rattle.plan_audit.specs.Finding.{first_place, first_route, told_by, is_served, first_unserved, unserved_in, seat_of, unknown_at, repeated_at, missing_at, split_at, delivered_at};
 ghost use Rattle.plan_types.specs.Laws.{IsBelowNext};
 
 use crate::faults::{Fault, Told, first_fault, first_place};

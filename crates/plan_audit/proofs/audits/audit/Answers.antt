@@ -1,6 +1,6 @@
 use Rattle.std.proofs.Common.{◌≡◌, ℕ, List, Option, length, sym, ap, ◌∙◌, refl, arith}
 use Rattle.plan_types.specs.Instance.{Instance}
-use Rattle.plan_audit.specs.Passes.{first_off_pin}
+use Rattle.plan_audit.specs.Finding.{first_off_pin}
 use Rattle.plan_audit.specs.declared.faults.Fault.{Fault}
 use Rattle.plan_audit.specs.Verdict.{planned, KeepsRules}
 use Rattle.plan_audit.proofs.StepLemmas.{plan_from, length_step, pin_step, planned_step}

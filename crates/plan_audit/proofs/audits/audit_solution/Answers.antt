@@ -3,7 +3,7 @@ use Rattle.route_sched.specs.Cost.{cost_of}
 use Rattle.route_sched.specs.Route.{IsPlan}
 use Rattle.plan_types.specs.Instance.{Instance}
 use Rattle.plan_types.specs.declared.plans.Cost.{Cost}
-use Rattle.plan_audit.specs.Passes.{first_beyond, first_unserved}
+use Rattle.plan_audit.specs.Finding.{first_beyond, first_unserved}
 use Rattle.plan_audit.specs.Verdict.{printed, KeepsRules}
 use Rattle.plan_audit.proofs.StepLemmas.{plan_from, fleet_step, cost_step, pass_step}
 use Rattle.plan_audit.proofs.VerdictLemmas.{broken_wider, broken_verdict}
