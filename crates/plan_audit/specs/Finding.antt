@@ -6,7 +6,7 @@ use Rattle.route_sched.specs.declared.visits.Visit.{Visit}
 use Rattle.std.specs.Option.{option_map, option_or, option_and_then}
 use Rattle.plan_types.specs.Instance.{Instance, stop_at, partner_at}
 use Rattle.plan_types.specs.declared.requests.Request.{Request}
-use Rattle.plan_types.specs.declared.requests.Request.TheVariants.{Single, Pair}
+use Rattle.route_sched.specs.Cost.{is_planned}
 use Rattle.plan_audit.specs.Rules.{pickup_at}
 use Rattle.plan_audit.specs.Verdict.{Subject, planned, printed}
 use Rattle.plan_audit.specs.declared.faults.Told.{Told}
@@ -72,16 +72,11 @@ is_overloaded p v = int_lt (pos p.capacity) v.load
 abbrev pub is_late : Visit → Bool
 is_late v = nat_lt v.stop.latest v.start
 
--- one of the request's stops has a seat
-abbrev pub is_served : List (List ℕ) → Request → Bool
-is_served routes (Single s) = is_some (seat_of routes s.number)
-is_served routes (Pair p d) = is_some (seat_of routes p.number) || is_some (seat_of routes d.number)
-
--- the name of a request that is not served
+-- the name of a request that is not planned
 abbrev pub unserved_in : List (List ℕ) → ℕ × Request → Option ℕ
-unserved_in routes e = if is_served routes e.1 then None else Some e.0
+unserved_in routes e = if is_planned routes e.1 then None else Some e.0
 
--- the name of the first request that is not served
+-- the name of the first request that is not planned
 abbrev pub first_unserved : List (List ℕ) → List (ℕ × Request) → Option ℕ
 first_unserved routes [] = None
 first_unserved routes (e ∷ es) = option_or (unserved_in routes e) (first_unserved routes es)
