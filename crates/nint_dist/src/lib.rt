@@ -4,6 +4,7 @@
 ghost use Rattle.std.specs.Prelude.{◌≡◌, ◌+◌, ◌*◌, ◌≤◌, ◌-ℤ◌, unsigned_abs};
 ghost use Rattle.plan_types.specs.Limits.{IsCoordinate};
 ghost use Rattle.nint_dist.specs.Distance.{IsPlaced, distance, squared_distance};
+ghost use Rattle.nint_dist.specs.NearestRoot.{IsNearestRoot};
 
 mod root;
 
@@ -19,6 +20,7 @@ pub fn dist(a: &Stop, b: &Stop) -> u32
     requires from { IsPlaced a.now }
     requires to { IsPlaced b.now }
     ensures value { result ≡ distance a.now b.now }
+    ensures nearest { IsNearestRoot (squared_distance a.now b.now) result }
     ensures bound { result ≤ 2828427 }
 {
     let dx = gap(a.x, b.x);

@@ -1,6 +1,8 @@
 -- One more request among those that stand by name.
-use Rattle.std.proofs.Common.{◌≡◌, ℕ, suc, zero, ◌<◌, ◌≤◌, cond, List, [], ◌∷◌, ◌++◌, length, get_or, take, drop, Option, Some, None, Result, Ok, Err, refl, sym, ap, ◌∙◌, nat_eq, inl, inr, arith, slice_get, ◌-◌, ◌↔◌, All, IsTrue, nat_lt}
-use Rattle.std.proofs.lemmas.Bool.{lt-ltb, le-ltb, ltb-true}
+use Rattle.std.proofs.Common.{◌≡◌, ◌≢◌, ◌⊎◌, ℕ, Bool, true, false, filter, subst, eqb, suc, zero, ◌<◌, ◌≤◌, cond, List, [], ◌∷◌, ◌++◌, length, get_or, take, drop, Option, Some, None, Result, Ok, Err, refl, sym, ap, ◌∙◌, nat_eq, inl, inr, arith, slice_get, ◌-◌, ◌↔◌, All, IsTrue, nat_lt}
+use Rattle.std.proofs.lemmas.Bool.{lt-ltb, le-ltb, ltb-true, eq-eqb, ne_eqb, cases_lt, cases_order}
+use Rattle.std.specs.List.{AllByRecursion}
+use Rattle.std.specs.declared.cmp.Ordering.TheVariants.{Less, Equal, Greater}
 use Rattle.std.proofs.lemmas.Bool.Decides.{eqb_tells}
 use Rattle.std.proofs.Math.Seq.{get_or-append_seam}
 use Rattle.std.proofs.lemmas.List.{length-append, take_all, drop_all}
@@ -18,8 +20,8 @@ use Rattle.std.proofs.lemmas.List.{length-map, append-nil}
 use Rattle.std.proofs.lemmas.Map.Keys.{non_decreasing_from_sorted}
 use Rattle.indexmap.proofs.MapLemmas.{absent_from_lookup, or_len-absent, insert_entry-absent}
 use Rattle.indexmap.specs.IndexMap.{move_index, insert_entry, index_before}
-use Rattle.plan_types.proofs.LookupLemmas.{none_some}
-use Rattle.plan_types.specs.Instance.{lesser_names, greater_names, with_entry, Splits}
+use Rattle.plan_types.proofs.LookupLemmas.{none_some, lookup-name-free}
+use Rattle.plan_types.specs.Instance.{Instance, IsInstance, IsTaken, lesser_names, greater_names, with_entry, Splits}
 use Rattle.plan_types.specs.Request.{request_name}
 use Rattle.plan_types.specs.declared.requests.Request.{Request}
 
@@ -104,10 +106,74 @@ module _ (name : ℕ) (es : List (ℕ × Request)) (below : All (λ n. n < name)
       let split = names_split name es (length es) (omega arith) (λ k b. below k 0 (rw length-map b)) (λ k a b. absurd (omega arith)) in
       (split.0 ∙ take_all (length es) es (omega arith), split.1 ∙ drop_all (length es) es (omega arith))
 
-  pub splits_last : (n : ℕ) → name ≡ n → Splits es n
-  splits_last n is = rw (sym is, all_lesser.0, all_lesser.1) (append-nil es)
-
   pub inserted_last : (r : Request) → name ≡ request_name r → lookup (nat_eq name) es ≡ None → insert_entry nat_eq es name r ≡ with_entry es r
   inserted_last r is none =
       insert_entry-absent nat_eq name r es (absent_from_lookup (nat_eq name) es none)
       ∙ sym (rw (sym is, all_lesser.0, all_lesser.1) refl)
+
+less_is : (a b : ℕ) → nat_cmp a b ≡ Less → a < b
+less_is a b h = elim (cases_lt a b) [
+  | inl below ↦ below
+  | inr above ↦ elim (eqb_tells a b) [
+    | inl t ↦ absurd (let g : nat_cmp a b ≡ Less = h in let z : Equal ≡ Less = (rw (le-ltb a b above, t.0) at g) in cc)
+    | inr t ↦ absurd (let g : nat_cmp a b ≡ Less = h in let z : Greater ≡ Less = (rw (le-ltb a b above, t.0) at g) in cc)
+  ]
+]
+
+-- a name that is not there splits rising names
+splits_absent : (es : List (ℕ × Request)) (name : ℕ) → IsStrictlySortedBy nat_cmp (keys_of es) → lookup (nat_eq name) es ≡ None → Splits es name
+unfolding IsStrictlySortedBy
+splits_absent [] name rising none = refl
+splits_absent (e ∷ es) name rising none = by (cases_order e.0 name) (λ h. splits_absent es name rising.1 h)
+  where
+    others : (name ≡ e.0 → ⊥) → lookup (nat_eq name) es ≡ None
+    others differ = let g : cond (eqb name e.0) (Some e.1) (lookup (nat_eq name) es) ≡ None = none in rw (ne_eqb name e.0 differ) at g
+
+    all_greater : (n : ℕ) → name < n → (fs : List (ℕ × Request)) → AllByRecursion (λ y. nat_cmp n y ≡ Less) (keys_of fs) → (lesser_names fs name ≡ []) × (greater_names fs name ≡ fs)
+    all_greater n below [] all = (refl, refl)
+    all_greater n below (f ∷ fs) all =
+        let next : n < f.0 = less_is n f.0 all.0 in
+        let rest = all_greater n below fs all.1 in
+        (rw (le-ltb f.0 name (omega arith)) (rest.0), rw (lt-ltb name f.0 (omega arith)) (ap (λ l. f ∷ l) rest.1))
+
+    by : (e.0 ≡ name) ⊎ ((e.0 < name) ⊎ (name < e.0)) → (lookup (nat_eq name) es ≡ None → Splits es name) → lesser_names (e ∷ es) name ++ greater_names (e ∷ es) name ≡ e ∷ es
+    by (inl same) rest = absurd (none_some e.1 (sym (let g : cond (eqb name e.0) (Some e.1) (lookup (nat_eq name) es) ≡ None = none in rw (eq-eqb name e.0 (sym same)) at g)))
+    by (inr (inl below)) rest = rw (lt-ltb e.0 name below, le-ltb name e.0 (omega arith)) (ap (λ l. e ∷ l) (rest (others (λ h. omega arith))))
+    by (inr (inr above)) rest =
+        let more = all_greater e.0 above es rising.0 in
+        rw (le-ltb e.0 name (omega arith), lt-ltb name e.0 above, more.0, more.1) refl
+
+pub splits_free : (p : Instance) (r : Request) → IsInstance p → (IsTaken p r → ⊥) → Splits p.requests (request_name r)
+splits_free p r valid free = splits_absent p.requests (request_name r) valid.rising (lookup-name-free p r valid free)
+
+-- a look-up by name among requests and one more
+lookup-among : (xs ys : List (ℕ × Request)) (e : ℕ × Request) (m : ℕ) → (m ≡ e.0 → lookup (nat_eq m) xs ≡ None) → lookup (nat_eq m) (xs ++ e ∷ ys) ≡ cond (eqb m e.0) (Some e.1) (lookup (nat_eq m) (xs ++ ys))
+lookup-among [] ys e m none = refl
+lookup-among (x ∷ xs) ys e m none = by (eqb_tells m x.0) (λ h. lookup-among xs ys e m h)
+  where
+    by : ((eqb m x.0 ≡ true) × (m ≡ x.0)) ⊎ ((eqb m x.0 ≡ false) × (m ≢ x.0)) → ((m ≡ e.0 → lookup (nat_eq m) xs ≡ None) → lookup (nat_eq m) (xs ++ e ∷ ys) ≡ cond (eqb m e.0) (Some e.1) (lookup (nat_eq m) (xs ++ ys)))
+        → cond (eqb m x.0) (Some x.1) (lookup (nat_eq m) (xs ++ e ∷ ys)) ≡ cond (eqb m e.0) (Some e.1) (cond (eqb m x.0) (Some x.1) (lookup (nat_eq m) (xs ++ ys)))
+    by (inl t) rest =
+        let differ : m ≡ e.0 → ⊥ = λ h. none_some x.1 (sym (let g : cond (eqb m x.0) (Some x.1) (lookup (nat_eq m) xs) ≡ None = none h in rw (t.0) at g)) in
+        rw (t.0, ne_eqb m e.0 differ) refl
+    by (inr t) rest = rw (t.0) (rest (λ h. let g : cond (eqb m x.0) (Some x.1) (lookup (nat_eq m) xs) ≡ None = none h in rw (t.0) at g))
+
+lookup-filter : (q : ℕ × Request → Bool) (es : List (ℕ × Request)) (m : ℕ) → lookup (nat_eq m) es ≡ None → lookup (nat_eq m) (filter q es) ≡ None
+lookup-filter q [] m none = refl
+lookup-filter q (e ∷ es) m none = by (eqb_tells m e.0) (λ h. lookup-filter q es m h)
+  where
+    by : ((eqb m e.0 ≡ true) × (m ≡ e.0)) ⊎ ((eqb m e.0 ≡ false) × (m ≢ e.0)) → (lookup (nat_eq m) es ≡ None → lookup (nat_eq m) (filter q es) ≡ None) → lookup (nat_eq m) (cond (q e) (e ∷ filter q es) (filter q es)) ≡ None
+    by (inl t) rest = absurd (none_some e.1 (sym (let g : cond (eqb m e.0) (Some e.1) (lookup (nat_eq m) es) ≡ None = none in rw (t.0) at g)))
+    by (inr t) rest = kept (q e)
+      where
+        later : lookup (nat_eq m) (filter q es) ≡ None
+        later = rest (let g : cond (eqb m e.0) (Some e.1) (lookup (nat_eq m) es) ≡ None = none in rw (t.0) at g)
+
+        kept : (b : Bool) → lookup (nat_eq m) (cond b (e ∷ filter q es) (filter q es)) ≡ None
+        kept true = rw (t.0) later
+        kept false = later
+
+pub lookup-with_entry : (es : List (ℕ × Request)) (r : Request) (m : ℕ) → Splits es (request_name r) → lookup (nat_eq (request_name r)) es ≡ None → lookup (nat_eq m) (with_entry es r) ≡ cond (eqb m (request_name r)) (Some r) (lookup (nat_eq m) es)
+lookup-with_entry es r m split none =
+    lookup-among (lesser_names es (request_name r)) (greater_names es (request_name r)) (request_name r, r) m (λ h. lookup-filter (λ e. nat_lt e.0 (request_name r)) es m (subst (λ n. lookup (nat_eq n) es ≡ None) (sym h) none))
+    ∙ ap (λ (fs : List (ℕ × Request)). cond (eqb m (request_name r)) (Some r) (lookup (nat_eq m) fs)) split

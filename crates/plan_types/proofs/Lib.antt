@@ -2,3 +2,4 @@ pub mod InsertLemmas
 pub mod InstanceLemmas
 pub mod LawProofs
 pub mod LookupLemmas
+pub mod TakeLemmas

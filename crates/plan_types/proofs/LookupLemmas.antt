@@ -1,5 +1,5 @@
 -- Look-ups among the requests, by the answer of the first that has one.
-use Rattle.std.proofs.Common.{◌≡◌, ℕ, ◌<◌, true, false, arith, cond, List, [], ◌∷◌, Option, Some, None, refl, sym, ap, subst, ◌∙◌, eqb, inl, inr, nat_eq, IsSome}
+use Rattle.std.proofs.Common.{◌≡◌, ℕ, ◌<◌, true, false, arith, cond, List, [], ◌∷◌, Option, Some, None, refl, sym, ap, subst, ◌∙◌, eqb, inl, inr, nat_eq, IsSome, IfSome}
 use Rattle.std.proofs.lemmas.Bool.Decides.{eqb_tells}
 use Rattle.std.proofs.lemmas.Bool.{eq-eqb, le-ltb}
 use Rattle.std.specs.Map.{lookup, keys_of}
@@ -7,12 +7,12 @@ use Rattle.std.specs.List.Sorted.{IsStrictlySortedBy}
 use Rattle.std.specs.Ordering.{nat_cmp}
 use Rattle.std.specs.declared.cmp.Ordering.TheVariants.{Less, Equal}
 use Rattle.std.specs.List.{AllByRecursion}
-use Rattle.std.specs.Option.{option_map, option_or}
+use Rattle.std.specs.Option.{option_map, option_and_then, option_or}
 use Rattle.std.proofs.Common.{map, ◌++◌, length, take, drop}
 use Rattle.std.proofs.Math.Seq.{take-append_seam}
 use Rattle.plan_types.specs.Limits.{IsStop}
-use Rattle.plan_types.specs.Request.{request_name, stop_in, stops_of, IsRequest}
-use Rattle.plan_types.specs.Instance.{Instance, first_some, stop_at, name_at, request_with, stops_among, numbers_among, lesser_names, greater_names, with_entry, Splits, IsInstance, IsTaken}
+use Rattle.plan_types.specs.Request.{request_name, stop_in, partner_in, pickup_in, stops_of, IsRequest}
+use Rattle.plan_types.specs.Instance.{Instance, first_some, stop_at, name_at, request_with, partner_at, pickup_at, stops_among, numbers_among, lesser_names, greater_names, with_entry, Splits, IsInstance, IsTaken}
 use Rattle.plan_types.specs.Located.{located_in}
 use Rattle.plan_types.specs.declared.requests.Stop.{Stop}
 use Rattle.plan_types.specs.declared.problems.Located.{Located}
@@ -95,15 +95,6 @@ stop_at-free p (Pair a b) n s free is =
     chosen a.number n a _ (λ _. stop_at p n ≡ None) s (λ e. subst (λ m. stop_at p m ≡ None) e (none_from_not_some _ (λ t. free (inl t))))
     (chosen b.number n b None (λ _. stop_at p n ≡ None) s (λ e. subst (λ m. stop_at p m ≡ None) e (none_from_not_some _ (λ t. free (inr t)))) (λ e. absurd (none_some s e))) is
 
--- and so the table has nothing there
-pub located-free : (p : Instance) (r : Request) (n : ℕ) (l : Located) → (IsTaken p r → ⊥) → located_in n r ≡ Some l → first_some (located_in n) p.requests ≡ None
-located-free p r n l free is = by (first_some (located_in n) p.requests) refl (stop_in n r) refl
-  where
-    by : (o : Option Located) → first_some (located_in n) p.requests ≡ o → (t : Option Stop) → stop_in n r ≡ t → o ≡ None
-    by None o t e = refl
-    by (Some m) o None e = absurd (none_some l (sym (ap (option_map (λ s. record { name = request_name r; stop = s })) e) ∙ is))
-    by (Some m) o (Some s) e = absurd (none_some m.stop (sym (stop_at-free p r n s free e) ∙ stop_at_located p n m o))
-
 first_none : {X : Type 0} (o p : Option X) → option_or o p ≡ None → o ≡ None
 first_none None p h = refl
 first_none (Some x) p h = h
@@ -170,13 +161,36 @@ first_some-insert {X} f xs ys e apart = first_some-append f xs (e ∷ ys) ∙ by
     by None h = sym (first_some-append f xs ys)
     by (Some x) h = ap (λ o. option_or o (Some x)) (first_none (first_some f xs) (first_some f ys) (sym (first_some-append f xs ys) ∙ apart x h))
 
--- the table's entries after a request that is not taken is put among the others
-pub located-with_entry : (p : Instance) (r : Request) (n : ℕ) → (IsTaken p r → ⊥) → Splits p.requests (request_name r) → option_or (located_in n r) (first_some (located_in n) p.requests) ≡ first_some (located_in n) (with_entry p.requests r)
-located-with_entry p r n free split =
+-- the request, where it has the stop
+abbrev pub itself : ℕ → Request → Option Request
+itself n r = option_map (λ _. r) (stop_in n r)
+
+-- the look-up answers nothing of a request without such a stop
+abbrev pub AsksStop : {X : Type 0} → ℕ → (Request → Option X) → Type 0
+AsksStop n f = (r : Request) → stop_in n r ≡ None → f r ≡ None
+
+pub itself-asks : (n : ℕ) → AsksStop n (itself n)
+itself-asks n r h = ap (option_map (λ _. r)) h
+
+pub located-asks : (n : ℕ) → AsksStop n (located_in n)
+located-asks n r h = ap (option_map (λ s. record { name = request_name r; partner = partner_in n r; stop = s })) h
+
+-- it finds nothing where no request has the stop
+pub none-asked : {X : Type 0} (n : ℕ) (f : Request → Option X) → AsksStop n f → (es : List (ℕ × Request)) → first_some (stop_in n) es ≡ None → first_some f es ≡ None
+none-asked n f asks [] h = refl
+none-asked n f asks (e ∷ es) h = rw (asks e.1 (first_none _ _ h)) (none-asked n f asks es (rest_none _ _ h))
+
+-- what is found after a request that is not taken is put among the others
+pub found-with_entry : {X : Type 0} (p : Instance) (r : Request) (n : ℕ) (f : Request → Option X) → AsksStop n f → (IsTaken p r → ⊥) → Splits p.requests (request_name r) → first_some f (with_entry p.requests r) ≡ option_or (f r) (first_some f p.requests)
+found-with_entry p r n f asks free split =
     let lesser = lesser_names p.requests (request_name r) in
     let greater = greater_names p.requests (request_name r) in
-    let whole : first_some (located_in n) (lesser ++ greater) ≡ first_some (located_in n) p.requests = ap (first_some (located_in n)) split in
-    sym (first_some-insert (located_in n) lesser greater (request_name r, r) (λ l h. whole ∙ located-free p r n l free h) ∙ ap (option_or (located_in n r)) whole)
+    let whole : first_some f (lesser ++ greater) ≡ first_some f p.requests = ap (first_some f) split in
+    first_some-insert f lesser greater (request_name r, r) (λ x h. whole ∙ none-asked n f asks p.requests (nothing (stop_in n r) refl x h)) ∙ ap (option_or (f r)) whole
+  where
+    nothing : (o : Option Stop) → stop_in n r ≡ o → (x : _) → f r ≡ Some x → stop_at p n ≡ None
+    nothing None e x h = absurd (none_some x (sym (asks r e) ∙ h))
+    nothing (Some s) e x h = stop_at-free p r n s free e
 
 -- what is written over the whole of a list
 pub take-overwritten : {X : Type 0} (n : ℕ) (xs ys : List X) → length xs ≡ n → take n (xs ++ drop (length xs) ys) ≡ xs
@@ -258,3 +272,74 @@ lookup-name_at p n name valid is = by (request_with p n) refl
     by (Some r) h =
         let same : request_name r ≡ name = (let g : Some (request_name r) ≡ Some name = sym (ap (option_map request_name) h) ∙ is in cc) in
         subst (λ m. lookup (nat_eq m) p.requests ≡ Some r) same (lookup-request_with p n r valid h)
+
+-- what the table's entry says where the request says it
+module _ {X : Type 0} (n : ℕ) (of_request : Request → Option X) (of_entry : Located → Option X)
+    (same : (r : Request) (s : Stop) → stop_in n r ≡ Some s → of_request r ≡ of_entry (record { name = request_name r; partner = partner_in n r; stop = s })) where
+  said : (es : List (ℕ × Request)) → option_and_then of_request (first_some (itself n) es) ≡ option_and_then of_entry (first_some (located_in n) es)
+  said [] = refl
+  said (e ∷ es) = by (stop_in n e.1) refl (said es)
+    where
+      by : (o : Option Stop) → stop_in n e.1 ≡ o → option_and_then of_request (first_some (itself n) es) ≡ option_and_then of_entry (first_some (located_in n) es)
+          → option_and_then of_request (option_or (itself n e.1) (first_some (itself n) es)) ≡ option_and_then of_entry (option_or (located_in n e.1) (first_some (located_in n) es))
+      by None o rest = rw o rest
+      by (Some s) o rest = rw o (same e.1 s o)
+
+-- the partner, and the pickup of a delivery
+pub partner_from_located : (p : Instance) (n : ℕ) → partner_at p n ≡ option_and_then (λ l. l.partner) (first_some (located_in n) p.requests)
+partner_from_located p n = said n (partner_in n) (λ l. l.partner) (λ r s h. refl) p.requests
+
+pub pickup_from_located : (p : Instance) (n : ℕ) → pickup_at p n ≡ option_and_then (λ l. cond (eqb l.name n) None (Some l.name)) (first_some (located_in n) p.requests)
+pickup_from_located p n = said n (pickup_in n) (λ l. cond (eqb l.name n) None (Some l.name)) same p.requests
+  where
+    same : (r : Request) (s : Stop) → stop_in n r ≡ Some s → pickup_in n r ≡ cond (eqb (request_name r) n) None (Some (request_name r))
+    same (Single a) s h = elim (eqb_tells a.number n) [
+      | inl t ↦ rw (t.0) refl
+      | inr t ↦ absurd (none_some s (let g : cond (eqb a.number n) (Some a) None ≡ Some s = h in rw (t.0) at g))
+    ]
+    same (Pair a b) s h = elim (eqb_tells a.number n) [
+      | inl t ↦ rw (t.0) refl
+      | inr t ↦ elim (eqb_tells b.number n) [
+        | inl u ↦ rw (t.0, u.0) refl
+        | inr u ↦ absurd (none_some s (let g : cond (eqb a.number n) (Some a) (cond (eqb b.number n) (Some b) None) ≡ Some s = h in rw (t.0, u.0) at g))
+      ]
+    ]
+
+-- and they are below the next number
+below_of : (p : Instance) (n m : ℕ) (of_request : Request → Option ℕ) → ((r : Request) → NumbersBelow p.next_number r → of_request r ≡ Some m → m < p.next_number) → IsInstance p → option_and_then of_request (request_with p n) ≡ Some m → m < p.next_number
+below_of p n m of_request each valid is = by (request_with p n) refl
+  where
+    by : (o : Option Request) → request_with p n ≡ o → m < p.next_number
+    by None h = absurd (none_some m (sym (ap (option_and_then of_request) h) ∙ is))
+    by (Some r) h = each r (first_some-holds (itself n) (NumbersBelow p.next_number) (NumbersBelow p.next_number) own p.requests r (below-each p.next_number p.requests valid.above) h) (sym (ap (option_and_then of_request) h) ∙ is)
+      where
+        own : (r q : Request) → NumbersBelow p.next_number r → itself n r ≡ Some q → NumbersBelow p.next_number q
+        own r q below h = of_stop (stop_in n r) h
+          where
+            of_stop : (o : Option Stop) → option_map (λ _. r) o ≡ Some q → NumbersBelow p.next_number q
+            of_stop None g = absurd (none_some q g)
+            of_stop (Some s) g = let one : r ≡ q = (cc) in subst (NumbersBelow p.next_number) one below
+
+pub partner-below : (p : Instance) (n m : ℕ) → IsInstance p → partner_at p n ≡ Some m → m < p.next_number
+unfolding NumbersBelow
+partner-below p n m valid is = below_of p n m (partner_in n) each valid is
+  where
+    each : (r : Request) → NumbersBelow p.next_number r → partner_in n r ≡ Some m → m < p.next_number
+    each (Single a) below h = absurd (none_some m h)
+    each (Pair a b) below h = chosen a.number n b.number _ (λ x. x < p.next_number) m (λ e. below.1) (chosen b.number n a.number None (λ x. x < p.next_number) m (λ e. below.0) (λ e. absurd (none_some m e))) h
+
+pub pickup-below : (p : Instance) (n m : ℕ) → IsInstance p → pickup_at p n ≡ Some m → m < p.next_number
+unfolding NumbersBelow
+pickup-below p n m valid is = below_of p n m (pickup_in n) each valid is
+  where
+    each : (r : Request) → NumbersBelow p.next_number r → pickup_in n r ≡ Some m → m < p.next_number
+    each (Single a) below h = absurd (none_some m h)
+    each (Pair a b) below h = elim (eqb_tells a.number n) [
+      | inl t ↦ absurd (none_some m (let g : cond (eqb a.number n) None (cond (eqb b.number n) (Some a.number) None) ≡ Some m = h in rw (t.0) at g))
+      | inr t ↦ chosen b.number n a.number None (λ x. x < p.next_number) m (λ e. below.0) (λ e. absurd (none_some m e)) (let g : cond (eqb a.number n) None (cond (eqb b.number n) (Some a.number) None) ≡ Some m = h in rw (t.0) at g)
+    ]
+
+-- the same of an answer
+pub some_below : (b : ℕ) (o : Option ℕ) → ((m : ℕ) → o ≡ Some m → m < b) → IfSome o (λ m. m < b)
+some_below b None each = tt
+some_below b (Some m) each = each m refl

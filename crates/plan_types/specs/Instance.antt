@@ -1,12 +1,12 @@
 -- A problem as plain data: what contracts see of a `Problem`.
-use Rattle.std.specs.Prelude.{◌≡◌, ℕ, ◌<◌, ◌≤◌, max, nat_lt, nat_eq, List, [], ◌∷◌, ◌++◌, map, filter, Option, None, ◌⊎◌, IsSome}
+use Rattle.std.specs.Prelude.{◌≡◌, ℕ, ◌<◌, ◌≤◌, max, nat_lt, nat_eq, List, [], ◌∷◌, ◌++◌, map, filter, not, ◌==◌, Option, None, ◌⊎◌, IsSome}
 use Rattle.std.specs.List.{AllByRecursion, IsDistinct, flat_map}
 use Rattle.std.specs.List.Sorted.{IsStrictlySortedBy}
 use Rattle.std.specs.Ordering.{nat_cmp}
 use Rattle.std.specs.Option.{option_map, option_or, option_and_then}
 use Rattle.std.specs.Map.{keys_of}
 use Rattle.plan_types.specs.Limits.{IsDepot, IsCapacity, IsFleet}
-use Rattle.plan_types.specs.Request.{request_name, stops_of, stop_in, partner_in, number_after, IsRequest}
+use Rattle.plan_types.specs.Request.{request_name, stops_of, stop_in, partner_in, pickup_in, number_after, IsRequest}
 use Rattle.plan_types.specs.declared.requests.Stop.{Stop}
 use Rattle.plan_types.specs.declared.requests.Request.{Request}
 use Rattle.plan_types.specs.declared.requests.Request.TheVariants.{Single, Pair}
@@ -50,6 +50,10 @@ name_at p n = option_map request_name (request_with p n)
 abbrev pub partner_at : Instance → ℕ → Option ℕ
 partner_at p n = option_and_then (partner_in n) (request_with p n)
 
+-- the number of its pickup, where it is a delivery
+abbrev pub pickup_at : Instance → ℕ → Option ℕ
+pickup_at p n = option_and_then (pickup_in n) (request_with p n)
+
 -- each number keeps its limits, each request stands under its name, the names rise, no number stands twice, and
 -- `next_number` is above them all
 pub record IsInstance (p : Instance) : Type 0 where
@@ -87,6 +91,14 @@ with_entry es r = lesser_names es (request_name r) ++ (request_name r, r) ∷ gr
 -- the problem with one more request
 abbrev pub with_request : Instance → Request → Instance
 with_request p r = record p { requests = with_entry p.requests r; next_number = max p.next_number (number_after r) }
+
+-- the requests of other names
+abbrev pub without_entry : List (ℕ × Request) → ℕ → List (ℕ × Request)
+without_entry es name = filter (λ e. not (e.0 == name)) es
+
+-- the problem without the request of this name; `next_number` stays, so that no number is given again
+abbrev pub without_request : Instance → ℕ → Instance
+without_request p name = record p { requests = without_entry p.requests name }
 
 -- no requests yet
 abbrev pub new_instance : Kind → Stop → ℕ → ℕ → Instance

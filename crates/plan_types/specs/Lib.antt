@@ -1,3 +1,4 @@
+pub mod Cost
 pub mod Instance
 pub mod Laws
 pub mod Limits

@@ -30,6 +30,11 @@ abbrev pub partner_in : ℕ → Request → Option ℕ
 partner_in n (Single s) = None
 partner_in n (Pair p d) = if p.number == n then Some d.number else if d.number == n then Some p.number else None
 
+-- the number of its pickup, where the stop with this number is its delivery
+abbrev pub pickup_in : ℕ → Request → Option ℕ
+pickup_in n (Single s) = None
+pickup_in n (Pair p d) = if p.number == n then None else if d.number == n then Some p.number else None
+
 -- one above the greatest number of the request
 abbrev pub number_after : Request → ℕ
 number_after (Single s) = s.number + 1

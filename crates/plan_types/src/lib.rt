@@ -7,7 +7,11 @@ mod plans;
 mod problems;
 mod requests;
 
-pub use laws::{numbers_are_below_the_next, requests_stand_by_name};
+pub use laws::{
+    costs_are_in_order, costs_compare_part_by_part, numbers_are_below_the_next,
+    put_adds_one_request, requests_are_found_by_stop, requests_stand_by_name,
+    take_removes_one_request,
+};
 pub use plans::{Cost, Pins, Plan, Route, Routes};
 pub use problems::{Problem, PutFault};
 pub use requests::{Kind, Request, Stop};

@@ -1,9 +1,10 @@
-ghost use Rattle.std.specs.Prelude.{◌≡◌, IfOk};
-ghost use Rattle.std.specs.Prelude.{List, ℕ};
+ghost use Rattle.std.specs.Prelude.{◌≡◌, ◌<◌, IfOk, OnOk, OnErr, Some, length, slice_get, slice_set};
+ghost use Rattle.std.specs.Prelude.{List, [], ◌∷◌, ◌++◌, ℕ};
 
 use crate::OutOfMemory;
 use std::alloc::Global;
 use std::marker::Model;
+use std::mem;
 
 /// The stops of one vehicle in the order of its visits, by number. The depot at both ends is left out.
 #[derive(Debug, Drop)]
@@ -18,6 +19,41 @@ impl Model for Route {
 }
 
 impl Route {
+    /// A route that visits no stop. Takes no memory.
+    pub fn new(alloc: Global) -> Route
+        ensures { result ≡ [] }
+    {
+        Route {
+            stops: Vec::new(alloc),
+        }
+    }
+
+    /// The same, with room for so many stops.
+    pub fn with_capacity(alloc: Global, stops: usize) -> Result<Route, OutOfMemory>
+        ensures { IfOk result (λ route. route ≡ []) }
+    {
+        Ok(Route {
+            stops: Vec::with_capacity(alloc, stops)?,
+        })
+    }
+
+    /// Visits one more stop, after the others. A refusal changes nothing.
+    pub fn push(&mut self, stop: u32) -> Result<(), OutOfMemory>
+        ensures ok { OnOk result (self.new ≡ self.old ++ stop ∷ []) }
+        ensures err { OnErr result (self.new ≡ self.old) }
+    {
+        self.stops.push(stop)?;
+        Ok(())
+    }
+
+    /// Visits these stops too, after the others. A refusal changes nothing.
+    pub fn extend_from_slice(&mut self, stops: &[u32]) -> Result<(), OutOfMemory>
+        ensures ok { OnOk result (self.new ≡ self.old ++ stops.now) }
+        ensures err { OnErr result (self.new ≡ self.old) }
+    {
+        self.stops.extend_from_slice(stops)
+    }
+
     /// The stop numbers in order.
     pub fn as_slice(&self) -> &[u32]
         ensures { result.now ≡ self.now }
@@ -64,6 +100,50 @@ impl Model for Routes {
 }
 
 impl Routes {
+    /// No routes. Takes no memory.
+    pub fn new(alloc: Global) -> Routes
+        ensures { result ≡ [] }
+    {
+        Routes {
+            routes: Vec::new(alloc),
+        }
+    }
+
+    /// The same, with room for so many routes.
+    pub fn with_capacity(alloc: Global, routes: usize) -> Result<Routes, OutOfMemory>
+        ensures { IfOk result (λ list. list ≡ []) }
+    {
+        Ok(Routes {
+            routes: Vec::with_capacity(alloc, routes)?,
+        })
+    }
+
+    /// Adds the route of the next vehicle. A refusal changes nothing, and gives up the route.
+    pub fn push(&mut self, route: Route) -> Result<(), OutOfMemory>
+        ensures ok { OnOk result (self.new ≡ self.old ++ route ∷ []) }
+        ensures err { OnErr result (self.new ≡ self.old) }
+    {
+        self.routes.push(route)?;
+        Ok(())
+    }
+
+    /// Sets the route at this index, counted from 0. Takes no memory.
+    pub fn set(&mut self, index: usize, route: Route)
+        requires { index < length self.old }
+        ensures { self.new ≡ slice_set self.old index route }
+    {
+        self.routes[index] = route;
+    }
+
+    /// Sets the route at this index, counted from 0, and gives the one that was there. Takes no memory.
+    pub fn replace(&mut self, index: usize, route: Route) -> Route
+        requires { index < length self.old }
+        ensures old { slice_get self.old index ≡ Some result }
+        ensures new { self.new ≡ slice_set self.old index route }
+    {
+        mem::replace(&mut self.routes[index], route)
+    }
+
     /// The routes in order.
     pub fn as_slice(&self) -> &[Route]
         ensures { result.now ≡ self.now }

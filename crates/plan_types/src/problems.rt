@@ -3,11 +3,11 @@ ghost use Rattle.std.specs.List.{AllByRecursion};
 ghost use Rattle.std.specs.List.Sorted.{IsStrictlySortedBy};
 ghost use Rattle.std.specs.Ordering.{nat_cmp};
 ghost use Rattle.std.specs.Map.{lookup};
-ghost use Rattle.std.specs.Option.{option_copied, option_or};
+ghost use Rattle.std.specs.Option.{option_copied, option_or, is_some};
 ghost use Rattle.indexmap.specs.IndexMap.{get, keys, index_map_len};
 ghost use Rattle.plan_types.specs.Limits.{IsDepot, IsCapacity, IsFleet, IsStop};
-ghost use Rattle.plan_types.specs.Request.{request_name, number_after, IsRequest};
-ghost use Rattle.plan_types.specs.Instance.{stop_at, name_at, request_with, new_instance, with_entry, with_request, lesser_names, greater_names, Splits, numbers_among, first_some, IsInstance, IsTaken};
+ghost use Rattle.plan_types.specs.Request.{request_name, stop_in, number_after, IsRequest};
+ghost use Rattle.plan_types.specs.Instance.{stop_at, name_at, request_with, partner_at, pickup_at, new_instance, with_entry, with_request, without_request, lesser_names, greater_names, numbers_among, first_some, IsInstance, IsTaken};
 ghost use Rattle.plan_types.specs.Located.{located_at, located_in};
 
 use crate::OutOfMemory;
@@ -40,10 +40,11 @@ impl From<AllocError> for PutFault {
     }
 }
 
-// A stop, and the name of its request.
+// A stop, the name of its request, and the other stop of its pair.
 #[derive(Clone, Copy, Debug)]
 pub(crate) struct Located {
     name: u32,
+    partner: Option<u32>,
     stop: Stop,
 }
 
@@ -61,7 +62,7 @@ pub struct Problem {
     pub requests: IndexMap<u32, Request>,
     /// The number that the next new stop takes, 1..=40,001: above each number that is there.
     pub next_number: u32,
-    // By number, so that looking up a stop is one read of memory.
+    // By number, so that a look-up of a stop, its request or its partner is one read of memory.
     located: Vec<Option<Located>>,
 }
 
@@ -127,6 +128,30 @@ impl Problem {
         }
     }
 
+    /// The number of the other stop of its pair. Takes no memory.
+    pub fn partner_of(&self, number: u32) -> Option<u32>
+        ensures found { result ≡ partner_at self.now number }
+        ensures below { IfSome result (λ n. n < self.now.next_number) }
+        ensures valid { IsInstance self.now }
+    {
+        match self.located(number) {
+            Some(located) => located.partner,
+            None => None,
+        }
+    }
+
+    /// The number of its pickup, where the stop with this number is a delivery. Takes no memory.
+    pub fn pickup_of(&self, number: u32) -> Option<u32>
+        ensures found { result ≡ pickup_at self.now number }
+        ensures below { IfSome result (λ n. n < self.now.next_number) }
+        ensures valid { IsInstance self.now }
+    {
+        match self.located(number) {
+            Some(located) if located.name != number => Some(located.name),
+            _ => None,
+        }
+    }
+
     /// Adds a request under its name, and raises `next_number` above its numbers. A refusal changes nothing.
     // Inlined as far as the map, so that a request's fields need not pass through memory one by one.
     #[inline(always)]
@@ -148,6 +173,17 @@ impl Problem {
         locate(&mut self.located, &request);
         self.next_number = self.next_number.max(after);
         Ok(())
+    }
+
+    /// Takes out the request with this name, and no other. Its numbers are not given again, since `next_number`
+    /// stays. Takes no memory.
+    pub fn take(&mut self, name: u32) -> Option<Request>
+        ensures taken { result ≡ lookup (nat_eq name) self.old.requests }
+        ensures after { self.new ≡ without_request self.old name }
+    {
+        let request = self.requests.shift_remove(&name)?;
+        vacate(&mut self.located, &request);
+        Some(request)
     }
 
     // Whether one of the request's numbers is there.
@@ -234,7 +270,6 @@ fn insert_by_name(requests: &mut IndexMap<u32, Request>, request: Request) -> Re
     requires absent { get nat_eq requests.old (request_name request) ≡ None }
     ensures ok { OnOk result (requests.new.entries ≡ with_entry requests.old.entries request) }
     ensures err { OnErr result (requests.new.entries ≡ requests.old.entries) }
-    ensures split { Splits requests.old.entries (request_name request) }
 {
     let name = request.name();
     // Requests mostly come in rising order: then there is nothing to search, and nothing to move.
@@ -279,18 +314,43 @@ fn locate(located: &mut [Option<Located>], request: &Request)
 {
     let name = request.name();
     match request {
-        Request::Single(stop) => enter(located, name, stop),
+        Request::Single(stop) => enter(located, name, None, stop),
         Request::Pair(pickup, delivery) => {
             // The pickup last, as a look-up by number finds it first.
-            enter(located, name, delivery);
-            enter(located, name, pickup);
+            enter(located, name, Some(pickup.number), delivery);
+            enter(located, name, Some(delivery.number), pickup);
         }
     }
 }
 
-fn enter(located: &mut [Option<Located>], name: u32, stop: &Stop)
+fn enter(located: &mut [Option<Located>], name: u32, partner: Option<u32>, stop: &Stop)
     requires { stop.now.number < length located.old }
-    ensures { (n : ℕ) → located_at located.new n ≡ (if stop.now.number == n then Some (record { name = name; stop = stop.now }) else located_at located.old n) }
+    ensures { (n : ℕ) → located_at located.new n ≡ (if stop.now.number == n then Some (record { name = name; partner = partner; stop = stop.now }) else located_at located.old n) }
 {
-    located[stop.number as usize] = Some(Located { name, stop: *stop });
+    located[stop.number as usize] = Some(Located {
+        name,
+        partner,
+        stop: *stop,
+    });
+}
+
+// Takes the stops of a request out of the table.
+fn vacate(located: &mut [Option<Located>], request: &Request)
+    requires { number_after request.now ≤ length located.old }
+    ensures { (n : ℕ) → located_at located.new n ≡ (if is_some (stop_in n request.now) then None else located_at located.old n) }
+{
+    match request {
+        Request::Single(stop) => clear(located, stop.number),
+        Request::Pair(pickup, delivery) => {
+            clear(located, pickup.number);
+            clear(located, delivery.number);
+        }
+    }
+}
+
+fn clear(located: &mut [Option<Located>], number: u32)
+    requires { number < length located.old }
+    ensures { (n : ℕ) → located_at located.new n ≡ (if number == n then None else located_at located.old n) }
+{
+    located[number as usize] = None;
 }

@@ -1,6 +1,6 @@
 use Rattle.std.proofs.Common.{sym, ◌∙◌, ◌≡◌, None, subst, nat_eq, ℕ}
 use Rattle.std.specs.Map.{lookup}
-use Rattle.plan_types.proofs.InsertLemmas.{inserted_before, inserted_last, splits_last, with_entry-at}
+use Rattle.plan_types.proofs.InsertLemmas.{inserted_before, inserted_last, with_entry-at}
 use Rattle.plan_types.proofs.problems.insert_by_name.Goals as goal
 
 pub returns-clause-ok : goal.returns-clause-ok
@@ -13,9 +13,6 @@ returns-clause-ok c =
     ∙ inserted_before c.name-name.result c.args.request es place.result c.in_ok-insert_before.field-0.0 place.ensures.within absent c.in_ok-insert_before.ensures.index
     ∙ with_entry-at es c.name-name.result c.args.request place.result named place.ensures.lesser place.ensures.greater
 
-pub returns-in_err-insert-clause-split : goal.returns-in_err-insert-clause-split
-returns-in_err-insert-clause-split c = splits_last _ _ (c.is_above_all.ensures.0 c.if-is_above_all.true) _ c.name-name.ensures
-
 pub returns-then-is_above_all-clause-ok : goal.returns-then-is_above_all-clause-ok
 returns-then-is_above_all-clause-ok c =
     let named = c.name-name.ensures in
@@ -23,6 +20,3 @@ returns-then-is_above_all-clause-ok c =
     c.in_ok-insert.ensures.entries
     ∙ inserted_last c.name-name.result es (c.is_above_all.ensures.0 c.if-is_above_all.true) c.args.request named
     (subst (λ (n : ℕ). lookup (nat_eq n) es ≡ None) (sym named) c.requires.absent)
-
-pub returns-then-is_above_all-clause-split : goal.returns-then-is_above_all-clause-split
-returns-then-is_above_all-clause-split c = splits_last _ _ (c.is_above_all.ensures.0 c.if-is_above_all.true) _ c.name-name.ensures

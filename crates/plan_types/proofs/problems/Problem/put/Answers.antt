@@ -1,9 +1,10 @@
-use Rattle.std.proofs.Common.{rules, List, Option, ap, ◌∙◌}
+use Rattle.std.proofs.Common.{rules, List, Option, sym, ap, ◌∙◌}
 use Rattle.plan_types.specs.Request.{IsRequest}
 use Rattle.plan_types.specs.Located.{instance_of, located_in, located_at}
 use Rattle.plan_types.specs.Instance.{IsTaken}
 use Rattle.plan_types.proofs.InstanceLemmas.{IsInstance-with_request}
-use Rattle.plan_types.proofs.LookupLemmas.{lookup-name-free, located-with_entry, take-overwritten}
+use Rattle.plan_types.proofs.InsertLemmas.{splits_free}
+use Rattle.plan_types.proofs.LookupLemmas.{lookup-name-free, located-asks, found-with_entry, take-overwritten}
 use Rattle.std.specs.Option.{option_or}
 use Rattle.plan_types.specs.declared.problems.Located.{Located}
 use Rattle.plan_types.proofs.problems.Problem.put.Goals as goal
@@ -20,11 +21,11 @@ invariant_of-self-2 c =
     let free : IsTaken (instance_of c.self.inside) c.args.request → ⊥ = search rules in
     let put = c.in_ok-insert_by_name.ensures in
     record {
-      valid = rw (put.ok, c.max-self-inside.ensures, c.number_after-after.ensures) (IsInstance-with_request p c.args.request c.self.invariant.valid fits free put.split);
+      valid = rw (put.ok, c.max-self-inside.ensures, c.number_after-after.ensures) (IsInstance-with_request p c.args.request c.self.invariant.valid fits free (splits_free p c.args.request c.self.invariant.valid free));
       located = λ n.
           rw (put.ok)
           (ap (λ (l : List (Option Located)). located_at l n) (take-overwritten c.make_room.new.located.len c.locate.new.located c.make_room.new.located.items (search rules))
           ∙ c.locate.ensures n
           ∙ ap (option_or (located_in n c.args.request)) (ap (λ (l : List (Option Located)). located_at l n) c.deref_mut.ensures.value ∙ c.in_ok-make_room.ensures.same n ∙ c.self.invariant.located n)
-          ∙ located-with_entry (instance_of c.self.inside) c.args.request n free put.split);
+          ∙ sym (found-with_entry p c.args.request n (located_in n) (located-asks n) free (splits_free p c.args.request c.self.invariant.valid free)));
     }
