@@ -8,7 +8,7 @@ use Rattle.std.proofs.lemmas.Nat.{from_le_bytes-to_le_bytes_8}
 use Rattle.rand_core.specs.Steps.{u32_at}
 use Rattle.rand_chacha.specs.ChaCha.{ChaCha}
 use Rattle.seeded_search.specs.Words.{block, word, step_words}
-use Rattle.seeded_search.specs.Generator.{Steps, before_step, steps_of, IsBeforeStep, next_words}
+use Rattle.seeded_search.specs.Generator.{NextStep, before_step, next_step_of, IsBeforeStep, next_words}
 use Rattle.seeded_search.proofs.BlockLemmas.{length-block, word_same}
 
 -- a list whose items are those of a function along n numbers
@@ -16,23 +16,23 @@ pub listed : (f : ℕ → ℕ) (a n : ℕ) (xs : List ℕ) → length xs ≡ n �
 listed f a n xs long h =
     ext_get_or 0 xs _ (long ∙ sym (length-map-range_with_len f a n)) (λ k lt. let below : k < n = omega arith in h k below ∙ sym (get_or-map-range_with_len f a n k (a + k) 0 below refl))
 
-pub next_words_same : (s : Steps) → next_words (before_step s) 16 ≡ step_words s.seed s.step
+pub next_words_same : (s : NextStep) → next_words (before_step s) 16 ≡ step_words s.seed s.step
 unfolding next_words step_words
 next_words_same s = ap (λ (f : ℕ → ℕ). map f (range_with_len (16 * s.step) 16)) (λ i p. sym (word_same s.seed p) i)
 
 -- the generator's key tells the seed
-steps_there : (s : Steps) → s.seed < 2 ^ 64 → steps_of (before_step s) ≡ s
+step_there : (s : NextStep) → s.seed < 2 ^ 64 → next_step_of (before_step s) ≡ s
 unfolding u32_at
-steps_there s h =
-    let seed : (steps_of (before_step s)).seed ≡ s.seed = omega (arith, from_le_bytes-to_le_bytes_8 s.seed h) in
+step_there s h =
+    let seed : (next_step_of (before_step s)).seed ≡ s.seed = omega (arith, from_le_bytes-to_le_bytes_8 s.seed h) in
     let step : 16 * s.step / 16 ≡ s.step = omega arith in
     λ i. record { seed = seed i; step = step i }
 
-pub steps_seen : (g : ChaCha) (s : Steps) → s.seed < 2 ^ 64 → g ≡ before_step s → steps_of g ≡ s
-steps_seen g s h e = ap steps_of e ∙ steps_there s h
+pub step_seen : (g : ChaCha) (s : NextStep) → s.seed < 2 ^ 64 → g ≡ before_step s → next_step_of g ≡ s
+step_seen g s h e = ap next_step_of e ∙ step_there s h
 
-pub stands_before : (g : ChaCha) (s : Steps) → s.seed < 2 ^ 64 → g ≡ before_step s → IsBeforeStep g
-stands_before g s h e = e ∙ ap before_step (sym (steps_seen g s h e))
+pub stands_before : (g : ChaCha) (s : NextStep) → s.seed < 2 ^ 64 → g ≡ before_step s → IsBeforeStep g
+stands_before g s h e = e ∙ ap before_step (sym (step_seen g s h e))
 
 pub step_is_block : (seed step : ℕ) → step_words seed step ≡ block seed step
 unfolding step_words word

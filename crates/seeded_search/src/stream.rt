@@ -2,29 +2,30 @@
 ghost use Rattle.std.specs.Prelude.{◌≡◌, ◌+◌, ◌*◌, ◌<◌, ◌^◌};
 ghost use Rattle.rand_chacha.specs.ChaCha.{ChaCha};
 ghost use Rattle.seeded_search.specs.Words.{key_bytes, step_words};
-ghost use Rattle.seeded_search.specs.Generator.{Steps, steps_of, before_step, IsBeforeStep, next_words};
+ghost use Rattle.seeded_search.specs.Generator.{NextStep, next_step_of, before_step, IsBeforeStep, next_words};
 
 use rand_chacha::ChaCha20Rng;
 use rand_core::SeedableRng;
 use rand_core::utils::NextWord;
 use std::marker::Model;
 
-/// The words of search steps, one step after another.
+/// The words of search steps, one step after another. It is kept for a run of steps, since the generator
+/// makes four blocks at once, of which a jump to another step would leave three unused.
 #[derive(Drop)]
 pub(crate) struct StepWords {
     rng: ChaCha20Rng,
 }
 
 impl Model for StepWords {
-    ghost Value = { Steps };
+    ghost Value = { NextStep };
 
-    ghost view = { λ words. steps_of words.rng };
+    ghost view = { λ words. next_step_of words.rng };
 
     ghost invariant = { λ words. IsBeforeStep words.rng };
 }
 
 impl StepWords {
-    /// The words from a step on.
+    /// The words of the steps from `step` on.
     pub(crate) fn from_step(seed: u64, step: u64) -> Self
         requires { step < 2 ^ 60 }
         ensures { result ≡ record { seed = seed; step = step } }
@@ -34,7 +35,7 @@ impl StepWords {
         }
     }
 
-    /// The next step's words.
+    /// The words of the next step.
     pub(crate) fn next_step(&mut self) -> [u32; 16]
         requires { self.old.step < 2 ^ 60 }
         ensures words { result ≡ step_words self.old.seed self.old.step }
