@@ -1,21 +1,19 @@
 -- Whether a route is feasible alone depends on its own requests alone.
-use Rattle.std.proofs.Common.{◌≡◌, ℕ, zero, suc, ◌+◌, Bool, true, false, not, ◌&&◌, ◌||◌, nat_le, int_lt, pos, List, [], ◌∷◌, length, All, Option, Some, None, get_or, slice_get, refl, sym, ap, ◌∙◌, eqb}
+use Rattle.std.proofs.Common.{◌≡◌, ℕ, ◌+◌, Bool, true, false, not, ◌&&◌, ◌||◌, nat_le, int_lt, pos, List, [], ◌∷◌, length, Option, Some, None, refl, sym, ap, ◌∙◌, eqb}
 use Rattle.std.specs.List.{AllByRecursion, list_all}
 use Rattle.std.specs.Option.{option_map, option_and_then, option_or, option_map_or}
 use Rattle.std.proofs.lemmas.List.Elements.{All-from_recursion, recursion_from_All}
-use Rattle.plan_types.specs.Instance.{Instance, first_some, stop_at, partner_at, request_with}
-use Rattle.plan_types.specs.Request.{stop_in, partner_in}
+use Rattle.plan_types.specs.Instance.{Instance, first_some, stop_at, partner_at, request_with, pickup_at}
+use Rattle.plan_types.specs.Request.{stop_in, partner_in, pickup_in}
 use Rattle.plan_types.specs.declared.requests.Stop.{Stop}
 use Rattle.plan_types.specs.declared.requests.Request.{Request}
 use Rattle.plan_types.specs.declared.requests.Kind.{Kind}
 use Rattle.plan_types.specs.declared.requests.Kind.TheVariants.{LiLim, Vrp}
-use Rattle.route_sched.specs.Agree.{AgreeOn, HasSameSchedule, SchedulesAgree}
+use Rattle.route_sched.specs.Agree.{HasSameSchedule, SchedulesAgree}
 use Rattle.route_sched.specs.Route.{place}
 use Rattle.route_sched.specs.Schedule.{start, load}
-use Rattle.plan_audit.specs.Rules.{pickup_in, pickup_at}
 use Rattle.plan_audit.specs.Passes.{has, has_whole_pairs, picks_up_first, places_of, keeps_capacity, keeps_windows, is_back_in_time, keeps_times, feasible_alone}
 use Rattle.plan_audit.specs.Locality.{AgreeOnRequests, FeasibilityIsLocal}
-use Rattle.plan_audit.proofs.FirstLemmas.{none_some}
 
 -- the stop with a number is that of the request which has it
 stop_of_request : (n : ℕ) (es : List (ℕ × Request)) → first_some (stop_in n) es ≡ option_and_then (stop_in n) (first_some (λ r. option_map (λ _. r) (stop_in n r)) es)

@@ -1,21 +1,18 @@
 -- What passes is judged route by route.
-use Rattle.std.proofs.Common.{◌≡◌, ◌↔◌, ℕ, zero, suc, ◌<◌, ◌≤◌, ◌⊎◌, Bool, true, false, not, ◌&&◌, pos, List, [], ◌∷◌, ◌++◌, All, length, take, Option, Some, None, IsSome, is_some, get_or, slice_get, refl, sym, ap, subst, ◌∙◌, inl, inr, arith, eqb, nat_eq}
-use Rattle.std.specs.List.{AllByRecursion, IsDistinct, list_any, list_all, concat, starts_with}
-use Rattle.std.proofs.lemmas.Bool.{cases_lt, and_parts, and_from, not-true, not_from_false, eqb-true, eq-eqb}
+use Rattle.std.proofs.Common.{◌≡◌, ℕ, zero, suc, ◌<◌, ◌≤◌, ◌⊎◌, Bool, true, false, not, ◌&&◌, List, [], ◌∷◌, ◌++◌, All, length, Some, is_some, slice_get, refl, sym, ap, subst, ◌∙◌, inl, inr, arith, eqb, nat_eq}
+use Rattle.std.specs.List.{AllByRecursion, IsDistinct, list_all, concat, starts_with}
+use Rattle.std.proofs.lemmas.Bool.{and_parts, and_from, not-true, not_from_false, eqb-true, eq-eqb}
 use Rattle.std.proofs.lemmas.List.Elements.{All-from_recursion, recursion_from_All, All-weaker}
 use Rattle.std.proofs.lemmas.List.Sums.{AllPass-from_list_all, list_all-from_AllPass}
 use Rattle.plan_types.specs.Instance.{Instance, stop_at}
-use Rattle.plan_types.specs.declared.requests.Stop.{Stop}
 use Rattle.route_sched.specs.Route.{IsLive, AreLiveOnce, IsPlan}
-use Rattle.route_sched.specs.Cost.{cost_of}
 use Rattle.plan_audit.specs.Rules.{item_at, Stands, IsUnknown, IsRepeated, IsMissing}
-use Rattle.plan_audit.specs.Verdict.{Subject, planned, printed, rule_number, KeepsRules, IsVerdict}
+use Rattle.plan_audit.specs.Verdict.{planned, KeepsRules}
 use Rattle.plan_audit.specs.Alone.{IsFeasibleAlone}
 use Rattle.plan_audit.specs.Laws.{KeepsPins}
 use Rattle.plan_audit.specs.Passes.{has, are_distinct, are_live_once, begin_with_pins, feasible_alone, passes}
-use Rattle.plan_audit.specs.Locality.{VerdictsAreUnique, TestsSayPass, IsPassing, PassesAreLocal, StandInOneRoute, PlansAreLocal, PinsAreLiveOnce, MayBeRoute, RoutesMayBeReplaced}
+use Rattle.plan_audit.specs.Locality.{VerdictsAreUnique, TestsSayPass, IsPassing, PassesAreLocal, StandInOneRoute, PlansAreLocal, PinsAreLiveOnce, RoutesMayBeReplaced}
 use Rattle.plan_audit.specs.declared.rules.Rule.TheVariants.{UnknownStop, Twice, Missing, SplitPair, DeliveryFirst, Load, Late, LateReturn, Fleet, Pin, PrintedCost}
-use Rattle.plan_audit.specs.declared.rules.Verdict.{Verdict}
 use Rattle.plan_audit.specs.declared.rules.Verdict.TheVariants.{Pass, Broken}
 use Rattle.plan_audit.proofs.AloneLemmas.{item_holds, distinct_places}
 use Rattle.plan_audit.proofs.FirstLemmas.{none_some, some_same}

@@ -1,18 +1,14 @@
--- What is known of the request that has a stop.
-use Rattle.std.proofs.Common.{◌≡◌, ℕ, zero, suc, ◌+◌, ◌<◌, Bool, true, false, not, cond, List, [], ◌∷◌, length, take, drop, count_by, slice_get, Option, Some, None, is_some, IfSome, refl, sym, ap, ◌∙◌, inl, inr, add-one, arith, Bor}
-use Rattle.std.specs.Option.{option_copied, option_and_then, option_or}
+-- Requests that are left out, one after another.
+use Rattle.std.proofs.Common.{◌≡◌, ℕ, zero, suc, ◌+◌, ◌<◌, Bool, true, false, not, cond, List, [], ◌∷◌, length, take, drop, count_by, slice_get, Option, Some, None, is_some, refl, sym, ap, ◌∙◌, inl, inr, add-one, arith}
+use Rattle.std.specs.Option.{option_and_then, option_or}
 use Rattle.std.proofs.lemmas.List.Sums.{sum_by_more}
 use Rattle.std.proofs.lemmas.Option.{slice_get_cases}
 use Rattle.route_sched.specs.Cost.{is_planned}
 use Rattle.plan_audit.specs.Finding.{unserved_in, first_unserved}
 use Rattle.plan_audit.proofs.FirstLemmas.{none_some}
-use Rattle.plan_types.specs.Instance.{Instance, IsInstance, request_with}
-use Rattle.plan_types.specs.Laws.{IsBelowNext, RequestsAreBelowNext, FoundAreBelowNext}
+use Rattle.plan_types.specs.Instance.{Instance, IsInstance}
+use Rattle.plan_types.specs.Laws.{IsBelowNext, RequestsAreBelowNext}
 use Rattle.plan_types.specs.declared.requests.Request.{Request}
-
-pub found-below : FoundAreBelowNext → (p : Instance) (n : ℕ) (o : Option (Bor Request)) → IsInstance p → option_copied o ≡ request_with p n → IfSome o (λ r. IsBelowNext p r.now)
-found-below below p n None valid is = tt
-found-below below p n (Some r) valid is = below p n r.now valid (sym is)
 
 -- what is answered of the request at an index
 pub unserved_is : RequestsAreBelowNext → (p : Instance) (routes : List (List ℕ)) (k n : ℕ) (r : Request) (b : Bool) → IsInstance p → slice_get p.requests k ≡ Some (n, r) → (IsBelowNext p r → b ≡ is_planned routes r)

@@ -7,16 +7,16 @@ use Rattle.std.proofs.lemmas.Bool.Decides.{eqb_tells}
 use Rattle.std.proofs.lemmas.Int.{by_lt_z, ints}
 use Rattle.std.proofs.lemmas.List.Sums.{fold_push}
 use Rattle.std.proofs.lemmas.List.FromFn.{map-range_with_len_more}
-use Rattle.plan_types.specs.Instance.{Instance, IsInstance, stop_at, partner_at, request_with, first_some}
+use Rattle.plan_types.specs.Instance.{Instance, IsInstance, stop_at, partner_at, request_with, first_some, pickup_at}
 use Rattle.plan_types.specs.Laws.{RequestsStandByName}
-use Rattle.plan_types.specs.Request.{request_name, stop_in, partner_in}
+use Rattle.plan_types.specs.Request.{request_name, stop_in, partner_in, pickup_in}
 use Rattle.plan_types.specs.declared.requests.Stop.{Stop}
 use Rattle.plan_types.specs.declared.requests.Request.{Request}
 use Rattle.plan_types.specs.declared.requests.Request.TheVariants.{Single, Pair}
 use Rattle.plan_types.specs.declared.requests.Kind.TheVariants.{LiLim}
 use Rattle.route_sched.specs.Route.{IsLive, place}
 use Rattle.route_sched.specs.Schedule.{start, load, time_between, greatest}
-use Rattle.plan_audit.specs.Rules.{item_at, Stands, StandsSomewhere, pickup_in, pickup_at, IsUnknown, IsRepeated, IsMissing, IsSplit, IsDeliveredFirst, IsOverloaded, IsLate, IsLateReturn}
+use Rattle.plan_audit.specs.Rules.{item_at, Stands, StandsSomewhere, IsUnknown, IsRepeated, IsMissing, IsSplit, IsDeliveredFirst, IsOverloaded, IsLate, IsLateReturn}
 use Rattle.plan_audit.specs.Finding.{seat_of}
 use Rattle.plan_audit.specs.Verdict.{Subject, planned, printed, routes_of, Breaks, KeepsRules}
 use Rattle.plan_audit.specs.Laws.{StandsOnce, IsPlanned, IsServedOnce, IsNamed, IsVisit, IsSoundPlan}

@@ -1,18 +1,17 @@
 -- The test of a route says that it is feasible alone.
-use Rattle.std.proofs.Common.{◌≡◌, ◌↔◌, ℕ, zero, suc, ◌+◌, ◌<◌, ◌≤◌, Bool, true, false, not, ◌&&◌, ◌||◌, nat_lt, nat_le, int_lt, pos, ◌<ℤ◌, List, [], ◌∷◌, length, Option, Some, None, slice_get, refl, sym, ap, subst, ◌∙◌, inl, inr, arith, eqb, nat_eq, add-one, T}
-use Rattle.std.specs.List.{list_any, list_all, range_with_len}
+use Rattle.std.proofs.Common.{◌≡◌, ℕ, zero, suc, ◌+◌, ◌<◌, ◌≤◌, Bool, true, false, not, ◌&&◌, ◌||◌, nat_le, int_lt, pos, ◌<ℤ◌, List, [], ◌∷◌, length, Option, Some, None, slice_get, refl, sym, ap, subst, ◌∙◌, inl, inr, arith, eqb, nat_eq, T}
+use Rattle.std.specs.List.{list_all, range_with_len}
 use Rattle.std.specs.Option.{option_map_or}
 use Rattle.std.proofs.lemmas.Bool.{cases_lt, and_parts, and_from, not-true, both_ways, eq-eqb, eqb-true, leb-true, le-leb, or_cases}
 use Rattle.std.proofs.lemmas.Map.Keys.{any_passes_from_place}
-use Rattle.plan_types.specs.Instance.{Instance, partner_at}
+use Rattle.plan_types.specs.Instance.{Instance, partner_at, pickup_at}
 use Rattle.plan_types.specs.declared.requests.Kind.{Kind}
 use Rattle.plan_types.specs.declared.requests.Kind.TheVariants.{LiLim, Vrp}
 use Rattle.route_sched.specs.Route.{place}
 use Rattle.route_sched.specs.Schedule.{start, load}
-use Rattle.plan_audit.specs.Rules.{item_at, Stands, StandsSomewhere, pickup_at}
-use Rattle.plan_audit.specs.Verdict.{KeepsRules}
-use Rattle.plan_audit.specs.Alone.{alone, IsFeasibleAlone}
-use Rattle.plan_audit.specs.Passes.{has, has_whole_pairs, picks_up_first, places_of, keeps_capacity, keeps_windows, is_back_in_time, keeps_times, feasible_alone}
+use Rattle.plan_audit.specs.Rules.{item_at, Stands, StandsSomewhere}
+use Rattle.plan_audit.specs.Alone.{IsFeasibleAlone}
+use Rattle.plan_audit.specs.Passes.{has, has_whole_pairs, picks_up_first, keeps_capacity, keeps_windows, is_back_in_time, keeps_times, feasible_alone}
 use Rattle.plan_audit.specs.Locality.{TestsSayFeasible}
 use Rattle.plan_audit.specs.declared.rules.Rule.TheVariants.{UnknownStop, Twice, Missing, SplitPair, DeliveryFirst, Load, Late, LateReturn, Fleet, Pin, PrintedCost}
 use Rattle.plan_audit.proofs.FirstLemmas.{none_some, some_same}

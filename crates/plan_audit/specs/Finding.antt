@@ -4,10 +4,9 @@ use Rattle.route_sched.specs.Schedule.{start}
 use Rattle.route_sched.specs.Visiting.{visit_after}
 use Rattle.route_sched.specs.declared.visits.Visit.{Visit}
 use Rattle.std.specs.Option.{option_map, option_or, option_and_then}
-use Rattle.plan_types.specs.Instance.{Instance, stop_at, partner_at}
+use Rattle.plan_types.specs.Instance.{Instance, stop_at, partner_at, pickup_at}
 use Rattle.plan_types.specs.declared.requests.Request.{Request}
 use Rattle.route_sched.specs.Cost.{is_planned}
-use Rattle.plan_audit.specs.Rules.{pickup_at}
 use Rattle.plan_audit.specs.Verdict.{Subject, planned, printed}
 use Rattle.plan_audit.specs.declared.faults.Told.{Told}
 use Rattle.plan_audit.specs.declared.faults.Fault.{Fault}

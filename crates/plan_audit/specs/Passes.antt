@@ -3,12 +3,11 @@
 use Rattle.std.specs.Prelude.{ℕ, ◌+◌, pos, nat_eq, nat_le, int_lt, ◌==◌, ◌&&◌, ◌||◌, not, Bool, true, false, List, [], ◌∷◌, length, is_some}
 use Rattle.std.specs.List.{list_any, list_all, concat, starts_with, range_with_len}
 use Rattle.std.specs.Option.{option_map_or}
-use Rattle.plan_types.specs.Instance.{Instance, stop_at, partner_at}
+use Rattle.plan_types.specs.Instance.{Instance, stop_at, partner_at, pickup_at}
 use Rattle.plan_types.specs.declared.requests.Kind.{Kind}
 use Rattle.plan_types.specs.declared.requests.Kind.TheVariants.{LiLim, Vrp}
 use Rattle.route_sched.specs.Route.{place}
 use Rattle.route_sched.specs.Schedule.{start, load}
-use Rattle.plan_audit.specs.Rules.{pickup_at}
 
 -- number n stands in the list
 abbrev pub has : List ℕ → ℕ → Bool

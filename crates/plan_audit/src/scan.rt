@@ -6,7 +6,7 @@ ghost use Rattle.route_sched.specs.Cost.{has_stop, is_planned, unplanned_count};
 ghost use Rattle.plan_types.specs.Laws.{IsBelowNext};
 
 use crate::faults::{Fault, Told, first_fault, first_place};
-use crate::pairs::{early_delivery, missing_partner, partner};
+use crate::pairs::{early_delivery, missing_partner};
 use crate::seats::Seat;
 use plan_types::{Problem, Request, Route, numbers_are_below_the_next};
 
@@ -189,7 +189,7 @@ impl Scan<'_> {
     fn split_stop(&self, number: usize, stop: u32) -> Option<u32>
         ensures { result ≡ split_at self.now.problem.now self.now.routes.now number stop }
     {
-        let seat = self.seat(partner(self.problem, stop)?)?;
+        let seat = self.seat(self.problem.partner_of(stop)?)?;
         if seat.route == number {
             None
         } else {

@@ -1,4 +1,4 @@
-//! Laws of words and picks.
+// What words and picks mean, each law for every seed, step and number of things.
 ghost use Rattle.seeded_search.specs.Laws.{StepsAreBlocks, PicksAreEven};
 
 /// The words of a step are the whole block of the key stream that has its number.

@@ -3,8 +3,8 @@ use crate::{pick, words};
 
 const SEED: u64 = 0x0123_4567_89ab_cdef;
 
-/// Steps of `SEED` around 2^32, as two other programs give them: ChaCha20 of Python's package
-/// `cryptography`, whose nonce of 16 bytes begins with the block's number in 8, and of OpenSSL.
+/// Steps of `SEED` around 2^32, as another program gives them: ChaCha20 of Python's package
+/// `cryptography`, whose nonce of 16 bytes begins with the block's number in 8.
 const AROUND_2_32: [[u32; 16]; 2] = [
     [
         0x0f640ffb, 0x881a77cf, 0x60a36cb7, 0x18d41c4b, 0xeed5f6b9, 0xe7e84d72, 0x98dfcddd,
@@ -18,7 +18,7 @@ const AROUND_2_32: [[u32; 16]; 2] = [
     ],
 ];
 
-/// The last step, by the same programs.
+/// The last step, by the same program.
 const LAST: [u32; 16] = [
     0x9a8bde32, 0x56edd1bf, 0xa1f4897a, 0x606542e5, 0x3d78e099, 0x7c4abcde, 0xb8d8218e, 0xdc0f6b0f,
     0x4b5c65ad, 0xa6a4ea9c, 0x6e24049a, 0xf8cbc00e, 0x7fb24a19, 0xa1f723f3, 0xddf43f46, 0x8117b9f5,
