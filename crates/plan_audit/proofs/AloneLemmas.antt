@@ -6,7 +6,7 @@ use Rattle.plan_types.specs.Instance.{Instance}
 use Rattle.plan_types.specs.declared.requests.Kind.TheVariants.{LiLim, Vrp}
 use Rattle.route_sched.specs.Route.{AreLiveOnce}
 use Rattle.plan_audit.specs.Rules.{item_at, IsRepeated, IsMissing, IsSplit, IsDeliveredFirst, IsOverloaded, IsLate}
-use Rattle.plan_audit.specs.Passes.{first_place, first_route, told_by, missing_at, delivered_at, visit_told, is_overloaded, is_late, return_told}
+use Rattle.plan_audit.specs.Finding.{first_place, first_route, told_by, missing_at, delivered_at, visit_told, is_overloaded, is_late, return_told}
 use Rattle.plan_audit.specs.Verdict.{rule_number, Breaks, KeepsRules}
 use Rattle.plan_audit.specs.Alone.{alone, IsLeastAlone}
 use Rattle.plan_audit.specs.declared.faults.Told.{Told}
@@ -33,7 +33,7 @@ not_split p route r i n b =
     b.1.2.2 (c.0 ∙ sym a.0)
 
 -- no number of a distinct list stands at two places
-item_holds : (P : ℕ → Type 0) (ns : List ℕ) (k n : ℕ) → AllByRecursion P ns → slice_get ns k ≡ Some n → P n
+pub item_holds : (P : ℕ → Type 0) (ns : List ℕ) (k n : ℕ) → AllByRecursion P ns → slice_get ns k ≡ Some n → P n
 item_holds P [] k n all at = absurd (none_some n at)
 item_holds P (m ∷ ns) zero n all at = subst P (some_same m n at) all.0
 item_holds P (m ∷ ns) (suc k) n all at = item_holds P ns k n all.1 at
@@ -41,7 +41,7 @@ item_holds P (m ∷ ns) (suc k) n all at = item_holds P ns k n all.1 at
 not_apart : (n m : ℕ) → nat_eq n m ≡ false → n ≡ m → ⊥
 not_apart n m apart same = let h : true ≡ false = sym (eq-eqb n m same) ∙ apart in cc
 
-distinct_places : (ns : List ℕ) (j i n : ℕ) → IsDistinct nat_eq ns → slice_get ns j ≡ Some n → slice_get ns i ≡ Some n → j ≡ i
+pub distinct_places : (ns : List ℕ) (j i n : ℕ) → IsDistinct nat_eq ns → slice_get ns j ≡ Some n → slice_get ns i ≡ Some n → j ≡ i
 unfolding IsDistinct
 distinct_places [] j i n once a b = absurd (none_some n a)
 distinct_places (m ∷ ns) zero zero n once a b = refl

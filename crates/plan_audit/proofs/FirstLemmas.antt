@@ -1,7 +1,7 @@
 -- What is answered first is answered somewhere, and nowhere before.
 use Rattle.std.proofs.Common.{◌≡◌, ℕ, zero, suc, ◌+◌, ◌≤◌, List, [], ◌∷◌, Option, Some, None, slice_get, refl, sym, ap, subst, ◌∙◌, arith}
 use Rattle.std.specs.Option.{option_map, option_or}
-use Rattle.plan_audit.specs.Passes.{first_place, first_route}
+use Rattle.plan_audit.specs.Finding.{first_place, first_route}
 use Rattle.plan_audit.specs.declared.faults.Told.{Told}
 use Rattle.plan_audit.specs.declared.faults.Fault.{Fault}
 

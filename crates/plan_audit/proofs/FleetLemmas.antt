@@ -4,7 +4,7 @@ use Rattle.std.proofs.lemmas.Bool.Decides.{eqb_tells}
 use Rattle.std.proofs.lemmas.List.Sums.{sum_by-cons}
 use Rattle.plan_types.specs.Instance.{Instance}
 use Rattle.route_sched.specs.Cost.{used_count}
-use Rattle.plan_audit.specs.Passes.{first_beyond}
+use Rattle.plan_audit.specs.Finding.{first_beyond}
 use Rattle.plan_audit.specs.Verdict.{IsBeyondFleet}
 use Rattle.plan_audit.proofs.FirstLemmas.{none_some, some_same}
 use Rattle.plan_audit.proofs.SpotLemmas.{IsLeastOf}

@@ -12,7 +12,7 @@ use Rattle.route_sched.specs.Route.{place}
 use Rattle.route_sched.specs.Schedule.{start, load}
 use Rattle.route_sched.specs.Cost.{cost_of, used_count, total_length}
 use Rattle.plan_audit.specs.Rules.{item_at, Stands, StandsSomewhere}
-use Rattle.plan_audit.specs.Passes.{first_beyond, first_off_pin}
+use Rattle.plan_audit.specs.Finding.{first_beyond, first_off_pin}
 use Rattle.plan_audit.specs.Verdict.{Subject, planned, printed, routes_of, KeepsRules, IsUnserved, IsVerdict}
 use Rattle.plan_audit.specs.Alone.{alone}
 use Rattle.plan_audit.specs.Laws.{IsPlanned, IsNamed, IsSoundPlan, KeepsPins, AreAllPlanned, PassesAreSound, PassesArePlans, UnsoundIsBroken, PlansPassWhereSound, SolutionsPassWhereSound, RoutesAreFeasible}
@@ -51,7 +51,7 @@ kept_from : (p : Instance) (s : Subject) (v : Verdict) (cost : Cost) → v ≡ P
 kept_from p s v cost same is = (subst (IsVerdict p s) same is).0
 
 -- nothing is told of pins that are kept
-no_pin_off : (routes pins : List (List ℕ)) → KeepsPins routes pins → first_off_pin routes pins ≡ None
+pub no_pin_off : (routes pins : List (List ℕ)) → KeepsPins routes pins → first_off_pin routes pins ≡ None
 no_pin_off routes pins kept = by (first_off_pin routes pins) refl
   where
     by : (o : Option Fault) → first_off_pin routes pins ≡ o → o ≡ None

@@ -1,7 +1,9 @@
+pub mod AgreeLemmas
 pub mod AloneLemmas
 pub mod FirstLemmas
 pub mod FleetLemmas
 pub mod LawProofs
+pub mod LocalLemmas
 pub mod PairLemmas
 pub mod PinLemmas
 pub mod PlanLemmas
@@ -12,6 +14,7 @@ pub mod ServiceLemmas
 pub mod SoundLemmas
 pub mod SpotLemmas
 pub mod StepLemmas
+pub mod TestLemmas
 pub mod TimeLemmas
 pub mod VerdictLemmas
 pub mod VisitLemmas

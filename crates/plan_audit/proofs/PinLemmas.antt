@@ -2,7 +2,7 @@
 use Rattle.std.proofs.Common.{◌≡◌, ◌≢◌, ℕ, zero, suc, ◌<◌, ◌≤◌, ◌⊎◌, true, false, cond, List, [], ◌∷◌, Option, Some, None, slice_get, unwrap_or, refl, sym, ap, subst, ◌∙◌, inl, inr, arith}
 use Rattle.std.proofs.lemmas.Bool.Decides.{eqb_tells}
 use Rattle.plan_audit.specs.Rules.{item_at, Stands, IsNotAfter}
-use Rattle.plan_audit.specs.Passes.{first_off_pin, is_found, off_pin_at}
+use Rattle.plan_audit.specs.Finding.{first_off_pin, is_found, off_pin_at}
 use Rattle.plan_audit.specs.Verdict.{IsOffPin}
 use Rattle.plan_audit.specs.declared.faults.Fault.{Fault}
 use Rattle.plan_audit.proofs.FirstLemmas.{none_some, some_same}

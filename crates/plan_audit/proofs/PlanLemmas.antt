@@ -12,7 +12,7 @@ use Rattle.plan_audit.specs.Rules.{IsUnknown, IsRepeated}
 use Rattle.plan_audit.proofs.SeatLemmas.{Sits}
 
 -- what holds of the item at each index
-all_by_get : {X : Type 0} (P : X → Type 0) (xs : List X) → ((k : ℕ) (x : X) → slice_get xs k ≡ Some x → P x) → AllByRecursion P xs
+pub all_by_get : {X : Type 0} (P : X → Type 0) (xs : List X) → ((k : ℕ) (x : X) → slice_get xs k ≡ Some x → P x) → AllByRecursion P xs
 all_by_get P [] each = tt
 all_by_get P (x ∷ xs) each = (each zero x refl, all_by_get P xs (λ k y at. each (suc k) y at))
 
@@ -33,7 +33,7 @@ distinct-append (x ∷ xs) ys a b apart = (all-append (λ y. nat_eq x y ≡ fals
 apart_from : (n m : ℕ) → (n ≡ m → ⊥) → nat_eq n m ≡ false
 apart_from n m ne = elim (eqb_tells n m) [ inl t ↦ absurd (ne t.1) | inr t ↦ t.0 ]
 
-distinct_route : (ns : List ℕ) → ((j i n : ℕ) → slice_get ns j ≡ Some n → slice_get ns i ≡ Some n → j ≡ i) → IsDistinct nat_eq ns
+pub distinct_route : (ns : List ℕ) → ((j i n : ℕ) → slice_get ns j ≡ Some n → slice_get ns i ≡ Some n → j ≡ i) → IsDistinct nat_eq ns
 unfolding IsDistinct
 distinct_route [] once = tt
 distinct_route (n ∷ ns) once = (
@@ -42,7 +42,7 @@ distinct_route (n ∷ ns) once = (
 )
 
 -- each stop has one seat
-StandOnce : List (List ℕ) → Type 0
+unfoldable pub StandOnce : List (List ℕ) → Type 0
 StandOnce routes = (q j r i n : ℕ) → Sits routes q j n → Sits routes r i n → (q ≡ r) × (j ≡ i)
 
 distinct_concat : (routes : List (List ℕ)) → StandOnce routes → IsDistinct nat_eq (concat routes)

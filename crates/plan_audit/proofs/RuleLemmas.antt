@@ -3,13 +3,13 @@ use Rattle.std.proofs.Common.{◌≡◌, ◌≢◌, ℕ, zero, suc, ◌<◌, ◌
 use Rattle.std.specs.Option.{option_and_then}
 use Rattle.std.proofs.lemmas.Bool.{cases_lt, lt-ltb, ltb-true}
 use Rattle.std.proofs.lemmas.Bool.Decides.{eqb_tells}
-use Rattle.plan_types.specs.Instance.{Instance, stop_at, partner_at, request_with}
-use Rattle.plan_types.specs.Request.{partner_in}
+use Rattle.plan_types.specs.Instance.{Instance, stop_at, partner_at, request_with, pickup_at}
+use Rattle.plan_types.specs.Request.{partner_in, pickup_in}
 use Rattle.plan_types.specs.declared.requests.Stop.{Stop}
 use Rattle.plan_types.specs.declared.requests.Request.{Request}
 use Rattle.plan_types.specs.declared.requests.Request.TheVariants.{Single, Pair}
-use Rattle.plan_audit.specs.Rules.{Stands, StandsSomewhere, IsEarlier, pickup_in, pickup_at, IsUnknown, IsRepeated, IsMissing, IsSplit, IsDeliveredFirst}
-use Rattle.plan_audit.specs.Passes.{seat_of, unknown_at, repeated_at, missing_at, split_at, delivered_at}
+use Rattle.plan_audit.specs.Rules.{Stands, StandsSomewhere, IsEarlier, IsUnknown, IsRepeated, IsMissing, IsSplit, IsDeliveredFirst}
+use Rattle.plan_audit.specs.Finding.{seat_of, unknown_at, repeated_at, missing_at, split_at, delivered_at}
 use Rattle.plan_audit.specs.declared.seats.Seat.{Seat}
 use Rattle.plan_audit.proofs.FirstLemmas.{none_some, some_same}
 use Rattle.plan_audit.proofs.SeatLemmas.{Sits, seat_of-found, seat_of-none}

@@ -2,7 +2,7 @@
 use Rattle.std.proofs.Common.{◌≡◌, ℕ, ◌+◌, ◌<◌, ◌≤◌, ◌⊎◌, Bool, true, false, cond, List, [], ◌∷◌, Option, Some, None, slice_get, refl, sym, ap, subst, ◌∙◌, inl, inr, arith, eqb}
 use Rattle.std.specs.Option.{option_map, option_or}
 use Rattle.std.proofs.lemmas.Bool.{eqb-true, eq-eqb, cases_lt}
-use Rattle.plan_audit.specs.Passes.{place_of, seat_in, seat_from, seat_of}
+use Rattle.plan_audit.specs.Finding.{place_of, seat_in, seat_from, seat_of}
 use Rattle.plan_audit.specs.declared.seats.Seat.{Seat}
 use Rattle.plan_audit.proofs.FirstLemmas.{none_some, some_same, first_answer, IsFirst, AnswersNothing, first_found, first_nothing, option_or-map, map-map, map-none}
 

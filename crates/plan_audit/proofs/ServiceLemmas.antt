@@ -5,12 +5,11 @@ use Rattle.std.specs.Map.{lookup}
 use Rattle.std.specs.Option.{option_map, option_and_then, option_or}
 use Rattle.std.proofs.lemmas.Bool.{eq-eqb}
 use Rattle.std.proofs.lemmas.Bool.Decides.{eqb_tells}
-use Rattle.plan_types.specs.Instance.{Instance, IsInstance, partner_at, request_with, numbers_among, first_some}
-use Rattle.plan_types.specs.Request.{stop_in, partner_in, IsRequest}
+use Rattle.plan_types.specs.Instance.{Instance, IsInstance, partner_at, request_with, numbers_among, first_some, pickup_at}
+use Rattle.plan_types.specs.Request.{stop_in, partner_in, IsRequest, pickup_in}
 use Rattle.plan_types.specs.declared.requests.Stop.{Stop}
 use Rattle.plan_types.specs.declared.requests.Request.{Request}
 use Rattle.plan_types.specs.declared.requests.Request.TheVariants.{Single, Pair}
-use Rattle.plan_audit.specs.Rules.{pickup_in, pickup_at}
 use Rattle.plan_audit.specs.Laws.{IsNamed}
 use Rattle.plan_audit.proofs.FirstLemmas.{none_some, some_same}
 

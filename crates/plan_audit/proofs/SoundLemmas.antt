@@ -7,17 +7,17 @@ use Rattle.std.proofs.lemmas.Bool.Decides.{eqb_tells}
 use Rattle.std.proofs.lemmas.Int.{by_lt_z, ints}
 use Rattle.std.proofs.lemmas.List.Sums.{fold_push}
 use Rattle.std.proofs.lemmas.List.FromFn.{map-range_with_len_more}
-use Rattle.plan_types.specs.Instance.{Instance, IsInstance, stop_at, partner_at, request_with, first_some}
+use Rattle.plan_types.specs.Instance.{Instance, IsInstance, stop_at, partner_at, request_with, first_some, pickup_at}
 use Rattle.plan_types.specs.Laws.{RequestsStandByName}
-use Rattle.plan_types.specs.Request.{request_name, stop_in, partner_in}
+use Rattle.plan_types.specs.Request.{request_name, stop_in, partner_in, pickup_in}
 use Rattle.plan_types.specs.declared.requests.Stop.{Stop}
 use Rattle.plan_types.specs.declared.requests.Request.{Request}
 use Rattle.plan_types.specs.declared.requests.Request.TheVariants.{Single, Pair}
 use Rattle.plan_types.specs.declared.requests.Kind.TheVariants.{LiLim}
 use Rattle.route_sched.specs.Route.{IsLive, place}
 use Rattle.route_sched.specs.Schedule.{start, load, time_between, greatest}
-use Rattle.plan_audit.specs.Rules.{item_at, Stands, StandsSomewhere, pickup_in, pickup_at, IsUnknown, IsRepeated, IsMissing, IsSplit, IsDeliveredFirst, IsOverloaded, IsLate, IsLateReturn}
-use Rattle.plan_audit.specs.Passes.{seat_of}
+use Rattle.plan_audit.specs.Rules.{item_at, Stands, StandsSomewhere, IsUnknown, IsRepeated, IsMissing, IsSplit, IsDeliveredFirst, IsOverloaded, IsLate, IsLateReturn}
+use Rattle.plan_audit.specs.Finding.{seat_of}
 use Rattle.plan_audit.specs.Verdict.{Subject, planned, printed, routes_of, Breaks, KeepsRules}
 use Rattle.plan_audit.specs.Laws.{StandsOnce, IsPlanned, IsServedOnce, IsNamed, IsVisit, IsSoundPlan}
 use Rattle.plan_audit.specs.declared.seats.Seat.{Seat}
@@ -47,16 +47,16 @@ item_there [] k lt = absurd (omega arith)
 item_there (n ∷ ns) zero lt = (n, refl)
 item_there (n ∷ ns) (suc k) lt = item_there ns k (omega arith)
 
-stop_there : (ns : List ℕ) (i : ℕ) → 1 ≤ i → i ≤ length ns → (n : ℕ) × (item_at ns i ≡ Some n)
+pub stop_there : (ns : List ℕ) (i : ℕ) → 1 ≤ i → i ≤ length ns → (n : ℕ) × (item_at ns i ≡ Some n)
 stop_there ns zero from to = absurd (omega arith)
 stop_there ns (suc k) from to = item_there ns k (omega arith)
 
-item_within : (ns : List ℕ) (k n : ℕ) → slice_get ns k ≡ Some n → k < length ns
+pub item_within : (ns : List ℕ) (k n : ℕ) → slice_get ns k ≡ Some n → k < length ns
 item_within [] k n at = absurd (none_some n at)
 item_within (m ∷ ns) zero n at = omega arith
 item_within (m ∷ ns) (suc k) n at = let lt = item_within ns k n at in omega arith
 
-stop_within : (ns : List ℕ) (i n : ℕ) → item_at ns i ≡ Some n → (1 ≤ i) × (i ≤ length ns)
+pub stop_within : (ns : List ℕ) (i n : ℕ) → item_at ns i ≡ Some n → (1 ≤ i) × (i ≤ length ns)
 stop_within ns zero n at = absurd (none_some n at)
 stop_within ns (suc k) n at = let lt = item_within ns k n at in (omega arith, omega arith)
 

@@ -2,7 +2,7 @@
 use Rattle.std.proofs.Common.{◌≡◌, ℕ, suc, ◌≤◌, List, Option, Some, None, slice_get, refl, sym, subst, ◌∙◌, inl, inr, arith}
 use Rattle.std.proofs.lemmas.Bool.{cases_lt}
 use Rattle.plan_audit.specs.Rules.{IsNotAfter}
-use Rattle.plan_audit.specs.Passes.{first_place, first_route, told_by}
+use Rattle.plan_audit.specs.Finding.{first_place, first_route, told_by}
 use Rattle.plan_audit.specs.declared.faults.Told.{Told}
 use Rattle.plan_audit.specs.declared.faults.Fault.{Fault}
 use Rattle.plan_audit.proofs.FirstLemmas.{none_some, some_same, IsFirst, least_at, fault_found, told_found, fault_nothing, told_nothing}

@@ -5,7 +5,7 @@ use Rattle.plan_types.specs.Laws.{StopsAreBelowNext}
 use Rattle.plan_types.specs.declared.requests.Kind.TheVariants.{LiLim, Vrp}
 use Rattle.route_sched.specs.Route.{AreLiveOnce, IsPlan}
 use Rattle.plan_audit.specs.Rules.{IsNotAfter, IsUnknown, IsRepeated, IsMissing, IsSplit, IsDeliveredFirst, IsOverloaded, IsLate, IsLateReturn}
-use Rattle.plan_audit.specs.Passes.{first_route, told_by, unknown_at, repeated_at, missing_at, split_at, delivered_at, visit_told, is_overloaded, is_late, return_told, first_beyond, unserved_of, first_off_pin}
+use Rattle.plan_audit.specs.Finding.{first_route, told_by, unknown_at, repeated_at, missing_at, split_at, delivered_at, visit_told, is_overloaded, is_late, return_told, first_beyond, unserved_of, first_off_pin}
 use Rattle.plan_types.specs.declared.plans.Cost.{Cost}
 use Rattle.route_sched.specs.Cost.{total_length}
 use Rattle.plan_audit.proofs.FleetLemmas.{fleet_nothing, fleet_found, used-most, length-take-most}

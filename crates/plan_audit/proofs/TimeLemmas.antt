@@ -9,7 +9,7 @@ use Rattle.route_sched.specs.Schedule.{start, load}
 use Rattle.route_sched.specs.Visiting.{visit_after}
 use Rattle.route_sched.specs.declared.visits.Visit.{Visit}
 use Rattle.plan_audit.specs.Rules.{item_at, IsNotAfter, IsOverloaded, IsLate, IsLateReturn}
-use Rattle.plan_audit.specs.Passes.{first_route, visit_told, is_overloaded, is_late, return_told}
+use Rattle.plan_audit.specs.Finding.{first_route, visit_told, is_overloaded, is_late, return_told}
 use Rattle.plan_audit.specs.declared.faults.Told.{Told}
 use Rattle.plan_audit.specs.declared.faults.Fault.{Fault}
 use Rattle.plan_audit.proofs.FirstLemmas.{none_some, some_same, fault_found, fault_nothing, least_at}
@@ -41,7 +41,7 @@ module _ (p : Instance) (fails : Visit → Bool) (Fails : List ℕ → ℕ → T
           let t = standing_in routes b.0 r i s b.1 b.2 in
           (t.0, t.1, t.2, t.3, (b.0, s, t.4, t.5, ap (λ c. cond c (Some s) None) (said b.0 t.1 (subst (λ i. Fails b.0 i) t.3 b.3))))
 
-true_from : (b : Bool) → T b → b ≡ true
+pub true_from : (b : Bool) → T b → b ≡ true
 true_from true t = refl
 true_from false t = absurd t
 

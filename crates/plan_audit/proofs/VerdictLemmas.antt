@@ -3,7 +3,7 @@ use Rattle.std.proofs.Common.{◌≡◌, ℕ, suc, ◌+◌, ◌<◌, ◌≤◌, 
 use Rattle.std.proofs.lemmas.Bool.{cases_lt}
 use Rattle.plan_types.specs.Instance.{Instance, IsInstance}
 use Rattle.plan_audit.specs.Rules.{IsNotAfter, IsMissing}
-use Rattle.plan_audit.specs.Passes.{unserved_of}
+use Rattle.plan_audit.specs.Finding.{unserved_of}
 use Rattle.plan_audit.specs.Verdict.{Subject, planned, printed, routes_of, rule_number, Breaks, KeepsRules, IsLeastBroken, IsBrokenOver, IsVerdictOver}
 use Rattle.plan_audit.specs.declared.rules.Rule.{Rule}
 use Rattle.plan_audit.specs.declared.rules.Rule.TheVariants.{UnknownStop, Twice, Missing, SplitPair, DeliveryFirst, Load, Late, LateReturn, Fleet, Pin, PrintedCost}

@@ -1,7 +1,7 @@
 -- The visits of a route, one after another.
 use Rattle.std.proofs.Common.{◌≡◌, ℕ, zero, suc, slice_get, ◌+◌, ◌-◌, ◌<◌, ◌≤◌, List, ◌∷◌, map, length, sym, ap, ◌∙◌, arith, Some, None, Option, Bool, cond, get_or, drop, drop-cons, add-one}
 use Rattle.std.specs.Option.{option_map, option_or}
-use Rattle.plan_audit.specs.Passes.{first_place, visit_told}
+use Rattle.plan_audit.specs.Finding.{first_place, visit_told}
 use Rattle.std.specs.List.{range_with_len}
 use Rattle.plan_types.specs.Instance.{Instance}
 use Rattle.plan_audit.proofs.FirstLemmas.{none_some}

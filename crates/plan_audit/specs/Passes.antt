@@ -1,115 +1,68 @@
--- How the auditor looks for the first place that breaks a rule. Here routes and places count from 0, as in the code.
-use Rattle.std.specs.Prelude.{ℕ, ◌+◌, ◌-◌, nat_lt, ◌==◌, ◌&&◌, ◌||◌, not, List, [], ◌∷◌, Option, Some, None, is_some, if◌then◌else◌, Bool, int_lt, pos, length, false, slice_get, unwrap_or}
-use Rattle.route_sched.specs.Schedule.{start}
-use Rattle.route_sched.specs.Visiting.{visit_after}
-use Rattle.route_sched.specs.declared.visits.Visit.{Visit}
-use Rattle.std.specs.Option.{option_map, option_or, option_and_then}
-use Rattle.plan_types.specs.Instance.{Instance, stop_at, partner_at}
-use Rattle.plan_types.specs.declared.requests.Request.{Request}
-use Rattle.plan_types.specs.declared.requests.Request.TheVariants.{Single, Pair}
-use Rattle.plan_audit.specs.Rules.{pickup_at}
-use Rattle.plan_audit.specs.Verdict.{Subject, planned, printed}
-use Rattle.plan_audit.specs.declared.faults.Told.{Told}
-use Rattle.plan_audit.specs.declared.faults.Fault.{Fault}
-use Rattle.plan_audit.specs.declared.seats.Seat.{Seat}
+-- Whether a plan passes, and whether a route is feasible alone, as tests that compute, however slowly: the rules one by one. Laws tie
+-- them to the verdict.
+use Rattle.std.specs.Prelude.{ℕ, ◌+◌, pos, nat_eq, nat_le, int_lt, ◌==◌, ◌&&◌, ◌||◌, not, Bool, true, false, List, [], ◌∷◌, length, is_some}
+use Rattle.std.specs.List.{list_any, list_all, concat, starts_with, range_with_len}
+use Rattle.std.specs.Option.{option_map_or}
+use Rattle.plan_types.specs.Instance.{Instance, stop_at, partner_at, pickup_at}
+use Rattle.plan_types.specs.declared.requests.Kind.{Kind}
+use Rattle.plan_types.specs.declared.requests.Kind.TheVariants.{LiLim, Vrp}
+use Rattle.route_sched.specs.Route.{place}
+use Rattle.route_sched.specs.Schedule.{start, load}
 
--- what a test of places answers first, where the places count from k on
-abbrev pub first_place : (ℕ → ℕ → Option ℕ) → ℕ → List ℕ → Option Told
-first_place test k [] = None
-first_place test k (n ∷ ns) = option_or (option_map (λ s. record { place = k; stop = s }) (test k n)) (first_place test (k + 1) ns)
+-- number n stands in the list
+abbrev pub has : List ℕ → ℕ → Bool
+has ns n = list_any (nat_eq n) ns
 
--- what a test of routes answers first, where the routes count from k on
-abbrev pub first_route : (ℕ → List ℕ → Option Told) → ℕ → List (List ℕ) → Option Fault
-first_route test k [] = None
-first_route test k (r ∷ rs) = option_or (option_map (λ t. record { route = k; place = t.place; stop = t.stop }) (test k r)) (first_route test (k + 1) rs)
+-- no number stands twice
+abbrev pub are_distinct : List ℕ → Bool
+are_distinct [] = true
+are_distinct (n ∷ ns) = not (has ns n) && are_distinct ns
 
--- what a test of places tells of each route
-abbrev pub told_by : (ℕ → List ℕ → ℕ → ℕ → Option ℕ) → ℕ → List ℕ → Option Told
-told_by test r route = first_place (test r route) 0 route
+-- stops of requests (rule 1), each once (2)
+abbrev pub are_live_once : Instance → List ℕ → Bool
+are_live_once p ns = list_all (λ n. is_some (stop_at p n)) ns && are_distinct ns
 
--- the first place of stop n
-abbrev pub place_of : ℕ → ℕ → List ℕ → Option ℕ
-place_of n k [] = None
-place_of n k (m ∷ ms) = if m == n then Some k else place_of n (k + 1) ms
+-- the other stop of each stop's pair is in the route too (3 and 4)
+abbrev pub has_whole_pairs : Instance → List ℕ → Bool
+has_whole_pairs p route = list_all (λ n. option_map_or (has route) (partner_at p n) true) route
 
-abbrev pub seat_in : ℕ → ℕ → List ℕ → Option Seat
-seat_in n k route = option_map (λ i. record { route = k; place = i }) (place_of n 0 route)
+-- no pickup stands behind its delivery (5)
+abbrev pub picks_up_first : Instance → List ℕ → Bool
+picks_up_first p [] = true
+picks_up_first p (n ∷ ns) = not (option_map_or (has ns) (pickup_at p n) false) && picks_up_first p ns
 
-abbrev pub seat_from : ℕ → ℕ → List (List ℕ) → Option Seat
-seat_from n k [] = None
-seat_from n k (r ∷ rs) = option_or (seat_in n k r) (seat_from n (k + 1) rs)
+-- the places of a route's stops
+abbrev pub places_of : List ℕ → List ℕ
+places_of route = range_with_len 1 (length route)
 
--- the first seat of stop n in the plan
-abbrev pub seat_of : List (List ℕ) → ℕ → Option Seat
-seat_of routes n = seat_from n 0 routes
+-- at no place the load is above the capacity (6)
+abbrev pub keeps_capacity : Instance → List ℕ → Bool
+keeps_capacity p route = list_all (λ i. not (int_lt (pos p.capacity) (load p route i))) (places_of route)
 
-module _ (p : Instance) (routes : List (List ℕ)) where
-  -- what each rule tells of a stop
-  abbrev pub unknown_at : ℕ → Option ℕ
-  unknown_at n = if is_some (stop_at p n) then None else Some n
+-- each service starts by its stop's latest time (7)
+abbrev pub keeps_windows : Instance → List ℕ → Bool
+keeps_windows p route = list_all (λ i. nat_le (start p route i) (place p route i).latest) (places_of route)
 
-  abbrev pub repeated_at : ℕ → ℕ → ℕ → Option ℕ
-  repeated_at r i n = option_and_then (λ s. if (s.route == r) && (s.place == i) then None else Some n) (seat_of routes n)
+-- a vehicle that leaves is back by the depot's latest time (8)
+abbrev pub is_back_in_time : Instance → List ℕ → Bool
+is_back_in_time p route = (length route == 0) || nat_le (start p route (length route + 1)) p.depot.latest
 
-  abbrev pub missing_at : ℕ → Option ℕ
-  missing_at n = option_and_then (λ m. if is_some (seat_of routes m) then None else Some m) (partner_at p n)
+-- where times are asked
+abbrev pub keeps_times : Kind → Instance → List ℕ → Bool
+keeps_times LiLim p route = keeps_windows p route && is_back_in_time p route
+keeps_times Vrp p route = true
 
-  abbrev pub split_at : ℕ → ℕ → Option ℕ
-  split_at r n = option_and_then (λ m. option_and_then (λ s. if s.route == r then None else Some n) (seat_of routes m)) (partner_at p n)
+-- as the only route, the list breaks none of the rules 3 to 8
+unfoldable pub feasible_alone : Instance → List ℕ → Bool
+feasible_alone p route = has_whole_pairs p route && (picks_up_first p route && (keeps_capacity p route && keeps_times p.kind p route))
 
-  abbrev pub delivered_at : ℕ → ℕ → Option ℕ
-  delivered_at i n = option_and_then (λ m. option_and_then (λ s. if nat_lt i s.place then Some n else None) (seat_of routes m)) (pickup_at p n)
+-- each route begins with its pin (10)
+abbrev pub begin_with_pins : List (List ℕ) → List (List ℕ) → Bool
+begin_with_pins routes [] = true
+begin_with_pins [] (pin ∷ pins) = (length pin == 0) && begin_with_pins [] pins
+begin_with_pins (route ∷ routes) (pin ∷ pins) = starts_with nat_eq route pin && begin_with_pins routes pins
 
--- what a test of visits tells of the places of a route
-abbrev pub visit_told : Instance → (Visit → Bool) → List ℕ → ℕ → ℕ → Option ℕ
-visit_told p fails route i n = if fails (visit_after p route i) then Some n else None
-
--- what a vehicle carries is above the capacity
-abbrev pub is_overloaded : Instance → Visit → Bool
-is_overloaded p v = int_lt (pos p.capacity) v.load
-
--- service starts after the latest time
-abbrev pub is_late : Visit → Bool
-is_late v = nat_lt v.stop.latest v.start
-
--- one of the request's stops has a seat
-abbrev pub is_served : List (List ℕ) → Request → Bool
-is_served routes (Single s) = is_some (seat_of routes s.number)
-is_served routes (Pair p d) = is_some (seat_of routes p.number) || is_some (seat_of routes d.number)
-
--- the name of a request that is not served
-abbrev pub unserved_in : List (List ℕ) → ℕ × Request → Option ℕ
-unserved_in routes e = if is_served routes e.1 then None else Some e.0
-
--- the name of the first request that is not served
-abbrev pub first_unserved : List (List ℕ) → List (ℕ × Request) → Option ℕ
-first_unserved routes [] = None
-first_unserved routes (e ∷ es) = option_or (unserved_in routes e) (first_unserved routes es)
-
--- the name of the first request that must be served and is not; a plan may leave requests out
-abbrev pub unserved_of : Instance → Subject → Option ℕ
-unserved_of p (planned routes pins) = None
-unserved_of p (printed routes cost) = first_unserved routes p.requests
-
--- stop n is found there
-abbrev pub is_found : ℕ → Option ℕ → Bool
-is_found n None = false
-is_found n (Some m) = m == n
-
--- what is told of place i of a pin, whose stop there is n: that stop, where the route has another one there, or none
-abbrev pub off_pin_at : List ℕ → ℕ → ℕ → Option ℕ
-off_pin_at route i n = if is_found n (slice_get route i) then None else Some n
-
--- what is told first of the pins, by route
-abbrev pub first_off_pin : List (List ℕ) → List (List ℕ) → Option Fault
-first_off_pin routes pins = first_route (told_by (λ r _ i n. off_pin_at (unwrap_or (slice_get routes r) []) i n)) 0 pins
-
--- what is told of a vehicle that leaves the depot and is back too late
-abbrev pub return_told : Instance → List ℕ → Option Told
-return_told p route =
-    if (length route == 0) || not (nat_lt p.depot.latest (start p route (length route + 1))) then None else Some (record { place = length route; stop = 0 })
-
--- the first route that is used beyond so many vehicles, where the routes count from k on
-abbrev pub first_beyond : ℕ → ℕ → List (List ℕ) → Option ℕ
-first_beyond left k [] = None
-first_beyond left k (r ∷ rs) = if length r == 0 then first_beyond left (k + 1) rs else if left == 0 then Some k else first_beyond (left - 1) (k + 1) rs
+-- The plan passes with these pins: its stops are of requests and stand once each, each vehicle has a route (9), each route is
+-- feasible alone, and begins with its pin.
+unfoldable pub passes : Instance → List (List ℕ) → List (List ℕ) → Bool
+passes p pins routes = are_live_once p (concat routes) && ((length routes == p.fleet) && (list_all (feasible_alone p) routes && begin_with_pins routes pins))

@@ -1,11 +1,8 @@
 -- The rules of the auditor, each a sentence over the routes and places of a plan. Routes and places count from 1.
-use Rattle.std.specs.Prelude.{◌≡◌, ◌≢◌, ℕ, zero, suc, ◌+◌, ◌<◌, ◌≤◌, ◌<ℤ◌, pos, List, length, Option, Some, None, slice_get, ◌⊎◌, ◌==◌, if◌then◌else◌}
-use Rattle.std.specs.Option.{option_and_then}
-use Rattle.plan_types.specs.Instance.{Instance, stop_at, partner_at, request_with}
+use Rattle.std.specs.Prelude.{◌≡◌, ◌≢◌, ℕ, zero, suc, ◌+◌, ◌<◌, ◌≤◌, ◌<ℤ◌, pos, List, length, Option, Some, None, slice_get, ◌⊎◌}
+use Rattle.plan_types.specs.Instance.{Instance, stop_at, partner_at, pickup_at}
 use Rattle.route_sched.specs.Route.{place}
 use Rattle.route_sched.specs.Schedule.{start, load}
-use Rattle.plan_types.specs.declared.requests.Request.{Request}
-use Rattle.plan_types.specs.declared.requests.Request.TheVariants.{Single, Pair}
 use Rattle.plan_types.specs.declared.requests.Kind.TheVariants.{LiLim}
 
 -- the item at a place, from 1 on
@@ -24,14 +21,6 @@ StandsSomewhere routes n = (r : ℕ) × (i : ℕ) × Stands routes r i n
 -- place (q, j) comes before place (r, i): in an earlier route, or earlier in the same route
 abbrev pub IsEarlier : ℕ → ℕ → ℕ → ℕ → Type 0
 IsEarlier q j r i = (q < r) ⊎ ((q ≡ r) × (j < i))
-
--- the pickup of a delivery
-abbrev pub pickup_in : ℕ → Request → Option ℕ
-pickup_in n (Single s) = None
-pickup_in n (Pair p d) = if p.number == n then None else if d.number == n then Some p.number else None
-
-abbrev pub pickup_at : Instance → ℕ → Option ℕ
-pickup_at p n = option_and_then (pickup_in n) (request_with p n)
 
 -- (r, i, n) comes no later than (q, j, m): by route, then by place, then by stop
 abbrev pub IsNotAfter : ℕ → ℕ → ℕ → ℕ → ℕ → ℕ → Type 0

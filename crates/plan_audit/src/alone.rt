@@ -1,7 +1,7 @@
 //! A list of stops as the only route.
 ghost use Rattle.std.specs.Prelude.{◌≡◌, ◌∷◌, [], ◌+◌, ◌<◌, ◌^◌, IfSome, MatchOption};
 ghost use Rattle.route_sched.specs.Route.{AreLiveOnce};
-ghost use Rattle.plan_audit.specs.Passes.{first_place, seat_of, missing_at, delivered_at};
+ghost use Rattle.plan_audit.specs.Finding.{first_place, seat_of, missing_at, delivered_at};
 ghost use Rattle.plan_audit.specs.Alone.{IsFeasibleAlone, IsFaultAlone, IsLeastAlone};
 
 use crate::faults::{Told, first_place};

@@ -3,7 +3,7 @@ ghost use Rattle.std.specs.Prelude.{◌≡◌, All, IfNone, IfOk, MatchOption};
 ghost use Rattle.route_sched.specs.Route.{AreLiveOnce};
 ghost use Rattle.plan_types.specs.Instance.{IsInstance};
 ghost use Rattle.plan_audit.specs.Verdict.{Subject, planned, printed, routes_of, KeepsRules, IsBrokenOver, IsVerdict};
-ghost use Rattle.plan_audit.specs.Passes.{unserved_of};
+ghost use Rattle.plan_audit.specs.Finding.{unserved_of};
 
 use crate::fleet::first_beyond;
 use crate::pins::first_off_pin;
@@ -12,7 +12,7 @@ use crate::scan::Scan;
 use crate::seats::seats;
 use crate::timing::{first_late, first_late_return, first_overload};
 use plan_types::{Kind, OutOfMemory, Pins, Plan, Problem, Route, numbers_are_below_the_next};
-use route_sched::plan_cost;
+use route_sched::routes_cost;
 use sol_text::Solution;
 use std::alloc::Global;
 
@@ -42,7 +42,7 @@ pub fn audit(
     if let Some(fault) = first_off_pin(routes, pins.routes.as_slice()) {
         return Ok(Rule::Pin.broken_at(fault));
     }
-    Ok(Verdict::Pass(plan_cost(problem, plan)))
+    Ok(Verdict::Pass(routes_cost(problem, routes, scan.unplanned())))
 }
 
 /// Audits a printed solution: the least broken rule, by rule, route, place and stop, or pass with the cost. A printed solution has no
@@ -67,10 +67,7 @@ pub fn audit_solution(
     if let Some(route) = first_beyond(problem.fleet, routes) {
         return Ok(Rule::Fleet.broken_from(route));
     }
-    let plan = Plan {
-        routes: solution.routes.copy()?,
-    };
-    let cost = plan_cost(problem, &plan);
+    let cost = routes_cost(problem, routes, scan.unplanned());
     if cost.distance != solution.cost {
         return Ok(Rule::PrintedCost.broken_by(0));
     }

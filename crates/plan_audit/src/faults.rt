@@ -1,6 +1,6 @@
 //! The search for the first place that breaks a rule. Routes and places count from 0 here.
 ghost use Rattle.std.specs.Prelude.{◌≡◌, ℕ, ◌+◌, ◌^◌, ◌<◌, List, Option, Contains, IfSome, length};
-ghost use Rattle.plan_audit.specs.Passes.{first_place, first_route};
+ghost use Rattle.plan_audit.specs.Finding.{first_place, first_route};
 ghost use Rattle.std.specs.Borrow.{Bor};
 ghost use Rattle.plan_audit.specs.declared.faults.Told.{Told};
 

@@ -1,6 +1,6 @@
 //! The rule on the number of vehicles.
 ghost use Rattle.std.specs.Prelude.{◌≡◌, ◌+◌, ◌<◌, ◌^◌, IfSome};
-ghost use Rattle.plan_audit.specs.Passes.{first_beyond};
+ghost use Rattle.plan_audit.specs.Finding.{first_beyond};
 
 use plan_types::Route;
 

@@ -1,7 +1,9 @@
 // Laws of the verdict, each for every problem, plan and verdict: what it means to a dispatcher.
 ghost use Rattle.plan_audit.specs.Laws.{PassesAreSound, PassesArePlans, UnsoundIsBroken, PlansPassWhereSound, SolutionsPassWhereSound, RoutesAreFeasible};
+ghost use Rattle.plan_audit.specs.Locality.{TestsSayFeasible, TestsSayPass, PassesAreLocal, PlansAreLocal, PinsAreLiveOnce, RoutesMayBeReplaced, VerdictsAreUnique, FeasibilityIsLocal};
 
 use plan_types::requests_stand_by_name;
+use route_sched::schedules_agree;
 
 /// What passes is sound: each request that is planned is served once, by one vehicle, the pickup before the delivery; no vehicle carries
 /// more than it can; with time windows, each service starts within its window and each vehicle is back in time.
@@ -38,3 +40,47 @@ pub fn solutions_pass_where_they_are_sound()
 pub fn routes_that_pass_are_feasible_alone()
     ensures { RoutesAreFeasible }
 {}
+
+/// The test `feasible_alone` of a route says that it is feasible alone, as the rules have it.
+pub fn tests_say_feasible()
+    ensures { TestsSayFeasible }
+{}
+
+/// The test `passes` of a plan with its pins says that its verdict is to pass.
+pub fn tests_say_pass()
+    ensures { TestsSayPass }
+{}
+
+/// A plan passes exactly where its stops are of requests and stand once, each vehicle has a route, and each route is feasible alone and
+/// begins with its pin. So a change of some routes is judged by these routes.
+pub fn passes_are_local()
+    ensures { PassesAreLocal }
+{}
+
+/// A plan is routes of live, distinct stops that share none.
+pub fn plans_are_local()
+    ensures { PlansAreLocal }
+{}
+
+/// A pin of a passing plan has live stops, each once.
+pub fn pins_are_live_once()
+    ensures { PinsAreLiveOnce }
+{}
+
+/// In a passing plan routes may be replaced by lists of live, distinct stops that are feasible alone and begin with their pins, where no
+/// stop stands in two routes then.
+pub fn routes_may_be_replaced()
+    ensures { RoutesMayBeReplaced }
+{}
+
+/// An audit has one answer.
+pub fn verdicts_are_unique()
+    ensures { VerdictsAreUnique }
+{}
+
+/// Whether a route is feasible alone depends on no request of the problem but its own.
+pub fn feasibility_is_local()
+    ensures { FeasibilityIsLocal }
+{
+    schedules_agree();
+}

@@ -1,6 +1,6 @@
 //! The rule on pins.
 ghost use Rattle.std.specs.Prelude.{◌≡◌, ◌+◌, ◌<◌, ◌^◌, [], IfSome, unwrap_or, slice_get};
-ghost use Rattle.plan_audit.specs.Passes.{first_place, first_off_pin, off_pin_at};
+ghost use Rattle.plan_audit.specs.Finding.{first_place, first_off_pin, off_pin_at};
 
 use crate::faults::{Fault, Told, first_fault, first_place};
 use plan_types::Route;

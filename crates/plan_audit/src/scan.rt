@@ -1,11 +1,12 @@
 //! The rules that speak of where stops stand.
 ghost use Rattle.std.specs.Prelude.{◌≡◌, ℕ, ◌^◌, ◌+◌, ◌<◌, ◌≤◌, length, List, None, Option, All, IfSome, slice_index_or, slice_get};
 ghost use Rattle.std.specs.Option.{option_and_then};
-ghost use Rattle.plan_audit.specs.Passes.{first_place, first_route, told_by, is_served, first_unserved, unserved_in, seat_of, unknown_at, repeated_at, missing_at, split_at, delivered_at};
+ghost use Rattle.plan_audit.specs.Finding.{first_place, first_route, told_by, first_unserved, unserved_in, seat_of, unknown_at, repeated_at, missing_at, split_at, delivered_at};
+ghost use Rattle.route_sched.specs.Cost.{has_stop, is_planned, unplanned_count};
 ghost use Rattle.plan_types.specs.Laws.{IsBelowNext};
 
 use crate::faults::{Fault, Told, first_fault, first_place};
-use crate::pairs::{early_delivery, missing_partner, partner};
+use crate::pairs::{early_delivery, missing_partner};
 use crate::seats::Seat;
 use plan_types::{Problem, Request, Route, numbers_are_below_the_next};
 
@@ -86,29 +87,50 @@ impl Scan<'_> {
         None
     }
 
-    // The name of the request at this index, where it is not served.
+    /// How many requests have no stop in any route.
+    pub(crate) fn unplanned(&self) -> u64
+        ensures { result ≡ unplanned_count self.now.problem.now self.now.routes.now }
+    {
+        let problem = self.problem;
+        let mut unplanned = 0;
+        for index in 0..problem.requests.len() {
+            if self.unserved_at(index).is_some() {
+                unplanned += 1;
+            }
+        }
+        unplanned
+    }
+
+    // The name of the request at this index, where it is not planned.
     fn unserved_at(&self, index: usize) -> Option<u32>
         ensures { result ≡ option_and_then (unserved_in self.now.routes.now) (slice_get self.now.problem.now.requests index) }
     {
         numbers_are_below_the_next();
         let problem = self.problem;
         let (name, request) = problem.requests.get_index(index)?;
-        if self.is_served(request) {
+        if self.is_planned(request) {
             None
         } else {
             Some(*name)
         }
     }
 
-    fn is_served(&self, request: &Request) -> bool
-        ensures { IsBelowNext self.now.problem.now request.now → result ≡ is_served self.now.routes.now request.now }
+    fn is_planned(&self, request: &Request) -> bool
+        ensures { IsBelowNext self.now.problem.now request.now → result ≡ is_planned self.now.routes.now request.now }
     {
         match request {
-            Request::Single(stop) => self.seat(stop.number).is_some(),
+            Request::Single(stop) => self.has_stop(stop.number),
             Request::Pair(pickup, delivery) => {
-                self.seat(pickup.number).is_some() || self.seat(delivery.number).is_some()
+                self.has_stop(pickup.number) || self.has_stop(delivery.number)
             }
         }
+    }
+
+    // Whether a route has the stop.
+    fn has_stop(&self, stop: u32) -> bool
+        ensures { stop < self.now.problem.now.next_number → result ≡ has_stop self.now.routes.now stop }
+    {
+        self.seat(stop).is_some()
     }
 
     // The first stop of a route that is of no request.
@@ -167,7 +189,7 @@ impl Scan<'_> {
     fn split_stop(&self, number: usize, stop: u32) -> Option<u32>
         ensures { result ≡ split_at self.now.problem.now self.now.routes.now number stop }
     {
-        let seat = self.seat(partner(self.problem, stop)?)?;
+        let seat = self.seat(self.problem.partner_of(stop)?)?;
         if seat.route == number {
             None
         } else {

@@ -1,7 +1,7 @@
 //! Where each stop stands first in a plan.
 ghost use Rattle.std.specs.Prelude.{◌≡◌, ℕ, ◌<◌, length, vec_len, IfOk, List, None, slice_index_or};
 ghost use Rattle.std.specs.Option.{option_or};
-ghost use Rattle.plan_audit.specs.Passes.{seat_in, seat_of};
+ghost use Rattle.plan_audit.specs.Finding.{seat_in, seat_of};
 
 use plan_types::{OutOfMemory, Route};
 use std::alloc::Global;

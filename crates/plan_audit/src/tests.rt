@@ -4,6 +4,7 @@ ghost use Rattle.route_sched.specs.Route.{AreLiveOnce};
 use super::*;
 use crate::slow::{Asked, slow_audit, total_length};
 use crate::words::{Words, some_case};
+use plan_types::limits::{MAX_FLEET, MAX_STOP_NUMBER};
 use plan_types::{Cost, Kind, Pins, Plan, Problem, Request, Route, Routes, Stop};
 use sol_text::Solution;
 use std::alloc::Global;
@@ -313,6 +314,57 @@ fn tells_the_fault_that_the_slow_auditor_tells(rt: HostRuntime) -> Result<(), Fa
             let told = fault_alone(alloc, &case.problem, route.as_slice())?;
             assert_eq!(rt; told, if want == 2 { 1 } else { want }, "plan {round}");
         }
+    }
+    Ok(())
+}
+
+// As many pairs as a problem can have, all at the depot.
+fn most_pairs(alloc: Global) -> Result<Problem, Fail> {
+    let depot = stop_at(0, (0, 0), 0, 100, 0);
+    let mut problem = Problem::new(alloc, Kind::LiLim, depot, 1, MAX_FLEET)?;
+    for pair in 0..MAX_STOP_NUMBER / 2 {
+        let pickup = stop_at(2 * pair + 1, (0, 0), 1, 100, 0);
+        let delivery = stop_at(2 * pair + 2, (0, 0), -1, 100, 0);
+        problem.put(Request::Pair(pickup, delivery))?;
+    }
+    Ok(problem)
+}
+
+// These pairs in routes of so many pairs, and idle vehicles.
+fn most_routes(alloc: Global, pairs: u32) -> Result<Routes, Fail> {
+    let mut routes = Routes::with_capacity(alloc, MAX_FLEET as usize)?;
+    let mut route = Route::new(alloc);
+    let mut left = pairs;
+    for pair in 0..MAX_STOP_NUMBER / 2 {
+        route.extend_from_slice([2 * pair + 1, 2 * pair + 2].as_slice())?;
+        left = left.saturating_sub(1);
+        if left == 0 {
+            routes.push(route)?;
+            route = Route::new(alloc);
+            left = pairs;
+        }
+    }
+    for _ in routes.as_slice().len()..MAX_FLEET as usize {
+        routes.push(Route::new(alloc))?;
+    }
+    Ok(routes)
+}
+
+#[test]
+fn audits_the_largest_plans(rt: HostRuntime) -> Result<(), Fail> {
+    let problem = most_pairs(rt.alloc())?;
+    let pins = Pins {
+        routes: Routes::new(rt.alloc()),
+    };
+    for (pairs, vehicles) in [(MAX_STOP_NUMBER / 2, 1), (1, 20_000)] {
+        let routes = most_routes(rt.alloc(), pairs)?;
+        let plan = Plan {
+            routes: routes.copy()?,
+        };
+        let want = pass(0, vehicles, 0);
+        assert_eq!(rt; audit(rt.alloc(), &problem, &pins, &plan)?, want);
+        let solution = Solution { routes, cost: 0 };
+        assert_eq!(rt; audit_solution(rt.alloc(), &problem, &solution)?, want);
     }
     Ok(())
 }

@@ -3,7 +3,7 @@ ghost use Rattle.std.specs.Prelude.{◌≡◌, ℕ, ◌^◌, ◌<◌, ◌↔◌,
 ghost use Rattle.route_sched.specs.Route.{AreLiveOnce};
 ghost use Rattle.route_sched.specs.Schedule.{start};
 ghost use Rattle.route_sched.specs.declared.visits.Visit.{Visit};
-ghost use Rattle.plan_audit.specs.Passes.{first_place, first_route, told_by, return_told, visit_told, is_overloaded, is_late};
+ghost use Rattle.plan_audit.specs.Finding.{first_place, first_route, told_by, return_told, visit_told, is_overloaded, is_late};
 
 use crate::faults::{Fault, Told, first_fault};
 use plan_types::{Problem, Route};

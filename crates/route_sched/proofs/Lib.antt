@@ -1,3 +1,4 @@
+pub mod Agreeing
 pub mod Concats
 pub mod Counting
 pub mod LiveStops

@@ -1,7 +1,10 @@
+-- what public contracts say
+pub mod Agree
 pub mod Cost
-pub mod Counted
 pub mod Route
 pub mod Schedule
 pub mod Visiting
 pub mod Walk
+-- what those of private functions say
+pub mod Counted
 pub mod Walking

@@ -18,8 +18,18 @@ pub fn plan_cost(problem: &Problem, plan: &Plan) -> Cost
     ensures numbers { AllByRecursion (λ n. n ≤ 40000) (concat plan.now.routes) }
 {
     let routes = plan.routes.as_slice();
+    let unplanned = problem.requests.len() as u64 - planned_count(problem, routes);
+    routes_cost(problem, routes, unplanned)
+}
+
+/// What the routes of a plan cost, for a caller that has counted its unplanned requests. Takes no memory.
+pub fn routes_cost(problem: &Problem, routes: &[Route], unplanned: u64) -> Cost
+    requires plan { IsPlan problem.now routes.now }
+    requires counted { unplanned ≡ unplanned_count problem.now routes.now }
+    ensures { result ≡ cost_of problem.now routes.now }
+{
     Cost {
-        unplanned: problem.requests.len() as u64 - planned_count(problem, routes),
+        unplanned,
         vehicles: vehicle_count(problem.kind, routes),
         distance: total_distance(problem, routes),
     }

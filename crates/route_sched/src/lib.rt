@@ -2,11 +2,13 @@
 #![tactic(auto)]
 
 mod cost;
+mod laws;
 mod places;
 mod schedule;
 mod visits;
 
-pub use cost::plan_cost;
+pub use cost::{plan_cost, routes_cost};
+pub use laws::schedules_agree;
 pub use schedule::{loads, route_distance, starts};
 pub use visits::{Visit, Visits};
 

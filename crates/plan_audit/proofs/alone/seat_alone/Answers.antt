@@ -1,7 +1,7 @@
 use Rattle.std.proofs.Common.{◌≡◌, ℕ, suc, ◌+◌, ◌<◌, cond, List, drop, drop-cons, length, get_or, Option, Some, None, sym, ap, ◌∙◌}
 use Rattle.std.proofs.lemmas.Bool.{eq-eqb}
 use Rattle.std.specs.Option.{option_map, option_or}
-use Rattle.plan_audit.specs.Passes.{place_of}
+use Rattle.plan_audit.specs.Finding.{place_of}
 use Rattle.plan_audit.proofs.alone.seat_alone.Goals as goal
 
 -- the place of the stop, where it is found

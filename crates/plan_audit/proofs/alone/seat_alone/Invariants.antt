@@ -1,5 +1,5 @@
 use Rattle.std.proofs.Common.{◌≡◌, drop}
-use Rattle.plan_audit.specs.Passes.{place_of}
+use Rattle.plan_audit.specs.Finding.{place_of}
 use Rattle.plan_audit.proofs.alone.seat_alone.Given as goal
 
 -- the first place of the stop from this place on is the first of all

@@ -1,6 +1,8 @@
-use Rattle.std.proofs.Common.{◌≡◌, ℕ, List, Option, length, sym, ap, ◌∙◌, refl, arith}
+use Rattle.std.proofs.Common.{◌≡◌, ℕ, List, Option, length, sym, ap, subst, ◌∙◌, refl, arith}
+use Rattle.route_sched.specs.Cost.{cost_of}
+use Rattle.route_sched.specs.Route.{IsPlan}
 use Rattle.plan_types.specs.Instance.{Instance}
-use Rattle.plan_audit.specs.Passes.{first_off_pin}
+use Rattle.plan_audit.specs.Finding.{first_off_pin}
 use Rattle.plan_audit.specs.declared.faults.Fault.{Fault}
 use Rattle.plan_audit.specs.Verdict.{planned, KeepsRules}
 use Rattle.plan_audit.proofs.StepLemmas.{plan_from, length_step, pin_step, planned_step}
@@ -38,13 +40,15 @@ returns-in-Some-first_off_pin c =
     (same_length c.problem.inside.fleet c.as_slice-routes.result.now c.args.plan.now.routes c.args.problem.now (ap (λ (p : Instance). p.fleet) c.problem.view_is) c.as_slice-routes.ensures c.if-routes-problem.false)
     c.in-Some-first_off_pin.fault _ c.broken_at.ensures (same_pins c.as_slice-routes.result.now c.args.plan.now.routes c.as_slice-2.result.now c.args.pins.now.routes _ c.as_slice-routes.ensures c.as_slice-2.ensures c.in-Some-first_off_pin.ensures.told)
 
-pub plan_cost-requires : goal.plan_cost-requires
-plan_cost-requires c = plan_from c.args.problem.now (planned c.args.plan.now.routes c.args.pins.now.routes) (kept (goal.at.plan_cost-requires c).In_default)
+pub routes_cost-requires-clause-plan : goal.routes_cost-requires-clause-plan
+routes_cost-requires-clause-plan c =
+    subst (λ (l : List (List ℕ)). IsPlan c.args.problem.now l) (sym c.as_slice-routes.ensures)
+    (plan_from c.args.problem.now (planned c.args.plan.now.routes c.args.pins.now.routes) (kept (goal.at.routes_cost-requires-clause-plan c).In_default))
 
 pub returns : goal.returns
 returns c = (
   planned_step c.args.problem.now c.args.plan.now.routes c.args.pins.now.routes (kept (goal.at.returns c).In_default)
       (same_length c.problem.inside.fleet c.as_slice-routes.result.now c.args.plan.now.routes c.args.problem.now (ap (λ (p : Instance). p.fleet) c.problem.view_is) c.as_slice-routes.ensures c.if-routes-problem.false)
       (same_pins c.as_slice-routes.result.now c.args.plan.now.routes c.as_slice-2.result.now c.args.pins.now.routes _ c.as_slice-routes.ensures c.as_slice-2.ensures c.in_default-first_off_pin.ensures.told),
-  c.plan_cost.ensures.cost,
+  c.routes_cost.ensures ∙ ap (cost_of c.args.problem.now) c.as_slice-routes.ensures,
 )

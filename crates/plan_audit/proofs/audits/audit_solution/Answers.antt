@@ -3,7 +3,7 @@ use Rattle.route_sched.specs.Cost.{cost_of}
 use Rattle.route_sched.specs.Route.{IsPlan}
 use Rattle.plan_types.specs.Instance.{Instance}
 use Rattle.plan_types.specs.declared.plans.Cost.{Cost}
-use Rattle.plan_audit.specs.Passes.{first_beyond, first_unserved}
+use Rattle.plan_audit.specs.Finding.{first_beyond, first_unserved}
 use Rattle.plan_audit.specs.Verdict.{printed, KeepsRules}
 use Rattle.plan_audit.proofs.StepLemmas.{plan_from, fleet_step, cost_step, pass_step}
 use Rattle.plan_audit.proofs.VerdictLemmas.{broken_wider, broken_verdict}
@@ -25,10 +25,10 @@ returns-in-Some c =
     broken_verdict p s 1 11 c.in-Some.broken
     (broken_wider p s 1 8 11 c.in-Some.broken (omega arith) (c.in-Some.ensures.least s (sym c.as_slice-routes.ensures) (asked (goal.at.returns-in-Some c).After-first_unserved)))
 
-pub plan_cost-cost-requires : goal.plan_cost-cost-requires
-plan_cost-cost-requires c =
-    subst (λ (l : List (List ℕ)). IsPlan c.args.problem.now l) (sym c.in_ok-copy.ensures)
-    (plan_from c.args.problem.now (printed c.args.solution.now.routes c.args.solution.now.cost) (kept (goal.at.plan_cost-cost-requires c).In_default))
+pub routes_cost-cost-requires-clause-plan : goal.routes_cost-cost-requires-clause-plan
+routes_cost-cost-requires-clause-plan c =
+    subst (λ (l : List (List ℕ)). IsPlan c.args.problem.now l) (sym c.as_slice-routes.ensures)
+    (plan_from c.args.problem.now (printed c.args.solution.now.routes c.args.solution.now.cost) (kept (goal.at.routes_cost-cost-requires-clause-plan c).In_default))
 
 -- what is found beyond the fleet, of the problem and the solution as they are given
 beyond : (fleet : ℕ) (routes : List (List ℕ)) (p : Instance) (given : List (List ℕ)) (o : Option ℕ) → fleet ≡ p.fleet → routes ≡ given → o ≡ first_beyond fleet 0 routes → first_beyond p.fleet 0 given ≡ o
@@ -43,11 +43,11 @@ pub returns-then-cost-solution : goal.returns-then-cost-solution
 returns-then-cost-solution c =
     cost_step c.args.problem.now c.args.solution.now.routes c.args.solution.now.cost (kept (goal.at.returns-then-cost-solution c).In_default)
     (beyond c.problem.inside.fleet c.as_slice-routes.result.now c.args.problem.now c.args.solution.now.routes _ (ap (λ (p : Instance). p.fleet) c.problem.view_is) c.as_slice-routes.ensures c.in_default-first_beyond.ensures.told)
-    _ c.broken_by.ensures (λ same. c.if-cost-solution.true (ap (λ (k : Cost). k.distance) (c.plan_cost-cost.ensures.cost ∙ ap (cost_of c.args.problem.now) c.in_ok-copy.ensures) ∙ sym same))
+    _ c.broken_by.ensures (λ same. c.if-cost-solution.true (ap (λ (k : Cost). k.distance) (c.routes_cost-cost.ensures ∙ ap (cost_of c.args.problem.now) c.as_slice-routes.ensures) ∙ sym same))
 
 pub returns : goal.returns
 returns c =
-    let cost = c.plan_cost-cost.ensures.cost ∙ ap (cost_of c.args.problem.now) c.in_ok-copy.ensures in (
+    let cost = c.routes_cost-cost.ensures ∙ ap (cost_of c.args.problem.now) c.as_slice-routes.ensures in (
       pass_step c.args.problem.now c.args.solution.now.routes c.args.solution.now.cost (kept (goal.at.returns c).In_default)
           (beyond c.problem.inside.fleet c.as_slice-routes.result.now c.args.problem.now c.args.solution.now.routes _ (ap (λ (p : Instance). p.fleet) c.problem.view_is) c.as_slice-routes.ensures c.in_default-first_beyond.ensures.told)
           (sym c.if-cost-solution.false ∙ ap (λ (k : Cost). k.distance) cost),

@@ -1,5 +1,5 @@
 use Rattle.std.proofs.Common.{◌≡◌, ℕ, List, Option, drop, Contains, Bor}
-use Rattle.plan_audit.specs.Passes.{first_route}
+use Rattle.plan_audit.specs.Finding.{first_route}
 use Rattle.plan_audit.specs.declared.faults.Told.{Told}
 use Rattle.plan_audit.proofs.faults.first_fault.Given as goal
 

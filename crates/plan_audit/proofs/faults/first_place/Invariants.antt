@@ -1,5 +1,5 @@
 use Rattle.std.proofs.Common.{◌≡◌, ℕ, Option, drop, Contains}
-use Rattle.plan_audit.specs.Passes.{first_place}
+use Rattle.plan_audit.specs.Finding.{first_place}
 use Rattle.plan_audit.proofs.faults.first_place.Given as goal
 
 -- what the places from this one on answer first is what all answer first

@@ -1,5 +1,5 @@
 use Rattle.std.proofs.Common.{◌≡◌, drop}
-use Rattle.plan_audit.specs.Passes.{first_beyond}
+use Rattle.plan_audit.specs.Finding.{first_beyond}
 use Rattle.plan_audit.proofs.fleet.first_beyond.Given as goal
 
 -- the first from this route on, beyond the vehicles that are left, is the first of all

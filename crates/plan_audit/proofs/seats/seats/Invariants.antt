@@ -1,6 +1,6 @@
 use Rattle.std.proofs.Common.{◌≡◌, ℕ, ◌<◌, None, drop, get_or, vec_len}
 use Rattle.std.specs.Option.{option_or}
-use Rattle.plan_audit.specs.Passes.{seat_from, seat_of}
+use Rattle.plan_audit.specs.Finding.{seat_from, seat_of}
 use Rattle.plan_audit.proofs.seats.seats.Given as goal
 
 -- the seats so far, and those of the routes that are left, are those of all routes

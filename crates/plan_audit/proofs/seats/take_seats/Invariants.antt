@@ -1,6 +1,6 @@
 use Rattle.std.proofs.Common.{◌≡◌, ℕ, ◌<◌, None, length, drop, get_or}
 use Rattle.std.specs.Option.{option_or, option_map}
-use Rattle.plan_audit.specs.Passes.{place_of, seat_in}
+use Rattle.plan_audit.specs.Finding.{place_of, seat_in}
 use Rattle.plan_audit.proofs.seats.take_seats.Given as goal
 
 -- the seats so far, and those of the stops that are left, are the old ones and those of all stops

@@ -1,5 +1,5 @@
 use Rattle.std.proofs.Common.{◌<◌, cond, Some, None, length, arith, sym, ap, ◌∙◌, get_or}
-use Rattle.plan_audit.specs.Passes.{visit_told}
+use Rattle.plan_audit.specs.Finding.{visit_told}
 use Rattle.plan_audit.proofs.VisitLemmas.{visit_is, visits_left, told_here, told_later, visit_fails}
 use Rattle.plan_audit.proofs.timing.first_visit.Goals as goal
 

@@ -1,7 +1,7 @@
 use Rattle.std.proofs.Common.{◌≡◌, Bool, drop}
 use Rattle.route_sched.specs.Visiting.{visits_from}
 use Rattle.route_sched.specs.declared.visits.Visit.{Visit}
-use Rattle.plan_audit.specs.Passes.{first_place, visit_told}
+use Rattle.plan_audit.specs.Finding.{first_place, visit_told}
 use Rattle.plan_audit.proofs.timing.first_visit.Given as goal
 
 -- the visits that are left are those from this place on, and what they tell first is what all tell first

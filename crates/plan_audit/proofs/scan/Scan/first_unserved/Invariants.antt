@@ -1,5 +1,5 @@
 use Rattle.std.proofs.Common.{◌≡◌, drop}
-use Rattle.plan_audit.specs.Passes.{first_unserved}
+use Rattle.plan_audit.specs.Finding.{first_unserved}
 use Rattle.plan_audit.proofs.scan.Scan.first_unserved.Given as goal
 
 -- the first that is not served from this request on is the first of all

@@ -1,0 +1,5 @@
+use Rattle.plan_audit.proofs.LocalLemmas.{routes_may_be_replaced}
+use Rattle.plan_audit.proofs.laws.routes_may_be_replaced.Goals as goal
+
+pub returns : goal.returns
+returns c = routes_may_be_replaced

@@ -1,0 +1,6 @@
+use Rattle.std.proofs.Common.{is_some, ap, ◌∙◌}
+use Rattle.plan_audit.proofs.ServedLemmas.{seat-has}
+use Rattle.plan_audit.proofs.scan.Scan.has_stop.Goals as goal
+
+pub returns : goal.returns
+returns c below = c.is_some.ensures ∙ ap is_some (c.seat.ensures below) ∙ seat-has c.args.self.now.routes.now c.args.stop

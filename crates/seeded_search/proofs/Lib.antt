@@ -1,0 +1,4 @@
+mod BlockLemmas
+mod Examples
+mod PickLemmas
+mod StepLemmas

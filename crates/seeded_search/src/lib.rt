@@ -1,0 +1,23 @@
+//! The random words that a search goes by, and what they pick.
+#![tactic(auto)]
+
+ghost use Rattle.std.specs.Prelude.{◌≡◌, ◌<◌, ◌≤◌};
+ghost use Rattle.seeded_search.specs.Words.{pick};
+
+mod laws;
+mod stream;
+
+pub use laws::{picks_are_even, steps_are_blocks};
+pub use stream::words;
+
+/// One of `m` things, numbered from 0, by the word `w`: the whole part of `w * m / 2^32`.
+pub fn pick(w: u32, m: u32) -> u32
+    requires { 1 ≤ m }
+    ensures value { result ≡ pick w m }
+    ensures bound { result < m }
+{
+    ((u64::from(w) * u64::from(m)) >> 32) as u32
+}
+
+#[cfg(test)]
+mod tests;

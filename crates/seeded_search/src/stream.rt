@@ -1,0 +1,88 @@
+//! The words of a search's steps: the key stream of ChaCha20 under the seed.
+ghost use Rattle.std.specs.Prelude.{◌≡◌, ◌+◌, ◌*◌, ◌<◌, ◌^◌};
+ghost use Rattle.rand_chacha.specs.ChaCha.{ChaCha};
+ghost use Rattle.seeded_search.specs.Words.{key_bytes, step_words};
+ghost use Rattle.seeded_search.specs.Generator.{NextStep, next_step_of, before_step, IsBeforeStep, next_words};
+
+use rand_chacha::ChaCha20Rng;
+use rand_core::SeedableRng;
+use rand_core::utils::NextWord;
+use std::marker::Model;
+
+/// The words of search steps, one step after another. It is kept for a run of steps, since the generator
+/// makes four blocks at once, of which a jump to another step would leave three unused.
+#[derive(Drop)]
+pub(crate) struct StepWords {
+    rng: ChaCha20Rng,
+}
+
+impl Model for StepWords {
+    ghost Value = { NextStep };
+
+    ghost view = { λ words. next_step_of words.rng };
+
+    ghost invariant = { λ words. IsBeforeStep words.rng };
+}
+
+impl StepWords {
+    /// The words of the steps from `step` on.
+    pub(crate) fn from_step(seed: u64, step: u64) -> Self
+        requires { step < 2 ^ 60 }
+        ensures { result ≡ record { seed = seed; step = step } }
+    {
+        StepWords {
+            rng: generator(seed, step),
+        }
+    }
+
+    /// The words of the next step.
+    pub(crate) fn next_step(&mut self) -> [u32; 16]
+        requires { self.old.step < 2 ^ 60 }
+        ensures words { result ≡ step_words self.old.seed self.old.step }
+        ensures after { self.new ≡ record self.old { step = self.old.step + 1 } }
+    {
+        sixteen_words(&mut self.rng)
+    }
+}
+
+/// The sixteen words of a step of a search: words `16 * step` to `16 * step + 15` of ChaCha20's key
+/// stream (RFC 8439), whose key is the seed in 8 bytes, the low byte first, and 24 zero bytes. The last
+/// four words of the block function's state are the low and the high half of the block's number, 0 and 0.
+pub fn words(seed: u64, step: u64) -> [u32; 16]
+    requires { step < 2 ^ 60 }
+    ensures { result ≡ step_words seed step }
+{
+    StepWords::from_step(seed, step).next_step()
+}
+
+/// The generator of a seed, before the words of a step.
+fn generator(seed: u64, step: u64) -> ChaCha20Rng
+    requires { step < 2 ^ 60 }
+    ensures { result ≡ before_step (record { seed = seed; step = step }) }
+{
+    let mut rng = ChaCha20Rng::from_seed(key(seed));
+    rng.set_word_pos(u128::from(step) * 16);
+    rng
+}
+
+/// The key of a seed.
+fn key(seed: u64) -> [u8; 32]
+    ensures { result ≡ key_bytes seed }
+{
+    let mut key = [0; 32];
+    key[..8].copy_from_slice(&seed.to_le_bytes());
+    key
+}
+
+/// The next sixteen words of a generator.
+fn sixteen_words(rng: &mut ChaCha20Rng) -> [u32; 16]
+    requires { rng.old.word_pos + 16 < 2 ^ 68 }
+    ensures words { result ≡ next_words rng.old 16 }
+    ensures after { rng.new ≡ record rng.old { word_pos = rng.old.word_pos + 16 } }
+{
+    let mut words = [0; 16];
+    for word in &mut words {
+        *word = rng.next_word();
+    }
+    words
+}
