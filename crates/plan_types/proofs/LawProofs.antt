@@ -1,9 +1,9 @@
 -- What holds of every problem, proved.
-use Rattle.std.proofs.Common.{◌≡◌, ℕ, zero, suc, ◌<◌, true, false, List, [], ◌∷◌, slice_get, Option, Some, None, IsSome, refl, sym, ap, ◌∙◌, subst}
+use Rattle.std.proofs.Common.{◌≡◌, ℕ, zero, suc, ◌<◌, true, false, List, [], ◌∷◌, slice_get, Option, Some, None, IsSome, refl, sym, ap, ◌∙◌, subst, inl, inr, arith}
 use Rattle.std.specs.List.{AllByRecursion}
 use Rattle.std.specs.Option.{option_map, option_or, option_and_then}
 use Rattle.plan_types.specs.Instance.{Instance, stop_at, request_with, first_some, with_request, without_entry, without_request}
-use Rattle.plan_types.specs.Laws.{RequestsStandByName, IsBelowNext, RequestsAreBelowNext, FoundAreBelowNext, StopsAreBelowNext, IsFoundAt, IsFreeAt, IsSameAt, NamedAreFound, PutGivesProblem, PutIsFound, PutKeepsOthers, PutByName, TakeGivesProblem, TakeFreesNumbers, TakeKeepsOthers, TakeByName, TakeOfNone}
+use Rattle.plan_types.specs.Laws.{RequestsStandByName, IsBelowNext, RequestsAreBelowNext, FoundAreBelowNext, StopsAreBelowNext, FreshAreFree, IsFoundAt, IsFreeAt, IsSameAt, NamedAreFound, PutGivesProblem, PutIsFound, PutKeepsOthers, PutByName, TakeGivesProblem, TakeFreesNumbers, TakeKeepsOthers, TakeByName, TakeOfNone}
 use Rattle.plan_types.specs.Request.{request_name, stop_in, partner_in, pickup_in}
 use Rattle.plan_types.specs.declared.requests.Stop.{Stop}
 use Rattle.plan_types.specs.declared.requests.Request.{Request}
@@ -44,6 +44,11 @@ stops_are_below_next p n valid there = by (stop_at p n) refl there
     by : (o : Option Stop) → stop_at p n ≡ o → IsSome o → n < p.next_number
     by (Some s) e there = stop_at-below p n s valid e
     by None e there = absurd (let g : false ≡ true = there in cc)
+
+pub fresh_are_free : FreshAreFree
+fresh_are_free p (Single s) valid all taken = let from = all.0 in let below = stops_are_below_next p s.number valid taken in omega arith
+fresh_are_free p (Pair a b) valid all (inl taken) = let from = all.0 in let below = stops_are_below_next p a.number valid taken in omega arith
+fresh_are_free p (Pair a b) valid all (inr taken) = let from = all.1.0 in let below = stops_are_below_next p b.number valid taken in omega arith
 
 -- a stop that is found is that of the request that is found
 stop_of_found : (n : ℕ) (es : List (ℕ × Request)) → first_some (stop_in n) es ≡ option_and_then (stop_in n) (first_some (itself n) es)

@@ -1,6 +1,6 @@
 -- What holds of every problem: where a request that is found stands, how high the numbers go, and what is found after
 -- a request is put or taken out.
-use Rattle.std.specs.Prelude.{◌≡◌, ◌≢◌, ℕ, ◌<◌, ◌==◌, nat_eq, slice_get, Some, None, IsSome, if◌then◌else◌}
+use Rattle.std.specs.Prelude.{◌≡◌, ◌≢◌, ℕ, ◌<◌, ◌≤◌, ◌==◌, nat_eq, slice_get, Some, None, IsSome, if◌then◌else◌}
 use Rattle.std.specs.List.{AllByRecursion}
 use Rattle.std.specs.Map.{lookup}
 use Rattle.plan_types.specs.Request.{request_name, stops_of, stop_in, partner_in, pickup_in, IsRequest}
@@ -26,6 +26,10 @@ FoundAreBelowNext = (p : Instance) (n : ℕ) (r : Request) → IsInstance p → 
 -- and of each stop that is there
 abbrev pub StopsAreBelowNext : Type 0
 StopsAreBelowNext = (p : Instance) (n : ℕ) → IsInstance p → IsSome (stop_at p n) → n < p.next_number
+
+-- so numbers from the next one on are free
+abbrev pub FreshAreFree : Type 0
+FreshAreFree = (p : Instance) (r : Request) → IsInstance p → AllByRecursion (λ s. p.next_number ≤ s.number) (stops_of r) → ¬ IsTaken p r
 
 -- the request has the stop with this number
 pub record IsFoundAt (p : Instance) (n : ℕ) (r : Request) : Type 0 where

@@ -2,7 +2,7 @@
 ghost use Rattle.std.specs.Prelude.{◌≡◌};
 ghost use Rattle.std.specs.Ordering.{partial_lt, partial_le, is_lt};
 ghost use Rattle.plan_types.specs.Cost.{cost_below, cost_at_most, BelowTells, AtMostTells, CostsAreTotal, CostsAreTransitive, CostsAreAntisymmetric, BelowThenAtMost, AtMostThenBelow, BelowIsAtMost};
-ghost use Rattle.plan_types.specs.Laws.{RequestsStandByName, NamedAreFound, RequestsAreBelowNext, FoundAreBelowNext, StopsAreBelowNext, PutGivesProblem, PutIsFound, PutKeepsOthers, PutByName, TakeGivesProblem, TakeFreesNumbers, TakeKeepsOthers, TakeByName, TakeOfNone};
+ghost use Rattle.plan_types.specs.Laws.{RequestsStandByName, NamedAreFound, RequestsAreBelowNext, FoundAreBelowNext, StopsAreBelowNext, FreshAreFree, PutGivesProblem, PutIsFound, PutKeepsOthers, PutByName, TakeGivesProblem, TakeFreesNumbers, TakeKeepsOthers, TakeByName, TakeOfNone};
 
 use crate::plans::Cost;
 
@@ -16,6 +16,7 @@ pub fn numbers_are_below_the_next()
     ensures requests { RequestsAreBelowNext }
     ensures found { FoundAreBelowNext }
     ensures stops { StopsAreBelowNext }
+    ensures fresh { FreshAreFree }
 {}
 
 /// The request under a name is found at each of its numbers.
