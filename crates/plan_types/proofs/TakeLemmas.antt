@@ -1,14 +1,14 @@
 -- One request less among those that stand by name.
-use Rattle.std.proofs.Common.{◌≡◌, ◌≢◌, ℕ, ◌⊎◌, true, false, Bool, not, cond, List, [], ◌∷◌, map, ◌++◌, filter, Option, Some, None, IsSome, refl, sym, ap, subst, ◌∙◌, inl, inr, eqb, nat_eq, ◌<◌, ◌≤◌, length, zero, suc, is_some, arith}
+use Rattle.std.proofs.Common.{◌≡◌, ◌≢◌, ℕ, ◌⊎◌, true, false, Bool, not, cond, List, [], ◌∷◌, map, ◌++◌, filter, Option, Some, None, refl, sym, ap, subst, ◌∙◌, inl, inr, eqb, nat_eq, ◌<◌, ◌≤◌, length, zero, suc, is_some, arith}
 use Rattle.std.specs.List.{AllByRecursion, IsDistinct}
 use Rattle.std.specs.List.Sorted.{IsStrictlySortedBy}
 use Rattle.std.specs.Map.{lookup, keys_of, remove_entry}
 use Rattle.std.specs.Ordering.{nat_cmp}
 use Rattle.std.specs.declared.cmp.Ordering.TheVariants.{Less, Equal}
-use Rattle.std.specs.Option.{option_map, option_or, option_and_then}
+use Rattle.std.specs.Option.{option_map, option_or}
 use Rattle.std.proofs.lemmas.Bool.{eq-eqb, le-ltb, ne_eqb}
 use Rattle.std.proofs.lemmas.Bool.Decides.{eqb_tells}
-use Rattle.plan_types.specs.Instance.{Instance, IsInstance, first_some, stop_at, request_with, stops_among, numbers_among, without_entry, without_request}
+use Rattle.plan_types.specs.Instance.{Instance, IsInstance, first_some, stops_among, numbers_among, without_entry, without_request}
 use Rattle.plan_types.specs.Request.{request_name, stop_in, partner_in, stops_of, number_after, IsRequest}
 use Rattle.plan_types.specs.Located.{located_in, located_at}
 use Rattle.plan_types.specs.declared.problems.Located.{Located}

@@ -1,7 +1,7 @@
-use Rattle.std.proofs.Common.{rules, ◌≡◌, ◌≤◌, List, Option, Some, None, nat_eq, sym, ap, subst, ◌∙◌, cond, is_some, length}
+use Rattle.std.proofs.Common.{rules, ◌≡◌, List, Option, Some, None, nat_eq, ap, ◌∙◌, cond, is_some}
 use Rattle.std.specs.Map.{lookup}
 use Rattle.plan_types.specs.Instance.{Instance, without_request}
-use Rattle.plan_types.specs.Request.{stop_in, number_after}
+use Rattle.plan_types.specs.Request.{stop_in}
 use Rattle.plan_types.specs.Located.{instance_of, located_at}
 use Rattle.plan_types.specs.declared.problems.Located.{Located}
 use Rattle.plan_types.proofs.LookupLemmas.{take-overwritten}
