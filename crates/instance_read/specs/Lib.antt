@@ -14,4 +14,5 @@ pub mod VrpLines
 pub mod Drafts
 pub mod VrpWalk
 pub mod VrpFields
+pub mod VrpKeys
 pub mod VrpLaws
