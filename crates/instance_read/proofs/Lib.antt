@@ -22,3 +22,4 @@ pub mod VrpFaultLemmas
 pub mod VrpProblemLemmas
 pub mod ReadVrpLemmas
 pub mod VrpLawProofs
+pub mod KeyLineProofs

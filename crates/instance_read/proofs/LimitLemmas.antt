@@ -13,11 +13,10 @@ use Rattle.instance_read.specs.declared.tasks.Header.{Header}
 use Rattle.instance_read.specs.declared.tasks.Task.{Task}
 use Rattle.instance_read.specs.Fields.{field, value_at, is_that, is_beyond, any_beyond, has_no_number, is_no_number, exceeds}
 use Rattle.instance_read.specs.FieldValues.{IsValue}
-use Rattle.instance_read.specs.Headers.{IsHeader}
 use Rattle.instance_read.specs.Lilim.{header_fault, header_limits, is_out_of_order, task_fault, task_limits}
 use Rattle.instance_read.specs.Pairs.{task_of}
 use Rattle.instance_read.specs.Rows.{Row}
-use Rattle.instance_read.specs.Tables.{AreTasks, HeaderKeepsLimits, IsCustomer, RisesFrom}
+use Rattle.instance_read.specs.Tables.{AreTasks, HeaderKeepsLimits, IsCustomer, RisesFrom, IsHeader}
 use Rattle.instance_read.specs.Walk.{HasNoKind, HasNoTaskFault}
 use Rattle.instance_read.proofs.TaskLemmas.{from_zero}
 

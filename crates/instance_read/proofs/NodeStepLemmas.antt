@@ -1,8 +1,9 @@
 -- What a draft knows after the line of a node.
-use Rattle.std.proofs.Common.{◌≡◌, ◌≢◌, ℕ, zero, suc, ◌+◌, ◌-◌, ◌<◌, Bool, true, false, eqb, List, [], ◌∷◌, ◌++◌, length, set, Option, Some, None, ⊎_elim, refl, sym, ap, subst, ◌∙◌, arith, ℤ, pos, negsuc, get_or-set_same, get_or-set_other}
-use Rattle.std.specs.Prelude.{find, slice_index_or, not, int_lt, ◌||◌, ◌&&◌}
+use Rattle.std.proofs.Common.{Less, Equal, Greater, ◌≡◌, ◌≢◌, ℕ, zero, suc, ◌+◌, ◌-◌, ◌<◌, Bool, true, false, cond, ◌⊎◌, inl, inr, eqb, List, [], ◌∷◌, ◌++◌, length, set, Option, Some, None, ⊎_elim, refl, sym, ap, subst, ◌∙◌, arith, ℤ, pos, negsuc, get_or-set_same, get_or-set_other}
+use Rattle.std.specs.Prelude.{find, slice_index_or, int_lt, ◌||◌, ◌&&◌}
 use Rattle.std.specs.Int.RustNames.{unsigned_abs}
 use Rattle.std.specs.Option.{option_map}
+use Rattle.std.specs.Ordering.{int_eq, is_eq}
 use Rattle.std.proofs.lemmas.Bool.{cases_lt, false≢true, or_parts, eqb-true, eqb-false, lt-ltb, le-ltb, ltb-false}
 use Rattle.text_lines.specs.Words.{words_of}
 use Rattle.instance_read.specs.declared.faults.ReadFaultKind.TheVariants.{BadNumber, FieldCount, Range, NodeRepeated}
@@ -12,21 +13,27 @@ use Rattle.instance_read.specs.Fields.{field, is_beyond, is_that, value_at}
 use Rattle.instance_read.specs.Vrp.{is_node_line, node_fault}
 use Rattle.instance_read.specs.VrpLines.{Placed}
 use Rattle.instance_read.specs.Walk.{HasNoKind}
-use Rattle.instance_read.proofs.KnowLemmas.{find_new, find_same, map_none, or_true, some_false}
+use Rattle.instance_read.proofs.KnowLemmas.{find_new, find_same, map_none, some_false}
 use Rattle.instance_read.proofs.LimitLemmas.{not_true, values_of}
 
 -- the test for one number
 abbrev is_one : ℤ → ℤ → Bool
-is_one z y = not (int_lt y z || int_lt z y)
+is_one z y = int_eq z y
+
+apart : (a b : Bool) → (a ≡ true) ⊎ (b ≡ true) → is_eq (cond a Less (cond b Greater Equal)) ≡ false
+apart true b less = refl
+apart false true less = refl
+apart false false (inl less) = absurd (false≢true less)
+apart false false (inr less) = absurd (false≢true less)
 
 one_same : (n : ℕ) → is_one (pos n) (pos n) ≡ true
-one_same n = ap (λ b. not (b || b)) (le-ltb n n (omega arith))
+one_same n = ap (λ b. is_eq (cond b Less (cond b Greater Equal))) (le-ltb n n (omega arith))
 
 one_other : (m n : ℕ) → m ≢ n → is_one (pos m) (pos n) ≡ false
 one_other m n ne =
     ⊎_elim
-    (λ l. ap (λ b. not (b || int_lt (pos m) (pos n))) (lt-ltb n m l))
-    (λ le. ap (λ b. not (int_lt (pos n) (pos m) || b)) (lt-ltb m n (omega (arith, le, ne))) ∙ ap (λ b. not b) (or_true (int_lt (pos n) (pos m))))
+    (λ l. apart (int_lt (pos m) (pos n)) (int_lt (pos n) (pos m)) (inr (lt-ltb n m l)))
+    (λ le. apart (int_lt (pos m) (pos n)) (int_lt (pos n) (pos m)) (inl (lt-ltb m n (omega (arith, le, ne)))))
     (cases_lt n m)
 
 -- A line of a section, with the number of a node that no line before it has.

@@ -1,8 +1,9 @@
 -- The pairs of tasks that rise and are all paired: each can be put, and stands after those of lesser names.
-use Rattle.std.proofs.Common.{◌≡◌, ℕ, zero, suc, ◌+◌, ◌<◌, ◌≤◌, Bool, true, false, not, cond, ◌⊎◌, inl, inr, List, [], ◌∷◌, ◌++◌, length, get_or, take, Option, Some, None, refl, sym, ap, subst, ◌∙◌, arith, eqb, ℤ, pos}
+use Rattle.std.proofs.Common.{Less, Equal, Greater, ◌≡◌, ℕ, zero, suc, ◌+◌, ◌<◌, ◌≤◌, Bool, true, false, not, cond, ◌⊎◌, inl, inr, List, [], ◌∷◌, ◌++◌, length, get_or, take, Option, Some, None, refl, sym, ap, subst, ◌∙◌, arith, eqb, ℤ, pos}
 use Rattle.std.specs.Prelude.{◌||◌, ◌==◌, nat_lt, neg_ℤ, ◌≤ℤ◌, ◌+ℤ◌, int_lt, IsSome, find}
 use Rattle.std.specs.List.{AllByRecursion, cons_option, filter_map}
 use Rattle.std.specs.Option.{option_map, option_map_or, option_or}
+use Rattle.std.specs.Ordering.{is_eq}
 use Rattle.std.proofs.lemmas.Bool.{eqb-true, eq-eqb, ne_eqb, lt-ltb, le-ltb, or_parts, cond-true, cond-false, false≢true}
 use Rattle.std.proofs.lemmas.Option.{none-some, same_Some, some_pair_parts}
 use Rattle.std.proofs.lemmas.Int.{ints}
@@ -14,8 +15,8 @@ use Rattle.plan_types.specs.declared.requests.Request.{Request}
 use Rattle.plan_types.specs.declared.requests.Request.TheVariants.{Pair}
 use Rattle.instance_read.specs.declared.tasks.Task.{Task}
 use Rattle.instance_read.specs.Pairs.{find_task, is_mismatched, is_uneven, is_wrong_delivery, last_number, pair_of, pairs_of}
-use Rattle.instance_read.specs.Tables.{ArePaired, AreTasks, IsCustomer, RisesFrom, problem_with}
-use Rattle.instance_read.specs.Lilim.{depot_from}
+use Rattle.instance_read.specs.Tables.{ArePaired, AreTasks, IsCustomer, RisesFrom}
+use Rattle.instance_read.specs.Lilim.{depot_from, problem_from}
 use Rattle.instance_read.specs.declared.tasks.Header.{Header}
 use Rattle.plan_types.specs.declared.requests.Kind.TheVariants.{LiLim}
 
@@ -100,6 +101,12 @@ found_good tasks n d valid paired e = record {
   paired = found_holds (λ t. is_mismatched tasks t ≡ false) n tasks d paired e;
 }
 
+-- numbers that are equal: neither is below the other
+equal_parts : (a b : Bool) → not (is_eq (cond a Less (cond b Greater Equal))) ≡ false → (a ≡ false) × (b ≡ false)
+equal_parts true b is = absurd (false≢true (sym is))
+equal_parts false true is = absurd (false≢true (sym is))
+equal_parts false false is = (refl, refl)
+
 -- the parts of a request that a task makes
 abbrev Parts : List Task → Task → ℕ → Request → Type 0
 Parts tasks t k r = (k ≡ t.stop.number) × (d : Task) × IsPair tasks t d × (r ≡ Pair t.stop d.stop)
@@ -111,7 +118,7 @@ pair_cases tasks t k r other true true (Some d) valid paired good picks at right
 pair_cases tasks t k r other true false (Some d) valid paired good picks at right is =
     let parts = or_parts (not (d.pickup == t.stop.number) || is_uneven t d) (int_lt t.stop.demand (pos 0)) right in
     let first = or_parts (not (d.pickup == t.stop.number)) (is_uneven t d) parts.0 in
-    let sum = or_parts (int_lt (t.stop.demand +ℤ d.stop.demand) (pos 0)) (int_lt (pos 0) (t.stop.demand +ℤ d.stop.demand)) first.1 in
+    let sum = equal_parts (int_lt (t.stop.demand +ℤ d.stop.demand) (pos 0)) (int_lt (pos 0) (t.stop.demand +ℤ d.stop.demand)) first.1 in
     let same = some_pair_parts t.stop.number k (Pair t.stop d.stop) r is in (
       sym same.0,
       d,
@@ -351,7 +358,7 @@ none_found p [] is = tt
 none_found p (x ∷ xs) is = none_found_cond p x xs (p x) refl (none_found p xs) is
 
 -- the problem after its requests are put and its next number is set
-pub finished : (header : Header) (depot : Task) (tasks : List Task) (fresh put done : Instance) (n : ℕ) → fresh ≡ new_instance LiLim (depot_from depot) header.capacity header.fleet → put ≡ record fresh { requests = pairs_of tasks; next_number = put.next_number } → done ≡ record put { next_number = n } → n ≡ last_number depot tasks + 1 → done ≡ problem_with header depot tasks
+pub finished : (header : Header) (depot : Task) (tasks : List Task) (fresh put done : Instance) (n : ℕ) → fresh ≡ new_instance LiLim (depot_from depot) header.capacity header.fleet → put ≡ record fresh { requests = pairs_of tasks; next_number = put.next_number } → done ≡ record put { next_number = n } → n ≡ last_number depot tasks + 1 → done ≡ problem_from header.fleet header.capacity depot tasks
 finished header depot tasks fresh put done n new puts sets next =
     sets
     ∙ ap (λ (p : Instance). record p { next_number = n }) puts

@@ -6,7 +6,6 @@ use Rattle.std.proofs.lemmas.Bool.{or_parts, lt-ltb, le-ltb, false≢true}
 use Rattle.instance_read.specs.declared.tasks.Task.{Task}
 use Rattle.instance_read.specs.Fields.{field, value_at, is_that, is_beyond, any_beyond, has_no_number, exceeds}
 use Rattle.instance_read.specs.FieldValues.{IsValue}
-use Rattle.instance_read.specs.Headers.{task_with}
 use Rattle.instance_read.specs.Lilim.{is_out_of_order, task_fault, task_limits}
 use Rattle.instance_read.specs.Pairs.{task_from}
 use Rattle.instance_read.specs.Walk.{HasNoKind, IsFirstKind}
@@ -45,9 +44,9 @@ same_task line words v h =
 
 -- What is known of a line whose nine numbers keep their limits.
 module _ (words : List (List ℕ)) (values : List ℤ) (h : (k : ℕ) → k < 9 → IsValue (get_or task_limits k (pos 0, pos 0)) (field words k) (get_or values k (pos 0))) where
-  pub task_with-is : (line : ℕ) → task_with line values ≡ task_from line words
+  pub task_is : (line : ℕ) → task_from line (λ k. get_or values k (pos 0)) ≡ task_from line (value_at words)
   unfolding task_by
-  task_with-is line = same_task line words (λ k. get_or values k (pos 0)) (λ k l. ap (λ o. unwrap_or o (pos 0)) (h k l).0)
+  task_is line = same_task line words (λ k. get_or values k (pos 0)) (λ k l. ap (λ o. unwrap_or o (pos 0)) (h k l).0)
 
   pub in_limits : any_beyond task_limits words ≡ false
   in_limits = any_beyond-false task_limits words (λ k. get_or values k (pos 0)) h

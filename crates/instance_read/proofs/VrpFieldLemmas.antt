@@ -9,8 +9,7 @@ use Rattle.instance_read.specs.declared.faults.ReadFaultKind.TheVariants.{BadNum
 use Rattle.instance_read.specs.Faults.{rank}
 use Rattle.instance_read.specs.Fields.{field, is_that, is_beyond, any_beyond}
 use Rattle.instance_read.specs.FieldValues.{HasNumbers, numbers_fault}
-use Rattle.instance_read.specs.Vrp.{capacity_fault, dimension_fault, goes_on_after_end, node_fault}
-use Rattle.instance_read.specs.VrpFields.{goes_on_from, is_end}
+use Rattle.instance_read.specs.Vrp.{capacity_fault, dimension_fault, goes_on_after_end, is_end, node_fault}
 use Rattle.instance_read.specs.Walk.{HasNoKind, IsFirstKind}
 use Rattle.instance_read.proofs.KindLemmas.{first_from, rank_small}
 use Rattle.instance_read.proofs.NumberLemmas.{numbers_none}
@@ -99,7 +98,11 @@ module _ (stands : Bool) (words : List (List ℕ)) where
     pub dimension_none : stands ≡ false → HasNoKind (dimension_fault stands words)
     dimension_none e k = dimension_below 14 (λ _. e) k (rank_small k)
 
--- A line of the list of depots.
+-- A line of the list of depots: a word stands here, after a -1, or after a -1 among these.
+abbrev pub goes_on_from : Bool → List (List ℕ) → Bool
+goes_on_from ended [] = false
+goes_on_from ended (word ∷ words) = ended || goes_on_from (is_end word) words
+
 pub goes_on-is : (words : List (List ℕ)) → goes_on_from false words ≡ goes_on_after_end words
 goes_on-is [] = refl
 goes_on-is (w ∷ []) = refl

@@ -1,14 +1,21 @@
 -- Where the lines of a `.vrp` text stand.
-use Rattle.std.proofs.Common.{◌≡◌, ◌≤◌, ℕ, zero, suc, ◌+◌, ◌-◌, cond, List, [], ◌∷◌, ◌++◌, length, map, drop, Option, Some, None, refl, sym, ap, ◌∙◌, arith}
-use Rattle.std.proofs.lemmas.Bool.{ne_eqb, le-ltb}
+use Rattle.std.proofs.Common.{◌≡◌, ◌≤◌, ℕ, zero, suc, ◌+◌, ◌-◌, Bool, true, false, cond, eqb, List, [], ◌∷◌, ◌++◌, length, length-append, map, drop, Option, Some, None, pos, refl, sym, ap, ◌∙◌, arith}
+use Rattle.std.specs.Prelude.{◌||◌, codes, find}
+use Rattle.std.specs.Int.RustNames.{unsigned_abs}
+use Rattle.std.specs.Option.{option_map}
+use Rattle.std.proofs.lemmas.Bool.{cond_both, false≢true, ne_eqb, le-ltb}
+use Rattle.std.proofs.lemmas.Option.{none-some, same_Some}
 use Rattle.text_lines.specs.Words.{words_of}
 use Rattle.instance_read.specs.declared.vrp_lines.Key.{Key}
-use Rattle.instance_read.specs.declared.vrp_lines.Key.TheVariants.{Coordinates, Demands, Depots, End}
+use Rattle.instance_read.specs.declared.vrp_lines.Key.TheVariants.{Dimension, Capacity, ProblemType, WeightType, Refused, Coordinates, Demands, Depots, End, StrayNumber, Ignored}
 use Rattle.instance_read.specs.declared.vrp_lines.Place.{Place}
 use Rattle.instance_read.specs.declared.vrp_lines.Place.TheVariants.{Outside, CoordinateLine, DemandLine, DepotLine, AfterEnd}
-use Rattle.instance_read.specs.Rows.{Row}
-use Rattle.instance_read.specs.VrpLaws.{SectionsHaveALineForEachNode, DepotsAreTwoWords, EndIsTheEnd, after_end, coordinate_lines, demand_lines, depot_line, outside}
-use Rattle.instance_read.specs.VrpLines.{coordinates_left, demands_left, depots_after, key_of, nodes_after, nodes_in_key, place_after_key, placed_from}
+use Rattle.instance_read.specs.Fields.{field}
+use Rattle.instance_read.specs.Rows.{Row, rows_of}
+use Rattle.instance_read.specs.Vrp.{first_key, has_key, key_number}
+use Rattle.instance_read.specs.VrpLaws.{DepotsAreTwoWords, DimensionAloneAnnounces, EndIsTheEnd, LeavesOutside, OtherLinesStayOutside, SectionsHaveALineForEachNode, after_end, coordinate_lines, demand_lines, depot_line, is_keyed, outside, rows_in}
+use Rattle.instance_read.specs.VrpLines.{Placed, begins_as_number, coordinates_left, demands_left, depots_after, ends_in, key_of, key_text, nodes_after, nodes_in_key, place_after, place_after_key, placed_from, trimmed, value_words}
+use Rattle.instance_read.proofs.LilimLemmas.{cons_head, cons_tail}
 use Rattle.instance_read.proofs.ReadingLemmas.{nodes_other, placed_none, placed_step}
 
 left_is : (k : ℕ) → coordinates_left (suc k) ≡ CoordinateLine (suc k)
@@ -42,11 +49,142 @@ key_step nodes row rows key is none =
     ∙ ap (λ o. outside row ∷ placed_from o (place_after_key nodes (key_of row)) rows) (nodes_other row key nodes is none)
     ∙ ap (λ k. outside row ∷ placed_from nodes (place_after_key nodes k) rows) is
 
+-- ---- what is announced before a line, and what stands behind it
+abbrev announced : Option ℕ → List Placed → Option ℕ
+announced nodes [] = nodes
+announced nodes (p ∷ before) = announced (nodes_after nodes p.row p.place) before
+
+announced_stays : (n : ℕ) (before : List Placed) → announced (Some n) before ≡ Some n
+announced_stays n [] = refl
+announced_stays n (p ∷ before) = announced_stays n before
+
+-- only a DIMENSION line announces
+none_in_key : (row : Row) (key : Key) → eqb (key_number key) 0 ≡ false → nodes_in_key row key ≡ None
+none_in_key row Dimension other = absurd (false≢true (sym other))
+none_in_key row Capacity other = refl
+none_in_key row ProblemType other = refl
+none_in_key row WeightType other = refl
+none_in_key row Refused other = refl
+none_in_key row Coordinates other = refl
+none_in_key row Demands other = refl
+none_in_key row Depots other = refl
+none_in_key row End other = refl
+none_in_key row StrayNumber other = refl
+none_in_key row Ignored other = refl
+
+still_none : (p : Placed) → has_key Dimension p ≡ false → nodes_after None p.row p.place ≡ None
+still_none p other = by p.place other
+  where
+    by : (place : Place) → has_key Dimension (record { row = p.row; place = place }) ≡ false → nodes_after None p.row place ≡ None
+    by Outside other = none_in_key p.row (key_of p.row) other
+    by (CoordinateLine n) other = refl
+    by (DemandLine n) other = refl
+    by (DepotLine n) other = refl
+    by AfterEnd other = refl
+
+dimension_key : (key : Key) → eqb (key_number key) 0 ≡ true → key ≡ Dimension
+dimension_key Dimension is = refl
+dimension_key Capacity is = absurd (false≢true is)
+dimension_key ProblemType is = absurd (false≢true is)
+dimension_key WeightType is = absurd (false≢true is)
+dimension_key Refused is = absurd (false≢true is)
+dimension_key Coordinates is = absurd (false≢true is)
+dimension_key Demands is = absurd (false≢true is)
+dimension_key Depots is = absurd (false≢true is)
+dimension_key End is = absurd (false≢true is)
+dimension_key StrayNumber is = absurd (false≢true is)
+dimension_key Ignored is = absurd (false≢true is)
+
+now_some : (p : Placed) (n : ℕ) → has_key Dimension p ≡ true → field (value_words p.row) 0 ≡ Some (pos n) → nodes_after None p.row p.place ≡ Some n
+now_some p n is value = by p.place is
+  where
+    by : (place : Place) → has_key Dimension (record { row = p.row; place = place }) ≡ true → nodes_after None p.row place ≡ Some n
+    by Outside is = ap (nodes_in_key p.row) (dimension_key (key_of p.row) is) ∙ ap (option_map unsigned_abs) value
+    by (CoordinateLine k) is = absurd (false≢true is)
+    by (DemandLine k) is = absurd (false≢true is)
+    by (DepotLine k) is = absurd (false≢true is)
+    by AfterEnd is = absurd (false≢true is)
+
+-- what the first DIMENSION line says is announced from there on
+announced_first : (before : List Placed) (dimension : Row) (n : ℕ) → first_key Dimension before ≡ Some dimension → field (value_words dimension) 0 ≡ Some (pos n) → announced None before ≡ Some n
+announced_first [] dimension n first value = absurd (none-some dimension first)
+announced_first (p ∷ before) dimension n first value = by (has_key Dimension p) refl (announced_first before dimension n)
+  where
+    by : (t : Bool) → has_key Dimension p ≡ t → (first_key Dimension before ≡ Some dimension → field (value_words dimension) 0 ≡ Some (pos n) → announced None before ≡ Some n) → announced None (p ∷ before) ≡ Some n
+    by true is rest =
+        let same : p.row ≡ dimension = same_Some p.row dimension (sym (ap (λ t. option_map (λ (q : Placed). q.row) (cond t (Some p) (find (has_key Dimension) before))) is) ∙ first) in
+        ap (λ o. announced o before) (now_some p n is (ap (λ row. field (value_words row) 0) same ∙ value)) ∙ announced_stays n before
+    by false is rest =
+        ap (λ o. announced o before) (still_none p is)
+        ∙ rest (sym (ap (λ t. option_map (λ (q : Placed). q.row) (cond t (Some p) (find (has_key Dimension) before))) is) ∙ first) value
+
+rows_back : (nodes : Option ℕ) (place : Place) (rows : List Row) → rows_in (placed_from nodes place rows) ≡ rows
+rows_back nodes place [] = ap rows_in (placed_none nodes place)
+rows_back nodes place (row ∷ rows) =
+    ap rows_in (placed_step nodes place row rows) ∙ ap (λ more. row ∷ more) (rows_back (nodes_after nodes row place) (place_after nodes row place) rows)
+
+-- the lines behind one of them
+behind : (nodes : Option ℕ) (place : Place) (rows : List Row) (before after : List Placed) (p : Placed) → placed_from nodes place rows ≡ before ++ p ∷ after
+    → after ≡ placed_from (nodes_after (announced nodes before) p.row p.place) (place_after (announced nodes before) p.row p.place) (rows_in after)
+behind nodes place [] before after p is = absurd (omega (arith, ap length (sym (placed_none nodes place) ∙ is), length-append before (p ∷ after)))
+behind nodes place (row ∷ rows) [] after p is =
+    let whole = sym (placed_step nodes place row rows) ∙ is in
+    let more = placed_from (nodes_after nodes row place) (place_after nodes row place) rows in
+    let here : record { row = row; place = place } ≡ p = cons_head (record { row = row; place = place }) p more after whole in
+    let rest : more ≡ after = cons_tail (record { row = row; place = place }) p more after whole in
+    sym rest
+    ∙ ap (placed_from (nodes_after nodes row place) (place_after nodes row place)) (sym (rows_back (nodes_after nodes row place) (place_after nodes row place) rows) ∙ ap rows_in rest)
+    ∙ ap (λ (q : Placed). placed_from (nodes_after nodes q.row q.place) (place_after nodes q.row q.place) (rows_in after)) here
+behind nodes place (row ∷ rows) (q ∷ before) after p is =
+    let whole = sym (placed_step nodes place row rows) ∙ is in
+    let more = placed_from (nodes_after nodes row place) (place_after nodes row place) rows in
+    let here : record { row = row; place = place } ≡ q = cons_head (record { row = row; place = place }) q more (before ++ p ∷ after) whole in
+    let rest : more ≡ before ++ p ∷ after = cons_tail (record { row = row; place = place }) q more (before ++ p ∷ after) whole in
+    behind (nodes_after nodes row place) (place_after nodes row place) rows before after p rest
+    ∙ ap (λ (r : Placed). placed_from (nodes_after (announced (nodes_after nodes r.row r.place) before) p.row p.place) (place_after (announced (nodes_after nodes r.row r.place) before) p.row p.place) (rows_in after)) here
+
 pub sections : SectionsHaveALineForEachNode
-sections nodes row rows = (
-  λ is. key_step (Some nodes) row rows Coordinates is refl ∙ ap (λ ps. outside row ∷ ps) (coordinate_block nodes nodes rows),
-  λ is. key_step (Some nodes) row rows Demands is refl ∙ ap (λ ps. outside row ∷ ps) (demand_block nodes nodes rows),
-)
+sections text before after row dimension n is first value =
+    let follows = behind None Outside (rows_of text) before after (outside row) is in
+    let known : after ≡ placed_from (Some n) (place_after_key (Some n) (key_of row)) (rows_in after) =
+    follows ∙ ap (λ o. placed_from (nodes_after o row Outside) (place_after o row Outside) (rows_in after)) (announced_first before dimension n first value) in (
+      λ key. known ∙ ap (λ k. placed_from (Some n) (place_after_key (Some n) k) (rows_in after)) key ∙ coordinate_block n n (rows_in after),
+      λ key. known ∙ ap (λ k. placed_from (Some n) (place_after_key (Some n) k) (rows_in after)) key ∙ demand_block n n (rows_in after),
+    )
+
+-- ---- lines of other keys
+-- what holds of each key that these tests choose holds of the line's
+key_holds : (P : Key → Type 0) (row : Row) → P Capacity → P ProblemType → P WeightType → P Refused → P StrayNumber → P Ignored
+    → (is_keyed (codes "DIMENSION") row ≡ true → P Dimension) → (is_keyed (codes "NODE_COORD_SECTION") row ≡ true → P Coordinates)
+    → (is_keyed (codes "DEMAND_SECTION") row ≡ true → P Demands) → (is_keyed (codes "DEPOT_SECTION") row ≡ true → P Depots)
+    → (is_keyed (codes "EOF") row ≡ true → P End) → P (key_of row)
+unfolding key_of
+key_holds P row capacity kind weight refused stray ignored dimension coordinates demands depots end =
+    cond_both (is_keyed (codes "DIMENSION") row) _ _ P dimension (λ _.
+    cond_both (is_keyed (codes "CAPACITY") row) _ _ P (λ _. capacity) (λ _.
+    cond_both (is_keyed (codes "TYPE") row) _ _ P (λ _. kind) (λ _.
+    cond_both (is_keyed (codes "EDGE_WEIGHT_TYPE") row) _ _ P (λ _. weight) (λ _.
+    cond_both (is_keyed (codes "DISTANCE") row || is_keyed (codes "SERVICE_TIME") row) _ _ P (λ _. refused) (λ _.
+    cond_both (is_keyed (codes "NODE_COORD_SECTION") row) _ _ P coordinates (λ _.
+    cond_both (is_keyed (codes "DEMAND_SECTION") row) _ _ P demands (λ _.
+    cond_both (is_keyed (codes "DEPOT_SECTION") row) _ _ P depots (λ _.
+    cond_both (is_keyed (codes "EOF") row) _ _ P end (λ _.
+    cond_both (ends_in (codes "_SECTION") (key_text row.text)) _ _ P (λ _. refused) (λ _.
+    cond_both (begins_as_number (trimmed row.text)) _ _ P (λ _. stray) (λ _. ignored)))))))))))
+
+clash : {X : Type 0} {b : Bool} → b ≡ false → b ≡ true → X
+clash not_so so = absurd (false≢true (sym not_so ∙ so))
+
+stays : (nodes : Option ℕ) (row : Row) → LeavesOutside row → place_after_key nodes (key_of row) ≡ Outside
+stays None row leaves = key_holds (λ key. place_after_key None key ≡ Outside) row refl refl refl refl refl refl (λ _. refl) (clash leaves.0) (clash leaves.1) (clash leaves.2) (clash leaves.3)
+stays (Some n) row leaves = key_holds (λ key. place_after_key (Some n) key ≡ Outside) row refl refl refl refl refl refl (λ _. refl) (clash leaves.0) (clash leaves.1) (clash leaves.2) (clash leaves.3)
+
+pub others : OtherLinesStayOutside
+others nodes row rows leaves = placed_step nodes Outside row rows ∙ ap (λ place. outside row ∷ placed_from (nodes_after nodes row Outside) place rows) (stays nodes row leaves)
+
+pub announces : DimensionAloneAnnounces
+announces (Some n) row other = refl
+announces None row other = key_holds (λ key. nodes_in_key row key ≡ None) row refl refl refl refl refl refl (clash other) (λ _. refl) (λ _. refl) (λ _. refl) (λ _. refl)
 
 -- a place that is in no section of its own keeps what is announced
 same_nodes : (nodes : Option ℕ) (row : Row) (seen : ℕ) → nodes_after nodes row (DepotLine seen) ≡ nodes

@@ -14,8 +14,8 @@ use Rattle.instance_read.specs.declared.vrp_lines.Place.TheVariants.{Outside, Co
 use Rattle.instance_read.specs.Fields.{value_at}
 use Rattle.instance_read.specs.Rows.{Row}
 use Rattle.instance_read.specs.Vrp.{key_number, key_fault, node_fault, depot_fault, coordinate_limits, demand_limits}
-use Rattle.instance_read.specs.VrpLines.{key_of, value_of}
-use Rattle.instance_read.specs.Walk.{IsFirstKind}
+use Rattle.instance_read.specs.VrpLines.{key_of, place_after, value_of}
+use Rattle.instance_read.specs.Walk.{HasNoKind, IsFirstKind}
 
 -- the entry of a node, which counts from 1
 abbrev pub entry_at : {T : Type 0} → List (Option T) → ℤ → Option T
@@ -78,6 +78,24 @@ pub record IsDraft (draft : Draft) : Type 0 where
   pub capacity : IfSome draft.capacity (λ q. q ≤ 1000000)
   pub coordinates : All (λ entry. IfSome entry IsPoint) draft.coordinates.items
   pub demands : All (λ entry. IfSome entry IsDemand) draft.demands.items
+
+-- a line without a fault was taken at this place
+abbrev pub Takes : Draft → Row → Place → Draft → Type 0
+Takes old row place new = HasNoKind (line_fault old row place) × TakesLine old row place new × IsDraft new
+
+-- and the next line stands at that place
+abbrev pub TakesTo : Draft → Row → Place → Draft → Place → Type 0
+TakesTo old row place new next =
+    HasNoKind (line_fault old row place) × TakesLine old row place new × (next ≡ place_after old.nodes row place) × IsDraft new
+
+-- a key's value without a fault was taken, where a line of the same key may stand before it
+abbrev pub TakesKey : Draft → ℕ → List ℕ → Key → Bool → Draft → Type 0
+TakesKey old line value key stands new =
+    HasNoKind (key_fault (is_some old.nodes) stands value key) × TakesValue old line value key new × IsDraft new
+
+-- a line whose number is not asked
+abbrev pub unnumbered : List ℕ → Row
+unnumbered text = record { line = 0; text = text }
 
 -- a line at this place finds what it needs
 abbrev pub FitsPlace : Place → Draft → Type 0

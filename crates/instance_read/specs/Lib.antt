@@ -1,17 +1,18 @@
+-- what public contracts say
 pub mod Faults
-pub mod Fields
-pub mod Lilim
-pub mod Pairs
-pub mod Rows
 pub mod Names
+pub mod Fields
+pub mod Rows
+pub mod Pairs
+pub mod Lilim
+pub mod VrpLines
+pub mod Vrp
+pub mod VrpKeys
+pub mod VrpLaws
+-- of private functions alone
 pub mod RowViews
 pub mod FieldValues
 pub mod Walk
-pub mod Headers
 pub mod Tables
-pub mod Vrp
-pub mod VrpLines
 pub mod Drafts
 pub mod VrpWalk
-pub mod VrpFields
-pub mod VrpLaws

@@ -1,5 +1,5 @@
 -- The faults of a Li-Lim text, and the problem that a text without faults spells.
-use Rattle.std.specs.Prelude.{◌≡◌, ℕ, ◌+◌, ◌<◌, Bool, true, false, not, ◌==◌, List, [], ◌∷◌, ◌++◌, length, map, drop, Option, Some, None, ℤ, pos, negsuc, int_lt, Contains}
+use Rattle.std.specs.Prelude.{◌≡◌, ℕ, ◌+◌, ◌<◌, Bool, true, false, not, ◌==◌, List, [], ◌∷◌, ◌++◌, length, map, drop, Option, Some, None, ℤ, pos, neg_ℤ, int_lt, Contains}
 use Rattle.std.specs.Int.RustNames.{unsigned_abs}
 use Rattle.std.specs.List.{last_or}
 use Rattle.text_lines.specs.Lines.{lines_of}
@@ -23,8 +23,8 @@ header_limits = (pos 1, pos 40000) ∷ (pos 0, pos 1000000) ∷ []
 abbrev pub task_limits : List (ℤ × ℤ)
 task_limits =
     (pos 0, pos 40000)
-    ∷ (negsuc 999999, pos 1000000) ∷ (negsuc 999999, pos 1000000)
-    ∷ (negsuc 999999, pos 1000000)
+    ∷ (neg_ℤ (pos 1000000), pos 1000000) ∷ (neg_ℤ (pos 1000000), pos 1000000)
+    ∷ (neg_ℤ (pos 1000000), pos 1000000)
     ∷ (pos 0, pos 100000000) ∷ (pos 0, pos 100000000)
     ∷ (pos 0, pos 1000000)
     ∷ (pos 0, pos 40000) ∷ (pos 0, pos 40000)
@@ -86,23 +86,27 @@ depot_from t = record {
   service = 0;
 }
 
--- the problem of these lines: a pair for each pickup, and one above the last task's number as the next
-abbrev pub problem_from : Row → Row → List Row → Instance
-problem_from header depot customers =
+-- the problem of a fleet, a capacity, the depot's task and the customers': a pair for each pickup, and one above the
+-- last task's number as the next
+abbrev pub problem_from : ℕ → ℕ → Task → List Task → Instance
+problem_from fleet capacity depot customers = record {
+  kind = LiLim;
+  depot = depot_from depot;
+  capacity = capacity;
+  fleet = fleet;
+  requests = pairs_of customers;
+  next_number = last_number depot customers + 1;
+}
+
+-- the problem of these lines: the header has the fleet and the capacity
+abbrev pub problem_of : Row → Row → List Row → Instance
+problem_of header depot customers =
     let words = words_of header.text in
-    let tasks = map task_of customers in
-    record {
-      kind = LiLim;
-      depot = depot_from (task_of depot);
-      capacity = unsigned_abs (value_at words 1);
-      fleet = unsigned_abs (value_at words 0);
-      requests = pairs_of tasks;
-      next_number = last_number (task_of depot) tasks + 1;
-    }
+    problem_from (unsigned_abs (value_at words 0)) (unsigned_abs (value_at words 1)) (task_of depot) (map task_of customers)
 
 -- a text spells a problem: it has no fault, and the problem is that of its lines
 abbrev pub SpellsLilim : List ℕ → Instance → Type 0
 SpellsLilim text problem =
     HasNone (LilimFault text)
     × (header : Row) × (depot : Row) × (customers : List Row)
-    × (rows_of text ≡ header ∷ depot ∷ customers) × (problem ≡ problem_from header depot customers)
+    × (rows_of text ≡ header ∷ depot ∷ customers) × (problem ≡ problem_of header depot customers)

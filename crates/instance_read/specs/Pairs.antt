@@ -1,8 +1,9 @@
 -- The tasks of a Li-Lim text, and how they make pairs.
-use Rattle.std.specs.Prelude.{ℕ, Bool, true, not, ◌||◌, ◌==◌, if◌then◌else◌, List, [], ◌∷◌, Option, None, find, pos, ◌+ℤ◌, int_lt}
+use Rattle.std.specs.Prelude.{ℕ, Bool, true, not, ◌||◌, ◌==◌, if◌then◌else◌, List, [], ◌∷◌, Option, None, find, ℤ, pos, ◌+ℤ◌, int_lt}
 use Rattle.std.specs.Int.RustNames.{unsigned_abs}
 use Rattle.std.specs.List.{filter_map}
 use Rattle.std.specs.Option.{option_map, option_map_or}
+use Rattle.std.specs.Ordering.{int_eq}
 use Rattle.text_lines.specs.Words.{words_of}
 use Rattle.plan_types.specs.declared.requests.Request.{Request}
 use Rattle.plan_types.specs.declared.requests.Request.TheVariants.{Pair}
@@ -10,25 +11,26 @@ use Rattle.instance_read.specs.declared.tasks.Task.{Task}
 use Rattle.instance_read.specs.Fields.{value_at}
 use Rattle.instance_read.specs.Rows.{Row}
 
--- The task of a line: its number, place, demand, window and service, and the tasks that its last two fields name.
-abbrev pub task_from : ℕ → List (List ℕ) → Task
-task_from line words = record {
+-- The task of a line, from the numbers at its places: its number, place, demand, window and service, and the tasks that
+-- its last two fields name.
+abbrev pub task_from : ℕ → (ℕ → ℤ) → Task
+task_from line value = record {
   line = line;
   stop = record {
-    number = unsigned_abs (value_at words 0);
-    x = value_at words 1;
-    y = value_at words 2;
-    demand = value_at words 3;
-    earliest = unsigned_abs (value_at words 4);
-    latest = unsigned_abs (value_at words 5);
-    service = unsigned_abs (value_at words 6);
+    number = unsigned_abs (value 0);
+    x = value 1;
+    y = value 2;
+    demand = value 3;
+    earliest = unsigned_abs (value 4);
+    latest = unsigned_abs (value 5);
+    service = unsigned_abs (value 6);
   };
-  pickup = unsigned_abs (value_at words 7);
-  delivery = unsigned_abs (value_at words 8);
+  pickup = unsigned_abs (value 7);
+  delivery = unsigned_abs (value 8);
 }
 
 unfoldable pub task_of : Row → Task
-task_of row = task_from row.line (words_of row.text)
+task_of row = task_from row.line (value_at (words_of row.text))
 
 -- the task with this number
 abbrev pub find_task : ℕ → List Task → Option Task
@@ -36,7 +38,7 @@ find_task n tasks = find (λ t. t.stop.number == n) tasks
 
 -- what one picks up isn't what the other delivers
 abbrev pub is_uneven : Task → Task → Bool
-is_uneven a b = let sum = a.stop.demand +ℤ b.stop.demand in int_lt sum (pos 0) || int_lt (pos 0) sum
+is_uneven a b = not (int_eq (a.stop.demand +ℤ b.stop.demand) (pos 0))
 
 -- d is no delivery for the pickup p: it doesn't name p as its pickup, their demands' sum isn't 0, or p's demand is negative
 abbrev pub is_wrong_delivery : Task → Task → Bool

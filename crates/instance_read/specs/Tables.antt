@@ -1,15 +1,14 @@
 -- What is known of the tasks of a text whose lines have no fault.
-use Rattle.std.specs.Prelude.{◌≡◌, ℕ, ◌+◌, ◌<◌, ◌⊎◌, false, List, [], ◌∷◌, Option, Some, None, find, slice_index_or, pos, ◌==◌, ◌≤ℤ◌}
+use Rattle.std.specs.Prelude.{◌≡◌, ℕ, ◌<◌, ◌⊎◌, false, List, [], ◌∷◌, Option, Some, None, find, slice_index_or, pos, ◌==◌, ◌≤ℤ◌}
+use Rattle.std.specs.Int.RustNames.{unsigned_abs}
 use Rattle.std.specs.List.{AllByRecursion, position_from}
-use Rattle.plan_types.specs.Instance.{Instance}
 use Rattle.plan_types.specs.Limits.{IsCapacity, IsFleet, IsStop, IsVisit}
-use Rattle.plan_types.specs.declared.requests.Kind.TheVariants.{LiLim}
 use Rattle.instance_read.specs.declared.faults.ReadFault.{ReadFault}
 use Rattle.instance_read.specs.declared.faults.ReadFaultKind.TheVariants.{PairMismatch, OutOfMemory}
 use Rattle.instance_read.specs.declared.tasks.Header.{Header}
 use Rattle.instance_read.specs.declared.tasks.Task.{Task}
-use Rattle.instance_read.specs.Lilim.{depot_from}
-use Rattle.instance_read.specs.Pairs.{is_mismatched, last_number, pairs_of}
+use Rattle.instance_read.specs.Fields.{value_at}
+use Rattle.instance_read.specs.Pairs.{is_mismatched}
 
 -- the place of the task with this number, from 0
 abbrev pub place_of : ℕ → List Task → Option ℕ
@@ -35,6 +34,10 @@ pub record AreTasks (depot : Task) (customers : List Task) : Type 0 where
   pub valid : AllByRecursion IsCustomer customers
   pub rising : RisesFrom 0 customers
 
+-- the header has the first two of these numbers
+abbrev pub IsHeader : List (List ℕ) → Header → Type 0
+IsHeader words header = (header.fleet ≡ unsigned_abs (value_at words 0)) × (header.capacity ≡ unsigned_abs (value_at words 1))
+
 pub record HeaderKeepsLimits (header : Header) : Type 0 where
   pub fleet : IsFleet header.fleet
   pub capacity : IsCapacity header.capacity
@@ -42,17 +45,6 @@ pub record HeaderKeepsLimits (header : Header) : Type 0 where
 -- no task is mismatched
 abbrev pub ArePaired : List Task → Type 0
 ArePaired customers = AllByRecursion (λ t. is_mismatched customers t ≡ false) customers
-
--- the problem of a header, a depot and customers
-abbrev pub problem_with : Header → Task → List Task → Instance
-problem_with header depot customers = record {
-  kind = LiLim;
-  depot = depot_from depot;
-  capacity = header.capacity;
-  fleet = header.fleet;
-  requests = pairs_of customers;
-  next_number = last_number depot customers + 1;
-}
 
 -- want of memory, or the first task that is no half of a pair
 abbrev pub TellsMismatch : List Task → ReadFault → Type 0

@@ -1,9 +1,11 @@
 -- The faults of a `.vrp` text, and the problem that a text without faults spells.
-use Rattle.std.specs.Prelude.{◌≡◌, ℕ, zero, suc, ◌+◌, ◌-◌, Bool, true, false, not, ◌&&◌, ◌||◌, ◌==◌, List, [], ◌∷◌, ◌++◌, length, map, find, codes, Option, ℤ, pos, negsuc, int_lt}
+use Rattle.std.specs.Prelude.{◌≡◌, ℕ, zero, suc, ◌+◌, ◌-◌, Bool, true, false, not, ◌&&◌, ◌||◌, ◌==◌, List, [], ◌∷◌, ◌++◌, length, map, find, codes, Option, ℤ, pos, neg_ℤ, int_lt}
 use Rattle.std.specs.Int.RustNames.{unsigned_abs}
 use Rattle.std.specs.List.{list_any, range_with_len}
 use Rattle.std.specs.Option.{option_map, option_map_or}
+use Rattle.std.specs.Ordering.{int_eq}
 use Rattle.std.specs.Str.{str_eq_ignore_ascii_case}
+use Rattle.text_lines.specs.Numbers.{number_of}
 use Rattle.text_lines.specs.Lines.{lines_of}
 use Rattle.text_lines.specs.Words.{words_of}
 use Rattle.plan_types.specs.Instance.{Instance}
@@ -12,7 +14,7 @@ use Rattle.plan_types.specs.declared.requests.Request.TheVariants.{Single}
 use Rattle.plan_types.specs.declared.requests.Stop.{Stop}
 use Rattle.instance_read.specs.declared.faults.ReadFaultKind.{ReadFaultKind}
 use Rattle.instance_read.specs.declared.faults.ReadFaultKind.TheVariants.{BadNumber, Range, FieldCount, TooManyStops, MissingKey, Unsupported, DepotNotFirst, NodeRepeated, Truncated}
-use Rattle.instance_read.specs.Faults.{Class, OfLine, OfText, HasNone, rank}
+use Rattle.instance_read.specs.Faults.{Class, OfLine, OfText, HasNone}
 use Rattle.instance_read.specs.Fields.{field, value_at, is_that, has_no_number, is_beyond, any_beyond}
 use Rattle.instance_read.specs.Rows.{Row}
 use Rattle.instance_read.specs.declared.vrp_lines.Key.{Key}
@@ -84,8 +86,20 @@ opening_fault announced stands MissingKey = not announced
 opening_fault announced stands NodeRepeated = stands
 opening_fault announced stands _ = false
 
-abbrev pub is_kind : ReadFaultKind → ReadFaultKind → Bool
-is_kind kind other = rank kind == rank other
+-- the same of the first line of the list of depots
+abbrev pub repeated_fault : Bool → ReadFaultKind → Bool
+repeated_fault stands NodeRepeated = stands
+repeated_fault stands _ = false
+
+-- a line with a refused key is not supported
+abbrev pub refused_fault : ReadFaultKind → Bool
+refused_fault Unsupported = true
+refused_fault _ = false
+
+-- a line of numbers that is in no section has words too many
+abbrev pub stray_fault : ReadFaultKind → Bool
+stray_fault FieldCount = true
+stray_fault _ = false
 
 -- what may be wrong with a line outside the sections that has this key and value, where a DIMENSION and a line of the same key may stand before it
 abbrev pub key_fault : Bool → Bool → List ℕ → Key → ReadFaultKind → Bool
@@ -93,11 +107,11 @@ key_fault announced stands value Dimension kind = dimension_fault stands (words_
 key_fault announced stands value Capacity kind = capacity_fault stands (words_of value) kind
 key_fault announced stands value ProblemType kind = spelling_fault (codes "CVRP") stands value kind
 key_fault announced stands value WeightType kind = spelling_fault (codes "EUC_2D") stands value kind
-key_fault announced stands value Refused kind = is_kind Unsupported kind
+key_fault announced stands value Refused kind = refused_fault kind
 key_fault announced stands value Coordinates kind = opening_fault announced stands kind
 key_fault announced stands value Demands kind = opening_fault announced stands kind
-key_fault announced stands value Depots kind = is_kind NodeRepeated kind && stands
-key_fault announced stands value StrayNumber kind = is_kind FieldCount kind
+key_fault announced stands value Depots kind = repeated_fault stands kind
+key_fault announced stands value StrayNumber kind = stray_fault kind
 key_fault announced stands value End kind = false
 key_fault announced stands value Ignored kind = false
 
@@ -111,7 +125,7 @@ in_demands _ = false
 
 -- the line of a section whose first number is this
 abbrev pub is_node_line : (Place → Bool) → ℤ → Placed → Bool
-is_node_line section node p = section p.place && is_that (λ z. not (int_lt z node || int_lt node z)) (field (words_of p.row.text) 0)
+is_node_line section node p = section p.place && is_that (int_eq node) (field (words_of p.row.text) 0)
 
 -- a line of this section has this node
 abbrev pub has_node : (Place → Bool) → List Placed → ℤ → Bool
@@ -126,27 +140,31 @@ node_fault count limits taken words NodeRepeated = is_that taken (field words 0)
 node_fault count limits taken words _ = false
 
 abbrev pub coordinate_limits : ℕ → List (ℤ × ℤ)
-coordinate_limits nodes = (pos 1, pos nodes) ∷ (negsuc 999999, pos 1000000) ∷ (negsuc 999999, pos 1000000) ∷ []
+coordinate_limits nodes = (pos 1, pos nodes) ∷ (neg_ℤ (pos 1000000), pos 1000000) ∷ (neg_ℤ (pos 1000000), pos 1000000) ∷ []
 
 abbrev pub demand_limits : ℕ → List (ℤ × ℤ)
 demand_limits nodes = (pos 1, pos nodes) ∷ (pos 0, pos 1000000) ∷ []
 
 -- the number is there, and is not this one
 abbrev pub is_other : ℤ → Option ℤ → Bool
-is_other n number = is_that (λ z. int_lt z n || int_lt n z) number
+is_other n number = is_that (λ z. not (int_eq z n)) number
 
--- some word but the last is a number of value -1
+-- the word is a number of value -1
+abbrev pub is_end : List ℕ → Bool
+is_end word = is_that (int_eq (neg_ℤ (pos 1))) (number_of word)
+
+-- some word but the last is
 abbrev pub goes_on_after_end : List (List ℕ) → Bool
 goes_on_after_end [] = false
 goes_on_after_end (w ∷ []) = false
-goes_on_after_end (w ∷ v ∷ words) = is_that (λ z. not (int_lt z (negsuc 0) || int_lt (negsuc 0) z)) (field (w ∷ []) 0) || goes_on_after_end (v ∷ words)
+goes_on_after_end (w ∷ v ∷ words) = is_end w || goes_on_after_end (v ∷ words)
 
 -- What may be wrong with a line of the list of depots, after so many words of it: the list is 1, and then -1.
 abbrev pub depot_fault : ℕ → List (List ℕ) → ReadFaultKind → Bool
 depot_fault seen words FieldCount = goes_on_after_end words
 depot_fault seen words BadNumber = has_no_number words
-depot_fault zero words DepotNotFirst = is_other (pos 1) (field words 0) || is_other (negsuc 0) (field words 1)
-depot_fault (suc seen) words DepotNotFirst = is_other (negsuc 0) (field words 0)
+depot_fault zero words DepotNotFirst = is_other (pos 1) (field words 0) || is_other (neg_ℤ (pos 1)) (field words 1)
+depot_fault (suc seen) words DepotNotFirst = is_other (neg_ℤ (pos 1)) (field words 0)
 depot_fault seen words _ = false
 
 -- what may be wrong with a line, after these lines

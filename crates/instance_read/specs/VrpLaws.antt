@@ -1,10 +1,13 @@
 -- Where the lines of a `.vrp` text stand: what follows the first line of a section, and EOF.
-use Rattle.std.specs.Prelude.{◌≡◌, ◌≤◌, ℕ, zero, suc, List, [], ◌∷◌, ◌++◌, length, map, drop, Option, Some}
+use Rattle.std.specs.Prelude.{◌≡◌, ◌≤◌, ℕ, zero, suc, Bool, false, List, [], ◌∷◌, ◌++◌, length, map, drop, codes, Option, Some, pos}
+use Rattle.std.specs.Str.{str_eq_ignore_ascii_case}
 use Rattle.text_lines.specs.Words.{words_of}
-use Rattle.instance_read.specs.declared.vrp_lines.Key.TheVariants.{Coordinates, Demands, Depots, End}
+use Rattle.instance_read.specs.declared.vrp_lines.Key.TheVariants.{Dimension, Coordinates, Demands, Depots, End}
 use Rattle.instance_read.specs.declared.vrp_lines.Place.TheVariants.{Outside, CoordinateLine, DemandLine, DepotLine, AfterEnd}
+use Rattle.instance_read.specs.Fields.{field}
 use Rattle.instance_read.specs.Rows.{Row}
-use Rattle.instance_read.specs.VrpLines.{Placed, key_of, placed_from}
+use Rattle.instance_read.specs.Vrp.{first_key}
+use Rattle.instance_read.specs.VrpLines.{Placed, key_of, key_text, nodes_after, placed_from, placed_of, value_words}
 
 abbrev pub outside : Row → Placed
 outside row = record { row = row; place = Outside }
@@ -27,12 +30,38 @@ depot_line seen row = record { row = row; place = DepotLine seen }
 abbrev pub after_end : Row → Placed
 after_end row = record { row = row; place = AfterEnd }
 
--- The first line of a section of nodes is followed by as many lines of it as DIMENSION announces, or as there are; then lines stand
--- outside the sections again.
+abbrev pub rows_in : List Placed → List Row
+rows_in ps = map (λ p. p.row) ps
+
+-- The lines behind the first line of a section of nodes are so many lines of it as the first DIMENSION line of the text
+-- says, or as there are; then lines stand outside the sections again.
 abbrev pub SectionsHaveALineForEachNode : Type 0
-SectionsHaveALineForEachNode = (nodes : ℕ) (row : Row) (rows : List Row)
-    → (key_of row ≡ Coordinates → placed_from (Some nodes) Outside (row ∷ rows) ≡ outside row ∷ (coordinate_lines nodes rows ++ placed_from (Some nodes) Outside (drop nodes rows)))
-    × (key_of row ≡ Demands → placed_from (Some nodes) Outside (row ∷ rows) ≡ outside row ∷ (demand_lines nodes rows ++ placed_from (Some nodes) Outside (drop nodes rows)))
+SectionsHaveALineForEachNode = (text : List ℕ) (before after : List Placed) (row dimension : Row) (nodes : ℕ)
+    → placed_of text ≡ before ++ outside row ∷ after
+    → first_key Dimension before ≡ Some dimension → field (value_words dimension) 0 ≡ Some (pos nodes)
+    → (key_of row ≡ Coordinates
+    → after ≡ coordinate_lines nodes (rows_in after) ++ placed_from (Some nodes) Outside (drop nodes (rows_in after)))
+    × (key_of row ≡ Demands
+    → after ≡ demand_lines nodes (rows_in after) ++ placed_from (Some nodes) Outside (drop nodes (rows_in after)))
+
+-- the line's key is this word, in any ASCII letter case
+abbrev pub is_keyed : List ℕ → Row → Bool
+is_keyed word row = str_eq_ignore_ascii_case (key_text row.text) word
+
+-- the line's key begins no section, and does not end the text
+abbrev pub LeavesOutside : Row → Type 0
+LeavesOutside row =
+    (is_keyed (codes "NODE_COORD_SECTION") row ≡ false) × (is_keyed (codes "DEMAND_SECTION") row ≡ false)
+    × (is_keyed (codes "DEPOT_SECTION") row ≡ false) × (is_keyed (codes "EOF") row ≡ false)
+
+-- Behind a line outside the sections with another key lines stand outside still.
+abbrev pub OtherLinesStayOutside : Type 0
+OtherLinesStayOutside = (nodes : Option ℕ) (row : Row) (rows : List Row) → LeavesOutside row
+    → placed_from nodes Outside (row ∷ rows) ≡ outside row ∷ placed_from (nodes_after nodes row Outside) Outside rows
+
+-- A line outside the sections announces no nodes unless its key is DIMENSION.
+abbrev pub DimensionAloneAnnounces : Type 0
+DimensionAloneAnnounces = (nodes : Option ℕ) (row : Row) → is_keyed (codes "DIMENSION") row ≡ false → nodes_after nodes row Outside ≡ nodes
 
 -- The list of depots is one line where that has two words or more, and two where the first has one.
 abbrev pub DepotsAreTwoWords : Type 0

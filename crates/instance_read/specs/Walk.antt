@@ -1,5 +1,5 @@
 -- The faults of task lines, one line after another.
-use Rattle.std.specs.Prelude.{◌≡◌, ℕ, ◌<◌, ◌≤◌, Bool, true, false, ◌⊎◌, List, [], ◌∷◌, Option, Some}
+use Rattle.std.specs.Prelude.{◌≡◌, ℕ, ◌<◌, ◌≤◌, Bool, true, false, ◌⊎◌, List, [], ◌∷◌, Option, Some, Result, MatchResult}
 use Rattle.text_lines.specs.Words.{words_of}
 use Rattle.instance_read.specs.declared.faults.ReadFault.{ReadFault}
 use Rattle.instance_read.specs.declared.faults.ReadFaultKind.{ReadFaultKind}
@@ -16,6 +16,14 @@ IsFirstKind fault kind = (fault kind ≡ true) × ((k : ReadFaultKind) → fault
 
 abbrev pub HasNoKind : (ReadFaultKind → Bool) → Type 0
 HasNoKind fault = (k : ReadFaultKind) → fault k ≡ false
+
+-- a value was read, of which this is so, where nothing is wrong; else the first fault is told
+abbrev pub Reads : {X : Type 0} → (ReadFaultKind → Bool) → (X → Type 0) → Result X ReadFaultKind → Type 0
+Reads fault IsSo result = MatchResult result (λ x. HasNoKind fault × IsSo x) (IsFirstKind fault)
+
+-- nothing is wrong, or the first fault is told
+abbrev pub Passes : {X : Type 0} → (ReadFaultKind → Bool) → Result X ReadFaultKind → Type 0
+Passes fault result = MatchResult result (λ _. HasNoKind fault) (IsFirstKind fault)
 
 -- a fault of one of these task lines, where previous is the task before them
 abbrev pub TaskLineFault : Option Task → List Row → ℕ → ReadFaultKind → Type 0

@@ -1,9 +1,23 @@
-// Laws of where the lines of a `.vrp` text stand.
-ghost use Rattle.instance_read.specs.VrpLaws.{SectionsHaveALineForEachNode, DepotsAreTwoWords, EndIsTheEnd};
+// What a line of a `.vrp` text says, and where the lines stand, each law for every text.
+ghost use Rattle.instance_read.specs.VrpKeys.{AreKeyLines};
+ghost use Rattle.instance_read.specs.VrpLaws.{DepotsAreTwoWords, DimensionAloneAnnounces, EndIsTheEnd, OtherLinesStayOutside, SectionsHaveALineForEachNode};
 
-/// The first line of a section of coordinates or of demands is followed by as many lines of it as DIMENSION announces.
+/// A line's key stands before its first colon and its value behind that, without the blanks around them; a line
+/// without a colon is its key, and its value is empty.
+pub fn key_lines_are_made()
+    ensures { AreKeyLines }
+{}
+
+/// The first line of a section of coordinates or of demands is followed by as many lines of it as the text's first
+/// DIMENSION line says.
 pub fn sections_have_a_line_for_each_node()
     ensures { SectionsHaveALineForEachNode }
+{}
+
+/// A line outside the sections begins one, or ends the text, by its key alone, and DIMENSION alone announces nodes.
+pub fn other_lines_stay_outside()
+    ensures place { OtherLinesStayOutside }
+    ensures nodes { DimensionAloneAnnounces }
 {}
 
 /// The list of depots is over with the line of its second word.

@@ -17,10 +17,15 @@ mod vrp_lines;
 mod vrp_problem;
 
 pub use faults::{ReadFault, ReadFaultKind};
-pub use laws::{depots_are_two_words, eof_is_the_end, sections_have_a_line_for_each_node};
+pub use laws::{
+    depots_are_two_words, eof_is_the_end, key_lines_are_made, other_lines_stay_outside,
+    sections_have_a_line_for_each_node,
+};
 pub use lilim::read_lilim;
 pub use vrp::read_vrp;
 
+#[cfg(test)]
+mod size_tests;
 #[cfg(test)]
 mod tests;
 #[cfg(test)]

@@ -6,9 +6,9 @@ ghost use Rattle.plan_types.specs.Instance.{IsInstance, IsTaken, new_instance, w
 ghost use Rattle.plan_types.specs.Limits.{IsVisit};
 ghost use Rattle.plan_types.specs.declared.requests.Kind.TheVariants.{LiLim};
 ghost use Rattle.plan_types.specs.Request.{IsRequest, request_name};
-ghost use Rattle.instance_read.specs.Lilim.{depot_from};
+ghost use Rattle.instance_read.specs.Lilim.{depot_from, problem_from};
 ghost use Rattle.instance_read.specs.Pairs.{find_task, is_mismatched, is_uneven, is_wrong_delivery, is_wrong_pickup, last_number, pair_of, pairs_of};
-ghost use Rattle.instance_read.specs.Tables.{ArePaired, AreTasks, HeaderKeepsLimits, IsCustomer, IsTable, RisesFrom, TellsMismatch, problem_with};
+ghost use Rattle.instance_read.specs.Tables.{ArePaired, AreTasks, HeaderKeepsLimits, IsCustomer, IsTable, RisesFrom, TellsMismatch};
 
 use crate::entries::entry_of;
 use crate::put::put_request;
@@ -26,7 +26,7 @@ pub fn pair_up(
 ) -> Result<Problem, ReadFault>
     requires header { HeaderKeepsLimits header }
     requires tasks { AreTasks depot.now customers.now }
-    ensures ok { IfOk result (λ p. ArePaired customers.now × (p ≡ problem_with header depot.now customers.now)) }
+    ensures ok { IfOk result (λ p. ArePaired customers.now × (p ≡ problem_from header.fleet header.capacity depot.now customers.now)) }
     ensures err { IfErr result (TellsMismatch customers.now) }
 {
     let table = task_table(alloc, customers)?;

@@ -1,31 +1,40 @@
 //! The header and the tasks of a Li-Lim text, line by line.
-ghost use Rattle.std.specs.Prelude.{◌≡◌, pos, int_lt, if◌then◌else◌, MatchResult};
+ghost use Rattle.std.specs.Prelude.{◌≡◌, pos, int_lt, if◌then◌else◌, slice_index_or};
 ghost use Rattle.text_lines.specs.Words.{words_of};
-ghost use Rattle.instance_read.specs.Fields.{field, is_that};
-ghost use Rattle.instance_read.specs.Headers.{IsHeader, task_with};
+ghost use Rattle.instance_read.specs.Fields.{field, is_that, value_at};
 ghost use Rattle.instance_read.specs.Lilim.{header_fault, is_out_of_order, task_fault};
 ghost use Rattle.instance_read.specs.Pairs.{task_from};
-ghost use Rattle.instance_read.specs.Walk.{HasNoKind, IsFirstKind};
+ghost use Rattle.instance_read.specs.Tables.{IsHeader};
+ghost use Rattle.instance_read.specs.Walk.{Reads};
 
 use crate::ReadFaultKind;
 use crate::fields::{Limits, beyond_limits, has_no_number, next_values, read_numbers, word_count};
 use plan_types::Stop;
+use plan_types::limits::{
+    MAX_CAPACITY, MAX_COORDINATE, MAX_DEMAND, MAX_FLEET, MAX_SERVICE, MAX_STOP_NUMBER, MAX_TIME,
+};
 use text_lines::Words;
 
 /// Fleet and capacity.
-const HEADER_LIMITS: [Limits; 2] = [(1, 40_000), (0, 1_000_000)];
+const HEADER_LIMITS: [Limits; 2] = [(1, MAX_FLEET as i32), (0, MAX_CAPACITY as i32)];
+
+const STOP_NUMBER: Limits = (0, MAX_STOP_NUMBER as i32);
+
+const COORDINATE: Limits = (-MAX_COORDINATE, MAX_COORDINATE);
+
+const TIME: Limits = (0, MAX_TIME as i32);
 
 /// The nine fields of a task.
 const TASK_LIMITS: [Limits; 9] = [
-    (0, 40_000),
-    (-1_000_000, 1_000_000),
-    (-1_000_000, 1_000_000),
-    (-1_000_000, 1_000_000),
-    (0, 100_000_000),
-    (0, 100_000_000),
-    (0, 1_000_000),
-    (0, 40_000),
-    (0, 40_000),
+    STOP_NUMBER,
+    COORDINATE,
+    COORDINATE,
+    (-MAX_DEMAND, MAX_DEMAND),
+    TIME,
+    TIME,
+    (0, MAX_SERVICE as i32),
+    STOP_NUMBER,
+    STOP_NUMBER,
 ];
 
 /// The first line.
@@ -50,8 +59,7 @@ pub struct Task {
 impl Header {
     /// Reads the words of the first line.
     pub fn read(line: &[u8]) -> Result<Header, ReadFaultKind>
-        ensures { MatchResult result (λ header. HasNoKind (header_fault (words_of line.now)) × IsHeader (words_of line.now) header)
-            (IsFirstKind (header_fault (words_of line.now))) }
+        ensures { Reads (header_fault (words_of line.now)) (IsHeader (words_of line.now)) result }
     {
         if word_count(line) != 3 {
             return Err(ReadFaultKind::FieldCount);
@@ -72,12 +80,12 @@ impl Header {
 impl Task {
     /// Reads the words of a task's line, after the line of the previous task.
     pub fn read(previous: Option<Task>, number: u64, line: &[u8]) -> Result<Task, ReadFaultKind>
-        ensures { MatchResult result (λ task. HasNoKind (task_fault previous (words_of line.now)) × (task ≡ task_from number (words_of line.now)))
-            (IsFirstKind (task_fault previous (words_of line.now))) }
+        ensures { let words = words_of line.now in
+            Reads (task_fault previous words) (λ task. task ≡ task_from number (value_at words)) result }
     {
         let values = match read_numbers(line, &TASK_LIMITS) {
             Ok(values) => values,
-            Err(ReadFaultKind::Range) => return Err(beyond_limits(line, 40_000)),
+            Err(ReadFaultKind::Range) => return Err(beyond_limits(line, MAX_STOP_NUMBER)),
             Err(kind) => return Err(kind),
         };
         let task = Task::from_values(number, values);
@@ -91,7 +99,7 @@ impl Task {
     }
 
     fn from_values(line: u64, values: [i32; 9]) -> Task
-        ensures { result ≡ task_with line values }
+        ensures { result ≡ task_from line (λ k. slice_index_or values k (pos 0)) }
     {
         let [
             number,

@@ -31,7 +31,7 @@ pub struct Draft {
 
 impl Draft {
     ghost use Rattle.std.specs.Prelude.{◌≡◌};
-    ghost use Rattle.instance_read.specs.Drafts.{IsDraft, FitsPlace, TakesLine, TakesValue, TellsKind, line_fault, has_seen, with_key, nodes_in, is_taken, node_index};
+    ghost use Rattle.instance_read.specs.Drafts.{IsDraft, FitsPlace, Takes, TakesKey, TakesTo, TellsKind, line_fault, has_seen, unnumbered, with_key, nodes_in, is_taken, node_index};
     ghost use Rattle.std.specs.Prelude.{[]};
     ghost use Rattle.instance_read.specs.RowViews.{row_view};
     ghost use Rattle.instance_read.specs.VrpWalk.{Knows};
@@ -62,8 +62,7 @@ impl Draft {
     ) -> Result<Place, ReadFaultKind>
         requires draft { IsDraft self.old }
         requires place { FitsPlace place self.old }
-        ensures ok { IfOk result (λ next. HasNoKind (line_fault self.old (row_view line.now) place) × TakesLine self.old (row_view line.now) place self.new
-            × (next ≡ place_after self.old.nodes (row_view line.now) place) × IsDraft self.new) }
+        ensures ok { IfOk result (TakesTo self.old (row_view line.now) place self.new) }
         ensures err { IfErr result (TellsKind (line_fault self.old (row_view line.now) place)) }
     {
         match place {
@@ -86,8 +85,7 @@ impl Draft {
 
     fn take_key(&mut self, alloc: Global, line: &NumberedLine<'_>) -> Result<Place, ReadFaultKind>
         requires { IsDraft self.old }
-        ensures ok { IfOk result (λ next. HasNoKind (line_fault self.old (row_view line.now) Place.Outside) × TakesLine self.old (row_view line.now) Place.Outside self.new
-            × (next ≡ place_after self.old.nodes (row_view line.now) Place.Outside) × IsDraft self.new) }
+        ensures ok { IfOk result (TakesTo self.old (row_view line.now) Place.Outside self.new) }
         ensures err { IfErr result (TellsKind (line_fault self.old (row_view line.now) Place.Outside)) }
     {
         let (key, value) = read_key(line.text);
@@ -106,7 +104,7 @@ impl Draft {
         line: u64,
     ) -> Result<(), ReadFaultKind>
         requires { IsDraft self.old }
-        ensures ok { IfOk result (λ _. HasNoKind (key_fault (is_some self.old.nodes) stands value.now key) × TakesValue self.old line value.now key self.new × IsDraft self.new) }
+        ensures ok { IfOk result (λ _. TakesKey self.old line value.now key stands self.new) }
         ensures err { IfErr result (TellsKind (key_fault (is_some self.old.nodes) stands value.now key)) }
     {
         match key {
@@ -160,9 +158,8 @@ impl Draft {
     fn take_coordinates(&mut self, text: &[u8]) -> Result<(), ReadFaultKind>
         requires draft { IsDraft self.old }
         requires fits { length self.old.coordinates.items ≡ nodes_in self.old }
-        ensures ok { IfOk result (λ _. HasNoKind (line_fault self.old (record { line = 0; text = text.now }) (Place.CoordinateLine 0))
-            × TakesLine self.old (record { line = 0; text = text.now }) (Place.CoordinateLine 0) self.new × IsDraft self.new) }
-        ensures err { IfErr result (IsFirstKind (line_fault self.old (record { line = 0; text = text.now }) (Place.CoordinateLine 0))) }
+        ensures ok { IfOk result (λ _. Takes self.old (unnumbered text.now) (Place.CoordinateLine 0) self.new) }
+        ensures err { IfErr result (IsFirstKind (line_fault self.old (unnumbered text.now) (Place.CoordinateLine 0))) }
     {
         let (node, point) = read_coordinates(self.nodes.unwrap_or(0), text)?;
         let entry = &mut self.coordinates[node as usize - 1];
@@ -176,9 +173,8 @@ impl Draft {
     fn take_demand(&mut self, text: &[u8]) -> Result<(), ReadFaultKind>
         requires draft { IsDraft self.old }
         requires fits { length self.old.demands.items ≡ nodes_in self.old }
-        ensures ok { IfOk result (λ _. HasNoKind (line_fault self.old (record { line = 0; text = text.now }) (Place.DemandLine 0))
-            × TakesLine self.old (record { line = 0; text = text.now }) (Place.DemandLine 0) self.new × IsDraft self.new) }
-        ensures err { IfErr result (IsFirstKind (line_fault self.old (record { line = 0; text = text.now }) (Place.DemandLine 0))) }
+        ensures ok { IfOk result (λ _. Takes self.old (unnumbered text.now) (Place.DemandLine 0) self.new) }
+        ensures err { IfErr result (IsFirstKind (line_fault self.old (unnumbered text.now) (Place.DemandLine 0))) }
     {
         let (node, demand) = read_demand(self.nodes.unwrap_or(0), text)?;
         let entry = &mut self.demands[node as usize - 1];

@@ -6,31 +6,35 @@ ghost use Rattle.text_lines.specs.Numbers.{number_of};
 ghost use Rattle.text_lines.specs.Words.{words_of};
 ghost use Rattle.plan_types.specs.Limits.{IsCoordinate, IsDemand};
 ghost use Rattle.instance_read.specs.Fields.{field, has_no_number, value_at};
-ghost use Rattle.instance_read.specs.Vrp.{capacity_fault, coordinate_limits, demand_limits, depot_fault, dimension_fault, goes_on_after_end, is_other, node_fault, opening_fault, spelling_fault};
-ghost use Rattle.instance_read.specs.VrpFields.{is_end};
-ghost use Rattle.instance_read.specs.Walk.{HasNoKind, IsFirstKind};
+ghost use Rattle.instance_read.specs.Vrp.{capacity_fault, coordinate_limits, demand_limits, depot_fault, dimension_fault, goes_on_after_end, is_end, is_other, node_fault, opening_fault, spelling_fault};
+ghost use Rattle.instance_read.specs.Walk.{HasNoKind, IsFirstKind, Passes, Reads};
 
 use crate::ReadFaultKind;
 use crate::fields::{Limits, beyond_limits, has_no_number, read_numbers};
 use crate::vrp_lines::is_word;
+use plan_types::limits::{MAX_CAPACITY, MAX_COORDINATE, MAX_DEMAND, MAX_STOP_NUMBER};
 use text_lines::{Number, Words};
 
-const DIMENSION: Limits = (2, 40_001);
+/// The depot is a node too.
+const MAX_NODES: u32 = MAX_STOP_NUMBER + 1;
 
-/// Of a capacity or a demand.
-const AMOUNT: Limits = (0, 1_000_000);
+const DIMENSION: Limits = (2, MAX_NODES as i32);
 
-const COORDINATE: Limits = (-1_000_000, 1_000_000);
+const CAPACITY: Limits = (0, MAX_CAPACITY as i32);
+
+const DEMAND: Limits = (0, MAX_DEMAND);
+
+const COORDINATE: Limits = (-MAX_COORDINATE, MAX_COORDINATE);
 
 /// The number of nodes that the value of a DIMENSION announces, where one may stand before it.
 pub fn read_dimension(stands: bool, value: &[u8]) -> Result<u32, ReadFaultKind>
-    ensures read { MatchResult result (λ n. HasNoKind (dimension_fault stands (words_of value.now)) × (n ≡ unsigned_abs (value_at (words_of value.now) 0)))
-        (IsFirstKind (dimension_fault stands (words_of value.now))) }
+    ensures read { let words = words_of value.now in
+        Reads (dimension_fault stands words) (λ n. n ≡ unsigned_abs (value_at words 0)) result }
     ensures within { IfOk result (λ n. (2 ≤ n) × (n ≤ 40001)) }
 {
     let [nodes] = match read_numbers(value, &[DIMENSION]) {
         Ok(values) => values,
-        Err(ReadFaultKind::Range) => return Err(beyond_limits(value, 40_001)),
+        Err(ReadFaultKind::Range) => return Err(beyond_limits(value, MAX_NODES)),
         Err(kind) => return Err(kind),
     };
     if stands {
@@ -41,11 +45,11 @@ pub fn read_dimension(stands: bool, value: &[u8]) -> Result<u32, ReadFaultKind>
 
 /// The capacity that the value of a CAPACITY gives, where one may stand before it.
 pub fn read_capacity(stands: bool, value: &[u8]) -> Result<u32, ReadFaultKind>
-    ensures read { MatchResult result (λ n. HasNoKind (capacity_fault stands (words_of value.now)) × (n ≡ unsigned_abs (value_at (words_of value.now) 0)))
-        (IsFirstKind (capacity_fault stands (words_of value.now))) }
+    ensures read { let words = words_of value.now in
+        Reads (capacity_fault stands words) (λ n. n ≡ unsigned_abs (value_at words 0)) result }
     ensures within { IfOk result (λ n. n ≤ 1000000) }
 {
-    let [capacity] = read_numbers(value, &[AMOUNT])?;
+    let [capacity] = read_numbers(value, &[CAPACITY])?;
     if stands {
         return Err(ReadFaultKind::NodeRepeated);
     }
@@ -54,7 +58,7 @@ pub fn read_capacity(stands: bool, value: &[u8]) -> Result<u32, ReadFaultKind>
 
 /// Whether a value is the word that is supported, in any letter case.
 pub fn expect_word(word: &[u8], stands: bool, value: &[u8]) -> Result<(), ReadFaultKind>
-    ensures read { MatchResult result (λ _. HasNoKind (spelling_fault word.now stands value.now)) (IsFirstKind (spelling_fault word.now stands value.now)) }
+    ensures read { Passes (spelling_fault word.now stands value.now) result }
 {
     if !is_word(value, word) {
         return Err(ReadFaultKind::Unsupported);
@@ -67,7 +71,7 @@ pub fn expect_word(word: &[u8], stands: bool, value: &[u8]) -> Result<(), ReadFa
 
 /// Whether a section of nodes may begin: their number is announced, and no such section stands before it.
 pub fn open_section(announced: bool, stands: bool) -> Result<(), ReadFaultKind>
-    ensures read { MatchResult result (λ _. HasNoKind (opening_fault announced stands)) (IsFirstKind (opening_fault announced stands)) }
+    ensures read { Passes (opening_fault announced stands) result }
 {
     if !announced {
         return Err(ReadFaultKind::MissingKey);
@@ -100,7 +104,7 @@ pub fn read_demand(nodes: u32, line: &[u8]) -> Result<(u32, i32), ReadFaultKind>
         (IsFirstKind (node_fault 2 (demand_limits nodes) (λ _. false) (words_of line.now))) }
     ensures within { IfOk result (λ r. (1 ≤ r.0) × (r.0 ≤ nodes) × IsDemand r.1) }
 {
-    let [node, demand] = read_numbers(line, &[node_limits(nodes), AMOUNT])?;
+    let [node, demand] = read_numbers(line, &[node_limits(nodes), DEMAND])?;
     Ok((node.unsigned_abs(), demand))
 }
 
@@ -113,7 +117,7 @@ fn node_limits(nodes: u32) -> Limits
 
 /// Whether a line of the list of depots goes on as the list 1 and then -1, of which so many words stand before.
 pub fn read_depots(seen: usize, line: &[u8]) -> Result<(), ReadFaultKind>
-    ensures read { MatchResult result (λ _. HasNoKind (depot_fault seen (words_of line.now))) (IsFirstKind (depot_fault seen (words_of line.now))) }
+    ensures read { Passes (depot_fault seen (words_of line.now)) result }
 {
     if goes_on_after_end(line) {
         return Err(ReadFaultKind::FieldCount);

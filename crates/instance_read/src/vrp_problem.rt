@@ -12,11 +12,9 @@ use crate::ReadFault;
 use crate::entries::entry_of;
 use crate::put::put_request;
 use crate::vrp_draft::Draft;
+use plan_types::limits::MAX_TIME;
 use plan_types::{Kind, Problem, Request, Stop};
 use std::alloc::{AllocError, Global};
-
-/// CVRP has no windows: the end of the one that each stop keeps.
-const LATEST: u32 = 100_000_000;
 
 /// The problem of a text without faults: node 1 is the depot, each other a customer that gives its demand.
 pub fn problem_of(alloc: Global, draft: &Draft) -> Result<Problem, ReadFault>
@@ -78,7 +76,8 @@ fn node_stop(draft: &Draft, number: u32, demand: i32) -> Stop
         y,
         demand,
         earliest: 0,
-        latest: LATEST,
+        // CVRP has no windows.
+        latest: MAX_TIME,
         service: 0,
     }
 }

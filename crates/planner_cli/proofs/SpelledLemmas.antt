@@ -4,7 +4,7 @@ use Rattle.plan_types.specs.Instance.{Instance}
 use Rattle.plan_types.specs.declared.requests.Kind.{Kind}
 use Rattle.plan_types.specs.declared.requests.Kind.TheVariants.{LiLim, Vrp}
 use Rattle.instance_read.specs.Faults.{HasNone}
-use Rattle.instance_read.specs.Lilim.{problem_from}
+use Rattle.instance_read.specs.Lilim.{problem_of}
 use Rattle.sol_text.specs.Faults.{Spells}
 use Rattle.sol_text.specs.declared.read.Solution.{Solution}
 use Rattle.planner_cli.specs.Answer.{InstanceFault, IsAnswer, JudgesSpelled, SpellsInstance, TellsVerdict}
@@ -17,7 +17,7 @@ problem_once LiLim text p q a b =
     let header : a.1 ≡ b.1 = cc in
     let depot : a.2 ≡ b.2 = cc in
     let customers : a.3 ≡ b.3 = cc in
-    a.5 ∙ (ap (λ h. problem_from h a.2 a.3) header ∙ (ap (λ d. problem_from b.1 d a.3) depot ∙ ap (λ c. problem_from b.1 b.2 c) customers)) ∙ sym b.5
+    a.5 ∙ (ap (λ h. problem_of h a.2 a.3) header ∙ (ap (λ d. problem_of b.1 d a.3) depot ∙ ap (λ c. problem_of b.1 b.2 c) customers)) ∙ sym b.5
 
 solution_once : (text : List ℕ) (s t : Solution) → Spells text s → Spells text t → s ≡ t
 solution_once text s t a b = a.1 ∙ sym b.1

@@ -4,3 +4,4 @@ pub mod ShapeLemmas
 pub mod TextLemmas
 pub mod ValueLemmas
 pub mod WrittenRead
+pub mod SizeLemmas

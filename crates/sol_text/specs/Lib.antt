@@ -1,7 +1,9 @@
+-- what public contracts say
 pub mod Faults
 pub mod Laws
 pub mod LineShapes
 pub mod Names
-pub mod Reading
 pub mod Values
 pub mod Written
+-- of private functions alone
+pub mod Reading

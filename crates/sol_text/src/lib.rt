@@ -13,4 +13,6 @@ pub use read::{Solution, read_sol};
 pub use write::write_sol;
 
 #[cfg(test)]
+mod size_tests;
+#[cfg(test)]
 mod tests;

@@ -27,7 +27,8 @@ pub fn write_sol(alloc: Global, problem: &Problem, plan: &Plan) -> Result<Vec<u8
         ≡ solution_text (used_routes plan.now.routes) (total_length problem.now plan.now.routes)) }
     ensures spells { IfOk result (λ text. Spells text.items
         (record { routes = used_routes plan.now.routes; cost = total_length problem.now plan.now.routes })) }
-    ensures unplanned { let n = unplanned_count problem.now plan.now.routes in 0 < n → IsErrOf result (Unplanned n) }
+    ensures unplanned { let n = unplanned_count problem.now plan.now.routes in
+        0 < n → IsErrOf result (Unplanned n) }
     ensures planned { unplanned_count problem.now plan.now.routes ≡ 0 → IsOkUnless result OutOfMemory }
 {
     let cost = plan_cost(problem, plan);

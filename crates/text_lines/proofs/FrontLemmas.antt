@@ -6,7 +6,8 @@ use Rattle.std.specs.Str.Parse.{digits_value, starts_with_minus}
 use Rattle.std.proofs.lemmas.Bool.Decides.{nat_tests}
 use Rattle.std.proofs.lemmas.List.{get_or_default, take-append-drop}
 use Rattle.std.proofs.lemmas.List.Elements.{recursion_from_All}
-use Rattle.text_lines.specs.Numbers.{BeginsWithNumber, is_digits, signed, without_minus}
+use Rattle.text_lines.specs.Fronts.{BeginsWithNumber}
+use Rattle.text_lines.specs.Numbers.{is_digits, signed, without_minus}
 use Rattle.text_lines.specs.Words.{EndsWord, IsWord, is_blank, words_of}
 use Rattle.text_lines.proofs.NumberLemmas.{digit_at, digit_bounds, digits_some, is_digits-all, number_of-signed, sign_and_rest, with_sign}
 use Rattle.text_lines.proofs.WordLemmas.{words_of-front}

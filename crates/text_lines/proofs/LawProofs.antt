@@ -1,21 +1,21 @@
 -- The laws of lines, words and numbers.
-use Rattle.std.proofs.Common.{◌≡◌, ℕ, suc, ◌<◌, ◌≤◌, ◌^◌, true, false, not, List, [], ◌∷◌, ◌++◌, length, get_or, take, drop, map, Some, pos, refl, sym, ap, subst, ◌∙◌, arith, length-append, length-take, ⊎_elim, get_or-take}
+use Rattle.std.proofs.Common.{◌≡◌, ℕ, suc, inl, inr, ◌<◌, ◌≤◌, ◌^◌, true, false, not, List, [], ◌∷◌, ◌++◌, length, get_or, take, drop, map, Some, pos, refl, sym, ap, subst, ◌∙◌, arith, length-append, length-take, ⊎_elim, get_or-take}
 use Rattle.std.specs.Char.{is_ascii_digit}
 use Rattle.std.specs.Fmt.{decimal}
-use Rattle.std.specs.List.{position_or_len, prefix_len, list_all}
+use Rattle.std.specs.List.{position_or_len, prefix_len, list_all, flat_map}
 use Rattle.std.specs.Str.Lines.{strip_carriage_return}
 use Rattle.std.specs.Str.Parse.{IsNumeral, digits_value}
 use Rattle.std.proofs.lemmas.Fmt.{decimal_is_IsNumeral}
-use Rattle.std.proofs.lemmas.List.{take_at, get_or_at, get_or_append_left, drop_all, drop_more, take_all, take-append-drop, get_or_default}
-use Rattle.std.proofs.lemmas.List.Elements.{recursion_from_All}
+use Rattle.std.proofs.lemmas.List.{append_assoc, append-nil, append_cancel_right, take_at, get_or_at, get_or_append_left, drop_all, drop_more, take_all, take-append-drop, get_or_default}
+use Rattle.std.proofs.lemmas.List.Elements.{All-head, All-tail, recursion_from_All}
 use Rattle.std.proofs.lemmas.List.Sums.{prefix_len-le-length, fails_before_first, passes_at_first, list_all-from_AllPass}
 use Rattle.std.proofs.lemmas.Str.Parse.{digit_at}
 use Rattle.std.proofs.lemmas.Bool.{and_from, and_parts, cases_lt, le-leb}
 use Rattle.text_lines.proofs.NumberLemmas.{front_passes, is_digits-all, digits_of-yes, number_of-digits}
-use Rattle.text_lines.specs.Lines.{lines_of, pieces_of, HasNoFeed, EndAtFeeds, EndWithText}
+use Rattle.text_lines.specs.Lines.{lines_of, pieces_of, ended, AreCutAtLineFeeds, HasNoFeed, EndAtFeeds, EndWithText, IsCutAtLineFeeds}
 use Rattle.text_lines.specs.Words.{is_blank, is_blank_line, words_of, IsWord, EndsWord, IsMadeOf}
 use Rattle.text_lines.specs.Numbers.{digits_of, is_digits, number_of, AreRead}
-use Rattle.text_lines.proofs.PieceLemmas.{pieces_at, pieces_whole, lines_from_pieces}
+use Rattle.text_lines.proofs.PieceLemmas.{nil_feed, pieces_are_cut, pieces_at, pieces_nil, pieces_whole, lines_from_pieces}
 use Rattle.text_lines.proofs.WordLemmas.{words_of-word, words_of-trim, words_of-none, front_no_blank, words_blank, words_nil, words_of-front}
 
 -- ---- lines
@@ -27,19 +27,54 @@ drop_after (x ∷ xs) y ys = drop_after xs y ys
 no_feed_at : (piece : List ℕ) → HasNoFeed piece → (j : ℕ) → j < length piece → get_or piece j 0 ≡ 10 → ⊥
 no_feed_at piece none j h here = none (j, h, get_or_default piece j 10 0 h ∙ here)
 
+-- the first piece, where a line feed ends it
+cut_first : (piece rest : List ℕ) → HasNoFeed piece → pieces_of (piece ++ 10 ∷ rest) ≡ piece ∷ pieces_of rest
+cut_first piece rest none =
+    let text = piece ++ 10 ∷ rest in
+    let n = length piece in
+    pieces_at text n (omega (arith, length-append piece (10 ∷ rest))) (λ j h here. no_feed_at piece none j h (sym (get_or_append_left piece (10 ∷ rest) 0 j h) ∙ here)) (get_or_at piece 10 rest 0 n refl)
+    ∙ ap (λ p. p ∷ pieces_of (drop (suc n) text)) (take_at piece (10 ∷ rest) n refl)
+    ∙ ap (λ r. piece ∷ pieces_of r) (drop_after piece 10 rest)
+
 pub end_at_feeds : EndAtFeeds
-end_at_feeds line rest none =
-    let text = line ++ 10 ∷ rest in
-    let n = length line in
-    let cut : pieces_of text ≡ line ∷ pieces_of rest =
-    pieces_at text n (omega (arith, length-append line (10 ∷ rest))) (λ j h here. no_feed_at line none j h (sym (get_or_append_left line (10 ∷ rest) 0 j h) ∙ here)) (get_or_at line 10 rest 0 n refl)
-    ∙ ap (λ p. p ∷ pieces_of (drop (suc n) text)) (take_at line (10 ∷ rest) n refl)
-    ∙ ap (λ r. line ∷ pieces_of r) (drop_after line 10 rest) in
-    lines_from_pieces text line rest cut
+end_at_feeds piece rest none = lines_from_pieces (piece ++ 10 ∷ rest) piece rest (cut_first piece rest none)
 
 pub end_with_text : EndWithText
 unfolding lines_of
 end_with_text piece none some = ap (λ ps. map strip_carriage_return ps) (pieces_whole piece some (no_feed_at piece none))
+
+-- pieces that end at line feeds end with one
+ends_with_feed : (p : List ℕ) (ps : List (List ℕ)) → (text : List ℕ) × (flat_map ended (p ∷ ps) ≡ text ++ 10 ∷ [])
+ends_with_feed p [] = (p, append-nil (p ++ 10 ∷ []))
+ends_with_feed p (q ∷ ps) = more (ends_with_feed q ps)
+  where
+    more : ((text : List ℕ) × (flat_map ended (q ∷ ps) ≡ text ++ 10 ∷ [])) → (text : List ℕ) × (flat_map ended (p ∷ q ∷ ps) ≡ text ++ 10 ∷ [])
+    more (text, is) = ((p ++ 10 ∷ []) ++ text, ap (λ t. (p ++ 10 ∷ []) ++ t) is ∙ sym (append_assoc (p ++ 10 ∷ []) text (10 ∷ [])))
+
+pieces_from_cut : (pieces : List (List ℕ)) (text : List ℕ) → IsCutAtLineFeeds text pieces → pieces_of text ≡ pieces
+pieces_from_cut [] text (none, inl is) = ap pieces_of (sym is) ∙ pieces_nil
+pieces_from_cut [] text (none, inr (is, last)) = absurd (nil_feed text is)
+pieces_from_cut (p ∷ ps) text (none, inl is) =
+    let rest = flat_map ended ps in
+    ap pieces_of (sym is ∙ append_assoc p (10 ∷ []) rest)
+    ∙ cut_first p rest (All-head HasNoFeed p ps none)
+    ∙ ap (λ qs. p ∷ qs) (pieces_from_cut ps rest (All-tail HasNoFeed p ps none, inl refl))
+pieces_from_cut (p ∷ []) text (none, inr (is, last)) =
+    let same : p ≡ text = append_cancel_right p text (10 ∷ []) (sym (append-nil (p ++ 10 ∷ [])) ∙ is) in
+    ap pieces_of (sym same) ∙ pieces_whole p last (no_feed_at p (All-head HasNoFeed p [] none))
+pieces_from_cut (p ∷ q ∷ ps) text (none, inr (is, last)) = by_rest (ends_with_feed q ps) (λ rest. pieces_from_cut (q ∷ ps) rest)
+  where
+    by_rest : ((rest : List ℕ) × (flat_map ended (q ∷ ps) ≡ rest ++ 10 ∷ [])) → ((rest : List ℕ) → IsCutAtLineFeeds rest (q ∷ ps) → pieces_of rest ≡ q ∷ ps) → pieces_of text ≡ p ∷ q ∷ ps
+    by_rest (rest, ends) others =
+        let whole : (p ++ 10 ∷ []) ++ rest ≡ text =
+        append_cancel_right ((p ++ 10 ∷ []) ++ rest) text (10 ∷ [])
+        (append_assoc (p ++ 10 ∷ []) rest (10 ∷ []) ∙ ap (λ t. (p ++ 10 ∷ []) ++ t) (sym ends) ∙ is) in
+        ap pieces_of (sym whole ∙ append_assoc p (10 ∷ []) rest)
+        ∙ cut_first p rest (All-head HasNoFeed p (q ∷ ps) none)
+        ∙ ap (λ qs. p ∷ qs) (others rest (All-tail HasNoFeed p (q ∷ ps) none, inr (ends, last)))
+
+pub cut_at_line_feeds : AreCutAtLineFeeds
+cut_at_line_feeds text pieces = (λ is. subst (IsCutAtLineFeeds text) is (pieces_are_cut text), pieces_from_cut pieces text)
 
 -- ---- words
 -- blanks at the front make no word

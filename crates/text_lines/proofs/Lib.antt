@@ -3,3 +3,4 @@ pub mod WordLemmas
 pub mod NumberLemmas
 pub mod FrontLemmas
 pub mod LawProofs
+pub mod GrammarProofs

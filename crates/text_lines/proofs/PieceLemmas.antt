@@ -5,7 +5,7 @@ use Rattle.std.specs.Str.Lines.{strip_carriage_return}
 use Rattle.std.proofs.lemmas.Bool.{eq-eqb, ne_eqb, eqb-true, eqb-false}
 use Rattle.std.proofs.lemmas.List.{length-map}
 use Rattle.std.proofs.lemmas.List.Elements.{All-nil, All-cons, All-head, All-tail}
-use Rattle.text_lines.specs.Lines.{pieces_of, lines_of, ended, HasNoFeed, IsCutAtLineFeeds}
+use Rattle.text_lines.specs.Lines.{pieces_of, lines_of, ended, HasNoFeed, IsCutAtLineFeeds, LastHasAByte}
 
 -- one byte more at the front
 pieces_cons : (b : ℕ) (bs : List ℕ) (t : Bool) → eqb b 10 ≡ t → pieces_of (b ∷ bs) ≡ cond t ([] ∷ pieces_of bs) (onto_first b (pieces_of bs))
@@ -60,18 +60,27 @@ lines_nil = ap (map strip_carriage_return) pieces_nil
 
 -- the joined pieces of a text are the text, but for a last line feed
 abbrev Joins : List ℕ → List (List ℕ) → Type 0
-Joins xs ps = (flat_map ended ps ≡ xs) ⊎ (flat_map ended ps ≡ xs ++ 10 ∷ [])
+Joins xs ps = (flat_map ended ps ≡ xs) ⊎ ((flat_map ended ps ≡ xs ++ 10 ∷ []) × LastHasAByte ps)
+
+longer : (b : ℕ) (p : List ℕ) (ps : List (List ℕ)) → LastHasAByte (p ∷ ps) → LastHasAByte ((b ∷ p) ∷ ps)
+longer b p [] h = omega arith
+longer b p (q ∷ ps) h = h
 
 joins_more : (b : ℕ) (bs : List ℕ) (ps : List (List ℕ)) → Joins bs ps → Joins (b ∷ bs) (onto_first b ps)
-joins_more b [] [] h = inr refl
+joins_more b [] [] h = inr (refl, omega arith)
 joins_more b (c ∷ bs) [] (inl e) = absurd (cc)
-joins_more b (c ∷ bs) [] (inr e) = absurd (cc)
+joins_more b (c ∷ bs) [] (inr (e, last)) = absurd (cc)
 joins_more b bs (p ∷ ps) (inl e) = inl (ap (λ l. b ∷ l) e)
-joins_more b bs (p ∷ ps) (inr e) = inr (ap (λ l. b ∷ l) e)
+joins_more b bs (p ∷ ps) (inr (e, last)) = inr (ap (λ l. b ∷ l) e, longer b p ps last)
+
+pub nil_feed : (xs : List ℕ) → [] ≡ xs ++ 10 ∷ [] → ⊥
+nil_feed [] e = cc
+nil_feed (x ∷ xs) e = cc
 
 joins_feed : (bs : List ℕ) (ps : List (List ℕ)) → Joins bs ps → Joins (10 ∷ bs) ([] ∷ ps)
 joins_feed bs ps (inl e) = inl (ap (λ l. 10 ∷ l) e)
-joins_feed bs ps (inr e) = inr (ap (λ l. 10 ∷ l) e)
+joins_feed bs [] (inr (e, last)) = absurd (nil_feed bs e)
+joins_feed bs (p ∷ ps) (inr (e, last)) = inr (ap (λ l. 10 ∷ l) e, last)
 
 no_feed_more : (b : ℕ) (p : List ℕ) → eqb b 10 ≡ false → HasNoFeed p → HasNoFeed (b ∷ p)
 no_feed_more b p e h (zero, l, here) = eqb-false b 10 e here
@@ -90,7 +99,7 @@ cut_step b bs ps true e h =
     (All-cons HasNoFeed [] ps no_feed_nil h.0, let here : b ≡ 10 = eqb-true b 10 e in rw here (joins_feed bs ps h.1))
 cut_step b bs ps false e h = (no_feeds_more b ps e h.0, joins_more b bs ps h.1)
 
-pub cut_at_line_feeds : (text : List ℕ) → IsCutAtLineFeeds text (pieces_of text)
+pub pieces_are_cut : (text : List ℕ) → IsCutAtLineFeeds text (pieces_of text)
 unfolding pieces_of
-cut_at_line_feeds [] = (All-nil HasNoFeed, inl refl)
-cut_at_line_feeds (b ∷ bs) = cut_step b bs (pieces_of bs) (eqb b 10) refl (cut_at_line_feeds bs)
+pieces_are_cut [] = (All-nil HasNoFeed, inl refl)
+pieces_are_cut (b ∷ bs) = cut_step b bs (pieces_of bs) (eqb b 10) refl (pieces_are_cut bs)

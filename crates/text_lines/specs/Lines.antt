@@ -1,6 +1,6 @@
 -- The lines of a text.
-use Rattle.std.specs.Prelude.{◌≡◌, ℕ, ◌<◌, ◌==◌, if◌then◌else◌, ◌⊎◌, List, [], ◌∷◌, ◌++◌, length, map, All, Contains}
-use Rattle.std.specs.List.{onto_first, flat_map}
+use Rattle.std.specs.Prelude.{◌≡◌, ℕ, ◌<◌, ◌==◌, if◌then◌else◌, ◌⊎◌, ◌↔◌, List, [], ◌∷◌, ◌++◌, length, map, All, Contains, None, IfSome}
+use Rattle.std.specs.List.{onto_first, flat_map, last_or}
 use Rattle.std.specs.Str.Lines.{strip_carriage_return}
 
 -- what each line feed ends, and what follows the last one, if that has a byte
@@ -20,11 +20,20 @@ ended piece = piece ++ 10 ∷ []
 abbrev pub HasNoFeed : List ℕ → Type 0
 HasNoFeed piece = ¬ Contains piece 10
 
--- No piece has a line feed, and the pieces, each with a line feed at its end, are the text, but for a
--- last line feed that the text may lack.
+-- the last piece has a byte
+abbrev pub LastHasAByte : List (List ℕ) → Type 0
+LastHasAByte pieces = IfSome (last_or None pieces) (λ piece. 0 < length piece)
+
+-- No piece has a line feed, and the pieces, each with a line feed at its end, are the text, but for a last line feed
+-- that the text may lack where its last piece has a byte.
 abbrev pub IsCutAtLineFeeds : List ℕ → List (List ℕ) → Type 0
 IsCutAtLineFeeds text pieces =
-    All HasNoFeed pieces × ((flat_map ended pieces ≡ text) ⊎ (flat_map ended pieces ≡ text ++ 10 ∷ []))
+    All HasNoFeed pieces
+    × ((flat_map ended pieces ≡ text) ⊎ ((flat_map ended pieces ≡ text ++ 10 ∷ []) × LastHasAByte pieces))
+
+-- That is so of one list of pieces alone.
+abbrev pub AreCutAtLineFeeds : Type 0
+AreCutAtLineFeeds = (text : List ℕ) (pieces : List (List ℕ)) → (pieces_of text ≡ pieces) ↔ IsCutAtLineFeeds text pieces
 
 -- What a line feed ends is the first line, and what follows it has the others.
 abbrev pub EndAtFeeds : Type 0

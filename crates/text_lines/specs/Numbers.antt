@@ -1,11 +1,10 @@
 -- Words that are numbers, and their values.
-use Rattle.std.specs.Prelude.{◌≡◌, ◌<◌, ◌^◌, ℕ, Bool, true, false, ◌&&◌, ◌==◌, nat_lt, nat_le, if◌then◌else◌, List, [], ◌∷◌, length, take, drop, Option, Some, None, ℤ, pos, neg_ℤ, int_le, slice_get}
+use Rattle.std.specs.Prelude.{◌≡◌, ◌<◌, ◌^◌, ℕ, Bool, true, false, ◌&&◌, ◌==◌, nat_lt, nat_le, if◌then◌else◌, List, [], ◌∷◌, ◌++◌, ◌⊎◌, ◌↔◌, length, replicate, take, drop, codes, Option, Some, None, ℤ, pos, neg_ℤ, int_le, slice_get}
 use Rattle.std.specs.Char.{is_ascii_digit}
 use Rattle.std.specs.Fmt.{decimal}
 use Rattle.std.specs.List.{list_all, prefix_len}
 use Rattle.std.specs.Option.{option_and_then, option_map}
 use Rattle.std.specs.Str.Parse.{digits_value, starts_with_minus, without_leading_sign}
-use Rattle.text_lines.specs.Words.{words_of}
 
 -- one digit or more, and nothing else
 unfoldable pub is_digits : List ℕ → Bool
@@ -44,6 +43,30 @@ signed false n = pos n
 unfoldable pub number_of : List ℕ → Option ℤ
 number_of word = option_map (signed (starts_with_minus word)) (whole_of (without_leading_sign word))
 
+-- nothing, a plus or a minus
+abbrev pub IsSign : List ℕ → Type 0
+IsSign sign = (sign ≡ []) ⊎ ((sign ≡ codes "+") ⊎ (sign ≡ codes "-"))
+
+-- nothing, or a point and zeros, of which there may be none
+abbrev pub IsZeroFraction : List ℕ → Type 0
+IsZeroFraction fraction = (fraction ≡ []) ⊎ ((zeros : ℕ) × (fraction ≡ codes "." ++ replicate zeros 48))
+
+-- A word is a sign or none, one digit or more, and perhaps a point and zeros; the number is what the digits write, with
+-- that sign.
+pub record IsNumber (word : List ℕ) (number : ℤ) : Type 0 where
+  pub sign : List ℕ
+  pub digits : List ℕ
+  pub fraction : List ℕ
+  pub whole : word ≡ sign ++ (digits ++ fraction)
+  pub is_sign : IsSign sign
+  pub are_digits : is_digits digits ≡ true
+  pub is_fraction : IsZeroFraction fraction
+  pub value : number ≡ signed (starts_with_minus sign) (digits_value 10 digits)
+
+-- A word has a number exactly where it is made so.
+abbrev pub AreNumbers : Type 0
+AreNumbers = (word : List ℕ) (number : ℤ) → (number_of word ≡ Some number) ↔ IsNumber word number
+
 -- the number that the first word is, if there is one and it is a number
 abbrev pub first_number : List (List ℕ) → Option ℤ
 first_number words = option_and_then number_of (slice_get words 0)
@@ -52,10 +75,6 @@ first_number words = option_and_then number_of (slice_get words 0)
 abbrev pub within : ℤ → ℤ → Option ℤ → Option ℤ
 within least most None = None
 within least most (Some z) = if int_le least z && int_le z most then Some z else None
-
--- the first word of the text is this number, and this rest has the other words
-abbrev pub BeginsWithNumber : List ℕ → ℤ → List ℕ → Type 0
-BeginsWithNumber text number rest = (word : List ℕ) × (words_of text ≡ word ∷ words_of rest) × (number_of word ≡ Some number)
 
 -- word without the minus that it may begin with
 abbrev pub without_minus : List ℕ → List ℕ

@@ -1,12 +1,12 @@
 // What lines, words and numbers mean, each law for every text.
 ghost use Rattle.std.specs.Prelude.{◌≡◌, ◌↔◌, ℕ, List, []};
-ghost use Rattle.text_lines.specs.Lines.{EndAtFeeds, EndWithText, IsCutAtLineFeeds, lines_of, pieces_of};
+ghost use Rattle.text_lines.specs.Lines.{AreCutAtLineFeeds, EndAtFeeds, EndWithText, lines_of};
 ghost use Rattle.text_lines.specs.Words.{IsMadeOf, words_of};
-ghost use Rattle.text_lines.specs.Numbers.{AreRead};
+ghost use Rattle.text_lines.specs.Numbers.{AreNumbers, AreRead};
 
 /// The lines of a text are what its line feeds cut it into, none lost and none made.
 pub fn lines_join()
-    ensures { (text : List ℕ) → IsCutAtLineFeeds text (pieces_of text) }
+    ensures { AreCutAtLineFeeds }
 {}
 
 /// The lines of a text, from the first on: each ends at a line feed, or with the text.
@@ -19,6 +19,11 @@ pub fn lines_follow()
 /// The words of a line are those that it is made of with blanks, and no others.
 pub fn words_make_the_line()
     ensures { (line : List ℕ) (words : List (List ℕ)) → (words_of line ≡ words) ↔ IsMadeOf line words }
+{}
+
+/// A number is a plus, a minus or no sign, one digit or more, and perhaps a point with nothing but zeros after it.
+pub fn numbers_are_made()
+    ensures { AreNumbers }
 {}
 
 /// A number that is printed in decimal digits is read as that number.

@@ -5,7 +5,8 @@ ghost use Rattle.std.specs.List.{list_all, prefix_len};
 ghost use Rattle.std.specs.Int.RustNames.{unsigned_abs};
 ghost use Rattle.std.specs.Option.{SomeIff, option_map};
 ghost use Rattle.std.specs.Str.Parse.{digits_value, starts_with_minus, without_leading_sign};
-ghost use Rattle.text_lines.specs.Numbers.{BeginsWithNumber, below, digits_of, integer_of, is_digits, is_zero, is_zero_fraction, number_of, signed, whole_of, without_minus};
+ghost use Rattle.text_lines.specs.Fronts.{BeginsWithNumber};
+ghost use Rattle.text_lines.specs.Numbers.{below, digits_of, integer_of, is_digits, is_zero, is_zero_fraction, number_of, signed, whole_of, without_minus};
 
 use crate::word_iter::ends_word;
 use std::marker::Model;

@@ -1,7 +1,6 @@
 use Rattle.std.proofs.Common.{◌∷◌, sym, ap, ◌∙◌}
 use Rattle.text_lines.specs.Words.{words_of}
-use Rattle.instance_read.specs.VrpFields.{goes_on_from}
-use Rattle.instance_read.proofs.VrpFieldLemmas.{goes_on-is}
+use Rattle.instance_read.proofs.VrpFieldLemmas.{goes_on-is, goes_on_from}
 use Rattle.instance_read.proofs.vrp_fields.goes_on_after_end.Goals as goal
 
 pub returns-then-ended : goal.returns-then-ended

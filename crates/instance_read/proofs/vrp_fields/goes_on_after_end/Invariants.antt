@@ -1,6 +1,6 @@
 use Rattle.std.proofs.Common.{◌≡◌, false}
 use Rattle.text_lines.specs.Words.{words_of}
-use Rattle.instance_read.specs.VrpFields.{goes_on_from}
+use Rattle.instance_read.proofs.VrpFieldLemmas.{goes_on_from}
 use Rattle.instance_read.proofs.vrp_fields.goes_on_after_end.Given as goal
 
 -- the words that are left say whether one stands after a -1

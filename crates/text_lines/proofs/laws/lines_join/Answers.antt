@@ -1,4 +1,4 @@
-use Rattle.text_lines.proofs.PieceLemmas.{cut_at_line_feeds}
+use Rattle.text_lines.proofs.LawProofs.{cut_at_line_feeds}
 use Rattle.text_lines.proofs.laws.lines_join.Goals as goal
 
 pub returns : goal.returns

@@ -4,7 +4,7 @@ use Rattle.text_lines.specs.Words.{words_of}
 use Rattle.instance_read.specs.Fields.{field, is_that}
 use Rattle.instance_read.specs.Lilim.{task_fault, task_limits, is_out_of_order}
 use Rattle.instance_read.proofs.NumberLemmas.{numbers_of, stops_first}
-use Rattle.instance_read.proofs.TaskLemmas.{task_with-is, order_first, window_first, no_fault}
+use Rattle.instance_read.proofs.TaskLemmas.{task_is, order_first, window_first, no_fault}
 use Rattle.instance_read.proofs.tasks.Task.read.Goals as goal
 
 pub returns-in-Err-Range : goal.returns-in-Err-Range
@@ -40,5 +40,5 @@ returns c =
       no_fault words values read c.args.previous nine (numbers_of words (λ k. get_or values k (pos 0)) (λ k l. (read k (omega (arith, nine))).0))
           (sym (ap (λ t. is_out_of_order c.args.previous (pos t.stop.number)) c.from_values-task.ensures) ∙ sym c.is_out_of_order.ensures ∙ c.if-is_out_of_order.false)
           (omega (arith, ap (λ t. t.stop.latest) c.from_values-task.ensures, ap (λ t. t.stop.earliest) c.from_values-task.ensures)),
-      c.from_values-task.ensures ∙ task_with-is words values read c.args.number,
+      c.from_values-task.ensures ∙ task_is words values read c.args.number,
     )

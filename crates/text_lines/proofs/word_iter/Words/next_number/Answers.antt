@@ -1,5 +1,6 @@
 use Rattle.std.proofs.Common.{w32, drop, sym, ap, ◌∙◌, to_z-of_z}
-use Rattle.text_lines.specs.Numbers.{BeginsWithNumber, first_number, within}
+use Rattle.text_lines.specs.Fronts.{BeginsWithNumber}
+use Rattle.text_lines.specs.Numbers.{first_number, within}
 use Rattle.text_lines.specs.Words.{words_of}
 use Rattle.text_lines.proofs.NumberLemmas.{within-from_SomeIff}
 use Rattle.text_lines.proofs.WordLemmas.{words_of-trim}

@@ -1,0 +1,5 @@
+use Rattle.instance_read.proofs.KeyLineProofs.{key_lines}
+use Rattle.instance_read.proofs.laws.key_lines_are_made.Goals as goal
+
+pub returns : goal.returns
+returns c = key_lines

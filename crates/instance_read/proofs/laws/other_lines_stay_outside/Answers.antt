@@ -1,0 +1,5 @@
+use Rattle.instance_read.proofs.VrpLawProofs.{announces, others}
+use Rattle.instance_read.proofs.laws.other_lines_stay_outside.Goals as goal
+
+pub returns : goal.returns
+returns c = record { place = others; nodes = announces }
