@@ -438,7 +438,7 @@ impl Sectors for MemDevice {
         ensures same_len { len_of (memory self.new) ≡ len_of (memory self.old) }
         ensures same_calls { (memory self.new).calls ≡ (memory self.old).calls }
         ensures fault { (memory self.new).faults ≡ faults_after result (memory self.old).faults }
-        ensures honest { Unit {0} ↔ Unit {0} }
+        ensures honest { Unit {0} → Unit {0} }
         ensures bytes { Unit {0} → OnOk result (into.new ≡ take (length into.old) (drop (512 * first) (seen_of (memory self.old)))) }
         ensures reads { Unit {0} → seen_of (memory self.new) ≡ seen_of (memory self.old) }
         ensures contents { Unit {0} → SameImages (MayLeave (memory self.old)) (MayLeave (memory self.new)) }
@@ -459,7 +459,7 @@ impl Sectors for MemDevice {
         ensures finished { (memory self.new).calls ≡ calls_after result (memory self.old).calls }
         ensures fault { (memory self.new).faults ≡ faults_after result (memory self.old).faults }
         ensures last { (memory self.old).calls ≡ 2 ^ 64 - 1 → IsErr result }
-        ensures honest { Unit {0} ↔ Unit {0} }
+        ensures honest { Unit {0} → Unit {0} }
         ensures written { Unit {0} → OnOk result (seen_of (memory self.new) ≡ written first bytes.now (seen_of (memory self.old))) }
         ensures contents { Unit {0} → AddsContents result first bytes.now (MayLeave (memory self.old)) (MayLeave (memory self.new)) }
         ensures within { Unit {0} → OnOk result ((t : ℕ) (image : List ℕ) → t ≤ clock_of (memory self.old) →
@@ -477,7 +477,7 @@ impl Sectors for MemDevice {
         ensures finished { (memory self.new).calls ≡ calls_after result (memory self.old).calls }
         ensures fault { (memory self.new).faults ≡ faults_after result (memory self.old).faults }
         ensures last { (memory self.old).calls ≡ 2 ^ 64 - 1 → IsErr result }
-        ensures honest { Unit {0} ↔ Unit {0} }
+        ensures honest { Unit {0} → Unit {0} }
         ensures reads { Unit {0} → OnOk result (seen_of (memory self.new) ≡ seen_of (memory self.old)) }
         ensures durable { Unit {0} → OnOk result (Only (seen_of (memory self.old)) (MayLeave (memory self.new))) }
         ensures contents { Unit {0} → OnErr result (SameImages (MayLeave (memory self.old)) (MayLeave (memory self.new))) }
