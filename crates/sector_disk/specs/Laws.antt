@@ -1,5 +1,5 @@
 -- What the written model means.
-use Rattle.std.specs.Prelude.{◌≡◌, ◌↔◌, ℕ, ◌+◌, ◌*◌, ◌%◌, ◌<◌, ◌≤◌, List, length, take}
+use Rattle.std.specs.Prelude.{◌≡◌, ◌↔◌, ℕ, ◌+◌, ◌*◌, ◌%◌, ◌^◌, ◌<◌, ◌≤◌, List, length, take, slice_index, All}
 use Rattle.sector_disk.specs.Model.{Disk, Sync, next, run, IsImage, sectors_from}
 use Rattle.sector_disk.specs.Sectors.{Reached}
 use Rattle.sector_disk.specs.Memory.{Memory, len_of, disk_of, MayLeave, TakesChoices}
@@ -14,6 +14,8 @@ abbrev pub HasOldOrNew : Type 0
 HasOldOrNew = (n first j : ℕ) (disk : Disk) (bytes image : List ℕ) → length bytes % 512 ≡ 0 → 512 * first + length bytes ≤ 512 * n → 512 * j ≤ length bytes → IsImage n disk disk.seen
     → IsImage n (run disk (sectors_from first bytes j)) image ↔ Reached first (take (512 * j) bytes) (IsImage n disk) image
 
--- an image that a stop may leave is left by a crash with some choices
+-- An image that a stop may leave is left by a crash with some list of choices, each a number of 32 bits. (A sector may have
+-- more contents than such numbers only after as many writes without a sync.)
 abbrev pub HasChoices : Type 0
-HasChoices = (m : Memory) (image : List ℕ) → MayLeave m image → (choices : ℕ → ℕ) × TakesChoices (len_of m) (disk_of m) choices image × ((i : ℕ) → i < len_of m → choices i < length ((disk_of m).contents i))
+HasChoices = (m : Memory) (image : List ℕ) → ((i : ℕ) → i < len_of m → length ((disk_of m).contents i) ≤ 2 ^ 32) → MayLeave m image
+    → (choices : List ℕ) × All (λ choice. choice < 2 ^ 32) choices × TakesChoices (len_of m) (disk_of m) (λ i. slice_index choices i) image

@@ -200,7 +200,8 @@ impl MemDevice {
         is_now(self.once) || is_now(self.fuse) && !self.torn
     }
 
-    fn try_read(&mut self, first: u64, into: &mut [u8]) -> Result<(), DeviceFault>
+    /// `read` of `Sectors`, with all that a device in memory answers and leaves.
+    pub fn try_read(&mut self, first: u64, into: &mut [u8]) -> Result<(), DeviceFault>
         requires { 512 * first + length into.old ≤ 512 * len_of (memory self.old) }
         ensures exact { Gives (read_of (memory self.old)) result (memory self.new) }
         ensures bytes { OnOk result (into.new ≡ take (length into.old) (drop (512 * first) (seen_of (memory self.old)))) }
@@ -213,11 +214,14 @@ impl MemDevice {
         Ok(())
     }
 
-    fn try_write(&mut self, first: u64, bytes: &[u8]) -> Result<(), DeviceFault>
+    /// `write` of `Sectors`, with all that a device in memory answers and leaves. It finds no memory only for a write
+    /// that it has to list.
+    pub fn try_write(&mut self, first: u64, bytes: &[u8]) -> Result<(), DeviceFault>
         requires some { 0 < length bytes.now }
         requires whole { length bytes.now % 512 ≡ 0 }
         requires inside { 512 * first + length bytes.now ≤ 512 * len_of (memory self.old) }
-        ensures { GivesIfMemory (memory self.old) (write_of (memory self.old) first bytes.now) result (memory self.new) }
+        ensures exact { GivesIfMemory (memory self.old) (write_of (memory self.old) first bytes.now) result (memory self.new) }
+        ensures refused { IsTrue (is_refused (memory self.old)) → tears (memory self.old) ≡ false → Gives (failed (memory self.old)) result (memory self.new) }
     {
         let refused = self.is_refused();
         if refused && !self.tears() {
@@ -237,8 +241,10 @@ impl MemDevice {
         Ok(())
     }
 
-    fn try_sync(&mut self) -> Result<(), DeviceFault>
-        ensures { GivesIfMemory (memory self.old) (sync_of (memory self.old)) result (memory self.new) }
+    /// `sync` of `Sectors`, with all that a device in memory answers and leaves.
+    pub fn try_sync(&mut self) -> Result<(), DeviceFault>
+        ensures exact { GivesIfMemory (memory self.old) (sync_of (memory self.old)) result (memory self.new) }
+        ensures refused { IsTrue (is_refused (memory self.old)) → Gives (failed (memory self.old)) result (memory self.new) }
     {
         if self.is_refused() {
             return self.fail();
@@ -428,62 +434,15 @@ impl Sectors for MemDevice {
         self.faults
     }
 
-    fn read(&mut self, first: u64, into: &mut [u8]) -> Result<(), DeviceFault>
-        requires some { 0 < length into.old }
-        requires whole { length into.old % 512 ≡ 0 }
-        requires inside { 512 * first + length into.old ≤ 512 * len_of (memory self.old) }
-
-        ensures exact { Gives (read_of (memory self.old)) result (memory self.new) }
-
-        ensures same_len { len_of (memory self.new) ≡ len_of (memory self.old) }
-        ensures same_calls { (memory self.new).calls ≡ (memory self.old).calls }
-        ensures fault { (memory self.new).faults ≡ faults_after result (memory self.old).faults }
-        ensures honest { Unit {0} → Unit {0} }
-        ensures bytes { Unit {0} → OnOk result (into.new ≡ take (length into.old) (drop (512 * first) (seen_of (memory self.old)))) }
-        ensures reads { Unit {0} → seen_of (memory self.new) ≡ seen_of (memory self.old) }
-        ensures contents { Unit {0} → SameImages (MayLeave (memory self.old)) (MayLeave (memory self.new)) }
-        ensures moments { Unit {0} → Elapses (clock_of (memory self.old)) (clock_of (memory self.new)) (MayHaveLeft (memory self.old)) (MayHaveLeft (memory self.new))
-            (memory self.old).calls (memory self.new).calls (MayLeave (memory self.old)) (MayLeave (memory self.new)) }
-    {
+    fn read(&mut self, first: u64, into: &mut [u8]) -> Result<(), DeviceFault> {
         self.try_read(first, into)
     }
 
-    fn write(&mut self, first: u64, bytes: &[u8]) -> Result<(), DeviceFault>
-        requires some { 0 < length bytes.now }
-        requires whole { length bytes.now % 512 ≡ 0 }
-        requires inside { 512 * first + length bytes.now ≤ 512 * len_of (memory self.old) }
-
-        ensures exact { GivesIfMemory (memory self.old) (write_of (memory self.old) first bytes.now) result (memory self.new) }
-
-        ensures same_len { len_of (memory self.new) ≡ len_of (memory self.old) }
-        ensures finished { (memory self.new).calls ≡ calls_after result (memory self.old).calls }
-        ensures fault { (memory self.new).faults ≡ faults_after result (memory self.old).faults }
-        ensures last { (memory self.old).calls ≡ 2 ^ 64 - 1 → IsErr result }
-        ensures honest { Unit {0} → Unit {0} }
-        ensures written { Unit {0} → OnOk result (seen_of (memory self.new) ≡ written first bytes.now (seen_of (memory self.old))) }
-        ensures contents { Unit {0} → AddsContents result first bytes.now (MayLeave (memory self.old)) (MayLeave (memory self.new)) }
-        ensures within { Unit {0} → OnOk result ((t : ℕ) (image : List ℕ) → t ≤ clock_of (memory self.old) →
-            Reached first bytes.now (MayLeave (memory self.old)) image → MayHaveLeft (memory self.new) t (memory self.old).calls image) }
-        ensures moments { Unit {0} → Elapses (clock_of (memory self.old)) (clock_of (memory self.new)) (MayHaveLeft (memory self.old)) (MayHaveLeft (memory self.new))
-            (memory self.old).calls (memory self.new).calls (Reached first bytes.now (MayLeave (memory self.old))) (MayLeave (memory self.new)) }
-    {
+    fn write(&mut self, first: u64, bytes: &[u8]) -> Result<(), DeviceFault> {
         self.try_write(first, bytes)
     }
 
-    fn sync(&mut self) -> Result<(), DeviceFault>
-        ensures exact { GivesIfMemory (memory self.old) (sync_of (memory self.old)) result (memory self.new) }
-
-        ensures same_len { len_of (memory self.new) ≡ len_of (memory self.old) }
-        ensures finished { (memory self.new).calls ≡ calls_after result (memory self.old).calls }
-        ensures fault { (memory self.new).faults ≡ faults_after result (memory self.old).faults }
-        ensures last { (memory self.old).calls ≡ 2 ^ 64 - 1 → IsErr result }
-        ensures honest { Unit {0} → Unit {0} }
-        ensures reads { Unit {0} → OnOk result (seen_of (memory self.new) ≡ seen_of (memory self.old)) }
-        ensures durable { Unit {0} → OnOk result (Only (seen_of (memory self.old)) (MayLeave (memory self.new))) }
-        ensures contents { Unit {0} → OnErr result (SameImages (MayLeave (memory self.old)) (MayLeave (memory self.new))) }
-        ensures moments { Unit {0} → Elapses (clock_of (memory self.old)) (clock_of (memory self.new)) (MayHaveLeft (memory self.old)) (MayHaveLeft (memory self.new))
-            (memory self.old).calls (memory self.new).calls (MayLeave (memory self.old)) (MayLeave (memory self.new)) }
-    {
+    fn sync(&mut self) -> Result<(), DeviceFault> {
         self.try_sync()
     }
 

@@ -7,16 +7,16 @@ pub returns-clause-reads : goal.returns-clause-reads
 returns-clause-reads c = λ _.
     let d = c.args.self.now in
     let possible = memory_reads_possible (memory d) d.kept.whole d.kept.fit in
-    sync_seen (memory d) (memory c.try_sync.new.self) possible c.try_sync.result (sync_case (memory d) (memory c.try_sync.new.self) c.try_sync.result c.try_sync.ensures)
+    sync_seen (memory d) (memory c.try_sync.new.self) possible c.try_sync.result (sync_case (memory d) (memory c.try_sync.new.self) c.try_sync.result c.try_sync.ensures.exact)
 
 pub returns-clause-durable : goal.returns-clause-durable
 returns-clause-durable c = λ _.
     let d = c.args.self.now in
     let possible = memory_reads_possible (memory d) d.kept.whole d.kept.fit in
-    sync_durable (memory d) (memory c.try_sync.new.self) possible c.try_sync.result (sync_case (memory d) (memory c.try_sync.new.self) c.try_sync.result c.try_sync.ensures)
+    sync_durable (memory d) (memory c.try_sync.new.self) possible c.try_sync.result (sync_case (memory d) (memory c.try_sync.new.self) c.try_sync.result c.try_sync.ensures.exact)
 
 pub returns-clause-moments : goal.returns-clause-moments
 returns-clause-moments c = λ _.
     let d = c.args.self.now in
     let possible = memory_reads_possible (memory d) d.kept.whole d.kept.fit in
-    sync_moments (memory d) (memory c.try_sync.new.self) possible c.try_sync.result (sync_case (memory d) (memory c.try_sync.new.self) c.try_sync.result c.try_sync.ensures)
+    sync_moments (memory d) (memory c.try_sync.new.self) possible c.try_sync.result (sync_case (memory d) (memory c.try_sync.new.self) c.try_sync.result c.try_sync.ensures.exact)

@@ -11,7 +11,7 @@ returns-clause-written c = λ _.
     let whole = whole_sectors (length c.args.bytes.now) c.requires.whole in
     let inside : c.args.first + length c.args.bytes.now / 512 ≤ len_of (memory d) = omega (arith, whole, c.requires.inside) in
     let possible = memory_reads_possible (memory d) d.kept.whole d.kept.fit in
-    let case = write_case (memory d) (memory c.try_write.new.self) c.args.first c.args.bytes.now c.try_write.result c.try_write.ensures in
+    let case = write_case (memory d) (memory c.try_write.new.self) c.args.first c.args.bytes.now c.try_write.result c.try_write.ensures.exact in
     write_seen (memory d) (memory c.try_write.new.self) c.args.first c.args.bytes.now whole inside possible c.try_write.result case
 
 pub returns-clause-contents : goal.returns-clause-contents
@@ -20,7 +20,7 @@ returns-clause-contents c = λ _.
     let whole = whole_sectors (length c.args.bytes.now) c.requires.whole in
     let inside : c.args.first + length c.args.bytes.now / 512 ≤ len_of (memory d) = omega (arith, whole, c.requires.inside) in
     let possible = memory_reads_possible (memory d) d.kept.whole d.kept.fit in
-    let case = write_case (memory d) (memory c.try_write.new.self) c.args.first c.args.bytes.now c.try_write.result c.try_write.ensures in
+    let case = write_case (memory d) (memory c.try_write.new.self) c.args.first c.args.bytes.now c.try_write.result c.try_write.ensures.exact in
     write_contents (memory d) (memory c.try_write.new.self) c.args.first c.args.bytes.now whole inside possible c.try_write.result case
 
 pub returns-clause-within : goal.returns-clause-within
@@ -29,7 +29,7 @@ returns-clause-within c = λ _.
     let whole = whole_sectors (length c.args.bytes.now) c.requires.whole in
     let inside : c.args.first + length c.args.bytes.now / 512 ≤ len_of (memory d) = omega (arith, whole, c.requires.inside) in
     let possible = memory_reads_possible (memory d) d.kept.whole d.kept.fit in
-    let case = write_case (memory d) (memory c.try_write.new.self) c.args.first c.args.bytes.now c.try_write.result c.try_write.ensures in
+    let case = write_case (memory d) (memory c.try_write.new.self) c.args.first c.args.bytes.now c.try_write.result c.try_write.ensures.exact in
     write_within (memory d) (memory c.try_write.new.self) c.args.first c.args.bytes.now whole inside possible c.try_write.result case
 
 pub returns-clause-moments : goal.returns-clause-moments
@@ -38,5 +38,5 @@ returns-clause-moments c = λ _.
     let whole = whole_sectors (length c.args.bytes.now) c.requires.whole in
     let inside : c.args.first + length c.args.bytes.now / 512 ≤ len_of (memory d) = omega (arith, whole, c.requires.inside) in
     let possible = memory_reads_possible (memory d) d.kept.whole d.kept.fit in
-    let case = write_case (memory d) (memory c.try_write.new.self) c.args.first c.args.bytes.now c.try_write.result c.try_write.ensures in
+    let case = write_case (memory d) (memory c.try_write.new.self) c.args.first c.args.bytes.now c.try_write.result c.try_write.ensures.exact in
     write_moments (memory d) (memory c.try_write.new.self) c.args.first c.args.bytes.now whole inside possible c.try_write.result case
