@@ -446,17 +446,19 @@ impl Sectors for MemDevice {
         self.try_sync()
     }
 
-    ghost use Rattle.sector_disk.specs.MemoryLaws.{memory_reads_possible, memory_counts_now, memory_only_now, memory_since_earlier};
+    ghost use Rattle.sector_disk.specs.Memory.{course_of};
+    ghost use Rattle.sector_disk.specs.CourseLaws.{course_counts_now, course_only_now, course_since_earlier};
+    ghost use Rattle.sector_disk.specs.MemoryLaws.{memory_reads_possible};
 
     ghost reads_possible = { λ d _. memory_reads_possible (memory d) d.kept.whole d.kept.fit };
 
     ghost image_size = { λ d image _ is_image. is_image.size };
 
-    ghost counts_now = { λ d t image _ le is_image. memory_counts_now (memory d) t image le is_image };
+    ghost counts_now = { λ d t image _ le is_image. course_counts_now (course_of (memory d)) t image le is_image };
 
-    ghost only_now = { λ d m image _ left. memory_only_now (memory d) m image left };
+    ghost only_now = { λ d m image _ left. course_only_now (course_of (memory d)) m image left };
 
-    ghost since_earlier = { λ d t u m image _ le left. memory_since_earlier (memory d) t u m image le left };
+    ghost since_earlier = { λ d t u m image _ le left. course_since_earlier (course_of (memory d)) t u m image le left };
 }
 
 #[cfg(test)]
