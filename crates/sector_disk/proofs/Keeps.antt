@@ -13,7 +13,7 @@ use Rattle.sector_disk.specs.ModelLaws.{run-append, seen-sectors_from, settled_i
 use Rattle.sector_disk.specs.Memory.{Call, Wrote, Tore, Synced, events_of, is_run, fits, all_fit}
 use Rattle.sector_disk.specs.MemoryLaws.{whole_sectors, sound_calls}
 use Rattle.sector_disk.specs.Kept.{call_of, IsKept}
-use Rattle.sector_disk.specs.declared.mem_device.Event.{Event as Kept}
+use Rattle.sector_disk.specs.declared.mem_device.Call.{Call as Kept}
 
 -- what reads give after a call
 abbrev pub seen_after : Call → List ℕ → List ℕ

@@ -1,6 +1,6 @@
 -- The laws of the model.
 use Rattle.std.proofs.Common.{◌≡◌, ◌⊎◌, inl, inr, ℕ, zero, suc, ◌+◌, ◌*◌, ◌%◌, ◌<◌, ◌≤◌, List, [], ◌∷◌, length, take, drop, refl, sym, ◌∙◌, ap, subst, arith, length-take}
-use Rattle.std.specs.Prelude.{slice_index_or}
+use Rattle.std.specs.Prelude.{◌^◌, slice_index, slice_index_or, All}
 use Rattle.std.proofs.lemmas.List.{take-take, drop-take, get_or_read}
 use Rattle.std.proofs.Math.Nat.{mod-eq_of_lt}
 use Rattle.std.proofs.lemmas.Bool.{cases_lt}
@@ -52,5 +52,31 @@ module _ (m : Memory) (image : List ℕ) (is : MayLeave m image) where
   below i (inl lt) h = (is.each i lt).1
   below i (inr past) h = absurd (omega arith)
 
+-- the first n values of a function
+tabulate : ℕ → (ℕ → ℕ) → List ℕ
+tabulate zero f = []
+tabulate (suc n) f = f 0 ∷ tabulate n (λ i. f (suc i))
+
+slice_index-tabulate : (n : ℕ) (f : ℕ → ℕ) (i : ℕ) → i < n → slice_index (tabulate n f) i ≡ f i
+unfolding tabulate
+slice_index-tabulate zero f i lt = absurd (omega arith)
+slice_index-tabulate (suc n) f zero lt = refl
+slice_index-tabulate (suc n) f (suc i) lt = slice_index-tabulate n (λ i. f (suc i)) i (omega arith)
+
+All-cons : (P : ℕ → Type 0) (x : ℕ) (xs : List ℕ) → P x → All P xs → All P (x ∷ xs)
+All-cons P x xs first rest zero d lt = first
+All-cons P x xs first rest (suc i) d lt = rest i d (omega arith)
+
+All-tabulate : (P : ℕ → Type 0) (n : ℕ) (f : ℕ → ℕ) → ((i : ℕ) → i < n → P (f i)) → All P (tabulate n f)
+unfolding tabulate
+All-tabulate P zero f each = λ i d lt. absurd (omega arith)
+All-tabulate P (suc n) f each = All-cons P (f 0) (tabulate n (λ i. f (suc i))) (each 0 (omega arith)) (All-tabulate P n (λ i. f (suc i)) (λ i lt. each (suc i) (omega arith)))
+
 pub has_choices : HasChoices
-has_choices m image is = (λ i. choice_of m image is i (cases_lt i (len_of m)), λ i lt. taken m image is i (cases_lt i (len_of m)) lt, λ i lt. below m image is i (cases_lt i (len_of m)) lt)
+has_choices m image few is =
+    let f = λ (i : ℕ). choice_of m image is i (cases_lt i (len_of m)) in
+    let n = len_of m in (
+      tabulate n f,
+      All-tabulate (λ c. c < 2 ^ 32) n f (λ i lt. omega (arith, below m image is i (cases_lt i n) lt, few i lt)),
+      λ i lt. taken m image is i (cases_lt i n) lt ∙ ap (λ (k : ℕ). slice_index_or ((disk_of m).contents i) (k % length ((disk_of m).contents i)) []) (sym (slice_index-tabulate n f i lt)),
+    )

@@ -15,8 +15,8 @@ use Rattle.sector_disk.specs.ModelLaws.{run-append}
 use Rattle.sector_disk.specs.Memory.{Call, Synced, events_of}
 use Rattle.sector_disk.specs.Kept.{call_of}
 use Rattle.sector_disk.specs.Crash.{content_of, is_write, IsSettledBy}
-use Rattle.sector_disk.specs.declared.mem_device.Event.{Event as Kept}
-use Rattle.sector_disk.specs.declared.mem_device.Event.TheVariants.{Write as KeptWrite, Torn as KeptTorn, Sync as KeptSync}
+use Rattle.sector_disk.specs.declared.mem_device.Call.{Call as Kept}
+use Rattle.sector_disk.specs.declared.mem_device.Call.TheVariants.{Write as KeptWrite, Torn as KeptTorn, Sync as KeptSync}
 use Rattle.sector_disk.proofs.Keeps.{seen_after, seen-push, events-push}
 
 module _ (kept : List Kept) (i : ℕ) (d : Kept) (lt : i < length kept) where

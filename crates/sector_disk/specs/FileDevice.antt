@@ -1,16 +1,26 @@
 -- How a device over a file is seen.
-use Rattle.std.specs.Prelude.{◌≡◌, ℕ}
+use Rattle.std.specs.Prelude.{◌≡◌, ℕ, List, []}
 use Rattle.sector_disk.specs.declared.file_device.FileDevice.{FileDevice}
+use Rattle.sector_disk.specs.declared.file_calls.FileCalls as calls
+use Rattle.sector_disk.specs.declared.start.Start as starts
+use Rattle.sector_disk.specs.Model.{Disk}
+use Rattle.sector_disk.specs.Course.{Course}
+use Rattle.sector_disk.specs.FileRecord.{Entry, file_course}
 
-abbrev pub device_len : FileDevice → ℕ
-device_len d = d.sectors
+module _ {S F : Type 0} {start : starts.Ghosts S} {g : calls.Ghosts F} where
+  abbrev pub device_len : FileDevice S F start g → ℕ
+  device_len d = d.sectors
 
-abbrev pub device_calls : FileDevice → ℕ
-device_calls d = d.calls
+  abbrev pub device_calls : FileDevice S F start g → ℕ
+  device_calls d = d.calls
 
-abbrev pub device_faults : FileDevice → ℕ
-device_faults d = d.faults
+  abbrev pub device_faults : FileDevice S F start g → ℕ
+  device_faults d = d.faults
 
--- no call was made yet
-abbrev pub IsUnused : FileDevice → Type 0
-IsUnused d = (device_calls d ≡ 0) × (device_faults d ≡ 0)
+  -- the model's device after the calls in the file's record
+  abbrev pub course_of : Disk → (ℕ → List ℕ) → (F → List Entry) → FileDevice S F start g → Course
+  course_of disk shown entries d = file_course d.sectors disk shown (entries d.file) d.calls
+
+  -- no call was made yet
+  abbrev pub IsUnused : (F → List Entry) → FileDevice S F start g → Type 0
+  IsUnused entries d = (device_calls d ≡ 0) × (device_faults d ≡ 0) × (entries d.file ≡ [])

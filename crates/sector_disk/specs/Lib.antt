@@ -1,5 +1,10 @@
+pub mod Course
+pub mod CourseLaws
 pub mod Crash
+pub mod FileCalls
 pub mod FileDevice
+pub mod FileLaws
+pub mod FileRecord
 pub mod Image
 pub mod ImageLaws
 pub mod Kept

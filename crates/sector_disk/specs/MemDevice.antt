@@ -7,7 +7,7 @@ use Rattle.sector_disk.specs.declared.mem_device.MemDevice.{MemDevice}
 abbrev pub memory : MemDevice → Memory
 memory d = record {
   start = d.start.items;
-  history = map call_of d.events.items;
+  history = map call_of d.history.items;
   calls = d.calls;
   faults = d.faults;
   fuse = d.fuse;

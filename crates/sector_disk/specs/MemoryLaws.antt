@@ -1,14 +1,13 @@
 -- What holds of a device in memory whose writes were inside it.
-use Rattle.std.proofs.Common.{◌≡◌, ℕ, ◌+◌, ◌*◌, ◌/◌, ◌%◌, ◌<◌, ◌≤◌, List, [], ◌∷◌, length, drop, refl, sym, ◌∙◌, ap, subst, inl, inr, arith, ◌&&◌, ◌==◌, IsTrue}
+use Rattle.std.proofs.Common.{◌≡◌, ℕ, ◌+◌, ◌*◌, ◌/◌, ◌%◌, ◌<◌, ◌≤◌, List, [], ◌∷◌, length, refl, sym, ◌∙◌, ap, subst, inl, inr, arith, ◌&&◌, ◌==◌, IsTrue}
 use Rattle.std.specs.Prelude.{nat_lt, nat_le}
 use Rattle.std.specs.List.{flat_map, Contains}
-use Rattle.std.proofs.lemmas.List.{take_all, drop_all}
 use Rattle.std.proofs.lemmas.Bool.{and_parts, ltb-true, leb-true, eqb-true}
 use Rattle.sector_disk.specs.Image.{sector, written}
 use Rattle.sector_disk.specs.ImageLaws.{length-written}
-use Rattle.sector_disk.specs.Model.{Disk, Event, Finish, settled, next, run, IsImage, sectors_from, finished}
+use Rattle.sector_disk.specs.Model.{Disk, Finish, settled, next, run, IsImage, sectors_from}
 use Rattle.sector_disk.specs.ModelLaws.{run-append, seen-sectors_from, image_from_reached, settled_image}
-use Rattle.sector_disk.specs.Memory.{Call, Wrote, Tore, Synced, Memory, events_of, events, is_run, fits, all_fit, len_of, seen_of, MayLeave, clock_of, MayHaveLeft}
+use Rattle.sector_disk.specs.Memory.{Call, Wrote, Tore, Synced, Memory, events_of, is_run, fits, all_fit, len_of, seen_of, MayLeave}
 
 pub run_parts : (size first n : ℕ) → IsTrue (is_run size first n) → (0 < n) × (n % 512 ≡ 0) × (512 * first + n ≤ size)
 run_parts size first n is =
@@ -26,7 +25,7 @@ run_inside n first len is =
     (whole_sectors len parts.1, omega (arith, parts.2, whole_sectors len parts.1))
 
 -- what reads give after a call is possible if it was before
-sound_call : (n : ℕ) (call : Call) (disk : Disk) → IsImage n disk disk.seen → IsTrue (fits (512 * n) call) → IsImage n (run disk (events_of call)) (run disk (events_of call)).seen
+pub sound_call : (n : ℕ) (call : Call) (disk : Disk) → IsImage n disk disk.seen → IsTrue (fits (512 * n) call) → IsImage n (run disk (events_of call)) (run disk (events_of call)).seen
 sound_call n (Wrote first bytes) disk seen fit =
     let inside = run_inside n first (length bytes) fit in
     let k = length bytes / 512 in
@@ -56,27 +55,3 @@ pub memory_reads_possible : (m : Memory) → length m.start % 512 ≡ 0 → IsTr
 memory_reads_possible m whole fit =
     let size = whole_sectors (length m.start) whole in
     sound_calls (len_of m) m.history (settled m.start) (settled_image (len_of m) m.start size) (subst (λ (n : ℕ). IsTrue (all_fit n m.history)) size fit)
-
-pub memory_counts_now : (m : Memory) (t : ℕ) (image : List ℕ) → t ≤ clock_of m → MayLeave m image → MayHaveLeft m t m.calls image
-memory_counts_now m t image le is = record {
-  moment = clock_of m;
-  begun = le;
-  reached = omega arith;
-  count = ap (λ (l : List Event). m.calls + finished l) (drop_all (clock_of m) (events m) (omega arith)) ∙ omega arith;
-  is_image = subst (λ (l : List Event). IsImage (len_of m) (run (settled m.start) l) image) (sym (take_all (clock_of m) (events m) (omega arith))) is;
-}
-
-pub memory_only_now : (m : Memory) (calls : ℕ) (image : List ℕ) → MayHaveLeft m (clock_of m) calls image → (calls ≡ m.calls) × MayLeave m image
-memory_only_now m calls image left =
-    let all : clock_of m ≤ left.moment = left.begun in
-    let none : finished (drop left.moment (events m)) ≡ 0 = ap finished (drop_all left.moment (events m) all) in
-    (omega (arith, left.count, none), subst (λ (l : List Event). IsImage (len_of m) (run (settled m.start) l) image) (take_all left.moment (events m) all) left.is_image)
-
-pub memory_since_earlier : (m : Memory) (t u calls : ℕ) (image : List ℕ) → t ≤ u → MayHaveLeft m u calls image → MayHaveLeft m t calls image
-memory_since_earlier m t u calls image le left = record {
-  moment = left.moment;
-  begun = omega (arith, le, left.begun);
-  reached = left.reached;
-  count = left.count;
-  is_image = left.is_image;
-}

@@ -10,22 +10,25 @@ pub record Disk : Type 0 where
   pub seen : List ℕ
   pub contents : ℕ → List (List ℕ)
 
--- one sector of a write, a write that finishes, a sync that succeeds
+-- one sector of a write, a write that finishes, a sync that succeeds, and a failed write or sync after which reads give
+-- this image
 pub data Event : Type 0 where
   Sector : ℕ → List ℕ → Event
   Finish : ℕ → List ℕ → Event
   Sync : Event
+  Show : List ℕ → Event
 
 -- after a successful sync, or after a stop that left this image: it is the only one
 abbrev pub settled : List ℕ → Disk
 settled image = record { seen = image; contents = λ i. sector i image ∷ [] }
 
 -- A sector that is written gains a possible content and loses none. Reads give what a finished write wrote. A write
--- that fails has written some sectors and doesn't finish, and a sync that fails is no event: it changes no content.
+-- that fails has written some sectors and doesn't finish. A sync that fails changes no content.
 abbrev pub next : Disk → Event → Disk
 next disk (Sector i content) = record disk { contents = λ j. if i == j then disk.contents j ++ content ∷ [] else disk.contents j }
 next disk (Finish first bytes) = record disk { seen = written first bytes disk.seen }
 next disk Sync = settled disk.seen
+next disk (Show image) = record disk { seen = image }
 
 -- after these events, the first of them first
 abbrev pub run : Disk → List Event → Disk
@@ -52,6 +55,7 @@ finished [] = 0
 finished (Sector i content ∷ events) = finished events
 finished (Finish first bytes ∷ events) = suc (finished events)
 finished (Sync ∷ events) = suc (finished events)
+finished (Show image ∷ events) = finished events
 
 -- A moment: before the first event, after the last, or between two. With `calls` finished calls after the last event,
 -- a stop at some moment from number `from` on, with m calls finished by then, might have left this image.

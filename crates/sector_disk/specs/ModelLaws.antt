@@ -7,7 +7,7 @@ use Rattle.std.proofs.lemmas.Bool.{cases_lt}
 use Rattle.std.proofs.lemmas.Bool.Decides.{eqb_tells}
 use Rattle.sector_disk.specs.Image.{sector, written}
 use Rattle.sector_disk.specs.ImageLaws.{sector_drop, length-sector, sector-written_inside, sector-written_cases, same_sectors, image_of}
-use Rattle.sector_disk.specs.Model.{Disk, Event, Sector, Finish, Sync, settled, next, run, IsImage, sectors_from, finished, MightHaveLeft}
+use Rattle.sector_disk.specs.Model.{Disk, Event, Sector, Finish, Sync, Show, settled, next, run, IsImage, sectors_from, finished, MightHaveLeft}
 use Rattle.sector_disk.specs.Sectors.{Reached}
 
 pub run-append : (disk : Disk) (xs ys : List Event) → run disk (xs ++ ys) ≡ run (run disk xs) ys
@@ -19,6 +19,7 @@ finished-append [] ys = omega arith
 finished-append (Sector i content ∷ xs) ys = finished-append xs ys
 finished-append (Finish first bytes ∷ xs) ys = omega (arith, finished-append xs ys)
 finished-append (Sync ∷ xs) ys = omega (arith, finished-append xs ys)
+finished-append (Show image ∷ xs) ys = finished-append xs ys
 
 pub length-sectors_from : (first : ℕ) (bytes : List ℕ) (n : ℕ) → length (sectors_from first bytes n) ≡ n
 length-sectors_from first bytes zero = refl

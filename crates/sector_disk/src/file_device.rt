@@ -1,11 +1,15 @@
-// A device over a plain file. That the file behaves as the model says is a premise, and no contract.
-ghost use Rattle.std.specs.Prelude.{◌≡◌, ◌+◌, ◌-◌, ◌*◌, ◌%◌, ◌^◌, ◌<◌, ◌≤◌, ◌↔◌, [], List, ℕ, length, take, drop, OnOk, OnErr, IfOk, IsErr, IsErrOf, Ok, min, ◌≢◌, ◌/◌};
+// A device over a plain file. What a file answers is no contract's matter: it is kept in a record, and the device is
+// honest where these are the answers of the model.
+ghost use Rattle.std.specs.Prelude.{◌≡◌, ◌+◌, ◌-◌, ◌*◌, ◌%◌, ◌^◌, ◌<◌, ◌≤◌, ◌↔◌, [], List, ℕ, length, take, drop, OnOk, OnErr, IfOk, IsErr, IsErrOf, IsTrue, Ok, min, ◌≢◌, ◌/◌};
+ghost use Rattle.std.specs.Fs.{metadata_len, file_type, IsFile};
+ghost use Rattle.sector_disk.specs.FileRecord.{all_inside};
 
-use crate::{DeviceFault, SECTOR_SIZE, Sectors};
-use std::fs::{File, Files, OpenOptions};
+use crate::file_calls::{FileCalls, HostFile, SECTOR};
+use crate::{DeviceFault, Sectors, Start};
+use std::fs::{File, Files, Metadata, OpenOptions};
 use std::io;
 use std::io::ErrorKind;
-use std::os::unix::fs::FileExt;
+use std::marker::PhantomData;
 use std::path::Path;
 use thiserror::Error;
 
@@ -22,19 +26,19 @@ pub enum FileFault {
     OutOfMemory,
 }
 
-const SECTOR: u64 = SECTOR_SIZE as u64;
-
 /// A file's length is below 2^63.
 const MAX_SECTORS: u64 = (1 << 54) - 1;
 
-/// A device over a plain file, by reads and writes at an offset; a sync is the file's own (fsync).
+/// A device over a plain file, by reads and writes at an offset; a sync is the file's own.
 #[derive(Drop)]
-pub struct FileDevice {
-    file: File,
+pub struct FileDevice<S: Start, F: FileCalls = HostFile> {
+    file: F,
+    start: PhantomData<S>,
     sectors: u64,
     calls: u64,
     faults: u64,
     ghost offsets: { 512 * sectors < 2 ^ 64 },
+    ghost inside: { IsTrue (all_inside (512 * sectors) (F.FileCalls.entries file)) },
 }
 
 fn fault_of(error: io::Error) -> FileFault
@@ -58,8 +62,53 @@ fn sectors_of(len: u64) -> Result<u64, FileFault>
     }
 }
 
-impl FileDevice {
-    ghost use Rattle.sector_disk.specs.FileDevice.{IsUnused, device_len};
+/// How many sectors a file has, if it is a plain file of whole sectors.
+fn sectors_in(metadata: &Metadata) -> Result<u64, FileFault>
+    ensures sectors { IfOk result (λ n. IsFile (file_type metadata.now) × (metadata_len metadata.now ≡ 512 * n)) }
+    ensures offsets { IfOk result (λ n. 512 * n < 2 ^ 64) }
+    ensures no_file { IsErrOf result FileFault.NoFile → IsFile (file_type metadata.now) → ⊥ }
+    ensures other_length { IsErrOf result FileFault.BadLength → metadata_len metadata.now % 512 ≢ 0 }
+{
+    if !metadata.is_file() {
+        return Err(FileFault::NoFile);
+    }
+    sectors_of(metadata.len())
+}
+
+impl<S: Start, F: FileCalls> FileDevice<S, F> {
+    ghost use Rattle.sector_disk.specs.FileDevice.{device_len, IsUnused};
+
+    /// A device over a file of this many sectors that was not called yet.
+    fn over(file: F, sectors: u64) -> FileDevice<S, F>
+        requires new { F.FileCalls.entries file ≡ [] }
+        requires offsets { 512 * sectors < 2 ^ 64 }
+        ensures unused { IsUnused F.FileCalls.entries result }
+        ensures len { device_len result ≡ sectors }
+    {
+        FileDevice {
+            file,
+            start: PhantomData,
+            sectors,
+            calls: 0,
+            faults: 0,
+        }
+    }
+
+    /// A call that fails.
+    fn fail(&mut self) -> Result<(), DeviceFault>
+        ensures fails { IsErr result }
+        ensures fault { self.new.faults ≡ min (self.old.faults + 1) (2 ^ 64 - 1) }
+        ensures file { self.new.file ≡ self.old.file }
+        ensures sectors { self.new.sectors ≡ self.old.sectors }
+        ensures calls { self.new.calls ≡ self.old.calls }
+    {
+        self.faults = self.faults.saturating_add(1);
+        Err(DeviceFault)
+    }
+}
+
+impl<S: Start> FileDevice<S> {
+    ghost use Rattle.sector_disk.specs.FileDevice.{device_len, IsUnused};
 
     /// Takes the file at `path`, which it makes where there is none, and gives it this many sectors: what is cut off
     /// is lost, and what is new is zeros. The length and the name are on the disk then.
@@ -67,8 +116,9 @@ impl FileDevice {
         rt: &R,
         path: &str,
         sectors: u64,
-    ) -> Result<FileDevice, FileFault>
-        ensures unused { IfOk result IsUnused }
+        _start: S,
+    ) -> Result<FileDevice<S>, FileFault>
+        ensures unused { IfOk result (IsUnused ⟦<HostFile as FileCalls>⟧.entries) }
         ensures len { IfOk result (λ device. device_len device ≡ sectors) }
         ensures too_long { IsErrOf result FileFault.BadLength ↔ (2 ^ 54 ≤ sectors) }
     {
@@ -84,45 +134,24 @@ impl FileDevice {
         file.set_len(sectors * SECTOR).map_err(fault_of)?;
         file.sync_all().map_err(fault_of)?;
         sync_folder(rt, path).map_err(fault_of)?;
-        Ok(FileDevice {
-            file,
-            sectors,
-            calls: 0,
-            faults: 0,
-        })
+        Ok(FileDevice::over(HostFile::new(file), sectors))
     }
 
     /// Opens the file at `path`.
-    pub fn at<R: Files<File = File>>(rt: &R, path: &str) -> Result<FileDevice, FileFault>
-        ensures unused { IfOk result IsUnused }
+    pub fn at<R: Files<File = File>>(
+        rt: &R,
+        path: &str,
+        _start: S,
+    ) -> Result<FileDevice<S>, FileFault>
+        ensures unused { IfOk result (IsUnused ⟦<HostFile as FileCalls>⟧.entries) }
     {
         let file = OpenOptions::new()
             .read(true)
             .write(true)
             .open(rt, path)
             .map_err(fault_of)?;
-        let metadata = file.metadata().map_err(fault_of)?;
-        if !metadata.is_file() {
-            return Err(FileFault::NoFile);
-        }
-        let sectors = sectors_of(metadata.len())?;
-        Ok(FileDevice {
-            file,
-            sectors,
-            calls: 0,
-            faults: 0,
-        })
-    }
-}
-
-impl FileDevice {
-    /// A call that fails.
-    fn fail(&mut self) -> Result<(), DeviceFault>
-        ensures fails { IsErr result }
-        ensures fault { self.new ≡ record self.old { faults = min (self.old.faults + 1) (2 ^ 64 - 1) } }
-    {
-        self.faults = self.faults.saturating_add(1);
-        Err(DeviceFault)
+        let sectors = sectors_in(&file.metadata().map_err(fault_of)?)?;
+        Ok(FileDevice::over(HostFile::new(file), sectors))
     }
 }
 
@@ -139,9 +168,10 @@ fn sync_folder<R: Files<File = File>>(rt: &R, path: &str) -> io::Result<()> {
     }
 }
 
-impl Sectors for FileDevice {
-    ghost use Rattle.sector_disk.specs.Sectors.{calls_after, faults_after, Reached, AddsContents, Only, SameImages, Elapses};
-    ghost use Rattle.sector_disk.specs.FileDevice.{device_len, device_calls, device_faults};
+impl<S: Start, F: FileCalls> Sectors for FileDevice<S, F> {
+    ghost use Rattle.sector_disk.specs.Course.{seen_in, MayLeaveIn, clock_in, MayHaveLeftIn};
+    ghost use Rattle.sector_disk.specs.FileRecord.{AnswersAsModel};
+    ghost use Rattle.sector_disk.specs.FileDevice.{device_len, device_calls, device_faults, course_of};
 
     ghost len = { device_len };
 
@@ -149,16 +179,15 @@ impl Sectors for FileDevice {
 
     ghost faults = { device_faults };
 
-    // Nothing is claimed of what the file holds.
-    ghost honest = { λ d. ⊥ };
+    ghost honest = { λ d. AnswersAsModel d.sectors S.Start.disk S.Start.shown (F.FileCalls.entries d.file) };
 
-    ghost seen = { λ d. [] };
+    ghost seen = { λ d. seen_in (course_of S.Start.disk S.Start.shown F.FileCalls.entries d) };
 
-    ghost possible = { λ d image. ⊥ };
+    ghost possible = { λ d. MayLeaveIn (course_of S.Start.disk S.Start.shown F.FileCalls.entries d) };
 
-    ghost clock = { λ d. 0 };
+    ghost clock = { λ d. clock_in (course_of S.Start.disk S.Start.shown F.FileCalls.entries d) };
 
-    ghost possible_since = { λ d from calls image. ⊥ };
+    ghost possible_since = { λ d. MayHaveLeftIn (course_of S.Start.disk S.Start.shown F.FileCalls.entries d) };
 
     fn len(&self) -> u64 {
         self.sectors
@@ -173,15 +202,17 @@ impl Sectors for FileDevice {
     }
 
     fn read(&mut self, first: u64, into: &mut [u8]) -> Result<(), DeviceFault> {
-        let done = self.file.read_exact_at(into, first * SECTOR);
-        if done.is_err() {
+        if self.file.read(first, into).is_err() {
             return self.fail();
         }
         Ok(())
     }
 
     fn write(&mut self, first: u64, bytes: &[u8]) -> Result<(), DeviceFault> {
-        if self.calls == u64::MAX || self.file.write_all_at(bytes, first * SECTOR).is_err() {
+        if self.calls == u64::MAX {
+            return self.fail();
+        }
+        if self.file.write(first, bytes).is_err() {
             return self.fail();
         }
         self.calls += 1;
@@ -189,22 +220,28 @@ impl Sectors for FileDevice {
     }
 
     fn sync(&mut self) -> Result<(), DeviceFault> {
-        if self.calls == u64::MAX || self.file.sync_all().is_err() {
+        if self.calls == u64::MAX {
+            return self.fail();
+        }
+        if self.file.sync().is_err() {
             return self.fail();
         }
         self.calls += 1;
         Ok(())
     }
 
-    ghost reads_possible = { λ d no. absurd no };
+    ghost use Rattle.sector_disk.specs.CourseLaws.{course_counts_now, course_only_now, course_since_earlier};
+    ghost use Rattle.sector_disk.specs.FileLaws.{file_reads_possible};
 
-    ghost image_size = { λ d image no. absurd no };
+    ghost reads_possible = { λ d honest. file_reads_possible d.sectors S.Start.disk S.Start.shown (F.FileCalls.entries d.file) honest d.inside };
 
-    ghost counts_now = { λ d t image no. absurd no };
+    ghost image_size = { λ d image _ is_image. is_image.size };
 
-    ghost only_now = { λ d m image no. absurd no };
+    ghost counts_now = { λ d t image _ le is_image. course_counts_now (course_of S.Start.disk S.Start.shown F.FileCalls.entries d) t image le is_image };
 
-    ghost since_earlier = { λ d t u m image no. absurd no };
+    ghost only_now = { λ d m image _ left. course_only_now (course_of S.Start.disk S.Start.shown F.FileCalls.entries d) m image left };
+
+    ghost since_earlier = { λ d t u m image _ le left. course_since_earlier (course_of S.Start.disk S.Start.shown F.FileCalls.entries d) t u m image le left };
 }
 
 #[cfg(test)]

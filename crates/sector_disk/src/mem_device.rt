@@ -13,7 +13,7 @@ use std::alloc::{AllocError, Global};
 
 /// A write or a sync that happened.
 #[derive(Drop)]
-enum Event {
+enum Call {
     Write { first: u64, bytes: Vec<u8> },
     /// A write that failed, whose sectors are possible contents all the same.
     Torn { first: u64, bytes: Vec<u8> },
@@ -30,7 +30,7 @@ pub struct MemDevice {
     /// What reads give.
     image: Vec<u8>,
     /// The writes and syncs since it was made or crashed.
-    events: Vec<Event>,
+    history: Vec<Call>,
     calls: u64,
     faults: u64,
     /// How many more writes and syncs finish before every call fails.
@@ -39,7 +39,7 @@ pub struct MemDevice {
     torn: bool,
     /// How many more calls come before the one that fails once.
     once: Option<u64>,
-    ghost kept: { IsKept start.items image.items events.items },
+    ghost kept: { IsKept start.items image.items history.items },
 }
 
 fn is_now(left: Option<u64>) -> bool
@@ -84,31 +84,31 @@ fn put(image: &mut [u8], first: u64, bytes: &[u8])
 /// Lists a write.
 fn keep_write(
     alloc: Global,
-    events: &mut Vec<Event>,
+    history: &mut Vec<Call>,
     first: u64,
     bytes: &[u8],
     is_torn: bool,
 ) -> Result<(), AllocError>
-    ensures ok { OnOk result (map call_of events.new.items ≡ map call_of events.old.items
+    ensures ok { OnOk result (map call_of history.new.items ≡ map call_of history.old.items
         ++ (if is_torn then Tore first bytes.now else Wrote first bytes.now) ∷ []) }
-    ensures err { OnErr result (events.new.items ≡ events.old.items) }
+    ensures err { OnErr result (history.new.items ≡ history.old.items) }
 {
     let bytes = bytes.to_vec(alloc)?;
-    let event = if is_torn {
-        Event::Torn { first, bytes }
+    let call = if is_torn {
+        Call::Torn { first, bytes }
     } else {
-        Event::Write { first, bytes }
+        Call::Write { first, bytes }
     };
-    events.push(event)?;
+    history.push(call)?;
     Ok(())
 }
 
 /// Lists a sync.
-fn keep_sync(events: &mut Vec<Event>) -> Result<(), AllocError>
-    ensures ok { OnOk result (map call_of events.new.items ≡ map call_of events.old.items ++ Synced ∷ []) }
-    ensures err { OnErr result (events.new.items ≡ events.old.items) }
+fn keep_sync(history: &mut Vec<Call>) -> Result<(), AllocError>
+    ensures ok { OnOk result (map call_of history.new.items ≡ map call_of history.old.items ++ Synced ∷ []) }
+    ensures err { OnErr result (history.new.items ≡ history.old.items) }
 {
-    events.push(Event::Sync)?;
+    history.push(Call::Sync)?;
     Ok(())
 }
 
@@ -133,7 +133,7 @@ impl MemDevice {
             alloc,
             start: vec![in alloc; 0; len]?,
             image: vec![in alloc; 0; len]?,
-            events: Vec::new(alloc),
+            history: Vec::new(alloc),
             calls: 0,
             faults: 0,
             fuse: None,
@@ -171,9 +171,9 @@ impl MemDevice {
         ensures same_calls { (memory self.new).calls ≡ (memory self.old).calls }
         ensures same_faults { (memory self.new).faults ≡ (memory self.old).faults }
     {
-        stop(&mut self.start, &self.events, choices);
+        stop(&mut self.start, &self.history, choices);
         self.image.copy_from_slice(&self.start);
-        self.events.clear();
+        self.history.clear();
         self.fuse = None;
         self.torn = false;
         self.once = None;
@@ -200,7 +200,8 @@ impl MemDevice {
         is_now(self.once) || is_now(self.fuse) && !self.torn
     }
 
-    fn try_read(&mut self, first: u64, into: &mut [u8]) -> Result<(), DeviceFault>
+    /// `read` of `Sectors`, with all that a device in memory answers and leaves.
+    pub fn try_read(&mut self, first: u64, into: &mut [u8]) -> Result<(), DeviceFault>
         requires { 512 * first + length into.old ≤ 512 * len_of (memory self.old) }
         ensures exact { Gives (read_of (memory self.old)) result (memory self.new) }
         ensures bytes { OnOk result (into.new ≡ take (length into.old) (drop (512 * first) (seen_of (memory self.old)))) }
@@ -213,17 +214,20 @@ impl MemDevice {
         Ok(())
     }
 
-    fn try_write(&mut self, first: u64, bytes: &[u8]) -> Result<(), DeviceFault>
+    /// `write` of `Sectors`, with all that a device in memory answers and leaves. It finds no memory only for a write
+    /// that it has to list.
+    pub fn try_write(&mut self, first: u64, bytes: &[u8]) -> Result<(), DeviceFault>
         requires some { 0 < length bytes.now }
         requires whole { length bytes.now % 512 ≡ 0 }
         requires inside { 512 * first + length bytes.now ≤ 512 * len_of (memory self.old) }
-        ensures { GivesIfMemory (memory self.old) (write_of (memory self.old) first bytes.now) result (memory self.new) }
+        ensures exact { GivesIfMemory (memory self.old) (write_of (memory self.old) first bytes.now) result (memory self.new) }
+        ensures refused { IsTrue (is_refused (memory self.old)) → tears (memory self.old) ≡ false → Gives (failed (memory self.old)) result (memory self.new) }
     {
         let refused = self.is_refused();
         if refused && !self.tears() {
             return self.fail();
         }
-        if keep_write(self.alloc, &mut self.events, first, bytes, refused).is_err() {
+        if keep_write(self.alloc, &mut self.history, first, bytes, refused).is_err() {
             return self.fault();
         }
         if refused {
@@ -237,13 +241,15 @@ impl MemDevice {
         Ok(())
     }
 
-    fn try_sync(&mut self) -> Result<(), DeviceFault>
-        ensures { GivesIfMemory (memory self.old) (sync_of (memory self.old)) result (memory self.new) }
+    /// `sync` of `Sectors`, with all that a device in memory answers and leaves.
+    pub fn try_sync(&mut self) -> Result<(), DeviceFault>
+        ensures exact { GivesIfMemory (memory self.old) (sync_of (memory self.old)) result (memory self.new) }
+        ensures refused { IsTrue (is_refused (memory self.old)) → Gives (failed (memory self.old)) result (memory self.new) }
     {
         if self.is_refused() {
             return self.fail();
         }
-        if keep_sync(&mut self.events).is_err() {
+        if keep_sync(&mut self.history).is_err() {
             return self.fault();
         }
         self.calls += 1;
@@ -270,15 +276,15 @@ impl MemDevice {
     }
 }
 
-/// How many of the events there are up to the last sync.
-fn synced_events(events: &[Event]) -> usize
-    ensures bound { result ≤ length events.now }
-    ensures settled { IsSettledBy (map call_of (take result events.now)) }
-    ensures rest { IsTrue (list_all is_write (map call_of (drop result events.now))) }
+/// How many of the calls there are up to the last sync.
+fn synced_calls(calls: &[Call]) -> usize
+    ensures bound { result ≤ length calls.now }
+    ensures settled { IsSettledBy (map call_of (take result calls.now)) }
+    ensures rest { IsTrue (list_all is_write (map call_of (drop result calls.now))) }
 {
     let mut synced = 0;
-    for (i, event) in events.iter().enumerate() {
-        if let Event::Sync = event {
+    for (i, call) in calls.iter().enumerate() {
+        if let Call::Sync = call {
             synced = i + 1;
         }
     }
@@ -286,12 +292,12 @@ fn synced_events(events: &[Event]) -> usize
 }
 
 /// Writes into the image what the writes wrote that finished.
-fn replay(image: &mut [u8], events: &[Event])
-    requires { IsTrue (all_fit (length image.old) (map call_of events.now)) }
-    ensures { image.new ≡ (run (settled image.old) (flat_map events_of (map call_of events.now))).seen }
+fn replay(image: &mut [u8], calls: &[Call])
+    requires { IsTrue (all_fit (length image.old) (map call_of calls.now)) }
+    ensures { image.new ≡ (run (settled image.old) (flat_map events_of (map call_of calls.now))).seen }
 {
-    for event in events {
-        if let Event::Write { first, bytes } = event {
+    for call in calls {
+        if let Call::Write { first, bytes } = call {
             put(image, *first, bytes);
         }
     }
@@ -309,41 +315,41 @@ fn part_for(first: u64, bytes: &[u8], sector: u64) -> Option<&[u8]>
     Some(&bytes[at..at + SECTOR_SIZE])
 }
 
-/// What an event writes to a sector, finished or not.
-fn content_for(event: &Event, sector: u64) -> Option<&[u8]>
-    ensures content { option_copied result ≡ content_of sector (call_of event.now) }
+/// What a call writes to a sector, finished or not.
+fn content_for(call: &Call, sector: u64) -> Option<&[u8]>
+    ensures content { option_copied result ≡ content_of sector (call_of call.now) }
     ensures size { IfSome result (λ content. length content.now ≡ 512) }
 {
-    match event {
-        Event::Write { first, bytes } | Event::Torn { first, bytes } => {
+    match call {
+        Call::Write { first, bytes } | Call::Torn { first, bytes } => {
             part_for(*first, bytes, sector)
         }
-        Event::Sync => None,
+        Call::Sync => None,
     }
 }
 
-/// How many of the events write to a sector.
-fn count_for(events: &[Event], sector: u64) -> usize
-    ensures count { result ≡ length (filter_map (content_of sector) (map call_of events.now)) }
-    ensures bound { result ≤ length events.now }
+/// How many of the calls write to a sector.
+fn count_for(calls: &[Call], sector: u64) -> usize
+    ensures count { result ≡ length (filter_map (content_of sector) (map call_of calls.now)) }
+    ensures bound { result ≤ length calls.now }
 {
     let mut count = 0;
-    for event in events {
-        if content_for(event, sector).is_some() {
+    for call in calls {
+        if content_for(call, sector).is_some() {
             count += 1;
         }
     }
     count
 }
 
-/// What the event writes to a sector that is the `number`th of those that write to it.
-fn nth_content(events: &[Event], sector: u64, number: usize) -> Option<&[u8]>
-    ensures content { option_copied result ≡ slice_get (filter_map (content_of sector) (map call_of events.now)) number }
+/// What the call writes to a sector that is the `number`th of those that write to it.
+fn nth_content(calls: &[Call], sector: u64, number: usize) -> Option<&[u8]>
+    ensures content { option_copied result ≡ slice_get (filter_map (content_of sector) (map call_of calls.now)) number }
     ensures size { IfSome result (λ content. length content.now ≡ 512) }
 {
     let mut left = number;
-    for event in events {
-        if let Some(content) = content_for(event, sector) {
+    for call in calls {
+        if let Some(content) = content_for(call, sector) {
             if left == 0 {
                 return Some(content);
             }
@@ -354,7 +360,7 @@ fn nth_content(events: &[Event], sector: u64, number: usize) -> Option<&[u8]>
 }
 
 /// Puts into a sector of the image the content that was chosen for it.
-fn choose_sector(image: &mut [u8], unsynced: &[Event], index: u64, choice: u32)
+fn choose_sector(image: &mut [u8], unsynced: &[Call], index: u64, choice: u32)
     requires { 512 * index + 512 ≤ length image.old }
     ensures chosen { sector index image.new ≡ chosen (sector index image.old) (filter_map (content_of index) (map call_of unsynced.now)) choice }
     ensures others { (i : ℕ) → i ≢ index → sector i image.new ≡ sector i image.old }
@@ -376,7 +382,7 @@ fn choice_for(choices: &[u32], index: u64) -> u32
 }
 
 /// Puts into each sector of the image the content that was chosen for it.
-fn choose(image: &mut [u8], unsynced: &[Event], choices: &[u32])
+fn choose(image: &mut [u8], unsynced: &[Call], choices: &[u32])
     ensures { (i : ℕ) → i < length image.old / 512 → sector i image.new
         ≡ chosen (sector i image.old) (filter_map (content_of i) (map call_of unsynced.now)) (slice_index choices.now i) }
 {
@@ -385,14 +391,14 @@ fn choose(image: &mut [u8], unsynced: &[Event], choices: &[u32])
     }
 }
 
-/// Leaves of the image at the start the one that was chosen of those that are possible after the events.
-fn stop(image: &mut [u8], events: &[Event], choices: &[u32])
-    requires { IsTrue (all_fit (length image.old) (map call_of events.now)) }
-    ensures { TakesChoices (length image.old / 512) (run (settled image.old) (flat_map events_of (map call_of events.now))) (λ i. slice_index choices.now i) image.new }
+/// Leaves of the image at the start the one that was chosen of those that are possible after the calls.
+fn stop(image: &mut [u8], calls: &[Call], choices: &[u32])
+    requires { IsTrue (all_fit (length image.old) (map call_of calls.now)) }
+    ensures { TakesChoices (length image.old / 512) (run (settled image.old) (flat_map events_of (map call_of calls.now))) (λ i. slice_index choices.now i) image.new }
 {
-    let synced = synced_events(events);
-    replay(image, &events[..synced]);
-    choose(image, &events[synced..], choices);
+    let synced = synced_calls(calls);
+    replay(image, &calls[..synced]);
+    choose(image, &calls[synced..], choices);
 }
 
 impl Sectors for MemDevice {
@@ -428,76 +434,31 @@ impl Sectors for MemDevice {
         self.faults
     }
 
-    fn read(&mut self, first: u64, into: &mut [u8]) -> Result<(), DeviceFault>
-        requires some { 0 < length into.old }
-        requires whole { length into.old % 512 ≡ 0 }
-        requires inside { 512 * first + length into.old ≤ 512 * len_of (memory self.old) }
-
-        ensures exact { Gives (read_of (memory self.old)) result (memory self.new) }
-
-        ensures same_len { len_of (memory self.new) ≡ len_of (memory self.old) }
-        ensures same_calls { (memory self.new).calls ≡ (memory self.old).calls }
-        ensures fault { (memory self.new).faults ≡ faults_after result (memory self.old).faults }
-        ensures honest { Unit {0} ↔ Unit {0} }
-        ensures bytes { Unit {0} → OnOk result (into.new ≡ take (length into.old) (drop (512 * first) (seen_of (memory self.old)))) }
-        ensures reads { Unit {0} → seen_of (memory self.new) ≡ seen_of (memory self.old) }
-        ensures contents { Unit {0} → SameImages (MayLeave (memory self.old)) (MayLeave (memory self.new)) }
-        ensures moments { Unit {0} → Elapses (clock_of (memory self.old)) (clock_of (memory self.new)) (MayHaveLeft (memory self.old)) (MayHaveLeft (memory self.new))
-            (memory self.old).calls (memory self.new).calls (MayLeave (memory self.old)) (MayLeave (memory self.new)) }
-    {
+    fn read(&mut self, first: u64, into: &mut [u8]) -> Result<(), DeviceFault> {
         self.try_read(first, into)
     }
 
-    fn write(&mut self, first: u64, bytes: &[u8]) -> Result<(), DeviceFault>
-        requires some { 0 < length bytes.now }
-        requires whole { length bytes.now % 512 ≡ 0 }
-        requires inside { 512 * first + length bytes.now ≤ 512 * len_of (memory self.old) }
-
-        ensures exact { GivesIfMemory (memory self.old) (write_of (memory self.old) first bytes.now) result (memory self.new) }
-
-        ensures same_len { len_of (memory self.new) ≡ len_of (memory self.old) }
-        ensures finished { (memory self.new).calls ≡ calls_after result (memory self.old).calls }
-        ensures fault { (memory self.new).faults ≡ faults_after result (memory self.old).faults }
-        ensures last { (memory self.old).calls ≡ 2 ^ 64 - 1 → IsErr result }
-        ensures honest { Unit {0} ↔ Unit {0} }
-        ensures written { Unit {0} → OnOk result (seen_of (memory self.new) ≡ written first bytes.now (seen_of (memory self.old))) }
-        ensures contents { Unit {0} → AddsContents result first bytes.now (MayLeave (memory self.old)) (MayLeave (memory self.new)) }
-        ensures within { Unit {0} → OnOk result ((t : ℕ) (image : List ℕ) → t ≤ clock_of (memory self.old) →
-            Reached first bytes.now (MayLeave (memory self.old)) image → MayHaveLeft (memory self.new) t (memory self.old).calls image) }
-        ensures moments { Unit {0} → Elapses (clock_of (memory self.old)) (clock_of (memory self.new)) (MayHaveLeft (memory self.old)) (MayHaveLeft (memory self.new))
-            (memory self.old).calls (memory self.new).calls (Reached first bytes.now (MayLeave (memory self.old))) (MayLeave (memory self.new)) }
-    {
+    fn write(&mut self, first: u64, bytes: &[u8]) -> Result<(), DeviceFault> {
         self.try_write(first, bytes)
     }
 
-    fn sync(&mut self) -> Result<(), DeviceFault>
-        ensures exact { GivesIfMemory (memory self.old) (sync_of (memory self.old)) result (memory self.new) }
-
-        ensures same_len { len_of (memory self.new) ≡ len_of (memory self.old) }
-        ensures finished { (memory self.new).calls ≡ calls_after result (memory self.old).calls }
-        ensures fault { (memory self.new).faults ≡ faults_after result (memory self.old).faults }
-        ensures last { (memory self.old).calls ≡ 2 ^ 64 - 1 → IsErr result }
-        ensures honest { Unit {0} ↔ Unit {0} }
-        ensures reads { Unit {0} → OnOk result (seen_of (memory self.new) ≡ seen_of (memory self.old)) }
-        ensures durable { Unit {0} → OnOk result (Only (seen_of (memory self.old)) (MayLeave (memory self.new))) }
-        ensures contents { Unit {0} → OnErr result (SameImages (MayLeave (memory self.old)) (MayLeave (memory self.new))) }
-        ensures moments { Unit {0} → Elapses (clock_of (memory self.old)) (clock_of (memory self.new)) (MayHaveLeft (memory self.old)) (MayHaveLeft (memory self.new))
-            (memory self.old).calls (memory self.new).calls (MayLeave (memory self.old)) (MayLeave (memory self.new)) }
-    {
+    fn sync(&mut self) -> Result<(), DeviceFault> {
         self.try_sync()
     }
 
-    ghost use Rattle.sector_disk.specs.MemoryLaws.{memory_reads_possible, memory_counts_now, memory_only_now, memory_since_earlier};
+    ghost use Rattle.sector_disk.specs.Memory.{course_of};
+    ghost use Rattle.sector_disk.specs.CourseLaws.{course_counts_now, course_only_now, course_since_earlier};
+    ghost use Rattle.sector_disk.specs.MemoryLaws.{memory_reads_possible};
 
     ghost reads_possible = { λ d _. memory_reads_possible (memory d) d.kept.whole d.kept.fit };
 
     ghost image_size = { λ d image _ is_image. is_image.size };
 
-    ghost counts_now = { λ d t image _ le is_image. memory_counts_now (memory d) t image le is_image };
+    ghost counts_now = { λ d t image _ le is_image. course_counts_now (course_of (memory d)) t image le is_image };
 
-    ghost only_now = { λ d m image _ left. memory_only_now (memory d) m image left };
+    ghost only_now = { λ d m image _ left. course_only_now (course_of (memory d)) m image left };
 
-    ghost since_earlier = { λ d t u m image _ le left. memory_since_earlier (memory d) t u m image le left };
+    ghost since_earlier = { λ d t u m image _ le left. course_since_earlier (course_of (memory d)) t u m image le left };
 }
 
 #[cfg(test)]

@@ -31,7 +31,7 @@ pub trait Sectors {
     /// Failed calls of any kind.
     ghost faults: { Self → ℕ };
 
-    /// It behaves as the model says, and nobody else writes it.
+    /// It has answered as the model says in all its calls so far.
     ghost honest: { Self → Type 0 };
 
     /// What reads give.
@@ -67,12 +67,12 @@ pub trait Sectors {
         ensures same_len { len self.new ≡ len self.old }
         ensures same_calls { calls self.new ≡ calls self.old }
         ensures fault { faults self.new ≡ faults_after result (faults self.old) }
-        ensures honest { honest self.new ↔ honest self.old }
+        ensures honest { honest self.new → honest self.old }
 
-        ensures bytes { honest self.old → OnOk result (into.new ≡ take (length into.old) (drop (512 * first) (seen self.old))) }
-        ensures reads { honest self.old → seen self.new ≡ seen self.old }
-        ensures contents { honest self.old → SameImages (possible self.old) (possible self.new) }
-        ensures moments { honest self.old → Elapses (clock self.old) (clock self.new) (possible_since self.old) (possible_since self.new)
+        ensures bytes { honest self.new → OnOk result (into.new ≡ take (length into.old) (drop (512 * first) (seen self.old))) }
+        ensures reads { honest self.new → seen self.new ≡ seen self.old }
+        ensures contents { honest self.new → SameImages (possible self.old) (possible self.new) }
+        ensures moments { honest self.new → Elapses (clock self.old) (clock self.new) (possible_since self.old) (possible_since self.new)
             (calls self.old) (calls self.new) (possible self.old) (possible self.new) };
 
     /// Writes a run of whole sectors, `first` the number of its first. Until a sync succeeds a stop may leave the old
@@ -86,14 +86,14 @@ pub trait Sectors {
         ensures finished { calls self.new ≡ calls_after result (calls self.old) }
         ensures fault { faults self.new ≡ faults_after result (faults self.old) }
         ensures last { calls self.old ≡ 2 ^ 64 - 1 → IsErr result }
-        ensures honest { honest self.new ↔ honest self.old }
+        ensures honest { honest self.new → honest self.old }
 
-        ensures written { honest self.old → OnOk result (seen self.new ≡ written first bytes.now (seen self.old)) }
-        ensures contents { honest self.old → AddsContents result first bytes.now (possible self.old) (possible self.new) }
+        ensures written { honest self.new → OnOk result (seen self.new ≡ written first bytes.now (seen self.old)) }
+        ensures contents { honest self.new → AddsContents result first bytes.now (possible self.old) (possible self.new) }
         // Within the call each sector may have reached the device or not.
-        ensures within { honest self.old → OnOk result ((t : ℕ) (image : List ℕ) → t ≤ clock self.old →
+        ensures within { honest self.new → OnOk result ((t : ℕ) (image : List ℕ) → t ≤ clock self.old →
             Reached first bytes.now (possible self.old) image → possible_since self.new t (calls self.old) image) }
-        ensures moments { honest self.old → Elapses (clock self.old) (clock self.new) (possible_since self.old) (possible_since self.new)
+        ensures moments { honest self.new → Elapses (clock self.old) (clock self.new) (possible_since self.old) (possible_since self.new)
             (calls self.old) (calls self.new) (Reached first bytes.now (possible self.old)) (possible self.new) };
 
     /// Makes durable what reads give. After a fault nothing more is durable, and reads give one of the possible images.
@@ -102,12 +102,12 @@ pub trait Sectors {
         ensures finished { calls self.new ≡ calls_after result (calls self.old) }
         ensures fault { faults self.new ≡ faults_after result (faults self.old) }
         ensures last { calls self.old ≡ 2 ^ 64 - 1 → IsErr result }
-        ensures honest { honest self.new ↔ honest self.old }
+        ensures honest { honest self.new → honest self.old }
 
-        ensures reads { honest self.old → OnOk result (seen self.new ≡ seen self.old) }
-        ensures durable { honest self.old → OnOk result (Only (seen self.old) (possible self.new)) }
-        ensures contents { honest self.old → OnErr result (SameImages (possible self.old) (possible self.new)) }
-        ensures moments { honest self.old → Elapses (clock self.old) (clock self.new) (possible_since self.old) (possible_since self.new)
+        ensures reads { honest self.new → OnOk result (seen self.new ≡ seen self.old) }
+        ensures durable { honest self.new → OnOk result (Only (seen self.old) (possible self.new)) }
+        ensures contents { honest self.new → OnErr result (SameImages (possible self.old) (possible self.new)) }
+        ensures moments { honest self.new → Elapses (clock self.old) (clock self.new) (possible_since self.old) (possible_since self.new)
             (calls self.old) (calls self.new) (possible self.old) (possible self.new) };
 
     /// What reads give is a possible image.

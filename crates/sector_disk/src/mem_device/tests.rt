@@ -3,16 +3,35 @@ use std::process::Abort;
 use std::test::Fail;
 
 /// Writes a sector of this byte, and one of the other behind it.
-fn write_two(rt: &impl Abort, device: &mut impl Sectors, first: u64, bytes: (u8, u8)) -> bool {
+fn write_two(
+    rt: &impl Abort,
+    device: &mut impl Sectors,
+    first: u64,
+    bytes: (u8, u8),
+) -> Result<(), DeviceFault> {
     assert!(rt; first < 100 && first + 2 <= device.len());
     let mut run = [bytes.0; 1024];
     run[512..].fill(bytes.1);
-    device.write(first, &run).is_ok()
+    device.write(first, &run)
 }
 
-fn write_one(rt: &impl Abort, device: &mut impl Sectors, first: u64, byte: u8) -> bool {
+fn write_one(
+    rt: &impl Abort,
+    device: &mut impl Sectors,
+    first: u64,
+    byte: u8,
+) -> Result<(), DeviceFault> {
     assert!(rt; first < device.len());
-    device.write(first, &[byte; 512]).is_ok()
+    device.write(first, &[byte; 512])
+}
+
+/// Ends the test where a failed write found no memory to be listed.
+fn expect_listed(device: &MemDevice, calls: usize) -> Result<(), Fail> {
+    if device.history.len() == calls {
+        Ok(())
+    } else {
+        Err(AllocError.into())
+    }
 }
 
 /// The byte that a sector is full of, or none where the read fails.
@@ -29,11 +48,11 @@ fn read_one(rt: &impl Abort, device: &mut impl Sectors, sector: u64) -> Option<u
 fn written(rt: &(impl Abort + AllocGlobal)) -> Result<MemDevice, Fail> {
     let mut device = MemDevice::new(rt.alloc(), 3)?;
     assert_eq!(rt; (device.len(), device.calls(), device.faults()), (3, 0, 0));
-    assert!(rt; write_one(rt, &mut device, 0, 1));
-    assert!(rt; device.sync().is_ok());
-    assert!(rt; write_one(rt, &mut device, 0, 2));
-    assert!(rt; write_one(rt, &mut device, 0, 3));
-    assert!(rt; write_one(rt, &mut device, 2, 9));
+    write_one(rt, &mut device, 0, 1)?;
+    device.sync()?;
+    write_one(rt, &mut device, 0, 2)?;
+    write_one(rt, &mut device, 0, 3)?;
+    write_one(rt, &mut device, 2, 9)?;
     assert_eq!(rt; device.calls(), 5);
     Ok(device)
 }
@@ -82,11 +101,17 @@ fn a_fuse_lets_so_many_calls_finish(rt: HostRuntime) -> Result<(), Fail> {
         for (choice, image) in images.iter().enumerate() {
             let mut device = MemDevice::new(rt.alloc(), 3)?;
             device.fuse(k);
-            assert_eq!(rt; write_two(&rt, &mut device, 0, (1, 2)), k > 0);
-            assert_eq!(rt; device.sync().is_ok(), k > 1);
-            if k > 1 {
-                assert_eq!(rt; write_two(&rt, &mut device, 1, (3, 4)), k > 2);
-                assert_eq!(rt; device.sync().is_ok(), false);
+            let wrote = write_two(&rt, &mut device, 0, (1, 2)).is_ok();
+            expect_listed(&device, 1)?;
+            assert_eq!(rt; wrote, k > 0);
+            if k < 2 {
+                assert!(rt; device.sync().is_err());
+            } else {
+                device.sync()?;
+                let wrote = write_two(&rt, &mut device, 1, (3, 4)).is_ok();
+                expect_listed(&device, 3)?;
+                assert_eq!(rt; wrote, k > 2);
+                assert!(rt; device.sync().is_err());
             }
             assert_eq!(rt; read_one(&rt, &mut device, 0), None);
             assert_eq!(rt; device.calls(), k);
@@ -98,7 +123,7 @@ fn a_fuse_lets_so_many_calls_finish(rt: HostRuntime) -> Result<(), Fail> {
                     "fuse {k}"
                 );
             }
-            assert!(rt; device.sync().is_ok());
+            device.sync()?;
             assert_eq!(rt; device.calls(), k + 1);
         }
     }
@@ -110,8 +135,9 @@ fn the_first_failed_write_of_a_fuse_may_be_kept(rt: HostRuntime) -> Result<(), F
     let mut device = MemDevice::new(rt.alloc(), 2)?;
     device.fuse(0);
     assert!(rt; device.sync().is_err());
-    assert!(rt; !write_one(&rt, &mut device, 0, 5));
-    assert!(rt; !write_one(&rt, &mut device, 0, 6));
+    assert!(rt; write_one(&rt, &mut device, 0, 5).is_err());
+    expect_listed(&device, 1)?;
+    assert!(rt; write_one(&rt, &mut device, 0, 6).is_err());
     assert_eq!(rt; (device.calls(), device.faults()), (0, 3));
     // Of two contents number 3 is the one that was written first.
     device.crash(&[3]);
@@ -125,8 +151,9 @@ fn one_call_fails(rt: HostRuntime) -> Result<(), Fail> {
     let mut device = MemDevice::new(rt.alloc(), 2)?;
     device.fail_once(2);
     assert_eq!(rt; read_one(&rt, &mut device, 0), Some(0));
-    assert!(rt; write_one(&rt, &mut device, 0, 1));
-    assert!(rt; !write_two(&rt, &mut device, 0, (2, 3)));
+    write_one(&rt, &mut device, 0, 1)?;
+    assert!(rt; write_two(&rt, &mut device, 0, (2, 3)).is_err());
+    expect_listed(&device, 2)?;
     assert_eq!(rt; (device.calls(), device.faults()), (1, 1));
     // Reads go on as before the failed write, whose sectors are possible contents.
     assert_eq!(rt; read_one(&rt, &mut device, 0), Some(1));
@@ -139,7 +166,7 @@ fn one_call_fails(rt: HostRuntime) -> Result<(), Fail> {
     assert_eq!(rt; read_one(&rt, &mut device, 0), Some(2));
     device.fail_once(0);
     assert!(rt; device.sync().is_err());
-    assert!(rt; device.sync().is_ok());
+    device.sync()?;
     assert_eq!(rt; (device.calls(), device.faults()), (2, 3));
     Ok(())
 }
@@ -149,11 +176,25 @@ fn the_counts_stop_at_their_last_value(rt: HostRuntime) -> Result<(), Fail> {
     let mut device = MemDevice::new(rt.alloc(), 1)?;
     device.calls = u64::MAX - 1;
     device.faults = u64::MAX - 1;
-    assert!(rt; write_one(&rt, &mut device, 0, 1));
+    write_one(&rt, &mut device, 0, 1)?;
     assert_eq!(rt; (device.calls(), device.faults()), (u64::MAX, u64::MAX - 1));
-    assert!(rt; !write_one(&rt, &mut device, 0, 2));
+    assert!(rt; write_one(&rt, &mut device, 0, 2).is_err());
     assert!(rt; device.sync().is_err());
     assert_eq!(rt; (device.calls(), device.faults()), (u64::MAX, u64::MAX));
     assert_eq!(rt; read_one(&rt, &mut device, 0), Some(1));
+    Ok(())
+}
+
+#[test]
+fn a_large_write_goes_to_a_large_device(rt: HostRuntime) -> Result<(), Fail> {
+    let mut device = MemDevice::new(rt.alloc(), 8450)?;
+    assert_eq!(rt; device.len(), 8450);
+    let run = vec![in rt.alloc(); 7u8; 131_072]?;
+    device.write(8450 - 256, &run)?;
+    device.sync()?;
+    device.crash(&[]);
+    assert_eq!(rt; read_one(&rt, &mut device, 8193), Some(0));
+    assert_eq!(rt; read_one(&rt, &mut device, 8194), Some(7));
+    assert_eq!(rt; read_one(&rt, &mut device, 8449), Some(7));
     Ok(())
 }

@@ -4,5 +4,5 @@ use Rattle.sector_disk.specs.Kept.{call_of}
 use Rattle.sector_disk.specs.Crash.{content_of}
 use Rattle.sector_disk.proofs.mem_device.count_for.Given as goal
 
-abbrev pub invariant-loop-event : goal.invariant-loop-event
-invariant-loop-event l = (l.count ≤ l.event-index) × (l.count ≡ length (filter_map (content_of l.sector) (map call_of (take l.event-index l.events))))
+abbrev pub invariant-loop-call : goal.invariant-loop-call
+invariant-loop-call l = (l.count ≤ l.call-index) × (l.count ≡ length (filter_map (content_of l.sector) (map call_of (take l.call-index l.calls))))

@@ -4,20 +4,20 @@ use Rattle.std.specs.Option.{option_copied}
 use Rattle.std.specs.List.{filter_map, cons_option}
 use Rattle.sector_disk.specs.Kept.{call_of}
 use Rattle.sector_disk.specs.Crash.{content_of}
-use Rattle.sector_disk.specs.declared.mem_device.Event.{Event}
+use Rattle.sector_disk.specs.declared.mem_device.Call.{Call as Kept}
 use Rattle.sector_disk.proofs.Steps.{filter_rest, slice_get_later, is_none}
 use Rattle.sector_disk.proofs.mem_device.nth_content.Goals as goal
 use Rattle.sector_disk.proofs.mem_device.nth_content.Goals.{in-Some+else-left-eq0, in_default}
 
-pub loop-event-preserved : goal.loop-event-preserved
-loop-event-preserved c =
-    let left = c.loop-event.left in
-    let after = filter_map (content_of c.args.sector) (map call_of (drop (c.loop-event.event-index + 1) c.args.events.now)) in
-    let rest = filter_rest c.args.events.now c.loop-event.event-index c.event-item.result c.loop-event-test.true c.args.sector in
-    let o = content_of c.args.sector (call_of (get_or c.args.events.now c.loop-event.event-index c.event-item.result)) in
-    let at : option_copied c.content_for.result ≡ o = c.content_for.ensures.content ∙ ap (λ (e : Event). content_of c.args.sector (call_of e)) c.event-item.is in
-    let so_far : slice_get (cons_option o after) left ≡ slice_get (filter_map (content_of c.args.sector) (map call_of c.args.events.now)) c.args.number =
-    ap (λ (l : List (List ℕ)). slice_get l left) (sym rest) ∙ c.loop-event.invariant in
+pub loop-call-preserved : goal.loop-call-preserved
+loop-call-preserved c =
+    let left = c.loop-call.left in
+    let after = filter_map (content_of c.args.sector) (map call_of (drop (c.loop-call.call-index + 1) c.args.calls.now)) in
+    let rest = filter_rest c.args.calls.now c.loop-call.call-index c.call-item.result c.loop-call-test.true c.args.sector in
+    let o = content_of c.args.sector (call_of (get_or c.args.calls.now c.loop-call.call-index c.call-item.result)) in
+    let at : option_copied c.content_for.result ≡ o = c.content_for.ensures.content ∙ ap (λ (e : Kept). content_of c.args.sector (call_of e)) c.call-item.is in
+    let so_far : slice_get (cons_option o after) left ≡ slice_get (filter_map (content_of c.args.sector) (map call_of c.args.calls.now)) c.args.number =
+    ap (λ (l : List (List ℕ)). slice_get l left) (sym rest) ∙ c.loop-call.invariant in
     elim c.match-content_for.branch [
       | in-Some+else-left-eq0 w ↦ (let some : o ≡ Some w.in-Some.content.now = sym at ∙ ap option_copied w.in-Some.is in
           let more : 0 < left = omega (arith, w.if-left-eq0.false) in

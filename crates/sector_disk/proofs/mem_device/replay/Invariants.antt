@@ -5,5 +5,5 @@ use Rattle.sector_disk.specs.Memory.{events_of}
 use Rattle.sector_disk.specs.Kept.{call_of}
 use Rattle.sector_disk.proofs.mem_device.replay.Given as goal
 
-abbrev pub invariant-loop-event : goal.invariant-loop-event
-invariant-loop-event l = l.image ≡ (run (settled l.fn.image) (flat_map events_of (map call_of (take l.event-index l.events)))).seen
+abbrev pub invariant-loop-call : goal.invariant-loop-call
+invariant-loop-call l = l.image ≡ (run (settled l.fn.image) (flat_map events_of (map call_of (take l.call-index l.calls)))).seen

@@ -2,7 +2,7 @@ use Rattle.std.proofs.Common.{◌≡◌, ◌∙◌, ◌∷◌, [], ◌-◌, ◌/
 use Rattle.std.specs.Prelude.{slice_index, slice_index_or}
 use Rattle.std.specs.List.{flat_map, filter_map}
 use Rattle.std.proofs.lemmas.List.{take_rest}
-use Rattle.sector_disk.specs.declared.mem_device.Event.{Event}
+use Rattle.sector_disk.specs.declared.mem_device.Call.{Call as Kept}
 use Rattle.sector_disk.specs.Image.{sector}
 use Rattle.sector_disk.specs.Model.{settled, run}
 use Rattle.sector_disk.specs.Memory.{Call, events_of}
@@ -13,22 +13,22 @@ use Rattle.sector_disk.proofs.Contents.{contents-stopped}
 use Rattle.sector_disk.proofs.mem_device.stop.Goals as goal
 
 pub replay-requires : goal.replay-requires
-replay-requires c = fit_front (length c.args.image.now) c.args.events.now c.synced_events-synced.result c.requires
+replay-requires c = fit_front (length c.args.image.now) c.args.calls.now c.synced_calls-synced.result c.requires
 
 pub returns : goal.returns
 returns c = λ i lt.
     let start = c.args.image.now in
-    let events = c.args.events.now in
-    let n = c.synced_events-synced.result in
-    let front = map call_of (take n events) in
-    let back = map call_of (drop n events) in
+    let calls = c.args.calls.now in
+    let n = c.synced_calls-synced.result in
+    let front = map call_of (take n calls) in
+    let back = map call_of (drop n calls) in
     let choice = slice_index c.args.choices.now i in
-    let contents : (run (settled start) (flat_map events_of (map call_of events))).contents i ≡ sector i c.replay.new.image ∷ filter_map (content_of i) back =
-    ap (λ (l : List Call). (run (settled start) (flat_map events_of l)).contents i) (calls_split events n)
-    ∙ contents-stopped start front back i c.synced_events-synced.ensures.settled c.synced_events-synced.ensures.rest
+    let contents : (run (settled start) (flat_map events_of (map call_of calls))).contents i ≡ sector i c.replay.new.image ∷ filter_map (content_of i) back =
+    ap (λ (l : List Call). (run (settled start) (flat_map events_of l)).contents i) (calls_split calls n)
+    ∙ contents-stopped start front back i c.synced_calls-synced.ensures.settled c.synced_calls-synced.ensures.rest
     ∙ ap (λ (image : List ℕ). sector i image ∷ filter_map (content_of i) back) (sym c.replay.ensures) in
     let size : length c.replay.new.image / 512 ≡ length start / 512 = ap (λ (m : ℕ). m / 512) c.replay.auto.image in
-    let rest : take (length events - n) (drop n events) ≡ drop n events = take_rest events n in
+    let rest : take (length calls - n) (drop n calls) ≡ drop n calls = take_rest calls n in
     let taken : sector i c.choose.new.image ≡ chosen (sector i c.replay.new.image) (filter_map (content_of i) back) choice =
-    c.choose.ensures i (omega (arith, lt, size)) ∙ ap (λ (l : List Event). chosen (sector i c.replay.new.image) (filter_map (content_of i) (map call_of l)) choice) rest in
+    c.choose.ensures i (omega (arith, lt, size)) ∙ ap (λ (l : List Kept). chosen (sector i c.replay.new.image) (filter_map (content_of i) (map call_of l)) choice) rest in
     subst (λ (l : List (List ℕ)). sector i c.choose.new.image ≡ slice_index_or l (choice % length l) []) (sym contents) taken

@@ -7,7 +7,7 @@ use Rattle.sector_disk.specs.Memory.{events_of, len_of, disk_of, TakesChoices}
 use Rattle.sector_disk.specs.MemDevice.{memory}
 use Rattle.sector_disk.specs.MemoryLaws.{whole_sectors, memory_reads_possible}
 use Rattle.sector_disk.specs.Kept.{call_of}
-use Rattle.sector_disk.specs.declared.mem_device.Event.{Event}
+use Rattle.sector_disk.specs.declared.mem_device.Call.{Call as Kept}
 use Rattle.sector_disk.proofs.Keeps.{image_size}
 use Rattle.sector_disk.proofs.Contents.{disk_start, seen_start, only_start, chosen_image}
 use Rattle.sector_disk.proofs.mem_device.MemDevice.crash.Goals as goal
@@ -15,7 +15,7 @@ use Rattle.sector_disk.proofs.mem_device.MemDevice.crash.Goals as goal
 pub copy_from_slice-requires : goal.copy_from_slice-requires
 copy_from_slice-requires c =
     let d = c.args.self.now in
-    d.image.ok.0 ∙ image_size d.start.items d.image.items d.events.items d.kept ∙ sym d.start.ok.0 ∙ sym c.deref-2.ensures.len
+    d.image.ok.0 ∙ image_size d.start.items d.image.items d.history.items d.kept ∙ sym d.start.ok.0 ∙ sym c.deref-2.ensures.len
 
 pub returns-clause-stop : goal.returns-clause-stop
 returns-clause-stop c =
@@ -23,7 +23,7 @@ returns-clause-stop c =
     let choices = λ (i : ℕ). slice_index c.args.choices.now i in
     let at_start = subst (λ (start : List ℕ). TakesChoices (length start / 512) (run (settled start) (flat_map events_of (map call_of c.deref.result.now))) choices c.stop.new.image) c.deref_mut.ensures.value c.stop.ensures in
     let takes : TakesChoices (len_of (memory d)) (disk_of (memory d)) choices c.stop.new.image =
-    subst (λ (events : List Event). TakesChoices (len_of (memory d)) (run (settled d.start.items) (flat_map events_of (map call_of events))) choices c.stop.new.image) c.deref.ensures.value at_start in
+    subst (λ (calls : List Kept). TakesChoices (len_of (memory d)) (run (settled d.start.items) (flat_map events_of (map call_of calls))) choices c.stop.new.image) c.deref.ensures.value at_start in
     let size : length c.stop.new.image ≡ 512 * len_of (memory d) = omega (arith, c.stop.auto.image, ap length c.deref_mut.ensures.value, whole_sectors (length d.start.items) d.kept.whole) in
     let image = chosen_image (len_of (memory d)) (disk_of (memory d)) choices c.stop.new.image (memory_reads_possible (memory d) d.kept.whole d.kept.fit) size takes in
     let full : length c.stop.new.image ≡ d.start.len = c.stop.auto.image ∙ c.deref_mut.ensures.len in
@@ -37,7 +37,7 @@ returns-clause-possible c =
     let choices = λ (i : ℕ). slice_index c.args.choices.now i in
     let at_start = subst (λ (start : List ℕ). TakesChoices (length start / 512) (run (settled start) (flat_map events_of (map call_of c.deref.result.now))) choices c.stop.new.image) c.deref_mut.ensures.value c.stop.ensures in
     let takes : TakesChoices (len_of (memory d)) (disk_of (memory d)) choices c.stop.new.image =
-    subst (λ (events : List Event). TakesChoices (len_of (memory d)) (run (settled d.start.items) (flat_map events_of (map call_of events))) choices c.stop.new.image) c.deref.ensures.value at_start in
+    subst (λ (calls : List Kept). TakesChoices (len_of (memory d)) (run (settled d.start.items) (flat_map events_of (map call_of calls))) choices c.stop.new.image) c.deref.ensures.value at_start in
     let size : length c.stop.new.image ≡ 512 * len_of (memory d) = omega (arith, c.stop.auto.image, ap length c.deref_mut.ensures.value, whole_sectors (length d.start.items) d.kept.whole) in
     let image = chosen_image (len_of (memory d)) (disk_of (memory d)) choices c.stop.new.image (memory_reads_possible (memory d) d.kept.whole d.kept.fit) size takes in
     let full : length c.stop.new.image ≡ d.start.len = c.stop.auto.image ∙ c.deref_mut.ensures.len in

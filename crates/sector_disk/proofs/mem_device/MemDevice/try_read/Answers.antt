@@ -6,4 +6,4 @@ use Rattle.sector_disk.proofs.mem_device.MemDevice.try_read.Goals as goal
 pub get-requires : goal.get-requires
 get-requires c =
     let d = c.args.self.now in
-    omega (arith, c.requires, ap length c.deref.ensures.value, image_size d.start.items d.image.items d.events.items d.kept, whole_sectors (length d.start.items) d.kept.whole)
+    omega (arith, c.requires, ap length c.deref.ensures.value, image_size d.start.items d.image.items d.history.items d.kept, whole_sectors (length d.start.items) d.kept.whole)

@@ -5,4 +5,4 @@ use Rattle.sector_disk.proofs.mem_device.MemDeviceSectors.len.Goals as goal
 pub returns : goal.returns
 returns c =
     let d = c.args.self.now in
-    ap (λ (n : ℕ). n / 512) (c.len.ensures ∙ d.image.ok.0 ∙ image_size d.start.items d.image.items d.events.items d.kept)
+    ap (λ (n : ℕ). n / 512) (c.len.ensures ∙ d.image.ok.0 ∙ image_size d.start.items d.image.items d.history.items d.kept)

@@ -1,22 +1,24 @@
+use Rattle.sector_disk.specs.Memory.{course_of}
 use Rattle.sector_disk.specs.MemDevice.{memory}
 use Rattle.sector_disk.specs.MemoryLaws.{memory_reads_possible}
-use Rattle.sector_disk.proofs.Calls.{sync_case, sync_seen, sync_durable, sync_moments}
+use Rattle.sector_disk.proofs.Calls.{sync_case}
+use Rattle.sector_disk.proofs.Goes.{sync_seen, sync_durable, sync_moments}
 use Rattle.sector_disk.proofs.mem_device.MemDeviceSectors.sync.Goals as goal
 
 pub returns-clause-reads : goal.returns-clause-reads
 returns-clause-reads c = λ _.
     let d = c.args.self.now in
     let possible = memory_reads_possible (memory d) d.kept.whole d.kept.fit in
-    sync_seen (memory d) (memory c.try_sync.new.self) possible c.try_sync.result (sync_case (memory d) (memory c.try_sync.new.self) c.try_sync.result c.try_sync.ensures)
+    sync_seen (course_of (memory d)) (course_of (memory c.try_sync.new.self)) possible c.try_sync.result (sync_case (memory d) (memory c.try_sync.new.self) c.try_sync.result c.try_sync.ensures.exact)
 
 pub returns-clause-durable : goal.returns-clause-durable
 returns-clause-durable c = λ _.
     let d = c.args.self.now in
     let possible = memory_reads_possible (memory d) d.kept.whole d.kept.fit in
-    sync_durable (memory d) (memory c.try_sync.new.self) possible c.try_sync.result (sync_case (memory d) (memory c.try_sync.new.self) c.try_sync.result c.try_sync.ensures)
+    sync_durable (course_of (memory d)) (course_of (memory c.try_sync.new.self)) possible c.try_sync.result (sync_case (memory d) (memory c.try_sync.new.self) c.try_sync.result c.try_sync.ensures.exact)
 
 pub returns-clause-moments : goal.returns-clause-moments
 returns-clause-moments c = λ _.
     let d = c.args.self.now in
     let possible = memory_reads_possible (memory d) d.kept.whole d.kept.fit in
-    sync_moments (memory d) (memory c.try_sync.new.self) possible c.try_sync.result (sync_case (memory d) (memory c.try_sync.new.self) c.try_sync.result c.try_sync.ensures)
+    sync_moments (course_of (memory d)) (course_of (memory c.try_sync.new.self)) possible c.try_sync.result (sync_case (memory d) (memory c.try_sync.new.self) c.try_sync.result c.try_sync.ensures.exact)

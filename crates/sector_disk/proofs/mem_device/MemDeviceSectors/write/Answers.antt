@@ -1,8 +1,9 @@
 use Rattle.std.proofs.Common.{◌+◌, ◌≤◌, ◌/◌, length, arith}
-use Rattle.sector_disk.specs.Memory.{len_of}
+use Rattle.sector_disk.specs.Memory.{len_of, course_of}
 use Rattle.sector_disk.specs.MemDevice.{memory}
 use Rattle.sector_disk.specs.MemoryLaws.{whole_sectors, memory_reads_possible}
-use Rattle.sector_disk.proofs.Calls.{write_case, write_seen, write_contents, write_within, write_moments}
+use Rattle.sector_disk.proofs.Calls.{write_case}
+use Rattle.sector_disk.proofs.Goes.{write_seen, write_contents, write_within, write_moments}
 use Rattle.sector_disk.proofs.mem_device.MemDeviceSectors.write.Goals as goal
 
 pub returns-clause-written : goal.returns-clause-written
@@ -11,8 +12,8 @@ returns-clause-written c = λ _.
     let whole = whole_sectors (length c.args.bytes.now) c.requires.whole in
     let inside : c.args.first + length c.args.bytes.now / 512 ≤ len_of (memory d) = omega (arith, whole, c.requires.inside) in
     let possible = memory_reads_possible (memory d) d.kept.whole d.kept.fit in
-    let case = write_case (memory d) (memory c.try_write.new.self) c.args.first c.args.bytes.now c.try_write.result c.try_write.ensures in
-    write_seen (memory d) (memory c.try_write.new.self) c.args.first c.args.bytes.now whole inside possible c.try_write.result case
+    let case = write_case (memory d) (memory c.try_write.new.self) c.args.first c.args.bytes.now c.try_write.result c.try_write.ensures.exact in
+    write_seen (course_of (memory d)) (course_of (memory c.try_write.new.self)) c.args.first c.args.bytes.now whole inside possible c.try_write.result case
 
 pub returns-clause-contents : goal.returns-clause-contents
 returns-clause-contents c = λ _.
@@ -20,8 +21,8 @@ returns-clause-contents c = λ _.
     let whole = whole_sectors (length c.args.bytes.now) c.requires.whole in
     let inside : c.args.first + length c.args.bytes.now / 512 ≤ len_of (memory d) = omega (arith, whole, c.requires.inside) in
     let possible = memory_reads_possible (memory d) d.kept.whole d.kept.fit in
-    let case = write_case (memory d) (memory c.try_write.new.self) c.args.first c.args.bytes.now c.try_write.result c.try_write.ensures in
-    write_contents (memory d) (memory c.try_write.new.self) c.args.first c.args.bytes.now whole inside possible c.try_write.result case
+    let case = write_case (memory d) (memory c.try_write.new.self) c.args.first c.args.bytes.now c.try_write.result c.try_write.ensures.exact in
+    write_contents (course_of (memory d)) (course_of (memory c.try_write.new.self)) c.args.first c.args.bytes.now whole inside possible c.try_write.result case
 
 pub returns-clause-within : goal.returns-clause-within
 returns-clause-within c = λ _.
@@ -29,8 +30,8 @@ returns-clause-within c = λ _.
     let whole = whole_sectors (length c.args.bytes.now) c.requires.whole in
     let inside : c.args.first + length c.args.bytes.now / 512 ≤ len_of (memory d) = omega (arith, whole, c.requires.inside) in
     let possible = memory_reads_possible (memory d) d.kept.whole d.kept.fit in
-    let case = write_case (memory d) (memory c.try_write.new.self) c.args.first c.args.bytes.now c.try_write.result c.try_write.ensures in
-    write_within (memory d) (memory c.try_write.new.self) c.args.first c.args.bytes.now whole inside possible c.try_write.result case
+    let case = write_case (memory d) (memory c.try_write.new.self) c.args.first c.args.bytes.now c.try_write.result c.try_write.ensures.exact in
+    write_within (course_of (memory d)) (course_of (memory c.try_write.new.self)) c.args.first c.args.bytes.now whole inside possible c.try_write.result case
 
 pub returns-clause-moments : goal.returns-clause-moments
 returns-clause-moments c = λ _.
@@ -38,5 +39,5 @@ returns-clause-moments c = λ _.
     let whole = whole_sectors (length c.args.bytes.now) c.requires.whole in
     let inside : c.args.first + length c.args.bytes.now / 512 ≤ len_of (memory d) = omega (arith, whole, c.requires.inside) in
     let possible = memory_reads_possible (memory d) d.kept.whole d.kept.fit in
-    let case = write_case (memory d) (memory c.try_write.new.self) c.args.first c.args.bytes.now c.try_write.result c.try_write.ensures in
-    write_moments (memory d) (memory c.try_write.new.self) c.args.first c.args.bytes.now whole inside possible c.try_write.result case
+    let case = write_case (memory d) (memory c.try_write.new.self) c.args.first c.args.bytes.now c.try_write.result c.try_write.ensures.exact in
+    write_moments (course_of (memory d)) (course_of (memory c.try_write.new.self)) c.args.first c.args.bytes.now whole inside possible c.try_write.result case

@@ -1,0 +1,94 @@
+-- What a call of a file means for its images.
+use Rattle.std.proofs.Common.{◌≡◌, ℕ, ◌+◌, ◌*◌, ◌/◌, ◌%◌, ◌≤◌, Bool, true, false, List, [], ◌∷◌, length, refl, sym, ◌∙◌, ap, subst, arith, if◌then◌else◌, IsTrue, Result, is_ok}
+use Rattle.std.specs.Prelude.{OnOk, OnErr}
+use Rattle.std.proofs.lemmas.List.{append-nil}
+use Rattle.sector_disk.specs.Image.{written}
+use Rattle.sector_disk.specs.Model.{Disk, Finish, Show, sectors_from}
+use Rattle.sector_disk.specs.ModelLaws.{finished-append, finished-sectors_from}
+use Rattle.sector_disk.specs.Sectors.{Reached, AddsContents, Only, SameImages, Elapses}
+use Rattle.sector_disk.specs.Course.{Course, MayLeaveIn, seen_in, clock_in, MayHaveLeftIn}
+use Rattle.sector_disk.specs.MemoryLaws.{whole_sectors}
+use Rattle.sector_disk.specs.FileRecord.{Entry, events_in, file_course, AnswersAsModel, all_inside}
+use Rattle.sector_disk.specs.FileCalls.{read_entry, write_entry, sync_entry}
+use Rattle.sector_disk.specs.FileLaws.{file_reads_possible}
+use Rattle.sector_disk.proofs.Goes.{GoesOn, WriteCase, SyncCase, finishes, shows, syncs, sync_shows, write_seen, write_contents, write_within, write_moments, sync_seen, sync_durable, sync_contents, sync_moments}
+
+module _ (n after : ℕ) (start : Disk) (shown : ℕ → List ℕ) (old new : List Entry) (sectors : after ≡ n) where
+  -- what was honest after one entry more was so before it
+  pub honest_before : (entry : Entry) → new ≡ entry ∷ old → AnswersAsModel after start shown new → AnswersAsModel n start shown (entry ∷ old)
+  honest_before entry more honest = subst (λ (l : List Entry). AnswersAsModel n start shown l) more (subst (λ (m : ℕ). AnswersAsModel m start shown new) sectors honest)
+
+  module _ (calls new_calls : ℕ) where
+    pub unchanged_goes : new ≡ old → new_calls ≡ calls → GoesOn (file_course n start shown old calls) (file_course after start shown new new_calls) []
+    unchanged_goes same counted = record { sectors = sectors; start = refl; events = ap (events_in shown) same ∙ sym (append-nil (events_in shown old)); calls = omega (arith, counted) }
+
+    pub read_goes : (ok : Bool) (first : ℕ) (bytes : List ℕ) → new ≡ read_entry ok first bytes ∷ old → new_calls ≡ calls → GoesOn (file_course n start shown old calls) (file_course after start shown new new_calls) []
+    read_goes true first bytes more counted = record { sectors = sectors; start = refl; events = ap (events_in shown) more; calls = omega (arith, counted) }
+    read_goes false first bytes more counted = record { sectors = sectors; start = refl; events = ap (events_in shown) more; calls = omega (arith, counted) }
+
+    pub write_goes : (ok : Bool) (first : ℕ) (bytes : List ℕ) → new ≡ write_entry ok first bytes ∷ old → new_calls ≡ (if ok then calls + 1 else calls)
+        → WriteCase (file_course n start shown old calls) (file_course after start shown new new_calls) first bytes ok
+    write_goes true first bytes more counted =
+        let one = finished-append (sectors_from first bytes (length bytes / 512)) (Finish first bytes ∷ []) in
+        finishes (record { sectors = sectors; start = refl; events = ap (events_in shown) more; calls = omega (arith, counted, one, finished-sectors_from first bytes (length bytes / 512)) })
+    write_goes false first bytes more counted =
+        let image = shown (length old) in
+        let none = finished-append (sectors_from first bytes (length bytes / 512)) (Show image ∷ []) in
+        shows image (record { sectors = sectors; start = refl; events = ap (events_in shown) more; calls = omega (arith, counted, none, finished-sectors_from first bytes (length bytes / 512)) })
+
+    pub sync_goes : (ok : Bool) → new ≡ sync_entry ok ∷ old → new_calls ≡ (if ok then calls + 1 else calls) → SyncCase (file_course n start shown old calls) (file_course after start shown new new_calls) ok
+    sync_goes true more counted = syncs (record { sectors = sectors; start = refl; events = ap (events_in shown) more; calls = omega (arith, counted) })
+    sync_goes false more counted = sync_shows (shown (length old)) (record { sectors = sectors; start = refl; events = ap (events_in shown) more; calls = omega (arith, counted) })
+
+  -- what reads gave before a call was possible
+  pub possible_before : (entry : Entry) (calls : ℕ) → new ≡ entry ∷ old → IsTrue (all_inside (512 * n) old) → AnswersAsModel after start shown new
+      → MayLeaveIn (file_course n start shown old calls) (seen_in (file_course n start shown old calls))
+  possible_before entry calls more inside honest = file_reads_possible n start shown old (honest_before entry more honest).0 inside
+
+pub record Writes {T E : Type 0} (old new : Course) (first : ℕ) (bytes : List ℕ) (result : Result T E) : Type 0 where
+  pub seen : OnOk result (seen_in new ≡ written first bytes (seen_in old))
+  pub contents : AddsContents result first bytes (MayLeaveIn old) (MayLeaveIn new)
+  pub within : OnOk result ((t : ℕ) (image : List ℕ) → t ≤ clock_in old → Reached first bytes (MayLeaveIn old) image → MayHaveLeftIn new t old.calls image)
+  pub moments : Elapses (clock_in old) (clock_in new) (MayHaveLeftIn old) (MayHaveLeftIn new) old.calls new.calls (Reached first bytes (MayLeaveIn old)) (MayLeaveIn new)
+
+pub record Syncs {T E : Type 0} (old new : Course) (result : Result T E) : Type 0 where
+  pub seen : OnOk result (seen_in new ≡ seen_in old)
+  pub durable : OnOk result (Only (seen_in old) (MayLeaveIn new))
+  pub contents : OnErr result (SameImages (MayLeaveIn old) (MayLeaveIn new))
+  pub moments : Elapses (clock_in old) (clock_in new) (MayHaveLeftIn old) (MayHaveLeftIn new) old.calls new.calls (MayLeaveIn old) (MayLeaveIn new)
+
+-- what a write or a sync of a file means, for an honest file: the clauses of a device
+module _ {T E : Type 0} (n after : ℕ) (start : Disk) (shown : ℕ → List ℕ) (old new : List Entry) (sectors : after ≡ n) (calls new_calls : ℕ) (result : Result T E) (inside : IsTrue (all_inside (512 * n) old)) (honest : AnswersAsModel after start shown new)
+    (counted : new_calls ≡ (if is_ok result then calls + 1 else calls)) where
+  abbrev before : Course
+  before = file_course n start shown old calls
+
+  abbrev now : Course
+  now = file_course after start shown new new_calls
+
+  module _ (first : ℕ) (bytes : List ℕ) (whole : length bytes % 512 ≡ 0) (fits : 512 * first + length bytes ≤ 512 * n) (more : new ≡ write_entry (is_ok result) first bytes ∷ old) where
+    size : length bytes ≡ 512 * (length bytes / 512)
+    size = whole_sectors (length bytes) whole
+
+    within : first + length bytes / 512 ≤ n
+    within = omega (arith, size, fits)
+
+    pub file_writes : Writes before now first bytes result
+    file_writes =
+        let possible = possible_before n after start shown old new sectors (write_entry (is_ok result) first bytes) calls more inside honest in
+        let case = write_goes n after start shown old new sectors calls new_calls (is_ok result) first bytes more counted in record {
+          seen = write_seen before now first bytes size within possible result case;
+          contents = write_contents before now first bytes size within possible result case;
+          within = write_within before now first bytes size within possible result case;
+          moments = write_moments before now first bytes size within possible result case;
+        }
+
+  pub file_syncs : new ≡ sync_entry (is_ok result) ∷ old → Syncs before now result
+  file_syncs more =
+      let possible = possible_before n after start shown old new sectors (sync_entry (is_ok result)) calls more inside honest in
+      let case = sync_goes n after start shown old new sectors calls new_calls (is_ok result) more counted in record {
+        seen = sync_seen before now possible result case;
+        durable = sync_durable before now possible result case;
+        contents = sync_contents before now possible result case;
+        moments = sync_moments before now possible result case;
+      }

@@ -1,0 +1,5 @@
+use Rattle.sector_disk.proofs.FileLawProofs.{is_as_in_memory}
+use Rattle.sector_disk.proofs.laws.a_file_is_as_a_device_in_memory.Goals as goal
+
+pub returns : goal.returns
+returns c = is_as_in_memory

@@ -1,0 +1,87 @@
+-- The record of a file's calls and their answers, and what a device of the model would have answered.
+use Rattle.std.specs.Prelude.{◌≡◌, ℕ, ◌*◌, ◌/◌, Bool, true, List, [], ◌∷◌, ◌++◌, length, take, drop}
+use Rattle.std.specs.List.{list_all}
+use Rattle.sector_disk.specs.declared.answer.Answer.{Answer}
+use Rattle.sector_disk.specs.declared.answer.Answer.TheVariants.{ReadGave, ReadFailed, WriteFinished, WriteFailed, SyncFinished, SyncFailed}
+use Rattle.sector_disk.specs.Model.{Disk, Event, Sync, Show, run, IsImage, sectors_from}
+use Rattle.sector_disk.specs.Course.{Course}
+use Rattle.sector_disk.specs.Memory.{Call, Wrote, Tore, Synced, events_of, is_run}
+
+-- an answer with the bytes that were read or written
+abbrev pub Entry : Type 0
+Entry = Answer × List ℕ
+
+-- What a call did to the device of the model. After a failed write or sync reads give the image `shown`.
+abbrev pub events_after : List ℕ → Answer → List ℕ → List Event
+events_after shown (ReadGave first) bytes = []
+events_after shown ReadFailed bytes = []
+events_after shown (WriteFinished first) bytes = events_of (Wrote first bytes)
+events_after shown (WriteFailed first) bytes = sectors_from first bytes (length bytes / 512) ++ Show shown ∷ []
+events_after shown SyncFinished bytes = Sync ∷ []
+events_after shown SyncFailed bytes = Show shown ∷ []
+
+-- The events of a record, whose newest entry comes first. `shown n` is what reads give where the entry behind n others is a
+-- write or a sync that failed.
+abbrev pub events_in : (ℕ → List ℕ) → List Entry → List Event
+events_in shown [] = []
+events_in shown (entry ∷ earlier) = events_in shown earlier ++ events_after (shown (length earlier)) entry.0 entry.1
+
+-- the course of a file of n sectors that was `start` as it was opened
+abbrev pub file_course : ℕ → Disk → (ℕ → List ℕ) → List Entry → ℕ → Course
+file_course n start shown entries calls = record { sectors = n; start = start; events = events_in shown entries; calls = calls }
+
+-- The device of the model, asked the same, may answer so: a read gives what reads give, and a failed write or sync leaves
+-- some possible image for reads.
+abbrev pub Agrees : ℕ → Disk → List ℕ → Answer → List ℕ → Type 0
+Agrees n disk shown (ReadGave first) bytes = bytes ≡ take (length bytes) (drop (512 * first) disk.seen)
+Agrees n disk shown ReadFailed bytes = Unit {0}
+Agrees n disk shown (WriteFinished first) bytes = Unit {0}
+Agrees n disk shown (WriteFailed first) bytes = IsImage n (run disk (sectors_from first bytes (length bytes / 512))) shown
+Agrees n disk shown SyncFinished bytes = Unit {0}
+Agrees n disk shown SyncFailed bytes = IsImage n disk shown
+
+-- a file that was `start` as it was opened has answered as the device of the model, in all calls so far
+abbrev pub AnswersAsModel : ℕ → Disk → (ℕ → List ℕ) → List Entry → Type 0
+AnswersAsModel n start shown [] = IsImage n start start.seen
+AnswersAsModel n start shown (entry ∷ earlier) =
+    AnswersAsModel n start shown earlier × Agrees n (run start (events_in shown earlier)) (shown (length earlier)) entry.0 entry.1
+
+-- each write, finished or not, was a run of whole sectors inside a device of this many bytes
+abbrev pub is_inside : ℕ → Answer → List ℕ → Bool
+is_inside size (ReadGave first) bytes = true
+is_inside size ReadFailed bytes = true
+is_inside size (WriteFinished first) bytes = is_run size first (length bytes)
+is_inside size (WriteFailed first) bytes = is_run size first (length bytes)
+is_inside size SyncFinished bytes = true
+is_inside size SyncFailed bytes = true
+
+abbrev pub all_inside : ℕ → List Entry → Bool
+all_inside size entries = list_all (λ entry. is_inside size entry.0 entry.1) entries
+
+-- a read gives what reads give, and they go on as before a write or a sync that fails
+abbrev pub GoesOnReading : Disk → List ℕ → Answer → List ℕ → Type 0
+GoesOnReading disk shown (ReadGave first) bytes = bytes ≡ take (length bytes) (drop (512 * first) disk.seen)
+GoesOnReading disk shown ReadFailed bytes = Unit {0}
+GoesOnReading disk shown (WriteFinished first) bytes = Unit {0}
+GoesOnReading disk shown (WriteFailed first) bytes = shown ≡ disk.seen
+GoesOnReading disk shown SyncFinished bytes = Unit {0}
+GoesOnReading disk shown SyncFailed bytes = shown ≡ disk.seen
+
+-- a call of a file as a device in memory lists it
+abbrev pub calls_of : Answer → List ℕ → List Call
+calls_of (ReadGave first) bytes = []
+calls_of ReadFailed bytes = []
+calls_of (WriteFinished first) bytes = Wrote first bytes ∷ []
+calls_of (WriteFailed first) bytes = Tore first bytes ∷ []
+calls_of SyncFinished bytes = Synced ∷ []
+calls_of SyncFailed bytes = []
+
+-- Reads give what the model's device has, and where a write or a sync fails they go on as before it.
+abbrev pub ReadsOn : Disk → (ℕ → List ℕ) → List Entry → Type 0
+ReadsOn start shown [] = Unit {0}
+ReadsOn start shown (entry ∷ earlier) = ReadsOn start shown earlier × GoesOnReading (run start (events_in shown earlier)) (shown (length earlier)) entry.0 entry.1
+
+-- the writes and syncs of a record, the oldest first, as a device in memory lists them
+abbrev pub calls_in : List Entry → List Call
+calls_in [] = []
+calls_in (entry ∷ earlier) = calls_in earlier ++ calls_of entry.0 entry.1

@@ -1,0 +1,10 @@
+/// A call of a file, and whether it succeeded. The bytes that were read or written stand beside it.
+#[derive(Clone, Copy, Debug, PartialEq, Eq)]
+pub enum Answer {
+    ReadGave { first: u64 },
+    ReadFailed,
+    WriteFinished { first: u64 },
+    WriteFailed { first: u64 },
+    SyncFinished,
+    SyncFailed,
+}
