@@ -8,3 +8,4 @@ pub mod OpenLemmas
 pub mod ReadLemmas
 pub mod SpliceLemmas
 pub mod TableLemmas
+pub mod TestLemmas

@@ -66,7 +66,7 @@ module _ (limits : Limits) (stops : ℕ → Stop) where
     pub load : load_along stops k ≤ℤ pos limits.capacity
     pub window : limits.kind ≡ LiLim → start_along stops k ≤ (stops k).latest
 
-  keeps-true : (k : ℕ) (a : Progress) → IsAt stops k a → keeps limits a ≡ true → Keeps k
+  pub keeps-true : (k : ℕ) (a : Progress) → IsAt stops k a → keeps limits a ≡ true → Keeps k
   keeps-true k a is h =
       let both = and-true _ _ h in
       record {

@@ -7,3 +7,6 @@ mod slack;
 mod table;
 
 pub use table::RouteTable;
+
+#[cfg(test)]
+mod tests;

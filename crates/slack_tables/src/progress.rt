@@ -107,7 +107,7 @@ fn load_behind(load: i64, demand: i32) -> i64
 }
 
 /// Whether the load and the start keep their limits at this place.
-fn keeps(limits: Limits, at: &Progress) -> bool
+pub(crate) fn keeps(limits: Limits, at: &Progress) -> bool
     ensures { result ≡ keeps limits at.now }
 {
     at.load <= i64::from(limits.capacity)

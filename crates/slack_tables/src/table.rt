@@ -70,7 +70,8 @@ impl RouteTable {
 
     /// How many stops the route has.
     pub fn stop_count(&self) -> usize
-        ensures { result ≡ length self.now.stops }
+        ensures count { result ≡ length self.now.stops }
+        ensures few { result ≤ 40001 }
     {
         self.places.len() - 2
     }
@@ -160,7 +161,11 @@ fn load_at(place: &Place) -> i64
 }
 
 /// The places of a route as the vehicle comes to them, with nothing known of what is behind.
-fn driven(alloc: Global, problem: &Problem, route: &[u32]) -> Result<Vec<Place>, OutOfMemory>
+pub(crate) fn driven(
+    alloc: Global,
+    problem: &Problem,
+    route: &[u32],
+) -> Result<Vec<Place>, OutOfMemory>
     requires { AreLiveOnce problem.now route.now }
     ensures opened { IfOk result (λ places. AreOpen (place problem.now route.now) places.items) }
     ensures len { IfOk result (λ places. length places.items ≡ length route.now + 2) }
