@@ -9,7 +9,7 @@ use Rattle.plan_types.specs.Instance.{Instance}
 use Rattle.plan_types.specs.declared.plans.Cost.{Cost}
 use Rattle.plan_types.specs.declared.requests.Request.{Request}
 use Rattle.move_ops.specs.Insertion.{Place, request_named, insertions, insertions_of, is_no_later, is_no_worse, cost_with, better, least_by, best_insertion}
-use Rattle.move_ops.specs.Laws.{IsBest, BestInsertionsAreLeast}
+use Rattle.move_ops.specs.Laws.{IsBest, BestInsertionsAreLeast, BestInsertionsAreUnique}
 
 module _ {X : Type 0} (at_most : X → X → Bool) (total : (x y : X) → (at_most x y ≡ true) ⊎ (at_most y x ≡ true)) (transitive : (x y z : X) → at_most x y ≡ true → at_most y z ≡ true → at_most x z ≡ true) where
   itself : (x : X) → at_most x x ≡ true
@@ -144,6 +144,44 @@ later_sentence x y z s t = elim s [
 later_transitive : (x y z : Place) → is_no_later x y ≡ true → is_no_later y z ≡ true → is_no_later x z ≡ true
 later_transitive x y z h k = said_later x z (later_sentence x y z (later_said x y h) (later_said y z k))
 
+behind_both : (b c e f : ℕ) → Behind b c e f → Behind e f b c → (b ≡ e) × (c ≡ f)
+behind_both b c e f s t = elim s [
+  | inl l ↦ elim t [
+    | inl m ↦ absurd (omega arith)
+    | inr m ↦ absurd (let same = m.0 in omega arith)
+  ]
+  | inr l ↦ elim t [
+    | inl m ↦ absurd (let same = l.0 in omega arith)
+    | inr m ↦ (l.0, (let one = l.1 in let two = m.1 in omega arith))
+  ]
+]
+
+abbrev placed : ℕ → ℕ → ℕ → Place
+placed v i j = (v, i, j)
+
+same_parts : (x y : Place) → x.0 ≡ y.0 → x.1 ≡ y.1 → x.2 ≡ y.2 → x ≡ y
+same_parts x y d e f =
+    let first : ◌≡◌ {A = Place} (x.0, x.1, x.2) (y.0, x.1, x.2) = ap (λ (n : ℕ). placed n x.1 x.2) d in
+    let second : ◌≡◌ {A = Place} (y.0, x.1, x.2) (y.0, y.1, x.2) = ap (λ (n : ℕ). placed y.0 n x.2) e in
+    let third : ◌≡◌ {A = Place} (y.0, y.1, x.2) (y.0, y.1, y.2) = ap (λ (n : ℕ). placed y.0 y.1 n) f in
+    first ∙ (second ∙ third)
+
+same_place : (x y : Place) → Later x y → Later y x → x ≡ y
+same_place x y s t = elim s [
+  | inl l ↦ elim t [
+    | inl m ↦ absurd (omega arith)
+    | inr m ↦ absurd (let same = m.0 in omega arith)
+  ]
+  | inr l ↦ elim t [
+    | inl m ↦ absurd (let same = l.0 in omega arith)
+    | inr m ↦ (let both = behind_both x.1 x.2 y.1 y.2 l.1 m.1 in same_parts x y l.0 both.0 both.1)
+  ]
+]
+
+not_both : (b : Bool) → b ≡ true → not b ≡ true → ⊥
+not_both true h k = let e : false ≡ true = k in cc
+not_both false h k = let e : false ≡ true = h in cc
+
 -- by cost, and then by place
 module _ (costs_total : CostsAreTotal) (costs_transitive : CostsAreTransitive) (below_at_most : BelowThenAtMost) (at_most_below : AtMostThenBelow) (weaken : BelowIsAtMost) where
   abbrev by_both : Cost → Cost → Place → Place → Bool
@@ -177,6 +215,23 @@ module _ (costs_total : CostsAreTotal) (costs_transitive : CostsAreTransitive) (
               (and_from (cost_at_most a c) (is_no_later x z) (costs_transitive a b c first.0 second.0) (later_transitive x y z first.1 second.1)))
         ])
   ]
+
+  -- two that are no worse than one another are one
+  both_antisymmetric : (a b : Cost) (x y : Place) → by_both a b x y ≡ true → by_both b a y x ≡ true → x ≡ y
+  both_antisymmetric a b x y h k = elim (or_cases (cost_below a b) (cost_at_most a b && is_no_later x y) h) [
+    | inl less ↦ elim (or_cases (cost_below b a) (cost_at_most b a && is_no_later y x) k) [
+      | inl more ↦ absurd (not_both (cost_below a b) less (weaken b a more))
+      | inr two ↦ absurd (not_both (cost_below a b) less (and_parts (cost_at_most b a) (is_no_later y x) two).0)
+    ]
+    | inr one ↦ elim (or_cases (cost_below b a) (cost_at_most b a && is_no_later y x) k) [
+      | inl more ↦ absurd (not_both (cost_below b a) more (and_parts (cost_at_most a b) (is_no_later x y) one).0)
+      | inr two ↦ same_place x y (later_said x y (and_parts (cost_at_most a b) (is_no_later x y) one).1) (later_said y x (and_parts (cost_at_most b a) (is_no_later y x) two).1)
+    ]
+  ]
+
+  pub best_is_unique : BestInsertionsAreUnique
+  best_is_unique p pins routes r x y one two =
+      both_antisymmetric (cost_with p routes r x) (cost_with p routes r y) x y (one.least y two.among) (two.least x one.among)
 
   pub best_is_least : BestInsertionsAreLeast
   best_is_least p pins routes name r named =

@@ -16,6 +16,10 @@ abbrev pub BestInsertionsAreLeast : Type 0
 BestInsertionsAreLeast = (p : Instance) (pins routes : List (List ℕ)) (name : ℕ) (r : Request) → request_named p name ≡ Some r
     → MatchOption (best_insertion p pins routes name) (insertions p pins routes name ≡ []) (IsBest p pins routes r)
 
+-- law: and no two are the best
+abbrev pub BestInsertionsAreUnique : Type 0
+BestInsertionsAreUnique = (p : Instance) (pins routes : List (List ℕ)) (r : Request) (x y : Place) → IsBest p pins routes r x → IsBest p pins routes r y → x ≡ y
+
 -- law: the list of the insertions holds those that can be put in, and no others
 abbrev pub InsertionsCanBePutIn : Type 0
 InsertionsCanBePutIn = (p : Instance) (pins routes : List (List ℕ)) (name : ℕ) (x : Place) → Contains (insertions p pins routes name) x ↔ IsSome (put_in p pins routes name x)

@@ -1,5 +1,5 @@
 //! What the best insertion is.
-ghost use Rattle.move_ops.specs.Laws.{BestInsertionsAreLeast, InsertionsCanBePutIn};
+ghost use Rattle.move_ops.specs.Laws.{BestInsertionsAreLeast, BestInsertionsAreUnique, InsertionsCanBePutIn};
 
 use plan_types::costs_are_in_order;
 
@@ -7,6 +7,13 @@ use plan_types::costs_are_in_order;
 /// delivery place. There is none exactly where the request has no insertion.
 pub fn best_insertions_are_least()
     ensures { BestInsertionsAreLeast }
+{
+    costs_are_in_order();
+}
+
+/// Only one insertion is the best.
+pub fn best_insertions_are_unique()
+    ensures { BestInsertionsAreUnique }
 {
     costs_are_in_order();
 }

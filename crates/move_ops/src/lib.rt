@@ -8,7 +8,7 @@ mod lists;
 
 pub use cross::two_opt_star;
 pub use insert::insert_at;
-pub use laws::{best_insertions_are_least, insertions_can_be_put_in};
+pub use laws::{best_insertions_are_least, best_insertions_are_unique, insertions_can_be_put_in};
 
 #[cfg(test)]
 mod tests;
