@@ -1,0 +1,195 @@
+-- Two routes of a plan that passes exchange their ends.
+use Rattle.std.proofs.Common.{◌≡◌, ℕ, zero, suc, ◌+◌, ◌-◌, ◌<◌, ◌≤◌, ◌&&◌, Bool, true, false, cond, eqb, leb, List, [], ◌∷◌, ◌++◌, All, length, take, drop, set, Option, Some, None, slice_get, refl, sym, ap, subst, ◌∙◌, inl, inr, arith}
+use Rattle.std.specs.List.{concat}
+use Rattle.std.proofs.lemmas.Bool.{cases_Bool, and_parts, and_from, eq-eqb, leb-true}
+use Rattle.std.proofs.lemmas.Bool.Decides.{eqb_tells}
+use Rattle.std.proofs.lemmas.List.{length-set}
+use Rattle.std.proofs.lemmas.List.Elements.{All-set}
+use Rattle.plan_types.specs.Instance.{Instance}
+use Rattle.route_sched.specs.Route.{IsLive, AreLiveOnce, IsPlan}
+use Rattle.plan_audit.specs.Alone.{IsFeasibleAlone}
+use Rattle.plan_audit.specs.Laws.{KeepsPins}
+use Rattle.plan_audit.specs.Locality.{IsPassing, PassesAreLocal, TestsSayFeasible}
+use Rattle.plan_audit.specs.Passes.{feasible_alone, passes}
+use Rattle.plan_audit.specs.Rules.{item_at}
+use Rattle.move_ops.specs.Insertion.{of_vehicle, with_route}
+use Rattle.move_ops.specs.Moves.{is_cut, joined, with_ends_exchanged, crossed}
+use Rattle.move_ops.proofs.Times.{times, times-append, times_split, once_from, once_few, once_live}
+use Rattle.move_ops.proofs.Replacing.{within_list, times_with, times_in_vehicle, other_vehicle, same_vehicle, pins_with, all_at, parts, passes_too}
+use Rattle.move_ops.proofs.Inserting.{get_front}
+
+-- the first stops of a joined route are those of its front
+front_joined : (front back : List ℕ) (c d k n : ℕ) → k ≤ c → item_at front k ≡ Some n → item_at (joined front c back d) k ≡ Some n
+front_joined front back c d zero n below at = at
+front_joined front back c d (suc j) n below at = get_front c front (drop d back) j n (omega arith) at
+
+times_joined : (n : ℕ) (front back : List ℕ) (c d : ℕ) → times n (joined front c back d) + times n (joined back d front c) ≡ times n front + times n back
+times_joined n front back c d =
+    let e = times-append n (take c front) (drop d back) in
+    let f = times-append n (take d back) (drop c front) in
+    let g = times_split n c front in
+    let h = times_split n d back in
+    omega arith
+
+module _ (local : PassesAreLocal) (p : Instance) (pins routes : List (List ℕ)) (good : passes p pins routes ≡ true) (a ca b cb : ℕ) (apart : b ≡ a → ⊥)
+    (a_from : 1 ≤ a) (a_within : a ≤ length routes) (b_from : 1 ≤ b) (b_within : b ≤ length routes) where
+  abbrev pub x : List ℕ
+  x = joined (of_vehicle routes a) ca (of_vehicle routes b) cb
+
+  abbrev pub y : List ℕ
+  y = joined (of_vehicle routes b) cb (of_vehicle routes a) ca
+
+  abbrev pub half : List (List ℕ)
+  half = with_route routes a (joined (of_vehicle routes a) ca (of_vehicle routes b) cb)
+
+  abbrev pub others : List (List ℕ)
+  others = with_ends_exchanged routes a ca b cb
+
+  plan : IsPlan p routes
+  plan = (parts local p pins routes good).plan
+
+  as_many : length half ≡ length routes
+  as_many = length-set routes (a - 1) x
+
+  b_in_half : b ≤ length half
+  b_in_half = let e = as_many in omega arith
+
+  -- each stop stands as often as before
+  same_times : (n : ℕ) → times n (concat others) ≡ times n (concat routes)
+  same_times n =
+      let e = times_with n routes a x a_from a_within in
+      let f = times_with n half b y b_from b_in_half in
+      let g = ap (times n) (other_vehicle routes a b x a_from apart) in
+      let h = times_joined n (of_vehicle routes a) (of_vehicle routes b) ca cb in
+      omega arith
+
+  pub crossed_plan : IsPlan p others
+  crossed_plan = once_from p (concat others) (λ n. let e = same_times n in let f = once_few p (concat routes) plan n in omega arith) (λ n some. let e = same_times n in once_live p (concat routes) plan n (omega arith))
+
+  all_many : length others ≡ length routes
+  all_many = length-set half (b - 1) y ∙ as_many
+
+  in_plan : (z : List ℕ) (v : ℕ) → 1 ≤ v → v ≤ length routes → of_vehicle others v ≡ z → AreLiveOnce p z
+  in_plan z v from within at =
+      let few = λ (n : ℕ). (let e = times_in_vehicle n others v from (let m = all_many in omega arith) in e) in
+      once_from p z
+      (λ n. let e = few n in let f = ap (times n) at in let g = once_few p (concat others) crossed_plan n in omega arith)
+      (λ n some. let e = few n in let f = ap (times n) at in once_live p (concat others) crossed_plan n (omega arith))
+
+  at_a : of_vehicle others a ≡ x
+  at_a = other_vehicle half b a y b_from (λ same. apart (sym same)) ∙ same_vehicle routes a x a_from a_within
+
+  at_b : of_vehicle others b ≡ y
+  at_b = same_vehicle half b y b_from b_in_half
+
+  pub first_once : AreLiveOnce p x
+  first_once = in_plan x a a_from a_within at_a
+
+  pub second_once : AreLiveOnce p y
+  second_once = in_plan y b b_from b_within at_b
+
+  -- the plan passes where both routes are feasible alone, and only there
+  module _ (a_kept : length (of_vehicle pins a) ≤ ca) (b_kept : length (of_vehicle pins b) ≤ cb) where
+    half_pinned : KeepsPins half pins
+    half_pinned = pins_with routes pins a x a_from a_within ((parts local p pins routes good).pinned)
+        (λ k n pinned at. front_joined (of_vehicle routes a) (of_vehicle routes b) ca cb k n (let h = within_list (of_vehicle pins a) k n pinned in omega arith) at)
+
+    pub crossed_passes : IsFeasibleAlone p x → IsFeasibleAlone p y → passes p pins others ≡ true
+    crossed_passes first second =
+        passes_too local p pins routes good others crossed_plan all_many
+        (All-set (IsFeasibleAlone p) half (b - 1) y second (All-set (IsFeasibleAlone p) routes (a - 1) x first ((parts local p pins routes good).feasible)))
+        (pins_with half pins b y b_from b_in_half half_pinned
+        (λ k n pinned at.
+        front_joined (of_vehicle routes b) (of_vehicle routes a) cb ca k n (let h = within_list (of_vehicle pins b) k n pinned in omega arith)
+        (subst (λ l. item_at l k ≡ Some n) (other_vehicle routes a b x a_from apart) at)))
+
+  feasible_at : (z : List ℕ) (v : ℕ) → 1 ≤ v → v ≤ length routes → of_vehicle others v ≡ z → passes p pins others ≡ true → IsFeasibleAlone p z
+  feasible_at z v from within at passed =
+      subst (IsFeasibleAlone p) at (all_at (IsFeasibleAlone p) others v from (let m = all_many in omega arith) (((local p pins others).0 passed).feasible))
+
+  pub first_feasible : passes p pins others ≡ true → IsFeasibleAlone p x
+  first_feasible passed = feasible_at x a a_from a_within at_a passed
+
+  pub second_feasible : passes p pins others ≡ true → IsFeasibleAlone p y
+  second_feasible passed = feasible_at y b b_from b_within at_b passed
+
+module _ (local : PassesAreLocal) (says : TestsSayFeasible) (p : Instance) (pins routes : List (List ℕ)) (good : passes p pins routes ≡ true) (a ca b cb : ℕ) (apart : eqb a b ≡ false)
+    (a_cut : is_cut pins routes a ca ≡ true) (b_cut : is_cut pins routes b cb ≡ true) where
+  -- what the test of a cut says
+  cut_parts : (v c : ℕ) → is_cut pins routes v c ≡ true → (1 ≤ v) × (v ≤ length routes) × (length (of_vehicle pins v) ≤ c)
+  cut_parts v c t =
+      let one = and_parts (leb 1 v) (leb v (length routes) && (leb (length (of_vehicle pins v)) c && leb c (length (of_vehicle routes v)))) t in
+      let two = and_parts (leb v (length routes)) (leb (length (of_vehicle pins v)) c && leb c (length (of_vehicle routes v))) one.1 in
+      let three = and_parts (leb (length (of_vehicle pins v)) c) (leb c (length (of_vehicle routes v))) two.1 in
+      (leb-true 1 v one.0, leb-true v (length routes) two.0, leb-true (length (of_vehicle pins v)) c three.0)
+
+  differ : b ≡ a → ⊥
+  differ same = let h : true ≡ false = sym (eq-eqb a b (sym same)) ∙ apart in cc
+
+  of_a : (1 ≤ a) × (a ≤ length routes) × (length (of_vehicle pins a) ≤ ca)
+  of_a = cut_parts a ca a_cut
+
+  of_b : (1 ≤ b) × (b ≤ length routes) × (length (of_vehicle pins b) ≤ cb)
+  of_b = cut_parts b cb b_cut
+
+  pub first_route_once : AreLiveOnce p (joined (of_vehicle routes a) ca (of_vehicle routes b) cb)
+  first_route_once = first_once local p pins routes good a ca b cb differ of_a.0 of_a.1 of_b.0 of_b.1
+
+  pub second_route_once : AreLiveOnce p (joined (of_vehicle routes b) cb (of_vehicle routes a) ca)
+  second_route_once = second_once local p pins routes good a ca b cb differ of_a.0 of_a.1 of_b.0 of_b.1
+
+  not_both : (f s : Bool) → (f && s) ≡ false → f ≡ true → s ≡ true → ⊥
+  not_both f s none first second = let h : true ≡ false = sym (and_from f s first second) ∙ none in cc
+
+  passes_where_both : (f s : Bool) → f ≡ feasible_alone p (joined (of_vehicle routes a) ca (of_vehicle routes b) cb) → s ≡ feasible_alone p (joined (of_vehicle routes b) cb (of_vehicle routes a) ca)
+      → passes p pins (with_ends_exchanged routes a ca b cb) ≡ (f && s)
+  passes_where_both f s e g = elim (cases_Bool (f && s)) [
+    | inl both ↦ (
+        let t = and_parts f s both in
+        crossed_passes local p pins routes good a ca b cb differ of_a.0 of_a.1 of_b.0 of_b.1 of_a.2 of_b.2
+        ((says p (joined (of_vehicle routes a) ca (of_vehicle routes b) cb)).0 (sym e ∙ t.0))
+        ((says p (joined (of_vehicle routes b) cb (of_vehicle routes a) ca)).0 (sym g ∙ t.1)) ∙ sym both)
+    | inr none ↦ elim (cases_Bool (passes p pins (with_ends_exchanged routes a ca b cb))) [
+      | inr fails ↦ fails ∙ sym none
+      | inl passed ↦ absurd (not_both f s none
+          (e ∙ (says p (joined (of_vehicle routes a) ca (of_vehicle routes b) cb)).1 (first_feasible local p pins routes good a ca b cb differ of_a.0 of_a.1 of_b.0 of_b.1 passed))
+          (g ∙ (says p (joined (of_vehicle routes b) cb (of_vehicle routes a) ca)).1 (second_feasible local p pins routes good a ca b cb differ of_a.0 of_a.1 of_b.0 of_b.1 passed)))
+    ]
+  ]
+
+  pub crossed_is : (f s : Bool) → f ≡ feasible_alone p (joined (of_vehicle routes a) ca (of_vehicle routes b) cb) → s ≡ feasible_alone p (joined (of_vehicle routes b) cb (of_vehicle routes a) ca)
+      → crossed p pins routes a ca b cb ≡ cond (f && s) (Some (with_ends_exchanged routes a ca b cb)) None
+  crossed_is f s e g = rw (apart, a_cut, b_cut, passes_where_both f s e g) refl
+
+-- the same of what the code has: its lists and its answers
+module _ (local : PassesAreLocal) (says : TestsSayFeasible) (p : Instance) (pins routes : List (List ℕ)) (good : passes p pins routes ≡ true) (a ca b cb : ℕ) (apart : a ≡ b → ⊥)
+    (kept given : List (List ℕ)) (is_pins : kept ≡ pins) (is_routes : given ≡ routes) (a_cut : true ≡ is_cut kept given a ca) (b_cut : true ≡ is_cut kept given b cb)
+    (first second a_front b_back b_front a_back : List ℕ) (is_first : first ≡ joined a_front ca b_back cb) (is_second : second ≡ joined b_front cb a_back ca)
+    (is_a_front : a_front ≡ of_vehicle given a) (is_b_back : b_back ≡ of_vehicle given b) (is_b_front : b_front ≡ of_vehicle given b) (is_a_back : a_back ≡ of_vehicle given a) where
+  two : eqb a b ≡ false
+  two = elim (eqb_tells a b) [ inl t ↦ absurd (apart t.1) | inr t ↦ t.0 ]
+
+  cut_at : (v c : ℕ) → true ≡ is_cut kept given v c → is_cut pins routes v c ≡ true
+  cut_at v c t = ap (λ k. is_cut k routes v c) (sym is_pins) ∙ (ap (λ g. is_cut kept g v c) (sym is_routes) ∙ sym t)
+
+  joined_same : (x y : List ℕ) (v c w d : ℕ) → x ≡ of_vehicle given v → y ≡ of_vehicle given w → joined x c y d ≡ joined (of_vehicle routes v) c (of_vehicle routes w) d
+  joined_same x y v c w d e f =
+      ap (λ l. joined l c y d) (e ∙ ap (λ g. of_vehicle g v) is_routes) ∙ ap (λ l. joined (of_vehicle routes v) c l d) (f ∙ ap (λ g. of_vehicle g w) is_routes)
+
+  first_is : first ≡ joined (of_vehicle routes a) ca (of_vehicle routes b) cb
+  first_is = is_first ∙ joined_same a_front b_back a ca b cb is_a_front is_b_back
+
+  second_is : second ≡ joined (of_vehicle routes b) cb (of_vehicle routes a) ca
+  second_is = is_second ∙ joined_same b_front a_back b cb a ca is_b_front is_a_back
+
+  pub first_asked : AreLiveOnce p first
+  first_asked = subst (AreLiveOnce p) (sym first_is) (first_route_once local says p pins routes good a ca b cb two (cut_at a ca a_cut) (cut_at b cb b_cut))
+
+  pub second_asked : AreLiveOnce p second
+  second_asked = subst (AreLiveOnce p) (sym second_is) (second_route_once local says p pins routes good a ca b cb two (cut_at a ca a_cut) (cut_at b cb b_cut))
+
+  pub crossed_answer : (f s : Bool) → f ≡ feasible_alone p first → s ≡ feasible_alone p second → cond (f && s) (Some (with_route (with_route routes a first) b second)) None ≡ crossed p pins routes a ca b cb
+  crossed_answer f s e g =
+      ap (λ l. cond (f && s) (Some (with_route (with_route routes a l) b second)) None) first_is
+      ∙ (ap (λ l. cond (f && s) (Some (with_route (with_route routes a (joined (of_vehicle routes a) ca (of_vehicle routes b) cb)) b l)) None) second_is
+      ∙ sym (crossed_is local says p pins routes good a ca b cb two (cut_at a ca a_cut) (cut_at b cb b_cut) f s (e ∙ ap (feasible_alone p) first_is) (g ∙ ap (feasible_alone p) second_is)))

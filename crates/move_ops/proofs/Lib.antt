@@ -1,0 +1,6 @@
+pub mod Best
+pub mod Crossing
+pub mod Inserting
+pub mod Places
+pub mod Replacing
+pub mod Times

@@ -1,0 +1,6 @@
+use Rattle.move_ops.proofs.Best.{best_is_least}
+use Rattle.move_ops.proofs.laws.best_insertions_are_least.Goals as goal
+
+pub returns : goal.returns
+returns c =
+    best_is_least c.costs_are_in_order.ensures.total c.costs_are_in_order.ensures.transitive c.costs_are_in_order.ensures.below_then_at_most c.costs_are_in_order.ensures.at_most_then_below c.costs_are_in_order.ensures.below_is_at_most

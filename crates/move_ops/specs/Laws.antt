@@ -1,0 +1,21 @@
+-- What the best insertion is, for every problem and plan.
+use Rattle.std.specs.Prelude.{◌≡◌, ◌↔◌, ℕ, true, List, [], Some, IsSome}
+use Rattle.std.specs.List.{Contains}
+use Rattle.std.specs.Option.{MatchOption}
+use Rattle.plan_types.specs.Instance.{Instance}
+use Rattle.plan_types.specs.declared.requests.Request.{Request}
+use Rattle.move_ops.specs.Insertion.{Place, request_named, insertions, insertions_of, is_no_worse, best_insertion, put_in}
+
+-- it is an insertion, and no worse than any: by cost, vehicle, pickup and delivery
+pub record IsBest (p : Instance) (pins routes : List (List ℕ)) (r : Request) (x : Place) : Type 0 where
+  pub among : Contains (insertions_of p pins routes r) x
+  pub least : (y : Place) → Contains (insertions_of p pins routes r) y → is_no_worse p routes r x y ≡ true
+
+-- law: there is none exactly where the request has no insertion
+abbrev pub BestInsertionsAreLeast : Type 0
+BestInsertionsAreLeast = (p : Instance) (pins routes : List (List ℕ)) (name : ℕ) (r : Request) → request_named p name ≡ Some r
+    → MatchOption (best_insertion p pins routes name) (insertions p pins routes name ≡ []) (IsBest p pins routes r)
+
+-- law: the list of the insertions holds those that can be put in, and no others
+abbrev pub InsertionsCanBePutIn : Type 0
+InsertionsCanBePutIn = (p : Instance) (pins routes : List (List ℕ)) (name : ℕ) (x : Place) → Contains (insertions p pins routes name) x ↔ IsSome (put_in p pins routes name x)

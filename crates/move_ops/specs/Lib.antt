@@ -1,0 +1,4 @@
+-- what public contracts say
+pub mod Insertion
+pub mod Laws
+pub mod Moves

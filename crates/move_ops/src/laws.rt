@@ -1,0 +1,17 @@
+//! What the best insertion is.
+ghost use Rattle.move_ops.specs.Laws.{BestInsertionsAreLeast, InsertionsCanBePutIn};
+
+use plan_types::costs_are_in_order;
+
+/// The best insertion of a request is one of its insertions, and no other costs less, or as much at an earlier vehicle, pickup place or
+/// delivery place. There is none exactly where the request has no insertion.
+pub fn best_insertions_are_least()
+    ensures { BestInsertionsAreLeast }
+{
+    costs_are_in_order();
+}
+
+/// The insertions of a request are the places at which it can be put in, so that the result passes, and no others.
+pub fn insertions_can_be_put_in()
+    ensures { InsertionsCanBePutIn }
+{}

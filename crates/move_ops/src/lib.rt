@@ -1,0 +1,14 @@
+//! Moves from plan to plan, each of which gives a plan that passes, or none; and where a request is put in best.
+#![tactic(auto)]
+
+mod cross;
+mod insert;
+mod laws;
+mod lists;
+
+pub use cross::two_opt_star;
+pub use insert::insert_at;
+pub use laws::{best_insertions_are_least, insertions_can_be_put_in};
+
+#[cfg(test)]
+mod tests;

@@ -1,0 +1,260 @@
+-- Stops put into a route: what the code finds is by how much the new route is longer, where it keeps its limits.
+use Rattle.std.proofs.Common.{◌≡◌, ◌≢◌, ℕ, zero, suc, ◌+◌, ◌-◌, ◌<◌, ◌≤◌, ◌⊎◌, Bool, true, false, eqb, cond, ℤ, pos, ◌+ℤ◌, ◌≤ℤ◌, List, [], ◌∷◌, map, drop, get_or, length, Option, Some, None, refl, sym, ap, ◌∙◌, arith, add-one, subst, inl, inr}
+use Rattle.std.specs.Prelude.{IsSome, MatchOption, nat_eq, slice_range}
+use Rattle.std.specs.List.{AllByRecursion, insert}
+use Rattle.std.specs.Map.{lookup}
+use Rattle.std.proofs.Math.ListN.{length-map}
+use Rattle.std.proofs.lemmas.Bool.{cases_lt, ne_eqb, eq-eqb}
+use Rattle.std.proofs.lemmas.List.{get_or-map, get_or-take, get_or-drop, length-take, length-drop}
+use Rattle.std.proofs.lemmas.List.Edits.{get_or-insert_at, get_or-insert_below, get_or-insert_above, length-insert}
+use Rattle.plan_types.specs.Limits.{IsStop}
+use Rattle.plan_types.specs.Request.{IsRequest, stop_in}
+use Rattle.plan_types.specs.Instance.{Instance, IsInstance, stop_at}
+use Rattle.plan_types.specs.Laws.{NamedAreFound}
+use Rattle.plan_types.specs.declared.requests.Stop.{Stop}
+use Rattle.plan_types.specs.declared.requests.Request.{Request}
+use Rattle.plan_types.specs.declared.requests.Request.TheVariants.{Single, Pair}
+use Rattle.route_sched.specs.Route.{place, stop_numbered}
+use Rattle.route_sched.specs.Schedule.{route_length}
+use Rattle.slack_tables.specs.Course.{Course, route_of, IsCourseIn}
+use Rattle.slack_tables.specs.Along.{stop_on, load_along, length_along}
+use Rattle.slack_tables.specs.Driven.{stepped, walked, joined, with_between, with_pair, IsSmallPlace}
+use Rattle.slack_tables.specs.Inside.{IsInLimits, AreKnown}
+use Rattle.slack_tables.specs.Insertion.{request_named, inserted, ArePlaces, IsAdded}
+use Rattle.slack_tables.specs.Places.{IsAt, IsKnown}
+use Rattle.slack_tables.specs.declared.progress.Limits.{Limits}
+use Rattle.slack_tables.specs.declared.progress.Progress.{Progress}
+use Rattle.slack_tables.specs.declared.progress.Place.{Place}
+use Rattle.slack_tables.proofs.AlongLemmas.{same-start, same-load, same-length}
+use Rattle.slack_tables.proofs.CourseLemmas.{places-on, long-on, length-is, limits-to, limits-from}
+use Rattle.slack_tables.proofs.SpliceLemmas.{Keeps, EachKeeps, WalkIs, EndIs, walk-is, step-walk, walk-then, end-then, join-is}
+
+-- ---- by place
+abbrev pub limits_of : Course → Limits
+limits_of c = record { kind = c.kind; capacity = c.capacity }
+
+module _ (c : Course) (places : List Place) (table : AreKnown c places) (b : ℕ → Stop) where
+  last : ℕ
+  last = length c.stops + 1
+
+  pub IsEnd : ℕ → Option ℤ → Type 0
+  IsEnd l o = MatchOption o (IsInLimits c.kind c.capacity b l → ⊥) (λ added. IsInLimits c.kind c.capacity b l × (pos (length_along b l) ≡ pos (length_along (stop_on c) (length c.stops + 1)) +ℤ added))
+
+  each-from : (m l : ℕ) → IsInLimits c.kind c.capacity b l → EachKeeps (limits_of c) b m l
+  unfolding EachKeeps
+  each-from m l is = λ k h j. record { load = is.load k (omega arith) j; window = λ lilim. is.window lilim k (omega arith) j }
+
+  each-to : (l : ℕ) → EachKeeps (limits_of c) b 0 l → IsInLimits c.kind c.capacity b l
+  unfolding EachKeeps
+  each-to l each = record { load = λ k h j. (each k h j).load; window = λ lilim k h j. (each k h j).window lilim }
+
+  module _ (m : ℕ) (front : (k : ℕ) → k ≤ m → b k ≡ stop_on c k) (within : m ≤ length c.stops) where
+    -- the front is driven as before
+    front-at : (d : Place) → IsAt b m (get_or places m d).at
+    front-at d =
+        let long = table.long in
+        let is = (table.known m d (omega arith)).at in
+        record {
+          stop = is.stop ∙ sym (front m (omega arith));
+          start = is.start ∙ sym (same-start (stop_on c) b m front m (omega arith));
+          load = is.load ∙ sym (same-load (stop_on c) b m front m (omega arith));
+          distance = is.distance ∙ sym (same-length (stop_on c) b m front m (omega arith));
+        }
+
+    front-keeps : EachKeeps (limits_of c) b 0 m
+    unfolding EachKeeps
+    front-keeps = λ k h j.
+        let load : load_along (stop_on c) k ≤ℤ pos c.capacity = table.limits.load k h (omega arith) in
+        record {
+          load = subst (λ x. x ≤ℤ pos c.capacity) (sym (same-load (stop_on c) b m front k j)) load;
+          window = λ lilim. (let le = table.limits.window lilim k h (omega arith) in rw (same-start (stop_on c) b m front k j, front k j) le);
+        }
+
+    whole : (l : ℕ) (o : Option ℤ) → EndIs (limits_of c) b m l (length_along (stop_on c) (length c.stops + 1)) o → IsEnd l o
+    unfolding IsEnd EndIs EachKeeps
+    whole l None never = λ is. never (each-from m l is)
+    whole l (Some added) is = (each-to l (λ k h j. split k h j (cases_lt m k)), is.1)
+      where
+        split : (k : ℕ) → 0 < k → k ≤ l → (m < k) ⊎ (k ≤ m) → Keeps (limits_of c) b k
+        split k h j (inl after) = is.0 k after j
+        split k h j (inr before) = front-keeps k h before
+
+  -- place n of the table and all behind it, behind place m of the new route
+  rest-is : (m n l : ℕ) (d : Place) (at : Progress) → n ≤ length c.stops + 1 → l ≡ m + 1 + (length c.stops + 1 - n) → ((k : ℕ) → b (m + 1 + k) ≡ stop_on c (n + k)) → IsAt b m at → EndIs (limits_of c) b m l (length_along (stop_on c) (length c.stops + 1)) (joined (limits_of c) at (get_or places n d))
+  unfolding EndIs EachKeeps
+  rest-is m n l d at h end same is =
+      let long = table.long in
+      let rest = length c.stops + 1 - n in
+      let total : n + rest ≡ length c.stops + 1 = omega arith in
+      let known : IsKnown c.kind (stop_on c) (n + rest) n (get_or places n d) = subst (λ q. IsKnown c.kind (stop_on c) q n (get_or places n d)) (sym total) (table.known n d (omega arith)) in
+      let small : IsSmallPlace (get_or places n d) = table.small n d (omega arith) in
+      let due = small.at.visit.latest in
+      let late : (get_or places n d).at.stop.latest ≡ (stop_on c n).latest = ap (λ s. s.latest) (known.at.stop) in
+      let is_end = join-is (limits_of c) (stop_on c) b n (m + 1) rest same (get_or places n d) known (omega arith) m at refl is in
+      subst (λ q. EndIs (limits_of c) b m l (length_along (stop_on c) q) (joined (limits_of c) at (get_or places n d))) total
+      (subst (λ q. EndIs (limits_of c) b m q (length_along (stop_on c) (n + rest)) (joined (limits_of c) at (get_or places n d))) (sym end) is_end)
+
+  pub single-is : (i : ℕ) (s : Stop) (d : Place) → 1 ≤ i → i ≤ length c.stops + 1 → ((k : ℕ) → k ≤ i - 1 → b k ≡ stop_on c k) → b i ≡ s → ((k : ℕ) → b (i + 1 + k) ≡ stop_on c (i + k)) → IsEnd (length c.stops + 2) (with_between (limits_of c) places (i - 1) (s ∷ []) i d)
+  single-is i s d one most front here behind =
+      let next : i - 1 + 1 ≡ i = omega arith in
+      let step : WalkIs (limits_of c) b (i - 1) i (walked (limits_of c) (get_or places (i - 1) d).at (s ∷ [])) =
+      walk-is (limits_of c) b (s ∷ []) (i - 1) i _ (omega (arith, one_long s)) (front-at (i - 1) front (omega arith) d) on in
+      whole (i - 1) front (omega arith) (length c.stops + 2) _
+      (end-then (limits_of c) b (i - 1) i (length c.stops + 2) _ _ (λ at. joined (limits_of c) at (get_or places i d)) (omega arith) (omega arith) step
+      (λ at is. rest-is i i (length c.stops + 2) d at most (omega arith) behind is))
+    where
+      one_long : (s : Stop) → length (s ∷ []) ≡ 1
+      one_long s = omega arith
+
+      on : (k : ℕ) (e : Stop) → k < length (s ∷ []) → b (i - 1 + 1 + k) ≡ get_or (s ∷ []) k e
+      on zero e h = let at : i - 1 + 1 + 0 ≡ i = omega arith in ap b at ∙ here
+      on (suc k) e h = absurd (omega arith)
+
+  stops_between : ℕ → ℕ → List Stop
+  stops_between i j = map (λ (e : Place). e.at.stop) (slice_range places i (j - 1))
+
+  long_between : (i j : ℕ) → 1 ≤ i → i < j → j ≤ length c.stops + 2 → length (stops_between i j) + i ≡ j - 1
+  unfolding stops_between
+  long_between i j one order most = let long = table.long in omega (arith, length-map (slice_range places i (j - 1)) (λ (e : Place). e.at.stop), length-take (j - 1 - i) (drop i places), length-drop i places)
+
+  on_between : (i j k : ℕ) (d : Place) (e : Stop) → 1 ≤ i → i < j → j ≤ length c.stops + 2 → k < length (stops_between i j) → ((k : ℕ) → i + 1 + k < j → b (i + 1 + k) ≡ stop_on c (i + k)) → b (i + 1 + k) ≡ get_or (stops_between i j) k e
+  unfolding stops_between
+  on_between i j k d e one order most h middle =
+      let long = table.long in
+      let few = long_between i j one order most in
+      let count = length-map (slice_range places i (j - 1)) (λ (e : Place). e.at.stop) in
+      let read : get_or (map (λ (e : Place). e.at.stop) (slice_range places i (j - 1))) k e ≡ (get_or (slice_range places i (j - 1)) k d).at.stop = get_or-map (λ (e : Place). e.at.stop) (slice_range places i (j - 1)) k d e (omega arith) in
+      let there : get_or (slice_range places i (j - 1)) k d ≡ get_or places (i + k) d = get_or-take (j - 1 - i) (drop i places) k d (omega arith) ∙ get_or-drop i places k d in
+      middle k (omega arith) ∙ sym (read ∙ (ap (λ (e : Place). e.at.stop) there ∙ (table.known (i + k) d (omega arith)).at.stop))
+
+  pub pair-is : (i j : ℕ) (p q : Stop) (d : Place) → 1 ≤ i → i < j → j ≤ length c.stops + 2 → ((k : ℕ) → k ≤ i - 1 → b k ≡ stop_on c k) → b i ≡ p → ((k : ℕ) → i + 1 + k < j → b (i + 1 + k) ≡ stop_on c (i + k)) → b j ≡ q → ((k : ℕ) → b (j + 1 + k) ≡ stop_on c (j - 1 + k)) → IsEnd (length c.stops + 3) (with_pair (limits_of c) places p q i j d)
+  unfolding stops_between
+  pair-is i j p q d one order most front first middle second behind =
+      let next : i - 1 + 1 ≡ i = omega arith in
+      let last_one : j - 1 + 1 ≡ j = omega arith in
+      let start = front-at (i - 1) front (omega arith) d in
+      let pickup : WalkIs (limits_of c) b (i - 1) i (stepped (limits_of c) (get_or places (i - 1) d).at p) =
+      subst (λ k. WalkIs (limits_of c) b (i - 1) k (stepped (limits_of c) (get_or places (i - 1) d).at p)) next (step-walk (limits_of c) b (i - 1) _ p start (sym (ap b next ∙ first))) in
+      let between = walk-then (limits_of c) b (i - 1) i (j - 1) _ (λ at. walked (limits_of c) at (stops_between i j)) (omega arith) (omega arith) pickup
+      (λ at is. walk-is (limits_of c) b (stops_between i j) i (j - 1) at (omega (arith, long_between i j one order most)) is (λ k e h. on_between i j k d e one order most h middle)) in
+      let delivery = walk-then (limits_of c) b (i - 1) (j - 1) j _ (λ at. stepped (limits_of c) at q) (omega arith) (omega arith) between
+      (λ at is. subst (λ k. WalkIs (limits_of c) b (j - 1) k (stepped (limits_of c) at q)) last_one (step-walk (limits_of c) b (j - 1) at q is (sym (ap b last_one ∙ second)))) in
+      whole (i - 1) front (omega arith) (length c.stops + 3) _
+      (end-then (limits_of c) b (i - 1) j (length c.stops + 3) _ _ (λ at. joined (limits_of c) at (get_or places (j - 1) d)) (omega arith) (omega arith) delivery
+      (λ at is. rest-is j (j - 1) (length c.stops + 3) d at (omega arith) (omega arith) behind is))
+
+-- ---- by numbers
+insert-before : (p : Instance) (route : List ℕ) (m x k : ℕ) → m ≤ length route → k ≤ m → place p (insert route m x) k ≡ place p route k
+unfolding place
+insert-before p route m x zero within h = refl
+insert-before p route m x (suc k) within h = ap (stop_numbered p) (get_or-insert_below route m x 0 k (omega arith) within)
+
+insert-at : (p : Instance) (route : List ℕ) (m x : ℕ) → m ≤ length route → place p (insert route m x) (m + 1) ≡ stop_numbered p x
+unfolding place
+insert-at p route m x within = rw (add-one m) (ap (stop_numbered p) (get_or-insert_at route m x 0 within))
+
+insert-behind : (p : Instance) (route : List ℕ) (m x k : ℕ) → m ≤ length route → m ≤ k → place p (insert route m x) (k + 1 + 1) ≡ place p route (k + 1)
+unfolding place
+insert-behind p route m x k within h = rw (add-one (k + 1), add-one k) (ap (stop_numbered p) (subst (λ i. get_or (insert route m x) i 0 ≡ get_or route k 0) (add-one k) (get_or-insert_above route m x 0 k h within)))
+
+-- the stop of a live request under its number
+numbered-is : (p : Instance) (s : Stop) → IsStop s → stop_at p s.number ≡ Some s → stop_numbered p s.number ≡ s
+numbered-is p s valid found =
+    let positive : eqb s.number 0 ≡ false = ne_eqb s.number 0 (λ e. let one = valid.from_one in omega arith) in
+    rw (positive, found) refl
+
+valid-among : (name : ℕ) (es : List (ℕ × Request)) (r : Request) → AllByRecursion (λ e. IsRequest e.1) es → lookup (nat_eq name) es ≡ Some r → IsRequest r
+valid-among name [] r valid is = absurd (cc)
+valid-among name (e ∷ es) r valid is = by (eqb name e.0) refl (λ found. valid-among name es r valid.1 found)
+  where
+    by : (t : Bool) → eqb name e.0 ≡ t → (lookup (nat_eq name) es ≡ Some r → IsRequest r) → IsRequest r
+    by true h later = let same : Some e.1 ≡ Some r = subst (λ t. cond t (Some e.1) (lookup (nat_eq name) es) ≡ Some r) h is in let one : e.1 ≡ r = cc in subst IsRequest one valid.0
+    by false h later = later (subst (λ t. cond t (Some e.1) (lookup (nat_eq name) es) ≡ Some r) h is)
+
+pub request-valid : (p : Instance) (name : ℕ) (r : Request) → IsInstance p → request_named p name ≡ Some r → IsRequest r
+request-valid p name r valid is = valid-among name p.requests r valid.valid is
+
+single-found : (s : Stop) → stop_in s.number (Single s) ≡ Some s
+single-found s = rw (eq-eqb s.number s.number refl) refl
+
+pickup-found : (p d : Stop) → stop_in p.number (Pair p d) ≡ Some p
+pickup-found p d = rw (eq-eqb p.number p.number refl) refl
+
+delivery-found : (p d : Stop) → p.number ≢ d.number → stop_in d.number (Pair p d) ≡ Some d
+delivery-found p d apart = rw (ne_eqb p.number d.number apart, eq-eqb d.number d.number refl) refl
+
+-- a stop that the request has stands in the problem under its number
+stands : (p : Instance) (name : ℕ) (r : Request) (s : Stop) → NamedAreFound → IsInstance p → request_named p name ≡ Some r → IsStop s → stop_in s.number r ≡ Some s → stop_numbered p s.number ≡ s
+stands p name r s law valid named stop own =
+    numbered-is p s stop ((law p s.number name r valid named (subst (λ o. IsSome o) (sym own) refl)).stop ∙ own)
+
+-- ---- what try_insert answers
+module _ (p : Instance) (c : Course) (places : List Place) (table : AreKnown c places) (valid : IsInstance p) (is : IsCourseIn p c) where
+  on_course : place p (route_of c) ≡ stop_on c
+  on_course = places-on p (route_of c) c is
+
+  at-course : (k : ℕ) → place p (route_of c) k ≡ stop_on c k
+  at-course k = ap (λ f. f k) on_course
+
+  long : length c.stops ≡ length (route_of c)
+  long = long-on p (route_of c) c is
+
+  same_kind : p.kind ≡ c.kind
+  same_kind = ap (λ q. q.kind) is
+
+  same_capacity : p.capacity ≡ c.capacity
+  same_capacity = ap (λ q. q.capacity) is
+
+  added-is : (new : List ℕ) (l : ℕ) (o : Option ℤ) → l ≡ length new + 1 → IsEnd c places table (place p new) l o → IsAdded p (route_of c) new o
+  unfolding IsEnd
+  added-is new l None end never = λ keeps. never (subst (λ l. IsInLimits c.kind c.capacity (place p new) l) (sym end) (subst (λ q. IsInLimits c.kind q (place p new) (length new + 1)) same_capacity (subst (λ q. IsInLimits q p.capacity (place p new) (length new + 1)) same_kind (limits-to p new valid.depot.demand keeps))))
+  added-is new l (Some added) end found =
+      let keeps : IsInLimits c.kind c.capacity (place p new) (length new + 1) = subst (λ l. IsInLimits c.kind c.capacity (place p new) l) end found.0 in
+      let by_capacity : IsInLimits c.kind p.capacity (place p new) (length new + 1) = subst (λ q. IsInLimits c.kind q (place p new) (length new + 1)) (sym same_capacity) keeps in
+      let by_kind : IsInLimits p.kind p.capacity (place p new) (length new + 1) = subst (λ q. IsInLimits q p.capacity (place p new) (length new + 1)) (sym same_kind) by_capacity in
+      let far : length_along (place p new) l ≡ route_length p new = ap (length_along (place p new)) end ∙ sym (length-is p new) in
+      let near : length_along (stop_on c) (length c.stops + 1) ≡ route_length p (route_of c) = ap (λ f. length_along f (length c.stops + 1)) (sym on_course) ∙ (ap (λ n. length_along (place p (route_of c)) (n + 1)) long ∙ sym (length-is p (route_of c))) in
+      (limits-from p new by_kind, ap pos (sym far) ∙ (found.1 ∙ ap (λ n. pos n +ℤ added) near))
+
+  pub single-added : (law : NamedAreFound) (name i j : ℕ) (s : Stop) (d : Place) (o : Option ℤ) → request_named p name ≡ Some (Single s) → ArePlaces (Single s) (length (route_of c)) i j → o ≡ with_between (limits_of c) places (i - 1) (s ∷ []) i d → IsAdded p (route_of c) (inserted (Single s) i j (route_of c)) o
+  single-added law name i j s d o named are made =
+      let stop = request-valid p name (Single s) valid named in
+      let own : stop_numbered p s.number ≡ s = stands p name (Single s) s law valid named stop.0 (single-found s) in
+      let new = insert (route_of c) (i - 1) s.number in
+      let one = are.0 in
+      let most = are.1 in
+      let fits : i - 1 ≤ length (route_of c) = omega arith in
+      let end = single-is c places table (place p new) i s d one (omega (arith, long))
+      (λ k h. insert-before p (route_of c) (i - 1) s.number k fits h ∙ at-course k)
+      (let at : i - 1 + 1 ≡ i = omega arith in ap (place p new) (sym at) ∙ (insert-at p (route_of c) (i - 1) s.number fits ∙ own))
+      (λ k. (let here : i + 1 + k ≡ (i - 1 + k) + 1 + 1 = omega arith in let there : (i - 1 + k) + 1 ≡ i + k = omega arith in
+      ap (place p new) here ∙ (insert-behind p (route_of c) (i - 1) s.number (i - 1 + k) fits (omega arith) ∙ (ap (place p (route_of c)) there ∙ at-course (i + k))))) in
+      added-is new (length c.stops + 2) o (omega (arith, long, length-insert (route_of c) (i - 1) s.number fits))
+      (subst (IsEnd c places table (place p new) (length c.stops + 2)) (sym made) end)
+
+  pub pair-added : (law : NamedAreFound) (name i j : ℕ) (s t : Stop) (d : Place) (o : Option ℤ) → request_named p name ≡ Some (Pair s t) → ArePlaces (Pair s t) (length (route_of c)) i j → o ≡ with_pair (limits_of c) places s t i j d → IsAdded p (route_of c) (inserted (Pair s t) i j (route_of c)) o
+  pair-added law name i j s t d o named are made =
+      let request = request-valid p name (Pair s t) valid named in
+      let pickup : stop_numbered p s.number ≡ s = stands p name (Pair s t) s law valid named request.0 (pickup-found s t) in
+      let delivery : stop_numbered p t.number ≡ t = stands p name (Pair s t) t law valid named request.1 (delivery-found s t request.2) in
+      let inner = insert (route_of c) (i - 1) s.number in
+      let new = insert (insert (route_of c) (i - 1) s.number) (j - 1) t.number in
+      let one = are.0 in
+      let order = are.1 in
+      let most = are.2 in
+      let fits : i - 1 ≤ length (route_of c) = omega arith in
+      let longer : length (insert (route_of c) (i - 1) s.number) ≡ length (route_of c) + 1 = length-insert (route_of c) (i - 1) s.number fits in
+      let fits_inner : j - 1 ≤ length (insert (route_of c) (i - 1) s.number) = omega arith in
+      let end = pair-is c places table (place p new) i j s t d one order (omega (arith, long))
+      (λ k h. insert-before p inner (j - 1) t.number k fits_inner (omega arith) ∙ (insert-before p (route_of c) (i - 1) s.number k fits h ∙ at-course k))
+      (let at : i - 1 + 1 ≡ i = omega arith in
+      insert-before p inner (j - 1) t.number i fits_inner (omega arith) ∙ (ap (place p inner) (sym at) ∙ (insert-at p (route_of c) (i - 1) s.number fits ∙ pickup)))
+      (λ k h. (let here : i + 1 + k ≡ (i - 1 + k) + 1 + 1 = omega arith in let there : (i - 1 + k) + 1 ≡ i + k = omega arith in
+      insert-before p inner (j - 1) t.number (i + 1 + k) fits_inner (omega arith) ∙
+      (ap (place p inner) here ∙ (insert-behind p (route_of c) (i - 1) s.number (i - 1 + k) fits (omega arith) ∙ (ap (place p (route_of c)) there ∙ at-course (i + k))))))
+      (let at : j - 1 + 1 ≡ j = omega arith in ap (place p new) (sym at) ∙ (insert-at p inner (j - 1) t.number fits_inner ∙ delivery))
+      (λ k. (let here : j + 1 + k ≡ (j - 1 + k) + 1 + 1 = omega arith in let there : (j - 1 + k) + 1 ≡ (j - 2 + k) + 1 + 1 = omega arith in let last_one : (j - 2 + k) + 1 ≡ j - 1 + k = omega arith in
+      ap (place p new) here ∙ (insert-behind p inner (j - 1) t.number (j - 1 + k) fits_inner (omega arith) ∙
+      (ap (place p inner) there ∙ (insert-behind p (route_of c) (i - 1) s.number (j - 2 + k) fits (omega arith) ∙ (ap (place p (route_of c)) last_one ∙ at-course (j - 1 + k))))))) in
+      added-is new (length c.stops + 3) o (omega (arith, long, longer, length-insert inner (j - 1) t.number fits_inner))
+      (subst (IsEnd c places table (place p new) (length c.stops + 3)) (sym made) end)

@@ -1,0 +1,10 @@
+pub mod AlongLemmas
+pub mod CourseLemmas
+pub mod FillLemmas
+pub mod InsertLemmas
+pub mod KnownLemmas
+pub mod LatestLemmas
+pub mod OpenLemmas
+pub mod ReadLemmas
+pub mod SpliceLemmas
+pub mod TableLemmas

@@ -1,0 +1,113 @@
+-- The places of a route, one after another on the way forward.
+use Rattle.std.proofs.Common.{◌≡◌, ℕ, ◌+◌, ◌^◌, ◌<◌, ◌≤◌, ◌⊎◌, true, false, eqb, List, [], ◌∷◌, ◌++◌, get_or, length, Some, refl, sym, ap, ◌∙◌, arith, add-one, subst, inl, inr, length-append}
+use Rattle.std.specs.List.{Any}
+use Rattle.std.proofs.lemmas.Bool.{cases_lt, ne_eqb, eqb-true}
+use Rattle.std.proofs.Math.ListN.{get_or-append}
+use Rattle.std.proofs.lemmas.List.{get_or_past, get_or_push}
+use Rattle.std.proofs.lemmas.List.Folds.{Any-from_list_any}
+use Rattle.std.proofs.lemmas.Map.Steps.{length-le_from_distinct_below}
+use Rattle.plan_types.specs.Limits.{IsStop, IsVisit}
+use Rattle.plan_types.specs.Instance.{Instance, IsInstance, stop_at}
+use Rattle.plan_types.specs.Laws.{StopsAreBelowNext}
+use Rattle.plan_types.specs.declared.requests.Stop.{Stop}
+use Rattle.route_sched.specs.Route.{AreLiveOnce, IsLive, place}
+use Rattle.slack_tables.specs.Driven.{driven_on, IsNear, IsSmall}
+use Rattle.slack_tables.specs.Places.{IsAt}
+use Rattle.slack_tables.specs.Opened.{leaving, open_place, IsWithin, IsOpen, AreOpen}
+use Rattle.slack_tables.specs.declared.progress.Progress.{Progress}
+use Rattle.slack_tables.specs.declared.progress.Place.{Place}
+use Rattle.slack_tables.proofs.AlongLemmas.{start-first, load-first, length-first}
+use Rattle.slack_tables.proofs.SpliceLemmas.{at-next}
+
+-- live stops, each once, are at most as many as there are numbers
+pub few_stops : (p : Instance) (numbers : List ℕ) → StopsAreBelowNext → IsInstance p → AreLiveOnce p numbers → length numbers ≤ 40001
+few_stops p numbers below valid once =
+    length-le_from_distinct_below numbers 40001 once.distinct (λ q there. by q (Any-from_list_any (eqb q) numbers there))
+  where
+    by : (q : ℕ) → Any (λ x. eqb q x ≡ true) numbers → q < 40001
+    by q any = let most = valid.next_to_most in let live : IsLive p q = rw (eqb-true q any.1 any.4, ← any.3) (once.live any.0 any.1 any.2) in let less = below p q valid live in omega arith
+
+-- ---- the stop at a place
+pub place-return : (p : Instance) (route : List ℕ) (k : ℕ) → length route ≤ k → place p route (k + 1) ≡ p.depot
+unfolding place
+place-return p route k h =
+    let none : get_or route k 0 ≡ 0 = get_or_past route k 0 h in rw (add-one k, none) refl
+
+pub place-stop : (p : Instance) (route : List ℕ) (k n : ℕ) (s : Stop) → n ≡ get_or route k 0 → stop_at p n ≡ Some s → s.number ≡ n → IsStop s → place p route (k + 1) ≡ s
+unfolding place
+place-stop p route k n s at found is valid =
+    let here : get_or route k 0 ≡ n = sym at in
+    let positive : eqb n 0 ≡ false = ne_eqb n 0 (λ e. let one = valid.from_one in omega arith) in
+    rw (add-one k, here, positive, found) refl
+
+-- ---- the first place, and one more
+pub at-first : (stops : ℕ → Stop) (depot : Stop) → stops 0 ≡ depot → IsAt stops 0 (leaving depot)
+at-first stops depot is = record {
+  stop = sym is;
+  start = ap (λ s. s.earliest) (sym is) ∙ sym (start-first stops);
+  load = sym (load-first stops);
+  distance = sym (length-first stops);
+}
+
+pub within-first : (depot : Stop) → IsVisit depot → IsWithin 0 (leaving depot)
+within-first depot visit = record { visit = visit; start = (let w = visit.window in let l = visit.latest in omega arith); load = omega arith; distance = omega arith }
+
+pub within-next : (k : ℕ) (a b : Progress) → IsWithin k a → IsNear a b 1 → IsWithin (k + 1) b
+within-next k a b is near = record {
+  visit = near.visit;
+  start = (let p = is.start in let q = near.start in omega arith);
+  load = (let p = is.load in let q = near.load in omega arith);
+  distance = (let p = is.distance in let q = near.distance in omega arith);
+}
+
+pub small-within : (k : ℕ) (a : Progress) → k ≤ 40003 → IsWithin k a → IsSmall (2 ^ 50) a
+small-within k a few is = record {
+  visit = is.visit;
+  start = (let p = is.start in omega arith);
+  load = (let p = is.load in omega arith);
+  distance = (let p = is.distance in omega arith);
+}
+
+open-is : (stops : ℕ → Stop) (k : ℕ) (a : Progress) → k ≤ 40003 → IsAt stops k a → IsWithin k a → IsOpen stops k (open_place a)
+open-is stops k a few at is =
+    let small = small-within k a few is in
+    record { at = at; latest_start = refl; most_load = refl; small = record { at = small; most_load = small.load } }
+
+pub open-more : (stops : ℕ → Stop) (places : List Place) (k : ℕ) (a : Progress) → AreOpen stops places → length places ≡ k → k ≤ 40003 → IsAt stops k a → IsWithin k a → AreOpen stops (places ++ open_place a ∷ [])
+open-more stops places k a opened long few at is = λ m d h. by m d (cases_lt m k) h
+  where
+    by : (m : ℕ) (d : Place) → (m < k) ⊎ (k ≤ m) → m < length (places ++ open_place a ∷ []) → IsOpen stops m (get_or (places ++ open_place a ∷ []) m d)
+    by m d (inl before) h = let lt : m < length places = omega arith in subst (IsOpen stops m) (sym (get_or-append places (open_place a ∷ []) d m lt)) (opened m d lt)
+    by m d (inr here) h =
+        let one = length-append places (open_place a ∷ []) in
+        let same : k ≡ m = omega arith in
+        let is_open : IsOpen stops m (open_place a) = subst (λ i. IsOpen stops i (open_place a)) same (open-is stops k a few at is) in
+        subst (IsOpen stops m) (sym (get_or_push places (open_place a) d m (long ∙ same))) is_open
+
+pub open-none : (stops : ℕ → Stop) → AreOpen stops []
+open-none stops = λ k d h. absurd (omega arith)
+
+-- ---- the same, of what the code has
+pub place-first : (p : Instance) (route : List ℕ) → place p route 0 ≡ p.depot
+unfolding place
+place-first p route = refl
+
+pub at-begin : (stops : ℕ → Stop) (depot : Stop) (a : Progress) → stops 0 ≡ depot → a ≡ leaving depot → IsAt stops 0 a
+at-begin stops depot a is made = subst (IsAt stops 0) (sym made) (at-first stops depot is)
+
+pub within-begin : (depot : Stop) (a : Progress) → IsVisit depot → a ≡ leaving depot → IsWithin 0 a
+within-begin depot a visit made = subst (IsWithin 0) (sym made) (within-first depot visit)
+
+pub opened-begin : (stops : ℕ → Stop) (places : List Place) → places ≡ [] → AreOpen stops places
+opened-begin stops places none = λ k d h. absurd (omega (arith, ap length none))
+
+pub opened-more : (stops : ℕ → Stop) (before places : List Place) (k : ℕ) (a : Progress) (e : Place) → AreOpen stops before → length before ≡ k → k ≤ 40003 → IsAt stops k a → IsWithin k a → e ≡ open_place a → places ≡ before ++ e ∷ [] → AreOpen stops places
+opened-more stops before places k a e opened long few at is made pushed =
+    let all : places ≡ before ++ open_place a ∷ [] = pushed ∙ ap (λ x. before ++ x ∷ []) made in
+    subst (λ xs. AreOpen stops xs) (sym all) (open-more stops before k a opened long few at is)
+
+pub longer : (before places : List Place) (k : ℕ) (e : Place) → length before ≡ k → places ≡ before ++ e ∷ [] → length places ≡ k + 1
+longer before places k e long pushed = omega (arith, ap length pushed, length-append before (e ∷ []))
+
+pub at-more : (stops : ℕ → Stop) (k : ℕ) (a b : Progress) (s : Stop) → IsAt stops k a → s ≡ stops (k + 1) → b ≡ driven_on a s → IsAt stops (k + 1) b
+at-more stops k a b s is next made = subst (IsAt stops (k + 1)) (sym made) (at-next stops k a s is next)

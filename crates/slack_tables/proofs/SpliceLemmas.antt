@@ -1,0 +1,289 @@
+-- A route that goes on from a place of another one: it keeps its limits where the stops between do and the place where they join
+-- is reached in time and with few goods.
+use Rattle.std.proofs.Common.{◌≡◌, ℕ, suc, ◌+◌, ◌-◌, ◌<◌, ◌≤◌, ◌⊎◌, Bool, true, false, cond, ◌&&◌, int_le, ℤ, pos, ◌+ℤ◌, ◌-ℤ◌, ◌≤ℤ◌, List, [], ◌∷◌, get_or, length, Option, Some, None, refl, sym, ap, ◌∙◌, arith, subst, inl, inr, T}
+use Rattle.std.specs.Prelude.{MatchOption}
+use Rattle.std.specs.Option.{option_and_then}
+use Rattle.std.proofs.lemmas.Bool.{cases_lt, leb-true, leb-false}
+use Rattle.std.proofs.lemmas.Int.{ints}
+use Rattle.plan_types.specs.declared.requests.Stop.{Stop}
+use Rattle.plan_types.specs.declared.requests.Kind.{Kind}
+use Rattle.plan_types.specs.declared.requests.Kind.TheVariants.{LiLim, Vrp}
+use Rattle.nint_dist.specs.Distance.{distance}
+use Rattle.slack_tables.specs.Along.{start_along, moved_along, load_along, length_along, GoesOnAlong}
+use Rattle.slack_tables.specs.Driven.{driven_on, is_in_time, keeps, stepped, walked, bears, joined}
+use Rattle.slack_tables.specs.Places.{IsAt, IsKnown}
+use Rattle.slack_tables.specs.declared.progress.Limits.{Limits}
+use Rattle.slack_tables.specs.declared.progress.Progress.{Progress}
+use Rattle.slack_tables.specs.declared.progress.Place.{Place}
+use Rattle.slack_tables.proofs.AlongLemmas.{start-next, load-next, length-next, spliced-start, spliced-load, spliced-length}
+
+-- ---- tests
+int_le-true : (x y : ℤ) → int_le x y ≡ true → x ≤ℤ y
+int_le-true x y h = record { le = subst T (sym h) tt }
+
+int_le-false : (x y : ℤ) → int_le x y ≡ false → x ≤ℤ y → ⊥
+int_le-false x y h le = subst T h (le.le)
+
+in_time-true : (kind : Kind) (t u : ℕ) → is_in_time kind t u ≡ true → kind ≡ LiLim → t ≤ u
+in_time-true LiLim t u h lilim = leb-true _ _ h
+in_time-true Vrp t u h lilim = absurd (cc)
+
+in_time-false : (kind : Kind) (t u : ℕ) → is_in_time kind t u ≡ false → (kind ≡ LiLim) × (u < t)
+in_time-false LiLim t u h = (refl, leb-false _ _ h)
+in_time-false Vrp t u h = absurd (cc)
+
+-- two tests, one after the other
+record Both (a b : Bool) : Type 0 where
+  first : a ≡ true
+  second : b ≡ true
+
+and-true : (a b : Bool) → (a && b) ≡ true → Both a b
+and-true true b h = record { first = refl; second = h }
+and-true false b h = absurd (cc)
+
+and-false : (a b : Bool) → (a && b) ≡ false → (a ≡ false) ⊎ (b ≡ false)
+and-false true b h = inr h
+and-false false b h = inl refl
+
+-- ---- a stop further
+pub at-next : (stops : ℕ → Stop) (k : ℕ) (a : Progress) (s : Stop) → IsAt stops k a → s ≡ stops (k + 1) → IsAt stops (k + 1) (driven_on a s)
+at-next stops k a s is next =
+    let way : distance a.stop s ≡ distance (stops k) (stops (k + 1)) = rw (is.stop, next) refl in
+    let service : a.stop.service ≡ (stops k).service = ap (λ x. x.service) (is.stop) in
+    let early : s.earliest ≡ (stops (k + 1)).earliest = ap (λ x. x.earliest) next in
+    let start = is.start in
+    let far = is.distance in
+    record {
+      stop = next;
+      start = omega (arith, start-next stops k);
+      load = rw (is.load, next) (sym (load-next stops k));
+      distance = omega (arith, length-next stops k);
+    }
+
+-- ---- a place that keeps the limits
+module _ (limits : Limits) (stops : ℕ → Stop) where
+  pub record Keeps (k : ℕ) : Type 0 where
+    pub load : load_along stops k ≤ℤ pos limits.capacity
+    pub window : limits.kind ≡ LiLim → start_along stops k ≤ (stops k).latest
+
+  keeps-true : (k : ℕ) (a : Progress) → IsAt stops k a → keeps limits a ≡ true → Keeps k
+  keeps-true k a is h =
+      let both = and-true _ _ h in
+      record {
+        load = subst (λ x. x ≤ℤ pos limits.capacity) (is.load) (int_le-true _ _ (both.first));
+        window = λ lilim. (let le : a.start ≤ a.stop.latest = in_time-true limits.kind _ _ (both.second) lilim in rw (← is.start, ← is.stop) le);
+      }
+
+  keeps-false : (k : ℕ) (a : Progress) → IsAt stops k a → keeps limits a ≡ false → Keeps k → ⊥
+  keeps-false k a is h keep = by (and-false _ _ h)
+    where
+      by : (int_le a.load (pos limits.capacity) ≡ false) ⊎ (is_in_time limits.kind a.start a.stop.latest ≡ false) → ⊥
+      by (inl over) = int_le-false _ _ over (subst (λ x. x ≤ℤ pos limits.capacity) (sym (is.load)) (keep.load))
+      by (inr late) =
+          let missed = in_time-false limits.kind _ _ late in
+          let reached : a.start ≤ a.stop.latest = rw (is.start, is.stop) (keep.window missed.0) in
+          let after = missed.1 in absurd (omega arith)
+
+  -- one stop more
+  unfoldable pub StepIs : ℕ → Option Progress → Type 0
+  StepIs k o = MatchOption o (Keeps k → ⊥) (λ a. IsAt stops k a × Keeps k)
+
+  step-is : (k : ℕ) (a : Progress) (s : Stop) → IsAt stops k a → s ≡ stops (k + 1) → StepIs (k + 1) (stepped limits a s)
+  unfolding StepIs
+  step-is k a s is next = by (keeps limits (driven_on a s)) refl
+    where
+      there : IsAt stops (k + 1) (driven_on a s)
+      there = at-next stops k a s is next
+
+      by : (b : Bool) → keeps limits (driven_on a s) ≡ b → MatchOption (cond b (Some (driven_on a s)) None) (Keeps (k + 1) → ⊥) (λ a. IsAt stops (k + 1) a × Keeps (k + 1))
+      by true h = (there, keeps-true (k + 1) _ there h)
+      by false h = keeps-false (k + 1) _ there h
+
+  -- each place behind place m, up to place n
+  unfoldable pub EachKeeps : ℕ → ℕ → Type 0
+  EachKeeps m n = (k : ℕ) → m < k → k ≤ n → Keeps k
+
+  unfoldable pub WalkIs : ℕ → ℕ → Option Progress → Type 0
+  WalkIs m n o = MatchOption o (EachKeeps m n → ⊥) (λ a. IsAt stops n a × EachKeeps m n)
+
+  pub walk-is : (ss : List Stop) (m n : ℕ) (a : Progress) → n ≡ m + length ss → IsAt stops m a → ((k : ℕ) (d : Stop) → k < length ss → stops (m + 1 + k) ≡ get_or ss k d) → WalkIs m n (walked limits a ss)
+  unfolding WalkIs EachKeeps StepIs
+  walk-is [] m n a long is on =
+      let end : m ≡ n = omega arith in
+      (subst (λ k. IsAt stops k a) end is, λ k h l. absurd (omega arith))
+  walk-is (s ∷ ss) m n a long is on = by (stepped limits a s) (step-is m a s is here) (λ b at. walk-is ss (m + 1) n b (omega arith) at behind)
+    where
+      here : s ≡ stops (m + 1)
+      here = let none : m + 1 + 0 ≡ m + 1 = omega arith in sym (subst (λ k. stops k ≡ s) none (on 0 s (omega arith)))
+
+      behind : (k : ℕ) (d : Stop) → k < length ss → stops (m + 1 + 1 + k) ≡ get_or ss k d
+      behind k d h = let more : m + 1 + suc k ≡ m + 1 + 1 + k = omega arith in subst (λ i. stops i ≡ get_or ss k d) more (on (suc k) d (omega arith))
+
+      by : (o : Option Progress) → StepIs (m + 1) o → ((b : Progress) → IsAt stops (m + 1) b → WalkIs (m + 1) n (walked limits b ss)) → WalkIs m n (option_and_then (λ b. walked limits b ss) o)
+      by None never rest = λ each. never (each (m + 1) (omega arith) (omega arith))
+      by (Some b) first rest = then (walked limits b ss) (rest b first.0)
+        where
+          then : (o : Option Progress) → WalkIs (m + 1) n o → WalkIs m n o
+          then None never = λ each. never (λ k h l. each k (omega arith) l)
+          then (Some c) is = (is.0, λ k h l. split k h l (cases_lt (m + 1) k))
+            where
+              split : (k : ℕ) → m < k → k ≤ n → (m + 1 < k) ⊎ (k ≤ m + 1) → Keeps k
+              split k h l (inl after) = is.1 k after l
+              split k h l (inr at_once) = let e : m + 1 ≡ k = omega arith in subst Keeps e first.1
+
+  pub step-walk : (k : ℕ) (a : Progress) (s : Stop) → IsAt stops k a → s ≡ stops (k + 1) → WalkIs k (k + 1) (stepped limits a s)
+  unfolding WalkIs EachKeeps StepIs
+  step-walk k a s is next = by (stepped limits a s) (step-is k a s is next)
+    where
+      by : (o : Option Progress) → StepIs (k + 1) o → WalkIs k (k + 1) o
+      by None never = λ each. never (each (k + 1) (omega arith) (omega arith))
+      by (Some b) at = (at.0, λ m h l. let e : k + 1 ≡ m = omega arith in subst Keeps e at.1)
+
+  -- one walk after another
+  pub walk-then : (m n l : ℕ) (o : Option Progress) (f : Progress → Option Progress) → m ≤ n → n ≤ l → WalkIs m n o → ((a : Progress) → IsAt stops n a → WalkIs n l (f a)) → WalkIs m l (option_and_then f o)
+  unfolding WalkIs EachKeeps
+  walk-then m n l None f p q never rest = λ each. never (λ k h j. each k h (omega arith))
+  walk-then m n l (Some a) f p q is rest = both (f a) (rest a is.0)
+    where
+      both : (o : Option Progress) → WalkIs n l o → WalkIs m l o
+      both None never = λ each. never (λ k h j. each k (omega arith) j)
+      both (Some b) at = (at.0, λ k h j. split k h j (cases_lt n k))
+        where
+          split : (k : ℕ) → m < k → k ≤ l → (n < k) ⊎ (k ≤ n) → Keeps k
+          split k h j (inl after) = at.1 k after j
+          split k h j (inr before) = is.1 k h before
+
+  -- a route whose length was `old` goes on from place m to its end
+  unfoldable pub EndIs : ℕ → ℕ → ℕ → Option ℤ → Type 0
+  EndIs m l old o = MatchOption o (EachKeeps m l → ⊥) (λ added. EachKeeps m l × (pos (length_along stops l) ≡ pos old +ℤ added))
+
+  pub end-then : (m n l old : ℕ) (o : Option Progress) (f : Progress → Option ℤ) → m ≤ n → n ≤ l → WalkIs m n o → ((a : Progress) → IsAt stops n a → EndIs n l old (f a)) → EndIs m l old (option_and_then f o)
+  unfolding WalkIs EachKeeps EndIs
+  end-then m n l old None f p q never rest = λ each. never (λ k h j. each k h (omega arith))
+  end-then m n l old (Some a) f p q is rest = both (f a) (rest a is.0)
+    where
+      both : (o : Option ℤ) → EndIs n l old o → EndIs m l old o
+      both None never = λ each. never (λ k h j. each k (omega arith) j)
+      both (Some b) at = (λ k h j. split k h j (cases_lt n k), at.1)
+        where
+          split : (k : ℕ) → m < k → k ≤ l → (n < k) ⊎ (k ≤ n) → Keeps k
+          split k h j (inl after) = at.0 k after j
+          split k h j (inr before) = is.1 k h before
+
+-- ---- the rest: place n of the old route and all behind it, at place s of the new one
+module _ (limits : Limits) (a b : ℕ → Stop) (n s rest : ℕ) (same : (k : ℕ) → b (s + k) ≡ a (n + k)) where
+  same-here : b s ≡ a n
+  same-here = let p : s + 0 ≡ s = omega arith in let q : n + 0 ≡ n = omega arith in subst (λ k. b k ≡ a n) p (subst (λ k. b (s + 0) ≡ a k) q (same 0))
+
+  -- the loads there are the old ones and a difference
+  loads-true : (c e : ℤ) → e ≡ c -ℤ (load_along b s -ℤ load_along a n) → ((m : ℕ) → n ≤ m → m ≤ n + rest → load_along a m ≤ℤ e) → (k : ℕ) → s ≤ k → k ≤ s + rest → load_along b k ≤ℤ c
+  loads-true c e is old k h l =
+      let far : k ≡ s + (k - s) = omega arith in
+      let spliced : load_along b k +ℤ load_along a n ≡ load_along a (n + (k - s)) +ℤ load_along b s = subst (λ i. load_along b i +ℤ load_along a n ≡ load_along a (n + (k - s)) +ℤ load_along b s) (sym far) (spliced-load a b n s same (k - s)) in
+      let le = old (n + (k - s)) (omega arith) (omega arith) in
+      omega (arith, ints)
+
+  loads-back : (c e : ℤ) → e ≡ c -ℤ (load_along b s -ℤ load_along a n) → ((k : ℕ) → s ≤ k → k ≤ s + rest → load_along b k ≤ℤ c) → (m : ℕ) → n ≤ m → m ≤ n + rest → load_along a m ≤ℤ e
+  loads-back c e is new m h l =
+      let far : m ≡ n + (m - n) = omega arith in
+      let spliced : load_along b (s + (m - n)) +ℤ load_along a n ≡ load_along a m +ℤ load_along b s = subst (λ i. load_along b (s + (m - n)) +ℤ load_along a n ≡ load_along a i +ℤ load_along b s) (sym far) (spliced-load a b n s same (m - n)) in
+      let le = new (s + (m - n)) (omega arith) (omega arith) in
+      omega (arith, ints)
+
+  -- the rest is on time exactly where its first start goes on
+  goes_on-true : GoesOnAlong limits.kind a (n + rest) n (start_along b s) → limits.kind ≡ LiLim → (k : ℕ) → s < k → k ≤ s + rest → start_along b k ≤ (b k).latest
+  goes_on-true goes lilim k h l =
+      let far : k ≡ s + (k - s) = omega arith in
+      let le = goes lilim (n + (k - s)) (omega arith) (omega arith) in
+      let le' : start_along b (s + (k - s)) ≤ (b (s + (k - s))).latest = rw (spliced-start a b n s same (k - s), same (k - s)) le in
+      subst (λ i. start_along b i ≤ (b i).latest) (sym far) le'
+
+  goes_on-back : ((k : ℕ) → s < k → k ≤ s + rest → start_along b k ≤ (b k).latest) → GoesOnAlong limits.kind a (n + rest) n (start_along b s)
+  goes_on-back each = λ lilim k h l.
+      let far : k ≡ n + (k - n) = omega arith in
+      let le = each (s + (k - n)) (omega arith) (omega arith) in
+      let le' : moved_along a n (start_along b s) (n + (k - n)) ≤ (a (n + (k - n))).latest = rw (← spliced-start a b n s same (k - n), ← same (k - n)) le in
+      subst (λ i. moved_along a n (start_along b s) i ≤ (a i).latest) (sym far) le'
+
+  module _ (tail : Place) (known : IsKnown limits.kind a (n + rest) n tail) (late : (a n).latest ≤ 100000000) where
+    -- the load there and the time there, by what the table knows of the place
+    bears-true : (at : Progress) → IsAt b s at → Keeps limits b s → bears limits at tail ≡ true → EachKeeps limits b s (s + rest)
+    unfolding EachKeeps
+    bears-true at is here h k m l =
+        let both = and-true _ _ h in
+        let e = pos limits.capacity -ℤ (load_along b s -ℤ load_along a n) in
+        let light : (at.load -ℤ tail.at.load +ℤ tail.most_load) ≤ℤ pos limits.capacity = int_le-true _ _ (both.first) in
+        let load_here = is.load in
+        let load_tail = known.at.load in
+        let most : tail.most_load ≤ℤ e = omega (arith, ints) in
+        record {
+          load = loads-true (pos limits.capacity) e refl ((known.most_load e).0 most) k (omega arith) l;
+          window = λ lilim.
+              (let le : at.start ≤ tail.latest_start = in_time-true limits.kind _ _ (both.second) lilim in
+              let start = is.start in
+              let window = here.window lilim in
+              let stop : (b s).latest ≡ (a n).latest = ap (λ x. x.latest) same-here in
+              goes_on-true ((known.latest_start lilim (start_along b s) (omega arith)).1 (omega arith)) lilim k m l);
+        }
+
+    bears-false : (at : Progress) → IsAt b s at → Keeps limits b s → bears limits at tail ≡ false → EachKeeps limits b s (s + rest) → ⊥
+    unfolding EachKeeps
+    bears-false at is here h each = by (and-false _ _ h)
+      where
+        start_is : at.start ≡ start_along b s
+        start_is = is.start
+
+        split : (k : ℕ) → s ≤ k → k ≤ s + rest → (s < k) ⊎ (k ≤ s) → load_along b k ≤ℤ pos limits.capacity
+        split k h l (inl after) = (each k after l).load
+        split k h l (inr first) = let e : s ≡ k = omega arith in subst (λ i. load_along b i ≤ℤ pos limits.capacity) e (here.load)
+
+        by : (int_le (at.load -ℤ tail.at.load +ℤ tail.most_load) (pos limits.capacity) ≡ false) ⊎ (is_in_time limits.kind at.start tail.latest_start ≡ false) → ⊥
+        by (inl over) =
+            let e = pos limits.capacity -ℤ (load_along b s -ℤ load_along a n) in
+            let load_here = is.load in
+            let load_tail = known.at.load in
+            let most : tail.most_load ≤ℤ e = (known.most_load e).1 (loads-back (pos limits.capacity) e refl (λ k h l. split k h l (cases_lt s k))) in
+            let light : (at.load -ℤ tail.at.load +ℤ tail.most_load) ≤ℤ pos limits.capacity = omega (arith, ints) in
+            int_le-false _ _ over light
+        by (inr missed) =
+            let kind = in_time-false limits.kind _ _ missed in
+            let window = here.window kind.0 in
+            let stop : (b s).latest ≡ (a n).latest = ap (λ x. x.latest) same-here in
+            let goes = goes_on-back (λ k h l. (each k h l).window kind.0) in
+            let le = (known.latest_start kind.0 (start_along b s) (omega arith)).0 goes in
+            let after = kind.1 in
+            absurd (omega arith)
+
+    -- by how much the new route is longer
+    added-is : (at : Progress) → IsAt b s at → pos (length_along b (s + rest)) ≡ pos (length_along a (n + rest)) +ℤ (pos at.distance -ℤ pos tail.at.distance)
+    added-is at is =
+        let far = is.distance in
+        let near = known.at.distance in
+        let spliced = spliced-length a b n s same rest in
+        omega (arith, ints)
+
+    -- the place itself, and all behind it
+    pub join-is : (m : ℕ) (at : Progress) → m + 1 ≡ s → IsAt b m at → EndIs limits b m (s + rest) (length_along a (n + rest)) (joined limits at tail)
+    unfolding EndIs EachKeeps StepIs
+    join-is m at next is = by (stepped limits at tail.at.stop) (step-is limits b m at tail.at.stop is here)
+      where
+        here : tail.at.stop ≡ b (m + 1)
+        here = known.at.stop ∙ (sym same-here ∙ ap b (sym next))
+
+        by : (o : Option Progress) → StepIs limits b (m + 1) o → EndIs limits b m (s + rest) (length_along a (n + rest)) (option_and_then (λ g. cond (bears limits g tail) (Some (pos g.distance -ℤ pos tail.at.distance)) None) o)
+        by None never = λ each. never (each (m + 1) (omega arith) (omega arith))
+        by (Some g) there = test (bears limits g tail) refl
+          where
+            at-s : IsAt b s g
+            at-s = subst (λ k. IsAt b k g) next there.0
+
+            keeps-s : Keeps limits b s
+            keeps-s = subst (Keeps limits b) next there.1
+
+            split : ((k : ℕ) → s < k → k ≤ s + rest → Keeps limits b k) → (k : ℕ) → m < k → k ≤ s + rest → (s < k) ⊎ (k ≤ s) → Keeps limits b k
+            split each k h l (inl after) = each k after l
+            split each k h l (inr first) = let e : s ≡ k = omega arith in subst (Keeps limits b) e keeps-s
+
+            test : (t : Bool) → bears limits g tail ≡ t → EndIs limits b m (s + rest) (length_along a (n + rest)) (cond t (Some (pos g.distance -ℤ pos tail.at.distance)) None)
+            test true h = ((λ k j l. split (bears-true g at-s keeps-s h) k j l (cases_lt s k)), added-is g at-s)
+            test false h = λ each. bears-false g at-s keeps-s h (λ k j l. each k (omega arith) l)

@@ -1,0 +1,39 @@
+-- The fields of a `RouteTable`.
+use Rattle.std.specs.Prelude.{◌≡◌, ℕ, ◌+◌, ◌-◌, ◌<◌, ◌≤◌, ◌≤ℤ◌, pos, All, List, map, length, take, drop, slice_index_or}
+use Rattle.plan_types.specs.declared.requests.Stop.{Stop}
+use Rattle.plan_types.specs.declared.requests.Kind.{Kind}
+use Rattle.plan_types.specs.declared.requests.Kind.TheVariants.{LiLim}
+use Rattle.slack_tables.specs.Course.{Course}
+use Rattle.slack_tables.specs.Along.{stop_on, start_along, load_along}
+use Rattle.slack_tables.specs.Driven.{IsSmallPlace}
+use Rattle.slack_tables.specs.Places.{IsKnown}
+use Rattle.slack_tables.specs.declared.progress.Limits.{Limits}
+use Rattle.slack_tables.specs.declared.progress.Place.{Place}
+use Rattle.slack_tables.specs.declared.table.RouteTable.TheInside.{Inside}
+
+-- the stops between the depot's two places
+abbrev pub stops_within : List Place → List Stop
+stops_within places = map (λ e. e.at.stop) (take (length places - 2) (drop 1 places))
+
+-- what contracts see
+abbrev pub course_from : Limits → Stop → List Place → Course
+course_from limits depot places = record { kind = limits.kind; capacity = limits.capacity; depot = depot; stops = stops_within places }
+
+abbrev pub course_within : Inside → Course
+course_within a = course_from a.limits a.depot a.places.items
+
+-- the places of the course, up to the one of the return, keep the limits
+pub record IsInLimits (kind : Kind) (capacity : ℕ) (at : ℕ → Stop) (last : ℕ) : Type 0 where
+  pub load : (k : ℕ) → 1 ≤ k → k ≤ last → load_along at k ≤ℤ pos capacity
+  pub window : kind ≡ LiLim → (k : ℕ) → 1 ≤ k → k ≤ last → start_along at k ≤ (at k).latest
+
+-- each place tells what is known of it
+pub record AreKnown (c : Course) (places : List Place) : Type 0 where
+  pub long : length places ≡ length c.stops + 2
+  pub few : length places ≤ 40003
+  pub small : All IsSmallPlace places
+  pub known : (k : ℕ) (d : Place) → k < length places → IsKnown c.kind (stop_on c) (length c.stops + 1) k (slice_index_or places k d)
+  pub limits : IsInLimits c.kind c.capacity (stop_on c) (length c.stops + 1)
+
+abbrev pub IsTable : Inside → Type 0
+IsTable a = AreKnown (course_within a) a.places.items

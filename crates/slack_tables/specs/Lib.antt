@@ -1,0 +1,11 @@
+-- what public contracts say
+pub mod Course
+pub mod Insertion
+pub mod Latest
+-- what private functions do
+pub mod Along
+pub mod Driven
+pub mod Filled
+pub mod Inside
+pub mod Opened
+pub mod Places

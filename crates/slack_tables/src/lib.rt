@@ -1,0 +1,9 @@
+//! Tables of a route that tell, without driving it again, whether a request fits into it and how much longer it gets.
+#![tactic(auto)]
+
+mod insertion;
+mod progress;
+mod slack;
+mod table;
+
+pub use table::RouteTable;

@@ -1,0 +1,222 @@
+//! The table of a route.
+
+ghost use Rattle.std.specs.Prelude.{◌≡◌, ◌+◌, ◌<◌, ◌≤◌, Some, IsSome, IfOk, OnOk, length, slice_index_or};
+ghost use Rattle.plan_types.specs.Limits.{IsStop};
+ghost use Rattle.plan_types.specs.Request.{IsRequest};
+ghost use Rattle.plan_types.specs.Instance.{IsInstance, stop_at};
+ghost use Rattle.route_sched.specs.Route.{AreLiveOnce, IsLive, place};
+ghost use Rattle.slack_tables.specs.Insertion.{request_named};
+ghost use Rattle.slack_tables.specs.declared.progress.Place.{Place};
+ghost use Rattle.slack_tables.specs.Opened.{leaving, open_place, AreOpen};
+
+use crate::insertion::{pair_added, single_added};
+use crate::progress::{Limits, Place, Progress, driven_on};
+use crate::slack::fill_slack;
+use plan_types::{
+    Kind, OutOfMemory, Problem, Request, Stop, numbers_are_below_the_next,
+    requests_are_found_by_stop,
+};
+use std::alloc::Global;
+use std::marker::Model;
+
+/// What is known of each place of a route: when service starts, how late it may start, what the
+/// vehicle carries and how far it has driven.
+#[derive(Debug, Drop)]
+pub struct RouteTable {
+    limits: Limits,
+    depot: Stop,
+    // The depot, each stop in order, and the depot at the return.
+    places: Vec<Place>,
+}
+
+impl Model for RouteTable {
+    ghost use Rattle.slack_tables.specs.Course.{Course};
+
+    ghost Value = { Course };
+
+    ghost use Rattle.slack_tables.specs.Inside.{course_within, IsTable};
+
+    ghost view = { course_within };
+
+    ghost invariant = { IsTable };
+}
+
+impl RouteTable {
+    ghost use Rattle.std.specs.Prelude.{ℕ, List, IsSomeAnd, IfSome};
+    ghost use Rattle.plan_types.specs.Instance.{Instance};
+    ghost use Rattle.route_sched.specs.Schedule.{start, load, route_length};
+    ghost use Rattle.slack_tables.specs.Latest.{IsLimitOfStarts};
+    ghost use Rattle.slack_tables.specs.Course.{course_of, route_of, IsCourseIn};
+    ghost use Rattle.slack_tables.specs.Insertion.{inserted, ArePlaces, KeepsLimits, IsAdded};
+
+    /// The table of a route that keeps the capacity and the windows.
+    pub fn build(alloc: Global, problem: &Problem, route: &[u32]) -> Result<RouteTable, OutOfMemory>
+        requires route { AreLiveOnce problem.now route.now }
+        requires limits { KeepsLimits problem.now route.now }
+        ensures course { IfOk result (λ table. table ≡ course_of problem.now route.now) }
+        ensures route { IfOk result (λ table. route_of table ≡ route.now) }
+    {
+        let mut places = driven(alloc, problem, route)?;
+        fill_slack(problem.kind, places.as_mut_slice());
+        Ok(RouteTable {
+            limits: Limits {
+                kind: problem.kind,
+                capacity: problem.capacity,
+            },
+            depot: problem.depot,
+            places,
+        })
+    }
+
+    /// How many stops the route has.
+    pub fn stop_count(&self) -> usize
+        ensures { result ≡ length self.now.stops }
+    {
+        self.places.len() - 2
+    }
+
+    /// When service starts at a place. Place 0 is the depot, that behind the last stop the return.
+    pub fn start(&self, place: usize) -> u64
+        requires { place ≤ length self.now.stops + 1 }
+        ensures { (p : Instance) (route : List ℕ) → course_of p route ≡ self.now → result ≡ start p route place }
+    {
+        let places = self.places.as_slice();
+        place_at(places, place).at.start
+    }
+
+    /// The latest start of service at a place from which no later window and no return is missed; the
+    /// window of the place itself is not asked. `None` where any start will do: at the return, and in a
+    /// problem of kind `Vrp`.
+    pub fn latest_start(&self, place: usize) -> Option<u64>
+        requires { place ≤ length self.now.stops + 1 }
+        ensures { (p : Instance) (route : List ℕ) → course_of p route ≡ self.now → IsLimitOfStarts p route place result }
+    {
+        let places = self.places.as_slice();
+        if place + 1 == places.len() {
+            return None;
+        }
+        match self.limits.kind {
+            Kind::LiLim => Some(place_at(places, place).latest_start),
+            Kind::Vrp => None,
+        }
+    }
+
+    /// What the vehicle carries after a place.
+    pub fn load(&self, place: usize) -> i64
+        requires { place ≤ length self.now.stops + 1 }
+        ensures { (p : Instance) (route : List ℕ) → course_of p route ≡ self.now → result ≡ load p route place }
+    {
+        let places = self.places.as_slice();
+        load_at(place_at(places, place))
+    }
+
+    /// How far the vehicle drives, back to the depot.
+    pub fn distance(&self) -> u64
+        ensures { (p : Instance) (route : List ℕ) → course_of p route ≡ self.now → result ≡ route_length p route }
+    {
+        let places = self.places.as_slice();
+        place_at(places, places.len() - 1).at.distance
+    }
+
+    /// By how much the route gets longer if a request is put into it, its pickup at place `i` and its
+    /// delivery at place `j` of the new route, a single at `i`; `None` where the new route exceeds
+    /// the capacity or a window. Places count from 1. Takes no memory.
+    ///
+    /// The distance added can be negative, since rounded distances break the triangle inequality.
+    pub fn try_insert(&self, problem: &Problem, name: u32, i: u64, j: u64) -> Option<i64>
+        requires course { IsCourseIn problem.now self.now }
+        requires places { IsSomeAnd (request_named problem.now name) (λ r. ArePlaces r (length (route_of self.now)) i j) }
+        ensures { IfSome (request_named problem.now name) (λ r. IsAdded problem.now (route_of self.now) (inserted r i j (route_of self.now)) result) }
+    {
+        requests_are_found_by_stop();
+        let places = self.places.as_slice();
+        match live_request(problem, name) {
+            Request::Single(stop) => single_added(self.limits, places, stop, i as usize),
+            Request::Pair(pickup, delivery) => {
+                pair_added(
+                    self.limits,
+                    places,
+                    pickup,
+                    delivery,
+                    i as usize,
+                    j as usize,
+                )
+            }
+        }
+    }
+}
+
+fn place_at(places: &[Place], place: usize) -> &Place
+    requires { place < length places.now }
+    ensures { (d : Place) → result.now ≡ slice_index_or places.now place d }
+{
+    &places[place]
+}
+
+fn load_at(place: &Place) -> i64
+    ensures { result ≡ place.now.at.load }
+{
+    place.at.load
+}
+
+/// The places of a route as the vehicle comes to them, with nothing known of what is behind.
+fn driven(alloc: Global, problem: &Problem, route: &[u32]) -> Result<Vec<Place>, OutOfMemory>
+    requires { AreLiveOnce problem.now route.now }
+    ensures opened { IfOk result (λ places. AreOpen (place problem.now route.now) places.items) }
+    ensures len { IfOk result (λ places. length places.items ≡ length route.now + 2) }
+    ensures few { OnOk result (length route.now ≤ 40001) }
+{
+    numbers_are_below_the_next();
+    let mut places = Vec::with_capacity(alloc, route.len() + 2)?;
+    let mut at = leaving(&problem.depot);
+    places.push(open_place(at))?;
+    for number in route {
+        at = driven_on(&at, live_stop(problem, *number));
+        places.push(open_place(at))?;
+    }
+    places.push(open_place(driven_on(&at, &problem.depot)))?;
+    Ok(places)
+}
+
+/// The request of a live name.
+fn live_request(problem: &Problem, name: u32) -> &Request
+    requires { IsSome (request_named problem.now name) }
+    ensures found { request_named problem.now name ≡ Some result.now }
+    ensures request { IsRequest result.now }
+    ensures problem { IsInstance problem.now }
+{
+    problem.requests.get(&name).unwrap()
+}
+
+/// The stop with a live number.
+fn live_stop(problem: &Problem, number: u32) -> &Stop
+    requires { IsLive problem.now number }
+    ensures found { stop_at problem.now number ≡ Some result.now }
+    ensures number { result.now.number ≡ number }
+    ensures stop { IsStop result.now }
+{
+    problem.stop(number).unwrap()
+}
+
+/// At the depot, before the vehicle leaves it.
+fn leaving(depot: &Stop) -> Progress
+    ensures { result ≡ leaving depot.now }
+{
+    Progress {
+        stop: *depot,
+        start: u64::from(depot.earliest),
+        load: 0,
+        distance: 0,
+    }
+}
+
+/// A place with nothing known of what is behind it.
+fn open_place(at: Progress) -> Place
+    ensures { result ≡ open_place at }
+{
+    Place {
+        at,
+        latest_start: u64::MAX,
+        most_load: at.load,
+    }
+}
