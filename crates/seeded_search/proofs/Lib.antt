@@ -1,4 +1,6 @@
 mod BlockLemmas
 mod Examples
 mod PickLemmas
+mod StepExamples
 mod StepLemmas
+mod WalkLemmas

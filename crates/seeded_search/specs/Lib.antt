@@ -2,5 +2,7 @@
 pub mod ChaCha20
 pub mod Words
 pub mod Laws
+pub mod Steps
+pub mod StepLaws
 -- of private functions alone
 pub mod Generator

@@ -1,5 +1,8 @@
 // What words and picks mean, each law for every seed, step and number of things.
 ghost use Rattle.seeded_search.specs.Laws.{StepsAreBlocks, PicksAreEven};
+ghost use Rattle.seeded_search.specs.StepLaws.{StepsAddUp, StepsKeepPassing, IncumbentsNeverCostMore, WorkingStaysNear};
+
+use plan_types::costs_are_in_order;
 
 /// The words of a step are the whole block of the key stream that has its number.
 pub fn steps_are_blocks()
@@ -10,3 +13,28 @@ pub fn steps_are_blocks()
 pub fn picks_are_even()
     ensures { PicksAreEven }
 {}
+
+/// So many steps of a search and then so many more are all of them at once, however they are cut.
+pub fn steps_add_up()
+    ensures { StepsAddUp }
+{}
+
+/// A search walks on from plans that pass to plans that pass.
+pub fn steps_keep_passing()
+    ensures { StepsKeepPassing }
+{}
+
+/// The incumbent of a search never costs more.
+pub fn incumbents_never_cost_more()
+    ensures { IncumbentsNeverCostMore }
+{
+    costs_are_in_order();
+}
+
+/// A working plan that leaves as many requests out and uses as many vehicles as the incumbent, and drives at most the deviation more,
+/// stays so.
+pub fn working_stays_near()
+    ensures { WorkingStaysNear }
+{
+    costs_are_in_order();
+}

@@ -7,7 +7,10 @@ ghost use Rattle.seeded_search.specs.Words.{pick};
 mod laws;
 mod stream;
 
-pub use laws::{picks_are_even, steps_are_blocks};
+pub use laws::{
+    incumbents_never_cost_more, picks_are_even, steps_add_up, steps_are_blocks, steps_keep_passing,
+    working_stays_near,
+};
 pub use stream::words;
 
 /// One of `m` things, numbered from 0, by the word `w`: the whole part of `w * m / 2^32`.

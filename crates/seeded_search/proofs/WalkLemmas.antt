@@ -1,0 +1,255 @@
+-- What the steps of a search keep, proved.
+use Rattle.std.proofs.Common.{◌≡◌, ℕ, zero, suc, ◌+◌, ◌<◌, ◌≤◌, ◌⊎◌, Bool, true, false, cond, not, ◌&&◌, ◌||◌, nat_lt, nat_le, List, [], ◌∷◌, ◌++◌, length, fold, slice_index, Option, Some, None, unwrap_or, IsTrue, refl, sym, ap, subst, ◌∙◌, inl, inr, arith, add-one, eqb}
+use Rattle.std.specs.Option.{option_map, option_and_then}
+use Rattle.std.proofs.lemmas.Bool.{cond_both, cases_lt, cases_order, eqb-true, eq-eqb, leb-true, le-leb, lt-ltb, not_from_true, or_cases, or_left, or_right, and_parts, and_from, both_ways}
+use Rattle.plan_types.specs.Cost.{cost_below, cost_at_most, CostsAreTotal, CostsAreTransitive, BelowIsAtMost}
+use Rattle.plan_types.specs.Instance.{Instance}
+use Rattle.plan_types.specs.declared.plans.Cost.{Cost}
+use Rattle.plan_types.specs.declared.requests.Request.{Request}
+use Rattle.route_sched.specs.Cost.{cost_of}
+use Rattle.plan_audit.specs.Passes.{passes}
+use Rattle.move_ops.specs.Insertion.{Place, request_named, passing, best_insertion, put_in}
+use Rattle.move_ops.specs.Moves.{removed, exchange_of, exchanged, crossed}
+use Rattle.seeded_search.specs.Words.{pick, step_words}
+use Rattle.seeded_search.specs.Steps.{picked, movable_names, unplanned_names, placed, placed_all, relocated, exchanged_by, used_vehicles, cut_by, crossed_by, ruined_names, recreated_by, candidate, Walked, has_less_pair, has_same_pair, is_near, moved_on, moved_on_by, step, steps}
+use Rattle.seeded_search.specs.StepLaws.{StepsAddUp, BothPass, StepsKeepPassing, IncumbentsNeverCostMore, WorksNear, WorkingStaysNear}
+
+none_some : {X : Type 0} (x : X) → None ≡ Some x → ⊥
+none_some x h = cc
+
+some_same : {X : Type 0} (x y : X) → Some x ≡ Some y → x ≡ y
+some_same x y h = cc
+
+-- what a chain of options gives
+and_then_some : {X Y : Type 0} (f : X → Option Y) (o : Option X) (y : Y) → option_and_then f o ≡ Some y → (x : X) × (f x ≡ Some y)
+and_then_some f None y is = absurd (none_some y is)
+and_then_some f (Some x) y is = (x, is)
+
+map_some : {X Y : Type 0} (f : X → Y) (o : Option X) (y : Y) → option_map f o ≡ Some y → (x : X) × (o ≡ Some x) × (f x ≡ y)
+map_some f None y is = absurd (none_some y is)
+map_some f (Some x) y is = (x, refl, some_same (f x) y is)
+
+then_some : {X : Type 0} (b : Bool) (o : Option X) (y : X) → cond b o None ≡ Some y → o ≡ Some y
+then_some true o y is = is
+then_some false o y is = absurd (none_some y is)
+
+else_some : {X : Type 0} (b : Bool) (o : Option X) (y : X) → cond b None o ≡ Some y → o ≡ Some y
+else_some false o y is = is
+else_some true o y is = absurd (none_some y is)
+
+module _ (p : Instance) (pins : List (List ℕ)) where
+  abbrev Passes : List (List ℕ) → Type 0
+  Passes routes = passes p pins routes ≡ true
+
+  passing_gives : (x y : List (List ℕ)) → passing p pins x ≡ Some y → Passes y
+  passing_gives x y is = by (passes p pins x) refl is
+    where
+      by : (b : Bool) → passes p pins x ≡ b → cond b (Some x) None ≡ Some y → Passes y
+      by true e is = subst Passes (some_same x y is) e
+      by false e is = absurd (none_some y is)
+
+  put_in_passes : (routes : List (List ℕ)) (name : ℕ) (x : Place) (y : List (List ℕ)) → put_in p pins routes name x ≡ Some y → Passes y
+  put_in_passes routes name x y is = let t = and_then_some _ (request_named p name) y is in passing_gives _ y (then_some _ _ y t.1)
+
+  removed_passes : (routes : List (List ℕ)) (names : List ℕ) (y : List (List ℕ)) → removed p pins routes names ≡ Some y → Passes y
+  removed_passes routes names y is = passing_gives _ y (then_some _ _ y is)
+
+  exchanged_passes : (routes : List (List ℕ)) (a b : ℕ) (y : List (List ℕ)) → exchanged p pins routes a b ≡ Some y → Passes y
+  exchanged_passes routes a b y is =
+      let t = and_then_some _ (request_named p a) y (else_some (eqb a b) _ y is) in
+      let u = and_then_some _ (request_named p b) y t.1 in
+      passing_gives _ y (then_some _ _ y u.1)
+
+  crossed_passes : (routes : List (List ℕ)) (a ca b cb : ℕ) (y : List (List ℕ)) → crossed p pins routes a ca b cb ≡ Some y → Passes y
+  crossed_passes routes a ca b cb y is = passing_gives _ y (then_some _ _ y is)
+
+  placed_passes : (routes : List (List ℕ)) (name : ℕ) → Passes routes → Passes (placed p pins routes name)
+  placed_passes routes name pass = by (option_and_then (put_in p pins routes name) (best_insertion p pins routes name)) refl
+    where
+      by : (o : Option (List (List ℕ))) → option_and_then (put_in p pins routes name) (best_insertion p pins routes name) ≡ o → Passes (unwrap_or o routes)
+      by None e = pass
+      by (Some y) e = let t = and_then_some (put_in p pins routes name) (best_insertion p pins routes name) y e in put_in_passes routes name t.0 y t.1
+
+  placed_all_passes : (names : List ℕ) (routes : List (List ℕ)) → Passes routes → Passes (placed_all p pins routes names)
+  placed_all_passes [] routes pass = pass
+  placed_all_passes (name ∷ names) routes pass = placed_all_passes names (placed p pins routes name) (placed_passes routes name pass)
+
+  relocated_passes : (routes : List (List ℕ)) (w : ℕ) (y : List (List ℕ)) → relocated p pins routes w ≡ Some y → Passes y
+  relocated_passes routes w y is =
+      let t = and_then_some _ (picked w (movable_names p pins routes)) y is in
+      let u = map_some (λ left. placed p pins left t.0) (removed p pins routes (t.0 ∷ [])) y t.1 in
+      subst Passes u.2 (placed_passes u.0 t.0 (removed_passes routes (t.0 ∷ []) u.0 u.1))
+
+  exchanged_by_passes : (routes : List (List ℕ)) (w v : ℕ) (y : List (List ℕ)) → exchanged_by p pins routes w v ≡ Some y → Passes y
+  exchanged_by_passes routes w v y is =
+      let t = and_then_some _ (picked w (movable_names p pins routes)) y is in
+      let u = and_then_some _ (picked v (movable_names p pins routes)) y t.1 in
+      exchanged_passes routes t.0 u.0 y u.1
+
+  -- what the words make of the vehicles that they pick
+  abbrev second_vehicle : List (List ℕ) → List ℕ → ℕ → ℕ → Option (List (List ℕ))
+  second_vehicle routes words a b = crossed p pins routes a (cut_by p pins routes a (slice_index words 3)) b (cut_by p pins routes b (slice_index words 4))
+
+  abbrev first_vehicle : List (List ℕ) → List ℕ → ℕ → Option (List (List ℕ))
+  first_vehicle routes words a = option_and_then (second_vehicle routes words a) (picked (slice_index words 2) (used_vehicles p pins routes))
+
+  crossed_by_passes : (routes : List (List ℕ)) (words : List ℕ) (y : List (List ℕ)) → crossed_by p pins routes words ≡ Some y → Passes y
+  crossed_by_passes routes words y is =
+      let t = and_then_some (first_vehicle routes words) (picked (slice_index words 1) (used_vehicles p pins routes)) y is in
+      let u = and_then_some (second_vehicle routes words t.0) (picked (slice_index words 2) (used_vehicles p pins routes)) y t.1 in
+      crossed_passes routes t.0 (cut_by p pins routes t.0 (slice_index words 3)) u.0 (cut_by p pins routes u.0 (slice_index words 4)) y u.1
+
+  recreated_by_passes : (routes : List (List ℕ)) (words : List ℕ) (y : List (List ℕ)) → recreated_by p pins routes words ≡ Some y → Passes y
+  recreated_by_passes routes words y is =
+      let names = ruined_names p pins routes words in
+      let t = map_some (λ left. placed_all p pins left (ruined_names p pins routes words ++ unplanned_names p pins routes)) (removed p pins routes (ruined_names p pins routes words)) y
+      (else_some (eqb (length (ruined_names p pins routes words)) 0) _ y is) in
+      subst Passes t.2 (placed_all_passes (ruined_names p pins routes words ++ unplanned_names p pins routes) t.0 (removed_passes routes (ruined_names p pins routes words) t.0 t.1))
+
+  candidate_passes : (routes : List (List ℕ)) (words : List ℕ) (y : List (List ℕ)) → candidate p pins routes words ≡ Some y → Passes y
+  unfolding candidate
+  candidate_passes routes words y is = by (eqb (pick (slice_index words 0) 4) 0) (eqb (pick (slice_index words 0) 4) 1) (eqb (pick (slice_index words 0) 4) 2) is
+    where
+      by : (a b c : Bool)
+          → cond a (relocated p pins routes (slice_index words 1)) (cond b (exchanged_by p pins routes (slice_index words 1) (slice_index words 2)) (cond c (crossed_by p pins routes words) (recreated_by p pins routes words))) ≡ Some y
+          → Passes y
+      by true b c is = relocated_passes routes (slice_index words 1) y is
+      by false true c is = exchanged_by_passes routes (slice_index words 1) (slice_index words 2) y is
+      by false false true is = crossed_by_passes routes words y is
+      by false false false is = recreated_by_passes routes words y is
+
+  module _ (deviation seed : ℕ) where
+    step_passes : (n : ℕ) (s : Walked) → BothPass p pins s → BothPass p pins (step p pins deviation seed n s)
+    unfolding step
+    step_passes n s both = by (candidate p pins s.working (step_words seed n)) refl
+      where
+        by : (o : Option (List (List ℕ))) → candidate p pins s.working (step_words seed n) ≡ o → BothPass p pins (moved_on_by p deviation s o)
+        by None e = both
+        by (Some c) e =
+            let pass = candidate_passes s.working (step_words seed n) c e in
+            record {
+              incumbent = cond_both (cost_at_most (cost_of p c) (cost_of p s.incumbent)) c s.incumbent Passes (λ t. pass) (λ t. both.incumbent);
+              working = cond_both (is_near deviation (cost_of p c) (cost_of p s.incumbent)) c s.working Passes (λ t. pass) (λ t. both.working);
+            }
+
+    steps_pass : (count n : ℕ) (s : Walked) → BothPass p pins s → BothPass p pins (steps p pins deviation seed n count s)
+    unfolding steps
+    steps_pass zero n s both = both
+    steps_pass (suc count) n s both = steps_pass count (n + 1) (step p pins deviation seed n s) (step_passes n s both)
+
+    module _ (total : CostsAreTotal) (transitive : CostsAreTransitive) where
+      same_cost : (a : Cost) → IsTrue (cost_at_most a a)
+      same_cost a = elim (total a a) [ inl t ↦ t | inr t ↦ t ]
+
+      step_cost : (n : ℕ) (s : Walked) → IsTrue (cost_at_most (cost_of p (step p pins deviation seed n s).incumbent) (cost_of p s.incumbent))
+      unfolding step
+      step_cost n s = by (candidate p pins s.working (step_words seed n))
+        where
+          by : (o : Option (List (List ℕ))) → IsTrue (cost_at_most (cost_of p (moved_on_by p deviation s o).incumbent) (cost_of p s.incumbent))
+          by None = same_cost (cost_of p s.incumbent)
+          by (Some c) =
+              cond_both (cost_at_most (cost_of p c) (cost_of p s.incumbent)) c s.incumbent (λ best. IsTrue (cost_at_most (cost_of p best) (cost_of p s.incumbent))) (λ t. t) (λ t. same_cost (cost_of p s.incumbent))
+
+      steps_cost : (count n : ℕ) (s : Walked) → IsTrue (cost_at_most (cost_of p (steps p pins deviation seed n count s).incumbent) (cost_of p s.incumbent))
+      unfolding steps
+      steps_cost zero n s = same_cost (cost_of p s.incumbent)
+      steps_cost (suc count) n s =
+          transitive (cost_of p (steps p pins deviation seed (n + 1) count (step p pins deviation seed n s)).incumbent) (cost_of p (step p pins deviation seed n s).incumbent) (cost_of p s.incumbent)
+          (steps_cost count (n + 1) (step p pins deviation seed n s)) (step_cost n s)
+
+    steps_more : (b a n : ℕ) (s : Walked) → steps p pins deviation seed n (a + b) s ≡ steps p pins deviation seed (n + a) b (steps p pins deviation seed n a s)
+    unfolding steps
+    steps_more b zero n s =
+        let none : 0 + b ≡ b = omega arith in
+        let here : n ≡ n + 0 = omega arith in
+        ap (λ k. steps p pins deviation seed n k s) none ∙ ap (λ m. steps p pins deviation seed m b s) here
+    steps_more b (suc a) n s =
+        let one : suc a + b ≡ suc (a + b) = omega arith in
+        let there : n + 1 + a ≡ n + suc a = omega arith in
+        ap (λ k. steps p pins deviation seed n k s) one
+        ∙ steps_more b a (n + 1) (step p pins deviation seed n s)
+        ∙ ap (λ m. steps p pins deviation seed m b (steps p pins deviation seed (n + 1) a (step p pins deviation seed n s))) there
+
+-- a plan that is near, and costs more, has the same pair and drives at most the deviation more
+near_apart : BelowIsAtMost → (deviation : ℕ) (a b : Cost) → is_near deviation a b ≡ true → cost_at_most a b ≡ false
+    → (a.unplanned ≡ b.unplanned) × (a.vehicles ≡ b.vehicles) × (a.distance ≤ b.distance + deviation)
+near_apart below deviation a b near above = elim (or_cases (has_less_pair a b) (has_same_pair a b && nat_le a.distance (b.distance + deviation)) near) [
+  | inl less ↦ absurd (both_ways (cost_at_most a b) above (below a b (less_is_below less)))
+  | inr same ↦ (
+      let both = and_parts (has_same_pair a b) (nat_le a.distance (b.distance + deviation)) same in
+      let pair = and_parts (eqb a.unplanned b.unplanned) (eqb a.vehicles b.vehicles) both.0 in
+      (eqb-true a.unplanned b.unplanned pair.0, eqb-true a.vehicles b.vehicles pair.1, leb-true a.distance (b.distance + deviation) both.1))
+]
+  where
+    less_is_below : has_less_pair a b ≡ true → cost_below a b ≡ true
+    less_is_below less = elim (or_cases (nat_lt a.unplanned b.unplanned) (eqb a.unplanned b.unplanned && nat_lt a.vehicles b.vehicles) less) [
+      | inl lt ↦ or_left (nat_lt a.unplanned b.unplanned) _ lt
+      | inr both ↦ (
+          let parts = and_parts (eqb a.unplanned b.unplanned) (nat_lt a.vehicles b.vehicles) both in
+          or_right (nat_lt a.unplanned b.unplanned) _ (and_from (eqb a.unplanned b.unplanned) _ parts.0 (or_left (nat_lt a.vehicles b.vehicles) _ parts.1)))
+    ]
+
+-- a plan that costs no more is near
+at_most_is_near : (deviation : ℕ) (a b : Cost) → cost_at_most a b ≡ true → is_near deviation a b ≡ true
+at_most_is_near deviation a b most = elim (cases_order a.unplanned b.unplanned) [
+  | inl same ↦ elim (cases_order a.vehicles b.vehicles) [
+    | inl alike ↦ (
+        let here : eqb b.unplanned a.unplanned ≡ true = eq-eqb b.unplanned a.unplanned (sym same) in
+        let there : eqb b.vehicles a.vehicles ≡ true = eq-eqb b.vehicles a.vehicles (sym alike) in
+        elim (cases_lt b.distance a.distance) [
+          | inl lt ↦ absurd (above (or_right (nat_lt b.unplanned a.unplanned) _ (and_from (eqb b.unplanned a.unplanned) _ here (or_right (nat_lt b.vehicles a.vehicles) _ (and_from (eqb b.vehicles a.vehicles) _ there (lt-ltb b.distance a.distance lt))))))
+          | inr le ↦ or_right (has_less_pair a b) _ (and_from (has_same_pair a b) _ (and_from (eqb a.unplanned b.unplanned) _ (eq-eqb a.unplanned b.unplanned same) (eq-eqb a.vehicles b.vehicles alike)) (le-leb a.distance (b.distance + deviation) (omega arith)))
+        ])
+    | inr apart ↦ elim apart [
+      | inl lt ↦ or_left (has_less_pair a b) _ (or_right (nat_lt a.unplanned b.unplanned) _ (and_from (eqb a.unplanned b.unplanned) _ (eq-eqb a.unplanned b.unplanned same) (lt-ltb a.vehicles b.vehicles lt)))
+      | inr gt ↦ absurd (above (or_right (nat_lt b.unplanned a.unplanned) _ (and_from (eqb b.unplanned a.unplanned) _ (eq-eqb b.unplanned a.unplanned (sym same)) (or_left (nat_lt b.vehicles a.vehicles) _ (lt-ltb b.vehicles a.vehicles gt)))))
+    ]
+  ]
+  | inr apart ↦ elim apart [
+    | inl lt ↦ or_left (has_less_pair a b) _ (or_left (nat_lt a.unplanned b.unplanned) _ (lt-ltb a.unplanned b.unplanned lt))
+    | inr gt ↦ absurd (above (or_left (nat_lt b.unplanned a.unplanned) _ (lt-ltb b.unplanned a.unplanned gt)))
+  ]
+]
+  where
+    above : cost_below b a ≡ true → ⊥
+    above is = both_ways (cost_at_most a b) (not_from_true (cost_below b a) is) most
+
+module _ (p : Instance) (pins : List (List ℕ)) (deviation seed : ℕ) (below : BelowIsAtMost) where
+  -- a plan is near itself
+  itself : (routes : List (List ℕ)) → WorksNear p deviation (record { incumbent = routes; working = routes })
+  itself routes = (refl, refl, omega arith)
+
+  moved_near : (s : Walked) (c : List (List ℕ)) → WorksNear p deviation s → WorksNear p deviation (moved_on p deviation s c)
+  moved_near s c near = by (cost_at_most (cost_of p c) (cost_of p s.incumbent)) (is_near deviation (cost_of p c) (cost_of p s.incumbent)) refl refl
+    where
+      by : (b t : Bool) → cost_at_most (cost_of p c) (cost_of p s.incumbent) ≡ b → is_near deviation (cost_of p c) (cost_of p s.incumbent) ≡ t
+          → WorksNear p deviation (record { incumbent = cond b c s.incumbent; working = cond t c s.working })
+      by true true e f = itself c
+      by false true e f = near_apart below deviation (cost_of p c) (cost_of p s.incumbent) f e
+      by false false e f = near
+      by true false e f = absurd (both_ways (is_near deviation (cost_of p c) (cost_of p s.incumbent)) f (at_most_is_near deviation (cost_of p c) (cost_of p s.incumbent) e))
+
+  step_near : (n : ℕ) (s : Walked) → WorksNear p deviation s → WorksNear p deviation (step p pins deviation seed n s)
+  unfolding step
+  step_near n s near = by (candidate p pins s.working (step_words seed n))
+    where
+      by : (o : Option (List (List ℕ))) → WorksNear p deviation (moved_on_by p deviation s o)
+      by None = near
+      by (Some c) = moved_near s c near
+
+  steps_near : (count n : ℕ) (s : Walked) → WorksNear p deviation s → WorksNear p deviation (steps p pins deviation seed n count s)
+  unfolding steps
+  steps_near zero n s near = near
+  steps_near (suc count) n s near = steps_near count (n + 1) (step p pins deviation seed n s) (step_near n s near)
+
+pub working_stays_near : BelowIsAtMost → WorkingStaysNear
+working_stays_near below p pins deviation seed n count s near = steps_near p pins deviation seed below count n s near
+
+pub steps_add_up : StepsAddUp
+steps_add_up p pins deviation seed n a b s = steps_more p pins deviation seed b a n s
+
+pub steps_keep_passing : StepsKeepPassing
+steps_keep_passing p pins deviation seed n count s both = steps_pass p pins deviation seed count n s both
+
+pub incumbents_never_cost_more : CostsAreTotal → CostsAreTransitive → IncumbentsNeverCostMore
+incumbents_never_cost_more total transitive p pins deviation seed n count s = steps_cost p pins deviation seed total transitive count n s

@@ -1,0 +1,5 @@
+use Rattle.seeded_search.proofs.WalkLemmas.{steps_keep_passing}
+use Rattle.seeded_search.proofs.laws.steps_keep_passing.Goals as goal
+
+pub returns : goal.returns
+returns c = steps_keep_passing

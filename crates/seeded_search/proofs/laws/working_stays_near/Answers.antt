@@ -1,0 +1,5 @@
+use Rattle.seeded_search.proofs.WalkLemmas.{working_stays_near}
+use Rattle.seeded_search.proofs.laws.working_stays_near.Goals as goal
+
+pub returns : goal.returns
+returns c = working_stays_near c.costs_are_in_order.ensures.below_is_at_most

@@ -1,0 +1,39 @@
+-- What the steps of a search keep, for every problem, pins, deviation and seed.
+use Rattle.std.specs.Prelude.{◌≡◌, ℕ, ◌+◌, ◌≤◌, IsTrue, List, true}
+use Rattle.plan_types.specs.Cost.{cost_at_most}
+use Rattle.plan_types.specs.Instance.{Instance}
+use Rattle.route_sched.specs.Cost.{cost_of}
+use Rattle.plan_audit.specs.Passes.{passes}
+use Rattle.seeded_search.specs.Steps.{Walked, steps}
+
+-- law: so many steps and then so many more are all of them at once
+abbrev pub StepsAddUp : Type 0
+StepsAddUp = (p : Instance) (pins : List (List ℕ)) (deviation seed n a b : ℕ) (s : Walked)
+    → steps p pins deviation seed n (a + b) s ≡ steps p pins deviation seed (n + a) b (steps p pins deviation seed n a s)
+
+-- both plans pass
+pub record BothPass (p : Instance) (pins : List (List ℕ)) (s : Walked) : Type 0 where
+  pub incumbent : passes p pins s.incumbent ≡ true
+  pub working : passes p pins s.working ≡ true
+
+-- law: plans that pass are walked on to plans that pass
+abbrev pub StepsKeepPassing : Type 0
+StepsKeepPassing = (p : Instance) (pins : List (List ℕ)) (deviation seed n count : ℕ) (s : Walked)
+    → BothPass p pins s → BothPass p pins (steps p pins deviation seed n count s)
+
+-- law: the incumbent never costs more
+abbrev pub IncumbentsNeverCostMore : Type 0
+IncumbentsNeverCostMore = (p : Instance) (pins : List (List ℕ)) (deviation seed n count : ℕ) (s : Walked)
+    → IsTrue (cost_at_most (cost_of p (steps p pins deviation seed n count s).incumbent) (cost_of p s.incumbent))
+
+-- the working plan leaves as many requests out and uses as many vehicles as the incumbent, and drives at most the deviation more
+abbrev pub WorksNear : Instance → ℕ → Walked → Type 0
+WorksNear p deviation s =
+    let work = cost_of p s.working in
+    let best = cost_of p s.incumbent in
+    (work.unplanned ≡ best.unplanned) × (work.vehicles ≡ best.vehicles) × (work.distance ≤ best.distance + deviation)
+
+-- law: such a working plan stays so. (The bytes of a state may begin with any other working plan that passes.)
+abbrev pub WorkingStaysNear : Type 0
+WorkingStaysNear = (p : Instance) (pins : List (List ℕ)) (deviation seed n count : ℕ) (s : Walked)
+    → WorksNear p deviation s → WorksNear p deviation (steps p pins deviation seed n count s)
