@@ -365,6 +365,22 @@ fn audits_the_largest_plans(rt: HostRuntime) -> Result<(), Fail> {
         assert_eq!(rt; audit(rt.alloc(), &problem, &pins, &plan)?, want);
         let solution = Solution { routes, cost: 0 };
         assert_eq!(rt; audit_solution(rt.alloc(), &problem, &solution)?, want);
+        let scheduled = scheduled_places(rt.alloc(), &problem, &plan)?;
+        assert_eq!(rt; scheduled, (80_000, 40_000));
     }
     Ok(())
+}
+
+// How many starts and how many loads the schedules of a plan have, none where its stops are not live and distinct.
+fn scheduled_places(alloc: Global, problem: &Problem, plan: &Plan) -> Result<(usize, usize), Fail> {
+    let mut count = (0usize, 0usize);
+    if is_live_once(alloc, problem, plan)? {
+        for route in plan.routes.as_slice() {
+            let starts = route_sched::starts(alloc, problem, route.as_slice())?;
+            let loads = route_sched::loads(alloc, problem, route.as_slice())?;
+            count.0 = count.0.saturating_add(starts.len());
+            count.1 = count.1.saturating_add(loads.len());
+        }
+    }
+    Ok(count)
 }

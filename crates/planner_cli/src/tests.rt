@@ -1,6 +1,9 @@
+ghost use Rattle.std.specs.Prelude.{◌≤◌};
+
 use crate::{Invocation, audit_text, read_words};
 use clap::error::ErrorKind;
 use plan_types::Kind;
+use std::alloc::{AllocError, Global};
 use std::test::Fail;
 
 /// One pickup and its delivery, with the capacity, the depot's latest return and the delivery's latest start in turn.
@@ -132,6 +135,52 @@ fn audits_capacitated_routes(rt: HostRuntime) -> Result<(), Fail> {
         assert_eq!(rt; answer.status, status, "{line}");
         assert_eq!(rt; answer.line.as_bytes(), line.as_bytes(), "{line}");
     }
+    Ok(())
+}
+
+/// A `.vrp` text of this many customers, all at the depot.
+fn customers_at_the_depot(alloc: Global, customers: u32) -> Result<Vec<u8>, AllocError>
+    requires { customers ≤ 40000 }
+{
+    let nodes = customers + 1;
+    let mut text = Vec::new(alloc);
+    let head = format!(in alloc;
+        "DIMENSION : {nodes}\nCAPACITY : 0\nEDGE_WEIGHT_TYPE : EUC_2D\nDEPOT_SECTION\n1 -1\nNODE_COORD_SECTION\n"
+    )?;
+    text.extend_from_slice(head.as_bytes())?;
+    for before in 0..nodes {
+        let node = before + 1;
+        text.extend_from_slice(format!(in alloc; "{node} 0 0\n")?.as_bytes())?;
+    }
+    text.extend_from_slice(b"DEMAND_SECTION\n")?;
+    for before in 0..nodes {
+        let node = before + 1;
+        text.extend_from_slice(format!(in alloc; "{node} 0\n")?.as_bytes())?;
+    }
+    Ok(text)
+}
+
+/// All of them in one route.
+fn one_route_of(alloc: Global, customers: u32) -> Result<Vec<u8>, AllocError>
+    requires { customers ≤ 40000 }
+{
+    let mut text = Vec::new(alloc);
+    text.extend_from_slice(b"Route #1:")?;
+    for before in 0..customers {
+        let customer = before + 1;
+        text.extend_from_slice(format!(in alloc; " {customer}")?.as_bytes())?;
+    }
+    text.extend_from_slice(b"\nCost 0\n")?;
+    Ok(text)
+}
+
+#[test]
+fn audits_the_most_customers(rt: HostRuntime) -> Result<(), Fail> {
+    let instance = customers_at_the_depot(rt.alloc(), 40_000)?;
+    let solution = one_route_of(rt.alloc(), 40_000)?;
+    let answer = audit_text(rt.alloc(), Kind::Vrp, &instance, &solution)?;
+    assert_eq!(rt; answer.line.as_bytes(), b"pass 0 0 0".as_slice());
+    assert_eq!(rt; answer.status, 0);
     Ok(())
 }
 
