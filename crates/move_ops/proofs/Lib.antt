@@ -1,6 +1,9 @@
 pub mod Best
+pub mod Changing
 pub mod Crossing
+pub mod Exchanging
 pub mod Inserting
 pub mod Places
+pub mod Removing
 pub mod Replacing
 pub mod Times

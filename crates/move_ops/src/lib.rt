@@ -1,14 +1,19 @@
 //! Moves from plan to plan, each of which gives a plan that passes, or none; and where a request is put in best.
 #![tactic(auto)]
 
+mod changed;
 mod cross;
 mod insert;
 mod laws;
 mod lists;
+mod removal;
+mod swap;
 
 pub use cross::two_opt_star;
 pub use insert::insert_at;
 pub use laws::{best_insertions_are_least, best_insertions_are_unique, insertions_can_be_put_in};
+pub use removal::remove;
+pub use swap::exchange;
 
 #[cfg(test)]
 mod tests;
