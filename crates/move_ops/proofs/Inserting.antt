@@ -27,10 +27,10 @@ abbrev pub numbers_of : Request → List ℕ
 numbers_of (Single s) = s.number ∷ []
 numbers_of (Pair a b) = a.number ∷ b.number ∷ []
 
-times_put : (n : ℕ) (route : List ℕ) (i m : ℕ) → times n (put_at route i m) ≡ times n route + cond (eqb n m) 1 0
+pub times_put : (n : ℕ) (route : List ℕ) (i m : ℕ) → times n (put_at route i m) ≡ times n route + cond (eqb n m) 1 0
 times_put n route i m = let e = times-append n (take (i - 1) route) (m ∷ drop (i - 1) route) in let f = times_split n (i - 1) route in omega arith
 
-times_inserted : (n : ℕ) (r : Request) (i j : ℕ) (route : List ℕ) → times n (inserted r i j route) ≡ times n route + times n (numbers_of r)
+pub times_inserted : (n : ℕ) (r : Request) (i j : ℕ) (route : List ℕ) → times n (inserted r i j route) ≡ times n route + times n (numbers_of r)
 times_inserted n (Single s) i j route = let e = times_put n route i s.number in omega arith
 times_inserted n (Pair a b) i j route =
     let e = times_put n route i a.number in let f = times_put n (put_at route i a.number) j b.number in omega arith
@@ -61,7 +61,7 @@ valid_request (e ∷ es) name r valid at = elim (eqb_tells name e.0) [
   | inr t ↦ valid_request es name r valid.1 (rw t.0 at at)
 ]
 
-in_numbers : (n : ℕ) (r : Request) → 1 ≤ times n (numbers_of r) → IsSome (stop_in n r)
+pub in_numbers : (n : ℕ) (r : Request) → 1 ≤ times n (numbers_of r) → IsSome (stop_in n r)
 in_numbers n (Single s) some = elim (eqb_tells n s.number) [
   | inl t ↦ rw (eq-eqb s.number n (sym t.1)) (search rules)
   | inr t ↦ (let e = none_here n s.number t.0 in absurd (omega arith))
