@@ -25,14 +25,14 @@ use Rattle.move_ops.proofs.Times.{none_some, some_same, times, one_here, none_he
 use Rattle.move_ops.proofs.Inserting.{numbers_of, times_put, times_inserted, in_numbers}
 
 -- ---- tests of all items
-had_often : (ns : List ℕ) (n : ℕ) → has ns n ≡ true → 1 ≤ times n ns
+pub had_often : (ns : List ℕ) (n : ℕ) → has ns n ≡ true → 1 ≤ times n ns
 had_often [] n had = absurd (let h : false ≡ true = had in cc)
 had_often (m ∷ ns) n had = elim (eqb_tells n m) [
   | inl t ↦ (let e = one_here n m t.1 in omega arith)
   | inr t ↦ (let e = none_here n m t.0 in let h = had_often ns n (rw t.0 at had) in omega arith)
 ]
 
-often_had : (ns : List ℕ) (n : ℕ) → 1 ≤ times n ns → has ns n ≡ true
+pub often_had : (ns : List ℕ) (n : ℕ) → 1 ≤ times n ns → has ns n ≡ true
 often_had [] n some = absurd (omega arith)
 often_had (m ∷ ns) n some = elim (eqb_tells n m) [
   | inl t ↦ rw t.0 refl
