@@ -1,4 +1,5 @@
 pub mod Best
+pub mod Bounds
 pub mod Costs
 pub mod Crossing
 pub mod Fitting
