@@ -17,7 +17,7 @@ use Rattle.route_sched.specs.Cost.{has_stop, is_planned, unplanned_count, used_c
 use Rattle.route_sched.specs.Schedule.{route_length}
 use Rattle.slack_tables.specs.Insertion.{inserted}
 use Rattle.move_ops.specs.Insertion.{Place, of_vehicle, with_route, with_request_at, cost_with, is_no_later, is_no_worse}
-use Rattle.move_ops.specs.Found.{opens}
+use Rattle.move_ops.specs.Choosing.{opens}
 use Rattle.move_ops.proofs.Times.{times}
 use Rattle.move_ops.proofs.Fitting.{had_often, often_had}
 use Rattle.move_ops.proofs.Inserting.{numbers_of, times_inserted}

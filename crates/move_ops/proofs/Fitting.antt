@@ -297,7 +297,7 @@ module _ (found : NamedAreFound) (stand : RequestsStandByName) (p : Instance) (v
     first : picks_up_first p (inserted r i j old) ≡ true
     first = first_new name r named old free i j places pairs.1
 
-    some_new : length (inserted r i j old) ≡ 0 → ⊥
+    pub some_new : length (inserted r i j old) ≡ 0 → ⊥
     some_new = by r
       where
         by : (q : Request) → length (inserted q i j old) ≡ 0 → ⊥

@@ -97,7 +97,7 @@ or_false : (a b : Bool) → (a || b) ≡ false → (a ≡ false) × (b ≡ false
 or_false true b h = absurd (let k : true ≡ false = h in cc)
 or_false false b h = (refl, h)
 
-nowhere : (routes : List (List ℕ)) (r : Request) → is_planned routes r ≡ false → (n : ℕ) → 1 ≤ times n (numbers_of r) → times n (concat routes) ≡ 0
+pub nowhere : (routes : List (List ℕ)) (r : Request) → is_planned routes r ≡ false → (n : ℕ) → 1 ≤ times n (numbers_of r) → times n (concat routes) ≡ 0
 nowhere routes (Single s) free n some = elim (eqb_tells n s.number) [
   | inl t ↦ rw t.1 (none_anywhere s.number (concat routes) (or_false (has_stop routes s.number) false free).0)
   | inr t ↦ (let e = none_here n s.number t.0 in absurd (omega arith))

@@ -1,5 +1,6 @@
 pub mod Best
 pub mod Bounds
+pub mod Choosing
 pub mod Costs
 pub mod Crossing
 pub mod Fitting

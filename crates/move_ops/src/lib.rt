@@ -5,10 +5,12 @@ mod cross;
 mod insert;
 mod laws;
 mod lists;
+mod tables;
 
 pub use cross::two_opt_star;
 pub use insert::insert_at;
 pub use laws::{best_insertions_are_least, best_insertions_are_unique, insertions_can_be_put_in};
+pub use tables::Tables;
 
 #[cfg(test)]
 mod tests;
