@@ -264,9 +264,9 @@ module _ (found : NamedAreFound) (stand : RequestsStandByName) (p : Instance) (v
       let at_start : pickup_in a.number (Pair a b) ≡ None = rw (eq-eqb a.number a.number refl) refl in
       let none_start : pickup_at p a.number ≡ None = pickup_own found stand p valid name (Pair a b) named old free a.number start ∙ at_start in
       let begun : picks_up_first p (insert old (i - 1) a.number) ≡ true =
-          first_put p a.number (i - 1) old first
-          (λ n some is. apart found stand p valid name (Pair a b) named old free n a.number (let f = times_split n (i - 1) old in omega arith) start is)
-          (λ q is. absurd (none_some q (sym none_start ∙ is))) in
+      first_put p a.number (i - 1) old first
+      (λ n some is. apart found stand p valid name (Pair a b) named old free n a.number (let f = times_split n (i - 1) old in omega arith) start is)
+      (λ q is. absurd (none_some q (sym none_start ∙ is))) in
       first_put p b.number (j - 1) (insert old (i - 1) a.number) begun
       (λ n some is. elim (eqb_tells n a.number) [
         | inl t ↦ none_some b.number (sym none_start ∙ (ap (pickup_at p) (sym t.1) ∙ is))
@@ -277,11 +277,11 @@ module _ (found : NamedAreFound) (stand : RequestsStandByName) (p : Instance) (v
             apart found stand p valid name (Pair a b) named old free n b.number (omega arith) finish is)
       ])
       (λ q is. (
-        let told = pickup_first (Pair a b) b.number q (sym (pickup_own found stand p valid name (Pair a b) named old free b.number finish) ∙ is) in
-        let low = places.0 in
-        let order = places.1 in
-        let high = places.2 in
-        subst (λ (m : ℕ). times m (drop (j - 1) (insert old (i - 1) a.number)) ≡ 0) told.1 (drop_past a.number (i - 1) (j - 1) old (omega arith) (omega arith) (free a.number start))))
+      let told = pickup_first (Pair a b) b.number q (sym (pickup_own found stand p valid name (Pair a b) named old free b.number finish) ∙ is) in
+      let low = places.0 in
+      let order = places.1 in
+      let high = places.2 in
+      subst (λ (m : ℕ). times m (drop (j - 1) (insert old (i - 1) a.number)) ≡ 0) told.1 (drop_past a.number (i - 1) (j - 1) old (omega arith) (omega arith) (free a.number start))))
 
   module _ (name : ℕ) (r : Request) (named : lookup (nat_eq name) p.requests ≡ Some r) (old : List ℕ) (free : (n : ℕ) → 1 ≤ times n (numbers_of r) → times n old ≡ 0) (i j : ℕ) (places : ArePlaces r (length old) i j)
       (feasible : feasible_alone p old ≡ true) where

@@ -54,7 +54,7 @@ front_inserted (Pair a b) route i j k n below order at = front_put (put_at route
 found_live : NamedAreFound → (p : Instance) (name n : ℕ) (r : Request) → IsInstance p → lookup (nat_eq name) p.requests ≡ Some r → IsSome (stop_in n r) → IsLive p n
 found_live found p name n r valid at some = subst (λ o. IsSome o) (sym (found p n name r valid at some).stop) some
 
-valid_request : (es : List (ℕ × Request)) (name : ℕ) (r : Request) → AllByRecursion (λ e. IsRequest e.1) es → lookup (nat_eq name) es ≡ Some r → IsRequest r
+pub valid_request : (es : List (ℕ × Request)) (name : ℕ) (r : Request) → AllByRecursion (λ e. IsRequest e.1) es → lookup (nat_eq name) es ≡ Some r → IsRequest r
 valid_request [] name r valid at = absurd (none_some r at)
 valid_request (e ∷ es) name r valid at = elim (eqb_tells name e.0) [
   | inl t ↦ subst IsRequest (some_same e.1 r (rw t.0 at at)) valid.0

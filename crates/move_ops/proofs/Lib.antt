@@ -1,4 +1,5 @@
-pub mod Best
+pub mod Asked
+pub mod BestLemmas
 pub mod Bounds
 pub mod Choosing
 pub mod Costs

@@ -1,11 +1,12 @@
 //! Where a request is put into a plan best, by a table for each vehicle.
 ghost use Rattle.std.specs.Prelude.{◌≡◌, ◌≤◌, ◌+◌, true, false, Some, IfOk, IsSome, length};
+ghost use Rattle.std.specs.Option.{option_map};
 ghost use Rattle.plan_types.specs.Instance.{IsInstance};
 ghost use Rattle.plan_types.specs.Request.{request_name, IsRequest};
 ghost use Rattle.slack_tables.specs.Course.{route_of, IsCourseIn};
-ghost use Rattle.move_ops.specs.Insertion.{request_named};
+ghost use Rattle.move_ops.specs.Insertion.{request_named, best_insertion};
 ghost use Rattle.move_ops.specs.Tables.{plan_of};
-ghost use Rattle.move_ops.specs.Choosing.{opens, bound_of, IsAsked, IsBestUpTo, IsBetter};
+ghost use Rattle.move_ops.specs.Choosing.{opens, bound_of, place_found, IsAsked, IsBetter};
 
 use crate::laws::{best_insertions_are_least, best_insertions_are_unique};
 use crate::lists::of_vehicle;
@@ -46,7 +47,6 @@ impl Tables {
     ghost use Rattle.std.specs.Option.{IsSomeAnd};
     ghost use Rattle.route_sched.specs.Cost.{is_planned};
     ghost use Rattle.plan_audit.specs.Passes.{passes};
-    ghost use Rattle.move_ops.specs.Insertion.{best_insertion};
     ghost use Rattle.move_ops.specs.Tables.{tables_of, AreTablesIn};
 
     /// The tables of a plan that passes.
@@ -72,8 +72,6 @@ impl Tables {
         requires free { IsSomeAnd (request_named problem.now name) (λ r. is_planned (plan_of self.now) r ≡ false) }
         ensures { result ≡ best_insertion problem.now pins.now.routes (plan_of self.now) name }
     {
-        best_insertions_are_least();
-        best_insertions_are_unique();
         let request = live_request(problem, name);
         let tables = self.tables.as_slice();
         match best_of(problem, pins.routes.as_slice(), tables, request) {
@@ -105,8 +103,10 @@ fn best_of(
     request: &Request,
 ) -> Option<Found>
     requires { IsAsked problem.now pins.now tables.now request.now }
-    ensures { IsBestUpTo problem.now pins.now (plan_of tables.now) request.now (length tables.now) result }
+    ensures { option_map place_found result ≡ best_insertion problem.now pins.now (plan_of tables.now) (request_name request.now) }
 {
+    best_insertions_are_least();
+    best_insertions_are_unique();
     requests_are_found_by_stop();
     requests_stand_by_name();
     passes_are_local();
