@@ -27,10 +27,10 @@ abbrev pub numbers_of : Request → List ℕ
 numbers_of (Single s) = s.number ∷ []
 numbers_of (Pair a b) = a.number ∷ b.number ∷ []
 
-times_put : (n : ℕ) (route : List ℕ) (i m : ℕ) → times n (put_at route i m) ≡ times n route + cond (eqb n m) 1 0
+pub times_put : (n : ℕ) (route : List ℕ) (i m : ℕ) → times n (put_at route i m) ≡ times n route + cond (eqb n m) 1 0
 times_put n route i m = let e = times-append n (take (i - 1) route) (m ∷ drop (i - 1) route) in let f = times_split n (i - 1) route in omega arith
 
-times_inserted : (n : ℕ) (r : Request) (i j : ℕ) (route : List ℕ) → times n (inserted r i j route) ≡ times n route + times n (numbers_of r)
+pub times_inserted : (n : ℕ) (r : Request) (i j : ℕ) (route : List ℕ) → times n (inserted r i j route) ≡ times n route + times n (numbers_of r)
 times_inserted n (Single s) i j route = let e = times_put n route i s.number in omega arith
 times_inserted n (Pair a b) i j route =
     let e = times_put n route i a.number in let f = times_put n (put_at route i a.number) j b.number in omega arith
