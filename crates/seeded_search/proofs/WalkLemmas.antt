@@ -140,7 +140,7 @@ module _ (p : Instance) (pins : List (List ℕ)) where
         let one : count - k ≡ suc (count - (k + 1)) = omega arith in
         let there : n + k + 1 ≡ n + (k + 1) = omega arith in
         let same : new ≡ step p pins deviation seed (n + k) s =
-            made ∙ ap (λ ws. moved_on_by p deviation s (candidate p pins s.working ws)) (is_words ∙ (ap (λ x. step_words x number) is_seed ∙ ap (step_words seed) is_number)) in
+        made ∙ ap (λ ws. moved_on_by p deviation s (candidate p pins s.working ws)) (is_words ∙ (ap (λ x. step_words x number) is_seed ∙ ap (step_words seed) is_number)) in
         ap (λ m. steps p pins deviation seed m (count - (k + 1)) new) (sym there)
         ∙ (ap (λ t. steps p pins deviation seed (n + k + 1) (count - (k + 1)) t) same ∙ (ap (λ m. steps p pins deviation seed (n + k) m s) (sym one) ∙ so_far))
 
