@@ -7,5 +7,6 @@ pub mod Crossing
 pub mod Fitting
 pub mod Inserting
 pub mod Places
+pub mod Refreshing
 pub mod Replacing
 pub mod Times
