@@ -175,7 +175,7 @@ impl RouteTable {
     }
 }
 
-fn place_at(places: &[Place], place: usize) -> &Place
+pub(crate) fn place_at(places: &[Place], place: usize) -> &Place
     requires { place < length places.now }
     ensures { (d : Place) → result.now ≡ slice_index_or places.now place d }
 {
