@@ -18,4 +18,6 @@ pub use laws::{
 pub use tables::Tables;
 
 #[cfg(test)]
+mod best_tests;
+#[cfg(test)]
 mod tests;
