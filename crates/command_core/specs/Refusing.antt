@@ -15,9 +15,17 @@ use Rattle.command_core.specs.declared.commands.Command.TheVariants.{Load, Add, 
 use Rattle.command_core.specs.declared.refusals.Refusal.{Refusal}
 use Rattle.command_core.specs.declared.refusals.Refusal.TheVariants.{NoInstance, Range, NoSuchRequest, Pinned, NoSuchPlace, NotARoute, NumbersSpent, StepsSpent}
 
--- none of so many new stops would have a number above 40,000
-abbrev pub has_numbers : Instance → ℕ → Bool
-has_numbers p count = nat_le (p.next_number + count) 40001
+-- so many new stops, where their fields keep the limits or not: no number is above 40,000
+abbrev pub add_refusal : Instance → Bool → ℕ → Option Refusal
+add_refusal p are_limits_kept stops =
+    if not are_limits_kept then Some Range else if nat_le (p.next_number + stops) 40001 then None else Some NumbersSpent
+
+-- a request that is there, and is pinned or not
+abbrev pub pinned_refusal : JobValue → Request → Option Refusal
+pinned_refusal j r = if is_planned j.pins r then Some Pinned else None
+
+abbrev pub withdraw_refusal : JobValue → ℕ → Option Refusal
+withdraw_refusal j name = option_map_or (pinned_refusal j) (request_named j.problem name) (Some NoSuchRequest)
 
 -- there is such a vehicle
 abbrev pub is_vehicle : Instance → ℕ → Bool
@@ -27,25 +35,34 @@ is_vehicle p v = nat_le 1 v && nat_le v p.fleet
 abbrev pub is_place : JobValue → ℕ → ℕ → Bool
 is_place j v k = is_vehicle j.problem v && nat_le k (length (of_vehicle j.plan v))
 
--- a search of one command
-abbrev pub is_count : ℕ → Bool
-is_count count = nat_le 1 count && nat_le count 256
+-- the first k stops of its route must be a route of their own
+abbrev pub pin_refusal : JobValue → ℕ → ℕ → Option Refusal
+pin_refusal j v k =
+    if not (is_place j v k) then Some NoSuchPlace else if feasible_alone j.problem (take k (of_vehicle j.plan v)) then None else Some NotARoute
 
-abbrev pub pinned_or_none : JobValue → Request → Option Refusal
-pinned_or_none j r = if is_planned j.pins r then Some Pinned else None
+abbrev pub unpin_refusal : Instance → ℕ → Option Refusal
+unpin_refusal p v = if is_vehicle p v then None else Some NoSuchPlace
+
+-- so many steps beside those already made
+abbrev pub search_refusal : ℕ → ℕ → Option Refusal
+search_refusal steps count =
+    if not (nat_le 1 count && nat_le count 256) then Some Range else if nat_le (steps + count) (2 ^ 60) then None else Some StepsSpent
+
+abbrev pub deviation_refusal : ℕ → Option Refusal
+deviation_refusal d = if nat_le d 1000000000 then None else Some Range
 
 -- why a job refuses a command
 abbrev pub job_refusal : JobValue → Command → Option Refusal
 job_refusal j (Load p seed) = None
-job_refusal j (Add q a b) = if not (is_demand q && (is_spot a && is_spot b)) then Some Range else if has_numbers j.problem 2 then None else Some NumbersSpent
-job_refusal j (Add1 q s) = if not (is_demand q && is_spot s) then Some Range else if has_numbers j.problem 1 then None else Some NumbersSpent
-job_refusal j (Withdraw name) = option_map_or (pinned_or_none j) (request_named j.problem name) (Some NoSuchRequest)
-job_refusal j (Pin v k) = if not (is_place j v k) then Some NoSuchPlace else if feasible_alone j.problem (take k (of_vehicle j.plan v)) then None else Some NotARoute
-job_refusal j (Unpin v) = if is_vehicle j.problem v then None else Some NoSuchPlace
+job_refusal j (Add q a b) = add_refusal j.problem (is_demand q && (is_spot a && is_spot b)) 2
+job_refusal j (Add1 q s) = add_refusal j.problem (is_demand q && is_spot s) 1
+job_refusal j (Withdraw name) = withdraw_refusal j name
+job_refusal j (Pin v k) = pin_refusal j v k
+job_refusal j (Unpin v) = unpin_refusal j.problem v
 job_refusal j Build = None
-job_refusal j (Search count) = if not (is_count count) then Some Range else if nat_le (j.steps + count) (2 ^ 60) then None else Some StepsSpent
+job_refusal j (Search count) = search_refusal j.steps count
 job_refusal j Checkpoint = None
-job_refusal j (Deviation d) = if nat_le d 1000000000 then None else Some Range
+job_refusal j (Deviation d) = deviation_refusal d
 
 -- why a state does: before the first Load, nothing but a Load is accepted
 abbrev pub refusal : State → Command → Option Refusal
