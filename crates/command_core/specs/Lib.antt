@@ -3,6 +3,7 @@ pub mod Effects
 pub mod Job
 pub mod Names
 pub mod Refusing
+pub mod RunLaws
 pub mod Runs
 pub mod Wishes
 -- of private functions alone
