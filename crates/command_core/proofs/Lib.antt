@@ -1,4 +1,5 @@
 pub mod AddLemmas
+pub mod AuditLemmas
 pub mod CountLemmas
 pub mod Examples
 pub mod FactLemmas

@@ -8,3 +8,4 @@ pub mod Runs
 pub mod Wishes
 -- of private functions alone
 pub mod Fields
+pub mod Passing

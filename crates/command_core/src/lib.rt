@@ -3,11 +3,13 @@
 
 mod checking;
 mod commands;
+mod effects;
 mod laws;
 mod limits;
 mod lists;
 mod refusals;
 mod states;
+mod withdrawing;
 
 pub use checking::check;
 pub use commands::{Command, Spot};
