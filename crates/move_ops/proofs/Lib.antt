@@ -1,6 +1,14 @@
-pub mod Best
+pub mod Asked
+pub mod BestLemmas
+pub mod Bounds
+pub mod Changing
+pub mod Choosing
+pub mod Costs
 pub mod Crossing
+pub mod Exchanging
+pub mod Fitting
 pub mod Inserting
 pub mod Places
+pub mod Removing
 pub mod Replacing
 pub mod Times

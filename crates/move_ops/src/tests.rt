@@ -7,6 +7,8 @@ use plan_types::{Kind, Pins, Plan, Problem, Request, Route, Routes, Stop};
 use std::alloc::Global;
 use std::test::Fail;
 
+mod rearranging;
+
 fn stop_at(number: u32, place: (i32, i32), demand: i32, latest: u32) -> Stop {
     Stop {
         number,

@@ -1,11 +1,14 @@
 pub mod AlongLemmas
+pub mod BestLemmas
 pub mod CourseLemmas
 pub mod FillLemmas
+pub mod FirstLemmas
 pub mod InsertLemmas
 pub mod KnownLemmas
 pub mod LatestLemmas
 pub mod OpenLemmas
 pub mod ReadLemmas
+pub mod ScanLemmas
 pub mod SpliceLemmas
 pub mod TableLemmas
 pub mod TestLemmas

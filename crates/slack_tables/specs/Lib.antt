@@ -1,4 +1,5 @@
 -- what public contracts say
+pub mod Best
 pub mod Course
 pub mod Insertion
 pub mod Latest
@@ -9,3 +10,4 @@ pub mod Filled
 pub mod Inside
 pub mod Opened
 pub mod Places
+pub mod Scan

@@ -3,9 +3,11 @@
 
 mod insertion;
 mod progress;
+mod scan;
 mod slack;
 mod table;
 
+pub use scan::Addition;
 pub use table::RouteTable;
 
 #[cfg(test)]

@@ -66,10 +66,10 @@ not_cases true = inl refl
 not_cases false = inr refl
 
 -- the order of places, as a sentence
-abbrev Behind : ℕ → ℕ → ℕ → ℕ → Type 0
+abbrev pub Behind : ℕ → ℕ → ℕ → ℕ → Type 0
 Behind b c e f = (b < e) ⊎ ((b ≡ e) × (c ≤ f))
 
-abbrev Later : Place → Place → Type 0
+abbrev pub Later : Place → Place → Type 0
 Later x y = (x.0 < y.0) ⊎ ((x.0 ≡ y.0) × Behind x.1 x.2 y.1 y.2)
 
 behind_said : (b c e f : ℕ) → (ltb b e || (eqb b e && leb c f)) ≡ true → Behind b c e f
@@ -92,7 +92,7 @@ later_said x y h = elim (or_cases (ltb x.0 y.0) (eqb x.0 y.0 && (ltb x.1 y.1 || 
       inr (eqb-true x.0 y.0 both.0, behind_said x.1 x.2 y.1 y.2 both.1))
 ]
 
-said_later : (x y : Place) → Later x y → is_no_later x y ≡ true
+pub said_later : (x y : Place) → Later x y → is_no_later x y ≡ true
 said_later x y h = elim h [
   | inl l ↦ or_left (ltb x.0 y.0) (eqb x.0 y.0 && (ltb x.1 y.1 || (eqb x.1 y.1 && leb x.2 y.2))) (lt-ltb x.0 y.0 l)
   | inr r ↦ or_right (ltb x.0 y.0) (eqb x.0 y.0 && (ltb x.1 y.1 || (eqb x.1 y.1 && leb x.2 y.2)))
@@ -199,7 +199,7 @@ module _ (costs_total : CostsAreTotal) (costs_transitive : CostsAreTransitive) (
     ]
   ]
 
-  both_transitive : (a b c : Cost) (x y z : Place) → by_both a b x y ≡ true → by_both b c y z ≡ true → by_both a c x z ≡ true
+  pub both_transitive : (a b c : Cost) (x y z : Place) → by_both a b x y ≡ true → by_both b c y z ≡ true → by_both a c x z ≡ true
   both_transitive a b c x y z h k = elim (or_cases (cost_below a b) (cost_at_most a b && is_no_later x y) h) [
     | inl lt ↦ or_left (cost_below a c) (cost_at_most a c && is_no_later x z) (elim (or_cases (cost_below b c) (cost_at_most b c && is_no_later y z) k) [
       | inl lt2 ↦ below_at_most a b c lt (weaken b c lt2)
