@@ -4,6 +4,7 @@ pub mod CountLemmas
 pub mod Examples
 pub mod FactLemmas
 pub mod ListLemmas
+pub mod NameLemmas
 pub mod NumberLemmas
 pub mod PassLemmas
 pub mod PinLemmas

@@ -69,7 +69,7 @@ unpinned j v = with_pins j (with_route j.pins v [])
 -- Build: each unplanned request, by rising name, is put at its best insertion, or stays unplanned where it has none
 abbrev pub built : JobValue → JobValue
 built j =
-    let plan = placed_all j.problem j.pins j.plan (unplanned_names j.problem j.pins j.plan) in
+    let plan = placed_all j.problem j.pins j.plan (unplanned_names j.problem j.plan) in
     record j { plan = plan; work = plan }
 
 -- Search: so many steps, from the number of those already made on
