@@ -6,6 +6,7 @@ pub mod FirstLemmas
 pub mod InsertLemmas
 pub mod KnownLemmas
 pub mod LatestLemmas
+pub mod LegLemmas
 pub mod OpenLemmas
 pub mod ReadLemmas
 pub mod ScanLemmas

@@ -9,7 +9,8 @@ use Rattle.plan_types.specs.declared.requests.Stop.{Stop}
 use Rattle.nint_dist.specs.Distance.{distance}
 use Rattle.slack_tables.specs.Driven.{bears, stepped, walked, joined, with_pair, IsSmallPlace}
 use Rattle.slack_tables.specs.Ride.{ride_at, ride_of, driven, is_kept, is_borne, ridden, is_served, price, served, served_below, IsSmallRide, IsNearRide}
-use Rattle.slack_tables.specs.Scan.{offered, AreLinked, IsNearUnderway, picked_up, gone_on}
+use Rattle.slack_tables.specs.Legs.{AreLinked}
+use Rattle.slack_tables.specs.Scan.{offered, IsNearUnderway, picked_up, gone_on}
 use Rattle.slack_tables.specs.declared.progress.Limits.{Limits}
 use Rattle.slack_tables.specs.declared.progress.Progress.{Progress}
 use Rattle.slack_tables.specs.declared.progress.Place.{Place}

@@ -60,10 +60,6 @@ abbrev pub accepted : Best → Option Addition → Best
 accepted best None = best
 accepted best (Some a) = record { bound = a.distance; found = Some a }
 
--- each place tells how far the next one is
-abbrev pub AreLinked : List Place → Type 0
-AreLinked places = (k : ℕ) (d : Place) → k + 1 < length places → (slice_index_or places (k + 1) d).at.distance ≡ (slice_index_or places k d).at.distance + distance (slice_index_or places k d).at.stop (slice_index_or places (k + 1) d).at.stop
-
 -- at the pickup, if it keeps the limits
 abbrev pub picked_up : Limits → Progress → Stop → Stop → Stop → Option Underway
 picked_up limits before p q next =

@@ -5,8 +5,9 @@ ghost use Rattle.plan_types.specs.Limits.{IsVisit};
 ghost use Rattle.slack_tables.specs.declared.progress.Place.{Place};
 ghost use Rattle.slack_tables.specs.Best.{IsFirstOf};
 ghost use Rattle.slack_tables.specs.Driven.{IsSmall, IsSmallPlace};
+ghost use Rattle.slack_tables.specs.Legs.{AreLinked};
 ghost use Rattle.slack_tables.specs.Ride.{IsSmallRide, IsNearRide};
-ghost use Rattle.slack_tables.specs.Scan.{AddsSingle, AddsPair, AddsDelivery, AreLinked, IsNearUnderway, picked_up, gone_on, none_below, offered, accepted};
+ghost use Rattle.slack_tables.specs.Scan.{AddsSingle, AddsPair, AddsDelivery, IsNearUnderway, picked_up, gone_on, none_below, offered, accepted};
 
 use crate::insertion::single_added;
 use crate::progress::{Limits, Place, Progress};
