@@ -1,6 +1,7 @@
 pub mod AlongLemmas
 pub mod BestLemmas
 pub mod CourseLemmas
+pub mod DetourLemmas
 pub mod FillLemmas
 pub mod FirstLemmas
 pub mod InsertLemmas

@@ -13,3 +13,4 @@ pub mod Opened
 pub mod Places
 pub mod Ride
 pub mod Scan
+pub mod Walk

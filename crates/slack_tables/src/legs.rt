@@ -4,7 +4,7 @@ ghost use Rattle.std.specs.Prelude.{◌≡◌, ◌+◌, ◌^◌, ◌≤◌, ◌<
 ghost use Rattle.std.specs.Int.{int_min};
 ghost use Rattle.plan_types.specs.Limits.{IsVisit};
 ghost use Rattle.nint_dist.specs.Distance.{distance};
-ghost use Rattle.std.specs.Prelude.{slice_index_or, ℤ, pos, ◌+ℤ◌, ◌≤ℤ◌, unsigned_abs};
+ghost use Rattle.std.specs.Prelude.{slice_index_or, ℤ, pos, ◌+ℤ◌, ◌-ℤ◌, ◌≤ℤ◌, unsigned_abs};
 ghost use Rattle.slack_tables.specs.declared.progress.Place.{Place};
 ghost use Rattle.slack_tables.specs.Driven.{IsSmallPlace};
 ghost use Rattle.slack_tables.specs.Legs.{AreLegs, AreLeast, detour_of};
@@ -87,13 +87,24 @@ fn lesser(a: i64, b: i64) -> i64
     a.min(b)
 }
 
-/// Whether it is known that from place `k` on each detour, with what is added before, comes to the
-/// bound.
-pub(crate) fn is_hopeless(least: &[i64], k: usize, before: i64, bound: i64) -> bool
-    requires before { unsigned_abs before ≤ 2 ^ 60 }
+/// Whether it is known that from place `k` on each detour comes to the bound, where the way before
+/// grew from `base` to `reach`.
+pub(crate) fn is_hopeless(least: &[i64], k: usize, reach: u64, base: u64, bound: i64) -> bool
+    requires reach { reach ≤ 2 ^ 59 }
+    requires base { base ≤ 2 ^ 59 }
     requires least { (k : ℕ) → k < length least.now → unsigned_abs (slice_index_or least.now k (pos 0)) ≤ 2 ^ 60 }
     ensures within { IsTrue result → k < length least.now }
-    ensures dear { IsTrue result → bound ≤ℤ (before +ℤ slice_index_or least.now k (pos 0)) }
+    ensures dear { IsTrue result → bound ≤ℤ ((pos reach -ℤ pos base) +ℤ slice_index_or least.now k (pos 0)) }
 {
-    k < least.len() && before + least[k] >= bound
+    k < least.len() && difference(reach, base) + least[k] >= bound
+}
+
+/// A place of a table, whose numbers are far from where sums would wrap.
+pub(crate) fn small_place(places: &[Place], k: usize) -> &Place
+    requires places { All IsSmallPlace places.now }
+    requires within { k < length places.now }
+    ensures place { (d : Place) → result.now ≡ slice_index_or places.now k d }
+    ensures small { IsSmallPlace result.now }
+{
+    place_at(places, k)
 }

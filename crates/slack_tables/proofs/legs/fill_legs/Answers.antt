@@ -1,4 +1,4 @@
-use Rattle.std.proofs.Common.{◌≡◌, arith}
+use Rattle.std.proofs.Common.{arith}
 use Rattle.slack_tables.proofs.LegLemmas.{legs-none, legs-more, legs-all}
 use Rattle.slack_tables.proofs.legs.fill_legs.Goals as goal
 
