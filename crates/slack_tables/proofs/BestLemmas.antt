@@ -12,7 +12,8 @@ use Rattle.slack_tables.specs.Course.{Course, route_of, IsCourseIn}
 use Rattle.slack_tables.specs.Driven.{with_between, with_pair}
 use Rattle.slack_tables.specs.Inside.{AreKnown}
 use Rattle.slack_tables.specs.Insertion.{request_named, inserted, ArePlaces, IsAdded}
-use Rattle.slack_tables.specs.Scan.{AddsSingle, AddsPair, AreLinked}
+use Rattle.slack_tables.specs.Legs.{AreLinked}
+use Rattle.slack_tables.specs.Scan.{AddsSingle, AddsPair}
 use Rattle.slack_tables.specs.declared.progress.Place.{Place}
 use Rattle.slack_tables.specs.declared.scan.Addition.{Addition}
 use Rattle.slack_tables.proofs.AlongLemmas.{length-next}

@@ -1,5 +1,5 @@
 -- A vehicle on its way with a pickup on board, place after place.
-use Rattle.std.proofs.Common.{◌≡◌, ℕ, zero, suc, ◌+◌, ◌-◌, ◌*◌, ◌^◌, ◌<◌, ◌≤◌, Bool, true, false, cond, ◌&&◌, int_lt, ℤ, pos, ◌-ℤ◌, List, [], ◌∷◌, ◌++◌, map, take, drop, get_or, length, Option, Some, None, refl, sym, ap, ◌∙◌, arith, subst}
+use Rattle.std.proofs.Common.{◌≡◌, ℕ, zero, suc, ◌+◌, ◌-◌, ◌^◌, ◌<◌, ◌≤◌, Bool, true, false, cond, ◌&&◌, int_lt, ℤ, pos, ◌-ℤ◌, List, [], ◌∷◌, ◌++◌, map, take, drop, get_or, length, Option, Some, None, refl, sym, ap, ◌∙◌, arith, subst}
 use Rattle.std.specs.Prelude.{All, nat_lt, slice_range, unsigned_abs}
 use Rattle.std.specs.Option.{option_and_then, option_map}
 use Rattle.std.proofs.lemmas.Bool.{ltb-true, ltb-false}
@@ -7,14 +7,17 @@ use Rattle.std.proofs.lemmas.Int.{ints}
 use Rattle.std.proofs.lemmas.List.{take_more, map-append, get_or-drop, length-drop}
 use Rattle.plan_types.specs.declared.requests.Stop.{Stop}
 use Rattle.nint_dist.specs.Distance.{distance}
-use Rattle.slack_tables.specs.Driven.{bears, stepped, walked, joined, with_pair, IsSmallPlace}
+use Rattle.slack_tables.specs.Driven.{bears, stepped, walked, joined, with_between, with_pair, IsSmallPlace}
 use Rattle.slack_tables.specs.Ride.{ride_at, ride_of, driven, is_kept, is_borne, ridden, is_served, price, served, served_below, IsSmallRide, IsNearRide}
-use Rattle.slack_tables.specs.Scan.{offered, AreLinked, IsNearUnderway, picked_up, gone_on}
+use Rattle.slack_tables.specs.Legs.{AreLinked}
+use Rattle.slack_tables.specs.Scan.{offered, IsNearUnderway, picked_up, gone_on}
+use Rattle.slack_tables.specs.Walk.{walk_to, IsUnderway, IsNearWay}
 use Rattle.slack_tables.specs.declared.progress.Limits.{Limits}
 use Rattle.slack_tables.specs.declared.progress.Progress.{Progress}
 use Rattle.slack_tables.specs.declared.progress.Place.{Place}
 use Rattle.slack_tables.specs.declared.ride.Ride.{Ride}
 use Rattle.slack_tables.specs.declared.scan.Best.{Best}
+use Rattle.slack_tables.specs.declared.scan.Trip.{Trip}
 use Rattle.slack_tables.specs.declared.scan.Underway.{Underway}
 
 -- the way back is as long
@@ -73,11 +76,7 @@ walked-push limits at (t ∷ ss) s = by (stepped limits at t) (λ b. walked-push
     by (Some b) each = each b
 
 module _ (limits : Limits) (places : List Place) (p : Stop) (i : ℕ) (d : Place) where
-  -- the pickup behind place i - 1, then the places up to j - 2
-  unfoldable pub walk_to : ℕ → Option Progress
-  walk_to j = option_and_then (λ at. walked limits at (map (λ e. e.at.stop) (slice_range places i (j - 1)))) (stepped limits (get_or places (i - 1) d).at p)
-
-  pub walk-first : walk_to (i + 1) ≡ stepped limits (get_or places (i - 1) d).at p
+  pub walk-first : walk_to limits places p i d (i + 1) ≡ stepped limits (get_or places (i - 1) d).at p
   unfolding walk_to
   walk-first =
       let none : i + 1 - 1 - i ≡ 0 = omega arith in
@@ -96,7 +95,7 @@ module _ (limits : Limits) (places : List Place) (p : Stop) (i : ℕ) (d : Place
       let split : slice_range places i (j + 1 - 1) ≡ slice_range places i (j - 1) ++ get_or places (j - 1) d ∷ [] = ap (λ n. take n (drop i places)) one ∙ (more ∙ ap (λ e. take (j - 1 - i) (drop i places) ++ e ∷ []) last) in
       ap (λ xs. map (λ (e : Place). e.at.stop) xs) split ∙ map-append (λ (e : Place). e.at.stop) (slice_range places i (j - 1)) (get_or places (j - 1) d ∷ [])
 
-  pub walk-more : (j : ℕ) → i < j → j ≤ length places → walk_to (j + 1) ≡ option_and_then (λ at. stepped limits at (get_or places (j - 1) d).at.stop) (walk_to j)
+  pub walk-more : (j : ℕ) → i < j → j ≤ length places → walk_to limits places p i d (j + 1) ≡ option_and_then (λ at. stepped limits at (get_or places (j - 1) d).at.stop) (walk_to limits places p i d j)
   unfolding walk_to
   walk-more j order within = by (stepped limits (get_or places (i - 1) d).at p)
     where
@@ -105,23 +104,23 @@ module _ (limits : Limits) (places : List Place) (p : Stop) (i : ℕ) (d : Place
       by (Some at) = ap (λ ss. walked limits at ss) (stops-more j order within) ∙ walked-push limits at (map (λ (e : Place). e.at.stop) (slice_range places i (j - 1))) (get_or places (j - 1) d).at.stop
 
   -- where the vehicle can't go on, it doesn't come further
-  walk-over : (j n : ℕ) → i < j → j + n ≤ length places + 1 → walk_to j ≡ None → walk_to (j + n) ≡ None
-  walk-over j zero order within never = let same : j + 0 ≡ j = omega arith in ap walk_to same ∙ never
+  walk-over : (j n : ℕ) → i < j → j + n ≤ length places + 1 → walk_to limits places p i d j ≡ None → walk_to limits places p i d (j + n) ≡ None
+  walk-over j zero order within never = let same : j + 0 ≡ j = omega arith in ap (walk_to limits places p i d) same ∙ never
   walk-over j (suc n) order within never =
       let next : j + suc n ≡ (j + n) + 1 = omega arith in
-      let before : walk_to (j + n) ≡ None = walk-over j n order (omega arith) never in
-      ap walk_to next ∙ (walk-more (j + n) (omega arith) (omega arith) ∙ ap (λ o. option_and_then (λ at. stepped limits at (get_or places (j + n - 1) d).at.stop) o) before)
+      let before : walk_to limits places p i d (j + n) ≡ None = walk-over j n order (omega arith) never in
+      ap (walk_to limits places p i d) next ∙ (walk-more (j + n) (omega arith) (omega arith) ∙ ap (λ o. option_and_then (λ at. stepped limits at (get_or places (j + n - 1) d).at.stop) o) before)
 
   module _ (q : Stop) where
     -- nor does a delivery further on keep the limits
-    pub pair-over : (j k : ℕ) → i < j → j ≤ k → k ≤ length places → walk_to j ≡ None → with_pair limits places p q i k d ≡ None
+    pub pair-over : (j k : ℕ) → i < j → j ≤ k → k ≤ length places → walk_to limits places p i d j ≡ None → with_pair limits places p q i k d ≡ None
     unfolding walk_to
     pair-over j k order behind within never =
         let far : j + (k - j) ≡ k = omega arith in
-        let there : walk_to k ≡ None = subst (λ m. walk_to m ≡ None) far (walk-over j (k - j) order (omega arith) never) in
+        let there : walk_to limits places p i d k ≡ None = subst (λ m. walk_to limits places p i d m ≡ None) far (walk-over j (k - j) order (omega arith) never) in
         ap (λ o. option_and_then (λ at. joined limits at (get_or places (k - 1) d)) (option_and_then (λ at. stepped limits at q) o)) there
 
-    pub pair-served : (j : ℕ) (r : Ride) (a : Stop) → walk_to j ≡ Some (ride_at r a) → with_pair limits places p q i j d ≡ served limits r a.service (distance a q) q (distance q (get_or places (j - 1) d).at.stop) (get_or places (j - 1) d)
+    pub pair-served : (j : ℕ) (r : Ride) (a : Stop) → walk_to limits places p i d j ≡ Some (ride_at r a) → with_pair limits places p q i j d ≡ served limits r a.service (distance a q) q (distance q (get_or places (j - 1) d).at.stop) (get_or places (j - 1) d)
     unfolding walk_to
     pair-served j r a here =
         ap (λ o. option_and_then (λ at. joined limits at (get_or places (j - 1) d)) (option_and_then (λ at. stepped limits at q) o)) here ∙ served-is limits r a q (get_or places (j - 1) d)
@@ -140,43 +139,37 @@ linked-edge places linked j d one within =
     omega arith
 
 -- ---- the loop over the delivery's places
--- before place j - 1 of the table, with the pickup on board
-pub record IsUnderway (limits : Limits) (places : List Place) (p q : Stop) (i j : ℕ) (d : Place) (on : Underway) : Type 0 where
-  pub stop : Stop
-  pub walk : walk_to limits places p i d j ≡ Some (ride_at on.ride stop)
-  pub service : on.service ≡ stop.service
-  pub to_delivery : on.to_delivery ≡ distance stop q
-  pub onward : on.onward ≡ distance stop (get_or places (j - 1) d).at.stop
-
--- how much may have come together there
-pub record IsNearWay (places : List Place) (j : ℕ) (d : Place) (on : Underway) : Type 0 where
-  pub start : on.ride.start + on.onward ≤ 2 ^ 52 + j * 2 ^ 33 + (get_or places (j - 1) d).at.distance
-  pub load : unsigned_abs on.ride.load ≤ 2 ^ 52 + j * 2 ^ 33
-  pub distance : on.ride.distance + on.onward ≤ 2 ^ 52 + (get_or places (j - 1) d).at.distance
-  pub to_delivery : on.to_delivery ≤ 2828427
-
 pub small-place : (places : List Place) (k : ℕ) (e : Place) → All IsSmallPlace places → k < length places → ((d : Place) → e ≡ get_or places k d) → IsSmallPlace e
 small-place places k e small h is = subst IsSmallPlace (sym (is e)) (small k e h)
 
 module _ (limits : Limits) (places : List Place) (p q : Stop) (i : ℕ) (d : Place) where
-  pub underway-begin : (before next : Place) (on : Underway) → before ≡ get_or places (i - 1) d → next ≡ get_or places i d → Some on ≡ picked_up limits before.at p q next.at.stop → IsUnderway limits places p q i (i + 1) d on
-  underway-begin before next on is_before is_next made = by (ridden limits (ride_of before.at) before.at.stop.service (distance before.at.stop p) p) refl made
-    where
-      first : walk_to limits places p i d (i + 1) ≡ option_map (λ r. ride_at r p) (ridden limits (ride_of before.at) before.at.stop.service (distance before.at.stop p) p)
-      first = walk-first limits places p i d ∙ (ap (λ (e : Place). stepped limits e.at p) (sym is_before) ∙ stepped-is limits (ride_of before.at) before.at.stop p)
+  module _ (t : Trip) (before : Place) (to onward : ℕ) (is_limits : t.limits ≡ limits) (is_p : t.pickup ≡ p) (is_before : before ≡ get_or places (i - 1) d) (is_to : to ≡ distance before.at.stop p) where
+    first : walk_to limits places p i d (i + 1) ≡ option_map (λ r. ride_at r p) (ridden t.limits (ride_of before.at) before.at.stop.service to t.pickup)
+    first = walk-first limits places p i d ∙ (ap (λ (e : Place). stepped limits e.at p) (sym is_before) ∙ (stepped-is limits (ride_of before.at) before.at.stop p ∙ rw (is_to, is_limits, is_p) refl))
 
-      by : (o : Option Ride) → ridden limits (ride_of before.at) before.at.stop.service (distance before.at.stop p) p ≡ o → Some on ≡ option_map (λ r. record { ride = r; service = p.service; to_delivery = distance p q; onward = distance p next.at.stop }) o → IsUnderway limits places p q i (i + 1) d on
-      by None _ made = absurd (cc)
-      by (Some r) is made =
-          let same : on ≡ record { ride = r; service = p.service; to_delivery = distance p q; onward = distance p next.at.stop } = cc in
-          let here : i + 1 - 1 ≡ i = omega arith in
-          record {
-            stop = p;
-            walk = first ∙ (ap (λ o. option_map (λ r. ride_at r p) o) is ∙ ap (λ (w : Underway). Some (ride_at w.ride p)) (sym same));
-            service = ap (λ w. w.service) same;
-            to_delivery = ap (λ w. w.to_delivery) same;
-            onward = ap (λ w. w.onward) same ∙ (ap (λ (e : Place). distance p e.at.stop) is_next ∙ ap (λ k. distance p (get_or places k d).at.stop) (sym here));
-          }
+    pub underway-begin : (on : Underway) → t.delivery ≡ q → t.across ≡ distance t.pickup t.delivery → onward ≡ distance (get_or places i d).at.stop p → Some on ≡ picked_up t before.at to onward → IsUnderway limits places p q i (i + 1) d on
+    underway-begin on is_q is_across is_onward made = by (ridden t.limits (ride_of before.at) before.at.stop.service to t.pickup) refl made
+      where
+        by : (o : Option Ride) → ridden t.limits (ride_of before.at) before.at.stop.service to t.pickup ≡ o → Some on ≡ option_map (λ r. record { ride = r; service = t.pickup.service; to_delivery = t.across; onward = onward }) o → IsUnderway limits places p q i (i + 1) d on
+        by None _ made = absurd (cc)
+        by (Some r) is made =
+            let same : on ≡ record { ride = r; service = t.pickup.service; to_delivery = t.across; onward = onward } = cc in
+            let here : i + 1 - 1 ≡ i = omega arith in
+            record {
+              stop = p;
+              walk = first ∙ (ap (λ o. option_map (λ r. ride_at r p) o) is ∙ ap (λ (w : Underway). Some (ride_at w.ride p)) (sym same));
+              service = ap (λ w. w.service) same ∙ ap (λ (x : Stop). x.service) is_p;
+              to_delivery = ap (λ w. w.to_delivery) same ∙ (is_across ∙ rw (is_p, is_q) refl);
+              onward = ap (λ w. w.onward) same ∙ (is_onward ∙ (distance-back (get_or places i d).at.stop p ∙ ap (λ k. distance p (get_or places k d).at.stop) (sym here)));
+            }
+
+    -- where the pickup exceeds a limit, there is no place for the delivery
+    pub not-begun : None ≡ picked_up t before.at to onward → (j : ℕ) → i + 1 ≤ j → j ≤ length places → with_pair limits places p q i j d ≡ None
+    not-begun made j behind last = by (ridden t.limits (ride_of before.at) before.at.stop.service to t.pickup) refl made
+      where
+        by : (o : Option Ride) → ridden t.limits (ride_of before.at) before.at.stop.service to t.pickup ≡ o → ◌≡◌ {A = Option Underway} None (option_map (λ r. record { ride = r; service = t.pickup.service; to_delivery = t.across; onward = onward }) o) → with_pair limits places p q i j d ≡ None
+        by (Some r) _ made = absurd (cc)
+        by None is made = pair-over limits places p i d q (i + 1) j (omega arith) behind last (first ∙ ap (λ o. option_map (λ r. ride_at r p) o) is)
 
   pub near-begin : (on : Underway) → IsNearUnderway on → IsNearWay places (i + 1) d on
   near-begin on near =
@@ -216,7 +209,7 @@ module _ (limits : Limits) (places : List Place) (p q : Stop) (i : ℕ) (d : Pla
         by false _ made = absurd (cc)
         by true more _ = ltb-true _ _ more
 
-    pub near-more : IsNearWay places j d on → AreLinked places → 1 ≤ i → (to : ℕ) (next : Underway) → to ≤ 2828427 → Some next ≡ gone_on limits on places j to d → IsNearRide on.ride on.onward next.ride → IsNearWay places (j + 1) d next
+    pub near-more : IsNearWay places j d on → AreLinked places → 1 ≤ i → (to : ℕ) (next : Underway) → to ≤ 2 ^ 32 → Some next ≡ gone_on limits on places j to d → IsNearRide on.ride on.onward next.ride → IsNearWay places (j + 1) d next
     near-more is linked one to next is_to made near = by (nat_lt j (length places)) refl (ridden limits on.ride on.service on.onward (get_or places (j - 1) d).at.stop) made
       where
         by : (b : Bool) → nat_lt j (length places) ≡ b → (o : Option Ride) → Some next ≡ cond b (option_map (λ r. record { ride = r; service = (get_or places (j - 1) d).at.stop.service; to_delivery = to; onward = (get_or places j d).at.distance - (get_or places (j - 1) d).at.distance }) o) None → IsNearWay places (j + 1) d next
@@ -262,3 +255,20 @@ near-small places j d on small few one within near =
     let load = near.load in
     let far = near.distance in
     (record { start = omega arith; load = omega arith; distance = omega arith }, omega arith)
+
+-- ---- a single
+some-is : (o : Option Progress) → option_and_then (λ at. Some at) o ≡ o
+some-is None = refl
+some-is (Some a) = refl
+
+pub single-served : (limits : Limits) (places : List Place) (s : Stop) (i : ℕ) (d : Place) → with_between limits places (i - 1) (s ∷ []) i d ≡ served limits (ride_of (get_or places (i - 1) d).at) (get_or places (i - 1) d).at.stop.service (distance (get_or places (i - 1) d).at.stop s) s (distance s (get_or places i d).at.stop) (get_or places i d)
+single-served limits places s i d =
+    ap (λ o. option_and_then (λ at. joined limits at (get_or places i d)) o) (some-is (stepped limits (get_or places (i - 1) d).at s)) ∙ served-is limits (ride_of (get_or places (i - 1) d).at) (get_or places (i - 1) d).at.stop s (get_or places i d)
+
+pub offered-single : (limits : Limits) (places : List Place) (s : Stop) (i : ℕ) (d : Place) (best next : Best) (before tail : Place) (to from : ℕ) → before ≡ get_or places (i - 1) d → tail ≡ get_or places i d → to ≡ distance (get_or places (i - 1) d).at.stop s → from ≡ distance tail.at.stop s → next ≡ offered best (served_below best.bound limits (ride_of before.at) before.at.stop.service to s from tail) i i → next ≡ offered best (with_between limits places (i - 1) (s ∷ []) i d) i i
+offered-single limits places s i d best next before tail to from is_before is_tail is_to is_from made =
+    let cheap = offer-below best (is_served limits (ride_of before.at) before.at.stop.service to s from tail) (price (ride_of before.at) to from tail) i i in
+    let back : from ≡ distance s (get_or places i d).at.stop = is_from ∙ (distance-back tail.at.stop s ∙ ap (λ (e : Place). distance s e.at.stop) is_tail) in
+    let same : served limits (ride_of before.at) before.at.stop.service to s from tail ≡ served limits (ride_of (get_or places (i - 1) d).at) (get_or places (i - 1) d).at.stop.service (distance (get_or places (i - 1) d).at.stop s) s (distance s (get_or places i d).at.stop) (get_or places i d) =
+    ap (λ (e : Place). served limits (ride_of e.at) e.at.stop.service to s from tail) is_before ∙ (ap (λ n. served limits (ride_of (get_or places (i - 1) d).at) (get_or places (i - 1) d).at.stop.service n s from tail) is_to ∙ (ap (λ n. served limits (ride_of (get_or places (i - 1) d).at) (get_or places (i - 1) d).at.stop.service (distance (get_or places (i - 1) d).at.stop s) s n tail) back ∙ ap (λ (e : Place). served limits (ride_of (get_or places (i - 1) d).at) (get_or places (i - 1) d).at.stop.service (distance (get_or places (i - 1) d).at.stop s) s (distance s (get_or places i d).at.stop) e) is_tail)) in
+    made ∙ (cheap ∙ ap (λ o. offered best o i i) (same ∙ sym (single-served limits places s i d)))

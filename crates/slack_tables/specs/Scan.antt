@@ -1,8 +1,7 @@
 -- What a scan over the places of a table looks for.
-use Rattle.std.specs.Prelude.{◌+◌, ◌^◌, nat_lt, slice_index_or, ◌≡◌, ℕ, ◌-◌, ◌<◌, ◌≤◌, ℤ, ◌<ℤ◌, List, [], ◌∷◌, length, Option, Some, None, int_lt, if◌then◌else◌}
+use Rattle.std.specs.Prelude.{◌^◌, nat_lt, slice_index_or, ◌≡◌, ℕ, ◌-◌, ◌<◌, ◌≤◌, ℤ, ◌<ℤ◌, List, [], ◌∷◌, length, Option, Some, None, int_lt, if◌then◌else◌}
 use Rattle.std.specs.Option.{option_map}
 use Rattle.plan_types.specs.declared.requests.Stop.{Stop}
-use Rattle.nint_dist.specs.Distance.{distance}
 use Rattle.slack_tables.specs.Driven.{with_between, with_pair}
 use Rattle.slack_tables.specs.Ride.{ride_of, ridden, IsSmallRide}
 use Rattle.slack_tables.specs.declared.progress.Limits.{Limits}
@@ -10,6 +9,7 @@ use Rattle.slack_tables.specs.declared.progress.Progress.{Progress}
 use Rattle.slack_tables.specs.declared.progress.Place.{Place}
 use Rattle.slack_tables.specs.declared.scan.Addition.{Addition}
 use Rattle.slack_tables.specs.declared.scan.Best.{Best}
+use Rattle.slack_tables.specs.declared.scan.Trip.{Trip}
 use Rattle.slack_tables.specs.declared.scan.Underway.{Underway}
 
 -- a single put in at this place
@@ -60,20 +60,16 @@ abbrev pub accepted : Best → Option Addition → Best
 accepted best None = best
 accepted best (Some a) = record { bound = a.distance; found = Some a }
 
--- each place tells how far the next one is
-abbrev pub AreLinked : List Place → Type 0
-AreLinked places = (k : ℕ) (d : Place) → k + 1 < length places → (slice_index_or places (k + 1) d).at.distance ≡ (slice_index_or places k d).at.distance + distance (slice_index_or places k d).at.stop (slice_index_or places (k + 1) d).at.stop
-
 -- at the pickup, if it keeps the limits
-abbrev pub picked_up : Limits → Progress → Stop → Stop → Stop → Option Underway
-picked_up limits before p q next =
-    option_map (λ r. record { ride = r; service = p.service; to_delivery = distance p q; onward = distance p next })
-    (ridden limits (ride_of before) before.stop.service (distance before.stop p) p)
+abbrev pub picked_up : Trip → Progress → ℕ → ℕ → Option Underway
+picked_up t before to onward =
+    option_map (λ r. record { ride = r; service = t.pickup.service; to_delivery = t.across; onward = onward })
+    (ridden t.limits (ride_of before) before.stop.service to t.pickup)
 
 pub record IsNearUnderway (on : Underway) : Type 0 where
   pub ride : IsSmallRide (2 ^ 51) on.ride
-  pub to_delivery : on.to_delivery ≤ 2828427
-  pub onward : on.onward ≤ 2828427
+  pub to_delivery : on.to_delivery ≤ 2 ^ 32
+  pub onward : on.onward ≤ 2 ^ 32
 
 -- at the next place of the table, if it keeps the limits and is not the last
 abbrev pub gone_on : Limits → Underway → List Place → ℕ → ℕ → Place → Option Underway

@@ -2,6 +2,7 @@
 #![tactic(auto)]
 
 mod insertion;
+mod legs;
 mod progress;
 mod ride;
 mod scan;

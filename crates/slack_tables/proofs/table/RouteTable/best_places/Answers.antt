@@ -6,7 +6,8 @@ use Rattle.plan_types.specs.declared.requests.Request.TheVariants.{Single, Pair}
 use Rattle.slack_tables.specs.Best.{IsFirstOf, IsBestAddition}
 use Rattle.slack_tables.specs.Course.{Course, route_of}
 use Rattle.slack_tables.specs.Inside.{AreKnown}
-use Rattle.slack_tables.specs.Scan.{AddsSingle, AddsPair, AreLinked}
+use Rattle.slack_tables.specs.Legs.{AreLinked}
+use Rattle.slack_tables.specs.Scan.{AddsSingle, AddsPair}
 use Rattle.slack_tables.specs.Opened.{leaving, open_place}
 use Rattle.slack_tables.specs.declared.progress.Place.{Place}
 use Rattle.slack_tables.proofs.InsertLemmas.{limits_of}
