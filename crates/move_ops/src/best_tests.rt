@@ -1,4 +1,4 @@
-ghost use Rattle.std.specs.Prelude.{◌≡◌, ◌<◌, true, false, [], IsTrue};
+ghost use Rattle.std.specs.Prelude.{◌≡◌, ◌<◌, ◌≤◌, true, false, [], IsTrue};
 ghost use Rattle.std.specs.Option.{IsSomeAnd};
 ghost use Rattle.route_sched.specs.Cost.{is_planned};
 ghost use Rattle.plan_audit.specs.Passes.{has, passes};
@@ -9,7 +9,7 @@ use super::*;
 use crate::lists::{is_planned, of_vehicle};
 use crate::tests::{customers, is_passing, pairs, pins_of, plan_of, stop_at};
 use plan_audit::{Verdict, audit};
-use plan_types::{Cost, Kind, Pins, Plan, Problem, Request, Route, Stop};
+use plan_types::{Cost, Kind, Pins, Plan, Problem, Request, Route, Routes, Stop};
 use std::alloc::Global;
 use std::test::Fail;
 
@@ -67,19 +67,24 @@ fn puts_a_customer_where_it_adds_least(rt: HostRuntime) -> Result<(), Fail> {
     let alloc = rt.alloc();
     let problem = customers(alloc, 1_000)?;
     let plan = [1, 0, 2, 0, 4, 0, 0];
-    assert_eq!(rt; best(alloc, &problem, &[], &plan, 3)?, Some((2, 1, 1)));
-    // Right behind the pin it adds as much.
-    let pins = [0, 2, 0, 0, 0];
-    assert_eq!(rt; best(alloc, &problem, &pins, &plan, 3)?, Some((2, 2, 2)));
-    // Planned, and unknown.
-    assert_eq!(rt; best(alloc, &problem, &[], &plan, 2)?, None);
-    assert_eq!(rt; best(alloc, &problem, &[], &plan, 5)?, None);
-    let full = customers(alloc, 1)?;
-    assert_eq!(rt; best(alloc, &full, &[], &plan, 3)?, Some((4, 1, 1)));
-    assert_eq!(rt;
-        best(alloc, &full, &[], &[1, 0, 2, 0, 3, 0, 4, 0], 3)?,
-        None
-    );
+    // With no pins, right behind a pin, a planned request, an unknown one.
+    for (pins, name, place) in [
+        ([0, 0, 0, 0, 0], 3, Some((2, 1, 1))),
+        ([0, 2, 0, 0, 0], 3, Some((2, 2, 2))),
+        ([0, 0, 0, 0, 0], 2, None),
+        ([0, 0, 0, 0, 0], 5, None),
+    ] {
+        assert_eq!(rt; best(alloc, &problem, &pins, &plan, name)?, place, "{name}");
+    }
+    Ok(())
+}
+
+#[test]
+fn puts_no_customer_into_a_full_vehicle(rt: HostRuntime) -> Result<(), Fail> {
+    let alloc = rt.alloc();
+    let problem = customers(alloc, 1)?;
+    let place = best(alloc, &problem, &[], &[1, 0, 2, 0, 4, 0, 0], 3)?;
+    assert_eq!(rt; place, Some((4, 1, 1)));
     Ok(())
 }
 
@@ -87,13 +92,14 @@ fn puts_a_customer_where_it_adds_least(rt: HostRuntime) -> Result<(), Fail> {
 fn puts_a_pair_where_it_adds_least(rt: HostRuntime) -> Result<(), Fail> {
     let alloc = rt.alloc();
     let problem = pairs(alloc)?;
-    assert_eq!(rt; best(alloc, &problem, &[], &[1, 2, 0], 3)?, Some((1, 2, 3)));
-    // Right behind the pin, which is all of the route.
-    assert_eq!(rt;
-        best(alloc, &problem, &[1, 2, 0], &[1, 2, 0], 3)?,
-        Some((1, 3, 4))
-    );
-    assert_eq!(rt; best(alloc, &problem, &[], &[0], 1)?, Some((1, 1, 2)));
+    // With no pins, and right behind a pin.
+    for (pins, place) in [([0, 0, 0], (1, 2, 3)), ([1, 2, 0], (1, 3, 4))] {
+        assert_eq!(rt;
+            best(alloc, &problem, &pins, &[1, 2, 0], 3)?,
+            Some(place),
+            "{pins:?}"
+        );
+    }
     Ok(())
 }
 
@@ -109,19 +115,19 @@ fn opposite_customers(alloc: Global, kind: Kind) -> Result<Problem, Fail> {
 #[test]
 fn opens_a_vehicle_only_where_none_is_counted(rt: HostRuntime) -> Result<(), Fail> {
     let alloc = rt.alloc();
-    let counted = opposite_customers(alloc, Kind::LiLim)?;
-    let free = opposite_customers(alloc, Kind::Vrp)?;
-    for plan in [[0, 1, 0, 0], [1, 0, 0, 0]] {
-        assert!(rt; best(alloc, &counted, &[], &plan, 2)? != best(alloc, &free, &[], &plan, 2)?);
+    for (kind, plan, place) in [
+        (Kind::LiLim, [0, 1, 0, 0], (2, 1, 1)),
+        (Kind::Vrp, [0, 1, 0, 0], (1, 1, 1)),
+        (Kind::LiLim, [1, 0, 0, 0], (1, 1, 1)),
+        (Kind::Vrp, [1, 0, 0, 0], (2, 1, 1)),
+    ] {
+        let problem = opposite_customers(alloc, kind)?;
+        assert_eq!(rt;
+            best(alloc, &problem, &[], &plan, 2)?,
+            Some(place),
+            "{kind:?}"
+        );
     }
-    assert_eq!(rt;
-        best(alloc, &counted, &[], &[0, 1, 0, 0], 2)?,
-        Some((2, 1, 1))
-    );
-    assert_eq!(rt; best(alloc, &free, &[], &[0, 1, 0, 0], 2)?, Some((1, 1, 1)));
-    assert_eq!(rt; best(alloc, &free, &[], &[1, 0, 0, 0], 2)?, Some((2, 1, 1)));
-    // Of empty vehicles the first one, and the empty one where no other serves.
-    assert_eq!(rt; best(alloc, &counted, &[], &[0, 0, 0], 2)?, Some((1, 1, 1)));
     Ok(())
 }
 
@@ -219,7 +225,7 @@ fn any_problem(alloc: Global, kind: Kind, seed: u64) -> Result<Problem, Fail> {
 fn grown(alloc: Global, problem: &Problem, pins: &Pins, plan: Plan) -> Result<Option<u32>, Fail> {
     let mut plan = plan;
     let mut count = 0;
-    for name in 1..41 {
+    for name in 1..40 + 1 {
         if !is_passing(alloc, problem, pins, &plan)? {
             return Ok(None);
         }
@@ -261,6 +267,7 @@ fn is_refreshed(
     after: &[u32],
     vehicles: &[u32],
 ) -> Result<bool, Fail> {
+    plans_pass_without_pins();
     let pins = pins_of(alloc, &[])?;
     let before = plan_of(alloc, before)?;
     let after = plan_of(alloc, after)?;
@@ -310,13 +317,19 @@ fn are_vehicles(problem: &Problem, vehicles: &[u32]) -> bool
 fn differ_only_at(before: &Plan, after: &Plan, vehicles: &[u32]) -> bool
     ensures { IsTrue result → DifferOnlyAt vehicles.now before.now.routes after.now.routes }
 {
-    let before = before.routes.as_slice();
-    let after = after.routes.as_slice();
-    if before.len() != after.len() {
+    let old = before.routes.as_slice();
+    let new = after.routes.as_slice();
+    if old.len() != new.len() {
         return false;
     }
-    for vehicle in 0..before.len() as u32 + 1 {
-        if !is_in(vehicles, vehicle) && !is_same(before, after, vehicle) {
+    if old.len() > 40_000 {
+        return false;
+    }
+    for vehicle in 0..old.len() as u32 + 1 {
+        if is_in(vehicles, vehicle) {
+            continue;
+        }
+        if !is_same(old, new, vehicle) {
             return false;
         }
     }
@@ -338,19 +351,65 @@ fn is_same(before: &[Route], after: &[Route], vehicle: u32) -> bool
 #[test]
 fn builds_the_tables_of_changed_routes_anew(rt: HostRuntime) -> Result<(), Fail> {
     let alloc = rt.alloc();
-    let problem = pairs(alloc)?;
-    assert!(rt; is_refreshed(alloc, &problem, &[1, 2, 0], &[1, 3, 4, 2, 0], &[1])?);
     let problem = customers(alloc, 1_000)?;
     let before = [1, 0, 2, 3, 0, 4, 0, 0];
-    assert!(rt; is_refreshed(alloc, &problem, &before, &before, &[])?);
-    assert!(rt;
-        is_refreshed(
-            alloc,
-            &problem,
-            &before,
-            &[1, 0, 3, 0, 0, 2, 0],
-            &[3, 2, 4, 3]
-        )?
-    );
+    for (after, vehicles) in [
+        (before, [4, 4]),
+        ([1, 0, 3, 0, 4, 2, 0, 0], [3, 2]),
+        ([0, 1, 2, 3, 0, 4, 0, 0], [2, 1]),
+    ] {
+        assert!(rt;
+            is_refreshed(alloc, &problem, &before, &after, &vehicles)?,
+            "{after:?}"
+        );
+    }
+    Ok(())
+}
+
+#[test]
+fn builds_the_only_table_anew(rt: HostRuntime) -> Result<(), Fail> {
+    let alloc = rt.alloc();
+    let problem = pairs(alloc)?;
+    assert!(rt; is_refreshed(alloc, &problem, &[1, 2, 0], &[1, 3, 4, 2, 0], &[1])?);
+    Ok(())
+}
+
+#[test]
+fn builds_no_table_anew(rt: HostRuntime) -> Result<(), Fail> {
+    let alloc = rt.alloc();
+    let problem = pairs(alloc)?;
+    assert!(rt; is_refreshed(alloc, &problem, &[1, 2, 0], &[1, 2, 0], &[])?);
+    Ok(())
+}
+
+// Customers at the depot, and the route of all but the last.
+fn customers_at_the_depot(alloc: Global, customers: u32) -> Result<(Problem, Plan), Fail>
+    requires { customers ≤ 40000 }
+{
+    let depot = stop_at(0, (0, 0), 0, 100);
+    let mut problem = Problem::new(alloc, Kind::Vrp, depot, 1_000_000, 1)?;
+    let mut route = Route::new(alloc);
+    for number in 1..customers + 1 {
+        problem.put(Request::Single(stop_at(number, (0, 0), 1, 100)))?;
+        if number < customers {
+            route.push(number)?;
+        }
+    }
+    let mut routes = Routes::new(alloc);
+    routes.push(route)?;
+    Ok((problem, Plan { routes }))
+}
+
+#[test]
+fn finds_a_place_in_the_largest_route(rt: HostRuntime) -> Result<(), Fail> {
+    let alloc = rt.alloc();
+    let (problem, plan) = customers_at_the_depot(alloc, 40_000)?;
+    let pins = pins_of(alloc, &[])?;
+    if is_passing(alloc, &problem, &pins, &plan)? {
+        let place = best_insertion(alloc, &problem, &pins, &plan, 40_000)?;
+        assert_eq!(rt; place, Some((1, 1, 1)));
+        return Ok(());
+    }
+    assert!(rt; false, "the plan does not pass");
     Ok(())
 }
