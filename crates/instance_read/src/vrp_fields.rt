@@ -85,10 +85,13 @@ pub fn open_section(announced: bool, stands: bool) -> Result<(), ReadFaultKind>
 /// A node and where it lies.
 pub fn read_coordinates(nodes: u32, line: &[u8]) -> Result<(u32, (i32, i32)), ReadFaultKind>
     requires { nodes ≤ most_nodes }
-    ensures read { MatchResult result
-        (λ r. HasNoKind (node_fault 3 (coordinate_limits nodes) (λ _. false) (words_of line.now)) × (field (words_of line.now) 0 ≡ Some (pos r.0))
-        × (r.1 ≡ (value_at (words_of line.now) 1, value_at (words_of line.now) 2)))
-        (IsFirstKind (node_fault 3 (coordinate_limits nodes) (λ _. false) (words_of line.now))) }
+    ensures read { let words = words_of line.now in
+        let fault = node_fault 3 (coordinate_limits nodes) (λ _. false) words in
+        MatchResult result
+        (λ r. HasNoKind fault
+        × (field words 0 ≡ Some (pos r.0))
+        × (r.1 ≡ (value_at words 1, value_at words 2)))
+        (IsFirstKind fault) }
     ensures within { IfOk result
         (λ r. (1 ≤ r.0) × (r.0 ≤ nodes) × IsCoordinate r.1.0 × IsCoordinate r.1.1) }
 {
@@ -99,10 +102,13 @@ pub fn read_coordinates(nodes: u32, line: &[u8]) -> Result<(u32, (i32, i32)), Re
 /// A node and its demand.
 pub fn read_demand(nodes: u32, line: &[u8]) -> Result<(u32, i32), ReadFaultKind>
     requires { nodes ≤ most_nodes }
-    ensures read { MatchResult result
-        (λ r. HasNoKind (node_fault 2 (demand_limits nodes) (λ _. false) (words_of line.now)) × (field (words_of line.now) 0 ≡ Some (pos r.0))
-        × (r.1 ≡ value_at (words_of line.now) 1))
-        (IsFirstKind (node_fault 2 (demand_limits nodes) (λ _. false) (words_of line.now))) }
+    ensures read { let words = words_of line.now in
+        let fault = node_fault 2 (demand_limits nodes) (λ _. false) words in
+        MatchResult result
+        (λ r. HasNoKind fault
+        × (field words 0 ≡ Some (pos r.0))
+        × (r.1 ≡ value_at words 1))
+        (IsFirstKind fault) }
     ensures within { IfOk result (λ r. (1 ≤ r.0) × (r.0 ≤ nodes) × IsDemand r.1) }
 {
     let [node, demand] = read_numbers(line, &[node_limits(nodes), DEMAND])?;

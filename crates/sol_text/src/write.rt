@@ -26,7 +26,10 @@ pub fn write_sol(alloc: Global, problem: &Problem, plan: &Plan) -> Result<Vec<u8
     ensures text { IfOk result (λ text. text.items
         ≡ solution_text (used_routes plan.now.routes) (total_length problem.now plan.now.routes)) }
     ensures spells { IfOk result (λ text. Spells text.items
-        (record { routes = used_routes plan.now.routes; cost = total_length problem.now plan.now.routes })) }
+        (record {
+          routes = used_routes plan.now.routes;
+          cost = total_length problem.now plan.now.routes;
+        })) }
     ensures unplanned { let n = unplanned_count problem.now plan.now.routes in
         0 < n → IsErrOf result (Unplanned n) }
     ensures planned { unplanned_count problem.now plan.now.routes ≡ 0
