@@ -3,7 +3,7 @@ use Rattle.std.proofs.Common.{◌≡◌, ℕ, suc, ◌+◌, ◌<◌, ◌≤◌, 
 use Rattle.std.specs.List.{AllByRecursion}
 use Rattle.std.proofs.lemmas.Bool.Decides.{eqb_tells}
 use Rattle.plan_types.specs.Instance.{Instance, IsInstance}
-use Rattle.plan_types.specs.Laws.{RequestsStandByName}
+use Rattle.plan_types.specs.Laws.{NamedAreFound, RequestsStandByName}
 use Rattle.plan_types.specs.Request.{stops_of}
 use Rattle.plan_types.specs.declared.plans.Cost.{Cost}
 use Rattle.plan_types.specs.declared.requests.Request.{Request}
@@ -32,15 +32,15 @@ use Rattle.plan_audit.proofs.VerdictLemmas.{Keeps}
 fewer : (p : Instance) (s : Subject) → KeepsRules 1 11 p s → KeepsRules 1 8 p s
 fewer p s kept m r i n from to b = kept m r i n from (omega arith) b
 
-pub passes_are_sound : PassesAreSound
-passes_are_sound p s cost valid v = sound_from p s valid (fewer p s v.0)
+pub passes_are_sound : NamedAreFound → PassesAreSound
+passes_are_sound found p s cost valid v = sound_from found p s valid (fewer p s v.0)
 
 pub passes_are_plans : PassesArePlans
 passes_are_plans p s cost v = (plan_from p s (fewer p s v.0), live_passing p s cost v)
 
-pub unsound_is_broken : UnsoundIsBroken
-unsound_is_broken p s (Pass cost) valid unsound v = absurd (unsound (passes_are_sound p s cost valid v))
-unsound_is_broken p s (Broken rule r i n) valid unsound v = (rule, r, i, n, refl)
+pub unsound_is_broken : NamedAreFound → UnsoundIsBroken
+unsound_is_broken found p s (Pass cost) valid unsound v = absurd (unsound (passes_are_sound found p s cost valid v))
+unsound_is_broken found p s (Broken rule r i n) valid unsound v = (rule, r, i, n, refl)
 
 -- where all rules are kept the verdict is to pass
 passes : (p : Instance) (s : Subject) (v : Verdict) → KeepsRules 1 11 p s → IsVerdict p s v → v ≡ Pass (cost_of p (routes_of s))
@@ -61,11 +61,11 @@ no_pin_off routes pins kept = by (first_off_pin routes pins) refl
         let t = kept (suc f.route) (suc f.place) f.stop (b.0, b.1, b.2) in
         absurd (b.3 (ap (λ (o : Option (List ℕ)). item_at (unwrap_or o []) (suc f.place)) t.1 ∙ t.2))
 
-pub plans_pass_where_sound : RequestsStandByName → PlansPassWhereSound
-plans_pass_where_sound by_name p routes pins v valid is = (
+pub plans_pass_where_sound : RequestsStandByName → NamedAreFound → PlansPassWhereSound
+plans_pass_where_sound by_name found p routes pins v valid is = (
   λ passed. (
       let kept = kept_from p (planned routes pins) v (cost_of p routes) passed is in (
-        sound_from p (planned routes pins) valid (fewer p (planned routes pins) kept),
+        sound_from found p (planned routes pins) valid (fewer p (planned routes pins) kept),
         in_number kept (eqb_tells (length routes) p.fleet),
         pins_kept routes pins (λ r i n b. kept Pin r i n (omega arith) (omega arith) b),
       )),
@@ -134,11 +134,11 @@ module _ (p : Instance) (routes : List (List ℕ)) (cost : ℕ) (valid : IsInsta
     | inr t ↦ absurd (kept PrintedCost 0 0 0 (omega arith) (omega arith) ((refl, refl), refl, t.1))
   ]
 
-pub solutions_pass_where_sound : RequestsStandByName → SolutionsPassWhereSound
-solutions_pass_where_sound by_name p routes cost v valid is = (
+pub solutions_pass_where_sound : RequestsStandByName → NamedAreFound → SolutionsPassWhereSound
+solutions_pass_where_sound by_name found p routes cost v valid is = (
   λ passed. (
       let kept = kept_from p (printed routes cost) v (cost_of p routes) passed is in (
-        sound_from p (printed routes cost) valid (fewer p (printed routes cost) kept),
+        sound_from found p (printed routes cost) valid (fewer p (printed routes cost) kept),
         all_planned p routes cost valid kept,
         within_fleet p routes cost valid kept,
         printed_cost p routes cost valid kept,

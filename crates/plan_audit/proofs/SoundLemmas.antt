@@ -8,7 +8,7 @@ use Rattle.std.proofs.lemmas.Int.{by_lt_z, ints}
 use Rattle.std.proofs.lemmas.List.Sums.{fold_push}
 use Rattle.std.proofs.lemmas.List.FromFn.{map-range_with_len_more}
 use Rattle.plan_types.specs.Instance.{Instance, IsInstance, stop_at, partner_at, request_with, first_some, pickup_at}
-use Rattle.plan_types.specs.Laws.{RequestsStandByName}
+use Rattle.plan_types.specs.Laws.{NamedAreFound, RequestsStandByName}
 use Rattle.plan_types.specs.Request.{request_name, stop_in, partner_in, pickup_in}
 use Rattle.plan_types.specs.declared.requests.Stop.{Stop}
 use Rattle.plan_types.specs.declared.requests.Request.{Request}
@@ -19,7 +19,7 @@ use Rattle.route_sched.specs.Schedule.{start, load, time_between, greatest}
 use Rattle.plan_audit.specs.Rules.{item_at, Stands, StandsSomewhere, IsUnknown, IsRepeated, IsMissing, IsSplit, IsDeliveredFirst, IsOverloaded, IsLate, IsLateReturn}
 use Rattle.plan_audit.specs.Finding.{seat_of}
 use Rattle.plan_audit.specs.Verdict.{Subject, planned, printed, routes_of, Breaks, KeepsRules}
-use Rattle.plan_audit.specs.Laws.{StandsOnce, IsPlanned, IsServedOnce, IsNamed, IsVisit, IsSoundPlan}
+use Rattle.plan_audit.specs.Laws.{StandsOnce, IsPlanned, IsServedOnce, IsNamed, IsPlaceOf, IsSoundPlan}
 use Rattle.plan_audit.specs.declared.seats.Seat.{Seat}
 use Rattle.plan_audit.specs.declared.rules.Rule.TheVariants.{UnknownStop, Twice, Missing, SplitPair, DeliveryFirst, Load, Late, LateReturn, Fleet, Pin, PrintedCost}
 use Rattle.plan_audit.proofs.FirstLemmas.{none_some, some_same}
@@ -69,7 +69,7 @@ start_from p route i =
     omega arith
 
 -- a plan that keeps the rules is sound
-module _ (p : Instance) (s : Subject) (valid : IsInstance p) (kept : KeepsRules 1 8 p s) where
+module _ (found : NamedAreFound) (p : Instance) (s : Subject) (valid : IsInstance p) (kept : KeepsRules 1 8 p s) where
   live : (r i n : ℕ) → Stands (routes_of s) r i n → IsLive p n
   live r i n t = by (stop_at p n) refl
     where
@@ -107,12 +107,12 @@ module _ (p : Instance) (s : Subject) (valid : IsInstance p) (kept : KeepsRules 
 
   both_served : (name : ℕ) (a b : Stop) → IsNamed p name (Pair a b) → (r i q j : ℕ) → Stands (routes_of s) r i a.number → Stands (routes_of s) q j b.number → IsServedOnce (routes_of s) (Pair a b)
   both_served name a b at r i q j t u = elim (eqb_tells q r) [
-    | inr ne ↦ absurd (kept SplitPair r i a.number (omega arith) (omega arith) (t, (b.number, partner_of_pickup p valid name a b at, (q, j, ne.1, u))))
+    | inr ne ↦ absurd (kept SplitPair r i a.number (omega arith) (omega arith) (t, (b.number, partner_of_pickup found p valid name a b at, (q, j, ne.1, u))))
     | inl same ↦ (
         let u' : Stands (routes_of s) r j b.number = subst (λ q. Stands (routes_of s) q j b.number) (same.1) u in
         elim (cases_lt i j) [
           | inl lt ↦ (r, i, j, lt, stands_once r i a.number t, stands_once r j b.number u')
-          | inr ge ↦ absurd (kept DeliveryFirst r j b.number (omega arith) (omega arith) (u', (a.number, pickup_of_delivery p valid name a b at, (i, behind ge u', t))))
+          | inr ge ↦ absurd (kept DeliveryFirst r j b.number (omega arith) (omega arith) (u', (a.number, pickup_of_delivery found p valid name a b at, (i, behind ge u', t))))
         ])
   ]
     where
@@ -130,18 +130,18 @@ module _ (p : Instance) (s : Subject) (valid : IsInstance p) (kept : KeepsRules 
   served : (name : ℕ) (request : Request) → IsNamed p name request → IsPlanned (routes_of s) request → IsServedOnce (routes_of s) request
   served name (Single a) at t = (t.0, t.1, stands_once t.0 t.1 a.number t.2)
   served name (Pair a b) at (inl t) =
-      let u = partner_stands t.0 t.1 a.number b.number t.2 (partner_of_pickup p valid name a b at) in
+      let u = partner_stands t.0 t.1 a.number b.number t.2 (partner_of_pickup found p valid name a b at) in
       both_served name a b at t.0 t.1 u.0 u.1 t.2 u.2
   served name (Pair a b) at (inr u) =
-      let t = partner_stands u.0 u.1 b.number a.number u.2 (partner_of_delivery p valid name a b at) in
+      let t = partner_stands u.0 u.1 b.number a.number u.2 (partner_of_delivery found p valid name a b at) in
       both_served name a b at t.0 t.1 u.0 u.1 t.2 u.2
 
-  loads : (r i : ℕ) (route : List ℕ) → IsVisit (routes_of s) r route i → load p route i ≤ℤ pos p.capacity
+  loads : (r i : ℕ) (route : List ℕ) → IsPlaceOf (routes_of s) r route i → load p route i ≤ℤ pos p.capacity
   loads r i route at =
       let stop = stop_there route i at.1 at.2 in
       by_lt_z (pos p.capacity) (load p route i) (λ lt. absurd (kept Load r i stop.0 (omega arith) (omega arith) (route, at.0, stop.1, lt))) (λ le. le)
 
-  windows : p.kind ≡ LiLim → (r i : ℕ) (route : List ℕ) → IsVisit (routes_of s) r route i → ((place p route i).earliest ≤ start p route i) × (start p route i ≤ (place p route i).latest)
+  windows : p.kind ≡ LiLim → (r i : ℕ) (route : List ℕ) → IsPlaceOf (routes_of s) r route i → ((place p route i).earliest ≤ start p route i) × (start p route i ≤ (place p route i).latest)
   windows kind r i route at =
       let stop = stop_there route i at.1 at.2 in (
         start_from p route i,

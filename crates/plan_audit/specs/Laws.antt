@@ -34,8 +34,8 @@ abbrev pub IsNamed : Instance → ℕ → Request → Type 0
 IsNamed p name request = lookup (nat_eq name) p.requests ≡ Some request
 
 -- place i is one of a stop of route r
-abbrev pub IsVisit : List (List ℕ) → ℕ → List ℕ → ℕ → Type 0
-IsVisit routes r route i = (item_at routes r ≡ Some route) × (1 ≤ i) × (i ≤ length route)
+abbrev pub IsPlaceOf : List (List ℕ) → ℕ → List ℕ → ℕ → Type 0
+IsPlaceOf routes r route i = (item_at routes r ≡ Some route) × (1 ≤ i) × (i ≤ length route)
 
 -- The vehicles visit stops of requests alone. Each request of which they visit a stop is served once, by one vehicle, the
 -- pickup before the delivery. No vehicle carries more than it can. With time windows, each service starts within its stop's
@@ -43,8 +43,8 @@ IsVisit routes r route i = (item_at routes r ≡ Some route) × (1 ≤ i) × (i 
 pub record IsSoundPlan (p : Instance) (routes : List (List ℕ)) : Type 0 where
   pub live : (r i n : ℕ) → Stands routes r i n → IsLive p n
   pub served : (name : ℕ) (request : Request) → IsNamed p name request → IsPlanned routes request → IsServedOnce routes request
-  pub loads : (r i : ℕ) (route : List ℕ) → IsVisit routes r route i → load p route i ≤ℤ pos p.capacity
-  pub windows : p.kind ≡ LiLim → (r i : ℕ) (route : List ℕ) → IsVisit routes r route i → ((place p route i).earliest ≤ start p route i) × (start p route i ≤ (place p route i).latest)
+  pub loads : (r i : ℕ) (route : List ℕ) → IsPlaceOf routes r route i → load p route i ≤ℤ pos p.capacity
+  pub windows : p.kind ≡ LiLim → (r i : ℕ) (route : List ℕ) → IsPlaceOf routes r route i → ((place p route i).earliest ≤ start p route i) × (start p route i ≤ (place p route i).latest)
   pub returns : p.kind ≡ LiLim → (r : ℕ) (route : List ℕ) → item_at routes r ≡ Some route → 0 < length route → start p route (length route + 1) ≤ p.depot.latest
 
 -- each route begins with its pin

@@ -82,10 +82,6 @@ fn delivered_stop(problem: &Problem, route: &[u32], place: usize, stop: u32) -> 
 fn seat_alone(route: &[u32], stop: u32) -> Option<Seat>
     ensures { result ≡ seat_of (route.now ∷ []) stop }
 {
-    for (place, other) in route.iter().enumerate() {
-        if *other == stop {
-            return Some(Seat { route: 0, place });
-        }
-    }
-    None
+    let place = route.iter().position(|other| *other == stop)?;
+    Some(Seat { route: 0, place })
 }

@@ -2,14 +2,16 @@
 ghost use Rattle.plan_audit.specs.Laws.{PassesAreSound, PassesArePlans, UnsoundIsBroken, PlansPassWhereSound, SolutionsPassWhereSound, RoutesAreFeasible};
 ghost use Rattle.plan_audit.specs.Locality.{TestsSayFeasible, TestsSayPass, PassesAreLocal, PlansAreLocal, PinsAreLiveOnce, RoutesMayBeReplaced, VerdictsAreUnique, FeasibilityIsLocal};
 
-use plan_types::requests_stand_by_name;
+use plan_types::{requests_are_found_by_stop, requests_stand_by_name};
 use route_sched::schedules_agree;
 
 /// What passes is sound: each request that is planned is served once, by one vehicle, the pickup before the delivery; no vehicle carries
 /// more than it can; with time windows, each service starts within its window and each vehicle is back in time.
 pub fn a_passing_plan_is_sound()
     ensures { PassesAreSound }
-{}
+{
+    requests_are_found_by_stop();
+}
 
 /// The routes of what passes are a plan, and each of them has live stops, each once, as `route_fault`, `plan_cost` and the schedules ask.
 pub fn routes_that_pass_are_a_plan()
@@ -19,13 +21,16 @@ pub fn routes_that_pass_are_a_plan()
 /// What is not sound in any of this is told as broken.
 pub fn an_unsound_plan_does_not_pass()
     ensures { UnsoundIsBroken }
-{}
+{
+    requests_are_found_by_stop();
+}
 
 /// A plan passes exactly where it is sound, has a route for each vehicle, and each route begins with its pin.
 pub fn plans_pass_where_they_are_sound()
     ensures { PlansPassWhereSound }
 {
     requests_stand_by_name();
+    requests_are_found_by_stop();
 }
 
 /// A printed solution passes exactly where it is sound, plans every request, uses no more vehicles than there are, and its printed cost
@@ -34,6 +39,7 @@ pub fn solutions_pass_where_they_are_sound()
     ensures { SolutionsPassWhereSound }
 {
     requests_stand_by_name();
+    requests_are_found_by_stop();
 }
 
 /// Where the rules 3 to 8 are kept, each route is feasible alone.

@@ -1,14 +1,61 @@
-use Rattle.std.proofs.Common.{◌≡◌, ℕ, suc, ◌+◌, ◌<◌, cond, List, drop, drop-cons, length, get_or, Option, Some, None, sym, ap, ◌∙◌}
-use Rattle.std.proofs.lemmas.Bool.{eq-eqb}
+use Rattle.std.proofs.Common.{◌≡◌, ℕ, ◌+◌, ◌<◌, ◌≤◌, Bool, true, false, cond, eqb, List, [], ◌∷◌, length, Option, Some, None, MatchOption, refl, sym, ap, subst, ◌∙◌, arith, inl, inr, rules, tests}
+use Rattle.std.specs.Prelude.{nat_lt}
+use Rattle.std.specs.List.{position_or_len}
 use Rattle.std.specs.Option.{option_map, option_or}
+use Rattle.std.proofs.lemmas.Bool.{cond_both, ltb-false, ltb-true}
+use Rattle.std.proofs.lemmas.Bool.Decides.{eqb_tells}
+use Rattle.std.proofs.lemmas.Iterator.{YieldsList-from_slice}
+use Rattle.std.proofs.lemmas.Iterator.Search.{position_from_yields_List}
 use Rattle.plan_audit.specs.Finding.{place_of}
+use Rattle.plan_audit.specs.declared.seats.Seat.{Seat}
 use Rattle.plan_audit.proofs.alone.seat_alone.Goals as goal
 
--- the place of the stop, where it is found
-found_here : (n k : ℕ) (ns : List ℕ) → k < length ns → get_or ns k 0 ≡ n → place_of n k (drop k ns) ≡ Some k
-found_here n k ns lt same = ap (place_of n k) (drop-cons ns k 0 lt) ∙ ap (λ b. cond b (Some k) (place_of n (k + 1) (drop (suc k) ns))) (eq-eqb (get_or ns k 0) n same)
+-- the first place of a number is where `position` finds it
+place_there : (n k : ℕ) (ns : List ℕ) → position_or_len (λ m. eqb m n) ns < length ns → place_of n k ns ≡ Some (k + position_or_len (λ m. eqb m n) ns)
+place_there n k [] h = absurd (omega arith)
+place_there n k (m ∷ ns) h = elim (eqb_tells m n) [
+  | inl t ↦ rw t.0 (ap Some (omega arith))
+  | inr t ↦ rw t.0 (place_there n (k + 1) ns (let more = rw t.0 at h in omega (arith, more)) ∙ ap Some (omega arith))
+]
 
-pub returns-then-other-stop : goal.returns-then-other-stop
-returns-then-other-stop c =
-    let here = sym (found_here c.args.stop c.loop-place.place c.args.route.now c.loop-place-test.true c.if-other-stop.true) ∙ c.loop-place.invariant in
-    ap (λ (o : Option ℕ). option_or (option_map (λ i. record { route = 0; place = i }) o) None) here
+place_nowhere : (n k : ℕ) (ns : List ℕ) → length ns ≤ position_or_len (λ m. eqb m n) ns → place_of n k ns ≡ None
+place_nowhere n k [] h = refl
+place_nowhere n k (m ∷ ns) h = elim (eqb_tells m n) [
+  | inl t ↦ let none = rw t.0 at h in absurd (omega (arith, none))
+  | inr t ↦ rw t.0 (place_nowhere n (k + 1) ns (let more = rw t.0 at h in omega (arith, more)))
+]
+
+-- a place below the length, or none
+told : (place len : ℕ) (r : Option ℕ) → r ≡ cond (nat_lt place len) (Some place) None → MatchOption r (len ≤ place) (λ k. (k ≡ place) × (place < len))
+told place len r e =
+    let P : Option ℕ → Type 0 = λ o. MatchOption o (len ≤ place) (λ k. (k ≡ place) × (place < len)) in
+    subst P (sym e) (cond_both (nat_lt place len) (Some place) None P (λ below. (refl, ltb-true place len below)) (λ above. ltb-false place len above))
+
+-- the seat at the first place
+abbrev seat : Option ℕ → Option Seat
+seat place = option_or (option_map (λ i. record { route = 0; place = i }) place) None
+
+module _ (n : ℕ) (route : List ℕ) (r : Option ℕ) (e : r ≡ cond (nat_lt (position_or_len (λ m. eqb m n) route) (length route)) (Some (position_or_len (λ m. eqb m n) route)) None) where
+  abbrev first : ℕ
+  first = position_or_len (λ m. eqb m n) route
+
+  abbrev Found : Option ℕ → Type 0
+  Found o = MatchOption o (length route ≤ first) (λ k. (k ≡ first) × (first < length route))
+
+  pub none_found : r ≡ None → place_of n 0 route ≡ None
+  none_found is = place_nowhere n 0 route (subst Found is (told first (length route) r e))
+
+  pub one_found : (k : ℕ) → r ≡ Some k → place_of n 0 route ≡ Some k
+  one_found k is = let here = subst Found is (told first (length route) r e) in place_there n 0 route here.1 ∙ ap Some (omega (arith, here.0))
+
+pub returns-in_err-place : goal.returns-in_err-place
+returns-in_err-place c =
+    let route = c.args.route.now in
+    let e = position_from_yields_List (λ m. eqb m c.args.stop) _ _ c.position.result c.position.ensures.ran (YieldsList-from_slice route cc) (λ x b q k. search (rules, tests)) in
+    c.from_residual.ensures ∙ ap seat (sym (none_found c.args.stop route c.position.result e c.in_err-place.was))
+
+pub returns : goal.returns
+returns c =
+    let route = c.args.route.now in
+    let e = position_from_yields_List (λ m. eqb m c.args.stop) _ _ c.position.result c.position.ensures.ran (YieldsList-from_slice route cc) (λ x b q k. search (rules, tests)) in
+    ap seat (sym (one_found c.args.stop route c.position.result e c.in_ok-place.place c.in_ok-place.was))

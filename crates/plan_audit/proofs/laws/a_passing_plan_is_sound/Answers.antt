@@ -2,4 +2,4 @@ use Rattle.plan_audit.proofs.LawProofs.{passes_are_sound}
 use Rattle.plan_audit.proofs.laws.a_passing_plan_is_sound.Goals as goal
 
 pub returns : goal.returns
-returns c = passes_are_sound
+returns c = passes_are_sound c.requests_are_found_by_stop.ensures

@@ -2,4 +2,4 @@ use Rattle.plan_audit.proofs.LawProofs.{plans_pass_where_sound}
 use Rattle.plan_audit.proofs.laws.plans_pass_where_they_are_sound.Goals as goal
 
 pub returns : goal.returns
-returns c = plans_pass_where_sound c.requests_stand_by_name.ensures
+returns c = plans_pass_where_sound c.requests_stand_by_name.ensures c.requests_are_found_by_stop.ensures

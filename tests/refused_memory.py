@@ -5,7 +5,7 @@ Lets the program have what it starts with and then more and more, step by step, 
 a solution that passes, an instance whose last line has a fault, and a solution whose last line has one. Each answer must
 be the one that ample memory gives, or `out of memory` with status 4.
 
-    bench/refused_memory.py [STOPS]
+    tests/refused_memory.py [STOPS]
 """
 
 import collections
@@ -15,7 +15,9 @@ import subprocess
 import sys
 import tempfile
 
-from audit_speed import PROGRAM, make_lilim, make_vrp
+sys.path.append(str(pathlib.Path(__file__).resolve().parent.parent / "bench"))
+sys.dont_write_bytecode = True
+from audit_speed import PROGRAM, make_lilim, make_vrp  # noqa: E402
 
 STEP = 64 * 1024
 OUT_OF_MEMORY = (4, "out of memory\n")
@@ -63,6 +65,8 @@ def audit_all(kind, text, solution, answer):
 
 
 def main():
+    if not PROGRAM.exists():
+        sys.exit(f"refused_memory: {PROGRAM} is not built: run rt ci, or ./planner once")
     stops = int(sys.argv[1]) if len(sys.argv) > 1 else 40000
     audit_all("lilim", *make_lilim(stops))
     audit_all("vrp", *make_vrp(stops))

@@ -1,0 +1,31 @@
+//! Runs the program for each line of standard input, whose words are parted by `|`, and prints after each answer its status.
+#![tactic(auto)]
+
+use planner_cli::run_words;
+use std::alloc::{AllocError, Global};
+use std::io;
+
+const SEPARATOR: char = '|';
+
+fn main(rt: HostRuntime) -> io::Result<()> {
+    for line in rt.lines(rt.alloc()) {
+        let line = line?;
+        println!(rt; "> {}", line.as_str())?;
+        let words = words_of(rt.alloc(), line.as_str())?;
+        let status = run_words(&rt, words.as_slice());
+        println!(rt; "= {status}")?;
+    }
+    Ok(())
+}
+
+/// The words of the line behind the program's name. An empty line has none.
+fn words_of(alloc: Global, line: &str) -> Result<Vec<&str>, AllocError> {
+    let mut words = Vec::new(alloc);
+    words.push("planner")?;
+    if !line.is_empty() {
+        for word in line.split(SEPARATOR) {
+            words.push(word)?;
+        }
+    }
+    Ok(words)
+}

@@ -1,0 +1,63 @@
+#!/bin/sh
+# Checks what only the built program shows of its words: what goes to standard error, the status of the process, a word
+# that is not UTF-8, and an output that can't be written. What the words mean is run by crates/planner_words.
+set -u
+
+top=$(CDPATH='' cd -- "$(dirname -- "$0")/.." && pwd -P) || exit 1
+program=$top/crates/planner/out/planner
+# Builds the program where rt ci has not.
+if [ "$("$top/planner")" != 'pass 0 1 20' ]; then
+    echo "words: ./planner does not answer" >&2
+    exit 1
+fi
+folder=$(mktemp -d) || exit 1
+trap 'rm -rf -- "$folder"' EXIT
+failures=0
+
+fail() {
+    echo "words: $*"
+    failures=$((failures + 1))
+}
+
+# expect STATUS OUTPUT ERROR WORDS..: the program ends so, and these begin standard output and standard error; '' is nothing.
+expect() {
+    wanted="$1, '$2', '$3'"
+    shift 3
+    "$program" "$@" >"$folder/output" 2>"$folder/error"
+    got="$?, '$(head -n 1 "$folder/output")', '$(head -n 1 "$folder/error")'"
+    [ "$got" = "$wanted" ] || fail "planner $*: $got; wanted $wanted"
+}
+
+cd -- "$top/examples" || exit 1
+for path in *; do
+    cmp -- "$path" "$top/crates/planner_words/data/$path" || fail "planner_words has another $path"
+done
+
+expect 0 'pass 0 1 20' ''
+expect 0 'pass 0 10 829' '' audit lilim lc101.txt "$top/examples/lc101.sol"
+expect 1 'broken 5 route 1 place 1 stop 2' '' audit lilim one-pair.txt one-pair-reversed.sol
+expect 2 'instance FieldCount 1' '' audit lilim one-pair.sol one-pair.sol
+expect 3 'cannot read nowhere' '' audit lilim one-pair.txt nowhere
+expect 0 'Says whether a solution keeps the rules, and the first rule that it breaks' '' audit --help
+
+expect 64 '' 'error: the following required arguments were not provided:' audit
+expect 64 '' "error: unexpected argument 'more' found" audit lilim one-pair.txt one-pair.sol more
+expect 64 '' "error: invalid value 'LILIM' for '<KIND>'" audit LILIM one-pair.txt one-pair.sol
+expect 64 '' "error: unrecognized subcommand 'check'" check one-pair.txt one-pair.sol
+expect 64 '' "error: unexpected argument '--version' found" --version
+
+# A path is taken only as UTF-8.
+latin=$(printf 'caf\351.sol')
+cp one-pair.sol "$folder/$latin"
+expect 64 '' 'error: a word is not UTF-8 text' audit lilim one-pair.txt "$folder/$latin"
+
+if [ -c /dev/full ]; then
+    "$program" >/dev/full 2>/dev/null
+    status=$?
+    [ "$status" = 3 ] || fail "a full output: status $status, wanted 3"
+else
+    echo "words: a full output is skipped, since /dev/full is not there"
+fi
+
+[ "$failures" = 0 ] || exit 1
+echo 'words: all answers are as they should be'
