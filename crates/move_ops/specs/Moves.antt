@@ -1,5 +1,5 @@
 -- The moves from plan to plan: each gives the plan that it names where that passes. Vehicles and places count from 1.
-use Rattle.std.specs.Prelude.{ℕ, nat_le, ◌==◌, ◌&&◌, not, Bool, true, false, List, ◌++◌, length, take, drop, map, filter, Option, None, if◌then◌else◌}
+use Rattle.std.specs.Prelude.{◌≡◌, ℕ, nat_le, ◌==◌, ◌&&◌, not, Bool, true, false, List, ◌++◌, length, take, drop, map, filter, Option, Some, None, if◌then◌else◌}
 use Rattle.std.specs.List.{list_all}
 use Rattle.std.specs.Option.{option_map_or, option_and_then}
 use Rattle.plan_types.specs.Instance.{Instance, name_at}
