@@ -1,8 +1,7 @@
 -- The same of the tables: a table of each vehicle's route.
-use Rattle.std.proofs.Common.{◌≡◌, ℕ, zero, suc, ◌+◌, ◌-◌, ◌<◌, ◌≤◌, Bool, true, false, List, [], ◌∷◌, All, length, map, get_or, slice_get, Option, Some, None, nat_eq, add-one, refl, sym, ap, subst, ◌∙◌, inl, inr, arith}
+use Rattle.std.proofs.Common.{◌≡◌, ℕ, zero, suc, ◌+◌, ◌<◌, ◌≤◌, true, List, [], ◌∷◌, length, map, get_or, slice_get, Option, Some, None, add-one, refl, sym, ap, subst, ◌∙◌, arith}
 use Rattle.std.specs.Prelude.{unwrap_or}
-use Rattle.std.specs.Map.{lookup}
-use Rattle.std.specs.Option.{option_map, IsSomeAnd}
+use Rattle.std.specs.Option.{option_map}
 use Rattle.std.proofs.Math.ListN.{get_or-map, length-map}
 use Rattle.std.proofs.lemmas.List.Elements.{All-get_or}
 use Rattle.std.proofs.lemmas.Option.{slice_get-get_or}
@@ -11,7 +10,6 @@ use Rattle.plan_types.specs.Instance.{Instance, IsInstance}
 use Rattle.plan_types.specs.Laws.{NamedAreFound, RequestsStandByName}
 use Rattle.plan_types.specs.Request.{request_name, IsRequest}
 use Rattle.plan_types.specs.declared.requests.Request.{Request}
-use Rattle.route_sched.specs.Cost.{is_planned}
 use Rattle.route_sched.specs.Route.{AreLiveOnce}
 use Rattle.plan_audit.specs.Alone.{IsFeasibleAlone}
 use Rattle.plan_audit.specs.Locality.{PassesAreLocal, PlansAreLocal, TestsSayFeasible}
@@ -21,7 +19,7 @@ use Rattle.slack_tables.specs.Course.{Course, course_of, route_of, IsCourseIn}
 use Rattle.slack_tables.specs.Insertion.{KeepsLimits}
 use Rattle.move_ops.specs.Insertion.{of_vehicle, best_insertion}
 use Rattle.move_ops.specs.Laws.{BestInsertionsAreLeast, BestInsertionsAreUnique, PlansPassWithoutPins}
-use Rattle.move_ops.specs.Tables.{plan_of, tables_of, AreTablesIn}
+use Rattle.move_ops.specs.Tables.{plan_of, AreTablesIn}
 use Rattle.move_ops.specs.Choosing.{place_found, IsAsked, IsBestUpTo, HasIdle, IsBetter}
 use Rattle.move_ops.specs.declared.tables.Found.{Found}
 use Rattle.move_ops.proofs.Fitting.{route_limits}

@@ -1,14 +1,11 @@
 -- The least of a list by an order, and the order of insertions.
-use Rattle.std.proofs.Common.{◌≡◌, ℕ, zero, suc, ◌+◌, ◌<◌, ◌≤◌, ◌⊎◌, ◌&&◌, ◌||◌, Bool, true, false, not, eqb, ltb, leb, List, [], ◌∷◌, length, Option, Some, None, refl, sym, ap, subst, ◌∙◌, inl, inr, arith}
-use Rattle.std.specs.Prelude.{IsTrue}
+use Rattle.std.proofs.Common.{◌≡◌, ℕ, zero, suc, ◌<◌, ◌≤◌, ◌⊎◌, ◌&&◌, ◌||◌, Bool, true, false, not, eqb, ltb, leb, List, [], ◌∷◌, length, Option, Some, None, refl, sym, ap, subst, ◌∙◌, inl, inr, arith}
 use Rattle.std.specs.List.{Contains}
-use Rattle.std.specs.Option.{MatchOption, option_and_then, option_map_or}
+use Rattle.std.specs.Option.{MatchOption}
 use Rattle.std.proofs.lemmas.Bool.{and_from, and_parts, or_cases, cases_order, cases_lt, eq-eqb, eqb-true, ltb-true, lt-ltb, leb-true, le-leb}
 use Rattle.plan_types.specs.Cost.{cost_below, cost_at_most, CostsAreTotal, CostsAreTransitive, BelowThenAtMost, AtMostThenBelow, BelowIsAtMost}
-use Rattle.plan_types.specs.Instance.{Instance}
 use Rattle.plan_types.specs.declared.plans.Cost.{Cost}
-use Rattle.plan_types.specs.declared.requests.Request.{Request}
-use Rattle.move_ops.specs.Insertion.{Place, request_named, insertions, insertions_of, is_no_later, is_no_worse, cost_with, better, least_by, best_insertion}
+use Rattle.move_ops.specs.Insertion.{Place, insertions, insertions_of, is_no_later, is_no_worse, cost_with, better, least_by, best_insertion}
 use Rattle.move_ops.specs.Laws.{IsBest, BestInsertionsAreLeast, BestInsertionsAreUnique}
 
 module _ {X : Type 0} (at_most : X → X → Bool) (total : (x y : X) → (at_most x y ≡ true) ⊎ (at_most y x ≡ true)) (transitive : (x y z : X) → at_most x y ≡ true → at_most y z ≡ true → at_most x z ≡ true) where

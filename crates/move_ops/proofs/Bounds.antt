@@ -1,12 +1,11 @@
 -- No route is so long that distances would not fit: by far, since a distance is taken to be no more than the square.
-use Rattle.std.proofs.Common.{◌≡◌, ℕ, zero, suc, ◌+◌, ◌-◌, ◌*◌, ◌/◌, ◌<◌, ◌≤◌, ℤ, pos, negsuc, ◌-ℤ◌, ◌≤ℤ◌, nat_le, nat_lt, nat_eq, eqb, leb, ltb, cond, Bool, true, false, List, [], ◌∷◌, length, map, sum, fold, mul-le-mul, Option, Some, None, get_or, refl, sym, ap, subst, ◌∙◌, inl, inr, arith}
+use Rattle.std.proofs.Common.{◌≡◌, ℕ, zero, suc, ◌+◌, ◌*◌, ◌/◌, ◌≤◌, ℤ, ◌-ℤ◌, eqb, leb, ltb, cond, Bool, true, false, List, [], ◌∷◌, length, map, sum, fold, mul-le-mul, Option, Some, None, get_or, refl, subst, ◌∙◌, inl, inr, arith}
 use Rattle.std.specs.Prelude.{unsigned_abs, unwrap_or}
 use Rattle.std.specs.List.{AllByRecursion, range_with_len}
-use Rattle.std.specs.Option.{option_or}
 use Rattle.std.proofs.lemmas.Bool.{leb-true}
 use Rattle.std.proofs.lemmas.Bool.Decides.{eqb_tells}
 use Rattle.std.proofs.lemmas.Int.{ints}
-use Rattle.plan_types.specs.Limits.{IsCoordinate, IsVisit}
+use Rattle.plan_types.specs.Limits.{IsCoordinate}
 use Rattle.plan_types.specs.Instance.{Instance, IsInstance, first_some, stop_at}
 use Rattle.plan_types.specs.Request.{IsRequest, stop_in}
 use Rattle.plan_types.specs.declared.requests.Stop.{Stop}

@@ -1,10 +1,10 @@
 -- The best insertion over the first vehicles, and over one more.
-use Rattle.std.proofs.Common.{◌≡◌, ℕ, zero, suc, ◌+◌, ◌-◌, ◌*◌, ◌<◌, ◌≤◌, ◌⊎◌, ℤ, pos, ◌+ℤ◌, ◌-ℤ◌, ◌<ℤ◌, ◌≤ℤ◌, eqb, ltb, leb, cond, ◌&&◌, ◌||◌, Bool, true, false, not, List, [], ◌∷◌, ◌++◌, length, length-append, take, drop, get_or, slice_get, Option, Some, None, refl, sym, ap, subst, ◌∙◌, inl, inr, arith, nat_eq}
+use Rattle.std.proofs.Common.{◌≡◌, ℕ, zero, suc, ◌+◌, ◌-◌, ◌<◌, ◌≤◌, ℤ, pos, ◌+ℤ◌, ◌-ℤ◌, ◌<ℤ◌, ◌≤ℤ◌, eqb, ltb, leb, cond, ◌&&◌, Bool, true, false, not, List, [], ◌∷◌, length, length-append, take, drop, get_or, slice_get, Option, Some, None, refl, sym, ap, subst, ◌∙◌, inl, inr, arith, nat_eq}
 use Rattle.std.specs.List.{AllByRecursion, Contains, insert}
 use Rattle.std.specs.Map.{lookup}
 use Rattle.std.specs.Prelude.{MatchOption, unwrap_or}
 use Rattle.std.specs.Option.{option_map, option_map_or, option_or}
-use Rattle.std.proofs.lemmas.Bool.{cases_lt, cases_Bool, and_from, and_parts, eq-eqb, eqb-true, ltb-true, lt-ltb, leb-true, le-leb}
+use Rattle.std.proofs.lemmas.Bool.{cases_lt, and_from, and_parts, eq-eqb, eqb-true, ltb-true, lt-ltb, leb-true, le-leb}
 use Rattle.std.proofs.lemmas.Bool.Decides.{eqb_tells}
 use Rattle.std.proofs.lemmas.Int.{ints, by_lt_z}
 use Rattle.std.proofs.lemmas.List.{take-append-drop}
@@ -22,11 +22,11 @@ use Rattle.plan_audit.specs.Locality.{PassesAreLocal, TestsSayFeasible}
 use Rattle.plan_audit.specs.Passes.{feasible_alone, passes}
 use Rattle.plan_audit.specs.Rules.{item_at}
 use Rattle.slack_tables.specs.Best.{Adds, ComesFirst, IsBestAddition}
-use Rattle.slack_tables.specs.Insertion.{KeepsLimits, ArePlaces, IsAdded, inserted}
+use Rattle.slack_tables.specs.Insertion.{KeepsLimits, ArePlaces, inserted}
 use Rattle.slack_tables.specs.declared.scan.Addition.{Addition}
-use Rattle.move_ops.specs.Insertion.{Place, of_vehicle, with_request_at, are_places, is_place_of, insertions_of, insertions, best_insertion, cost_with, is_no_later, is_no_worse}
+use Rattle.move_ops.specs.Insertion.{Place, of_vehicle, are_places, is_place_of, insertions_of, insertions, best_insertion, cost_with, is_no_worse}
 use Rattle.move_ops.specs.Laws.{IsBest, BestInsertionsAreLeast, BestInsertionsAreUnique}
-use Rattle.move_ops.specs.Choosing.{opens, place_found, found_at, IsBestAmong, IsBestUpTo, HasIdle, bound_of, IsBetterBelow, IsBetter}
+use Rattle.move_ops.specs.Choosing.{opens, place_found, found_at, IsBestAmong, IsBestUpTo, HasIdle, IsBetterBelow, IsBetter}
 use Rattle.move_ops.specs.declared.tables.Found.{Found}
 use Rattle.move_ops.proofs.Times.{none_some, some_same, times}
 use Rattle.move_ops.proofs.Inserting.{numbers_of, nowhere, passes_where_feasible}
@@ -34,7 +34,7 @@ use Rattle.move_ops.proofs.BestLemmas.{said_later, both_transitive}
 use Rattle.move_ops.proofs.Replacing.{parts, all_at, times_in_vehicle, within_list, in_vehicle}
 use Rattle.move_ops.proofs.Places.{contained, within, listed, to_list}
 use Rattle.move_ops.proofs.Fitting.{fits, some_new, limits_alone}
-use Rattle.move_ops.proofs.Costs.{new_route, IsPriced, Ahead, no_worse}
+use Rattle.move_ops.proofs.Costs.{IsPriced, Ahead, no_worse}
 use Rattle.move_ops.proofs.Bounds.{route_small}
 
 -- a request stands under its name

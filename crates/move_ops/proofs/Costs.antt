@@ -1,19 +1,19 @@
 -- What a request put into a plan does to its cost, and which of two insertions is no worse.
-use Rattle.std.proofs.Common.{◌≡◌, ◌↔◌, ℕ, zero, suc, ◌+◌, ◌-◌, ◌<◌, ◌≤◌, ◌⊎◌, ℤ, pos, ◌+ℤ◌, ◌-ℤ◌, ◌<ℤ◌, ◌≤ℤ◌, eqb, cond, ◌&&◌, ◌||◌, Bool, true, false, not, List, [], ◌∷◌, length, set, get_or, refl, sym, ap, subst, ◌∙◌, inl, inr, arith, nat_eq}
+use Rattle.std.proofs.Common.{◌≡◌, ℕ, ◌+◌, ◌-◌, ◌<◌, ◌≤◌, ◌⊎◌, ℤ, pos, ◌+ℤ◌, ◌<ℤ◌, eqb, cond, ◌&&◌, ◌||◌, Bool, true, false, not, List, [], length, refl, sym, ap, ◌∙◌, inl, inr, arith, nat_eq}
 use Rattle.std.specs.List.{concat, list_any, count_by, sum_by}
-use Rattle.std.proofs.lemmas.Bool.{and_from, cases_Bool}
+use Rattle.std.proofs.lemmas.Bool.{and_from}
 use Rattle.std.proofs.lemmas.Bool.Decides.{eqb_tells}
 use Rattle.std.proofs.lemmas.Int.{ints}
 use Rattle.std.proofs.lemmas.List.Sums.{sum_by-set}
 use Rattle.std.proofs.lemmas.Option.{get_or_from_slice_get}
-use Rattle.plan_types.specs.Cost.{cost_below, cost_at_most, IsCostBelow, BelowTells, AtMostTells}
+use Rattle.plan_types.specs.Cost.{cost_below, cost_at_most, BelowTells, AtMostTells}
 use Rattle.plan_types.specs.Instance.{Instance}
 use Rattle.plan_types.specs.declared.plans.Cost.{Cost}
 use Rattle.plan_types.specs.declared.requests.Request.{Request}
 use Rattle.plan_types.specs.declared.requests.Request.TheVariants.{Single, Pair}
 use Rattle.plan_types.specs.declared.requests.Kind.{Kind}
 use Rattle.plan_types.specs.declared.requests.Kind.TheVariants.{LiLim, Vrp}
-use Rattle.route_sched.specs.Cost.{has_stop, is_planned, unplanned_count, used_count, vehicle_count, total_length}
+use Rattle.route_sched.specs.Cost.{has_stop, is_planned, unplanned_count, vehicle_count, total_length}
 use Rattle.route_sched.specs.Schedule.{route_length}
 use Rattle.slack_tables.specs.Insertion.{inserted}
 use Rattle.move_ops.specs.Insertion.{Place, of_vehicle, with_route, with_request_at, cost_with, is_no_later, is_no_worse}

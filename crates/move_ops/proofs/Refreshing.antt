@@ -1,12 +1,11 @@
 -- Tables of which some were built anew.
-use Rattle.std.proofs.Common.{◌≡◌, ℕ, zero, suc, ◌+◌, ◌-◌, ◌<◌, ◌≤◌, ◌⊎◌, ◌||◌, eqb, cond, Bool, true, false, List, [], ◌∷◌, All, length, map, set, get_or, Option, Some, None, IsSome, nat_eq, refl, sym, ap, subst, ◌∙◌, inl, inr, arith}
-use Rattle.std.specs.Prelude.{unwrap_or}
-use Rattle.std.specs.List.{AllByRecursion, concat}
+use Rattle.std.proofs.Common.{◌≡◌, ℕ, zero, suc, ◌+◌, ◌-◌, ◌<◌, ◌≤◌, ◌⊎◌, eqb, Bool, true, false, List, [], ◌∷◌, length, map, set, get_or, Option, Some, None, IsSome, refl, sym, ap, subst, ◌∙◌, inl, inr, arith}
+use Rattle.std.specs.List.{AllByRecursion}
 use Rattle.std.proofs.Math.ListN.{get_or-map, length-map}
 use Rattle.std.proofs.lemmas.Bool.Decides.{eqb_tells}
 use Rattle.std.proofs.lemmas.List.{length-set, same_lists, get_or-set_other}
 use Rattle.std.proofs.lemmas.Grind.{get_or-set_at}
-use Rattle.std.proofs.lemmas.List.Elements.{recursion_from_All, All-get_or}
+use Rattle.std.proofs.lemmas.List.Elements.{recursion_from_All}
 use Rattle.std.proofs.lemmas.Option.{get_or_from_slice_get}
 use Rattle.plan_types.specs.Instance.{Instance, IsInstance, first_some, stop_at}
 use Rattle.plan_types.specs.Request.{stop_in}
@@ -16,7 +15,7 @@ use Rattle.plan_types.specs.declared.requests.Request.TheVariants.{Single, Pair}
 use Rattle.route_sched.specs.Route.{IsLive, AreLiveOnce, stop_numbered}
 use Rattle.plan_audit.specs.Locality.{PassesAreLocal, PlansAreLocal}
 use Rattle.plan_audit.specs.Passes.{has, passes}
-use Rattle.slack_tables.specs.Course.{Course, course_of, route_of, IsCourseIn}
+use Rattle.slack_tables.specs.Course.{Course, course_of, route_of}
 use Rattle.move_ops.specs.Insertion.{of_vehicle}
 use Rattle.move_ops.specs.Tables.{plan_of, tables_of, AreTablesIn, AreVehicles, DifferOnlyAt}
 use Rattle.move_ops.specs.Refreshing.{fresh_of, replaced, AreWithin}

@@ -1,7 +1,7 @@
 -- Where an unplanned request can be put into a plan, and where best. Vehicles and places count from 1.
-use Rattle.std.specs.Prelude.{◌≡◌, ◌↔◌, ℕ, ◌+◌, ◌-◌, nat_lt, nat_le, ◌==◌, ◌&&◌, ◌||◌, not, Bool, true, IsTrue, List, [], ◌∷◌, length, map, filter, slice_set, Option, Some, None, is_some, unwrap_or, if◌then◌else◌}
-use Rattle.std.specs.List.{Contains, flat_map, insert, range_with_len}
-use Rattle.std.specs.Option.{option_map, option_map_or, option_and_then}
+use Rattle.std.specs.Prelude.{ℕ, ◌+◌, ◌-◌, nat_lt, nat_le, ◌==◌, ◌&&◌, ◌||◌, not, Bool, List, [], ◌∷◌, length, map, filter, slice_set, Option, Some, None, unwrap_or, if◌then◌else◌}
+use Rattle.std.specs.List.{flat_map, insert, range_with_len}
+use Rattle.std.specs.Option.{option_map_or, option_and_then}
 use Rattle.plan_types.specs.Cost.{cost_below, cost_at_most}
 use Rattle.plan_types.specs.Instance.{Instance}
 use Rattle.plan_types.specs.declared.plans.Cost.{Cost}

@@ -224,7 +224,7 @@ fn any_problem(alloc: Global, kind: Kind, seed: u64) -> Result<Problem, Fail> {
 // Puts in one request after another where that is best, and tells how many, or nothing where the slow way finds another place.
 fn grown(alloc: Global, problem: &Problem, pins: &Pins, plan: Plan) -> Result<Option<u32>, Fail> {
     let mut plan = plan;
-    let mut count = 0;
+    let mut count: u32 = 0;
     for name in 1..40 + 1 {
         if !is_passing(alloc, problem, pins, &plan)? {
             return Ok(None);
@@ -238,7 +238,7 @@ fn grown(alloc: Global, problem: &Problem, pins: &Pins, plan: Plan) -> Result<Op
         };
         if let Some(new) = insert_at(alloc, problem, pins, &plan, name, place)? {
             plan = new;
-            count += 1;
+            count = count.saturating_add(1);
         }
     }
     Ok(Some(count))

@@ -37,7 +37,7 @@ impl Model for Tables {
 }
 
 // The best insertion so far, and whether it uses one vehicle more.
-#[derive(Clone, Copy, Debug)]
+#[derive(Clone, Copy)]
 struct Found {
     vehicle: u64,
     opens: bool,

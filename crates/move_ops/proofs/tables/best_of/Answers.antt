@@ -1,6 +1,6 @@
-use Rattle.std.proofs.Common.{rules, ◌≡◌, ◌≤◌, ◌+◌, true, false, length, ℕ, refl, sym, ◌∙◌, arith, subst}
+use Rattle.std.proofs.Common.{◌≡◌, true, false, length, refl, sym, ◌∙◌, arith, subst}
 use Rattle.move_ops.specs.Tables.{plan_of}
-use Rattle.move_ops.specs.Choosing.{HasIdle, IsBestUpTo}
+use Rattle.move_ops.specs.Choosing.{IsBestUpTo}
 use Rattle.move_ops.proofs.Asked.{course_at, request_valid, none_yet, pin_fits, idle_here, idle_more, one_more, one_skipped, answered}
 use Rattle.move_ops.proofs.tables.best_of.Goals as goal
 use Rattle.move_ops.proofs.tables.best_of.Goals.{then-stop_count-eq0+else-has_idle, else-stop_count-eq0}

@@ -1,4 +1,4 @@
-use Rattle.std.proofs.Common.{rules, ◌≡◌, ℕ, List, [], true, sym, subst, arith}
+use Rattle.std.proofs.Common.{◌≡◌, ℕ, List, [], true, sym, subst, arith}
 use Rattle.plan_types.specs.Instance.{IsInstance}
 use Rattle.route_sched.specs.Route.{AreLiveOnce}
 use Rattle.plan_audit.specs.Passes.{passes}

@@ -1,10 +1,9 @@
-use Rattle.std.proofs.Common.{rules, ◌≡◌, ◌≤◌, ℕ, List, [], map, length, true, sym, subst, arith, ap, ◌∙◌}
+use Rattle.std.proofs.Common.{rules, ◌≡◌, ◌≤◌, [], map, length, sym, subst, arith, ap, ◌∙◌}
 use Rattle.std.proofs.Math.ListN.{length-map}
 use Rattle.std.proofs.lemmas.List.Elements.{recursion_from_All}
 use Rattle.plan_types.specs.Instance.{IsInstance}
-use Rattle.plan_audit.specs.Passes.{passes}
 use Rattle.slack_tables.specs.Course.{route_of}
-use Rattle.move_ops.specs.Tables.{plan_of, tables_of}
+use Rattle.move_ops.specs.Tables.{plan_of}
 use Rattle.move_ops.specs.Refreshing.{fresh_of, replaced, AreWithin}
 use Rattle.move_ops.proofs.Refreshing.{fleet_of, vehicles_within, refreshed, plan_kept}
 use Rattle.move_ops.proofs.tables.Tables.refresh.Goals as goal
