@@ -73,3 +73,17 @@ module _ (Is : Addition → Type 0) (key : Addition → ℕ) (order : (a b : Add
   unfolding SoFar
   all-seen below bound n None so all = λ a is. so.1 a is.0 (all a is.0) is.1
   all-seen below bound n (Some b) so all = ((so.1, so.3), λ a is. so.4 a is.0 (all a is.0) is.1)
+
+  -- or where all the rest comes to the bound
+  pub rest-dear : (below bound : ℤ) (n : ℕ) (best : Option Addition) → SoFar below n bound best → ((a : Addition) → Is a → n ≤ key a → a.distance <ℤ bound → ⊥) → IsFirstOf (Under Is below) best
+  unfolding SoFar
+  rest-dear below bound n None so dear = λ a is. by a is (cases_lt (key a) n)
+    where
+      by : (a : Addition) → Under Is below a → (key a < n) ⊎ (n ≤ key a) → ⊥
+      by a is (inl before) = so.1 a is.0 before is.1
+      by a is (inr behind) = dear a is.0 behind (subst (λ x. a.distance <ℤ x) (sym so.0) is.1)
+  rest-dear below bound n (Some b) so dear = ((so.1, so.3), λ a is. by a is (cases_lt (key a) n))
+    where
+      by : (a : Addition) → Under Is below a → (key a < n) ⊎ (n ≤ key a) → ComesFirst b a
+      by a is (inl before) = so.4 a is.0 before is.1
+      by a is (inr behind) = by_lt_z {P = ComesFirst b a} a.distance bound (λ less. absurd (dear a is.0 behind less)) (λ le. let lt = so.2 in order b a so.1 is.0 (subst (λ x. x ≤ℤ a.distance) so.0 le) (omega arith))

@@ -1,6 +1,7 @@
 -- The loops over the places of a table: one place after another.
-use Rattle.std.proofs.Common.{◌≡◌, ℕ, ◌+◌, ◌-◌, ◌<◌, ◌≤◌, ℤ, ◌≤ℤ◌, ◌<ℤ◌, int_lt, Bool, true, false, cond, T, List, [], ◌∷◌, length, Option, Some, None, refl, sym, ◌∙◌, arith, subst}
-use Rattle.std.proofs.lemmas.Int.{ints}
+use Rattle.std.proofs.Common.{◌≡◌, ℕ, ◌+◌, ◌-◌, ◌<◌, ◌≤◌, ℤ, ◌≤ℤ◌, ◌<ℤ◌, int_lt, Bool, true, false, cond, T, w64, to_z, of_z, List, [], ◌∷◌, length, Option, Some, None, refl, sym, ◌∙◌, arith, subst}
+use mir.Val.{SFits}
+use Rattle.std.proofs.lemmas.Int.{ints, to_z-of_z}
 use Rattle.plan_types.specs.declared.requests.Stop.{Stop}
 use Rattle.slack_tables.specs.Best.{ComesFirst, IsFirstOf}
 use Rattle.slack_tables.specs.Driven.{with_between, with_pair}
@@ -9,7 +10,7 @@ use Rattle.slack_tables.specs.declared.progress.Limits.{Limits}
 use Rattle.slack_tables.specs.declared.progress.Place.{Place}
 use Rattle.slack_tables.specs.declared.scan.Addition.{Addition}
 use Rattle.slack_tables.specs.declared.scan.Best.{Best}
-use Rattle.slack_tables.proofs.FirstLemmas.{SoFar, first-pickup, first-delivery, none-yet, none-here, better-here, all-seen}
+use Rattle.slack_tables.proofs.FirstLemmas.{SoFar, first-pickup, first-delivery, none-yet, none-here, better-here, all-seen, rest-dear}
 
 abbrev pub by_pickup : Addition → ℕ
 by_pickup a = a.pickup
@@ -20,7 +21,7 @@ by_delivery a = a.delivery
 same-sum : (o : Option ℤ) (a b : ℤ) → o ≡ Some a → o ≡ Some b → a ≡ b
 same-sum o a b p q = let e : Some a ≡ Some b = sym p ∙ q in cc
 
-never-sum : (o : Option ℤ) (a : ℤ) → o ≡ None → o ≡ Some a → ⊥
+pub never-sum : (o : Option ℤ) (a : ℤ) → o ≡ None → o ≡ Some a → ⊥
 never-sum o a p q = absurd (let e : None ≡ Some a = sym p ∙ q in cc)
 
 int_lt-true : (x y : ℤ) → int_lt x y ≡ true → x <ℤ y
@@ -28,6 +29,10 @@ int_lt-true x y h = record { lt = subst T (sym h) tt }
 
 int_lt-false : (x y : ℤ) → int_lt x y ≡ false → x <ℤ y → ⊥
 int_lt-false x y h less = subst T h (less.lt)
+
+-- a bound that was passed on
+pub bits-below : (x y : ℤ) → SFits w64 x → to_z w64 (of_z w64 x) ≤ℤ y → x ≤ℤ y
+bits-below x y fits le = subst (λ z. z ≤ℤ y) (to_z-of_z w64 x fits) le
 
 -- ---- a single
 module _ (limits : Limits) (places : List Place) (s : Stop) (kept : ℕ) (d : Place) where
@@ -101,6 +106,14 @@ module _ (limits : Limits) (places : List Place) (p q : Stop) (i : ℕ) (d : Pla
 
   pub deliveries-end : (below : ℤ) (j : ℕ) (best : Best) → DeliveriesSoFar below j best → length places < j → IsFirstOf (AddsDelivery limits places p q i below d) best.found
   deliveries-end below j best so end = all-seen (PutsDelivery limits places p q i d) by_delivery order_here below best.bound j best.found so (λ a is. let within = is.within in omega arith)
+
+  -- or where none of the rest adds less
+  pub deliveries-stop : (below : ℤ) (j : ℕ) (best : Best) → DeliveriesSoFar below j best → ((k : ℕ) (x : ℤ) → j ≤ k → k ≤ length places → with_pair limits places p q i k d ≡ Some x → best.bound ≤ℤ x) → IsFirstOf (AddsDelivery limits places p q i below d) best.found
+  deliveries-stop below j best so dear = rest-dear (PutsDelivery limits places p q i d) by_delivery order_here below best.bound j best.found so (λ a is behind less. let le = dear a.delivery a.distance behind is.within is.added in absurd (omega (arith, ints)))
+
+  -- or where all of them do not
+  pub deliveries-none : (below : ℤ) → ((k : ℕ) (x : ℤ) → i + 1 ≤ k → k ≤ length places → with_pair limits places p q i k d ≡ Some x → below ≤ℤ x) → IsFirstOf (AddsDelivery limits places p q i below d) None
+  deliveries-none below dear = λ a is. (let le = dear a.delivery a.distance (let order = is.0.order in omega arith) is.0.within is.0.added in let less = is.1 in absurd (omega (arith, ints)))
 
 -- ---- a pair
 module _ (limits : Limits) (places : List Place) (p q : Stop) (kept : ℕ) (d : Place) where

@@ -8,6 +8,9 @@ pub mod Along
 pub mod Driven
 pub mod Filled
 pub mod Inside
+pub mod Legs
 pub mod Opened
 pub mod Places
+pub mod Ride
 pub mod Scan
+pub mod Walk

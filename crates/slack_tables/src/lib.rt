@@ -2,7 +2,9 @@
 #![tactic(auto)]
 
 mod insertion;
+mod legs;
 mod progress;
+mod ride;
 mod scan;
 mod slack;
 mod table;

@@ -1,24 +1,16 @@
-use Rattle.std.proofs.Common.{w64, rules, arith, subst}
+use Rattle.std.proofs.Common.{w64, subst}
 use mir.Val.{SFits}
 use Rattle.std.proofs.lemmas.Int.{to_z-of_z}
 use Rattle.slack_tables.specs.Best.{IsFirstOf}
-use Rattle.slack_tables.specs.Scan.{AddsPair, AddsDelivery}
-use Rattle.slack_tables.proofs.ScanLemmas.{pairs-begin, pair-more, pairs-end}
+use Rattle.slack_tables.specs.Scan.{AddsPair}
 use Rattle.slack_tables.proofs.scan.best_pair.Goals as goal
 
-pub loop-i-init : goal.loop-i-init
-loop-i-init c = record {
-  behind = omega arith;
-  best = λ d. pairs-begin c.args.limits c.args.places.now c.args.pickup.now c.args.delivery.now c.args.kept d _ _ c.none_below-best.ensures;
-}
-
-pub loop-i-preserved : goal.loop-i-preserved
-loop-i-preserved c = let bound : SFits w64 c.loop-i.best.bound = search rules in record {
-  behind = let behind = c.loop-i.invariant.behind in omega arith;
-  best = λ d. pair-more c.args.limits c.args.places.now c.args.pickup.now c.args.delivery.now c.args.kept d _ c.loop-i.i c.loop-i.best (c.loop-i.invariant.best d) _ _ c.loop-i.invariant.behind (subst (λ x. IsFirstOf (AddsDelivery c.args.limits c.args.places.now c.args.pickup.now c.args.delivery.now c.loop-i.i x d) c.best_delivery.result) (to_z-of_z w64 c.loop-i.best.bound bound) (c.best_delivery.ensures d)) c.accept.ensures;
-}
+pub returns-then-places-gt-ROOM : goal.returns-then-places-gt-ROOM
+returns-then-places-gt-ROOM c = λ d.
+    (let below : SFits w64 c.args.below = record { sfits = c.ranges.below.sfits } in
+    subst (λ x. IsFirstOf (AddsPair c.args.limits c.args.places.now c.args.pickup.now c.args.delivery.now c.args.kept x d) c.best_pickup.result) (to_z-of_z w64 c.args.below below) (c.best_pickup.ensures d))
 
 pub returns : goal.returns
 returns c = λ d.
-    (let fits : SFits w64 c.args.below = record { sfits = c.ranges.below.sfits } in
-    subst (λ x. IsFirstOf (AddsPair c.args.limits c.args.places.now c.args.pickup.now c.args.delivery.now c.args.kept x d) c.loop-i.best.found) (to_z-of_z w64 c.args.below fits) (pairs-end c.args.limits c.args.places.now c.args.pickup.now c.args.delivery.now c.args.kept d _ c.loop-i.i c.loop-i.best (c.loop-i.invariant.best d) (omega arith)))
+    (let below : SFits w64 c.args.below = record { sfits = c.ranges.below.sfits } in
+    subst (λ x. IsFirstOf (AddsPair c.args.limits c.args.places.now c.args.pickup.now c.args.delivery.now c.args.kept x d) c.best_pickup-2.result) (to_z-of_z w64 c.args.below below) (c.best_pickup-2.ensures d))
