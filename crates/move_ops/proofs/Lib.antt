@@ -9,6 +9,7 @@ pub mod Exchanging
 pub mod Fitting
 pub mod Inserting
 pub mod Places
+pub mod Refreshing
 pub mod Removing
 pub mod Replacing
 pub mod Times

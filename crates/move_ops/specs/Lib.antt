@@ -5,3 +5,4 @@ pub mod Moves
 pub mod Tables
 -- what those of private functions say
 pub mod Choosing
+pub mod Refreshing

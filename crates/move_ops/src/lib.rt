@@ -23,4 +23,6 @@ pub use swap::exchange;
 pub use tables::Tables;
 
 #[cfg(test)]
+mod best_tests;
+#[cfg(test)]
 mod tests;

@@ -1,11 +1,13 @@
 //! Where a request is put into a plan best, by a table for each vehicle.
-ghost use Rattle.std.specs.Prelude.{◌≡◌, ◌≤◌, ◌+◌, true, false, Some, IfOk, IsSome, length};
+ghost use Rattle.std.specs.Prelude.{◌≡◌, ◌≤◌, true, false, [], map, Some, IfOk, IsSome, length};
 ghost use Rattle.std.specs.Option.{option_map};
 ghost use Rattle.plan_types.specs.Instance.{IsInstance};
 ghost use Rattle.plan_types.specs.Request.{request_name, IsRequest};
 ghost use Rattle.slack_tables.specs.Course.{route_of, IsCourseIn};
 ghost use Rattle.move_ops.specs.Insertion.{request_named, best_insertion};
-ghost use Rattle.move_ops.specs.Tables.{plan_of};
+ghost use Rattle.plan_audit.specs.Passes.{passes};
+ghost use Rattle.move_ops.specs.Refreshing.{fresh_of};
+ghost use Rattle.move_ops.specs.Tables.{plan_of, AreVehicles};
 ghost use Rattle.move_ops.specs.Choosing.{opens, bound_of, place_found, IsAsked, IsBetter};
 
 use crate::laws::{best_insertions_are_least, best_insertions_are_unique};
@@ -43,11 +45,11 @@ struct Found {
 }
 
 impl Tables {
-    ghost use Rattle.std.specs.Prelude.{[]};
+    ghost use Rattle.std.specs.Prelude.{OnOk, OnErr};
     ghost use Rattle.std.specs.Option.{IsSomeAnd};
     ghost use Rattle.route_sched.specs.Cost.{is_planned};
-    ghost use Rattle.plan_audit.specs.Passes.{passes};
-    ghost use Rattle.move_ops.specs.Tables.{tables_of, AreTablesIn};
+    ghost use Rattle.move_ops.specs.Refreshing.{replaced, AreWithin};
+    ghost use Rattle.move_ops.specs.Tables.{tables_of, AreTablesIn, DifferOnlyAt};
 
     /// The tables of a plan that passes.
     pub fn build(alloc: Global, problem: &Problem, plan: &Plan) -> Result<Tables, OutOfMemory>
@@ -83,6 +85,65 @@ impl Tables {
             None => None,
         }
     }
+
+    /// Builds the tables of these vehicles anew, for a plan whose other routes are those of the tables. Vehicles count from 1; the list
+    /// may be empty, or name one twice. All new tables are built before one takes the place of an old one, so that after a refusal the
+    /// old ones stand.
+    pub fn refresh(
+        &mut self,
+        problem: &Problem,
+        plan: &Plan,
+        vehicles: &[u32],
+    ) -> Result<(), OutOfMemory>
+        requires tables { AreTablesIn problem.now self.old }
+        requires pass { passes problem.now [] plan.now.routes ≡ true }
+        requires vehicles { AreVehicles problem.now vehicles.now }
+        requires others { DifferOnlyAt vehicles.now (plan_of self.old) plan.now.routes }
+        ensures tables { OnOk result (self.new ≡ tables_of problem.now plan.now.routes) }
+        ensures plan { OnOk result (plan_of self.new ≡ plan.now.routes) }
+        ensures err { OnErr result (self.new ≡ self.old) }
+    {
+        passes_are_local();
+        plans_are_local();
+        let _fleet = problem.fleet;
+        let alloc = *self.tables.allocator();
+        let fresh = fresh_tables(alloc, problem, plan.routes.as_slice(), vehicles)?;
+        self.replace(fresh);
+        Ok(())
+    }
+
+    // Lets each table take the place of its vehicle's.
+    fn replace(&mut self, fresh: Vec<(u32, RouteTable)>)
+        requires { AreWithin (length self.old) fresh.items }
+        ensures { self.new ≡ replaced self.old fresh.items }
+    {
+        for (vehicle, table) in fresh {
+            self.tables[(vehicle - 1) as usize] = table;
+        }
+    }
+}
+
+// The vehicles, each with the table of its route.
+fn fresh_tables(
+    alloc: Global,
+    problem: &Problem,
+    routes: &[Route],
+    vehicles: &[u32],
+) -> Result<Vec<(u32, RouteTable)>, OutOfMemory>
+    requires pass { passes problem.now [] routes.now ≡ true }
+    requires vehicles { AreVehicles problem.now vehicles.now }
+    ensures { IfOk result (λ fresh. fresh.items ≡ map (fresh_of problem.now routes.now) vehicles.now) }
+{
+    passes_are_local();
+    plans_are_local();
+    tests_say_feasible();
+    let _fleet = problem.fleet;
+    let mut fresh = Vec::with_capacity(alloc, vehicles.len())?;
+    for vehicle in vehicles {
+        let route = of_vehicle(routes, u64::from(*vehicle));
+        fresh.push((*vehicle, RouteTable::build(alloc, problem, route)?))?;
+    }
+    Ok(fresh)
 }
 
 // The request of a live name.

@@ -1,18 +1,21 @@
 -- What a scan finds among the places of a table is the best that the definitions allow.
-use Rattle.std.proofs.Common.{◌≡◌, ℕ, ◌+◌, ◌-◌, ℤ, List, [], ◌∷◌, length, Option, Some, None, refl, ap, arith, subst}
+use Rattle.std.proofs.Common.{◌≡◌, ℕ, ◌+◌, ◌-◌, ℤ, List, [], ◌∷◌, get_or, length, Option, Some, None, refl, ap, arith, subst}
 use Rattle.std.proofs.lemmas.Int.{ints}
 use Rattle.plan_types.specs.Instance.{Instance, IsInstance}
 use Rattle.plan_types.specs.Laws.{NamedAreFound}
 use Rattle.plan_types.specs.declared.requests.Stop.{Stop}
 use Rattle.plan_types.specs.declared.requests.Request.TheVariants.{Single, Pair}
+use Rattle.nint_dist.specs.Distance.{distance}
 use Rattle.slack_tables.specs.Best.{IsFirstOf, Adds, IsBestAddition}
+use Rattle.slack_tables.specs.Along.{stop_on}
 use Rattle.slack_tables.specs.Course.{Course, route_of, IsCourseIn}
 use Rattle.slack_tables.specs.Driven.{with_between, with_pair}
 use Rattle.slack_tables.specs.Inside.{AreKnown}
 use Rattle.slack_tables.specs.Insertion.{request_named, inserted, ArePlaces, IsAdded}
-use Rattle.slack_tables.specs.Scan.{AddsSingle, AddsPair}
+use Rattle.slack_tables.specs.Scan.{AddsSingle, AddsPair, AreLinked}
 use Rattle.slack_tables.specs.declared.progress.Place.{Place}
 use Rattle.slack_tables.specs.declared.scan.Addition.{Addition}
+use Rattle.slack_tables.proofs.AlongLemmas.{length-next}
 use Rattle.slack_tables.proofs.CourseLemmas.{long-on}
 use Rattle.slack_tables.proofs.InsertLemmas.{limits_of, single-added, pair-added}
 
@@ -94,3 +97,14 @@ module _ (p : Instance) (c : Course) (places : List Place) (table : AreKnown c p
             },
             adds.cheaper,
           )
+
+-- each place of a table tells how far the next one is
+pub linked : (c : Course) (places : List Place) → AreKnown c places → AreLinked places
+linked c places table = λ k d h.
+    let long = table.long in
+    let here = (table.known k d (omega arith)).at in
+    let next = (table.known (k + 1) d h).at in
+    let far = here.distance in
+    let further = next.distance in
+    let way : distance (get_or places k d).at.stop (get_or places (k + 1) d).at.stop ≡ distance (stop_on c k) (stop_on c (k + 1)) = rw (here.stop, next.stop) refl in
+    omega (arith, length-next (stop_on c) k)

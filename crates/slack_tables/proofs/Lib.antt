@@ -12,3 +12,4 @@ pub mod ScanLemmas
 pub mod SpliceLemmas
 pub mod TableLemmas
 pub mod TestLemmas
+pub mod WalkLemmas

@@ -1,5 +1,6 @@
 -- The loops over the places of a table: one place after another.
-use Rattle.std.proofs.Common.{◌≡◌, ℕ, ◌+◌, ◌-◌, ◌<◌, ◌≤◌, ℤ, ◌≤ℤ◌, ◌<ℤ◌, int_lt, Bool, true, false, cond, T, List, [], ◌∷◌, length, Option, Some, None, refl, sym, ◌∙◌, arith, subst}
+use Rattle.std.proofs.Common.{◌≡◌, ℕ, ◌+◌, ◌-◌, ◌<◌, ◌≤◌, ◌⊎◌, inl, inr, ℤ, ◌≤ℤ◌, ◌<ℤ◌, int_lt, Bool, true, false, cond, T, List, [], ◌∷◌, length, Option, Some, None, refl, sym, ◌∙◌, arith, subst}
+use Rattle.std.proofs.lemmas.Bool.{cases_lt}
 use Rattle.std.proofs.lemmas.Int.{ints}
 use Rattle.plan_types.specs.declared.requests.Stop.{Stop}
 use Rattle.slack_tables.specs.Best.{ComesFirst, IsFirstOf}
@@ -101,6 +102,14 @@ module _ (limits : Limits) (places : List Place) (p q : Stop) (i : ℕ) (d : Pla
 
   pub deliveries-end : (below : ℤ) (j : ℕ) (best : Best) → DeliveriesSoFar below j best → length places < j → IsFirstOf (AddsDelivery limits places p q i below d) best.found
   deliveries-end below j best so end = all-seen (PutsDelivery limits places p q i d) by_delivery order_here below best.bound j best.found so (λ a is. let within = is.within in omega arith)
+
+  -- or where none of the rest is left
+  pub deliveries-stop : (below : ℤ) (j : ℕ) (best : Best) → DeliveriesSoFar below j best → ((k : ℕ) → j ≤ k → k ≤ length places → with_pair limits places p q i k d ≡ None) → IsFirstOf (AddsDelivery limits places p q i below d) best.found
+  deliveries-stop below j best so over = all-seen (PutsDelivery limits places p q i d) by_delivery order_here below best.bound j best.found so (λ a is. by a is (cases_lt a.delivery j))
+    where
+      by : (a : Addition) → PutsDelivery limits places p q i d a → (a.delivery < j) ⊎ (j ≤ a.delivery) → a.delivery < j
+      by a is (inl before) = before
+      by a is (inr behind) = absurd (never-sum _ a.distance (over a.delivery behind is.within) is.added)
 
 -- ---- a pair
 module _ (limits : Limits) (places : List Place) (p q : Stop) (kept : ℕ) (d : Place) where

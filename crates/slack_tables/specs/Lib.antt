@@ -10,4 +10,5 @@ pub mod Filled
 pub mod Inside
 pub mod Opened
 pub mod Places
+pub mod Ride
 pub mod Scan

@@ -3,6 +3,7 @@
 
 mod insertion;
 mod progress;
+mod ride;
 mod scan;
 mod slack;
 mod table;

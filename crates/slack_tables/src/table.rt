@@ -175,7 +175,7 @@ impl RouteTable {
     }
 }
 
-fn place_at(places: &[Place], place: usize) -> &Place
+pub(crate) fn place_at(places: &[Place], place: usize) -> &Place
     requires { place < length places.now }
     ensures { (d : Place) → result.now ≡ slice_index_or places.now place d }
 {
@@ -212,7 +212,7 @@ pub(crate) fn driven(
 }
 
 /// The request of a live name.
-fn live_request(problem: &Problem, name: u32) -> &Request
+pub(crate) fn live_request(problem: &Problem, name: u32) -> &Request
     requires { IsSome (request_named problem.now name) }
     ensures found { request_named problem.now name ≡ Some result.now }
     ensures request { IsRequest result.now }
