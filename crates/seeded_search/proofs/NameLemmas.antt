@@ -1,22 +1,23 @@
 -- The lists that a step draws from.
-use Rattle.std.proofs.Common.{◌≡◌, ℕ, zero, suc, ◌+◌, ◌-◌, ◌<◌, ◌≤◌, ◌==◌, ◌&&◌, ◌||◌, not, Bool, true, false, cond, List, [], ◌∷◌, ◌++◌, length, drop, map, filter, get_or, Option, Some, None, slice_get, refl, sym, ap, subst, ◌∙◌, inl, inr, arith, add-one}
-use Rattle.std.specs.List.{AllByRecursion, list_any, range_with_len}
+use Rattle.std.proofs.Common.{◌≡◌, ℕ, zero, suc, ◌+◌, ◌-◌, ◌<◌, ◌==◌, ◌&&◌, ◌||◌, not, Bool, true, false, cond, List, [], ◌∷◌, ◌++◌, length, drop, filter, get_or, Option, Some, None, slice_get, refl, sym, ap, ◌∙◌, inl, inr, arith, add-one, nat_eq}
+use Rattle.std.specs.List.{AllByRecursion, concat, list_any, range_with_len}
 use Rattle.std.specs.Option.{option_and_then}
 use Rattle.std.specs.Prelude.{slice_index_or, unwrap_or}
 use Rattle.std.proofs.lemmas.Bool.{cases_Bool}
+use Rattle.std.proofs.lemmas.List.Folds.{list_any-append}
 use Rattle.std.proofs.lemmas.List.{append-nil, append_assoc, drop_all, drop_more}
-use Rattle.std.proofs.lemmas.Option.{slice_get_cases, slice_get-get_or, get_or_from_slice_get}
+use Rattle.std.proofs.lemmas.Option.{slice_get_cases}
 use Rattle.plan_types.specs.Instance.{Instance, IsInstance}
-use Rattle.plan_types.specs.Laws.{IsBelowNext, RequestsAreBelowNext}
+use Rattle.plan_types.specs.Laws.{RequestsAreBelowNext}
 use Rattle.plan_types.specs.Request.{stops_of}
 use Rattle.plan_types.specs.declared.requests.Stop.{Stop}
 use Rattle.plan_types.specs.declared.requests.Request.{Request}
 use Rattle.route_sched.specs.Cost.{has_stop, is_planned}
-use Rattle.plan_audit.specs.Rules.{item_at}
+use Rattle.plan_audit.specs.Passes.{has}
 use Rattle.move_ops.specs.Insertion.{of_vehicle}
 use Rattle.move_ops.specs.Moves.{is_movable}
 use Rattle.seeded_search.specs.Marks.{is_marked, name_where, names_where}
-use Rattle.seeded_search.specs.Steps.{drawn, movable_names, unplanned_names, used_vehicles}
+use Rattle.seeded_search.specs.Steps.{drawn, movable_names, unplanned_names}
 
 none_some : {X : Type 0} (x : X) → None ≡ Some x → ⊥
 none_some x h = cc
@@ -145,3 +146,8 @@ pub used_passed : (routes : List (List ℕ)) (used new all : List ℕ) (k : ℕ)
 used_passed routes used new all k route so_far at within is made =
     ap (λ l. l ++ used_from routes (k + 1)) made
     ∙ (ap (λ l. used ++ l) (sym (used_more routes k route at within ∙ ap (λ b. cond b ((k + 1) ∷ used_from routes (k + 1)) (used_from routes (k + 1))) is)) ∙ so_far)
+
+-- the stop is in the next route, or in those behind it
+pub has_stop_more : (routes : List (List ℕ)) (k n : ℕ) → k < length routes → has_stop (drop k routes) n ≡ has (get_or routes k []) n || has_stop (drop (k + 1) routes) n
+has_stop_more routes k n within =
+    ap (λ ls. has_stop ls n) (drop_more routes k [] within) ∙ list_any-append (nat_eq n) (get_or routes k []) (concat (drop (k + 1) routes))

@@ -1,8 +1,7 @@
 -- A step of a search on a plan of four customers, computed.
-use Rattle.std.proofs.Common.{◌≡◌, ℕ, ℤ, pos, List, [], ◌∷◌, refl}
+use Rattle.std.proofs.Common.{◌≡◌, ℕ, pos, List, [], ◌∷◌, refl}
 use Rattle.plan_types.specs.Instance.{Instance}
 use Rattle.plan_types.specs.declared.requests.Stop.{Stop}
-use Rattle.plan_types.specs.declared.requests.Request.{Request}
 use Rattle.plan_types.specs.declared.requests.Request.TheVariants.{Single}
 use Rattle.plan_types.specs.declared.requests.Kind.TheVariants.{Vrp}
 use Rattle.nint_dist.specs.NearestRoot.{whole_root, nearest_root}

@@ -1,15 +1,14 @@
 -- What the steps of a search keep, proved.
-use Rattle.std.proofs.Common.{◌≡◌, ℕ, zero, suc, ◌+◌, ◌-◌, ◌<◌, ◌≤◌, ◌⊎◌, Bool, true, false, cond, not, ◌&&◌, ◌||◌, nat_lt, nat_le, List, [], ◌∷◌, ◌++◌, length, fold, slice_index, Option, Some, None, unwrap_or, IsTrue, refl, sym, ap, subst, ◌∙◌, inl, inr, arith, add-one, eqb}
+use Rattle.std.proofs.Common.{◌≡◌, ℕ, zero, suc, ◌+◌, ◌-◌, ◌<◌, ◌≤◌, Bool, true, false, cond, ◌&&◌, nat_lt, nat_le, List, [], ◌∷◌, ◌++◌, length, slice_index, Option, Some, None, unwrap_or, IsTrue, refl, sym, ap, subst, ◌∙◌, inl, inr, arith, eqb}
 use Rattle.std.specs.Option.{option_map, option_and_then}
 use Rattle.std.proofs.lemmas.Bool.{cond_both, cases_lt, cases_order, eqb-true, eq-eqb, leb-true, le-leb, lt-ltb, not_from_true, or_cases, or_left, or_right, and_parts, and_from, both_ways}
 use Rattle.plan_types.specs.Cost.{cost_below, cost_at_most, CostsAreTotal, CostsAreTransitive, BelowIsAtMost}
 use Rattle.plan_types.specs.Instance.{Instance}
 use Rattle.plan_types.specs.declared.plans.Cost.{Cost}
-use Rattle.plan_types.specs.declared.requests.Request.{Request}
 use Rattle.route_sched.specs.Cost.{cost_of}
 use Rattle.plan_audit.specs.Passes.{passes}
 use Rattle.move_ops.specs.Insertion.{Place, request_named, passing, best_insertion, put_in}
-use Rattle.move_ops.specs.Moves.{removed, exchange_of, exchanged, crossed}
+use Rattle.move_ops.specs.Moves.{removed, exchanged, crossed}
 use Rattle.seeded_search.specs.Words.{pick, step_words}
 use Rattle.seeded_search.specs.Steps.{picked, movable_names, unplanned_names, placed, placed_all, relocated, exchanged_by, used_vehicles, cut_by, crossed_by, ruined_names, recreated_by, candidate, Walked, has_less_pair, has_same_pair, is_near, moved_on, moved_on_by, step, steps}
 use Rattle.seeded_search.specs.StepLaws.{StepsAddUp, BothPass, StepsKeepPassing, IncumbentsNeverCostMore, WorksNear, WorkingStaysNear}
@@ -54,7 +53,7 @@ module _ (p : Instance) (pins : List (List ℕ)) where
   pub removed_passes : (routes : List (List ℕ)) (names : List ℕ) (y : List (List ℕ)) → removed p pins routes names ≡ Some y → Passes y
   removed_passes routes names y is = passing_gives _ y (then_some _ _ y is)
 
-  exchanged_passes : (routes : List (List ℕ)) (a b : ℕ) (y : List (List ℕ)) → exchanged p pins routes a b ≡ Some y → Passes y
+  pub exchanged_passes : (routes : List (List ℕ)) (a b : ℕ) (y : List (List ℕ)) → exchanged p pins routes a b ≡ Some y → Passes y
   exchanged_passes routes a b y is =
       let t = and_then_some _ (request_named p a) y (else_some (eqb a b) _ y is) in
       let u = and_then_some _ (request_named p b) y t.1 in

@@ -7,3 +7,4 @@ pub mod StepLaws
 -- of private functions alone
 pub mod Generator
 pub mod Marks
+pub mod Working

@@ -8,6 +8,7 @@ mod draws;
 mod laws;
 mod lists;
 mod operators;
+mod placing;
 mod search;
 mod stream;
 

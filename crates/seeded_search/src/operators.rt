@@ -1,34 +1,39 @@
 //! The candidates that the words of a step make of a plan.
-ghost use Rattle.std.specs.Prelude.{◌≡◌, ◌≤◌, true, IfOk, length};
+ghost use Rattle.std.specs.Prelude.{◌≡◌, true, IfOk, unwrap_or};
 ghost use Rattle.std.specs.Option.{option_map};
 ghost use Rattle.plan_audit.specs.Passes.{passes};
-ghost use Rattle.seeded_search.specs.Steps.{candidate, relocated, exchanged_by, crossed_by, cut_by, recreated_by, ruined_names, placed, placed_all};
+ghost use Rattle.seeded_search.specs.Working.{AreTablesOf};
+ghost use Rattle.seeded_search.specs.Steps.{candidate, relocated, exchanged_by, crossed_by, cut_by, recreated_by, ruined_names};
 
 use crate::draws::{drawn, picked, picked_vehicle, place};
 use crate::lists::{movable_names, of_vehicle, unplanned_names, used_vehicles};
 use crate::pick;
-use move_ops::{best_insertion, exchange, insert_at, remove, two_opt_star};
+use crate::placing::{follow, placed, placed_all};
+use move_ops::{Tables, exchange, plans_pass_without_pins, remove, two_opt_star};
 use plan_types::{OutOfMemory, Pins, Plan, Problem, Route};
 use std::alloc::Global;
 
-#[tactic(auto, unfolding(crate::specs::Steps::candidate))]
 /// The plan that the words of a step make of this one, if any: a request is relocated, two are exchanged, two routes exchange their
-/// ends, or up to eight requests are removed and put in again.
+/// ends, or up to eight requests are removed and put in again. The tables of the plan given are then those of the plan made.
+#[tactic(auto, unfolding(crate::specs::Steps::candidate))]
 pub(crate) fn candidate(
     alloc: Global,
     problem: &Problem,
     pins: &Pins,
+    tables: &mut Tables,
     work: &Plan,
     words: &[u32; 16],
 ) -> Result<Option<Plan>, OutOfMemory>
-    requires { passes problem.now pins.now.routes work.now.routes ≡ true }
-    ensures { IfOk result (λ o. option_map (λ new. new.routes) o ≡ candidate problem.now pins.now.routes work.now.routes words.now) }
+    requires pass { passes problem.now pins.now.routes work.now.routes ≡ true }
+    requires tables { AreTablesOf problem.now work.now.routes tables.old }
+    ensures made { IfOk result (λ o. option_map (λ new. new.routes) o ≡ candidate problem.now pins.now.routes work.now.routes words.now) }
+    ensures tables { IfOk result (λ o. AreTablesOf problem.now (unwrap_or (option_map (λ new. new.routes) o) work.now.routes) tables.new) }
 {
     match pick(words[0], 4) {
-        0 => relocated(alloc, problem, pins, work, words[1]),
-        1 => exchanged(alloc, problem, pins, work, words[1], words[2]),
-        2 => crossed(alloc, problem, pins, work, words),
-        _ => recreated(alloc, problem, pins, work, words),
+        0 => relocated(alloc, problem, pins, tables, work, words[1]),
+        1 => exchanged(alloc, problem, pins, tables, work, words[1], words[2]),
+        2 => crossed(alloc, problem, pins, tables, work, words),
+        _ => recreated(alloc, problem, pins, tables, work, words),
     }
 }
 
@@ -37,12 +42,16 @@ fn relocated(
     alloc: Global,
     problem: &Problem,
     pins: &Pins,
+    tables: &mut Tables,
     work: &Plan,
     word: u32,
 ) -> Result<Option<Plan>, OutOfMemory>
-    requires { passes problem.now pins.now.routes work.now.routes ≡ true }
-    ensures { IfOk result (λ o. option_map (λ new. new.routes) o ≡ relocated problem.now pins.now.routes work.now.routes word) }
+    requires pass { passes problem.now pins.now.routes work.now.routes ≡ true }
+    requires tables { AreTablesOf problem.now work.now.routes tables.old }
+    ensures made { IfOk result (λ o. option_map (λ new. new.routes) o ≡ relocated problem.now pins.now.routes work.now.routes word) }
+    ensures tables { IfOk result (λ o. AreTablesOf problem.now (unwrap_or (option_map (λ new. new.routes) o) work.now.routes) tables.new) }
 {
+    plans_pass_without_pins();
     let names = movable_names(
         alloc,
         problem,
@@ -55,7 +64,8 @@ fn relocated(
     let Some(left) = remove(alloc, problem, pins, work, &[name])? else {
         return Ok(None);
     };
-    Ok(Some(placed(alloc, problem, pins, left, name)?))
+    follow(alloc, problem, tables, work.routes.as_slice(), &left)?;
+    Ok(Some(placed(alloc, problem, pins, tables, left, name)?))
 }
 
 // Two requests take one another's places.
@@ -63,13 +73,17 @@ fn exchanged(
     alloc: Global,
     problem: &Problem,
     pins: &Pins,
+    tables: &mut Tables,
     work: &Plan,
     first: u32,
     second: u32,
 ) -> Result<Option<Plan>, OutOfMemory>
-    requires { passes problem.now pins.now.routes work.now.routes ≡ true }
-    ensures { IfOk result (λ o. option_map (λ new. new.routes) o ≡ exchanged_by problem.now pins.now.routes work.now.routes first second) }
+    requires pass { passes problem.now pins.now.routes work.now.routes ≡ true }
+    requires tables { AreTablesOf problem.now work.now.routes tables.old }
+    ensures made { IfOk result (λ o. option_map (λ new. new.routes) o ≡ exchanged_by problem.now pins.now.routes work.now.routes first second) }
+    ensures tables { IfOk result (λ o. AreTablesOf problem.now (unwrap_or (option_map (λ new. new.routes) o) work.now.routes) tables.new) }
 {
+    plans_pass_without_pins();
     let names = movable_names(
         alloc,
         problem,
@@ -82,7 +96,11 @@ fn exchanged(
     let Some(b) = picked(second, &names) else {
         return Ok(None);
     };
-    exchange(alloc, problem, pins, work, a, b)
+    let Some(new) = exchange(alloc, problem, pins, work, a, b)? else {
+        return Ok(None);
+    };
+    follow(alloc, problem, tables, work.routes.as_slice(), &new)?;
+    Ok(Some(new))
 }
 
 // Two routes exchange what stands behind their cuts.
@@ -90,12 +108,16 @@ fn crossed(
     alloc: Global,
     problem: &Problem,
     pins: &Pins,
+    tables: &mut Tables,
     work: &Plan,
     words: &[u32; 16],
 ) -> Result<Option<Plan>, OutOfMemory>
-    requires { passes problem.now pins.now.routes work.now.routes ≡ true }
-    ensures { IfOk result (λ o. option_map (λ new. new.routes) o ≡ crossed_by problem.now pins.now.routes work.now.routes words.now) }
+    requires pass { passes problem.now pins.now.routes work.now.routes ≡ true }
+    requires tables { AreTablesOf problem.now work.now.routes tables.old }
+    ensures made { IfOk result (λ o. option_map (λ new. new.routes) o ≡ crossed_by problem.now pins.now.routes work.now.routes words.now) }
+    ensures tables { IfOk result (λ o. AreTablesOf problem.now (unwrap_or (option_map (λ new. new.routes) o) work.now.routes) tables.new) }
 {
+    plans_pass_without_pins();
     let kept = pins.routes.as_slice();
     let routes = work.routes.as_slice();
     let used = used_vehicles(alloc, routes)?;
@@ -107,7 +129,11 @@ fn crossed(
     };
     let a_cut = cut(kept, routes, a, words[3]);
     let b_cut = cut(kept, routes, b, words[4]);
-    two_opt_star(alloc, problem, pins, work, a, a_cut, b, b_cut)
+    let Some(new) = two_opt_star(alloc, problem, pins, work, a, a_cut, b, b_cut)? else {
+        return Ok(None);
+    };
+    follow(alloc, problem, tables, work.routes.as_slice(), &new)?;
+    Ok(Some(new))
 }
 
 // Behind how many stops the word cuts the route of a vehicle; never within its pin.
@@ -124,12 +150,16 @@ fn recreated(
     alloc: Global,
     problem: &Problem,
     pins: &Pins,
+    tables: &mut Tables,
     work: &Plan,
     words: &[u32; 16],
 ) -> Result<Option<Plan>, OutOfMemory>
-    requires { passes problem.now pins.now.routes work.now.routes ≡ true }
-    ensures { IfOk result (λ o. option_map (λ new. new.routes) o ≡ recreated_by problem.now pins.now.routes work.now.routes words.now) }
+    requires pass { passes problem.now pins.now.routes work.now.routes ≡ true }
+    requires tables { AreTablesOf problem.now work.now.routes tables.old }
+    ensures made { IfOk result (λ o. option_map (λ new. new.routes) o ≡ recreated_by problem.now pins.now.routes work.now.routes words.now) }
+    ensures tables { IfOk result (λ o. AreTablesOf problem.now (unwrap_or (option_map (λ new. new.routes) o) work.now.routes) tables.new) }
 {
+    plans_pass_without_pins();
     let mut names = ruined_names(alloc, problem, pins, work, words)?;
     if names.is_empty() {
         return Ok(None);
@@ -139,7 +169,8 @@ fn recreated(
     };
     let unplanned = unplanned_names(alloc, problem, work.routes.as_slice())?;
     names.extend_from_slice(&unplanned)?;
-    Ok(Some(placed_all(alloc, problem, pins, left, &names)?))
+    follow(alloc, problem, tables, work.routes.as_slice(), &left)?;
+    Ok(Some(placed_all(alloc, problem, pins, tables, left, &names)?))
 }
 
 // The requests that are removed, one to eight, in the order drawn.
@@ -160,43 +191,4 @@ fn ruined_names(
     )?;
     let count = 1 + pick(words[1], 8) as usize;
     drawn(alloc, &words[2..2 + count], names)
-}
-
-// The plan with the requests put in, one after another, each where it is best then; a request without a place stays unplanned.
-fn placed_all(
-    alloc: Global,
-    problem: &Problem,
-    pins: &Pins,
-    plan: Plan,
-    names: &[u32],
-) -> Result<Plan, OutOfMemory>
-    requires { passes problem.now pins.now.routes plan.routes ≡ true }
-    ensures { IfOk result (λ new. new.routes ≡ placed_all problem.now pins.now.routes plan.routes names.now) }
-{
-    let mut new = plan;
-    for name in names {
-        new = placed(alloc, problem, pins, new, *name)?;
-    }
-    Ok(new)
-}
-
-// The plan with the request put in where it is best, or as it is where there is no such place.
-fn placed(
-    alloc: Global,
-    problem: &Problem,
-    pins: &Pins,
-    plan: Plan,
-    name: u32,
-) -> Result<Plan, OutOfMemory>
-    requires { passes problem.now pins.now.routes plan.routes ≡ true }
-    ensures placed { IfOk result (λ new. new.routes ≡ placed problem.now pins.now.routes plan.routes name) }
-    ensures passes { IfOk result (λ new. passes problem.now pins.now.routes new.routes ≡ true) }
-{
-    let Some(insertion) = best_insertion(alloc, problem, pins, &plan, name)? else {
-        return Ok(plan);
-    };
-    match insert_at(alloc, problem, pins, &plan, name, insertion)? {
-        Some(new) => Ok(new),
-        None => Ok(plan),
-    }
 }

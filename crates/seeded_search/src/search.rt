@@ -1,15 +1,17 @@
 //! One step of a search, and many.
-ghost use Rattle.std.specs.Prelude.{◌≡◌, ◌+◌, ◌<◌, ◌≤◌, ◌^◌, true, IfOk};
+ghost use Rattle.std.specs.Prelude.{◌≡◌, ◌+◌, ◌<◌, ◌≤◌, ◌^◌, true, [], IfOk};
 ghost use Rattle.plan_types.specs.Cost.{cost_at_most};
 ghost use Rattle.route_sched.specs.Cost.{cost_of};
 ghost use Rattle.route_sched.specs.Route.{IsPlan};
 ghost use Rattle.plan_audit.specs.Passes.{passes};
 ghost use Rattle.seeded_search.specs.Steps.{walked, candidate, is_near, moved_on, moved_on_by, step as one_step, steps};
 ghost use Rattle.seeded_search.specs.StepLaws.{BothPass};
+ghost use Rattle.seeded_search.specs.Working.{AreTablesOf};
 
-use crate::laws::steps_keep_passing;
 use crate::operators::candidate;
+use crate::placing::follow;
 use crate::stream::StepWords;
+use move_ops::{Tables, plans_pass_without_pins};
 use plan_audit::passes_are_local;
 use plan_types::{Cost, OutOfMemory, Pins, Plan, Problem, costs_compare_part_by_part};
 use route_sched::plan_cost;
@@ -24,7 +26,6 @@ pub struct Found {
     pub work: Plan,
 }
 
-#[tactic(auto, unfolding(crate::specs::Steps::step))]
 /// One step of a search, from an incumbent and a working plan. The words of the step make a candidate of the working plan. It becomes
 /// the working plan where it leaves fewer requests out than the incumbent, or as many and uses fewer vehicles, or as many of both and
 /// drives at most `deviation` more. It becomes the incumbent too where it costs no more. Without a candidate nothing changes.
@@ -44,16 +45,11 @@ pub fn search_step(
     ensures found { IfOk result (λ found. walked found.plan.routes found.work.routes ≡ one_step problem.now pins.now.routes deviation seed step (walked plan.now.routes work.now.routes)) }
     ensures passing { IfOk result (λ found. BothPass problem.now pins.now.routes (walked found.plan.routes found.work.routes)) }
 {
-    let found = Found {
-        plan: plan.copy()?,
-        work: work.copy()?,
-    };
-    let mut words = StepWords::from_step(seed, step);
-    walked_on(alloc, problem, pins, found, deviation, &words.next_step())
+    search_steps(alloc, problem, pins, plan, work, deviation, seed, step, 1)
 }
 
-#[tactic(auto, unfolding(crate::specs::Steps::step, crate::specs::Steps::steps))]
 /// So many steps of a search, one after another, from step number `step` on.
+#[tactic(auto, unfolding(crate::specs::Steps::step, crate::specs::Steps::steps))]
 pub fn search_steps(
     alloc: Global,
     problem: &Problem,
@@ -72,13 +68,23 @@ pub fn search_steps(
     ensures found { IfOk result (λ found. walked found.plan.routes found.work.routes ≡ steps problem.now pins.now.routes deviation seed step count (walked plan.now.routes work.now.routes)) }
     ensures passing { IfOk result (λ found. BothPass problem.now pins.now.routes (walked found.plan.routes found.work.routes)) }
 {
+    plans_pass_without_pins();
     let mut found = Found {
         plan: plan.copy()?,
         work: work.copy()?,
     };
+    let mut tables = Tables::build(alloc, problem, work)?;
     let mut words = StepWords::from_step(seed, step);
     for done in 0..count {
-        found = walked_on(alloc, problem, pins, found, deviation, &words.next_step())?;
+        found = walked_on(
+            alloc,
+            problem,
+            pins,
+            &mut tables,
+            found,
+            deviation,
+            &words.next_step(),
+        )?;
     }
     Ok(found)
 }
@@ -88,31 +94,41 @@ fn walked_on(
     alloc: Global,
     problem: &Problem,
     pins: &Pins,
+    tables: &mut Tables,
     found: Found,
     deviation: u32,
     words: &[u32; 16],
 ) -> Result<Found, OutOfMemory>
-    requires { BothPass problem.now pins.now.routes (walked found.plan.routes found.work.routes) }
+    requires tables { AreTablesOf problem.now found.work.routes tables.old }
+    requires passing { BothPass problem.now pins.now.routes (walked found.plan.routes found.work.routes) }
     ensures found { IfOk result (λ new. walked new.plan.routes new.work.routes ≡ moved_on_by problem.now deviation (walked found.plan.routes found.work.routes) (candidate problem.now pins.now.routes found.work.routes words.now)) }
     ensures passing { IfOk result (λ new. BothPass problem.now pins.now.routes (walked new.plan.routes new.work.routes)) }
+    ensures tables { IfOk result (λ new. AreTablesOf problem.now new.work.routes tables.new) }
 {
     passes_are_local();
-    match candidate(alloc, problem, pins, &found.work, words)? {
-        Some(candidate) => moved_on(problem, found, candidate, deviation),
+    plans_pass_without_pins();
+    match candidate(alloc, problem, pins, tables, &found.work, words)? {
+        Some(candidate) => moved_on(alloc, problem, tables, found, candidate, deviation),
         None => Ok(found),
     }
 }
 
-// What the candidate replaces.
+// What the candidate replaces. The tables are its own, and then those of the working plan.
 fn moved_on(
+    alloc: Global,
     problem: &Problem,
+    tables: &mut Tables,
     found: Found,
     candidate: Plan,
     deviation: u32,
 ) -> Result<Found, OutOfMemory>
+    requires tables { AreTablesOf problem.now candidate.routes tables.old }
     requires incumbent { IsPlan problem.now found.plan.routes }
-    requires candidate { IsPlan problem.now candidate.routes }
-    ensures { IfOk result (λ new. walked new.plan.routes new.work.routes ≡ moved_on problem.now deviation (walked found.plan.routes found.work.routes) candidate.routes) }
+    requires plan { IsPlan problem.now candidate.routes }
+    requires candidate { passes problem.now [] candidate.routes ≡ true }
+    requires work { passes problem.now [] found.work.routes ≡ true }
+    ensures moved { IfOk result (λ new. walked new.plan.routes new.work.routes ≡ moved_on problem.now deviation (walked found.plan.routes found.work.routes) candidate.routes) }
+    ensures tables { IfOk result (λ new. AreTablesOf problem.now new.work.routes tables.new) }
 {
     costs_compare_part_by_part();
     let cost = plan_cost(problem, &candidate);
@@ -123,6 +139,14 @@ fn moved_on(
     }
     if is_near(deviation, &cost, &best) {
         found.work = candidate;
+    } else {
+        follow(
+            alloc,
+            problem,
+            tables,
+            candidate.routes.as_slice(),
+            &found.work,
+        )?;
     }
     Ok(found)
 }

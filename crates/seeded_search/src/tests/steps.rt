@@ -84,7 +84,7 @@ fn found(
         routes: lists_of(alloc, plan)?,
     };
     let (step, count) = steps;
-    if is_passing(alloc, problem, &pins, &plan)? && step < 1 << 59 && count < 1 << 59 {
+    if is_passing(alloc, problem, &pins, &plan)? && step < 1 << 60 && count <= (1 << 60) - step {
         let Found { plan, work } = search_steps(
             alloc, problem, &pins, &plan, &plan, deviation, 0, step, count,
         )?;
@@ -126,5 +126,46 @@ fn a_worse_plan_is_walked_on_from(rt: HostRuntime) -> Result<(), Fail> {
         assert_eq!(rt; best.as_slice(), plan.as_slice());
         assert_eq!(rt; work.as_slice(), walked.as_slice());
     }
+    Ok(())
+}
+
+#[test]
+fn steps_go_on_where_others_end(rt: HostRuntime) -> Result<(), Fail> {
+    let alloc = rt.alloc();
+    let problem = customers(alloc, 4, &[(0, 10), (6, 8), (6, 0), (3, 4)])?;
+    let plan = [1, 0, 2, 3, 0, 4, 0, 0];
+    let [once, _] = found(alloc, &problem, &[], &plan, 0, (0, 1))?;
+    for first in [0, (1 << 32) - 1, (1 << 60) - 2] {
+        let [begun, _] = found(alloc, &problem, &[], &once, 0, (first, 1))?;
+        let [after, _] = found(alloc, &problem, &[], &begun, 0, (first + 1, 1))?;
+        let [both, work] = found(alloc, &problem, &[], &once, 0, (first, 2))?;
+        assert_eq!(rt; both.as_slice(), after.as_slice());
+        assert_eq!(rt; work.as_slice(), after.as_slice());
+    }
+    Ok(())
+}
+
+// Without a request that can be moved the ends alone are exchanged, and behind pins of whole routes there are none.
+#[test]
+fn pinned_plans_stay(rt: HostRuntime) -> Result<(), Fail> {
+    let alloc = rt.alloc();
+    let problem = customers(alloc, 2, &[(0, 10), (6, 8), (6, 0)])?;
+    let plan = [1, 3, 0, 2, 0];
+    let [best, work] = found(alloc, &problem, &plan, &plan, 100, (0, 20))?;
+    assert_eq!(rt; best.as_slice(), plan.as_slice());
+    assert_eq!(rt; work.as_slice(), plan.as_slice());
+    Ok(())
+}
+
+// A list without requests gives no candidate, though one waits to be planned.
+#[test]
+fn empty_plans_stay(rt: HostRuntime) -> Result<(), Fail> {
+    let alloc = rt.alloc();
+    let problem = customers(alloc, 1, &[(0, 10)])?;
+    let [best, work] = found(alloc, &problem, &[], &[0], 0, (0, 20))?;
+    assert_eq!(rt; best.as_slice(), [0].as_slice());
+    assert_eq!(rt; work.as_slice(), [0].as_slice());
+    let [best, _] = found(alloc, &problem, &[], &[1, 0], 0, (0, 20))?;
+    assert_eq!(rt; best.as_slice(), [1, 0].as_slice());
     Ok(())
 }

@@ -1,5 +1,4 @@
 use Rattle.std.proofs.Common.{rules, ◌≡◌, ◌++◌, ◌∷◌, [], ◌&&◌, not, Some, None, sym, ◌∙◌}
-use Rattle.std.specs.Option.{option_and_then}
 use Rattle.seeded_search.specs.Marks.{is_marked, names_where}
 use Rattle.seeded_search.proofs.NameLemmas.{name_pushed, name_passed}
 use Rattle.seeded_search.proofs.lists.marked_names.Goals as goal

@@ -1,4 +1,4 @@
-use Rattle.std.proofs.Common.{rules, ◌≡◌, ◌+◌, ◌<◌, ◌==◌, ◌++◌, ◌∷◌, [], not, Bool, true, false, List, ℕ, length, get_or, Some, slice_get, refl, sym, ap, ◌∙◌}
+use Rattle.std.proofs.Common.{rules, ◌≡◌, ◌+◌, ◌<◌, ◌==◌, ◌++◌, ◌∷◌, [], not, true, false, List, ℕ, length, Some, slice_get, refl, sym, ap, ◌∙◌}
 use Rattle.std.proofs.lemmas.Option.{slice_get_read}
 use Rattle.seeded_search.specs.Steps.{used_vehicles}
 use Rattle.seeded_search.proofs.NameLemmas.{used_pushed, used_passed}

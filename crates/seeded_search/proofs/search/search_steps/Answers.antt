@@ -1,4 +1,4 @@
-use Rattle.std.proofs.Common.{rules, ◌≡◌, ◌+◌, ◌<◌, ap, arith}
+use Rattle.std.proofs.Common.{rules, ◌<◌, ap, arith}
 use Rattle.seeded_search.specs.Generator.{NextStep}
 use Rattle.seeded_search.specs.Steps.{walked, steps}
 use Rattle.seeded_search.proofs.WalkLemmas.{walked_more}
@@ -12,6 +12,7 @@ loop-done-preserved c =
     record {
       seed = search rules;
       step = omega (arith, c.loop-done.invariant.step, ap (λ (w : NextStep). w.step) c.next_step.ensures.after);
+      tables = c.in_ok-found.ensures.tables;
       passing = c.in_ok-found.ensures.passing;
       left = walked_more p pins c.args.deviation c.args.seed c.args.step c.args.count c.loop-done.done (walked c.loop-done.found.plan.routes c.loop-done.found.work.routes)
           (walked c.in_ok-found.found.plan.routes c.in_ok-found.found.work.routes) c.next_step.result c.loop-done.words.seed c.loop-done.words.step

@@ -1,12 +1,12 @@
-use Rattle.std.proofs.Common.{rules, ◌≡◌, List, ℕ, Some, sym, subst}
+use Rattle.std.proofs.Common.{rules, ◌≡◌, Some, sym, subst}
 use Rattle.std.proofs.lemmas.Result.{IfOk-weaker}
 use Rattle.seeded_search.specs.Steps.{candidate, walked}
 use Rattle.seeded_search.specs.StepLaws.{BothPass}
 use Rattle.seeded_search.proofs.WalkLemmas.{candidate_passes, moved_passes}
 use Rattle.seeded_search.proofs.search.walked_on.Goals as goal
 
-pub moved_on-requires-clause-candidate : goal.moved_on-requires-clause-candidate
-moved_on-requires-clause-candidate c =
+pub moved_on-requires-clause-plan : goal.moved_on-requires-clause-plan
+moved_on-requires-clause-plan c =
     let p = c.args.problem.now in
     let pins = c.args.pins.now.routes in
     let made : candidate p pins c.args.found.work.routes c.args.words.now ≡ Some c.in-Some.candidate.routes = search rules in
@@ -18,5 +18,12 @@ returns-in-Some-clause-passing c =
     let pins = c.args.pins.now.routes in
     let made : candidate p pins c.args.found.work.routes c.args.words.now ≡ Some c.in-Some.candidate.routes = search rules in
     IfOk-weaker c.moved_on.result _ _
-    (λ new h. subst (BothPass p pins) (sym h) (moved_passes p pins c.args.deviation 0 c.args.words.now (walked c.args.found.plan.routes c.args.found.work.routes) c.requires (Some c.in-Some.candidate.routes) made))
-    c.moved_on.ensures
+    (λ new h. subst (BothPass p pins) (sym h) (moved_passes p pins c.args.deviation 0 c.args.words.now (walked c.args.found.plan.routes c.args.found.work.routes) c.requires.passing (Some c.in-Some.candidate.routes) made))
+    c.moved_on.ensures.moved
+
+pub moved_on-requires-clause-candidate : goal.moved_on-requires-clause-candidate
+moved_on-requires-clause-candidate c =
+    let p = c.args.problem.now in
+    let pins = c.args.pins.now.routes in
+    let made : candidate p pins c.args.found.work.routes c.args.words.now ≡ Some c.in-Some.candidate.routes = search rules in
+    c.plans_pass_without_pins.ensures p pins c.in-Some.candidate.routes (candidate_passes p pins c.args.found.work.routes c.args.words.now c.in-Some.candidate.routes made)
