@@ -1,8 +1,7 @@
 //! The lines that answer an audit.
-ghost use Rattle.std.specs.Prelude.{◌≡◌, ◌++◌, ℕ, List, IfOk, decimal};
+ghost use Rattle.std.specs.Prelude.{◌≡◌, ℕ, List, IfOk};
 ghost use Rattle.planner_cli.specs.AnswerText.{broken_text, fault_text, pass_text};
 
-use itoa::Buffer;
 use plan_types::{Cost, OutOfMemory};
 use std::alloc::Global;
 use std::marker::Model;
@@ -19,40 +18,20 @@ impl Model for Line {
     ghost view = { λ l. l.bytes.items };
 }
 
-impl From<Vec<u8>> for Line {
-    ghost from_gives = { λ bytes line. line ≡ bytes.items };
+impl From<String> for Line {
+    ghost use Rattle.std.specs.Prelude.{◌≡◌, string_bytes};
+
+    ghost from_gives = { λ text line. line ≡ string_bytes text };
 
     /// Takes no memory.
-    fn from(bytes: Vec<u8>) -> Line {
-        Line { bytes }
+    fn from(text: String) -> Line {
+        Line {
+            bytes: text.into_bytes(),
+        }
     }
 }
 
 impl Line {
-    /// A line that begins with these bytes.
-    fn new(alloc: Global, bytes: &[u8]) -> Result<Line, OutOfMemory>
-        ensures { IfOk result (λ line. line ≡ bytes.now) }
-    {
-        let bytes = Vec::from_slice(alloc, bytes)?;
-        Ok(Line { bytes })
-    }
-
-    /// The line with these bytes after it.
-    fn text(mut self, bytes: &[u8]) -> Result<Line, OutOfMemory>
-        ensures { IfOk result (λ line. line ≡ self ++ bytes.now) }
-    {
-        self.bytes.extend_from_slice(bytes)?;
-        Ok(self)
-    }
-
-    /// The line with this number after it, in decimal.
-    fn number(self, number: u64) -> Result<Line, OutOfMemory>
-        ensures { IfOk result (λ line. line ≡ self ++ decimal number) }
-    {
-        let mut buffer = Buffer::new();
-        self.text(buffer.format(number).as_bytes())
-    }
-
     /// The bytes of the line.
     pub fn as_bytes(&self) -> &[u8]
         ensures { result.now ≡ self.now }
@@ -78,19 +57,20 @@ pub struct AuditAnswer {
 }
 
 /// The line for a solution that breaks no rule: `pass UNPLANNED VEHICLES DISTANCE`.
-pub fn pass_line(alloc: Global, cost: Cost) -> Result<Line, OutOfMemory>
+pub(crate) fn pass_line(alloc: Global, cost: Cost) -> Result<Line, OutOfMemory>
     ensures { IfOk result (λ line. line ≡ pass_text cost) }
 {
-    Line::new(alloc, b"pass ")?
-        .number(cost.unplanned)?
-        .text(b" ")?
-        .number(cost.vehicles)?
-        .text(b" ")?
-        .number(cost.distance)
+    let Cost {
+        unplanned,
+        vehicles,
+        distance,
+    } = cost;
+    let text = format!(in alloc; "pass {unplanned} {vehicles} {distance}")?;
+    Ok(Line::from(text))
 }
 
 /// The line for a broken rule: `broken RULE route R place P stop S`. Routes and places count from 1.
-pub fn broken_line(
+pub(crate) fn broken_line(
     alloc: Global,
     rule: u32,
     route: u64,
@@ -99,23 +79,19 @@ pub fn broken_line(
 ) -> Result<Line, OutOfMemory>
     ensures { IfOk result (λ line. line ≡ broken_text rule route place stop) }
 {
-    Line::new(alloc, b"broken ")?
-        .number(u64::from(rule))?
-        .text(b" route ")?
-        .number(route)?
-        .text(b" place ")?
-        .number(place)?
-        .text(b" stop ")?
-        .number(u64::from(stop))
+    let text = format!(in alloc; "broken {rule} route {route} place {place} stop {stop}")?;
+    Ok(Line::from(text))
 }
 
 /// The line for a text that is refused: `TEXT NAME LINE`, with the name of its fault. Lines count from 1.
-pub fn fault_line(alloc: Global, text: &str, name: &str, line: u64) -> Result<Line, OutOfMemory>
+pub(crate) fn fault_line(
+    alloc: Global,
+    text: &str,
+    name: &str,
+    line: u64,
+) -> Result<Line, OutOfMemory>
     ensures { IfOk result (λ answer. answer ≡ fault_text text.now name.now line) }
 {
-    Line::new(alloc, text.as_bytes())?
-        .text(b" ")?
-        .text(name.as_bytes())?
-        .text(b" ")?
-        .number(line)
+    let answer = format!(in alloc; "{text} {name} {line}")?;
+    Ok(Line::from(answer))
 }

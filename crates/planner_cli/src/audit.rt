@@ -64,8 +64,8 @@ fn read_instance(alloc: Global, kind: Kind, text: &[u8]) -> Result<Problem, Read
 
 fn instance_refused(alloc: Global, fault: ReadFault) -> Result<AuditAnswer, OutOfMemory>
     ensures memory { IfOk result (λ _. fault.kind ≢ ReadFaultKind.OutOfMemory) }
-    ensures answer { IfOk result (λ answer.
-        answer ≡ refused_answer (codes "instance") (instance_names.kind_name fault.kind) fault.line) }
+    ensures answer { let name = instance_names.kind_name fault.kind in IfOk result (λ answer.
+        answer ≡ refused_answer (codes "instance") name fault.line) }
 {
     match fault.kind {
         ReadFaultKind::OutOfMemory => Err(AllocError),
@@ -75,8 +75,8 @@ fn instance_refused(alloc: Global, fault: ReadFault) -> Result<AuditAnswer, OutO
 
 fn solution_refused(alloc: Global, fault: SolFault) -> Result<AuditAnswer, OutOfMemory>
     ensures memory { IfOk result (λ _. fault.kind ≢ SolFaultKind.OutOfMemory) }
-    ensures answer { IfOk result (λ answer.
-        answer ≡ refused_answer (codes "solution") (solution_names.kind_name fault.kind) fault.line) }
+    ensures answer { let name = solution_names.kind_name fault.kind in IfOk result (λ answer.
+        answer ≡ refused_answer (codes "solution") name fault.line) }
 {
     match fault.kind {
         SolFaultKind::OutOfMemory => Err(AllocError),

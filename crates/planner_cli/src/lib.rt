@@ -1,7 +1,7 @@
 //! The texts of the program: what its words ask for, and the lines that answer them.
 #![tactic(auto)]
 
-pub mod answer;
+mod answer;
 mod audit;
 mod program;
 pub mod status;
