@@ -1,5 +1,5 @@
 -- The places of a route, one after another on the way forward.
-use Rattle.std.proofs.Common.{◌≡◌, ℕ, ◌+◌, ◌^◌, ◌<◌, ◌≤◌, ◌⊎◌, true, false, eqb, List, [], ◌∷◌, ◌++◌, get_or, length, Some, refl, sym, ap, ◌∙◌, arith, add-one, subst, inl, inr, length-append}
+use Rattle.std.proofs.Common.{◌≡◌, ℕ, ◌+◌, ◌^◌, ◌<◌, ◌≤◌, ◌⊎◌, true, false, eqb, List, [], ◌∷◌, ◌++◌, get_or, length, Some, refl, sym, ap, ◌∙◌, arith, add-one, subst, inl, inr, set, length-append, get_or-set_same, get_or-set_other}
 use Rattle.std.specs.List.{Any}
 use Rattle.std.proofs.lemmas.Bool.{cases_lt, ne_eqb, eqb-true}
 use Rattle.std.proofs.Math.ListN.{get_or-append}
@@ -86,6 +86,25 @@ open-more stops places k a opened long few at is = λ m d h. by m d (cases_lt m 
 
 pub open-none : (stops : ℕ → Stop) → AreOpen stops []
 open-none stops = λ k d h. absurd (omega arith)
+
+-- ---- the same by index: the places before n are open
+pub record AreOpenTo (stops : ℕ → Stop) (n : ℕ) (places : List Place) : Type 0 where
+  pub each : (k : ℕ) (d : Place) → k < n → k < length places → IsOpen stops k (get_or places k d)
+
+pub open-to-none : (stops : ℕ → Stop) (places : List Place) → AreOpenTo stops 0 places
+open-to-none stops places = record { each = λ k d h _. absurd (omega arith) }
+
+pub open-to-more : (stops : ℕ → Stop) (n : ℕ) (places : List Place) (a : Progress) (e : Place) → AreOpenTo stops n places → n < length places → n ≤ 40003 → IsAt stops n a → IsWithin n a → e ≡ open_place a → AreOpenTo stops (n + 1) (set places n e)
+open-to-more stops n places a e is there few at within made = record { each = λ k d h l. by k d (cases_lt k n) h l }
+  where
+    by : (k : ℕ) (d : Place) → (k < n) ⊎ (n ≤ k) → k < n + 1 → k < length (set places n e) → IsOpen stops k (get_or (set places n e) k d)
+    by k d (inl before) h l = subst (IsOpen stops k) (sym (get_or-set_other places n k e d (omega arith))) (is.each k d before (omega arith))
+    by k d (inr here) h l =
+        let same : n ≡ k = omega arith in
+        subst (λ i. IsOpen stops i (get_or (set places n e) i d)) same (subst (IsOpen stops n) (sym (get_or-set_same places n e d there ∙ made)) (open-is stops n a few at within))
+
+pub open-to-all : (stops : ℕ → Stop) (n : ℕ) (places : List Place) → AreOpenTo stops n places → length places ≤ n → AreOpen stops places
+open-to-all stops n places is all = λ k d h. is.each k d (omega arith) h
 
 -- ---- the same, of what the code has
 pub place-first : (p : Instance) (route : List ℕ) → place p route 0 ≡ p.depot

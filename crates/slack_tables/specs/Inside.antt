@@ -1,9 +1,10 @@
 -- The fields of a `RouteTable`.
 use Rattle.std.specs.Prelude.{◌≡◌, ℕ, ◌+◌, ◌-◌, ◌<◌, ◌≤◌, ◌≤ℤ◌, pos, All, List, map, length, take, drop, slice_index_or}
+use Rattle.plan_types.specs.Instance.{Instance}
 use Rattle.plan_types.specs.declared.requests.Stop.{Stop}
 use Rattle.plan_types.specs.declared.requests.Kind.{Kind}
 use Rattle.plan_types.specs.declared.requests.Kind.TheVariants.{LiLim}
-use Rattle.slack_tables.specs.Course.{Course}
+use Rattle.slack_tables.specs.Course.{Course, course_of}
 use Rattle.slack_tables.specs.Along.{stop_on, start_along, load_along}
 use Rattle.slack_tables.specs.Driven.{IsSmallPlace}
 use Rattle.slack_tables.specs.Places.{IsKnown}
@@ -37,3 +38,8 @@ pub record AreKnown (c : Course) (places : List Place) : Type 0 where
 
 abbrev pub IsTable : Inside → Type 0
 IsTable a = AreKnown (course_within a) a.places.items
+
+-- what is known of each place of a route
+pub record IsMade (p : Instance) (route : List ℕ) (places : List Place) : Type 0 where
+  pub known : AreKnown (course_of p route) places
+  pub course : course_from (record { kind = p.kind; capacity = p.capacity }) p.depot places ≡ course_of p route

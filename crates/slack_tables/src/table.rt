@@ -1,13 +1,14 @@
 //! The table of a route.
 
-ghost use Rattle.std.specs.Prelude.{◌≡◌, ◌+◌, ◌<◌, ◌≤◌, Some, IsSome, IfOk, OnOk, length, slice_index_or};
+ghost use Rattle.std.specs.Prelude.{◌≡◌, ◌+◌, ◌<◌, ◌≤◌, Some, IsSome, IfOk, OnOk, OnErr, length, slice_index_or};
 ghost use Rattle.plan_types.specs.Limits.{IsStop};
 ghost use Rattle.plan_types.specs.Request.{IsRequest};
 ghost use Rattle.plan_types.specs.Instance.{IsInstance, stop_at};
 ghost use Rattle.route_sched.specs.Route.{AreLiveOnce, IsLive, place};
-ghost use Rattle.slack_tables.specs.Insertion.{request_named};
+ghost use Rattle.slack_tables.specs.Insertion.{request_named, KeepsLimits};
 ghost use Rattle.slack_tables.specs.declared.progress.Place.{Place};
 ghost use Rattle.slack_tables.specs.Opened.{leaving, open_place, AreOpen};
+ghost use Rattle.slack_tables.specs.Inside.{IsMade};
 
 use crate::insertion::{pair_added, single_added};
 use crate::progress::{Limits, Place, Progress, driven_on};
@@ -58,8 +59,9 @@ impl RouteTable {
         ensures course { IfOk result (λ table. table ≡ course_of problem.now route.now) }
         ensures route { IfOk result (λ table. route_of table ≡ route.now) }
     {
-        let mut places = driven(alloc, problem, route)?;
-        fill_slack(problem.kind, places.as_mut_slice());
+        numbers_are_below_the_next();
+        let mut places = Vec::with_capacity(alloc, route.len() + 2)?;
+        remake(&mut places, problem, route)?;
         Ok(RouteTable {
             limits: Limits {
                 kind: problem.kind,
@@ -68,6 +70,24 @@ impl RouteTable {
             depot: problem.depot,
             places,
         })
+    }
+
+    /// Makes this the table of another route, in the memory that it has as far as that goes. Where it
+    /// can't get more it stays as it was.
+    pub fn rebuild(&mut self, problem: &Problem, route: &[u32]) -> Result<(), OutOfMemory>
+        requires route { AreLiveOnce problem.now route.now }
+        requires limits { KeepsLimits problem.now route.now }
+        ensures course { OnOk result (self.new ≡ course_of problem.now route.now) }
+        ensures route { OnOk result (route_of self.new ≡ route.now) }
+        ensures refused { OnErr result (self.new ≡ self.old) }
+    {
+        remake(&mut self.places, problem, route)?;
+        self.limits = Limits {
+            kind: problem.kind,
+            capacity: problem.capacity,
+        };
+        self.depot = problem.depot;
+        Ok(())
     }
 
     /// How many stops the route has.
@@ -188,7 +208,48 @@ fn load_at(place: &Place) -> i64
     place.at.load
 }
 
+/// The places of a route that keeps the limits, in place of those that stand there.
+fn remake(places: &mut Vec<Place>, problem: &Problem, route: &[u32]) -> Result<(), OutOfMemory>
+    requires route { AreLiveOnce problem.now route.now }
+    requires limits { KeepsLimits problem.now route.now }
+    ensures made { OnOk result (IsMade problem.now route.now places.new.items) }
+    ensures refused { OnErr result (places.new.items ≡ places.old.items) }
+{
+    numbers_are_below_the_next();
+    places.resize(route.len() + 2, open_place(leaving(&problem.depot)))?;
+    fill(places.as_mut_slice(), problem, route);
+    Ok(())
+}
+
+/// What is known of each place of a route that keeps the limits.
+fn fill(places: &mut [Place], problem: &Problem, route: &[u32])
+    requires route { AreLiveOnce problem.now route.now }
+    requires limits { KeepsLimits problem.now route.now }
+    requires count { length places.old ≡ length route.now + 2 }
+    requires few { length route.now ≤ 40001 }
+    ensures { IsMade problem.now route.now places.new }
+{
+    drive_route(places, problem, route);
+    fill_slack(problem.kind, places);
+}
+
 /// The places of a route as the vehicle comes to them, with nothing known of what is behind.
+fn drive_route(places: &mut [Place], problem: &Problem, route: &[u32])
+    requires route { AreLiveOnce problem.now route.now }
+    requires count { length places.old ≡ length route.now + 2 }
+    requires few { length route.now ≤ 40001 }
+    ensures { AreOpen (place problem.now route.now) places.new }
+{
+    let mut at = leaving(&problem.depot);
+    places[0] = open_place(at);
+    for k in 0..route.len() {
+        at = driven_on(&at, live_stop(problem, route[k]));
+        places[k + 1] = open_place(at);
+    }
+    places[route.len() + 1] = open_place(driven_on(&at, &problem.depot));
+}
+
+/// The same in memory of its own.
 pub(crate) fn driven(
     alloc: Global,
     problem: &Problem,
@@ -197,17 +258,11 @@ pub(crate) fn driven(
     requires { AreLiveOnce problem.now route.now }
     ensures opened { IfOk result (λ places. AreOpen (place problem.now route.now) places.items) }
     ensures len { IfOk result (λ places. length places.items ≡ length route.now + 2) }
-    ensures few { OnOk result (length route.now ≤ 40001) }
 {
     numbers_are_below_the_next();
     let mut places = Vec::with_capacity(alloc, route.len() + 2)?;
-    let mut at = leaving(&problem.depot);
-    places.push(open_place(at))?;
-    for number in route {
-        at = driven_on(&at, live_stop(problem, *number));
-        places.push(open_place(at))?;
-    }
-    places.push(open_place(driven_on(&at, &problem.depot)))?;
+    places.resize(route.len() + 2, open_place(leaving(&problem.depot)))?;
+    drive_route(places.as_mut_slice(), problem, route);
     Ok(places)
 }
 

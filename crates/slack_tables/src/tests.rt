@@ -319,3 +319,37 @@ fn finds_places_that_shorten_a_route(rt: HostRuntime) -> Result<(), Fail> {
     }
     Ok(())
 }
+
+// How many stops the second route has and how long it is, by a table that was made for the first.
+fn rebuilt(
+    alloc: Global,
+    problem: &Problem,
+    first: &[u32],
+    second: &[u32],
+) -> Result<Option<(usize, u64)>, OutOfMemory> {
+    let Some(mut table) = table_of(alloc, problem, first)? else {
+        return Ok(None);
+    };
+    if !is_rising(problem, second) {
+        return Ok(None);
+    }
+    if !keeps_limits(alloc, problem, second)? {
+        return Ok(None);
+    }
+    table.rebuild(problem, second)?;
+    Ok(Some((table.stop_count(), table.distance())))
+}
+
+// A longer route, then a shorter one and none.
+#[test]
+fn takes_another_route(rt: HostRuntime) -> Result<(), Fail> {
+    let problem = two_pairs(rt.alloc(), Kind::Vrp)?;
+    for (first, second, want) in [
+        ([1, 2].as_slice(), [1, 2, 3, 4].as_slice(), (4, 5)),
+        ([1, 2, 3, 4].as_slice(), [3, 4].as_slice(), (2, 6)),
+        ([1, 2].as_slice(), [].as_slice(), (0, 0)),
+    ] {
+        assert_eq!(rt; rebuilt(rt.alloc(), &problem, first, second)?, Some(want));
+    }
+    Ok(())
+}

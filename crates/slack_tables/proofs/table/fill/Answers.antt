@@ -1,0 +1,34 @@
+use Rattle.std.proofs.Common.{◌≡◌, ◌∙◌, ◌+◌, length, refl, sym, subst}
+use Rattle.plan_types.specs.Instance.{IsInstance}
+use Rattle.slack_tables.specs.Filled.{EachIsTimely, IsFilled}
+use Rattle.slack_tables.specs.Opened.{leaving, open_place}
+use Rattle.slack_tables.proofs.TableLemmas.{route_timely, route_may_end, course-is, known-as}
+use Rattle.slack_tables.proofs.table.fill.Goals as goal
+
+pub fill_slack-requires-clause-timely : goal.fill_slack-requires-clause-timely
+fill_slack-requires-clause-timely c =
+    let p = c.args.problem.now in
+    let valid : IsInstance c.args.problem.now = subst (λ q. IsInstance q) c.problem.view_is c.problem.invariant.valid in
+    let long : length c.drive_route.new.places ≡ length c.args.route.now + 2 = c.drive_route.auto.places ∙ c.requires.count in
+    subst (λ q. EachIsTimely q.kind c.drive_route.new.places) (sym c.problem.view_is) (route_timely p c.args.route.now valid c.requires.limits c.drive_route.new.places c.drive_route.ensures long)
+
+pub fill_slack-requires-clause-last : goal.fill_slack-requires-clause-last
+fill_slack-requires-clause-last c =
+    let p = c.args.problem.now in
+    let valid : IsInstance c.args.problem.now = subst (λ q. IsInstance q) c.problem.view_is c.problem.invariant.valid in
+    let long : length c.drive_route.new.places ≡ length c.args.route.now + 2 = c.drive_route.auto.places ∙ c.requires.count in
+    route_may_end p c.args.route.now valid c.requires.limits c.drive_route.new.places c.drive_route.ensures long
+
+pub returns : goal.returns
+returns c =
+    let p = c.args.problem.now in
+    let route = c.args.route.now in
+    let valid : IsInstance c.args.problem.now = subst (λ q. IsInstance q) c.problem.view_is c.problem.invariant.valid in
+    let old = c.drive_route.new.places in
+    let new = c.fill_slack.new.places in
+    let long : length c.drive_route.new.places ≡ length c.args.route.now + 2 = c.drive_route.auto.places ∙ c.requires.count in
+    let filled : IsFilled c.args.problem.now.kind c.drive_route.new.places c.fill_slack.new.places = subst (λ q. IsFilled q.kind c.drive_route.new.places c.fill_slack.new.places) c.problem.view_is c.fill_slack.ensures in
+    record {
+      known = known-as p route valid c.requires.limits old c.drive_route.ensures long new c.fill_slack.auto.places c.requires.few filled _ refl;
+      course = course-is p route valid c.requires.limits old c.drive_route.ensures long new c.fill_slack.auto.places c.requires.few filled (open_place (leaving c.args.problem.now.depot));
+    }
