@@ -105,6 +105,7 @@ impl Tables {
     {
         passes_are_local();
         plans_are_local();
+        // That the problem keeps its limits is known where a field of it is read.
         let _fleet = problem.fleet;
         let alloc = *self.tables.allocator();
         let fresh = fresh_tables(alloc, problem, plan.routes.as_slice(), vehicles)?;
@@ -137,6 +138,7 @@ fn fresh_tables(
     passes_are_local();
     plans_are_local();
     tests_say_feasible();
+    // That the problem keeps its limits is known where a field of it is read.
     let _fleet = problem.fleet;
     let mut fresh = Vec::with_capacity(alloc, vehicles.len())?;
     for vehicle in vehicles {
