@@ -1,5 +1,5 @@
 -- What is known of the tasks of a text whose lines have no fault.
-use Rattle.std.specs.Prelude.{◌≡◌, ℕ, ◌<◌, ◌⊎◌, false, List, [], ◌∷◌, Option, Some, None, find, slice_index_or, pos, ◌==◌, ◌≤ℤ◌}
+use Rattle.std.specs.Prelude.{◌≡◌, ℕ, ◌<◌, ◌⊎◌, false, List, [], ◌∷◌, Option, Some, None, find, slice_index_or, ◌==◌, ◌≤ℤ◌}
 use Rattle.std.specs.Int.RustNames.{unsigned_abs}
 use Rattle.std.specs.List.{AllByRecursion, position_from}
 use Rattle.plan_types.specs.Limits.{IsCapacity, IsFleet, IsStop, IsVisit}
