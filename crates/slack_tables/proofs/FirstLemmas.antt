@@ -1,5 +1,5 @@
 -- The first of many by distance, found one key after another.
-use Rattle.std.proofs.Common.{◌≡◌, ℕ, ◌+◌, ◌<◌, ◌≤◌, ◌⊎◌, ℤ, ◌≤ℤ◌, ◌<ℤ◌, Option, Some, None, refl, sym, arith, subst, inl, inr}
+use Rattle.std.proofs.Common.{◌≡◌, ℕ, ◌+◌, ◌<◌, ◌≤◌, ◌⊎◌, ℤ, ◌≤ℤ◌, ◌<ℤ◌, Option, Some, None, refl, sym, ap, arith, subst, inl, inr}
 use Rattle.std.specs.Prelude.{MatchOption}
 use Rattle.std.proofs.lemmas.Bool.{cases_lt}
 use Rattle.std.proofs.lemmas.Int.{ints, by_lt_z}
@@ -19,6 +19,26 @@ first-pickup a b le before = record { distance = le; pickup = λ _. omega arith;
 
 pub first-delivery : (a b : Addition) → a.distance ≤ℤ b.distance → a.pickup ≡ b.pickup → a.delivery ≤ b.delivery → ComesFirst a b
 first-delivery a b le same before = record { distance = le; pickup = λ _. omega arith; delivery = λ _ _. before }
+
+-- there is one first
+one-first : (a b : Addition) → ComesFirst a b → ComesFirst b a → a ≡ b
+one-first a b p q =
+    let le = p.distance in
+    let ge = q.distance in
+    let distance : a.distance ≡ b.distance = omega (arith, ints) in
+    let before = p.pickup distance in
+    let behind = q.pickup (sym distance) in
+    let pickup : a.pickup ≡ b.pickup = omega arith in
+    let nearer = p.delivery distance pickup in
+    let further = q.delivery (sym distance) (sym pickup) in
+    let delivery : a.delivery ≡ b.delivery = omega arith in
+    rw (distance, pickup, delivery) refl
+
+pub first-once : (Is : Addition → Type 0) (a b : Option Addition) → IsFirstOf Is a → IsFirstOf Is b → a ≡ b
+first-once Is None None p q = refl
+first-once Is None (Some b) p q = absurd (p b q.0)
+first-once Is (Some a) None p q = absurd (q a p.0)
+first-once Is (Some a) (Some b) p q = ap (λ x. Some x) (one-first a b (p.1 b q.0) (q.1 a p.0))
 
 module _ (Is : Addition → Type 0) (key : Addition → ℕ) (order : (a b : Addition) → Is a → Is b → a.distance ≤ℤ b.distance → key a < key b → ComesFirst a b) where
   -- the first of those whose key is below n, and the distance that the next ones have to be under

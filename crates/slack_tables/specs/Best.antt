@@ -25,3 +25,7 @@ pub record Adds (p : Instance) (route : List ℕ) (r : Request) (kept : ℕ) (be
 -- the first such places
 abbrev pub IsBestAddition : Instance → List ℕ → Request → ℕ → ℤ → Option Addition → Type 0
 IsBestAddition p route r kept below answer = IsFirstOf (Adds p route r kept below) answer
+
+-- there is one first
+abbrev pub BestIsOne : Type 0
+BestIsOne = (p : Instance) (route : List ℕ) (r : Request) (kept : ℕ) (below : ℤ) (a b : Option Addition) → IsBestAddition p route r kept below a → IsBestAddition p route r kept below b → a ≡ b

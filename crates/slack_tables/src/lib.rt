@@ -9,7 +9,7 @@ mod scan;
 mod slack;
 mod table;
 
-pub use scan::Addition;
+pub use scan::{Addition, best_places_are_one};
 pub use table::RouteTable;
 
 #[cfg(test)]

@@ -3,7 +3,7 @@
 ghost use Rattle.std.specs.Prelude.{◌≡◌, ◌+◌, ◌^◌, ◌≤◌, ◌<◌, ℕ, pos, ◌+ℤ◌, ◌-ℤ◌, ◌≤ℤ◌, All, IfSome, IsTrue, length, slice_index_or, unsigned_abs};
 ghost use Rattle.plan_types.specs.Limits.{IsVisit};
 ghost use Rattle.slack_tables.specs.declared.progress.Place.{Place};
-ghost use Rattle.slack_tables.specs.Best.{IsFirstOf};
+ghost use Rattle.slack_tables.specs.Best.{IsFirstOf, BestIsOne};
 ghost use Rattle.slack_tables.specs.Driven.{IsSmall, IsSmallPlace};
 ghost use Rattle.slack_tables.specs.Legs.{AreLegs, AreLeast, AreLinked};
 ghost use Rattle.slack_tables.specs.Walk.{IsTrip, IsUnderway, IsNearWay};
@@ -26,6 +26,12 @@ pub struct Addition {
     pub pickup: u64,
     pub delivery: u64,
 }
+
+/// The law that of all places one is the best: two answers of `best_places` to one question are the
+/// same.
+pub fn best_places_are_one()
+    ensures { BestIsOne }
+{}
 
 /// The first of the additions seen so far, and the distance that the next one has to be below.
 #[derive(Clone, Copy, Debug, PartialEq, Eq)]
