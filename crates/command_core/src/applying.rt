@@ -3,10 +3,12 @@ ghost use Rattle.std.specs.Prelude.{◌≡◌, None, Some, ◌⊎◌, IfOk, IfEr
 ghost use Rattle.command_core.specs.Effects.{job_after, effect};
 ghost use Rattle.command_core.specs.Refusing.{job_refusal, refusal};
 
+use crate::adding::{add, add_single};
 use crate::checking::check;
 use crate::commands::Command;
-use crate::effects::{add, add_single, deviate, load, pin, unpin};
-use crate::planning::{build, search};
+use crate::loading::load;
+use crate::pinning::{pin, unpin};
+use crate::planning::{build, deviate, search};
 use crate::refusals::Refusal;
 use crate::states::{Job, State};
 use crate::withdrawing::withdraw;

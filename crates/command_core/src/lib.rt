@@ -1,14 +1,16 @@
 //! The state of a planner, and what each command makes of it.
 #![tactic(auto)]
 
+mod adding;
 mod applying;
 mod checking;
 mod commands;
-mod effects;
 mod laws;
 mod limits;
 mod lists;
+mod loading;
 mod marks;
+mod pinning;
 mod planning;
 mod refusals;
 mod states;

@@ -1,8 +1,8 @@
-//! What is made of a job's plan: requests that are put in, and steps of the search.
+//! What is made of a job's plan: requests that are put in, steps of the search, and how far it walks from the incumbent.
 ghost use Rattle.std.specs.Prelude.{◌≡◌, None, true, IfOk, IfErr};
 ghost use Rattle.plan_audit.specs.Passes.{passes};
 ghost use Rattle.seeded_search.specs.Steps.{placed, placed_all};
-ghost use Rattle.command_core.specs.Effects.{built, searched};
+ghost use Rattle.command_core.specs.Effects.{built, searched, with_deviation};
 ghost use Rattle.command_core.specs.Refusing.{job_refusal};
 
 use crate::commands::Command;
@@ -107,5 +107,23 @@ pub(crate) fn search(alloc: Global, job: &Job, count: u16) -> Result<Job, Refusa
         deviation: job.deviation,
         seed: job.seed,
         steps: job.steps + count,
+    })
+}
+
+/// How much longer than the incumbent's the working plan's distance may be.
+pub(crate) fn deviate(job: &Job, deviation: u32) -> Result<Job, Refusal>
+    requires { job_refusal job.now (Command.Deviation deviation) ≡ None }
+    ensures ok { IfOk result (λ new. new ≡ with_deviation job.now deviation) }
+    ensures err { IfErr result (λ r. r ≡ Refusal.OutOfMemory) }
+{
+    effects_keep_facts();
+    Ok(Job {
+        problem: job.problem.copy()?,
+        pins: job.pins.copy()?,
+        plan: job.plan.copy()?,
+        work: job.plan.copy()?,
+        deviation,
+        seed: job.seed,
+        steps: job.steps,
     })
 }

@@ -6,7 +6,7 @@ use Rattle.command_core.specs.Effects.{added}
 use Rattle.command_core.specs.Wishes.{pair_at}
 use Rattle.command_core.specs.declared.states.State.TheVariants.{Loaded}
 use Rattle.command_core.specs.declared.commands.Command.TheVariants.{Add}
-use Rattle.command_core.proofs.effects.add.Goals as goal
+use Rattle.command_core.proofs.adding.add.Goals as goal
 
 pub added-requires : goal.added-requires
 added-requires c =

@@ -3,7 +3,7 @@ use Rattle.command_core.specs.Job.{JobValue, IsJob}
 use Rattle.command_core.specs.Effects.{pinned, with_pins}
 use Rattle.command_core.specs.declared.states.State.TheVariants.{Loaded}
 use Rattle.command_core.specs.declared.commands.Command.TheVariants.{Pin}
-use Rattle.command_core.proofs.effects.pin.Goals as goal
+use Rattle.command_core.proofs.pinning.pin.Goals as goal
 
 pub with_pins-requires : goal.with_pins-requires
 with_pins-requires c =

@@ -4,7 +4,7 @@ use Rattle.command_core.specs.Job.{JobValue, IsJob}
 use Rattle.command_core.specs.Effects.{loaded}
 use Rattle.command_core.specs.declared.states.State.TheVariants.{Empty}
 use Rattle.command_core.specs.declared.commands.Command.TheVariants.{Load}
-use Rattle.command_core.proofs.effects.load.Goals as goal
+use Rattle.command_core.proofs.loading.load.Goals as goal
 
 pub invariant_of-result : goal.invariant_of-result
 invariant_of-result c =

@@ -3,7 +3,7 @@ use Rattle.command_core.specs.Job.{JobValue, IsJob}
 use Rattle.command_core.specs.Effects.{unpinned, with_pins}
 use Rattle.command_core.specs.declared.states.State.TheVariants.{Loaded}
 use Rattle.command_core.specs.declared.commands.Command.TheVariants.{Unpin}
-use Rattle.command_core.proofs.effects.unpin.Goals as goal
+use Rattle.command_core.proofs.pinning.unpin.Goals as goal
 
 pub with_pins-requires : goal.with_pins-requires
 with_pins-requires c =

@@ -1,0 +1,37 @@
+//! A job at its beginning.
+ghost use Rattle.std.specs.Prelude.{◌≡◌, IfOk, IfErr};
+ghost use Rattle.command_core.specs.Effects.{loaded};
+
+use crate::laws::effects_keep_facts;
+use crate::lists::no_stops;
+use crate::refusals::Refusal;
+use crate::states::Job;
+use plan_types::{Pins, Plan, Problem};
+use std::alloc::Global;
+
+/// The job of a problem of which nothing is planned yet.
+pub(crate) fn load(alloc: Global, problem: &Problem, seed: u64) -> Result<Job, Refusal>
+    ensures ok { IfOk result (λ new. new ≡ loaded problem.now seed) }
+    ensures err { IfErr result (λ r. r ≡ Refusal.OutOfMemory) }
+{
+    effects_keep_facts();
+    let vehicles = problem.fleet;
+    let pins = Pins {
+        routes: no_stops(alloc, vehicles)?,
+    };
+    let plan = Plan {
+        routes: no_stops(alloc, vehicles)?,
+    };
+    let work = Plan {
+        routes: no_stops(alloc, vehicles)?,
+    };
+    Ok(Job {
+        problem: problem.copy()?,
+        pins,
+        plan,
+        work,
+        deviation: 0,
+        seed,
+        steps: 0,
+    })
+}
