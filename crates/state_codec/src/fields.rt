@@ -1,6 +1,6 @@
 //! Fields at the front of bytes.
 ghost use Rattle.std.specs.Prelude.{◌≡◌};
-ghost use Rattle.state_codec.specs.Versions.{width};
+ghost use Rattle.state_codec.specs.Bytes.{width};
 ghost use Rattle.state_codec.specs.Fields.{Gives, only, byte_at, number_at, signed_at, is_coordinate, is_demand, is_time, is_service};
 
 use crate::fault::CodecFault;

@@ -4,6 +4,7 @@
 mod fault;
 mod fields;
 mod requests;
+mod sector;
 mod version;
 
 pub use fault::CodecFault;

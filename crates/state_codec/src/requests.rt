@@ -2,7 +2,7 @@
 ghost use Rattle.std.specs.Prelude.{◌≡◌, ◌&&◌, nat_le, nat_lt};
 ghost use Rattle.plan_types.specs.Limits.{IsDemand};
 ghost use Rattle.std.specs.List.{list_all};
-ghost use Rattle.state_codec.specs.Versions.{width};
+ghost use Rattle.state_codec.specs.Bytes.{width};
 ghost use Rattle.state_codec.specs.Fields.{Gives, only, number_at, signed_at, is_coordinate, is_service, is_time};
 ghost use Rattle.state_codec.specs.Reading.{is_free, is_name, is_delivery, is_wanted, visit_at, first_at, delivery_at, single_at, pair_at, request_at, requests_at};
 

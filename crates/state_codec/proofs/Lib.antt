@@ -1,0 +1,3 @@
+pub mod Examples
+pub mod FieldLaws
+pub mod SectorLemmas
