@@ -6,7 +6,8 @@ use Rattle.std.proofs.lemmas.List.{take_at, drop_at, take-append-drop, length-ap
 use Rattle.std.proofs.lemmas.Nat.{be_bytes_2, be_bytes_4, be_bytes_8}
 use Rattle.std.proofs.lemmas.Int.{of_z-to_z, to_z-of_z, ints}
 use Rattle.std.specs.Prelude.{negsuc, ◌≤ℤ◌}
-use mir.Val.{SFits}
+use mir.Val.{SFits, Fits}
+use Rattle.std.proofs.Math.Facts.{Fits-of_z}
 use Rattle.byteorder.specs.Endian.{big_bytes, big_number}
 use Rattle.byteorder.specs.Numbers.{big_number-reads_back, big_from-lt, length-bytes_high_first}
 use Rattle.state_codec.specs.declared.version.Version.{Version}
@@ -50,6 +51,12 @@ only_ok rule (Ok x) y e = let k = kept_ok (rule x.0) BadField x y e in (ap Ok k.
 
 pub only_again : {X : Type 0} (rule : X → Bool) (field : Field X) (y : X × List ℕ) → field ≡ Ok y → rule y.0 ≡ true → only rule field ≡ Ok y
 only_again rule field y e h = rw (e, h) refl
+
+abbrev pub done : {A : Type 0} → A → Result A CodecFault
+done x = Ok x
+
+pub ok_is : {A : Type 0} (x y : A) → done x ≡ done y → x ≡ y
+ok_is x y e = cc
 
 -- what a reader took from the front
 pub record Takes (bytes text rest : List ℕ) : Type 0 where
@@ -148,8 +155,17 @@ unfolding signed_at signed_bytes
 signed_again z rest fits =
     let n = cast_unsigned w32 z in
     let long : ltb (length (big_bytes 4 n ++ rest)) 4 ≡ false = le-ltb _ _ (omega (arith, length-append (big_bytes 4 n) rest, length-bytes_high_first 4 n)) in
-    let number-is : big_number 4 (big_bytes 4 n ++ rest) ≡ n = big_number-reads_back 4 n rest ? in
+    let number-is : big_number 4 (big_bytes 4 n ++ rest) ≡ n = big_number-reads_back 4 n rest (Fits-of_z fits).fits in
     rw (long, drop_at (big_bytes 4 n) rest 4 refl, number-is, to_z-of_z w32 z fits) refl
 
 pub small : (z : ℤ) → negsuc 999999 ≤ℤ z → z ≤ℤ pos 1000000 → SFits w32 z
 small z low high = record { sfits = grind (arith, ints, low, high) }
+
+-- one field, and then the others
+pub step : {A B G : Type 0} (field : Field A) (f : A × List ℕ → Result B CodecFault) (y : B) (bytes : List ℕ) (text : A → List ℕ) (P : A → Type 0)
+    → ((a : A × List ℕ) → field ≡ Ok a → Takes bytes (text a.0) a.1 × P a.0)
+    → (field >>= f) ≡ Ok y → ((a : A × List ℕ) → Takes bytes (text a.0) a.1 → P a.0 → f a ≡ Ok y → G) → G
+step field f y bytes text P each e more =
+    let b = bind_ok field f y e in
+    let t = each b.0 b.1 in
+    more b.0 t.0 t.1 b.2

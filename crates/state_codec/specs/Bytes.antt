@@ -40,9 +40,13 @@ abbrev pub kind_code : Kind → ℕ
 kind_code LiLim = 1
 kind_code Vrp = 2
 
--- number, x, y, demand, earliest, latest, service
+-- x, y, demand, earliest, latest, service
+abbrev pub visit_bytes : Stop → List ℕ
+visit_bytes s = signed_bytes s.x ++ (signed_bytes s.y ++ (signed_bytes s.demand ++ (number_bytes 4 s.earliest ++ (number_bytes 4 s.latest ++ number_bytes 4 s.service))))
+
+-- a stop's number, and these
 abbrev pub stop_bytes : Version → Stop → List ℕ
-stop_bytes v s = count_bytes v s.number ++ (signed_bytes s.x ++ (signed_bytes s.y ++ (signed_bytes s.demand ++ (number_bytes 4 s.earliest ++ (number_bytes 4 s.latest ++ number_bytes 4 s.service)))))
+stop_bytes v s = count_bytes v s.number ++ visit_bytes s
 
 -- its form, then one or two stops
 abbrev pub request_bytes : Version → Request → List ℕ

@@ -4,4 +4,5 @@ pub mod Fields
 pub mod Limits
 pub mod Reading
 -- of private functions alone
+pub mod Records
 pub mod Sector

@@ -45,7 +45,8 @@ impl Sector {
 
     fn put(&mut self, text: &[u8])
         requires { length self.old + length text.now ≤ 512 }
-        ensures { self.new ≡ self.old ++ text.now }
+        ensures text { self.new ≡ self.old ++ text.now }
+        ensures len { length self.new ≡ length self.old + length text.now }
     {
         let end = self.used + text.len();
         self.bytes[self.used..end].copy_from_slice(text);
@@ -54,7 +55,8 @@ impl Sector {
 
     pub(crate) fn put_u8(&mut self, n: u8)
         requires { length self.old + 1 ≤ 512 }
-        ensures { self.new ≡ self.old ++ n ∷ [] }
+        ensures text { self.new ≡ self.old ++ n ∷ [] }
+        ensures len { length self.new ≡ length self.old + 1 }
     {
         self.put(&[n]);
     }
@@ -62,7 +64,8 @@ impl Sector {
     #[tactic(auto, unfolding(crate::specs::Bytes::number_bytes))]
     pub(crate) fn put_u16(&mut self, n: u16)
         requires { length self.old + 2 ≤ 512 }
-        ensures { self.new ≡ self.old ++ number_bytes 2 n }
+        ensures text { self.new ≡ self.old ++ number_bytes 2 n }
+        ensures len { length self.new ≡ length self.old + 2 }
     {
         let mut text = [0; 2];
         BigEndian::write_u16(&mut text, n);
@@ -72,7 +75,8 @@ impl Sector {
     #[tactic(auto, unfolding(crate::specs::Bytes::number_bytes))]
     pub(crate) fn put_u32(&mut self, n: u32)
         requires { length self.old + 4 ≤ 512 }
-        ensures { self.new ≡ self.old ++ number_bytes 4 n }
+        ensures text { self.new ≡ self.old ++ number_bytes 4 n }
+        ensures len { length self.new ≡ length self.old + 4 }
     {
         let mut text = [0; 4];
         BigEndian::write_u32(&mut text, n);
@@ -82,7 +86,8 @@ impl Sector {
     #[tactic(auto, unfolding(crate::specs::Bytes::number_bytes))]
     pub(crate) fn put_u64(&mut self, n: u64)
         requires { length self.old + 8 ≤ 512 }
-        ensures { self.new ≡ self.old ++ number_bytes 8 n }
+        ensures text { self.new ≡ self.old ++ number_bytes 8 n }
+        ensures len { length self.new ≡ length self.old + 8 }
     {
         let mut text = [0; 8];
         BigEndian::write_u64(&mut text, n);
@@ -92,7 +97,8 @@ impl Sector {
     #[tactic(auto, unfolding(crate::specs::Bytes::signed_bytes))]
     pub(crate) fn put_i32(&mut self, n: i32)
         requires { length self.old + 4 ≤ 512 }
-        ensures { self.new ≡ self.old ++ signed_bytes n }
+        ensures text { self.new ≡ self.old ++ signed_bytes n }
+        ensures len { length self.new ≡ length self.old + 4 }
     {
         let mut text = [0; 4];
         BigEndian::write_i32(&mut text, n);
@@ -103,7 +109,8 @@ impl Sector {
     pub(crate) fn put_count(&mut self, version: Version, n: u32)
         requires space { length self.old + width version ≤ 512 }
         requires fits { HasRoom version n }
-        ensures { self.new ≡ self.old ++ count_bytes version n }
+        ensures text { self.new ≡ self.old ++ count_bytes version n }
+        ensures len { length self.new ≡ length self.old + width version }
     {
         match version {
             Version::One => self.put_u16(n as u16),

@@ -25,8 +25,8 @@ invariant_of-self c =
     let padded-is = is_padded c.self.inside.bytes c.args.text.now c.self.inside.used (c.self.inside.used + length c.args.text.now - c.self.inside.used) (omega arith) (short c) c.self.told c.self.invariant.zeros in
     record { used = short c; zeros = rw c.copy_from_slice.ensures.after padded-is }
 
-pub returns : goal.returns
+pub returns-clause-text : goal.returns-clause-text
 unfolding used k
-returns c =
+returns-clause-text c =
     let written = written_is c.self.inside.bytes c.args.text.now c.self.inside.used (c.self.inside.used + length c.args.text.now - c.self.inside.used) (omega arith) (short c) c.self.told c.self.invariant.zeros in
     rw c.copy_from_slice.ensures.after (written ∙ ap (λ t. t ++ c.args.text.now) c.self.view_is)
