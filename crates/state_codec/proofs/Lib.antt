@@ -9,3 +9,4 @@ pub mod TimesLaws
 pub mod RouteLaws
 pub mod WritingLemmas
 pub mod PutLemmas
+pub mod SizeLemmas

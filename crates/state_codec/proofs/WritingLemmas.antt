@@ -23,3 +23,8 @@ one_written pins routes k out old new pin route same below is p r e =
 pub in_four : (out n x y d t one two three four : List ℕ) → one ≡ out ++ n → two ≡ one ++ (x ++ y) → three ≡ two ++ d → four ≡ three ++ t → four ≡ out ++ (n ++ (x ++ (y ++ (d ++ t))))
 in_four out n x y d t one two three four e f g h =
     h ∙ ap (λ z. z ++ t) (g ∙ ap (λ z. z ++ d) (f ∙ ap (λ z. z ++ (x ++ y)) e)) ∙ simp append_assoc
+
+-- the parts of a job, written in five calls
+pub in_five : (out h n r v w one two three four five : List ℕ) → one ≡ out ++ h → two ≡ one ++ n → three ≡ two ++ r → four ≡ three ++ v → five ≡ four ++ w → five ≡ out ++ (h ++ (n ++ (r ++ (v ++ w))))
+in_five out h n r v w one two three four five a b c d e =
+    e ∙ ap (λ z. z ++ w) (d ∙ ap (λ z. z ++ v) (c ∙ ap (λ z. z ++ r) (b ∙ ap (λ z. z ++ n) a))) ∙ simp append_assoc
