@@ -10,3 +10,6 @@ pub mod RouteLaws
 pub mod WritingLemmas
 pub mod PutLemmas
 pub mod SizeLemmas
+pub mod HeadLaws
+pub mod JobLaws
+pub mod PinLemmas

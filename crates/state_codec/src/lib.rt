@@ -10,6 +10,7 @@ mod records;
 mod requests;
 mod routes;
 mod sector;
+mod states;
 mod version;
 mod writing;
 
