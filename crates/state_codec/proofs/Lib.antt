@@ -13,3 +13,5 @@ pub mod SizeLemmas
 pub mod HeadLaws
 pub mod JobLaws
 pub mod PinLemmas
+pub mod PlainLaws
+pub mod DecodeLemmas
