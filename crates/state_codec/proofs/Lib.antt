@@ -1,0 +1,17 @@
+pub mod Examples
+pub mod FieldLaws
+pub mod SectorLemmas
+pub mod NameLemmas
+pub mod RequestLaws
+pub mod RecordLaws
+pub mod Loop
+pub mod TimesLaws
+pub mod RouteLaws
+pub mod WritingLemmas
+pub mod PutLemmas
+pub mod SizeLemmas
+pub mod HeadLaws
+pub mod JobLaws
+pub mod PinLemmas
+pub mod PlainLaws
+pub mod DecodeLemmas

@@ -1,0 +1,203 @@
+-- Reading the tables of a state, each the inverse of what `Bytes` writes. Each rule is judged at the field that it names.
+use Rattle.std.specs.Prelude.{◌≡◌, ℕ, zero, suc, ◌+◌, ◌^◌, ℤ, pos, length, Bool, not, ◌&&◌, ◌==◌, nat_lt, nat_le, nat_eq, List, [], ◌∷◌, ◌++◌, take, Option, Some, None, Result, Ok, Err, is_some, if◌then◌else◌, neg_ℤ}
+use Rattle.std.specs.List.{list_all}
+use Rattle.plan_types.specs.Instance.{Instance, first_some}
+use Rattle.plan_types.specs.Request.{request_name, stop_in}
+use Rattle.plan_types.specs.declared.requests.Stop.{Stop}
+use Rattle.plan_types.specs.declared.requests.Request.{Request}
+use Rattle.plan_types.specs.declared.requests.Request.TheVariants.{Single, Pair}
+use Rattle.plan_types.specs.declared.requests.Kind.{Kind}
+use Rattle.plan_types.specs.declared.requests.Kind.TheVariants.{LiLim, Vrp}
+use Rattle.command_core.specs.Job.{JobValue}
+use Rattle.state_codec.specs.declared.version.Version.{Version}
+use Rattle.state_codec.specs.declared.version.Version.TheVariants.{One, Two}
+use Rattle.state_codec.specs.declared.fault.CodecFault.{CodecFault}
+use Rattle.state_codec.specs.declared.head.Head.{Head}
+use Rattle.state_codec.specs.declared.fault.CodecFault.TheVariants.{BadField}
+use Rattle.state_codec.specs.Bytes.{width}
+use Rattle.state_codec.specs.Limits.{most}
+use Rattle.state_codec.specs.Fields.{◌>>=◌, Field, only, byte_at, number_at, signed_at, is_coordinate, is_demand, is_time, is_service, int_eq}
+
+-- no request so far has a stop with this number
+abbrev pub is_free : List (ℕ × Request) → ℕ → Bool
+is_free before n = not (is_some (first_some (stop_in n) before))
+
+-- a request's name: below `next_number`, above each name so far, and no stop's number yet
+abbrev pub is_name : ℕ → List (ℕ × Request) → ℕ → Bool
+is_name next before n = nat_le 1 n && (nat_lt n next && (list_all (λ e. nat_lt e.0 n) before && is_free before n))
+
+-- the number of a pair's delivery
+abbrev pub is_delivery : ℕ → List (ℕ × Request) → ℕ → ℕ → Bool
+is_delivery next before pickup n = nat_le 1 n && (nat_lt n next && (not (n == pickup) && is_free before n))
+
+-- the goods of a pickup or a single; those of a delivery are given
+abbrev pub is_wanted : Option ℤ → ℤ → Bool
+is_wanted None q = is_demand q
+is_wanted (Some wanted) q = int_eq q wanted
+
+-- what follows the number of a stop
+unfoldable pub visit_at : ℕ → Option ℤ → List ℕ → Field Stop
+visit_at number wanted bytes = do
+  x ← only is_coordinate (signed_at bytes)
+  y ← only is_coordinate (signed_at x.1)
+  demand ← only (is_wanted wanted) (signed_at y.1)
+  earliest ← only is_time (number_at 4 demand.1)
+  latest ← only (λ t. nat_le earliest.0 t && is_time t) (number_at 4 earliest.1)
+  service ← only is_service (number_at 4 latest.1)
+  Ok (record { number = number; x = x.0; y = y.0; demand = demand.0; earliest = earliest.0; latest = latest.0; service = service.0 }, service.1)
+
+-- the stop that names a request
+unfoldable pub first_at : Version → ℕ → List (ℕ × Request) → List ℕ → Field Stop
+first_at v next before bytes = do
+  number ← only (is_name next before) (number_at (width v) bytes)
+  visit_at number.0 None number.1
+
+-- the delivery of the pickup
+unfoldable pub delivery_at : Version → ℕ → List (ℕ × Request) → Stop → List ℕ → Field Stop
+delivery_at v next before pickup bytes = do
+  number ← only (is_delivery next before pickup.number) (number_at (width v) bytes)
+  visit_at number.0 (Some (neg_ℤ pickup.demand)) number.1
+
+unfoldable pub single_at : Version → ℕ → List (ℕ × Request) → List ℕ → Field Request
+single_at v next before bytes = do
+  stop ← first_at v next before bytes
+  Ok (Single stop.0, stop.1)
+
+unfoldable pub pair_at : Version → ℕ → List (ℕ × Request) → List ℕ → Field Request
+pair_at v next before bytes = do
+  pickup ← first_at v next before bytes
+  delivery ← delivery_at v next before pickup.0 pickup.1
+  Ok (Pair pickup.0 delivery.0, delivery.1)
+
+-- a form, and one stop or two
+unfoldable pub request_at : Version → ℕ → List (ℕ × Request) → List ℕ → Field Request
+request_at v next before bytes = do
+  form ← byte_at bytes
+  if form.0 == 1 then single_at v next before form.1 else if form.0 == 2 then pair_at v next before form.1 else Err BadField
+
+-- so many times: each time something is read and added to what was read before
+unfoldable pub times : {A : Type 0} → (A → List ℕ → Field A) → ℕ → A → List ℕ → Field A
+times more zero before bytes = Ok (before, bytes)
+times more (suc count) before bytes = do
+  one ← more before bytes
+  times more count one.0 one.1
+
+-- one request more
+abbrev pub next_request : Version → ℕ → List (ℕ × Request) → List ℕ → Field (List (ℕ × Request))
+next_request v next before bytes = do
+  request ← request_at v next before bytes
+  Ok (before ++ (request_name request.0, request.0) ∷ [], request.1)
+
+-- one stop number more
+abbrev pub next_stop : Version → List ℕ → List ℕ → Field (List ℕ)
+next_stop v before bytes = do
+  stop ← number_at (width v) bytes
+  Ok (before ++ stop.0 ∷ [], stop.1)
+
+-- the pin and the route of a vehicle: the pin's length, the route's, and the route's stops, with which the pin begins
+unfoldable pub vehicle_at : Version → List ℕ → Field (List ℕ × List ℕ)
+vehicle_at v bytes = do
+  pin ← number_at (width v) bytes
+  len ← only (nat_le pin.0) (number_at (width v) pin.1)
+  route ← times (next_stop v) len.0 [] len.1
+  Ok ((take pin.0 route.0, route.0), route.1)
+
+-- one vehicle more: its pin and its route
+abbrev pub next_vehicle : Version → List (List ℕ) × List (List ℕ) → List ℕ → Field (List (List ℕ) × List (List ℕ))
+next_vehicle v before bytes = do
+  vehicle ← vehicle_at v bytes
+  Ok ((before.0 ++ vehicle.0.0 ∷ [], before.1 ++ vehicle.0.1 ∷ []), vehicle.1)
+
+-- a route without a pin
+unfoldable pub route_at : Version → List ℕ → Field (List ℕ)
+route_at v bytes = do
+  len ← number_at (width v) bytes
+  times (next_stop v) len.0 [] len.1
+
+-- one route more
+abbrev pub next_route : Version → List (List ℕ) → List ℕ → Field (List (List ℕ))
+next_route v before bytes = do
+  route ← route_at v bytes
+  Ok (before ++ route.0 ∷ [], route.1)
+
+-- the working routes: version 1 has none, and the plan's stand for them
+abbrev pub work_at : Version → ℕ → List (List ℕ) → List ℕ → Field (List (List ℕ))
+work_at One fleet plan bytes = Ok (plan, bytes)
+work_at Two fleet plan bytes = times (next_route Two) fleet [] bytes
+
+-- ---- what stands before the requests
+
+abbrev pub kind_at : List ℕ → Field Kind
+kind_at bytes = byte_at bytes >>= λ b. if b.0 == 1 then Ok (LiLim, b.1) else if b.0 == 2 then Ok (Vrp, b.1) else Err BadField
+
+abbrev pub is_steps : ℕ → Bool
+is_steps n = nat_le n (2 ^ 60)
+
+abbrev pub is_capacity : ℕ → Bool
+is_capacity n = nat_le n 1000000
+
+abbrev pub is_fleet : Version → ℕ → Bool
+is_fleet v n = nat_le 1 n && nat_le n (most v)
+
+abbrev pub is_next : Version → ℕ → Bool
+is_next v n = nat_le 1 n && nat_le n (most v + 1)
+
+abbrev pub is_deviation : ℕ → Bool
+is_deviation d = nat_le d 1000000000
+
+unfoldable pub depot_at : List ℕ → Field Stop
+depot_at bytes = do
+  x ← only is_coordinate (signed_at bytes)
+  y ← only is_coordinate (signed_at x.1)
+  earliest ← only is_time (number_at 4 y.1)
+  latest ← only (λ t. nat_le earliest.0 t && is_time t) (number_at 4 earliest.1)
+  Ok (record { number = 0; x = x.0; y = y.0; demand = pos 0; earliest = earliest.0; latest = latest.0; service = 0 }, latest.1)
+
+-- version 1 has no deviation: it is 0
+abbrev pub allowance_at : Version → List ℕ → Field ℕ
+allowance_at One bytes = Ok (0, bytes)
+allowance_at Two bytes = only is_deviation (number_at 4 bytes)
+
+unfoldable pub head_at : Version → List ℕ → Field Head
+head_at v bytes = do
+  kind ← kind_at bytes
+  seed ← number_at 8 kind.1
+  steps ← only is_steps (number_at 8 seed.1)
+  capacity ← only is_capacity (number_at 4 steps.1)
+  fleet ← only (is_fleet v) (number_at (width v) capacity.1)
+  next ← only (is_next v) (number_at (width v) fleet.1)
+  depot ← depot_at next.1
+  deviation ← allowance_at v depot.1
+  Ok (record { kind = kind.0; seed = seed.0; steps = steps.0; capacity = capacity.0; fleet = fleet.0; next_number = next.0; depot = depot.0; deviation = deviation.0 }, deviation.1)
+
+-- ---- a whole state
+
+abbrev pub problem_from : Head → List (ℕ × Request) → Instance
+problem_from h requests = record { kind = h.kind; depot = h.depot; capacity = h.capacity; fleet = h.fleet; requests = requests; next_number = h.next_number }
+
+-- the requests behind their count
+unfoldable pub problem_at : Version → Head → List ℕ → Field Instance
+problem_at v head bytes = do
+  count ← number_at (width v) bytes
+  requests ← times (next_request v head.next_number) count.0 [] count.1
+  Ok (problem_from head requests.0, requests.1)
+
+unfoldable pub job_at : Version → List ℕ → Field JobValue
+job_at v bytes = do
+  head ← head_at v bytes
+  problem ← problem_at v head.0 head.1
+  vehicles ← times (next_vehicle v) head.0.fleet ([], []) problem.1
+  work ← work_at v head.0.fleet vehicles.0.1 vehicles.1
+  Ok (record { problem = problem.0; pins = vehicles.0.0; plan = vehicles.0.1; work = work.0; deviation = head.0.deviation; seed = head.0.seed; steps = head.0.steps }, work.1)
+
+-- a byte that tells whether a job follows
+unfoldable pub state_at : Version → List ℕ → Field (Option JobValue)
+state_at v bytes = do
+  loaded ← byte_at bytes
+  if loaded.0 == 0 then Ok (None, loaded.1) else if loaded.0 == 1 then (job_at v loaded.1 >>= λ job. Ok (Some job.0, job.1)) else Err BadField
+
+-- and nothing behind it
+unfoldable pub whole_at : Version → List ℕ → Result (Option JobValue) CodecFault
+whole_at v bytes = do
+  state ← state_at v bytes
+  if length state.1 == 0 then Ok state.0 else Err BadField
