@@ -1,0 +1,73 @@
+#!/usr/bin/env python3
+"""How fast the search is, and whether it finds what another program of the same steps finds.
+
+OTHER is a program with two commands: `gen KIND STOPS SEED` writes an instance of KIND, lilim or vrp, to standard output, and
+`search KIND INSTANCE STEPS SEED DEVIATION` builds a plan of a file by best insertion, makes so many steps, and ends with a line such as
+`steps 1000 seconds 0.01 rate 100000 cost 0 6 1217`. Its final cost has to be ours, to the number. `bench_search` is built by `rt run` in
+its folder. The two run in turn, each as often as RUNS says, and the fastest of each counts.
+
+    bench/search_speed.py OTHER [STOPS..]
+"""
+
+import pathlib
+import re
+import subprocess
+import sys
+import tempfile
+
+TOP = pathlib.Path(__file__).resolve().parent.parent
+PROGRAM = TOP / "crates" / "bench_search" / "out" / "bench_search"
+RUNS = 3
+SIZES = [100, 400, 1000, 4000]
+SEED = 5
+DEVIATIONS = [0, 50]
+
+
+def output(*words):
+    """What a program writes."""
+    return subprocess.run([str(word) for word in words], check=True, capture_output=True, text=True).stdout
+
+
+def ours(kind, path, steps, deviation):
+    """Nanoseconds a step, and the final cost."""
+    text = output(PROGRAM, kind, path, steps, SEED, deviation)
+    nanos = int(re.search(r"steps, (\d+) ns each", text).group(1))
+    return nanos, re.search(r"incumbent: cost (.*)", text).group(1)
+
+
+def theirs(other, kind, path, steps, deviation):
+    """The same of the other program."""
+    line = output(other, "search", kind, path, steps, SEED, deviation).splitlines()[-1]
+    rate, cost = re.search(r"rate (\d+) cost (.*)", line).groups()
+    return 10**9 // max(1, int(rate)), cost
+
+
+def compare(other, folder, kind, stops):
+    """Runs both, prints a line for each deviation, and gives how many final costs differ."""
+    path = pathlib.Path(folder) / f"{kind}-{stops}"
+    path.write_text(output(other, "gen", kind, stops, SEED))
+    steps = max(100, 400_000 // stops)
+    differing = 0
+    for deviation in DEVIATIONS:
+        runs = [(ours(kind, path, steps, deviation), theirs(other, kind, path, steps, deviation)) for _ in range(RUNS)]
+        mine = min(run[0][0] for run in runs)
+        its = min(run[1][0] for run in runs)
+        costs = {cost for run in runs for _, cost in run}
+        differing += len(costs) != 1
+        verdict = "the same cost" if len(costs) == 1 else f"costs {sorted(costs)}"
+        print(f"{kind} {stops} stops, deviation {deviation}: {mine} ns a step, the other {its} ns, ratio {its / mine:.3f}, {verdict}")
+    return differing
+
+
+def main():
+    """Compares at each size, and fails where a final cost differs."""
+    if len(sys.argv) < 2:
+        sys.exit(__doc__)
+    other, sizes = pathlib.Path(sys.argv[1]).resolve(), [int(word) for word in sys.argv[2:]] or SIZES
+    with tempfile.TemporaryDirectory() as folder:
+        differing = sum(compare(other, folder, kind, stops) for kind in ("lilim", "vrp") for stops in sizes)
+    sys.exit(1 if differing else 0)
+
+
+if __name__ == "__main__":
+    main()
