@@ -12,11 +12,11 @@ use Rattle.slack_tables.specs.Course.{Course, route_of, IsCourseIn}
 use Rattle.slack_tables.specs.Driven.{with_between, with_pair}
 use Rattle.slack_tables.specs.Inside.{AreKnown}
 use Rattle.slack_tables.specs.Insertion.{request_named, inserted, ArePlaces, IsAdded}
-use Rattle.slack_tables.specs.Legs.{AreLinked}
+use Rattle.slack_tables.specs.Legs.{AreLinked, AreRising}
 use Rattle.slack_tables.specs.Scan.{AddsSingle, AddsPair}
 use Rattle.slack_tables.specs.declared.progress.Place.{Place}
 use Rattle.slack_tables.specs.declared.scan.Addition.{Addition}
-use Rattle.slack_tables.proofs.AlongLemmas.{length-next}
+use Rattle.slack_tables.proofs.AlongLemmas.{start-next, length-next}
 use Rattle.slack_tables.proofs.CourseLemmas.{long-on}
 use Rattle.slack_tables.proofs.InsertLemmas.{limits_of, single-added, pair-added}
 
@@ -109,3 +109,11 @@ linked c places table = λ k d h.
     let further = next.distance in
     let way : distance (get_or places k d).at.stop (get_or places (k + 1) d).at.stop ≡ distance (stop_on c k) (stop_on c (k + 1)) = rw (here.stop, next.stop) refl in
     omega (arith, length-next (stop_on c) k)
+
+-- nobody is at a place before the one ahead of it
+pub rising : (c : Course) (places : List Place) → AreKnown c places → AreRising places
+rising c places table = λ k d h.
+    let long = table.long in
+    let here = (table.known k d (omega arith)).at.start in
+    let next = (table.known (k + 1) d h).at.start in
+    omega (arith, start-next (stop_on c) k)

@@ -6,6 +6,7 @@ pub mod FillLemmas
 pub mod FirstLemmas
 pub mod InsertLemmas
 pub mod KnownLemmas
+pub mod LateLemmas
 pub mod LatestLemmas
 pub mod LegLemmas
 pub mod OpenLemmas

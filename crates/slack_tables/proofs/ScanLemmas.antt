@@ -143,5 +143,9 @@ module _ (limits : Limits) (places : List Place) (p q : Stop) (kept : ℕ) (d : 
         subst (PairsSoFar below (i + 1)) (sym made)
         (better-here (PutsPair limits places p q kept d) by_pickup order_pair below best.bound i best.found found so (of-pickup found i behind is.0.0) (is.0.0.here) is.0.1 (λ a it here under. is.1 a (at-pickup a i it here, under)))
 
+  -- or where no later place of the pickup is left
+  pub pairs-stop : (below : ℤ) (i : ℕ) (best : Best) → PairsSoFar below i best → ((k j : ℕ) → i ≤ k → k ≤ length places → with_pair limits places p q k j d ≡ None) → IsFirstOf (AddsPair limits places p q kept below d) best.found
+  pairs-stop below i best so over = rest-dear (PutsPair limits places p q kept d) by_pickup order_pair below best.bound i best.found so (λ a is behind less. never-sum _ a.distance (over a.pickup a.delivery behind (let order = is.order in let within = is.within in omega arith)) is.added)
+
   pub pairs-end : (below : ℤ) (i : ℕ) (best : Best) → PairsSoFar below i best → length places ≤ i → IsFirstOf (AddsPair limits places p q kept below d) best.found
   pairs-end below i best so end = all-seen (PutsPair limits places p q kept d) by_pickup order_pair below best.bound i best.found so (λ a is. let within = is.within in let order = is.order in omega arith)

@@ -8,6 +8,10 @@ use Rattle.slack_tables.specs.declared.progress.Place.{Place}
 abbrev pub AreLinked : List Place → Type 0
 AreLinked places = (k : ℕ) (d : Place) → k + 1 < length places → (slice_index_or places (k + 1) d).at.distance ≡ (slice_index_or places k d).at.distance + distance (slice_index_or places k d).at.stop (slice_index_or places (k + 1) d).at.stop
 
+-- nobody is at a place before the one ahead of it
+abbrev pub AreRising : List Place → Type 0
+AreRising places = (k : ℕ) (d : Place) → k + 1 < length places → (slice_index_or places k d).at.start ≤ (slice_index_or places (k + 1) d).at.start
+
 -- the ways between the places, as far as they are listed, and the stop
 abbrev pub AreLegs : List ℕ → List Place → Stop → Type 0
 AreLegs legs places s = (k : ℕ) (d : Place) → k < length legs → k < length places → slice_index_or legs k 0 ≡ distance (slice_index_or places k d).at.stop s

@@ -5,13 +5,13 @@ ghost use Rattle.plan_types.specs.Limits.{IsVisit};
 ghost use Rattle.slack_tables.specs.declared.progress.Place.{Place};
 ghost use Rattle.slack_tables.specs.Best.{IsFirstOf, BestIsOne};
 ghost use Rattle.slack_tables.specs.Driven.{IsSmall, IsSmallPlace};
-ghost use Rattle.slack_tables.specs.Legs.{AreLegs, AreLeast, AreLinked};
+ghost use Rattle.slack_tables.specs.Legs.{AreLegs, AreLeast, AreLinked, AreRising};
 ghost use Rattle.slack_tables.specs.Walk.{IsTrip, IsUnderway, IsNearWay};
 ghost use Rattle.slack_tables.specs.Ride.{IsSmallRide, IsNearRide};
 ghost use Rattle.slack_tables.specs.Scan.{AddsSingle, AddsPair, AddsDelivery, IsNearUnderway, picked_up, gone_on, none_below, offered, accepted};
 
 use crate::legs::{ROOM, fill_least, fill_legs, is_hopeless, leg_at, small_place};
-use crate::progress::{Limits, Place, Progress, difference};
+use crate::progress::{Limits, Place, Progress, difference, is_in_time};
 use crate::ride::{Detour, Ride, ride_of, ride_on, serve_below};
 use nint_dist::dist;
 use plan_types::Stop;
@@ -117,6 +117,7 @@ pub(crate) fn best_pair(
 ) -> Option<Addition>
     requires places { All IsSmallPlace places.now }
     requires ways { AreLinked places.now }
+    requires rising { AreRising places.now }
     requires few { length places.now ≤ 40003 }
     requires pickup { IsVisit pickup.now }
     requires delivery { IsVisit delivery.now }
@@ -163,7 +164,8 @@ struct Trip {
     across: u64,
 }
 
-/// The best places of a pair, its pickup behind the first `kept` stops.
+/// The best places of a pair, its pickup behind the first `kept` stops. From a place on that is
+/// reached after the pickup's latest time, none is in time.
 fn best_pickup(
     trip: &Trip,
     places: &[Place],
@@ -176,6 +178,7 @@ fn best_pickup(
     requires trip { IsTrip trip.now }
     requires places { All IsSmallPlace places.now }
     requires ways { AreLinked places.now }
+    requires rising { AreRising places.now }
     requires few { length places.now ≤ 40003 }
     requires pickup_legs { AreLegs pickup_legs.now places.now trip.now.pickup }
     requires delivery_legs { AreLegs delivery_legs.now places.now trip.now.delivery }
@@ -185,6 +188,11 @@ fn best_pickup(
 {
     let mut best = Best::none_below(below);
     for i in kept + 1..places.len() {
+        let before = small_place(places, i - 1);
+        let latest = u64::from(trip.pickup.latest);
+        if !is_in_time(trip.limits.kind, before.at.start, latest) {
+            return best.found;
+        }
         let bound = best.bound;
         best.accept(best_at(trip, places, pickup_legs, delivery_legs, least, i, bound));
     }

@@ -1,9 +1,12 @@
-use Rattle.std.proofs.Common.{w64, rules, arith, subst}
+use Rattle.std.proofs.Common.{w64, rules, arith, subst, ◌≡◌, ◌∙◌, ◌-◌, false, get_or, sym}
 use mir.Val.{SFits}
 use Rattle.std.proofs.lemmas.Int.{to_z-of_z}
 use Rattle.slack_tables.specs.Best.{IsFirstOf}
 use Rattle.slack_tables.specs.Scan.{AddsPair, AddsDelivery}
-use Rattle.slack_tables.proofs.ScanLemmas.{pairs-begin, pair-more, pairs-end}
+use Rattle.slack_tables.specs.Driven.{is_in_time}
+use Rattle.slack_tables.specs.declared.progress.Place.{Place}
+use Rattle.slack_tables.proofs.LateLemmas.{late-pickup}
+use Rattle.slack_tables.proofs.ScanLemmas.{pairs-begin, pair-more, pairs-end, pairs-stop}
 use Rattle.slack_tables.proofs.scan.best_pickup.Goals as goal
 
 pub loop-i-init : goal.loop-i-init
@@ -22,3 +25,12 @@ pub returns : goal.returns
 returns c = λ d.
     (let fits : SFits w64 c.args.below = record { sfits = c.ranges.below.sfits } in
     subst (λ x. IsFirstOf (AddsPair c.args.trip.now.limits c.args.places.now c.args.trip.now.pickup c.args.trip.now.delivery c.args.kept x d) c.loop-i.best.found) (to_z-of_z w64 c.args.below fits) (pairs-end c.args.trip.now.limits c.args.places.now c.args.trip.now.pickup c.args.trip.now.delivery c.args.kept d _ c.loop-i.i c.loop-i.best (c.loop-i.invariant.best d) (omega arith)))
+
+pub returns-then-not-is_in_time : goal.returns-then-not-is_in_time
+returns-then-not-is_in_time c = λ d.
+    (let below : SFits w64 c.args.below = record { sfits = c.ranges.below.sfits } in
+    let behind = c.loop-i.invariant.behind in
+    let late : is_in_time c.args.trip.now.limits.kind c.small_place-before.result.now.at.start c.from-latest.result ≡ false = sym c.is_in_time.ensures ∙ c.if-not-is_in_time.true in
+    let late_there : is_in_time c.args.trip.now.limits.kind (get_or c.args.places.now (c.loop-i.i - 1) d).at.start c.args.trip.now.pickup.latest ≡ false = subst (λ (e : Place). is_in_time c.args.trip.now.limits.kind e.at.start c.args.trip.now.pickup.latest ≡ false) (c.small_place-before.ensures.place d) (subst (λ n. is_in_time c.args.trip.now.limits.kind c.small_place-before.result.now.at.start n ≡ false) c.from-latest.ensures late) in
+    subst (λ x. IsFirstOf (AddsPair c.args.trip.now.limits c.args.places.now c.args.trip.now.pickup c.args.trip.now.delivery c.args.kept x d) c.loop-i.best.found) (to_z-of_z w64 c.args.below below)
+    (pairs-stop c.args.trip.now.limits c.args.places.now c.args.trip.now.pickup c.args.trip.now.delivery c.args.kept d _ c.loop-i.i c.loop-i.best (c.loop-i.invariant.best d) (λ k j h l. late-pickup c.args.trip.now.limits c.args.places.now c.args.trip.now.pickup c.args.trip.now.delivery d c.requires.rising c.loop-i.i k j (omega arith) h l late_there)))

@@ -6,12 +6,12 @@ use Rattle.plan_types.specs.declared.requests.Request.TheVariants.{Single, Pair}
 use Rattle.slack_tables.specs.Best.{IsFirstOf, IsBestAddition}
 use Rattle.slack_tables.specs.Course.{Course, route_of}
 use Rattle.slack_tables.specs.Inside.{AreKnown}
-use Rattle.slack_tables.specs.Legs.{AreLinked}
+use Rattle.slack_tables.specs.Legs.{AreLinked, AreRising}
 use Rattle.slack_tables.specs.Scan.{AddsSingle, AddsPair}
 use Rattle.slack_tables.specs.Opened.{leaving, open_place}
 use Rattle.slack_tables.specs.declared.progress.Place.{Place}
 use Rattle.slack_tables.proofs.InsertLemmas.{limits_of}
-use Rattle.slack_tables.proofs.BestLemmas.{single-best, pair-best, linked}
+use Rattle.slack_tables.proofs.BestLemmas.{single-best, pair-best, linked, rising}
 use Rattle.slack_tables.proofs.table.RouteTable.best_places.Goals as goal
 
 pub best_single-requires-clause-stop : goal.best_single-requires-clause-stop
@@ -30,6 +30,11 @@ pub best_pair-requires-clause-ways : goal.best_pair-requires-clause-ways
 best_pair-requires-clause-ways c =
     let table : AreKnown c.args.self.now c.self.inside.places.items = subst (λ q. AreKnown q c.self.inside.places.items) c.self.view_is c.self.invariant in
     subst (λ xs. AreLinked xs) (sym c.as_slice-places.ensures.value) (linked c.args.self.now c.self.inside.places.items table)
+
+pub best_pair-requires-clause-rising : goal.best_pair-requires-clause-rising
+best_pair-requires-clause-rising c =
+    let table : AreKnown c.args.self.now c.self.inside.places.items = subst (λ q. AreKnown q c.self.inside.places.items) c.self.view_is c.self.invariant in
+    subst (λ xs. AreRising xs) (sym c.as_slice-places.ensures.value) (rising c.args.self.now c.self.inside.places.items table)
 
 pub returns-in-Single : goal.returns-in-Single
 returns-in-Single c = λ p name valid is named.
