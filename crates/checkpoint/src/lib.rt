@@ -1,0 +1,7 @@
+//! A store on a device: two headers, a journal of 256 records, and two halves for snapshots in turn. What an image holds, and the device
+//! calls that change it.
+#![tactic(auto)]
+
+mod headers;
+mod layouts;
+mod puts;
