@@ -1,1 +1,6 @@
 mod PutCalls
+mod Runs
+mod Carried
+mod HeaderBytes
+mod Advanced
+mod Added
