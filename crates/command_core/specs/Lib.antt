@@ -1,0 +1,5 @@
+-- what public contracts reach
+pub mod Job
+pub mod Names
+-- of private functions alone
+pub mod Fields

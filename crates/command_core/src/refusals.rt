@@ -1,0 +1,70 @@
+ghost use Rattle.std.specs.Prelude.{◌≡◌};
+
+use std::alloc::{AllocError, AllocFailed};
+use thiserror::Error;
+
+/// Why a command is refused. The cases stand in the order in which they are told, but that want of memory may be met before some.
+#[derive(Clone, Copy, Debug, PartialEq, Eq, Error)]
+pub enum Refusal {
+    #[error("no problem is loaded")]
+    NoInstance,
+    #[error("a field is outside its limits")]
+    Range,
+    #[error("there is no request of this name")]
+    NoSuchRequest,
+    #[error("a stop of the request is pinned")]
+    Pinned,
+    #[error("there is no such vehicle, or its route is shorter")]
+    NoSuchPlace,
+    #[error("these stops alone are no feasible route")]
+    NotARoute,
+    #[error("the stop numbers are spent")]
+    NumbersSpent,
+    #[error("the search steps are spent")]
+    StepsSpent,
+    #[error("out of memory")]
+    OutOfMemory,
+}
+
+impl Refusal {
+    ghost use Rattle.command_core.specs.Names.{refusal_name};
+
+    /// Its name, as answers print it.
+    pub fn name(&self) -> &'static str
+        ensures { result.now ≡ refusal_name self.now }
+    {
+        match self {
+            Refusal::NoInstance => "NoInstance",
+            Refusal::Range => "Range",
+            Refusal::NoSuchRequest => "NoSuchRequest",
+            Refusal::Pinned => "Pinned",
+            Refusal::NoSuchPlace => "NoSuchPlace",
+            Refusal::NotARoute => "NotARoute",
+            Refusal::NumbersSpent => "NumbersSpent",
+            Refusal::StepsSpent => "StepsSpent",
+            Refusal::OutOfMemory => "OutOfMemory",
+        }
+    }
+}
+
+impl From<AllocError> for Refusal {
+    ghost use Rattle.std.specs.Prelude.{◌≡◌};
+    ghost use Rattle.command_core.specs.declared.refusals.Refusal.TheVariants.{OutOfMemory};
+
+    ghost from_gives = { λ _ refusal. refusal ≡ OutOfMemory };
+
+    fn from(_: AllocError) -> Refusal {
+        Refusal::OutOfMemory
+    }
+}
+
+impl<T: Drop> From<AllocFailed<T>> for Refusal {
+    ghost use Rattle.std.specs.Prelude.{◌≡◌};
+    ghost use Rattle.command_core.specs.declared.refusals.Refusal.TheVariants.{OutOfMemory};
+
+    ghost from_gives = { λ _ refusal. refusal ≡ OutOfMemory };
+
+    fn from(_: AllocFailed<T>) -> Refusal {
+        Refusal::OutOfMemory
+    }
+}

@@ -1,0 +1,95 @@
+ghost use Rattle.std.specs.Prelude.{◌≡◌, IfOk};
+ghost use Rattle.command_core.specs.Job.{IsJob};
+
+use plan_types::{OutOfMemory, Pins, Plan, Problem};
+use std::marker::Model;
+
+/// A problem with what was made of it so far. Plan and working plan pass the auditor with the pins, each vehicle has a pin, and each pin
+/// alone is a feasible route.
+#[derive(Debug, Drop)]
+pub struct Job {
+    pub problem: Problem,
+    pub pins: Pins,
+    /// The incumbent: the best plan so far.
+    pub plan: Plan,
+    /// The plan that the search walks on from.
+    pub work: Plan,
+    /// How much longer than the incumbent's the working plan's distance may be, 0..=1,000,000,000.
+    pub deviation: u32,
+    pub seed: u64,
+    /// How many steps the search has made, 0..=2^60. The words of the next one begin at place `16 * steps`.
+    pub steps: u64,
+}
+
+impl Model for Job {
+    ghost use Rattle.command_core.specs.Job.{JobValue};
+
+    ghost Value = { JobValue };
+
+    ghost use Rattle.command_core.specs.Fields.{job_of, KeepsFacts};
+
+    ghost view = { job_of };
+
+    ghost invariant = { KeepsFacts };
+}
+
+impl Job {
+    /// The job of these parts. Takes no memory.
+    pub fn from_parts(
+        problem: Problem,
+        pins: Pins,
+        plan: Plan,
+        work: Plan,
+        deviation: u32,
+        seed: u64,
+        steps: u64,
+    ) -> Job
+        requires { IsJob (record { problem = problem; pins = pins.routes; plan = plan.routes; work = work.routes; deviation = deviation; seed = seed; steps = steps }) }
+        ensures { result ≡ record { problem = problem; pins = pins.routes; plan = plan.routes; work = work.routes; deviation = deviation; seed = seed; steps = steps } }
+    {
+        Job {
+            problem,
+            pins,
+            plan,
+            work,
+            deviation,
+            seed,
+            steps,
+        }
+    }
+
+    /// A second job like this one.
+    pub fn copy(&self) -> Result<Job, OutOfMemory>
+        ensures { IfOk result (λ copy. copy ≡ self.now) }
+    {
+        Ok(Job {
+            problem: self.problem.copy()?,
+            pins: self.pins.copy()?,
+            plan: self.plan.copy()?,
+            work: self.work.copy()?,
+            deviation: self.deviation,
+            seed: self.seed,
+            steps: self.steps,
+        })
+    }
+}
+
+/// What a planner knows.
+#[derive(Debug, Drop)]
+pub enum State {
+    /// Nothing was loaded yet.
+    Empty,
+    Loaded(Job),
+}
+
+impl State {
+    /// A second state like this one.
+    pub fn copy(&self) -> Result<State, OutOfMemory>
+        ensures { IfOk result (λ copy. copy ≡ self.now) }
+    {
+        match self {
+            State::Empty => Ok(State::Empty),
+            State::Loaded(job) => Ok(State::Loaded(job.copy()?)),
+        }
+    }
+}

@@ -1,0 +1,60 @@
+-- Reading a field from the front of bytes: its value and the bytes behind it, or the fault. Bytes that end before or inside the
+-- field are `Truncated`; a value that the field's rule refuses is `BadField`.
+use Rattle.std.specs.Prelude.{◌≡◌, ℕ, zero, suc, ℤ, pos, negsuc, Bool, ◌&&◌, nat_lt, nat_le, int_lt, int_le, List, [], ◌∷◌, ◌++◌, length, drop, Result, Ok, Err, if◌then◌else◌}
+use Rattle.std.specs.Int.{w32, cast_signed}
+use Rattle.byteorder.specs.Endian.{big_number}
+use Rattle.state_codec.specs.declared.fault.CodecFault.{CodecFault}
+use Rattle.state_codec.specs.declared.fault.CodecFault.TheVariants.{Truncated, BadField, PlanRefused, OutOfMemory}
+
+infixl 10 ◌>>=◌
+abbrev pub ◌>>=◌ : {A B : Type 0} → Result A CodecFault → (A → Result B CodecFault) → Result B CodecFault
+(Ok x) >>= f = f x
+(Err e) >>= f = Err e
+
+-- a field's value, and the bytes behind it
+abbrev pub Field : Type 0 → Type 0
+Field X = Result (X × List ℕ) CodecFault
+
+-- a value that its rule refuses
+abbrev pub only : {X : Type 0} → (X → Bool) → Field X → Field X
+only rule field = field >>= λ x. if rule x.0 then Ok x else Err BadField
+
+-- one byte
+unfoldable pub byte_at : List ℕ → Field ℕ
+byte_at [] = Err Truncated
+byte_at (b ∷ rest) = Ok (b, rest)
+
+-- a number of k bytes
+unfoldable pub number_at : ℕ → List ℕ → Field ℕ
+number_at k bytes = if nat_lt (length bytes) k then Err Truncated else Ok (big_number k bytes, drop k bytes)
+
+-- a signed number of four bytes
+unfoldable pub signed_at : List ℕ → Field ℤ
+signed_at bytes = if nat_lt (length bytes) 4 then Err Truncated else Ok (cast_signed w32 (big_number 4 bytes), drop 4 bytes)
+
+-- the rules of single fields
+abbrev pub is_coordinate : ℤ → Bool
+is_coordinate x = int_le (negsuc 999999) x && int_le x (pos 1000000)
+
+abbrev pub int_eq : ℤ → ℤ → Bool
+int_eq x y = int_le x y && int_le y x
+
+abbrev pub is_demand : ℤ → Bool
+is_demand q = int_le (pos 0) q && int_le q (pos 1000000)
+
+abbrev pub is_time : ℕ → Bool
+is_time t = nat_le t 100000000
+
+abbrev pub is_service : ℕ → Bool
+is_service t = nat_le t 1000000
+
+-- What a function of the code returned, seen by `view`, is what reading gives, unless memory ran out.
+abbrev pub Fails : {Y : Type 0} → CodecFault → Result Y CodecFault → Type 0
+Fails OutOfMemory read = Unit {0}
+Fails Truncated read = read ≡ Err Truncated
+Fails BadField read = read ≡ Err BadField
+Fails (PlanRefused rule) read = read ≡ Err (PlanRefused rule)
+
+abbrev pub Gives : {X Y : Type 0} → (X → Y) → Result X CodecFault → Result Y CodecFault → Type 0
+Gives view (Ok x) read = read ≡ Ok (view x)
+Gives view (Err e) read = Fails e read

@@ -1,0 +1,38 @@
+use std::alloc::{AllocError, AllocFailed};
+use thiserror::Error;
+
+/// Why bytes are no state.
+#[derive(Clone, Copy, Debug, PartialEq, Eq, Error)]
+pub enum CodecFault {
+    #[error("the bytes end where a field is due")]
+    Truncated,
+    #[error("a field breaks its rule")]
+    BadField,
+    /// The number of the auditor's rule.
+    #[error("a plan or a pin breaks rule {0}")]
+    PlanRefused(u32),
+    #[error("out of memory")]
+    OutOfMemory,
+}
+
+impl From<AllocError> for CodecFault {
+    ghost use Rattle.std.specs.Prelude.{◌≡◌};
+    ghost use Rattle.state_codec.specs.declared.fault.CodecFault.TheVariants.{OutOfMemory};
+
+    ghost from_gives = { λ _ fault. fault ≡ OutOfMemory };
+
+    fn from(_: AllocError) -> CodecFault {
+        CodecFault::OutOfMemory
+    }
+}
+
+impl<T: Drop> From<AllocFailed<T>> for CodecFault {
+    ghost use Rattle.std.specs.Prelude.{◌≡◌};
+    ghost use Rattle.state_codec.specs.declared.fault.CodecFault.TheVariants.{OutOfMemory};
+
+    ghost from_gives = { λ _ fault. fault ≡ OutOfMemory };
+
+    fn from(_: AllocFailed<T>) -> CodecFault {
+        CodecFault::OutOfMemory
+    }
+}

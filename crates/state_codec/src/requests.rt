@@ -1,0 +1,207 @@
+//! The requests of a state.
+ghost use Rattle.std.specs.Prelude.{◌≡◌, ◌&&◌, nat_le, nat_lt};
+ghost use Rattle.plan_types.specs.Limits.{IsDemand};
+ghost use Rattle.std.specs.List.{list_all};
+ghost use Rattle.state_codec.specs.Versions.{width};
+ghost use Rattle.state_codec.specs.Fields.{Gives, only, number_at, signed_at, is_coordinate, is_service, is_time};
+ghost use Rattle.state_codec.specs.Reading.{is_free, is_name, is_delivery, is_wanted, visit_at, first_at, delivery_at, single_at, pair_at, request_at, requests_at};
+
+use crate::fault::CodecFault;
+use crate::fields::{coordinate_at, i32_at, number_at, time_at, u8_at, u32_at};
+use crate::version::Version;
+use plan_types::limits::{MAX_DEMAND, MAX_SERVICE, MAX_TIME};
+use plan_types::{Problem, Request, Stop};
+
+// Whether the number may name the next request.
+fn is_name(problem: &Problem, next: u32, number: u32) -> bool
+    ensures { result ≡ is_name next problem.now.requests number }
+{
+    1 <= number && number < next && is_above_names(problem, number) && is_free(problem, number)
+}
+
+// Whether each request has a lesser name. The last one's is the greatest.
+fn is_above_names(problem: &Problem, number: u32) -> bool
+    ensures { result ≡ list_all (λ e. nat_lt e.0 number) problem.now.requests }
+{
+    match problem.requests.last() {
+        Some((last, _)) => *last < number,
+        None => true,
+    }
+}
+
+fn is_free(problem: &Problem, number: u32) -> bool
+    ensures { result ≡ is_free problem.now.requests number }
+{
+    problem.stop(number).is_none()
+}
+
+fn is_delivery(problem: &Problem, next: u32, pickup: u32, number: u32) -> bool
+    ensures { result ≡ is_delivery next problem.now.requests pickup number }
+{
+    1 <= number && number < next && number != pickup && is_free(problem, number)
+}
+
+fn is_wanted(wanted: Option<i32>, demand: i32) -> bool
+    ensures { result ≡ is_wanted wanted demand }
+{
+    match wanted {
+        None => 0 <= demand && demand <= MAX_DEMAND,
+        Some(goods) => demand == goods,
+    }
+}
+
+fn demand_at(wanted: Option<i32>, bytes: &[u8]) -> Result<(i32, &[u8]), CodecFault>
+    ensures { Gives (λ x. (x.0, x.1.now)) result (only (is_wanted wanted) (signed_at bytes.now)) }
+{
+    let (demand, rest) = i32_at(bytes)?;
+    if !is_wanted(wanted, demand) {
+        return Err(CodecFault::BadField);
+    }
+    Ok((demand, rest))
+}
+
+/// When a window that began then ends.
+pub(crate) fn end_at(earliest: u32, bytes: &[u8]) -> Result<(u32, &[u8]), CodecFault>
+    ensures { Gives (λ x. (x.0, x.1.now)) result (only (λ t. nat_le earliest t && is_time t) (number_at 4 bytes.now)) }
+{
+    let (latest, rest) = u32_at(bytes)?;
+    if latest < earliest || MAX_TIME < latest {
+        return Err(CodecFault::BadField);
+    }
+    Ok((latest, rest))
+}
+
+fn service_at(bytes: &[u8]) -> Result<(u32, &[u8]), CodecFault>
+    ensures { Gives (λ x. (x.0, x.1.now)) result (only is_service (number_at 4 bytes.now)) }
+{
+    let (service, rest) = u32_at(bytes)?;
+    if MAX_SERVICE < service {
+        return Err(CodecFault::BadField);
+    }
+    Ok((service, rest))
+}
+
+#[tactic(auto, unfolding(crate::specs::Reading::visit_at))]
+fn visit_at(number: u32, wanted: Option<i32>, bytes: &[u8]) -> Result<(Stop, &[u8]), CodecFault>
+    ensures { Gives (λ x. (x.0, x.1.now)) result (visit_at number wanted bytes.now) }
+{
+    let (x, rest) = coordinate_at(bytes)?;
+    let (y, rest) = coordinate_at(rest)?;
+    let (demand, rest) = demand_at(wanted, rest)?;
+    let (earliest, rest) = time_at(rest)?;
+    let (latest, rest) = end_at(earliest, rest)?;
+    let (service, rest) = service_at(rest)?;
+    let stop = Stop {
+        number,
+        x,
+        y,
+        demand,
+        earliest,
+        latest,
+        service,
+    };
+    Ok((stop, rest))
+}
+
+fn name_at<'a>(
+    version: Version,
+    problem: &Problem,
+    next: u32,
+    bytes: &'a [u8],
+) -> Result<(u32, &'a [u8]), CodecFault>
+    ensures { Gives (λ x. (x.0, x.1.now)) result (only (is_name next problem.now.requests) (number_at (width version) bytes.now)) }
+{
+    let (number, rest) = number_at(version, bytes)?;
+    if !is_name(problem, next, number) {
+        return Err(CodecFault::BadField);
+    }
+    Ok((number, rest))
+}
+
+#[tactic(auto, unfolding(crate::specs::Reading::first_at))]
+fn first_at<'a>(
+    version: Version,
+    problem: &Problem,
+    next: u32,
+    bytes: &'a [u8],
+) -> Result<(Stop, &'a [u8]), CodecFault>
+    ensures { Gives (λ x. (x.0, x.1.now)) result (first_at version next problem.now.requests bytes.now) }
+{
+    let (number, rest) = name_at(version, problem, next, bytes)?;
+    visit_at(number, None, rest)
+}
+
+fn delivered_at<'a>(
+    version: Version,
+    problem: &Problem,
+    next: u32,
+    pickup: u32,
+    bytes: &'a [u8],
+) -> Result<(u32, &'a [u8]), CodecFault>
+    ensures { Gives (λ x. (x.0, x.1.now)) result (only (is_delivery next problem.now.requests pickup) (number_at (width version) bytes.now)) }
+{
+    let (number, rest) = number_at(version, bytes)?;
+    if !is_delivery(problem, next, pickup, number) {
+        return Err(CodecFault::BadField);
+    }
+    Ok((number, rest))
+}
+
+#[tactic(auto, unfolding(crate::specs::Reading::delivery_at))]
+fn delivery_at<'a>(
+    version: Version,
+    problem: &Problem,
+    next: u32,
+    pickup: &Stop,
+    bytes: &'a [u8],
+) -> Result<(Stop, &'a [u8]), CodecFault>
+    requires { IsDemand pickup.now.demand }
+    ensures { Gives (λ x. (x.0, x.1.now)) result (delivery_at version next problem.now.requests pickup.now bytes.now) }
+{
+    let (number, rest) = delivered_at(version, problem, next, pickup.number, bytes)?;
+    visit_at(number, Some(-pickup.demand), rest)
+}
+
+#[tactic(auto, unfolding(crate::specs::Reading::single_at))]
+fn single_at<'a>(
+    version: Version,
+    problem: &Problem,
+    next: u32,
+    bytes: &'a [u8],
+) -> Result<(Request, &'a [u8]), CodecFault>
+    ensures { Gives (λ x. (x.0, x.1.now)) result (single_at version next problem.now.requests bytes.now) }
+{
+    let (stop, rest) = first_at(version, problem, next, bytes)?;
+    Ok((Request::Single(stop), rest))
+}
+
+#[tactic(auto, unfolding(crate::specs::Reading::pair_at))]
+fn pair_at<'a>(
+    version: Version,
+    problem: &Problem,
+    next: u32,
+    bytes: &'a [u8],
+) -> Result<(Request, &'a [u8]), CodecFault>
+    ensures { Gives (λ x. (x.0, x.1.now)) result (pair_at version next problem.now.requests bytes.now) }
+{
+    let (pickup, rest) = first_at(version, problem, next, bytes)?;
+    let (delivery, rest) = delivery_at(version, problem, next, &pickup, rest)?;
+    Ok((Request::Pair(pickup, delivery), rest))
+}
+
+#[tactic(auto, unfolding(crate::specs::Reading::request_at))]
+fn request_at<'a>(
+    version: Version,
+    problem: &Problem,
+    next: u32,
+    bytes: &'a [u8],
+) -> Result<(Request, &'a [u8]), CodecFault>
+    ensures { Gives (λ x. (x.0, x.1.now)) result (request_at version next problem.now.requests bytes.now) }
+{
+    let (form, rest) = u8_at(bytes)?;
+    match form {
+        1 => single_at(version, problem, next, rest),
+        2 => pair_at(version, problem, next, rest),
+        _ => Err(CodecFault::BadField),
+    }
+}

@@ -1,0 +1,6 @@
+/// Which of the two forms of a store the bytes are of.
+#[derive(Clone, Copy, Debug, PartialEq, Eq)]
+pub(crate) enum Version {
+    One,
+    Two,
+}
