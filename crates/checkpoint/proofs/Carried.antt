@@ -10,15 +10,16 @@ use Rattle.checkpoint.specs.Headers.{header_bytes}
 use Rattle.checkpoint.specs.Stores.{IsValid, Counts, Stores, snapshot_in, record_sectors, begins_with}
 use Rattle.checkpoint.proofs.Runs.{same_run, same_records}
 
+-- even or odd
+pub parity : (n : ℕ) → (n % 2 ≡ 0) ⊎ (n % 2 ≡ 1)
+parity n = elim (n % 2) as (λ r. r < 2 → (r ≡ 0) ⊎ (r ≡ 1)) [ zero ↦ λ h. inl refl | suc r ↦ λ h. inr (omega arith) ] (omega arith)
+
 -- a half ends where the layout ends, or before
 pub half_inside : (layout : Layout) (sequence : ℕ) → half_at layout sequence + layout.half ≤ sectors_in layout
 half_inside layout sequence = ⊎_elim
     (λ (even : sequence % 2 ≡ 0). rw even (omega arith))
     (λ (odd : sequence % 2 ≡ 1). rw odd (omega arith))
     (parity sequence)
-  where
-    parity : (n : ℕ) → (n % 2 ≡ 0) ⊎ (n % 2 ≡ 1)
-    parity n = elim (n % 2) as (λ r. r < 2 → (r ≡ 0) ⊎ (r ≡ 1)) [ zero ↦ λ h. inl refl | suc r ↦ λ h. inr (omega arith) ] (omega arith)
 
 module _ (layout : Layout) (a b : List ℕ) (size : length b ≡ length a) where
   -- a valid header stays where its sector stays

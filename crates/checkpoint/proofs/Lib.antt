@@ -1,4 +1,5 @@
 mod PutCalls
+mod SnapshotCalls
 mod Runs
 mod Carried
 mod HeaderBytes
