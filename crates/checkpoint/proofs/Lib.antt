@@ -5,3 +5,6 @@ mod Carried
 mod HeaderBytes
 mod Advanced
 mod Added
+mod Cleared
+mod Commits
+mod Extends

@@ -2,5 +2,6 @@
 pub mod Layouts
 pub mod Headers
 pub mod Stores
+pub mod Moments
 -- of private functions alone
 pub mod Puts

@@ -1,11 +1,11 @@
 -- What an image stores, as bytes: a sequence, a snapshot, and records.
-use Rattle.std.specs.Prelude.{◌≡◌, ℕ, zero, suc, ◌+◌, ◌*◌, ◌%◌, ◌^◌, ◌<◌, ◌≤◌, List, [], ◌∷◌, length, take, drop}
+use Rattle.std.specs.Prelude.{◌≡◌, ◌⊎◌, ℕ, zero, suc, ◌+◌, ◌*◌, ◌%◌, ◌^◌, ◌<◌, ◌≤◌, List, [], ◌∷◌, length, take, drop}
 use Rattle.byteorder.specs.Endian.{big_number}
 use Rattle.sector_disk.specs.Image.{sector}
 use Rattle.checkpoint.specs.declared.layouts.Layout.{Layout}
 use Rattle.checkpoint.specs.declared.headers.Header.{Header}
 use Rattle.checkpoint.specs.Layouts.{sectors_in, half_at}
-use Rattle.checkpoint.specs.Headers.{header_bytes}
+use Rattle.checkpoint.specs.Headers.{header_bytes, HasOtherVersion}
 
 -- This header is valid: it stands in the sector of its sequence, and the image has room for the whole layout.
 pub record IsValid (layout : Layout) (image : List ℕ) (header : Header) : Type 0 where
@@ -20,6 +20,16 @@ pub record IsValid (layout : Layout) (image : List ℕ) (header : Header) : Type
 pub record Counts (layout : Layout) (image : List ℕ) (header : Header) : Type 0 where
   pub valid : IsValid layout image header
   pub greatest : (other : Header) → IsValid layout image other → other.sequence ≤ header.sequence
+
+-- A header sector has the magic and another version, on a device with the sectors of the smallest store of any version.
+pub record IsOfOtherVersion (layout : Layout) (image : List ℕ) : Type 0 where
+  pub room : 512 * 802 ≤ length image
+  pub other : HasOtherVersion layout.version (sector 0 image) ⊎ HasOtherVersion layout.version (sector 1 image)
+
+-- no header is valid, and none is of another version
+pub record IsUnformatted (layout : Layout) (image : List ℕ) : Type 0 where
+  pub none : (header : Header) → ¬ IsValid layout image header
+  pub no_other : ¬ IsOfOtherVersion layout image
 
 -- so many bytes of the half of a sequence
 abbrev pub snapshot_in : Layout → List ℕ → ℕ → ℕ → List ℕ
