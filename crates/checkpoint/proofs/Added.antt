@@ -38,22 +38,23 @@ module _ (layout : Layout) (image : List ℕ) (sequence : ℕ) (state : List ℕ
 
   marks : (i : ℕ) → i < suc (length journal) → begins_with (sector (2 + i) with_record) ≡ sequence
   marks i below = ⊎_elim
-    (λ (old : i < length journal). ap begins_with (outside (2 + i) (inl (omega (arith, old)))) ∙ stored.marked i old)
-    (λ (from : length journal ≤ i). let at : i ≡ length journal = omega (arith, below, from) in
+      (λ (old : i < length journal). ap begins_with (outside (2 + i) (inl (omega (arith, old)))) ∙ stored.marked i old)
+      (λ (from : length journal ≤ i). let at : i ≡ length journal = omega (arith, below, from) in
       ap (λ (k : ℕ). begins_with (sector (2 + k) with_record)) at ∙ ap begins_with here ∙ mark)
-    (cases_lt i (length journal))
+      (cases_lt i (length journal))
 
   pub added : Stores layout with_record sequence state (journal ++ bytes ∷ [])
   added = record {
     header = record {
       valid = same_valid layout image with_record size (record { sequence = sequence; length = length state }) (outside (sequence % 2) (inl (omega arith))) stored.header.valid;
-      greatest = λ other valid. stored.header.greatest other (same_valid layout with_record image back other (sym (outside (other.sequence % 2) (inl (omega arith)))) valid) };
+      greatest = λ other valid. stored.header.greatest other (same_valid layout with_record image back other (sym (outside (other.sequence % 2) (inl (omega arith)))) valid);
+    };
     snapshot = same_run (half_at layout sequence) layout.half (length state) image with_record (omega (arith, half_inside layout sequence, stored.header.valid.room)) size
-      (λ j within. outside (half_at layout sequence + j) (inr (omega (arith, free)))) stored.header.valid.fits ∙ stored.snapshot;
+        (λ j within. outside (half_at layout sequence + j) (inr (omega (arith, free)))) stored.header.valid.fits ∙ stored.snapshot;
     count = omega (arith, more, free);
     records = ap (λ (n : ℕ). record_sectors 0 n with_record) more ∙ record_sectors-more 0 (length journal) with_record
-      ∙ ap (λ (l : List (List ℕ)). l ++ sector (2 + (0 + length journal)) with_record ∷ []) (same_records 0 (length journal) image with_record (λ j from to. outside (2 + j) (inl (omega (arith, to)))) ∙ stored.records)
-      ∙ ap (λ (s : List ℕ). journal ++ s ∷ []) (ap (λ (k : ℕ). sector (2 + k) with_record) (omega arith) ∙ here);
+        ∙ ap (λ (l : List (List ℕ)). l ++ sector (2 + (0 + length journal)) with_record ∷ []) (same_records 0 (length journal) image with_record (λ j from to. outside (2 + j) (inl (omega (arith, to)))) ∙ stored.records)
+        ∙ ap (λ (s : List ℕ). journal ++ s ∷ []) (ap (λ (k : ℕ). sector (2 + k) with_record) (omega arith) ∙ here);
     marked = λ i below. marks i (omega (arith, below, more));
     rest = λ i from to. subst (λ (s : List ℕ). begins_with s < sequence) (sym (outside (2 + i) (inr (omega (arith, from, more))))) (stored.rest i (omega (arith, from, more)) to);
   }

@@ -21,9 +21,9 @@ pub stored_below : (layout : Layout) (image : List ℕ) (sequence : ℕ) (state 
 stored_below layout image sequence state journal stored = record {
   headers = stored.header.greatest;
   records = λ i below. ⊎_elim
-    (λ (within : i < length journal). omega (arith, stored.marked i within))
-    (λ (after : length journal ≤ i). omega (arith, stored.rest i after below))
-    (cases_lt i (length journal));
+      (λ (within : i < length journal). omega (arith, stored.marked i within))
+      (λ (after : length journal ≤ i). omega (arith, stored.rest i after below))
+      (cases_lt i (length journal));
 }
 
 module _ (layout : Layout) (sequence : ℕ) (image state : List ℕ) (room : 512 * sectors_in layout ≤ length image) where
@@ -44,24 +44,25 @@ module _ (layout : Layout) (sequence : ℕ) (image state : List ℕ) (room : 512
 
   greatest : sequence + 1 ≤ 2 ^ 60 → Below layout sequence image → (other : Header) → IsValid layout with_header other → other.sequence ≤ sequence + 1
   greatest last below other valid = ⊎_elim
-    (λ (run : (j : ℕ) × (other.sequence % 2 ≡ (sequence + 1) % 2 + j) × (j < 1)).
+      (λ (run : (j : ℕ) × (other.sequence % 2 ≡ (sequence + 1) % 2 + j) × (j < 1)).
       let at : other.sequence % 2 ≡ (sequence + 1) % 2 = omega (arith, run.1, run.2) in
       let same = sym valid.bytes ∙ ap (λ (i : ℕ). sector i with_header) at ∙ here in
       let is = same_sequence layout.version other (record { sequence = sequence + 1; length = length state }) (omega (arith, valid.last)) (omega (arith, last)) same in
       omega (arith, is))
-    (λ (kept : sector (other.sequence % 2) with_header ≡ sector (other.sequence % 2) image).
+      (λ (kept : sector (other.sequence % 2) with_header ≡ sector (other.sequence % 2) image).
       let before : IsValid layout image other = record { room = room; bytes = sym kept ∙ valid.bytes; first = valid.first; last = valid.last; some = valid.some; fits = valid.fits } in
       omega (arith, below.headers other before))
-    (sector-written_cases ((sequence + 1) % 2) 1 (header_bytes layout.version (record { sequence = sequence + 1; length = length state })) image refl (omega (arith, room)) (other.sequence % 2))
+      (sector-written_cases ((sequence + 1) % 2) 1 (header_bytes layout.version (record { sequence = sequence + 1; length = length state })) image refl (omega (arith, room)) (other.sequence % 2))
 
   pub advanced : sequence + 1 ≤ 2 ^ 60 → Below layout sequence image → 1 ≤ length state → length state ≤ 512 * layout.half → snapshot_in layout image (sequence + 1) (length state) ≡ state
       → Stores layout with_header (sequence + 1) state []
   advanced last below some fits snapshot = record {
     header = record {
       valid = record { room = omega (arith, room, size); bytes = here; first = omega arith; last = last; some = some; fits = fits };
-      greatest = greatest last below };
+      greatest = greatest last below;
+    };
     snapshot = same_run (half_at layout (sequence + 1)) layout.half (length state) image with_header (omega (arith, half_inside layout (sequence + 1), room)) size
-      (λ j within. outside (half_at layout (sequence + 1) + j) (omega arith)) fits ∙ snapshot;
+        (λ j within. outside (half_at layout (sequence + 1) + j) (omega arith)) fits ∙ snapshot;
     count = omega arith;
     records = refl;
     marked = λ i none. absurd (omega (arith, none));

@@ -32,7 +32,8 @@ module _ (layout : Layout) (a b : List ℕ) (size : length b ≡ length a) where
     carried state journal stored = record {
       header = record {
         valid = same_valid (record { sequence = sequence; length = length state }) (same (sequence % 2) (omega arith)) stored.header.valid;
-        greatest = λ other valid. stored.header.greatest other (back other valid) };
+        greatest = λ other valid. stored.header.greatest other (back other valid);
+      };
       snapshot = same_run (half_at layout sequence) layout.half (length state) a b (omega (arith, half_inside layout sequence, stored.header.valid.room)) size half stored.header.valid.fits ∙ stored.snapshot;
       count = stored.count;
       records = same_records 0 (length journal) a b (λ j from to. same (2 + j) (omega (arith, stored.count))) ∙ stored.records;

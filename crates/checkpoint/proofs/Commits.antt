@@ -32,15 +32,15 @@ module _ (header : Header) (bytes : List ℕ) (sequence : ℕ) (next : header.se
   apart : (j : ℕ) → j < 4096 → (half_at version_2 sequence + j < half_of header) ⊎ (half_of header + length bytes / 512 ≤ half_at version_2 sequence + j)
   apart j within = ⊎_elim
       (λ (even : sequence % 2 ≡ 0).
-        let odd : header.sequence % 2 ≡ 1 = omega (arith, next, even) in
-        let here : half_at version_2 sequence ≡ 258 + 4096 * 0 = ap (λ (r : ℕ). 258 + 4096 * r) even in
-        let there : half_of header ≡ 258 + 4096 * 1 = ap (λ (r : ℕ). 258 + 4096 * r) odd in
-        inl (omega (arith, here, there, within)))
+      let odd : header.sequence % 2 ≡ 1 = omega (arith, next, even) in
+      let here : half_at version_2 sequence ≡ 258 + 4096 * 0 = ap (λ (r : ℕ). 258 + 4096 * r) even in
+      let there : half_of header ≡ 258 + 4096 * 1 = ap (λ (r : ℕ). 258 + 4096 * r) odd in
+      inl (omega (arith, here, there, within)))
       (λ (odd : sequence % 2 ≡ 1).
-        let even : header.sequence % 2 ≡ 0 = omega (arith, next, odd) in
-        let here : half_at version_2 sequence ≡ 258 + 4096 * 1 = ap (λ (r : ℕ). 258 + 4096 * r) odd in
-        let there : half_of header ≡ 258 + 4096 * 0 = ap (λ (r : ℕ). 258 + 4096 * r) even in
-        inr (omega (arith, here, there, few)))
+      let even : header.sequence % 2 ≡ 0 = omega (arith, next, odd) in
+      let here : half_at version_2 sequence ≡ 258 + 4096 * 1 = ap (λ (r : ℕ). 258 + 4096 * r) odd in
+      let there : half_of header ≡ 258 + 4096 * 0 = ap (λ (r : ℕ). 258 + 4096 * r) even in
+      inr (omega (arith, here, there, few)))
       (parity sequence)
 
   low : (i : ℕ) → i < 258 → i < half_of header
@@ -78,10 +78,10 @@ module _ (header : Header) (bytes : List ℕ) (sequence : ℕ) (next : header.se
       let state = take header.length bytes in
       let counted : length state ≡ header.length = simp length-take (omega arith) in
       let read : take (length state) (drop (512 * half_of header) (with_snapshot header bytes before)) ≡ state = ap (λ (n : ℕ). take n (drop (512 * half_of header) (with_snapshot header bytes before))) counted
-        ∙ read_written (half_of header) header.length bytes before (omega (arith, inside before room, sectors)) long in
+      ∙ read_written (half_of header) header.length bytes before (omega (arith, inside before room, sectors)) long in
       let kept = subst (λ (q : ℕ). snapshot_in version_2 (with_snapshot header bytes before) q (length state) ≡ state) next read in
       let new = advanced version_2 sequence (with_snapshot header bytes before) state (omega (arith, room, mix.size)) (omega (arith, last, next)) (below_stays before room below)
-        (omega (arith, counted, some)) (omega (arith, counted, long, fits)) kept in
+      (omega (arith, counted, some)) (omega (arith, counted, long, fits)) kept in
       subst (λ (l : ℕ). Stores version_2 (written (header.sequence % 2) (header_bytes 2 (record { sequence = header.sequence; length = l })) (with_snapshot header bytes before)) header.sequence state []) counted
       (subst (λ (q : ℕ). Stores version_2 (written (q % 2) (header_bytes 2 (record { sequence = q; length = length state })) (with_snapshot header bytes before)) q state []) (sym next) new)
 
@@ -97,9 +97,9 @@ module _ (header : Header) (bytes : List ℕ) (sequence : ℕ) (next : header.se
       from = put.from;
       to = put.to;
       early = λ before. ⊎_elim
-        (λ old. reached old.1)
-        (λ new. absurd (omega (arith, before, new.0)))
-        put.stage;
+          (λ old. reached old.1)
+          (λ new. absurd (omega (arith, before, new.0)))
+          put.stage;
       either = ⊎_elim (λ old. inl (reached old.1)) (λ new. inr (is_now new.1)) put.stage;
       done = λ end. is_now (put.done end);
     }

@@ -8,3 +8,4 @@ mod Added
 mod Cleared
 mod Commits
 mod Extends
+mod NewStore

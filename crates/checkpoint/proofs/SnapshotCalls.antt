@@ -47,13 +47,14 @@ module _ (header : Header) (bytes : List ℕ) (possible : List ℕ → Type 0) (
     old : (m : ℕ) (image : List ℕ) → IsInPut (header.sequence % 2) head mid mid_seen mid_calls m image → image ≡ written half bytes seen → IsInSnapshot header bytes possible seen calls m image
     old m image put is = ⊎_elim
         (λ (open_ : m < calls + 4).
-          let mix : Mixes seen (written half bytes seen) (written half bytes seen) = record { size = long; each = λ i. inr refl } in
-          let reached : Reached half bytes possible (written half bytes seen) = (seen, here, mix) in
-          record {
-            from = omega (arith, put.from, two);
-            to = omega (arith, put.to, two);
-            stage = inl (omega arith, subst (λ (i : List ℕ). Reached (half_of header) bytes possible i) (sym is) (subst (λ (h : ℕ). Reached h bytes possible (written half bytes seen)) half_is reached));
-            done = λ all. absurd (omega (arith, all)) })
+        let mix : Mixes seen (written half bytes seen) (written half bytes seen) = record { size = long; each = λ i. inr refl } in
+        let reached : Reached half bytes possible (written half bytes seen) = (seen, here, mix) in
+        record {
+          from = omega (arith, put.from, two);
+          to = omega (arith, put.to, two);
+          stage = inl (omega arith, subst (λ (i : List ℕ). Reached (half_of header) bytes possible i) (sym is) (subst (λ (h : ℕ). Reached h bytes possible (written half bytes seen)) half_is reached));
+          done = λ all. absurd (omega (arith, all));
+        })
         (λ (end : calls + 4 ≤ m). new m image put (put.done (omega (arith, end, put.to, two)) ∙ ap (λ (i : List ℕ). written (header.sequence % 2) head i) mid_is ∙ sym both))
         (cases_lt m (calls + 4))
 
@@ -61,7 +62,7 @@ module _ (header : Header) (bytes : List ℕ) (possible : List ℕ → Type 0) (
     in_second m image put =
         let before = put.reached in
         let mix : Mixes (written half bytes seen) (written (header.sequence % 2) head (written half bytes seen)) image =
-          subst (λ (b : List ℕ). Mixes b (written (header.sequence % 2) head b) image) (only before.0 before.1) before.2 in
+        subst (λ (b : List ℕ). Mixes b (written (header.sequence % 2) head b) image) (only before.0 before.1) before.2 in
         let one : length head ≡ 512 = ap length head_is in
         ⊎_elim
         (λ is. old m image put is)

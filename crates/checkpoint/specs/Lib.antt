@@ -3,5 +3,7 @@ pub mod Layouts
 pub mod Headers
 pub mod Stores
 pub mod Moments
+pub mod Refused
+pub mod Names
 -- of private functions alone
 pub mod Puts

@@ -1,5 +1,5 @@
 -- What a stop may leave while a store is written, in bytes.
-use Rattle.std.specs.Prelude.{◌≡◌, ◌⊎◌, ℕ, ◌+◌, ◌%◌, ◌≤◌, List}
+use Rattle.std.specs.Prelude.{◌≡◌, ◌⊎◌, ℕ, ◌+◌, ◌%◌, ◌≤◌, List, length, replicate}
 use Rattle.sector_disk.specs.Image.{written}
 use Rattle.sector_disk.specs.Sectors.{Reached}
 use Rattle.checkpoint.specs.declared.headers.Header.{Header}
@@ -34,3 +34,8 @@ pub record IsInSnapshot (header : Header) (bytes : List ℕ) (possible : List �
   pub to : m ≤ calls + 4
   pub stage : ((m ≤ calls + 3) × Reached (half_of header) bytes possible image) ⊎ ((calls + 2 ≤ m) × (image ≡ with_both header bytes seen))
   pub done : m ≡ calls + 4 → image ≡ with_both header bytes seen
+
+-- n zeros
+pub record IsZeros (n : ℕ) (bytes : List ℕ) : Type 0 where
+  pub are : bytes ≡ replicate n 0
+  pub long : length bytes ≡ n

@@ -2,6 +2,12 @@
 //! calls that change it.
 #![tactic(auto)]
 
+mod faults;
 mod headers;
 mod layouts;
+mod making;
+mod places;
 mod puts;
+
+pub use faults::FormatFault;
+pub use places::Place;

@@ -82,7 +82,7 @@ pub fn advance<D: Sectors>(device: &mut D, header: Header, bytes: &[u8]) -> Resu
     ensures moments { D.honest device.new → (sequence : ℕ) (state : List ℕ) (journal : List (List ℕ)) → header.sequence ≡ sequence + 1
         → ((image : List ℕ) → D.possible device.old image → Stores version_2 image sequence state journal)
         → Throughout D.clock D.possible_since device.old device.new (IsInCommit (λ image. Stores version_2 image sequence state journal)
-            (λ image. Stores version_2 image header.sequence (take header.length bytes.now) []) (D.calls device.old)) }
+        (λ image. Stores version_2 image header.sequence (take header.length bytes.now) []) (D.calls device.old)) }
 {
     put_snapshot(device, header, bytes)
 }
@@ -100,7 +100,7 @@ pub fn extend<D: Sectors>(device: &mut D, used: u32, bytes: &[u8]) -> Result<(),
     ensures moments { D.honest device.new → (sequence : ℕ) (state : List ℕ) (journal : List (List ℕ)) → begins_with bytes.now ≡ sequence → used ≡ length journal
         → ((image : List ℕ) → D.possible device.old image → Stores version_2 image sequence state journal)
         → Throughout D.clock D.possible_since device.old device.new (IsInRecord (λ image. Stores version_2 image sequence state journal)
-            (λ image. Stores version_2 image sequence state (journal ++ bytes.now ∷ [])) (D.calls device.old)) }
+        (λ image. Stores version_2 image sequence state (journal ++ bytes.now ∷ [])) (D.calls device.old)) }
 {
     put(device, 2 + u64::from(used), bytes)
 }

@@ -12,5 +12,5 @@ returns-clause-moments g c honest sequence state journal mark used stored =
     let here = g.met.D.Sectors.reads_possible start from in
     weakened d.clock d.possible_since start c.put.new.device (IsInPut (2 + c.from.result) c.args.bytes.now (d.possible start) (d.seen start) (d.calls start)) _
     (in_record c.args.bytes.now sequence state journal c.from.result (d.possible start) (d.seen start) here stored c.requires.one mark (c.from.ensures ∙ used) (omega (arith, c.requires.free, c.from.ensures)) (d.calls start)
-      (d.len start) (λ image left. g.met.D.Sectors.image_size start image from left))
+    (d.len start) (λ image left. g.met.D.Sectors.image_size start image from left))
     (c.put.ensures.moments honest)

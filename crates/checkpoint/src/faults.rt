@@ -1,0 +1,65 @@
+// Why a store can't be made.
+ghost use Rattle.std.specs.Prelude.{◌≡◌};
+
+use sector_disk::DeviceFault;
+use std::alloc::{AllocError, AllocFailed};
+use thiserror::Error;
+
+/// Why a device was not formatted.
+#[derive(Clone, Copy, Debug, PartialEq, Eq, Error)]
+pub enum FormatFault {
+    #[error("the device is too small")]
+    TooSmall,
+    #[error("the device failed")]
+    DeviceFault,
+    #[error("out of memory")]
+    OutOfMemory,
+}
+
+impl FormatFault {
+    ghost use Rattle.checkpoint.specs.Names.{format_fault_name};
+
+    /// Its name, as answers print it.
+    pub fn name(&self) -> &'static str
+        ensures { result.now ≡ format_fault_name self.now }
+    {
+        match self {
+            FormatFault::TooSmall => "TooSmall",
+            FormatFault::DeviceFault => "DeviceFault",
+            FormatFault::OutOfMemory => "OutOfMemory",
+        }
+    }
+}
+
+impl From<AllocError> for FormatFault {
+    ghost use Rattle.std.specs.Prelude.{◌≡◌};
+    ghost use Rattle.checkpoint.specs.declared.faults.FormatFault.TheVariants.{OutOfMemory};
+
+    ghost from_gives = { λ _ fault. fault ≡ OutOfMemory };
+
+    fn from(_: AllocError) -> FormatFault {
+        FormatFault::OutOfMemory
+    }
+}
+
+impl<T: Drop> From<AllocFailed<T>> for FormatFault {
+    ghost use Rattle.std.specs.Prelude.{◌≡◌};
+    ghost use Rattle.checkpoint.specs.declared.faults.FormatFault.TheVariants.{OutOfMemory};
+
+    ghost from_gives = { λ _ fault. fault ≡ OutOfMemory };
+
+    fn from(_: AllocFailed<T>) -> FormatFault {
+        FormatFault::OutOfMemory
+    }
+}
+
+impl From<DeviceFault> for FormatFault {
+    ghost use Rattle.std.specs.Prelude.{◌≡◌};
+    ghost use Rattle.checkpoint.specs.declared.faults.FormatFault.TheVariants.{DeviceFault};
+
+    ghost from_gives = { λ _ fault. fault ≡ DeviceFault };
+
+    fn from(_: DeviceFault) -> FormatFault {
+        FormatFault::DeviceFault
+    }
+}

@@ -1,0 +1,92 @@
+// A new store.
+ghost use Rattle.std.specs.Prelude.{◌≡◌, ◌↔◌, ◌+◌, ◌*◌, ◌%◌, ◌<◌, ◌≤◌, ℕ, List, [], length, take, OnOk, IfOk, IfErr, IsErrOf};
+ghost use Rattle.sector_disk.specs.Sectors.{Throughout, faults_after};
+ghost use Rattle.checkpoint.specs.Layouts.{version_2};
+ghost use Rattle.checkpoint.specs.Stores.{Stores, IsUnformatted};
+ghost use Rattle.checkpoint.specs.Moments.{IsInFormat};
+ghost use Rattle.checkpoint.specs.Puts.{IsZeros};
+ghost use Rattle.checkpoint.specs.Refused.{faults_after_format, IsKeptByFormat, OnCalls};
+
+use crate::faults::FormatFault;
+use crate::headers::Header;
+use crate::places::Place;
+use crate::puts::{SECTORS, put, put_snapshot};
+use sector_disk::{DeviceFault, Sectors};
+use std::alloc::{AllocError, Global};
+
+/// The bytes of the headers and of the records.
+pub const FRONT: usize = 258 * 512;
+
+/// So many zeros.
+fn zeros(alloc: Global, n: usize) -> Result<Vec<u8>, AllocError>
+    ensures { IfOk result (λ zeros. IsZeros n zeros.items) }
+{
+    vec![in alloc; 0; n]
+}
+
+/// Writes zeros over the headers and the records, and then the first snapshot with its header. Its bytes are the first of `bytes`. Six calls.
+fn put_all<D: Sectors>(
+    device: &mut D,
+    zeros: &[u8],
+    size: u64,
+    bytes: &[u8],
+) -> Result<(), DeviceFault>
+    requires zeros { IsZeros FRONT zeros.now }
+    requires some { 1 ≤ size }
+    requires length { size ≤ length bytes.now }
+    requires whole { length bytes.now % 512 ≡ 0 }
+    requires fits { length bytes.now ≤ 512 * 4096 }
+    requires room { 8450 ≤ D.len device.old }
+
+    ensures same_len { D.len device.new ≡ D.len device.old }
+    ensures finished { OnOk result (D.calls device.new ≡ D.calls device.old + 6) }
+    ensures fault { D.faults device.new ≡ faults_after result (D.faults device.old) }
+    ensures honest { D.honest device.new → D.honest device.old }
+    ensures moments { D.honest device.new → Throughout D.clock D.possible_since device.old device.new
+        (IsInFormat (IsUnformatted version_2) (λ image. Stores version_2 image 1 (take size bytes.now) []) (D.calls device.old)) }
+{
+    put(device, 0, zeros)?;
+    put_snapshot(
+        device,
+        Header {
+            sequence: 1,
+            length: size,
+        },
+        bytes,
+    )
+}
+
+/// Makes a store of the snapshot that the first `size` of these bytes are.
+pub fn make<D: Sectors>(
+    alloc: Global,
+    device: &mut D,
+    size: u64,
+    bytes: &[u8],
+) -> Result<Place, FormatFault>
+    requires some { 1 ≤ size }
+    requires length { size ≤ length bytes.now }
+    requires whole { length bytes.now % 512 ≡ 0 }
+    requires fits { length bytes.now ≤ 512 * 4096 }
+
+    ensures place { IfOk result (λ place. place ≡ record { sequence = 1; used = 0 }) }
+    ensures too_small { IsErrOf result FormatFault.TooSmall ↔ D.len device.old < 8450 }
+    ensures kept { IfErr result (λ fault. IsKeptByFormat fault device.old device.new) }
+    ensures same_len { D.len device.new ≡ D.len device.old }
+    ensures finished { OnOk result (D.calls device.new ≡ D.calls device.old + 6) }
+    ensures fault { D.faults device.new ≡ faults_after_format result (D.faults device.old) }
+    ensures honest { D.honest device.new → D.honest device.old }
+    ensures moments { D.honest device.new → OnCalls result (Throughout D.clock D.possible_since device.old device.new
+        (IsInFormat (IsUnformatted version_2) (λ image. Stores version_2 image 1 (take size bytes.now) []) (D.calls device.old))) }
+{
+    if device.len() < SECTORS {
+        return Err(FormatFault::TooSmall);
+    }
+    let zeros = zeros(alloc, FRONT)?;
+    match put_all(device, &zeros, size, bytes) {
+        Ok(()) => Ok(Place {
+            sequence: 1,
+            used: 0,
+        }),
+        Err(DeviceFault) => Err(FormatFault::DeviceFault),
+    }
+}
