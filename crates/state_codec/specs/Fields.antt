@@ -48,7 +48,12 @@ is_time t = nat_le t 100000000
 abbrev pub is_service : ℕ → Bool
 is_service t = nat_le t 1000000
 
--- What a function of the code returned, seen by `view`, is what reading gives, unless memory ran out.
+-- What a function of the code returned, seen by `view`, is what reading gives.
+abbrev pub Reads : {X Y : Type 0} → (X → Y) → Result X CodecFault → Result Y CodecFault → Type 0
+Reads view (Ok x) read = read ≡ Ok (view x)
+Reads view (Err e) read = read ≡ Err e
+
+-- The same, unless memory ran out.
 abbrev pub Fails : {Y : Type 0} → CodecFault → Result Y CodecFault → Type 0
 Fails OutOfMemory read = Unit {0}
 Fails Truncated read = read ≡ Err Truncated

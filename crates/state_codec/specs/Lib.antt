@@ -1,5 +1,8 @@
 -- what public contracts reach
-pub mod Versions
 pub mod Bytes
 pub mod Fields
+pub mod Limits
 pub mod Reading
+-- of private functions alone
+pub mod Records
+pub mod Sector

@@ -8,7 +8,7 @@ use Rattle.plan_types.specs.declared.requests.Request.{Request}
 use Rattle.plan_types.specs.declared.requests.Request.TheVariants.{Single, Pair}
 use Rattle.state_codec.specs.declared.version.Version.{Version}
 use Rattle.state_codec.specs.declared.fault.CodecFault.TheVariants.{BadField}
-use Rattle.state_codec.specs.Versions.{width}
+use Rattle.state_codec.specs.Bytes.{width}
 use Rattle.state_codec.specs.Fields.{◌>>=◌, Field, only, byte_at, number_at, signed_at, is_coordinate, is_demand, is_time, is_service, int_eq}
 
 -- no request so far has a stop with this number

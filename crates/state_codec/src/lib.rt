@@ -3,7 +3,10 @@
 
 mod fault;
 mod fields;
+mod records;
 mod requests;
+mod sector;
 mod version;
 
 pub use fault::CodecFault;
+pub use records::{decode_record, decode_record_v1, encode_record};

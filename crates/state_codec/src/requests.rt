@@ -2,8 +2,8 @@
 ghost use Rattle.std.specs.Prelude.{◌≡◌, ◌&&◌, nat_le, nat_lt};
 ghost use Rattle.plan_types.specs.Limits.{IsDemand};
 ghost use Rattle.std.specs.List.{list_all};
-ghost use Rattle.state_codec.specs.Versions.{width};
-ghost use Rattle.state_codec.specs.Fields.{Gives, only, number_at, signed_at, is_coordinate, is_service, is_time};
+ghost use Rattle.state_codec.specs.Bytes.{width};
+ghost use Rattle.state_codec.specs.Fields.{Reads, only, number_at, signed_at, is_coordinate, is_service, is_time};
 ghost use Rattle.state_codec.specs.Reading.{is_free, is_name, is_delivery, is_wanted, visit_at, first_at, delivery_at, single_at, pair_at, request_at, requests_at};
 
 use crate::fault::CodecFault;
@@ -51,7 +51,7 @@ fn is_wanted(wanted: Option<i32>, demand: i32) -> bool
 }
 
 fn demand_at(wanted: Option<i32>, bytes: &[u8]) -> Result<(i32, &[u8]), CodecFault>
-    ensures { Gives (λ x. (x.0, x.1.now)) result (only (is_wanted wanted) (signed_at bytes.now)) }
+    ensures { Reads (λ x. (x.0, x.1.now)) result (only (is_wanted wanted) (signed_at bytes.now)) }
 {
     let (demand, rest) = i32_at(bytes)?;
     if !is_wanted(wanted, demand) {
@@ -62,7 +62,7 @@ fn demand_at(wanted: Option<i32>, bytes: &[u8]) -> Result<(i32, &[u8]), CodecFau
 
 /// When a window that began then ends.
 pub(crate) fn end_at(earliest: u32, bytes: &[u8]) -> Result<(u32, &[u8]), CodecFault>
-    ensures { Gives (λ x. (x.0, x.1.now)) result (only (λ t. nat_le earliest t && is_time t) (number_at 4 bytes.now)) }
+    ensures { Reads (λ x. (x.0, x.1.now)) result (only (λ t. nat_le earliest t && is_time t) (number_at 4 bytes.now)) }
 {
     let (latest, rest) = u32_at(bytes)?;
     if latest < earliest || MAX_TIME < latest {
@@ -72,7 +72,7 @@ pub(crate) fn end_at(earliest: u32, bytes: &[u8]) -> Result<(u32, &[u8]), CodecF
 }
 
 fn service_at(bytes: &[u8]) -> Result<(u32, &[u8]), CodecFault>
-    ensures { Gives (λ x. (x.0, x.1.now)) result (only is_service (number_at 4 bytes.now)) }
+    ensures { Reads (λ x. (x.0, x.1.now)) result (only is_service (number_at 4 bytes.now)) }
 {
     let (service, rest) = u32_at(bytes)?;
     if MAX_SERVICE < service {
@@ -83,7 +83,7 @@ fn service_at(bytes: &[u8]) -> Result<(u32, &[u8]), CodecFault>
 
 #[tactic(auto, unfolding(crate::specs::Reading::visit_at))]
 fn visit_at(number: u32, wanted: Option<i32>, bytes: &[u8]) -> Result<(Stop, &[u8]), CodecFault>
-    ensures { Gives (λ x. (x.0, x.1.now)) result (visit_at number wanted bytes.now) }
+    ensures { Reads (λ x. (x.0, x.1.now)) result (visit_at number wanted bytes.now) }
 {
     let (x, rest) = coordinate_at(bytes)?;
     let (y, rest) = coordinate_at(rest)?;
@@ -109,7 +109,7 @@ fn name_at<'a>(
     next: u32,
     bytes: &'a [u8],
 ) -> Result<(u32, &'a [u8]), CodecFault>
-    ensures { Gives (λ x. (x.0, x.1.now)) result (only (is_name next problem.now.requests) (number_at (width version) bytes.now)) }
+    ensures { Reads (λ x. (x.0, x.1.now)) result (only (is_name next problem.now.requests) (number_at (width version) bytes.now)) }
 {
     let (number, rest) = number_at(version, bytes)?;
     if !is_name(problem, next, number) {
@@ -125,7 +125,7 @@ fn first_at<'a>(
     next: u32,
     bytes: &'a [u8],
 ) -> Result<(Stop, &'a [u8]), CodecFault>
-    ensures { Gives (λ x. (x.0, x.1.now)) result (first_at version next problem.now.requests bytes.now) }
+    ensures { Reads (λ x. (x.0, x.1.now)) result (first_at version next problem.now.requests bytes.now) }
 {
     let (number, rest) = name_at(version, problem, next, bytes)?;
     visit_at(number, None, rest)
@@ -138,7 +138,7 @@ fn delivered_at<'a>(
     pickup: u32,
     bytes: &'a [u8],
 ) -> Result<(u32, &'a [u8]), CodecFault>
-    ensures { Gives (λ x. (x.0, x.1.now)) result (only (is_delivery next problem.now.requests pickup) (number_at (width version) bytes.now)) }
+    ensures { Reads (λ x. (x.0, x.1.now)) result (only (is_delivery next problem.now.requests pickup) (number_at (width version) bytes.now)) }
 {
     let (number, rest) = number_at(version, bytes)?;
     if !is_delivery(problem, next, pickup, number) {
@@ -156,7 +156,7 @@ fn delivery_at<'a>(
     bytes: &'a [u8],
 ) -> Result<(Stop, &'a [u8]), CodecFault>
     requires { IsDemand pickup.now.demand }
-    ensures { Gives (λ x. (x.0, x.1.now)) result (delivery_at version next problem.now.requests pickup.now bytes.now) }
+    ensures { Reads (λ x. (x.0, x.1.now)) result (delivery_at version next problem.now.requests pickup.now bytes.now) }
 {
     let (number, rest) = delivered_at(version, problem, next, pickup.number, bytes)?;
     visit_at(number, Some(-pickup.demand), rest)
@@ -169,7 +169,7 @@ fn single_at<'a>(
     next: u32,
     bytes: &'a [u8],
 ) -> Result<(Request, &'a [u8]), CodecFault>
-    ensures { Gives (λ x. (x.0, x.1.now)) result (single_at version next problem.now.requests bytes.now) }
+    ensures { Reads (λ x. (x.0, x.1.now)) result (single_at version next problem.now.requests bytes.now) }
 {
     let (stop, rest) = first_at(version, problem, next, bytes)?;
     Ok((Request::Single(stop), rest))
@@ -182,7 +182,7 @@ fn pair_at<'a>(
     next: u32,
     bytes: &'a [u8],
 ) -> Result<(Request, &'a [u8]), CodecFault>
-    ensures { Gives (λ x. (x.0, x.1.now)) result (pair_at version next problem.now.requests bytes.now) }
+    ensures { Reads (λ x. (x.0, x.1.now)) result (pair_at version next problem.now.requests bytes.now) }
 {
     let (pickup, rest) = first_at(version, problem, next, bytes)?;
     let (delivery, rest) = delivery_at(version, problem, next, &pickup, rest)?;
@@ -196,7 +196,7 @@ fn request_at<'a>(
     next: u32,
     bytes: &'a [u8],
 ) -> Result<(Request, &'a [u8]), CodecFault>
-    ensures { Gives (λ x. (x.0, x.1.now)) result (request_at version next problem.now.requests bytes.now) }
+    ensures { Reads (λ x. (x.0, x.1.now)) result (request_at version next problem.now.requests bytes.now) }
 {
     let (form, rest) = u8_at(bytes)?;
     match form {

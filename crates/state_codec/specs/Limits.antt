@@ -1,0 +1,63 @@
+-- What has bytes in each version.
+use Rattle.std.specs.Prelude.{◌≡◌, ℕ, ◌<◌, ◌≤◌, ◌^◌, ◌*◌, ◌+◌}
+use Rattle.plan_types.specs.Limits.{IsCoordinate}
+use Rattle.command_core.specs.Job.{JobValue}
+use Rattle.command_core.specs.declared.states.State.{State}
+use Rattle.command_core.specs.declared.states.State.TheVariants.{Empty, Loaded}
+use Rattle.command_core.specs.declared.commands.Spot.{Spot}
+use Rattle.command_core.specs.declared.commands.Command.{Command}
+use Rattle.command_core.specs.declared.commands.Command.TheVariants.{Load, Add, Add1, Withdraw, Pin, Unpin, Build, Search, Checkpoint, Deviation}
+use Rattle.state_codec.specs.declared.version.Version.{Version}
+use Rattle.state_codec.specs.declared.version.Version.TheVariants.{One, Two}
+use Rattle.state_codec.specs.Bytes.{width}
+
+-- the greatest stop number and the largest fleet
+abbrev pub most : Version → ℕ
+most One = 4000
+most Two = 40000
+
+-- The states that a version's bytes can tell. Version 1 has lower limits; its states have deviation 0, and the plan as working plan.
+pub record IsOfOne (j : JobValue) : Type 0 where
+  pub fleet : j.problem.fleet ≤ most One
+  pub next_number : j.problem.next_number ≤ most One + 1
+  pub deviation : j.deviation ≡ 0
+  pub work : j.work ≡ j.plan
+
+abbrev pub IsJobOf : Version → JobValue → Type 0
+IsJobOf One j = IsOfOne j
+IsJobOf Two j = Unit {0}
+
+abbrev pub IsStateOf : Version → State → Type 0
+IsStateOf v Empty = Unit {0}
+IsStateOf v (Loaded j) = IsJobOf v j
+
+-- a spot within the limits of a visit
+pub record IsSpot (s : Spot) : Type 0 where
+  pub x : IsCoordinate s.x
+  pub y : IsCoordinate s.y
+  pub window : s.earliest ≤ s.latest
+  pub latest : s.latest ≤ 100000000
+  pub service : s.service ≤ 1000000
+
+-- a number that a version has room for
+abbrev pub HasRoom : Version → ℕ → Type 0
+HasRoom v n = n < 256 ^ width v
+
+-- version 1 has no deviation
+abbrev pub IsDeviationOf : Version → ℕ → Type 0
+IsDeviationOf One d = ⊥
+IsDeviationOf Two d = d ≤ 1000000000
+
+-- The commands that have a record: all but Load and Checkpoint, with fields within their limits. Numbers of requests, vehicles and
+-- places may be any.
+abbrev pub IsRecorded : Version → Command → Type 0
+IsRecorded v (Load problem seed) = ⊥
+IsRecorded v (Add demand pickup delivery) = (demand ≤ 1000000) × IsSpot pickup × IsSpot delivery
+IsRecorded v (Add1 demand spot) = (demand ≤ 1000000) × IsSpot spot
+IsRecorded v (Withdraw name) = HasRoom v name
+IsRecorded v (Pin vehicle k) = HasRoom v vehicle × HasRoom v k
+IsRecorded v (Unpin vehicle) = HasRoom v vehicle
+IsRecorded v Build = Unit {0}
+IsRecorded v (Search count) = (1 ≤ count) × (count ≤ 256)
+IsRecorded v Checkpoint = ⊥
+IsRecorded v (Deviation deviation) = IsDeviationOf v deviation

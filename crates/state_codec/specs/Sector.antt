@@ -1,0 +1,11 @@
+-- What is written of a sector.
+use Rattle.std.specs.Prelude.{◌≡◌, ◌≤◌, ℕ, List, take, length}
+use Rattle.state_codec.specs.Bytes.{padded}
+use Rattle.state_codec.specs.declared.sector.Sector.TheInside.{Inside}
+
+abbrev pub written : Inside → List ℕ
+written s = take s.used s.bytes
+
+pub record IsPadded (s : Inside) : Type 0 where
+  pub used : s.used ≤ 512
+  pub zeros : s.bytes ≡ padded (written s)

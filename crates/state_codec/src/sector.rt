@@ -1,0 +1,120 @@
+//! A sector that is written from its front.
+ghost use Rattle.std.specs.Prelude.{◌≡◌, ◌≤◌, ◌+◌, [], ◌∷◌, ◌++◌, length};
+ghost use Rattle.state_codec.specs.Bytes.{number_bytes, signed_bytes, count_bytes, padded, width};
+ghost use Rattle.state_codec.specs.Limits.{HasRoom};
+
+use crate::version::Version;
+use byteorder::{BigEndian, ByteOrder};
+use std::marker::Model;
+
+/// Contracts see what is written so far. Zeros follow it.
+#[derive(Debug, Drop)]
+pub(crate) struct Sector {
+    bytes: [u8; 512],
+    used: usize,
+}
+
+impl Model for Sector {
+    ghost use Rattle.std.specs.Prelude.{List, ℕ};
+
+    ghost Value = { List ℕ };
+
+    ghost use Rattle.state_codec.specs.Sector.{written, IsPadded};
+
+    ghost view = { written };
+
+    ghost invariant = { IsPadded };
+}
+
+impl Sector {
+    pub(crate) fn new() -> Sector
+        ensures { result ≡ [] }
+    {
+        Sector {
+            bytes: [0; 512],
+            used: 0,
+        }
+    }
+
+    pub(crate) fn into_bytes(self) -> [u8; 512]
+        ensures { result ≡ padded self }
+    {
+        let Sector { bytes, used: _ } = self;
+        bytes
+    }
+
+    fn put(&mut self, text: &[u8])
+        requires { length self.old + length text.now ≤ 512 }
+        ensures text { self.new ≡ self.old ++ text.now }
+        ensures len { length self.new ≡ length self.old + length text.now }
+    {
+        let end = self.used + text.len();
+        self.bytes[self.used..end].copy_from_slice(text);
+        self.used = end;
+    }
+
+    pub(crate) fn put_u8(&mut self, n: u8)
+        requires { length self.old + 1 ≤ 512 }
+        ensures text { self.new ≡ self.old ++ n ∷ [] }
+        ensures len { length self.new ≡ length self.old + 1 }
+    {
+        self.put(&[n]);
+    }
+
+    #[tactic(auto, unfolding(crate::specs::Bytes::number_bytes))]
+    pub(crate) fn put_u16(&mut self, n: u16)
+        requires { length self.old + 2 ≤ 512 }
+        ensures text { self.new ≡ self.old ++ number_bytes 2 n }
+        ensures len { length self.new ≡ length self.old + 2 }
+    {
+        let mut text = [0; 2];
+        BigEndian::write_u16(&mut text, n);
+        self.put(&text);
+    }
+
+    #[tactic(auto, unfolding(crate::specs::Bytes::number_bytes))]
+    pub(crate) fn put_u32(&mut self, n: u32)
+        requires { length self.old + 4 ≤ 512 }
+        ensures text { self.new ≡ self.old ++ number_bytes 4 n }
+        ensures len { length self.new ≡ length self.old + 4 }
+    {
+        let mut text = [0; 4];
+        BigEndian::write_u32(&mut text, n);
+        self.put(&text);
+    }
+
+    #[tactic(auto, unfolding(crate::specs::Bytes::number_bytes))]
+    pub(crate) fn put_u64(&mut self, n: u64)
+        requires { length self.old + 8 ≤ 512 }
+        ensures text { self.new ≡ self.old ++ number_bytes 8 n }
+        ensures len { length self.new ≡ length self.old + 8 }
+    {
+        let mut text = [0; 8];
+        BigEndian::write_u64(&mut text, n);
+        self.put(&text);
+    }
+
+    #[tactic(auto, unfolding(crate::specs::Bytes::signed_bytes))]
+    pub(crate) fn put_i32(&mut self, n: i32)
+        requires { length self.old + 4 ≤ 512 }
+        ensures text { self.new ≡ self.old ++ signed_bytes n }
+        ensures len { length self.new ≡ length self.old + 4 }
+    {
+        let mut text = [0; 4];
+        BigEndian::write_i32(&mut text, n);
+        self.put(&text);
+    }
+
+    /// A number that the version has room for.
+    pub(crate) fn put_count(&mut self, version: Version, n: u32)
+        requires space { length self.old + width version ≤ 512 }
+        requires fits { HasRoom version n }
+        ensures text { self.new ≡ self.old ++ count_bytes version n }
+        ensures len { length self.new ≡ length self.old + width version }
+    {
+        match version {
+            Version::One => self.put_u16(n as u16),
+            Version::Two => self.put_u32(n),
+        }
+    }
+}
