@@ -9,3 +9,4 @@ mod Cleared
 mod Commits
 mod Extends
 mod NewStore
+mod Journals

@@ -2,6 +2,7 @@
 pub mod Layouts
 pub mod Headers
 pub mod Stores
+pub mod Holds
 pub mod Moments
 pub mod Refused
 pub mod Names

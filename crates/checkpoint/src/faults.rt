@@ -1,7 +1,8 @@
-// Why a store can't be made.
+// Why a store can't be made, read or changed.
 ghost use Rattle.std.specs.Prelude.{◌≡◌};
 
 use sector_disk::DeviceFault;
+use state_codec::CodecFault;
 use std::alloc::{AllocError, AllocFailed};
 use thiserror::Error;
 
@@ -61,5 +62,42 @@ impl From<DeviceFault> for FormatFault {
 
     fn from(_: DeviceFault) -> FormatFault {
         FormatFault::DeviceFault
+    }
+}
+
+/// Why a store was not read or not changed.
+#[derive(Clone, Copy, Debug, PartialEq, Eq, Error)]
+pub enum StoreFault {
+    #[error("the device holds no store")]
+    NotFormatted,
+    #[error("the store is of another version")]
+    BadVersion,
+    /// The snapshot's bytes are no state, or the journal has a record that does not belong to it. Want of memory is `OutOfMemory`.
+    #[error("the store is broken: {0}")]
+    Codec(CodecFault),
+    /// The sequence is 2^60. Nothing was written.
+    #[error("the sequences are spent")]
+    Spent,
+    #[error("out of memory")]
+    OutOfMemory,
+    #[error("the device failed")]
+    DeviceFault,
+}
+
+impl StoreFault {
+    ghost use Rattle.checkpoint.specs.Names.{store_fault_name};
+
+    /// Its name, as answers print it.
+    pub fn name(&self) -> &'static str
+        ensures { result.now ≡ store_fault_name self.now }
+    {
+        match self {
+            StoreFault::NotFormatted => "NotFormatted",
+            StoreFault::BadVersion => "BadVersion",
+            StoreFault::Codec(_) => "Codec",
+            StoreFault::Spent => "Spent",
+            StoreFault::OutOfMemory => "OutOfMemory",
+            StoreFault::DeviceFault => "DeviceFault",
+        }
     }
 }

@@ -2,6 +2,7 @@
 //! calls that change it.
 #![tactic(auto)]
 
+mod changes;
 mod faults;
 mod headers;
 mod layouts;
@@ -9,5 +10,6 @@ mod making;
 mod places;
 mod puts;
 
-pub use faults::FormatFault;
+pub use changes::commit_record;
+pub use faults::{FormatFault, StoreFault};
 pub use places::Place;

@@ -6,7 +6,7 @@ mod fields;
 mod records;
 mod requests;
 mod sector;
-mod version;
+pub mod version;
 
 pub use fault::CodecFault;
 pub use records::{decode_record, decode_record_v1, encode_record};

@@ -1,0 +1,54 @@
+// Commits of records and of snapshots.
+ghost use Rattle.std.specs.Prelude.{◌≡◌, ◌+◌, ◌<◌, ◌≤◌, ◌^◌, ℕ, List, [], ◌∷◌, ◌++◌, OnOk, IfOk, IfErr};
+ghost use Rattle.command_core.specs.declared.states.State.{State};
+ghost use Rattle.command_core.specs.declared.commands.Command.{Command};
+ghost use Rattle.sector_disk.specs.Sectors.{Throughout, faults_after};
+ghost use Rattle.state_codec.specs.declared.version.Version.TheVariants.{Two};
+ghost use Rattle.state_codec.specs.Limits.{IsRecorded};
+ghost use Rattle.checkpoint.specs.Holds.{Holds};
+ghost use Rattle.checkpoint.specs.Moments.{IsInRecord};
+
+use crate::faults::StoreFault;
+use crate::places::Place;
+use crate::puts::extend;
+use command_core::Command;
+use sector_disk::{DeviceFault, Sectors};
+use state_codec::encode_record;
+
+/// Commits a command as one more record. Asks for room in the journal and a command that has a record, on the device of a store that stands at this place.
+/// Two device calls, and no memory.
+///
+/// Where each image of the device held a state and commands at this place, each holds them at every moment of the call, with or without this command
+/// last; after `Ok` each holds them with it, at the place returned.
+pub fn commit_record<D: Sectors>(
+    device: &mut D,
+    place: Place,
+    command: &Command,
+) -> Result<Place, StoreFault>
+    requires free { place.used < 256 }
+    requires recorded { IsRecorded Two command.now }
+    requires room { 8450 ≤ D.len device.old }
+    requires first { 1 ≤ place.sequence }
+    requires last { place.sequence ≤ 2 ^ 60 }
+
+    ensures fails { IfErr result (λ fault. fault ≡ StoreFault.DeviceFault) }
+    ensures place { IfOk result (λ next. next ≡ record { sequence = place.sequence; used = place.used + 1 }) }
+    ensures same_len { D.len device.new ≡ D.len device.old }
+    ensures finished { OnOk result (D.calls device.new ≡ D.calls device.old + 2) }
+    ensures fault { D.faults device.new ≡ faults_after result (D.faults device.old) }
+    ensures honest { D.honest device.new → D.honest device.old }
+    ensures moments { D.honest device.new → (state : State) (commands : List Command) → ((image : List ℕ) → D.possible device.old image → Holds Two image state commands place)
+        → Throughout D.clock D.possible_since device.old device.new (IsInRecord (λ image. Holds Two image state commands place)
+            (λ image. Holds Two image state (commands ++ command.now ∷ []) (record { sequence = place.sequence; used = place.used + 1 })) (D.calls device.old)) }
+    ensures after { D.honest device.new → (state : State) (commands : List Command) → ((image : List ℕ) → D.possible device.old image → Holds Two image state commands place)
+        → OnOk result ((image : List ℕ) → D.possible device.new image → Holds Two image state (commands ++ command.now ∷ []) (record { sequence = place.sequence; used = place.used + 1 })) }
+{
+    let bytes = encode_record(place.sequence, place.used, command);
+    match extend(device, place.used, &bytes) {
+        Ok(()) => Ok(Place {
+            sequence: place.sequence,
+            used: place.used + 1,
+        }),
+        Err(DeviceFault) => Err(StoreFault::DeviceFault),
+    }
+}
