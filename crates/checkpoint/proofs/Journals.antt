@@ -42,7 +42,7 @@ holds_more image state commands command place known held recorded stored =
     let at : place.used ≡ 0 + length commands = omega (arith, held.used) in
     record {
       stored = subst (Stores (layout_of Two) image place.sequence (state_bytes Two state))
-        (ap (λ (i : ℕ). journal Two place.sequence 0 commands ++ record_bytes Two place.sequence i command ∷ []) at ∙ sym (journal-more Two place.sequence 0 commands command)) stored;
+          (ap (λ (i : ℕ). journal Two place.sequence 0 commands ++ record_bytes Two place.sequence i command ∷ []) at ∙ sym (journal-more Two place.sequence 0 commands command)) stored;
       used = omega (arith, held.used, length-append commands (command ∷ []));
       facts = held.facts;
       told = held.told;
@@ -52,3 +52,28 @@ holds_more image state commands command place known held recorded stored =
 pub holds_still : (image : List ℕ) (state : State) (commands : List Command) (place : Place) (known : List ℕ) → Holds Two known state commands place
     → Stores (layout_of Two) image place.sequence (state_bytes Two state) (journal Two place.sequence 0 commands) → Holds Two image state commands place
 holds_still image state commands place known held stored = record { stored = stored; used = held.used; facts = held.facts; told = held.told; recorded = held.recorded }
+
+-- From what each image stores at each moment to what it holds.
+module _ (place : Place) (command : Command) (bytes : List ℕ) (is : bytes ≡ record_bytes Two place.sequence place.used command) (recorded : IsRecorded Two command) (last : place.sequence ≤ 2 ^ 60)
+    (possible : List ℕ → Type 0) (seen : List ℕ) (here : possible seen) (state : State) (commands : List Command) (held : (image : List ℕ) → possible image → Holds Two image state commands place) where
+  pub mark : begins_with bytes ≡ place.sequence
+  mark = ap begins_with is ∙ record_begins Two place.sequence place.used command (omega (arith, last))
+
+  pub counted : place.used ≡ length (journal Two place.sequence 0 commands)
+  counted = (held seen here).used ∙ sym (length-journal Two place.sequence 0 commands)
+
+  pub in_held : (calls m : ℕ) (image : List ℕ)
+      → IsInRecord (λ i. Stores (layout_of Two) i place.sequence (state_bytes Two state) (journal Two place.sequence 0 commands))
+      (λ i. Stores (layout_of Two) i place.sequence (state_bytes Two state) (journal Two place.sequence 0 commands ++ bytes ∷ [])) calls m image
+      → IsInRecord (λ i. Holds Two i state commands place) (λ i. Holds Two i state (commands ++ command ∷ []) (record { sequence = place.sequence; used = place.used + 1 })) calls m image
+  in_held calls m image within = record {
+    from = within.from;
+    to = within.to;
+    either = ⊎_elim (λ old. inl (holds_still image state commands place seen (held seen here) old)) (λ new. inr (more new)) within.either;
+    done = λ end. more (within.done end);
+  }
+    where
+      more : Stores (layout_of Two) image place.sequence (state_bytes Two state) (journal Two place.sequence 0 commands ++ bytes ∷ [])
+          → Holds Two image state (commands ++ command ∷ []) (record { sequence = place.sequence; used = place.used + 1 })
+      more stored = holds_more image state commands command place seen (held seen here) recorded
+          (subst (λ (b : List ℕ). Stores (layout_of Two) image place.sequence (state_bytes Two state) (journal Two place.sequence 0 commands ++ b ∷ [])) is stored)

@@ -39,7 +39,7 @@ pub fn commit_record<D: Sectors>(
     ensures honest { D.honest device.new → D.honest device.old }
     ensures moments { D.honest device.new → (state : State) (commands : List Command) → ((image : List ℕ) → D.possible device.old image → Holds Two image state commands place)
         → Throughout D.clock D.possible_since device.old device.new (IsInRecord (λ image. Holds Two image state commands place)
-            (λ image. Holds Two image state (commands ++ command.now ∷ []) (record { sequence = place.sequence; used = place.used + 1 })) (D.calls device.old)) }
+        (λ image. Holds Two image state (commands ++ command.now ∷ []) (record { sequence = place.sequence; used = place.used + 1 })) (D.calls device.old)) }
     ensures after { D.honest device.new → (state : State) (commands : List Command) → ((image : List ℕ) → D.possible device.old image → Holds Two image state commands place)
         → OnOk result ((image : List ℕ) → D.possible device.new image → Holds Two image state (commands ++ command.now ∷ []) (record { sequence = place.sequence; used = place.used + 1 })) }
 {
