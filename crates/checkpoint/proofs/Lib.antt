@@ -10,3 +10,4 @@ mod Commits
 mod Extends
 mod NewStore
 mod Journals
+mod Fresh

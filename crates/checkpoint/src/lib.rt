@@ -12,4 +12,5 @@ mod puts;
 
 pub use changes::commit_record;
 pub use faults::{FormatFault, StoreFault};
+pub use making::format;
 pub use places::Place;

@@ -1,4 +1,7 @@
 // A new store.
+ghost use Rattle.command_core.specs.declared.states.State.TheVariants.{Empty};
+ghost use Rattle.state_codec.specs.declared.version.Version.TheVariants.{Two};
+ghost use Rattle.checkpoint.specs.Holds.{Holds};
 ghost use Rattle.std.specs.Prelude.{◌≡◌, ◌↔◌, ◌+◌, ◌*◌, ◌%◌, ◌<◌, ◌≤◌, ℕ, List, [], length, take, OnOk, IfOk, IfErr, IsErrOf};
 ghost use Rattle.sector_disk.specs.Sectors.{Throughout, faults_after};
 ghost use Rattle.checkpoint.specs.Layouts.{version_2};
@@ -11,7 +14,7 @@ use crate::faults::FormatFault;
 use crate::headers::Header;
 use crate::places::Place;
 use crate::puts::{SECTORS, put, put_snapshot};
-use sector_disk::{DeviceFault, Sectors};
+use sector_disk::{DeviceFault, SECTOR_SIZE, Sectors};
 use std::alloc::{AllocError, Global};
 
 /// The bytes of the headers and of the records.
@@ -89,4 +92,25 @@ pub fn make<D: Sectors>(
         }),
         Err(DeviceFault) => Err(FormatFault::DeviceFault),
     }
+}
+
+/// Makes a store of the empty state: zeros over the headers and the records, the snapshot, its header, each with a sync; six device calls. The device may
+/// be larger than the store.
+///
+/// With two or three calls finished each image is `NotFormatted`, with four or five it is that or holds the empty state without commands, and after `Ok` each
+/// holds it. `TooSmall` below 8,450 sectors; neither that nor `OutOfMemory` has called the device. After `DeviceFault` there is no store until a format
+/// succeeds.
+pub fn format<D: Sectors>(alloc: Global, device: &mut D) -> Result<Place, FormatFault>
+    ensures place { IfOk result (λ place. place ≡ record { sequence = 1; used = 0 }) }
+    ensures too_small { IsErrOf result FormatFault.TooSmall ↔ D.len device.old < 8450 }
+    ensures kept { IfErr result (λ fault. IsKeptByFormat fault device.old device.new) }
+    ensures same_len { D.len device.new ≡ D.len device.old }
+    ensures finished { OnOk result (D.calls device.new ≡ D.calls device.old + 6) }
+    ensures fault { D.faults device.new ≡ faults_after_format result (D.faults device.old) }
+    ensures honest { D.honest device.new → D.honest device.old }
+    ensures moments { D.honest device.new → OnCalls result (Throughout D.clock D.possible_since device.old device.new
+        (IsInFormat (IsUnformatted version_2) (λ image. Holds Two image Empty [] (record { sequence = 1; used = 0 })) (D.calls device.old))) }
+    ensures after { D.honest device.new → OnOk result ((image : List ℕ) → D.possible device.new image → Holds Two image Empty [] (record { sequence = 1; used = 0 })) }
+{
+    make(alloc, device, 1, &[0; SECTOR_SIZE])
 }
