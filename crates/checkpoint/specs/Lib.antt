@@ -4,6 +4,7 @@ pub mod Headers
 pub mod Stores
 pub mod Holds
 pub mod Moments
+pub mod Reads
 pub mod Refused
 pub mod Names
 -- of private functions alone

@@ -9,6 +9,8 @@ mod layouts;
 mod making;
 mod places;
 mod puts;
+mod reads;
+mod zeros;
 
 pub use changes::commit_record;
 pub use faults::{FormatFault, StoreFault};
