@@ -11,3 +11,4 @@ mod Extends
 mod NewStore
 mod Journals
 mod Fresh
+mod Heads

@@ -5,6 +5,7 @@ pub mod Stores
 pub mod Holds
 pub mod Moments
 pub mod Reads
+pub mod Holdless
 pub mod Refused
 pub mod Names
 -- of private functions alone

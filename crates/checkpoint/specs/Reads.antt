@@ -1,12 +1,15 @@
 -- What reading leaves, and what the front of an image tells.
-use Rattle.std.specs.Prelude.{◌≡◌, ◌≢◌, ℕ, ◌+◌, ◌*◌, ◌<◌, ◌≤◌, List, length, take, All}
+use Rattle.std.specs.Prelude.{◌≡◌, ◌≢◌, ℕ, ◌+◌, ◌*◌, ◌%◌, ◌^◌, ◌<◌, ◌≤◌, List, Option, Some, None, length, take, All}
 use Rattle.sector_disk.specs.Image.{sector}
 use Rattle.sector_disk.specs.Sectors.{SameImages, Throughout}
 use Rattle.command_core.specs.declared.commands.Command.{Command}
 use Rattle.state_codec.specs.declared.version.Version.{Version}
 use Rattle.state_codec.specs.Bytes.{record_bytes}
 use Rattle.state_codec.specs.Limits.{IsRecorded}
-use Rattle.checkpoint.specs.Stores.{record_sectors, begins_with}
+use Rattle.checkpoint.specs.declared.layouts.Layout.{Layout}
+use Rattle.checkpoint.specs.declared.headers.Header.{Header}
+use Rattle.checkpoint.specs.Layouts.{sectors_in}
+use Rattle.checkpoint.specs.Stores.{IsValid, record_sectors, begins_with}
 use Rattle.checkpoint.specs.Holds.{journal}
 
 -- A device that was only read: reads give the same, the images are the same, and so they were at each moment.
@@ -20,6 +23,20 @@ pub record IsFront (sectors : ℕ) (front image : List ℕ) : Type 0 where
   pub size : length image ≡ 512 * sectors
   pub room : 258 ≤ sectors
   pub is : take (512 * 258) image ≡ front
+
+-- a header that may stand in this sector of a device of so many sectors
+pub record IsAllowed (layout : Layout) (sectors : ℕ) (header : Header) (index : ℕ) : Type 0 where
+  pub room : sectors_in layout ≤ sectors
+  pub parity : header.sequence % 2 ≡ index
+  pub first : 1 ≤ header.sequence
+  pub last : header.sequence ≤ 2 ^ 60
+  pub some : 1 ≤ header.length
+  pub fits : header.length ≤ 512 * layout.half
+
+-- the valid header of one of the two sectors, if it has one
+abbrev pub IsOfParity : Layout → List ℕ → ℕ → Option Header → Type 0
+IsOfParity layout image index None = (header : Header) → header.sequence % 2 ≡ index → ¬ IsValid layout image header
+IsOfParity layout image index (Some header) = (header.sequence % 2 ≡ index) × IsValid layout image header
 
 -- the records of a sequence as far as they go: those of these commands
 pub record HasRecords (version : Version) (image : List ℕ) (sequence : ℕ) (commands : List Command) : Type 0 where

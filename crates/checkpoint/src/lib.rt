@@ -4,6 +4,7 @@
 
 mod changes;
 mod faults;
+mod fronts;
 mod headers;
 mod layouts;
 mod making;
