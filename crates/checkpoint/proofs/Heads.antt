@@ -23,10 +23,17 @@ module _ (layout : Layout) (sectors : ℕ) (front image : List ℕ) (whole : IsF
   at = is ∙ in_front sectors front image whole index (omega (arith, low))
 
   pub valid_there : (header : Header) → bytes ≡ header_bytes layout.version header → IsAllowed layout sectors header index → (header.sequence % 2 ≡ index) × IsValid layout image header
-  valid_there header read allowed = (allowed.parity, record {
-    room = omega (arith, allowed.room, whole.size);
-    bytes = ap (λ (i : ℕ). sector i image) allowed.parity ∙ sym at ∙ read;
-    first = allowed.first; last = allowed.last; some = allowed.some; fits = allowed.fits })
+  valid_there header read allowed = (
+    allowed.parity,
+    record {
+      room = omega (arith, allowed.room, whole.size);
+      bytes = ap (λ (i : ℕ). sector i image) allowed.parity ∙ sym at ∙ read;
+      first = allowed.first;
+      last = allowed.last;
+      some = allowed.some;
+      fits = allowed.fits;
+    },
+  )
 
   pub read_of_valid : (header : Header) → header.sequence % 2 ≡ index → IsValid layout image header → bytes ≡ header_bytes layout.version header
   read_of_valid header of valid = at ∙ ap (λ (i : ℕ). sector i image) (sym of) ∙ valid.bytes
@@ -67,14 +74,20 @@ module _ (layout : Layout) (image : List ℕ) where
   counts_first first second zeroth next less = record { valid = zeroth.1; greatest = λ other valid. ⊎_elim (λ is. omega (arith, is)) (λ is. omega (arith, is, less)) (counts_both first second zeroth next other valid) }
 
   pub counts_zeroth : (first : Header) → IsOfParity layout image 0 (Some first) → IsOfParity layout image 1 None → Counts layout image first
-  counts_zeroth first zeroth none = record { valid = zeroth.1; greatest = λ other valid. ⊎_elim
-      (λ even. let is = same_sector other first (even ∙ sym zeroth.0) valid zeroth.1 in omega (arith, is))
-      (λ odd. absurd (none other odd valid)) (parity other.sequence) }
+  counts_zeroth first zeroth none = record {
+    valid = zeroth.1;
+    greatest = λ other valid. ⊎_elim
+        (λ even. let is = same_sector other first (even ∙ sym zeroth.0) valid zeroth.1 in omega (arith, is))
+        (λ odd. absurd (none other odd valid)) (parity other.sequence);
+  }
 
   pub counts_next : (second : Header) → IsOfParity layout image 0 None → IsOfParity layout image 1 (Some second) → Counts layout image second
-  counts_next second none next = record { valid = next.1; greatest = λ other valid. ⊎_elim
-      (λ even. absurd (none other even valid))
-      (λ odd. let is = same_sector other second (odd ∙ sym next.0) valid next.1 in omega (arith, is)) (parity other.sequence) }
+  counts_next second none next = record {
+    valid = next.1;
+    greatest = λ other valid. ⊎_elim
+        (λ even. absurd (none other even valid))
+        (λ odd. let is = same_sector other second (odd ∙ sym next.0) valid next.1 in omega (arith, is)) (parity other.sequence);
+  }
 
   pub none_valid : IsOfParity layout image 0 None → IsOfParity layout image 1 None → (header : Header) → ¬ IsValid layout image header
   none_valid zeroth next header valid = ⊎_elim (λ even. zeroth header even valid) (λ odd. next header odd valid) (parity header.sequence)
@@ -82,16 +95,23 @@ module _ (layout : Layout) (image : List ℕ) where
 -- which of the two refusals it is
 module _ (layout : Layout) (sectors : ℕ) (front image : List ℕ) (whole : IsFront sectors front image) (room : 802 ≤ sectors) (none : (header : Header) → ¬ IsValid layout image header) where
   pub foreign : (index : ℕ) → (index ≡ 0) ⊎ (index ≡ 1) → HasOtherVersion layout.version (sector index front) → HasNoHeader layout image store.BadVersion
-  foreign index which other = record { none = none; other = record {
-    room = omega (arith, whole.size, room);
-    other = ⊎_elim
-      (λ (is : index ≡ 0). inl (subst (λ (i : ℕ). HasOtherVersion layout.version (sector i image)) is (there index which other)))
-      (λ (is : index ≡ 1). inr (subst (λ (i : ℕ). HasOtherVersion layout.version (sector i image)) is (there index which other))) which } }
+  foreign index which other = record {
+    none = none;
+    other = record {
+      room = omega (arith, whole.size, room);
+      other = ⊎_elim
+          (λ (is : index ≡ 0). inl (subst (λ (i : ℕ). HasOtherVersion layout.version (sector i image)) is (there index which other)))
+          (λ (is : index ≡ 1). inr (subst (λ (i : ℕ). HasOtherVersion layout.version (sector i image)) is (there index which other))) which;
+    };
+  }
     where
       there : (index : ℕ) → (index ≡ 0) ⊎ (index ≡ 1) → HasOtherVersion layout.version (sector index front) → HasOtherVersion layout.version (sector index image)
       there index which other = subst (HasOtherVersion layout.version) (in_front sectors front image whole index (⊎_elim (λ (is : index ≡ 0). omega (arith, is)) (λ (is : index ≡ 1). omega (arith, is)) which)) other
 
   pub unformatted : ¬ HasOtherVersion layout.version (sector 0 front) → ¬ HasOtherVersion layout.version (sector 1 front) → HasNoHeader layout image store.NotFormatted
-  unformatted zeroth next = record { none = none; no_other = λ is. ⊎_elim
-    (λ first. zeroth (subst (HasOtherVersion layout.version) (sym (in_front sectors front image whole 0 (omega arith))) first))
-    (λ second. next (subst (HasOtherVersion layout.version) (sym (in_front sectors front image whole 1 (omega arith))) second)) is.other }
+  unformatted zeroth next = record {
+    none = none;
+    no_other = λ is. ⊎_elim
+        (λ first. zeroth (subst (HasOtherVersion layout.version) (sym (in_front sectors front image whole 0 (omega arith))) first))
+        (λ second. next (subst (HasOtherVersion layout.version) (sym (in_front sectors front image whole 1 (omega arith))) second)) is.other;
+  }

@@ -12,3 +12,4 @@ mod NewStore
 mod Journals
 mod Fresh
 mod Heads
+mod Led

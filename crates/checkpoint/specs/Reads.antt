@@ -38,12 +38,15 @@ abbrev pub IsOfParity : Layout → List ℕ → ℕ → Option Header → Type 0
 IsOfParity layout image index None = (header : Header) → header.sequence % 2 ≡ index → ¬ IsValid layout image header
 IsOfParity layout image index (Some header) = (header.sequence % 2 ≡ index) × IsValid layout image header
 
--- the records of a sequence as far as they go: those of these commands
-pub record HasRecords (version : Version) (image : List ℕ) (sequence : ℕ) (commands : List Command) : Type 0 where
-  pub count : length commands ≤ 256
+-- the first records of a sequence: those of these commands
+pub record IsLed (version : Version) (image : List ℕ) (sequence : ℕ) (commands : List Command) : Type 0 where
   pub records : record_sectors 0 (length commands) image ≡ journal version sequence 0 commands
   pub recorded : All (IsRecorded version) commands
-  -- the sector behind them is none
+
+-- the records of a sequence as far as they go: those of these commands, and the sector behind them is none
+pub record HasRecords (version : Version) (image : List ℕ) (sequence : ℕ) (commands : List Command) : Type 0 where
+  pub led : IsLed version image sequence commands
+  pub count : length commands ≤ 256
   pub ends : length commands < 256 → (command : Command) → IsRecorded version command → sector (2 + length commands) image ≢ record_bytes version sequence (length commands) command
 
 -- from this index on no record sector begins with this sequence or a greater one

@@ -1,17 +1,24 @@
 // What the headers and the records of a device tell.
-ghost use Rattle.std.specs.Prelude.{◌≡◌, ◌+◌, ◌*◌, ◌%◌, ◌<◌, ◌≤◌, ◌^◌, ◌↔◌, ℕ, List, length, take, OnOk, OnErr, IfOk, IfErr, IsTrue, MatchOption, MatchResult};
+ghost use Rattle.std.specs.Prelude.{◌≡◌, ◌≢◌, ◌+◌, ◌*◌, ◌%◌, ◌<◌, ◌≤◌, ◌^◌, ◌↔◌, ℕ, List, length, take, OnOk, OnErr, IfOk, IfErr, IsTrue, MatchOption, MatchResult, Some, None};
 ghost use Rattle.sector_disk.specs.Image.{sector};
 ghost use Rattle.checkpoint.specs.Layouts.{sectors_in};
 ghost use Rattle.checkpoint.specs.Headers.{HasOtherVersion};
 ghost use Rattle.checkpoint.specs.Stores.{IsValid, Counts, begins_with};
 ghost use Rattle.checkpoint.specs.Reads.{IsFront, IsAllowed, IsOfParity, HasRecords, IsClearFrom, HasStrayFrom};
 ghost use Rattle.checkpoint.specs.Holdless.{HasNoHeader};
+ghost use Rattle.command_core.specs.declared.commands.Command.{Command};
+ghost use Rattle.state_codec.specs.Bytes.{record_bytes};
+ghost use Rattle.state_codec.specs.Limits.{IsRecorded};
 ghost use Rattle.checkpoint.specs.declared.headers.Header.{Header};
 
 use crate::faults::StoreFault;
 use crate::headers::{Header, MAGIC, begins_with, header_in};
 use crate::layouts::Layout;
+use command_core::Command;
 use sector_disk::SECTOR_SIZE;
+use state_codec::version::Version;
+use state_codec::{decode_record, decode_record_v1};
+use std::alloc::{AllocError, Global};
 
 /// A sector of the front of a device.
 fn sector_at(front: &[u8], i: usize) -> [u8; SECTOR_SIZE]
@@ -106,4 +113,59 @@ pub fn current_header(layout: Layout, sectors: u64, front: &[u8]) -> Result<Head
             None => Err(no_header(layout, front)),
         },
     }
+}
+
+/// The command whose record of this sequence and index a sector is, if it is one.
+fn command_in(
+    version: Version,
+    sector: &[u8; SECTOR_SIZE],
+    sequence: u64,
+    index: u32,
+) -> Option<Command>
+    ensures { MatchOption result ((command : Command) → IsRecorded version command → sector.now ≢ record_bytes version sequence index command)
+        (λ command. IsRecorded version command × (sector.now ≡ record_bytes version sequence index command)) }
+{
+    match version {
+        Version::One => decode_record_v1(sector, sequence, index),
+        Version::Two => decode_record(sector, sequence, index),
+    }
+}
+
+/// The commands of the records of a sequence, up to the first sector that is none.
+pub fn leading_commands(
+    alloc: Global,
+    version: Version,
+    front: &[u8],
+    sequence: u64,
+) -> Result<Vec<Command>, AllocError>
+    requires { length front.now ≡ 512 * 258 }
+    ensures { IfOk result (λ commands. HasRecords version front.now sequence commands.items) }
+{
+    let mut commands = Vec::new(alloc);
+    for index in 0..256u32 {
+        match command_in(
+            version,
+            &sector_at(front, 2 + index as usize),
+            sequence,
+            index,
+        ) {
+            Some(command) => commands.push(command)?,
+            None => return Ok(commands),
+        }
+    }
+    Ok(commands)
+}
+
+/// The first record sector from this index on that begins with this sequence or a greater one.
+pub fn stray_from(front: &[u8], used: usize, sequence: u64) -> Option<usize>
+    requires front { length front.now ≡ 512 * 258 }
+    requires used { used ≤ 256 }
+    ensures { MatchOption result (IsClearFrom used front.now sequence) (λ i. HasStrayFrom used front.now sequence) }
+{
+    for i in used..256 {
+        if sequence <= begins_with(&sector_at(front, 2 + i)) {
+            return Some(i);
+        }
+    }
+    None
 }
