@@ -13,3 +13,4 @@ mod Journals
 mod Fresh
 mod Heads
 mod Led
+mod FaultKinds

@@ -5,7 +5,7 @@ ghost use Rattle.checkpoint.specs.Layouts.{sectors_in};
 ghost use Rattle.checkpoint.specs.Headers.{HasOtherVersion};
 ghost use Rattle.checkpoint.specs.Stores.{IsValid, Counts, begins_with};
 ghost use Rattle.checkpoint.specs.Reads.{IsFront, IsAllowed, IsOfParity, HasRecords, IsClearFrom, HasStrayFrom};
-ghost use Rattle.checkpoint.specs.Holdless.{HasNoHeader};
+ghost use Rattle.checkpoint.specs.Holdless.{HasNoHeader, IsOfHeaders};
 ghost use Rattle.command_core.specs.declared.commands.Command.{Command};
 ghost use Rattle.state_codec.specs.Bytes.{record_bytes};
 ghost use Rattle.state_codec.specs.Limits.{IsRecorded};
@@ -78,7 +78,8 @@ fn is_of_other_version(version: u32, sector: &[u8; SECTOR_SIZE]) -> bool
 /// What is told where no header is valid.
 fn no_header(layout: Layout, front: &[u8]) -> StoreFault
     requires front { length front.now ≡ 512 * 258 }
-    ensures { (sectors : ℕ) (image : List ℕ) → 802 ≤ sectors → IsFront sectors front.now image → ((header : Header) → ¬ IsValid layout image header) → HasNoHeader layout image result }
+    ensures kind { IsOfHeaders result }
+    ensures told { (sectors : ℕ) (image : List ℕ) → 802 ≤ sectors → IsFront sectors front.now image → ((header : Header) → ¬ IsValid layout image header) → HasNoHeader layout image result }
 {
     if is_of_other_version(layout.version, &sector_at(front, 0)) {
         return StoreFault::BadVersion;
@@ -93,7 +94,8 @@ fn no_header(layout: Layout, front: &[u8]) -> StoreFault
 pub fn current_header(layout: Layout, sectors: u64, front: &[u8]) -> Result<Header, StoreFault>
     requires front { length front.now ≡ 512 * 258 }
     requires room { 802 ≤ sectors }
-    ensures { (image : List ℕ) → IsFront sectors front.now image → MatchResult result (λ header. Counts layout image header) (λ fault. HasNoHeader layout image fault) }
+    ensures kind { IfErr result IsOfHeaders }
+    ensures found { (image : List ℕ) → IsFront sectors front.now image → MatchResult result (λ header. Counts layout image header) (λ fault. HasNoHeader layout image fault) }
 {
     let first = valid_header(layout, sectors, front, 0);
     let second = valid_header(layout, sectors, front, 1);

@@ -7,6 +7,7 @@ mod faults;
 mod fronts;
 mod headers;
 mod layouts;
+mod loads;
 mod making;
 mod places;
 mod puts;

@@ -9,8 +9,8 @@ loop-index-preserved c =
     record {
       count = omega (arith, c.in_ok-push-in-Some.ensures.len, c.loop-index.invariant.count);
       led = subst (IsLed c.args.version c.args.front.now c.args.sequence) (sym items)
-        (more_led c.args.version c.args.front.now c.args.sequence c.loop-index.commands.items c.in-Some.command c.loop-index.index c.loop-index.invariant.count c.loop-index.invariant.led
-        c.in-Some.ensures.0 (sym c.sector_at.ensures ∙ c.in-Some.ensures.1));
+          (more_led c.args.version c.args.front.now c.args.sequence c.loop-index.commands.items c.in-Some.command c.loop-index.index c.loop-index.invariant.count c.loop-index.invariant.led
+          c.in-Some.ensures.0 (sym c.sector_at.ensures ∙ c.in-Some.ensures.1));
     }
 
 pub returns : goal.returns

@@ -1,0 +1,87 @@
+// Reading a store.
+ghost use Rattle.std.specs.Prelude.{◌≡◌, ◌+◌, ◌*◌, ◌/◌, ◌%◌, ◌<◌, ◌≤◌, ℕ, List, length, take, drop, OnOk, IfOk, IfErr, MatchResult};
+ghost use Rattle.checkpoint.specs.Layouts.{sectors_in, half_at};
+ghost use Rattle.checkpoint.specs.Stores.{Counts, snapshot_in};
+ghost use Rattle.checkpoint.specs.Reads.{IsFront, IsUnchanged};
+ghost use Rattle.checkpoint.specs.Holdless.{HasNoHeader, IsUnread, UnlessUnread};
+ghost use Rattle.checkpoint.specs.Refused.{IsOfReading, faults_after_reading};
+
+use crate::faults::StoreFault;
+use crate::fronts::current_header;
+use crate::headers::Header;
+use crate::layouts::Layout;
+use crate::making::FRONT;
+use crate::reads::read_run;
+use sector_disk::{SECTOR_SIZE, Sectors};
+use std::alloc::Global;
+
+/// The headers and the records of a device, and the header that counts.
+#[derive(Drop)]
+pub struct Opened {
+    pub front: Vec<u8>,
+    pub header: Header,
+}
+
+/// Reads the headers and the records. One device call.
+pub fn read_front<D: Sectors>(
+    alloc: Global,
+    device: &mut D,
+    layout: Layout,
+) -> Result<Opened, StoreFault>
+    requires { 802 ≤ D.len device.old }
+
+    ensures long { IfOk result (λ opened. length opened.front.items ≡ 512 * 258) }
+    ensures found { D.honest device.new → MatchResult result (λ opened. IsFront (D.len device.old) opened.front.items (D.seen device.old) × Counts layout (D.seen device.old) opened.header)
+        (UnlessUnread (HasNoHeader layout (D.seen device.old))) }
+    ensures same_len { D.len device.new ≡ D.len device.old }
+    ensures same_calls { D.calls device.new ≡ D.calls device.old }
+    ensures fault { D.faults device.new ≡ faults_after_reading result (D.faults device.old) }
+    ensures honest { D.honest device.new → D.honest device.old }
+    ensures kept { D.honest device.new → IsUnchanged D.clock D.possible_since D.possible D.seen D.calls device.old device.new }
+{
+    let sectors = device.len();
+    let front = match read_run(alloc, device, 0, FRONT) {
+        Ok(front) => front,
+        Err(fault) => return Err(fault),
+    };
+    match current_header(layout, sectors, &front) {
+        Ok(header) => Ok(Opened { front, header }),
+        Err(fault) => Err(fault),
+    }
+}
+
+/// The first sector of the half of a sequence.
+fn half_start(layout: Layout, sequence: u64) -> u64
+    ensures { result ≡ half_at layout sequence }
+{
+    258 + u64::from(layout.half) * (sequence % 2)
+}
+
+/// Reads the snapshot of a header, which is no longer than the device's half has room for. One device call.
+pub fn read_snapshot<D: Sectors>(
+    alloc: Global,
+    device: &mut D,
+    layout: Layout,
+    header: Header,
+) -> Result<Vec<u8>, StoreFault>
+    requires some { 1 ≤ header.length }
+    requires fits { header.length ≤ 512 * layout.half }
+    requires room { sectors_in layout ≤ D.len device.old }
+
+    ensures fails { IfErr result IsOfReading }
+    ensures bytes { D.honest device.new → IfOk result (λ bytes. bytes.items ≡ snapshot_in layout (D.seen device.old) header.sequence header.length) }
+    ensures same_len { D.len device.new ≡ D.len device.old }
+    ensures same_calls { D.calls device.new ≡ D.calls device.old }
+    ensures fault { D.faults device.new ≡ faults_after_reading result (D.faults device.old) }
+    ensures honest { D.honest device.new → D.honest device.old }
+    ensures kept { D.honest device.new → IsUnchanged D.clock D.possible_since D.possible D.seen D.calls device.old device.new }
+{
+    let size = (header.length as usize).div_ceil(SECTOR_SIZE) * SECTOR_SIZE;
+    match read_run(alloc, device, half_start(layout, header.sequence), size) {
+        Ok(mut bytes) => {
+            bytes.truncate(header.length as usize);
+            Ok(bytes)
+        }
+        Err(fault) => Err(fault),
+    }
+}
