@@ -1,17 +1,19 @@
 // Commits of records and of snapshots.
-ghost use Rattle.std.specs.Prelude.{◌≡◌, ◌+◌, ◌<◌, ◌≤◌, ◌^◌, ℕ, List, [], ◌∷◌, ◌++◌, OnOk, IfOk, IfErr};
+ghost use Rattle.std.specs.Prelude.{◌≡◌, ◌+◌, ◌*◌, ◌%◌, ◌<◌, ◌≤◌, ◌^◌, ℕ, List, [], ◌∷◌, ◌++◌, length, take, OnOk, IfOk, IfErr};
 ghost use Rattle.command_core.specs.declared.states.State.{State};
 ghost use Rattle.command_core.specs.declared.commands.Command.{Command};
 ghost use Rattle.sector_disk.specs.Sectors.{Throughout, faults_after};
 ghost use Rattle.state_codec.specs.declared.version.Version.TheVariants.{Two};
 ghost use Rattle.state_codec.specs.Limits.{IsRecorded};
-ghost use Rattle.checkpoint.specs.Holds.{Holds};
-ghost use Rattle.checkpoint.specs.Moments.{IsInRecord};
+ghost use Rattle.state_codec.specs.Bytes.{state_bytes};
+ghost use Rattle.checkpoint.specs.Holds.{Holds, KeepsFacts};
+ghost use Rattle.checkpoint.specs.Moments.{IsInCommit, IsInRecord};
 
 use crate::faults::StoreFault;
+use crate::headers::Header;
 use crate::places::Place;
-use crate::puts::extend;
-use command_core::Command;
+use crate::puts::{advance, extend};
+use command_core::{Command, State};
 use sector_disk::{DeviceFault, Sectors};
 use state_codec::encode_record;
 
@@ -49,6 +51,50 @@ pub fn commit_record<D: Sectors>(
             sequence: place.sequence,
             used: place.used + 1,
         }),
+        Err(DeviceFault) => Err(StoreFault::DeviceFault),
+    }
+}
+
+/// Commits the snapshot of a state, which is the first of these whole sectors, under the next sequence.
+fn save<D: Sectors>(
+    device: &mut D,
+    place: Place,
+    state: &State,
+    size: u64,
+    bytes: &[u8],
+) -> Result<Place, StoreFault>
+    requires is { take size bytes.now ≡ state_bytes Two state.now }
+    requires facts { KeepsFacts state.now }
+    requires some { 1 ≤ size }
+    requires long { size ≤ length bytes.now }
+    requires whole { length bytes.now % 512 ≡ 0 }
+    requires fits { length bytes.now ≤ 512 * 4096 }
+    requires room { 8450 ≤ D.len device.old }
+    requires first { 1 ≤ place.sequence }
+    requires next { place.sequence < 2 ^ 60 }
+
+    ensures fails { IfErr result (λ fault. fault ≡ StoreFault.DeviceFault) }
+    ensures place { IfOk result (λ next. next ≡ record { sequence = place.sequence + 1; used = 0 }) }
+    ensures same_len { D.len device.new ≡ D.len device.old }
+    ensures finished { OnOk result (D.calls device.new ≡ D.calls device.old + 4) }
+    ensures fault { D.faults device.new ≡ faults_after result (D.faults device.old) }
+    ensures honest { D.honest device.new → D.honest device.old }
+    ensures moments { D.honest device.new → (old : State) (commands : List Command) → ((image : List ℕ) → D.possible device.old image → Holds Two image old commands place)
+        → Throughout D.clock D.possible_since device.old device.new (IsInCommit (λ image. Holds Two image old commands place)
+        (λ image. Holds Two image state.now [] (record { sequence = place.sequence + 1; used = 0 })) (D.calls device.old)) }
+    ensures after { D.honest device.new → (old : State) (commands : List Command) → ((image : List ℕ) → D.possible device.old image → Holds Two image old commands place)
+        → OnOk result ((image : List ℕ) → D.possible device.new image → Holds Two image state.now [] (record { sequence = place.sequence + 1; used = 0 })) }
+{
+    let sequence = place.sequence + 1;
+    match advance(
+        device,
+        Header {
+            sequence,
+            length: size,
+        },
+        bytes,
+    ) {
+        Ok(()) => Ok(Place { sequence, used: 0 }),
         Err(DeviceFault) => Err(StoreFault::DeviceFault),
     }
 }
