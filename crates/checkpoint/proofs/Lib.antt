@@ -14,3 +14,4 @@ mod Fresh
 mod Heads
 mod Led
 mod FaultKinds
+mod Loading

@@ -3,16 +3,23 @@ ghost use Rattle.std.specs.Prelude.{◌≡◌, ◌+◌, ◌*◌, ◌/◌, ◌%�
 ghost use Rattle.checkpoint.specs.Layouts.{sectors_in, half_at};
 ghost use Rattle.checkpoint.specs.Stores.{Counts, snapshot_in};
 ghost use Rattle.checkpoint.specs.Reads.{IsFront, IsUnchanged};
-ghost use Rattle.checkpoint.specs.Holdless.{HasNoHeader, IsUnread, UnlessUnread};
+ghost use Rattle.state_codec.specs.Bytes.{state_bytes};
+ghost use Rattle.state_codec.specs.Limits.{IsStateOf};
+ghost use Rattle.checkpoint.specs.Holds.{Holds, KeepsFacts, layout_of};
+ghost use Rattle.checkpoint.specs.Holdless.{HasNoHeader, HasStray, IsOfJournal, UnlessUnread};
 ghost use Rattle.checkpoint.specs.Refused.{IsOfReading, faults_after_reading};
 
 use crate::faults::StoreFault;
-use crate::fronts::current_header;
+use crate::fronts::{current_header, leading_commands, stray_from};
 use crate::headers::Header;
 use crate::layouts::Layout;
 use crate::making::FRONT;
+use crate::places::Place;
 use crate::reads::read_run;
+use command_core::{Command, State};
 use sector_disk::{SECTOR_SIZE, Sectors};
+use state_codec::CodecFault;
+use state_codec::version::Version;
 use std::alloc::Global;
 
 /// The headers and the records of a device, and the header that counts.
@@ -83,5 +90,77 @@ pub fn read_snapshot<D: Sectors>(
             Ok(bytes)
         }
         Err(fault) => Err(fault),
+    }
+}
+
+/// What a store holds.
+#[derive(Debug, Drop)]
+pub struct Loaded {
+    /// The state of the snapshot.
+    pub state: State,
+    /// The commands of the records since, in order.
+    pub commands: Vec<Command>,
+    /// Where the journal goes on.
+    pub place: Place,
+}
+
+/// Where the parts of a store of this version lie.
+pub fn layout_of(version: Version) -> Layout
+    ensures { result ≡ layout_of version }
+{
+    match version {
+        Version::One => Layout {
+            version: 1,
+            half: 272,
+        },
+        Version::Two => Layout {
+            version: 2,
+            half: 4096,
+        },
+    }
+}
+
+/// A state keeps its facts.
+pub fn keeps_facts(state: &State)
+    ensures { KeepsFacts state.now }
+{
+    match state {
+        State::Empty => {}
+        State::Loaded(job) => {
+            let _seed = job.seed;
+        }
+    }
+}
+
+/// Reads the journal behind a snapshot that was decoded.
+pub fn with_journal(
+    alloc: Global,
+    version: Version,
+    header: Header,
+    front: &[u8],
+    state: State,
+) -> Result<Loaded, StoreFault>
+    requires { length front.now ≡ 512 * 258 }
+
+    ensures fails { IfErr result IsOfJournal }
+    ensures found { (sectors : ℕ) (image : List ℕ) → IsFront sectors front.now image → Counts (layout_of version) image header
+        → snapshot_in (layout_of version) image header.sequence header.length ≡ state_bytes version state → IsStateOf version state
+        → MatchResult result (λ loaded. Holds version image loaded.state loaded.commands.items loaded.place) (UnlessUnread (λ fault. HasStray version image header.sequence)) }
+{
+    keeps_facts(&state);
+    let commands = match leading_commands(alloc, version, front, header.sequence) {
+        Ok(commands) => commands,
+        Err(_) => return Err(StoreFault::OutOfMemory),
+    };
+    match stray_from(front, commands.len(), header.sequence) {
+        Some(_) => Err(StoreFault::Codec(CodecFault::BadField)),
+        None => Ok(Loaded {
+            place: Place {
+                sequence: header.sequence,
+                used: commands.len() as u32,
+            },
+            state,
+            commands,
+        }),
     }
 }
