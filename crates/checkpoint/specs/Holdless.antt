@@ -60,3 +60,12 @@ IsOfJournal store.NotFormatted = ⊥
 IsOfJournal store.BadVersion = ⊥
 IsOfJournal store.DeviceFault = ⊥
 IsOfJournal store.Spent = ⊥
+
+-- a refusal that the headers tell, or want of memory, or a failed call
+abbrev pub IsOfHeadersOrUnread : StoreFault → Type 0
+IsOfHeadersOrUnread store.NotFormatted = Unit {0}
+IsOfHeadersOrUnread store.BadVersion = Unit {0}
+IsOfHeadersOrUnread store.DeviceFault = Unit {0}
+IsOfHeadersOrUnread store.OutOfMemory = Unit {0}
+IsOfHeadersOrUnread (store.Codec fault) = ⊥
+IsOfHeadersOrUnread store.Spent = ⊥

@@ -9,8 +9,8 @@ use Rattle.state_codec.specs.Limits.{IsRecorded}
 use Rattle.checkpoint.specs.declared.layouts.Layout.{Layout}
 use Rattle.checkpoint.specs.declared.headers.Header.{Header}
 use Rattle.checkpoint.specs.Layouts.{sectors_in}
-use Rattle.checkpoint.specs.Stores.{IsValid, record_sectors, begins_with}
-use Rattle.checkpoint.specs.Holds.{journal}
+use Rattle.checkpoint.specs.Stores.{IsValid, Counts, snapshot_in, record_sectors, begins_with}
+use Rattle.checkpoint.specs.Holds.{layout_of, journal}
 
 -- A device that was only read: reads give the same, the images are the same, and so they were at each moment.
 pub record IsUnchanged {D : Type 0} (clock : D → ℕ) (since : D → ℕ → ℕ → List ℕ → Type 0) (possible : D → List ℕ → Type 0) (seen : D → List ℕ) (calls : D → ℕ) (old new : D) : Type 0 where
@@ -23,6 +23,12 @@ pub record IsFront (sectors : ℕ) (front image : List ℕ) : Type 0 where
   pub size : length image ≡ 512 * sectors
   pub room : 258 ≤ sectors
   pub is : take (512 * 258) image ≡ front
+
+-- a header whose snapshot has room in its half, on a device that has room for the layout
+pub record FitsLayout (layout : Layout) (sectors : ℕ) (header : Header) : Type 0 where
+  pub room : sectors_in layout ≤ sectors
+  pub some : 1 ≤ header.length
+  pub fits : header.length ≤ 512 * layout.half
 
 -- a header that may stand in this sector of a device of so many sectors
 pub record IsAllowed (layout : Layout) (sectors : ℕ) (header : Header) (index : ℕ) : Type 0 where
@@ -56,3 +62,9 @@ IsClearFrom used image sequence = (i : ℕ) → used ≤ i → i < 256 → begin
 -- from this index on some record sector does
 abbrev pub HasStrayFrom : ℕ → List ℕ → ℕ → Type 0
 HasStrayFrom used image sequence = (i : ℕ) × (used ≤ i) × (i < 256) × (sequence ≤ begins_with (sector (2 + i) image))
+
+-- the parts of an image that a store is read from: the header that counts, the front and the snapshot's bytes
+pub record HasParts (version : Version) (sectors : ℕ) (image : List ℕ) (header : Header) (front bytes : List ℕ) : Type 0 where
+  pub whole : IsFront sectors front image
+  pub counts : Counts (layout_of version) image header
+  pub snapshot : bytes ≡ snapshot_in (layout_of version) image header.sequence header.length

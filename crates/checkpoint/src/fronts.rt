@@ -1,10 +1,10 @@
 // What the headers and the records of a device tell.
-ghost use Rattle.std.specs.Prelude.{◌≡◌, ◌≢◌, ◌+◌, ◌*◌, ◌%◌, ◌<◌, ◌≤◌, ◌^◌, ◌↔◌, ℕ, List, length, take, OnOk, OnErr, IfOk, IfErr, IsTrue, MatchOption, MatchResult, Some, None};
+ghost use Rattle.std.specs.Prelude.{◌≡◌, ◌≢◌, ◌+◌, ◌*◌, ◌%◌, ◌<◌, ◌≤◌, ◌^◌, ◌↔◌, ℕ, List, length, take, OnOk, OnErr, IfOk, IfErr, IfSome, IsTrue, MatchOption, MatchResult, Some, None};
 ghost use Rattle.sector_disk.specs.Image.{sector};
 ghost use Rattle.checkpoint.specs.Layouts.{sectors_in};
 ghost use Rattle.checkpoint.specs.Headers.{HasOtherVersion};
 ghost use Rattle.checkpoint.specs.Stores.{IsValid, Counts, begins_with};
-ghost use Rattle.checkpoint.specs.Reads.{IsFront, IsAllowed, IsOfParity, HasRecords, IsClearFrom, HasStrayFrom};
+ghost use Rattle.checkpoint.specs.Reads.{IsFront, FitsLayout, IsAllowed, IsOfParity, HasRecords, IsClearFrom, HasStrayFrom};
 ghost use Rattle.checkpoint.specs.Holdless.{HasNoHeader, IsOfHeaders};
 ghost use Rattle.command_core.specs.declared.commands.Command.{Command};
 ghost use Rattle.state_codec.specs.Bytes.{record_bytes};
@@ -54,7 +54,8 @@ fn is_allowed(layout: Layout, sectors: u64, header: Header, index: u64) -> bool
 fn valid_header(layout: Layout, sectors: u64, front: &[u8], index: usize) -> Option<Header>
     requires front { length front.now ≡ 512 * 258 }
     requires index { index < 2 }
-    ensures { (image : List ℕ) → IsFront sectors front.now image → IsOfParity layout image index result }
+    ensures fits { IfSome result (FitsLayout layout sectors) }
+    ensures valid { (image : List ℕ) → IsFront sectors front.now image → IsOfParity layout image index result }
 {
     match header_in(layout.version, &sector_at(front, index)) {
         Some(header) => {
@@ -95,6 +96,7 @@ pub fn current_header(layout: Layout, sectors: u64, front: &[u8]) -> Result<Head
     requires front { length front.now ≡ 512 * 258 }
     requires room { 802 ≤ sectors }
     ensures kind { IfErr result IsOfHeaders }
+    ensures fits { IfOk result (FitsLayout layout sectors) }
     ensures found { (image : List ℕ) → IsFront sectors front.now image → MatchResult result (λ header. Counts layout image header) (λ fault. HasNoHeader layout image fault) }
 {
     let first = valid_header(layout, sectors, front, 0);

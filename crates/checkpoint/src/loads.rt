@@ -1,12 +1,12 @@
 // Reading a store.
-ghost use Rattle.std.specs.Prelude.{◌≡◌, ◌+◌, ◌*◌, ◌/◌, ◌%◌, ◌<◌, ◌≤◌, ℕ, List, length, take, drop, OnOk, IfOk, IfErr, MatchResult};
+ghost use Rattle.std.specs.Prelude.{◌≡◌, ◌+◌, ◌*◌, ◌/◌, ◌%◌, ◌<◌, ◌≤◌, ℕ, List, length, take, drop, OnOk, IfOk, IfErr, IsErrOf, MatchResult};
 ghost use Rattle.checkpoint.specs.Layouts.{sectors_in, half_at};
 ghost use Rattle.checkpoint.specs.Stores.{Counts, snapshot_in};
-ghost use Rattle.checkpoint.specs.Reads.{IsFront, IsUnchanged};
+ghost use Rattle.checkpoint.specs.Reads.{IsFront, IsUnchanged, FitsLayout, HasParts};
 ghost use Rattle.state_codec.specs.Bytes.{state_bytes};
 ghost use Rattle.state_codec.specs.Limits.{IsStateOf};
 ghost use Rattle.checkpoint.specs.Holds.{Holds, KeepsFacts, layout_of};
-ghost use Rattle.checkpoint.specs.Holdless.{HasNoHeader, HasStray, IsOfJournal, UnlessUnread};
+ghost use Rattle.checkpoint.specs.Holdless.{HasNoHeader, HasStray, IsOfHeadersOrUnread, IsOfJournal, UnlessUnread};
 ghost use Rattle.checkpoint.specs.Refused.{IsOfReading, faults_after_reading};
 
 use crate::faults::StoreFault;
@@ -21,6 +21,9 @@ use sector_disk::{SECTOR_SIZE, Sectors};
 use state_codec::CodecFault;
 use state_codec::version::Version;
 use std::alloc::Global;
+
+/// The sectors of the smallest store of any version.
+const LEAST_SECTORS: u64 = 802;
 
 /// The headers and the records of a device, and the header that counts.
 #[derive(Drop)]
@@ -37,7 +40,9 @@ pub fn read_front<D: Sectors>(
 ) -> Result<Opened, StoreFault>
     requires { 802 ≤ D.len device.old }
 
+    ensures fails { IfErr result IsOfHeadersOrUnread }
     ensures long { IfOk result (λ opened. length opened.front.items ≡ 512 * 258) }
+    ensures fits { IfOk result (λ opened. FitsLayout layout (D.len device.old) opened.header) }
     ensures found { D.honest device.new → MatchResult result (λ opened. IsFront (D.len device.old) opened.front.items (D.seen device.old) × Counts layout (D.seen device.old) opened.header)
         (UnlessUnread (HasNoHeader layout (D.seen device.old))) }
     ensures same_len { D.len device.new ≡ D.len device.old }
@@ -71,9 +76,7 @@ pub fn read_snapshot<D: Sectors>(
     layout: Layout,
     header: Header,
 ) -> Result<Vec<u8>, StoreFault>
-    requires some { 1 ≤ header.length }
-    requires fits { header.length ≤ 512 * layout.half }
-    requires room { sectors_in layout ≤ D.len device.old }
+    requires { FitsLayout layout (D.len device.old) header }
 
     ensures fails { IfErr result IsOfReading }
     ensures bytes { D.honest device.new → IfOk result (λ bytes. bytes.items ≡ snapshot_in layout (D.seen device.old) header.sequence header.length) }
@@ -162,5 +165,45 @@ pub fn with_journal(
             state,
             commands,
         }),
+    }
+}
+
+/// What is read of a store before anything is decoded.
+#[derive(Drop)]
+pub struct Parts {
+    pub opened: Opened,
+    /// The snapshot's bytes.
+    pub bytes: Vec<u8>,
+}
+
+/// Reads the front of a store, and its snapshot. Two device calls, and none on a device that is smaller than any store.
+pub fn read_parts<D: Sectors>(
+    alloc: Global,
+    device: &mut D,
+    version: Version,
+) -> Result<Parts, StoreFault>
+    ensures small { D.len device.old < 802 → device.new ≡ device.old }
+    ensures told { D.len device.old < 802 → IsErrOf result StoreFault.NotFormatted }
+    ensures fails { IfErr result IsOfHeadersOrUnread }
+    ensures long { IfOk result (λ parts. length parts.opened.front.items ≡ 512 * 258) }
+    ensures found { D.honest device.new → MatchResult result (λ parts. HasParts version (D.len device.old) (D.seen device.old) parts.opened.header parts.opened.front.items parts.bytes.items)
+        (UnlessUnread (HasNoHeader (layout_of version) (D.seen device.old))) }
+    ensures same_len { D.len device.new ≡ D.len device.old }
+    ensures same_calls { D.calls device.new ≡ D.calls device.old }
+    ensures fault { D.faults device.new ≡ faults_after_reading result (D.faults device.old) }
+    ensures honest { D.honest device.new → D.honest device.old }
+    ensures kept { D.honest device.new → IsUnchanged D.clock D.possible_since D.possible D.seen D.calls device.old device.new }
+{
+    if device.len() < LEAST_SECTORS {
+        return Err(StoreFault::NotFormatted);
+    }
+    let layout = layout_of(version);
+    let opened = match read_front(alloc, device, layout) {
+        Ok(opened) => opened,
+        Err(fault) => return Err(fault),
+    };
+    match read_snapshot(alloc, device, layout, opened.header) {
+        Ok(bytes) => Ok(Parts { opened, bytes }),
+        Err(fault) => Err(fault),
     }
 }
