@@ -16,7 +16,7 @@ use Rattle.state_codec.specs.declared.fault.CodecFault.{CodecFault}
 use Rattle.state_codec.specs.declared.fault.CodecFault.TheVariants.{BadField}
 use Rattle.state_codec.specs.Bytes.{number_bytes, signed_bytes, count_bytes, visit_bytes, stop_bytes, request_bytes, width}
 use Rattle.state_codec.specs.Fields.{◌>>=◌, Field, only, byte_at, number_at, signed_at, is_coordinate, is_demand, is_time, is_service, int_eq}
-use Rattle.state_codec.specs.Reading.{is_free, is_name, is_delivery, is_wanted, visit_at, first_at, delivery_at, single_at, pair_at, request_at, requests_at}
+use Rattle.state_codec.specs.Reading.{is_free, is_name, is_delivery, is_wanted, visit_at, first_at, delivery_at, single_at, pair_at, request_at}
 use Rattle.state_codec.proofs.FieldLaws.{IsBytes, Takes, takes_then, step, only_ok, number_takes, signed_takes, of_4, of_width, bind_ok, ok_is, only_again, number_again, signed_again, small}
 
 -- ---- what the rules of fields say
@@ -64,7 +64,7 @@ demand_takes wanted bytes fits x e =
     let o = only_ok (is_wanted wanted) (signed_at bytes) x e in
     (signed_takes bytes x fits o.0, o.1)
 
-number_only : (rule : ℕ → Bool) (size : ℕ) → ((bytes : List ℕ) (x : ℕ × List ℕ) → IsBytes bytes → number_at size bytes ≡ Ok x → Takes bytes (number_bytes size x.0) x.1 × (x.0 < 256 ^ size)) → (bytes : List ℕ) → IsBytes bytes → (x : ℕ × List ℕ) → only rule (number_at size bytes) ≡ Ok x → Takes bytes (number_bytes size x.0) x.1 × (rule x.0 ≡ true)
+pub number_only : (rule : ℕ → Bool) (size : ℕ) → ((bytes : List ℕ) (x : ℕ × List ℕ) → IsBytes bytes → number_at size bytes ≡ Ok x → Takes bytes (number_bytes size x.0) x.1 × (x.0 < 256 ^ size)) → (bytes : List ℕ) → IsBytes bytes → (x : ℕ × List ℕ) → only rule (number_at size bytes) ≡ Ok x → Takes bytes (number_bytes size x.0) x.1 × (rule x.0 ≡ true)
 number_only rule size takes bytes fits x e =
     let o = only_ok rule (number_at size bytes) x e in
     ((takes bytes x fits o.0).0, o.1)

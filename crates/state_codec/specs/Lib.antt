@@ -4,5 +4,6 @@ pub mod Fields
 pub mod Limits
 pub mod Reading
 -- of private functions alone
+pub mod Filled
 pub mod Records
 pub mod Sector

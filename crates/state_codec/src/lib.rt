@@ -3,10 +3,14 @@
 
 mod fault;
 mod fields;
+mod head;
 mod records;
 mod requests;
+mod routes;
 mod sector;
 pub mod version;
+mod writing;
 
 pub use fault::CodecFault;
 pub use records::{decode_record, decode_record_v1, encode_record};
+pub use writing::encode_state;
