@@ -10,3 +10,4 @@ pub mod RouteLaws
 pub mod WritingLemmas
 pub mod PutLemmas
 pub mod SizeLemmas
+mod LengthLemmas
