@@ -15,3 +15,4 @@ mod Heads
 mod Led
 mod FaultKinds
 mod Loading
+mod Snapshots

@@ -10,3 +10,4 @@ pub mod Refused
 pub mod Names
 -- of private functions alone
 pub mod Puts
+pub mod Encoding

@@ -3,6 +3,7 @@
 #![tactic(auto)]
 
 mod changes;
+mod encoding;
 mod faults;
 mod fronts;
 mod headers;
@@ -14,7 +15,7 @@ mod puts;
 mod reads;
 mod zeros;
 
-pub use changes::commit_record;
+pub use changes::{commit_record, commit_snapshot};
 pub use faults::{FormatFault, StoreFault};
 pub use making::format;
 pub use places::Place;

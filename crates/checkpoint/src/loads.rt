@@ -5,10 +5,11 @@ ghost use Rattle.checkpoint.specs.Stores.{Counts, snapshot_in};
 ghost use Rattle.checkpoint.specs.Reads.{IsFront, IsUnchanged, FitsLayout, HasParts};
 ghost use Rattle.state_codec.specs.Bytes.{state_bytes};
 ghost use Rattle.state_codec.specs.Limits.{IsStateOf};
-ghost use Rattle.checkpoint.specs.Holds.{Holds, KeepsFacts, layout_of};
+ghost use Rattle.checkpoint.specs.Holds.{Holds, layout_of};
 ghost use Rattle.checkpoint.specs.Holdless.{HasNoHeader, HasStray, IsOfHeadersOrUnread, IsOfJournal, UnlessUnread};
 ghost use Rattle.checkpoint.specs.Refused.{IsOfReading, faults_after_reading};
 
+use crate::encoding::keeps_facts;
 use crate::faults::StoreFault;
 use crate::fronts::{current_header, leading_commands, stray_from};
 use crate::headers::Header;
@@ -120,18 +121,6 @@ pub fn layout_of(version: Version) -> Layout
             version: 2,
             half: 4096,
         },
-    }
-}
-
-/// A state keeps its facts.
-pub fn keeps_facts(state: &State)
-    ensures { KeepsFacts state.now }
-{
-    match state {
-        State::Empty => {}
-        State::Loaded(job) => {
-            let _seed = job.seed;
-        }
     }
 }
 
