@@ -13,9 +13,11 @@ mod making;
 mod places;
 mod puts;
 mod reads;
+#[cfg(test)]
+mod tests;
 mod zeros;
 
 pub use changes::{commit_record, commit_snapshot};
 pub use faults::{FormatFault, StoreFault};
-pub use making::format;
+pub use making::{format, format_with};
 pub use places::Place;

@@ -10,11 +10,13 @@ ghost use Rattle.checkpoint.specs.Moments.{IsInFormat};
 ghost use Rattle.checkpoint.specs.Puts.{IsZeros};
 ghost use Rattle.checkpoint.specs.Refused.{faults_after_format, IsKeptByFormat, OnCalls};
 
+use crate::encoding::snapshot_of;
 use crate::faults::FormatFault;
 use crate::headers::Header;
 use crate::places::Place;
 use crate::puts::{SECTORS, put, put_snapshot};
 use crate::zeros::zeros;
+use command_core::State;
 use sector_disk::{DeviceFault, SECTOR_SIZE, Sectors};
 use std::alloc::Global;
 
@@ -107,4 +109,30 @@ pub fn format<D: Sectors>(alloc: Global, device: &mut D) -> Result<Place, Format
     ensures after { D.honest device.new → OnOk result ((image : List ℕ) → D.possible device.new image → Holds Two image Empty [] (record { sequence = 1; used = 0 })) }
 {
     make(alloc, device, 1, &[0; SECTOR_SIZE])
+}
+
+/// The same for a store that begins with this state. `OutOfMemory` comes before the first call.
+pub fn format_with<D: Sectors>(
+    alloc: Global,
+    device: &mut D,
+    state: &State,
+) -> Result<Place, FormatFault>
+    ensures place { IfOk result (λ place. place ≡ record { sequence = 1; used = 0 }) }
+    ensures too_small { IsErrOf result FormatFault.TooSmall ↔ D.len device.old < 8450 }
+    ensures kept { IfErr result (λ fault. IsKeptByFormat fault device.old device.new) }
+    ensures same_len { D.len device.new ≡ D.len device.old }
+    ensures finished { OnOk result (D.calls device.new ≡ D.calls device.old + 6) }
+    ensures fault { D.faults device.new ≡ faults_after_format result (D.faults device.old) }
+    ensures honest { D.honest device.new → D.honest device.old }
+    ensures moments { D.honest device.new → OnCalls result (Throughout D.clock D.possible_since device.old device.new
+        (IsInFormat (IsUnformatted version_2) (λ image. Holds Two image state.now [] (record { sequence = 1; used = 0 })) (D.calls device.old))) }
+    ensures after { D.honest device.new → OnOk result ((image : List ℕ) → D.possible device.new image → Holds Two image state.now [] (record { sequence = 1; used = 0 })) }
+{
+    if device.len() < SECTORS {
+        return Err(FormatFault::TooSmall);
+    }
+    match snapshot_of(alloc, state) {
+        Ok(snapshot) => make(alloc, device, snapshot.size, &snapshot.bytes),
+        Err(_) => Err(FormatFault::OutOfMemory),
+    }
 }
