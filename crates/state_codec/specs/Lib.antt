@@ -4,7 +4,9 @@ pub mod Fields
 pub mod Limits
 pub mod Reading
 pub mod Sizes
+pub mod Refused
 -- of private functions alone
 pub mod Filled
+pub mod Parts
 pub mod Records
 pub mod Sector

@@ -1,7 +1,7 @@
 -- Reading the tables of a state, each the inverse of what `Bytes` writes. Each rule is judged at the field that it names.
 use Rattle.std.specs.Prelude.{◌≡◌, ℕ, zero, suc, ◌+◌, ◌^◌, ℤ, pos, length, Bool, not, ◌&&◌, ◌==◌, nat_lt, nat_le, nat_eq, List, [], ◌∷◌, ◌++◌, take, Option, Some, None, Result, Ok, Err, is_some, if◌then◌else◌, neg_ℤ}
 use Rattle.std.specs.List.{list_all}
-use Rattle.plan_types.specs.Instance.{first_some}
+use Rattle.plan_types.specs.Instance.{Instance, first_some}
 use Rattle.plan_types.specs.Request.{request_name, stop_in}
 use Rattle.plan_types.specs.declared.requests.Stop.{Stop}
 use Rattle.plan_types.specs.declared.requests.Request.{Request}
@@ -172,25 +172,23 @@ head_at v bytes = do
 
 -- ---- a whole state
 
-abbrev pub job_from : Head → List (ℕ × Request) → List (List ℕ) × List (List ℕ) → List (List ℕ) → JobValue
-job_from h requests vehicles work = record {
-  problem = record { kind = h.kind; depot = h.depot; capacity = h.capacity; fleet = h.fleet; requests = requests; next_number = h.next_number };
-  pins = vehicles.0;
-  plan = vehicles.1;
-  work = work;
-  deviation = h.deviation;
-  seed = h.seed;
-  steps = h.steps;
-}
+abbrev pub problem_from : Head → List (ℕ × Request) → Instance
+problem_from h requests = record { kind = h.kind; depot = h.depot; capacity = h.capacity; fleet = h.fleet; requests = requests; next_number = h.next_number }
+
+-- the requests behind their count
+unfoldable pub problem_at : Version → Head → List ℕ → Field Instance
+problem_at v head bytes = do
+  count ← number_at (width v) bytes
+  requests ← times (next_request v head.next_number) count.0 [] count.1
+  Ok (problem_from head requests.0, requests.1)
 
 unfoldable pub job_at : Version → List ℕ → Field JobValue
 job_at v bytes = do
   head ← head_at v bytes
-  count ← number_at (width v) head.1
-  requests ← times (next_request v head.0.next_number) count.0 [] count.1
-  vehicles ← times (next_vehicle v) head.0.fleet ([], []) requests.1
+  problem ← problem_at v head.0 head.1
+  vehicles ← times (next_vehicle v) head.0.fleet ([], []) problem.1
   work ← work_at v head.0.fleet vehicles.0.1 vehicles.1
-  Ok (job_from head.0 requests.0 vehicles.0 work.0, work.1)
+  Ok (record { problem = problem.0; pins = vehicles.0.0; plan = vehicles.0.1; work = work.0; deviation = head.0.deviation; seed = head.0.seed; steps = head.0.steps }, work.1)
 
 -- a byte that tells whether a job follows
 unfoldable pub state_at : Version → List ℕ → Field (Option JobValue)

@@ -4,6 +4,8 @@
 mod fault;
 mod fields;
 mod head;
+mod judging;
+mod parts;
 mod records;
 mod requests;
 mod routes;

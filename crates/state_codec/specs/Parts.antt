@@ -1,0 +1,18 @@
+-- The parts of a state that were read and not judged yet.
+use Rattle.std.specs.Prelude.{◌≡◌, ℕ, ◌≤◌, List, length, Option}
+use Rattle.std.specs.Option.{option_map}
+use Rattle.plan_types.specs.Limits.{IsDepot, IsCapacity, IsFleet}
+use Rattle.command_core.specs.Job.{JobValue}
+use Rattle.state_codec.specs.declared.head.Head.{Head}
+use Rattle.state_codec.specs.declared.parts.Parts.{Parts}
+
+abbrev pub job_in : Parts → JobValue
+job_in a = record { problem = a.problem; pins = a.pins.routes; plan = a.plan.routes; work = a.work.routes; deviation = a.deviation; seed = a.seed; steps = a.steps }
+
+-- within the limits of a problem
+pub record IsHead (h : Head) : Type 0 where
+  pub depot : IsDepot h.depot
+  pub capacity : IsCapacity h.capacity
+  pub fleet : IsFleet h.fleet
+  pub next_from_one : 1 ≤ h.next_number
+  pub next_to_most : h.next_number ≤ 40001
