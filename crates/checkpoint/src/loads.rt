@@ -5,8 +5,9 @@ ghost use Rattle.checkpoint.specs.Stores.{Counts, snapshot_in};
 ghost use Rattle.checkpoint.specs.Reads.{IsFront, IsUnchanged, FitsLayout, HasParts};
 ghost use Rattle.state_codec.specs.Bytes.{state_bytes};
 ghost use Rattle.state_codec.specs.Limits.{IsStateOf};
-ghost use Rattle.checkpoint.specs.Holds.{Holds, layout_of};
-ghost use Rattle.checkpoint.specs.Holdless.{HasNoHeader, HasStray, IsOfHeadersOrUnread, IsOfJournal, UnlessUnread};
+ghost use Rattle.state_codec.specs.Refused.{Decodes};
+ghost use Rattle.checkpoint.specs.Holds.{Holds, KeepsFacts, layout_of};
+ghost use Rattle.checkpoint.specs.Holdless.{HasNoHeader, HasStray, HoldsNothing, IsOfBytes, IsOfHeadersOrUnread, IsOfJournal, UnlessUnread};
 ghost use Rattle.checkpoint.specs.Refused.{IsOfReading, faults_after_reading};
 
 use crate::encoding::keeps_facts;
@@ -134,6 +135,7 @@ pub fn with_journal(
 ) -> Result<Loaded, StoreFault>
     requires { length front.now ≡ 512 * 258 }
 
+    ensures facts { KeepsFacts state }
     ensures fails { IfErr result IsOfJournal }
     ensures found { (sectors : ℕ) (image : List ℕ) → IsFront sectors front.now image → Counts (layout_of version) image header
         → snapshot_in (layout_of version) image header.sequence header.length ≡ state_bytes version state → IsStateOf version state
@@ -194,5 +196,27 @@ pub fn read_parts<D: Sectors>(
     match read_snapshot(alloc, device, layout, opened.header) {
         Ok(bytes) => Ok(Parts { opened, bytes }),
         Err(fault) => Err(fault),
+    }
+}
+
+/// What a store holds, by its parts and by what its snapshot decodes to.
+pub fn interpreted(
+    alloc: Global,
+    version: Version,
+    opened: &Opened,
+    bytes: &[u8],
+    decoded: Result<State, CodecFault>,
+) -> Result<Loaded, StoreFault>
+    requires long { length opened.now.front.items ≡ 512 * 258 }
+    requires decodes { Decodes version bytes.now decoded }
+
+    ensures fails { IfErr result IsOfBytes }
+    ensures found { (sectors : ℕ) (image : List ℕ) → HasParts version sectors image opened.now.header opened.now.front.items bytes.now
+        → MatchResult result (λ loaded. Holds version image loaded.state loaded.commands.items loaded.place) (UnlessUnread (HoldsNothing version image)) }
+{
+    match decoded {
+        Ok(state) => with_journal(alloc, version, opened.header, &opened.front, state),
+        Err(CodecFault::OutOfMemory) => Err(StoreFault::OutOfMemory),
+        Err(fault) => Err(StoreFault::Codec(fault)),
     }
 }
