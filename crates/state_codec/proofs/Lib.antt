@@ -11,3 +11,6 @@ pub mod WritingLemmas
 pub mod PutLemmas
 pub mod SizeLemmas
 mod LengthLemmas
+pub mod HeadLaws
+pub mod JobLaws
+pub mod PinLemmas

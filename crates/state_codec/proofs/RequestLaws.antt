@@ -54,7 +54,7 @@ int_eq-same x = parts_and (int_le x x) (int_le x x) (grind (arith, ints)) (grind
 
 -- ---- what follows a stop's number
 
-coordinate_takes : (bytes : List ℕ) → IsBytes bytes → (x : ℤ × List ℕ) → only is_coordinate (signed_at bytes) ≡ Ok x → Takes bytes (signed_bytes x.0) x.1 × IsCoordinate x.0
+pub coordinate_takes : (bytes : List ℕ) → IsBytes bytes → (x : ℤ × List ℕ) → only is_coordinate (signed_at bytes) ≡ Ok x → Takes bytes (signed_bytes x.0) x.1 × IsCoordinate x.0
 coordinate_takes bytes fits x e =
     let o = only_ok is_coordinate (signed_at bytes) x e in
     (signed_takes bytes x fits o.0, coordinate_is x.0 o.1)
@@ -203,7 +203,7 @@ pair_takes v next before bytes most fits y e =
     subst (λ (z : Request × List ℕ). Takes (2 ∷ bytes) (request_bytes v z.0) z.1 × IsNew next before z.0) (ok_is (Pair p.0 d.0, d.1) y ed) (record { parts = ap (λ t. 2 ∷ t) both.parts; rest_fits = both.rest_fits }, new)))
 
 -- the first byte of what is not empty
-byte_takes : (bytes : List ℕ) → IsBytes bytes → (y : ℕ × List ℕ) → byte_at bytes ≡ Ok y → Takes bytes (y.0 ∷ []) y.1 × (bytes ≡ y.0 ∷ y.1)
+pub byte_takes : (bytes : List ℕ) → IsBytes bytes → (y : ℕ × List ℕ) → byte_at bytes ≡ Ok y → Takes bytes (y.0 ∷ []) y.1 × (bytes ≡ y.0 ∷ y.1)
 unfolding byte_at
 byte_takes [] fits y e = absurd cc
 byte_takes (b ∷ rest) fits y e = subst (λ (z : ℕ × List ℕ). Takes (b ∷ rest) (z.0 ∷ []) z.1 × (b ∷ rest ≡ z.0 ∷ z.1)) (ok_is (b, rest) y e) (record { parts = refl; rest_fits = λ i. fits (suc i) }, refl)

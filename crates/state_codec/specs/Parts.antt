@@ -1,5 +1,5 @@
 -- The parts of a state that were read and not judged yet.
-use Rattle.std.specs.Prelude.{◌≡◌, ℕ, ◌≤◌, List, length, Option}
+use Rattle.std.specs.Prelude.{◌≡◌, ℕ, ◌<◌, ◌≤◌, ◌^◌, List, length, Option}
 use Rattle.std.specs.Option.{option_map}
 use Rattle.plan_types.specs.Limits.{IsDepot, IsCapacity, IsFleet}
 use Rattle.command_core.specs.Job.{JobValue}
@@ -16,3 +16,10 @@ pub record IsHead (h : Head) : Type 0 where
   pub fleet : IsFleet h.fleet
   pub next_from_one : 1 ≤ h.next_number
   pub next_to_most : h.next_number ≤ 40001
+
+-- within the limits of a state
+pub record IsWithin (j : JobValue) : Type 0 where
+  pub fleet : length j.pins ≡ j.problem.fleet
+  pub deviation : j.deviation ≤ 1000000000
+  pub seed : j.seed < 2 ^ 64
+  pub steps : j.steps ≤ 2 ^ 60

@@ -12,6 +12,7 @@ mod routes;
 mod sector;
 mod sizes;
 pub mod version;
+mod states;
 mod writing;
 
 pub use fault::CodecFault;

@@ -1,0 +1,52 @@
+//! States from bytes.
+ghost use Rattle.std.specs.Prelude.{◌≡◌, IfOk, IfErr, OnOk, length, ◌≤◌, ◌<◌, ◌^◌};
+ghost use Rattle.command_core.specs.Job.{IsJob};
+ghost use Rattle.command_core.specs.declared.states.State.{State};
+ghost use Rattle.state_codec.specs.declared.version.Version.TheVariants.{One, Two};
+ghost use Rattle.state_codec.specs.Parts.{job_in, IsWithin};
+ghost use Rattle.state_codec.specs.Refused.{Decodes, IsRefused, Tells};
+
+use crate::fault::CodecFault;
+use crate::judging::{audited, judged_pins};
+use crate::parts::{Parts, whole_at};
+use crate::version::Version;
+use command_core::{Job, State};
+use plan_audit::pins_are_live_once;
+use plan_types::Problem;
+use std::alloc::Global;
+
+// The job of these parts, where plan, pins and working plan keep the rules.
+fn judged(alloc: Global, parts: Parts) -> Result<Job, CodecFault>
+    requires { IsWithin (job_in parts) }
+    ensures ok { IfOk result (λ job. job ≡ job_in parts) }
+    ensures err { IfErr result (Tells (IsRefused (job_in parts))) }
+{
+    let Parts {
+        problem,
+        pins,
+        plan,
+        work,
+        deviation,
+        seed,
+        steps,
+    } = parts;
+    audited(alloc, &problem, &pins, &plan)?;
+    pins_are_live_once();
+    judged_pins(&problem, pins.routes.as_slice())?;
+    audited(alloc, &problem, &pins, &work)?;
+    Ok(Job::from_parts(
+        problem, pins, plan, work, deviation, seed, steps,
+    ))
+}
+
+fn decode(alloc: Global, version: Version, bytes: &[u8]) -> Result<State, CodecFault>
+    ensures { Decodes version bytes.now result }
+{
+    match whole_at(alloc, version, bytes)? {
+        None => Ok(State::Empty),
+        Some(parts) => {
+            let job = judged(alloc, parts)?;
+            Ok(State::Loaded(job))
+        }
+    }
+}
