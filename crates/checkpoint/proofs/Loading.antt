@@ -1,5 +1,5 @@
 -- What the parts that are read make of an image.
-use Rattle.std.proofs.Common.{◌≡◌, ◌⊎◌, ⊎_elim, inl, inr, ℕ, zero, suc, ◌+◌, ◌*◌, ◌<◌, ◌≤◌, ◌^◌, List, [], ◌∷◌, ◌++◌, length, take, drop, get_or, All, refl, sym, ◌∙◌, ap, subst, arith, length-take, length-drop}
+use Rattle.std.proofs.Common.{◌≡◌, ◌⊎◌, ⊎_elim, inl, inr, ℕ, zero, suc, ◌+◌, ◌*◌, ◌<◌, ◌≤◌, ◌^◌, List, [], ◌∷◌, ◌++◌, length, take, drop, get_or, All, Result, Ok, Err, IfErr, MatchResult, refl, sym, ◌∙◌, ap, subst, arith, length-take, length-drop}
 use Rattle.sector_disk.specs.Image.{sector}
 use Rattle.command_core.specs.declared.states.State.{State}
 use Rattle.command_core.specs.declared.commands.Command.{Command}
@@ -13,7 +13,12 @@ use Rattle.checkpoint.specs.Layouts.{sectors_in, half_at}
 use Rattle.checkpoint.specs.Stores.{Counts, Stores, snapshot_in, record_sectors, begins_with}
 use Rattle.checkpoint.specs.Holds.{Holds, KeepsFacts, layout_of, journal}
 use Rattle.checkpoint.specs.Reads.{IsFront, IsLed, HasRecords, IsClearFrom, HasStrayFrom}
-use Rattle.checkpoint.specs.Holdless.{HasStray}
+use Rattle.checkpoint.specs.Holdless.{HasStray, IsAstray, HoldsNothing, UnlessUnread, IsOfJournal, IsOfBytes, told_of}
+use Rattle.checkpoint.specs.declared.faults.StoreFault.{StoreFault}
+use Rattle.checkpoint.specs.declared.faults.StoreFault.TheVariants as store
+use Rattle.state_codec.specs.declared.fault.CodecFault.{CodecFault}
+use Rattle.state_codec.specs.declared.fault.CodecFault.TheVariants as codec
+use Rattle.state_codec.specs.Refused.{Decodes}
 use Rattle.checkpoint.proofs.Runs.{same_records}
 use Rattle.checkpoint.proofs.Carried.{half_inside}
 use Rattle.checkpoint.proofs.Journals.{record_begins, length-journal}
@@ -73,3 +78,31 @@ module _ (version : Version) (sectors : ℕ) (front image : List ℕ) (whole : I
         told = told;
         recorded = has.led.recorded;
       }
+
+-- what the journal refuses, of an image whose header counts
+pub journal_refused : {T : Type 0} (P : T → Type 0) (version : Version) (image : List ℕ) (header : Header) → Counts (layout_of version) image header → (HasStray version image header.sequence → IsAstray version image header)
+    → (result : Result T StoreFault) → IfErr result IsOfJournal → MatchResult result P (UnlessUnread (λ fault. HasStray version image header.sequence)) → MatchResult result P (UnlessUnread (HoldsNothing version image))
+journal_refused P version image header counts astray (Ok x) kind told = told
+journal_refused P version image header counts astray (Err store.OutOfMemory) kind told = tt
+journal_refused P version image header counts astray (Err (store.Codec codec.BadField)) kind told = (header, counts, inr (refl, astray told))
+journal_refused P version image header counts astray (Err (store.Codec codec.Truncated)) kind told = absurd kind
+journal_refused P version image header counts astray (Err (store.Codec (codec.PlanRefused rule))) kind told = absurd kind
+journal_refused P version image header counts astray (Err (store.Codec codec.OutOfMemory)) kind told = absurd kind
+journal_refused P version image header counts astray (Err store.NotFormatted) kind told = absurd kind
+journal_refused P version image header counts astray (Err store.BadVersion) kind told = absurd kind
+journal_refused P version image header counts astray (Err store.Spent) kind told = absurd kind
+journal_refused P version image header counts astray (Err store.DeviceFault) kind told = absurd kind
+
+-- what the codec refuses
+pub codec_refused : (version : Version) (image : List ℕ) (header : Header) (bytes : List ℕ) → Counts (layout_of version) image header → bytes ≡ snapshot_in (layout_of version) image header.sequence header.length
+    → (fault : CodecFault) → Decodes version bytes (Err fault) → UnlessUnread (HoldsNothing version image) (told_of fault)
+codec_refused version image header bytes counts is codec.Truncated told = (header, counts, inl (subst (λ (b : List ℕ). Decodes version b (Err codec.Truncated)) is told))
+codec_refused version image header bytes counts is codec.BadField told = (header, counts, inl (subst (λ (b : List ℕ). Decodes version b (Err codec.BadField)) is told))
+codec_refused version image header bytes counts is (codec.PlanRefused rule) told = (header, counts, inl (subst (λ (b : List ℕ). Decodes version b (Err (codec.PlanRefused rule))) is told))
+codec_refused version image header bytes counts is codec.OutOfMemory told = tt
+
+pub of_bytes : (fault : CodecFault) → IsOfBytes (told_of fault)
+of_bytes codec.Truncated = tt
+of_bytes codec.BadField = tt
+of_bytes (codec.PlanRefused rule) = tt
+of_bytes codec.OutOfMemory = tt

@@ -126,3 +126,10 @@ IsOfLoad (store.Codec codec.OutOfMemory) = ⊥
 IsOfLoad store.Spent = ⊥
 IsOfLoad store.OutOfMemory = Unit {0}
 IsOfLoad store.DeviceFault = Unit {0}
+
+-- the codec's fault as the store's
+abbrev pub told_of : CodecFault → StoreFault
+told_of codec.Truncated = store.Codec codec.Truncated
+told_of codec.BadField = store.Codec codec.BadField
+told_of (codec.PlanRefused rule) = store.Codec (codec.PlanRefused rule)
+told_of codec.OutOfMemory = store.OutOfMemory

@@ -19,5 +19,6 @@ mod zeros;
 
 pub use changes::{commit_record, commit_snapshot};
 pub use faults::{FormatFault, StoreFault};
+pub use loads::{Loaded, load_latest};
 pub use making::{format, format_with};
 pub use places::Place;

@@ -4,10 +4,11 @@ ghost use Rattle.checkpoint.specs.Layouts.{sectors_in, half_at};
 ghost use Rattle.checkpoint.specs.Stores.{Counts, snapshot_in};
 ghost use Rattle.checkpoint.specs.Reads.{IsFront, IsUnchanged, FitsLayout, HasParts};
 ghost use Rattle.state_codec.specs.Bytes.{state_bytes};
+ghost use Rattle.state_codec.specs.declared.version.Version.TheVariants.{Two};
 ghost use Rattle.state_codec.specs.Limits.{IsStateOf};
 ghost use Rattle.state_codec.specs.Refused.{Decodes};
 ghost use Rattle.checkpoint.specs.Holds.{Holds, KeepsFacts, layout_of};
-ghost use Rattle.checkpoint.specs.Holdless.{HasNoHeader, HasStray, HoldsNothing, IsOfBytes, IsOfHeadersOrUnread, IsOfJournal, UnlessUnread};
+ghost use Rattle.checkpoint.specs.Holdless.{HasNoHeader, IsOfLoad, HasStray, HoldsNothing, IsOfBytes, told_of, IsOfHeadersOrUnread, IsOfJournal, UnlessUnread};
 ghost use Rattle.checkpoint.specs.Refused.{IsOfReading, faults_after_reading};
 
 use crate::encoding::keeps_facts;
@@ -20,7 +21,7 @@ use crate::places::Place;
 use crate::reads::read_run;
 use command_core::{Command, State};
 use sector_disk::{SECTOR_SIZE, Sectors};
-use state_codec::CodecFault;
+use state_codec::{CodecFault, decode_state};
 use state_codec::version::Version;
 use std::alloc::Global;
 
@@ -199,6 +200,18 @@ pub fn read_parts<D: Sectors>(
     }
 }
 
+/// The store's fault for a snapshot that does not decode.
+fn told_of(fault: CodecFault) -> StoreFault
+    ensures { result ≡ told_of fault }
+{
+    match fault {
+        CodecFault::Truncated => StoreFault::Codec(CodecFault::Truncated),
+        CodecFault::BadField => StoreFault::Codec(CodecFault::BadField),
+        CodecFault::PlanRefused(rule) => StoreFault::Codec(CodecFault::PlanRefused(rule)),
+        CodecFault::OutOfMemory => StoreFault::OutOfMemory,
+    }
+}
+
 /// What a store holds, by its parts and by what its snapshot decodes to.
 pub fn interpreted(
     alloc: Global,
@@ -216,7 +229,29 @@ pub fn interpreted(
 {
     match decoded {
         Ok(state) => with_journal(alloc, version, opened.header, &opened.front, state),
-        Err(CodecFault::OutOfMemory) => Err(StoreFault::OutOfMemory),
-        Err(fault) => Err(StoreFault::Codec(fault)),
+        Err(fault) => Err(told_of(fault)),
     }
+}
+
+/// What the image that reads give holds. It reads only: at each moment of the call each image is one that was possible before it.
+///
+/// Else the first cause, in this order, why it holds nothing: `NotFormatted` or `BadVersion` by the headers, `Codec` by the snapshot, and then by the
+/// journal. A device of fewer than 802 sectors is `NotFormatted`, and is not called.
+pub fn load_latest<D: Sectors>(alloc: Global, device: &mut D) -> Result<Loaded, StoreFault>
+    ensures small { D.len device.old < 802 → device.new ≡ device.old }
+    ensures told { D.len device.old < 802 → IsErrOf result StoreFault.NotFormatted }
+    ensures fails { IfErr result IsOfLoad }
+    ensures found { D.honest device.new → MatchResult result (λ loaded. Holds Two (D.seen device.old) loaded.state loaded.commands.items loaded.place) (UnlessUnread (HoldsNothing Two (D.seen device.old))) }
+    ensures same_len { D.len device.new ≡ D.len device.old }
+    ensures same_calls { D.calls device.new ≡ D.calls device.old }
+    ensures fault { D.faults device.new ≡ faults_after_reading result (D.faults device.old) }
+    ensures honest { D.honest device.new → D.honest device.old }
+    ensures kept { D.honest device.new → IsUnchanged D.clock D.possible_since D.possible D.seen D.calls device.old device.new }
+{
+    let parts = match read_parts(alloc, device, Version::Two) {
+        Ok(parts) => parts,
+        Err(fault) => return Err(fault),
+    };
+    let decoded = decode_state(alloc, &parts.bytes);
+    interpreted(alloc, Version::Two, &parts.opened, &parts.bytes, decoded)
 }
