@@ -14,3 +14,5 @@ mod LengthLemmas
 pub mod HeadLaws
 pub mod JobLaws
 pub mod PinLemmas
+pub mod PlainLaws
+pub mod DecodeLemmas

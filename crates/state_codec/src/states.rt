@@ -39,6 +39,23 @@ fn judged(alloc: Global, parts: Parts) -> Result<Job, CodecFault>
     ))
 }
 
+/// The state whose encoding the bytes are. Else the first fault in reading order: `Truncated` where the bytes end before or inside a field
+/// that is due, `BadField` at a field that its rule refuses or where a byte follows the end; then, of bytes that were read whole,
+/// `PlanRefused` with the rule that the plan breaks, or the first pin alone, or the working plan. `OutOfMemory` at any time.
+pub fn decode_state(alloc: Global, bytes: &[u8]) -> Result<State, CodecFault>
+    ensures { Decodes Two bytes.now result }
+{
+    decode(alloc, Version::Two, bytes)
+}
+
+/// The same for the bytes of version 1, which have shorter numbers and lower limits. The state has deviation 0, and the plan is the
+/// working plan.
+pub fn decode_state_v1(alloc: Global, bytes: &[u8]) -> Result<State, CodecFault>
+    ensures { Decodes One bytes.now result }
+{
+    decode(alloc, Version::One, bytes)
+}
+
 fn decode(alloc: Global, version: Version, bytes: &[u8]) -> Result<State, CodecFault>
     ensures { Decodes version bytes.now result }
 {
