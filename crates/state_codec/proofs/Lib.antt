@@ -10,6 +10,7 @@ pub mod RouteLaws
 pub mod WritingLemmas
 pub mod PutLemmas
 pub mod SizeLemmas
+mod LengthLemmas
 pub mod HeadLaws
 pub mod JobLaws
 pub mod PinLemmas

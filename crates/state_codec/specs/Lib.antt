@@ -3,6 +3,7 @@ pub mod Bytes
 pub mod Fields
 pub mod Limits
 pub mod Reading
+pub mod Sizes
 pub mod Refused
 -- of private functions alone
 pub mod Filled

@@ -10,12 +10,14 @@ mod records;
 mod requests;
 mod routes;
 mod sector;
+mod sizes;
+pub mod version;
 mod states;
-mod version;
 mod writing;
 
 pub use fault::CodecFault;
 pub use records::{decode_record, decode_record_v1, encode_record};
+pub use sizes::states_are_short;
 pub use states::{decode_state, decode_state_v1};
 pub use writing::encode_state;
 

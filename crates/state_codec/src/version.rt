@@ -1,6 +1,6 @@
 /// Which of the two forms of a store the bytes are of.
 #[derive(Clone, Copy, Debug, PartialEq, Eq)]
-pub(crate) enum Version {
+pub enum Version {
     One,
     Two,
 }

@@ -1,0 +1,111 @@
+-- What the calls that write a snapshot leave, where each image stores something before.
+use Rattle.std.proofs.Common.{◌≡◌, ◌⊎◌, inl, inr, ⊎_elim, ℕ, zero, suc, ◌+◌, ◌-◌, ◌*◌, ◌/◌, ◌%◌, ◌^◌, ◌<◌, ◌≤◌, List, [], ◌∷◌, ◌++◌, length, take, drop, refl, sym, ◌∙◌, ap, subst, arith, length-take}
+use Rattle.std.proofs.lemmas.Bool.{cases_lt}
+use Rattle.sector_disk.specs.Image.{sector, written, Mixes}
+use Rattle.sector_disk.specs.ImageLaws.{length-written, mixes_outside}
+use Rattle.sector_disk.specs.Sectors.{Reached}
+use Rattle.checkpoint.specs.declared.headers.Header.{Header}
+use Rattle.checkpoint.specs.Headers.{header_bytes}
+use Rattle.checkpoint.specs.Layouts.{sectors_in, half_at, version_2}
+use Rattle.checkpoint.specs.Stores.{IsValid, Stores, snapshot_in, begins_with}
+use Rattle.checkpoint.specs.Moments.{IsInCommit}
+use Rattle.checkpoint.specs.Puts.{IsInSnapshot, half_of, with_snapshot, with_both}
+use Rattle.checkpoint.proofs.Runs.{read_written, take_front}
+use Rattle.checkpoint.proofs.Carried.{parity, carried}
+use Rattle.checkpoint.proofs.Advanced.{Below, stored_below, advanced}
+
+-- a write of whole sectors into the half of the next sequence
+module _ (header : Header) (bytes : List ℕ) (sequence : ℕ) (next : header.sequence ≡ sequence + 1) (whole : length bytes % 512 ≡ 0) (fits : length bytes ≤ 512 * 4096) where
+  sectors : length bytes ≡ 512 * (length bytes / 512)
+  sectors = omega (arith, whole)
+
+  few : length bytes / 512 ≤ 4096
+  few = omega (arith, whole, fits)
+
+  inside : (before : List ℕ) → 512 * 8450 ≤ length before → 512 * half_of header + 512 * (length bytes / 512) ≤ length before
+  inside before room = ⊎_elim
+      (λ (even : header.sequence % 2 ≡ 0). let at : half_of header ≡ 258 + 4096 * 0 = ap (λ (r : ℕ). 258 + 4096 * r) even in omega (arith, at, few, room))
+      (λ (odd : header.sequence % 2 ≡ 1). let at : half_of header ≡ 258 + 4096 * 1 = ap (λ (r : ℕ). 258 + 4096 * r) odd in omega (arith, at, few, room))
+      (parity header.sequence)
+
+  -- the other half lies elsewhere
+  apart : (j : ℕ) → j < 4096 → (half_at version_2 sequence + j < half_of header) ⊎ (half_of header + length bytes / 512 ≤ half_at version_2 sequence + j)
+  apart j within = ⊎_elim
+      (λ (even : sequence % 2 ≡ 0).
+      let odd : header.sequence % 2 ≡ 1 = omega (arith, next, even) in
+      let here : half_at version_2 sequence ≡ 258 + 4096 * 0 = ap (λ (r : ℕ). 258 + 4096 * r) even in
+      let there : half_of header ≡ 258 + 4096 * 1 = ap (λ (r : ℕ). 258 + 4096 * r) odd in
+      inl (omega (arith, here, there, within)))
+      (λ (odd : sequence % 2 ≡ 1).
+      let even : header.sequence % 2 ≡ 0 = omega (arith, next, odd) in
+      let here : half_at version_2 sequence ≡ 258 + 4096 * 1 = ap (λ (r : ℕ). 258 + 4096 * r) odd in
+      let there : half_of header ≡ 258 + 4096 * 0 = ap (λ (r : ℕ). 258 + 4096 * r) even in
+      inr (omega (arith, here, there, few)))
+      (parity sequence)
+
+  low : (i : ℕ) → i < 258 → i < half_of header
+  low i below = omega (arith, below)
+
+  -- in a mixture with it the headers and the records are the old ones
+  pub front_stays : (before image : List ℕ) → 512 * 8450 ≤ length before → Mixes before (written (half_of header) bytes before) image → (i : ℕ) → i < 258 → sector i image ≡ sector i before
+  front_stays before image room mix i below = mixes_outside (half_of header) (length bytes / 512) bytes before image sectors (inside before room) mix i (inl (low i below))
+
+  pub stays : (before image : List ℕ) (state : List ℕ) (journal : List (List ℕ)) → Mixes before (written (half_of header) bytes before) image → Stores version_2 before sequence state journal → Stores version_2 image sequence state journal
+  stays before image state journal mix stored =
+      let room : 512 * 8450 ≤ length before = stored.header.valid.room in
+      carried version_2 before image mix.size sequence (front_stays before image room mix)
+      (λ j within. mixes_outside (half_of header) (length bytes / 512) bytes before image sectors (inside before room) mix (half_at version_2 sequence + j) (apart j within))
+      state journal stored
+
+  pub whole_mix : (before : List ℕ) → 512 * 8450 ≤ length before → Mixes before (written (half_of header) bytes before) (written (half_of header) bytes before)
+  whole_mix before room = record { size = length-written (half_of header) (length bytes / 512) bytes before sectors (inside before room); each = λ i. inr refl }
+
+  -- below the sequence, also behind the write
+  pub below_stays : (before : List ℕ) → 512 * 8450 ≤ length before → Below version_2 sequence before → Below version_2 sequence (with_snapshot header bytes before)
+  below_stays before room below =
+      let mix = whole_mix before room in
+      let same = front_stays before (with_snapshot header bytes before) room mix in
+      record {
+        headers = λ other valid. below.headers other (record { room = omega (arith, valid.room, mix.size); bytes = sym (same (other.sequence % 2) (omega arith)) ∙ valid.bytes; first = valid.first; last = valid.last; some = valid.some; fits = valid.fits });
+        records = λ i within. subst (λ (s : List ℕ). begins_with s ≤ sequence) (sym (same (2 + i) (omega arith))) (below.records i within);
+      }
+
+  -- with the header it is the store of the next sequence
+  pub becomes : (before : List ℕ) → 512 * 8450 ≤ length before → Below version_2 sequence before → header.sequence ≤ 2 ^ 60 → 1 ≤ header.length → header.length ≤ length bytes
+      → Stores version_2 (with_both header bytes before) header.sequence (take header.length bytes) []
+  becomes before room below last some long =
+      let mix = whole_mix before room in
+      let state = take header.length bytes in
+      let counted : length state ≡ header.length = simp length-take (omega arith) in
+      let read : take (length state) (drop (512 * half_of header) (with_snapshot header bytes before)) ≡ state = ap (λ (n : ℕ). take n (drop (512 * half_of header) (with_snapshot header bytes before))) counted
+      ∙ read_written (half_of header) header.length bytes before (omega (arith, inside before room, sectors)) long in
+      let kept = subst (λ (q : ℕ). snapshot_in version_2 (with_snapshot header bytes before) q (length state) ≡ state) next read in
+      let new = advanced version_2 sequence (with_snapshot header bytes before) state (omega (arith, room, mix.size)) (omega (arith, last, next)) (below_stays before room below)
+      (omega (arith, counted, some)) (omega (arith, counted, long, fits)) kept in
+      subst (λ (l : ℕ). Stores version_2 (written (header.sequence % 2) (header_bytes 2 (record { sequence = header.sequence; length = l })) (with_snapshot header bytes before)) header.sequence state []) counted
+      (subst (λ (q : ℕ). Stores version_2 (written (q % 2) (header_bytes 2 (record { sequence = q; length = length state })) (with_snapshot header bytes before)) q state []) (sym next) new)
+
+  -- each moment of the four calls, where each image stores something of the sequence before
+  module _ (state : List ℕ) (journal : List (List ℕ)) (possible : List ℕ → Type 0) (seen : List ℕ) (here : possible seen)
+      (stored : (image : List ℕ) → possible image → Stores version_2 image sequence state journal) (last : header.sequence ≤ 2 ^ 60) (some : 1 ≤ header.length) (long : header.length ≤ length bytes) where
+    pub now : Stores version_2 (with_both header bytes seen) header.sequence (take header.length bytes) []
+    now = becomes seen (stored seen here).header.valid.room (stored_below version_2 seen sequence state journal (stored seen here)) last some long
+
+    pub in_commit : (calls m : ℕ) (image : List ℕ) → IsInSnapshot header bytes possible seen calls m image
+        → IsInCommit (λ i. Stores version_2 i sequence state journal) (λ i. Stores version_2 i header.sequence (take header.length bytes) []) calls m image
+    in_commit calls m image put = record {
+      from = put.from;
+      to = put.to;
+      early = λ before. ⊎_elim
+          (λ old. reached old.1)
+          (λ new. absurd (omega (arith, before, new.0)))
+          put.stage;
+      either = ⊎_elim (λ old. inl (reached old.1)) (λ new. inr (is_now new.1)) put.stage;
+      done = λ end. is_now (put.done end);
+    }
+      where
+        reached : Reached (half_of header) bytes possible image → Stores version_2 image sequence state journal
+        reached r = stays r.0 image state journal r.2 (stored r.0 r.1)
+
+        is_now : image ≡ with_both header bytes seen → Stores version_2 image header.sequence (take header.length bytes) []
+        is_now is = subst (λ (i : List ℕ). Stores version_2 i header.sequence (take header.length bytes) []) (sym is) now

@@ -1,0 +1,79 @@
+-- Records of commands.
+use Rattle.std.proofs.Common.{◌≡◌, ◌⊎◌, ⊎_elim, inl, inr, ℕ, zero, suc, ◌+◌, ◌*◌, ◌-◌, ◌^◌, ◌<◌, ◌≤◌, List, [], ◌∷◌, ◌++◌, length, replicate, All, refl, sym, ◌∙◌, ap, subst, arith, append_assoc, length-append, get_or}
+use Rattle.std.proofs.Math.Nat.{mod-eq_of_lt}
+use Rattle.std.proofs.lemmas.List.Elements.{All-append}
+use Rattle.byteorder.specs.Endian.{big_bytes}
+use Rattle.byteorder.specs.Numbers.{big_from-bytes}
+use Rattle.command_core.specs.declared.states.State.{State}
+use Rattle.command_core.specs.declared.commands.Command.{Command}
+use Rattle.state_codec.specs.declared.version.Version.{Version}
+use Rattle.state_codec.specs.declared.version.Version.TheVariants.{One, Two}
+use Rattle.state_codec.specs.Bytes.{number_bytes, state_bytes, command_bytes, fields_bytes, record_bytes}
+use Rattle.state_codec.specs.Limits.{IsRecorded}
+use Rattle.checkpoint.specs.declared.places.Place.{Place}
+use Rattle.checkpoint.specs.Stores.{Stores, begins_with}
+use Rattle.checkpoint.specs.Holds.{Holds, layout_of, journal}
+use Rattle.checkpoint.specs.Moments.{IsInRecord}
+
+-- a record begins with its sequence
+pub record_begins : (version : Version) (sequence index : ℕ) (command : Command) → sequence < 2 ^ 64 → begins_with (record_bytes version sequence index command) ≡ sequence
+unfolding number_bytes
+record_begins version sequence index command fits =
+    ap begins_with (append_assoc (big_bytes 8 sequence) (number_bytes 4 index ++ command_bytes version command) (replicate (512 - length (fields_bytes version sequence index command)) 0))
+    ∙ big_from-bytes 8 sequence ((number_bytes 4 index ++ command_bytes version command) ++ replicate (512 - length (fields_bytes version sequence index command)) 0) ∙ mod-eq_of_lt fits
+
+pub length-journal : (version : Version) (sequence index : ℕ) (commands : List Command) → length (journal version sequence index commands) ≡ length commands
+length-journal version sequence index [] = refl
+length-journal version sequence index (command ∷ commands) = ap suc (length-journal version sequence (suc index) commands)
+
+pub journal-more : (version : Version) (sequence index : ℕ) (commands : List Command) (command : Command)
+    → journal version sequence index (commands ++ command ∷ []) ≡ journal version sequence index commands ++ record_bytes version sequence (index + length commands) command ∷ []
+journal-more version sequence index [] command = ap (λ (i : ℕ). record_bytes version sequence i command ∷ []) (omega arith)
+journal-more version sequence index (first ∷ commands) command =
+    let at : suc index + length commands ≡ index + suc (length commands) = omega arith in
+    ap (λ (l : List (List ℕ)). record_bytes version sequence index first ∷ l) (journal-more version sequence (suc index) commands command
+    ∙ ap (λ (i : ℕ). journal version sequence (suc index) commands ++ record_bytes version sequence i command ∷ []) at)
+
+-- an image that holds these commands and one more, by its bytes
+pub holds_more : (image : List ℕ) (state : State) (commands : List Command) (command : Command) (place : Place) (known : List ℕ) → Holds Two known state commands place → IsRecorded Two command
+    → Stores (layout_of Two) image place.sequence (state_bytes Two state) (journal Two place.sequence 0 commands ++ record_bytes Two place.sequence place.used command ∷ [])
+    → Holds Two image state (commands ++ command ∷ []) (record { sequence = place.sequence; used = place.used + 1 })
+holds_more image state commands command place known held recorded stored =
+    let at : place.used ≡ 0 + length commands = omega (arith, held.used) in
+    record {
+      stored = subst (Stores (layout_of Two) image place.sequence (state_bytes Two state))
+          (ap (λ (i : ℕ). journal Two place.sequence 0 commands ++ record_bytes Two place.sequence i command ∷ []) at ∙ sym (journal-more Two place.sequence 0 commands command)) stored;
+      used = omega (arith, held.used, length-append commands (command ∷ []));
+      facts = held.facts;
+      told = held.told;
+      recorded = All-append (IsRecorded Two) commands (command ∷ []) held.recorded (λ k d below. elim k as (λ k. k < 1 → IsRecorded Two (get_or (command ∷ []) k d)) [ zero ↦ λ h. recorded | suc k ↦ λ h. absurd (omega (arith, h)) ] below);
+    }
+
+pub holds_still : (image : List ℕ) (state : State) (commands : List Command) (place : Place) (known : List ℕ) → Holds Two known state commands place
+    → Stores (layout_of Two) image place.sequence (state_bytes Two state) (journal Two place.sequence 0 commands) → Holds Two image state commands place
+holds_still image state commands place known held stored = record { stored = stored; used = held.used; facts = held.facts; told = held.told; recorded = held.recorded }
+
+-- From what each image stores at each moment to what it holds.
+module _ (place : Place) (command : Command) (bytes : List ℕ) (is : bytes ≡ record_bytes Two place.sequence place.used command) (recorded : IsRecorded Two command) (last : place.sequence ≤ 2 ^ 60)
+    (possible : List ℕ → Type 0) (seen : List ℕ) (here : possible seen) (state : State) (commands : List Command) (held : (image : List ℕ) → possible image → Holds Two image state commands place) where
+  pub mark : begins_with bytes ≡ place.sequence
+  mark = ap begins_with is ∙ record_begins Two place.sequence place.used command (omega (arith, last))
+
+  pub counted : place.used ≡ length (journal Two place.sequence 0 commands)
+  counted = (held seen here).used ∙ sym (length-journal Two place.sequence 0 commands)
+
+  pub in_held : (calls m : ℕ) (image : List ℕ)
+      → IsInRecord (λ i. Stores (layout_of Two) i place.sequence (state_bytes Two state) (journal Two place.sequence 0 commands))
+      (λ i. Stores (layout_of Two) i place.sequence (state_bytes Two state) (journal Two place.sequence 0 commands ++ bytes ∷ [])) calls m image
+      → IsInRecord (λ i. Holds Two i state commands place) (λ i. Holds Two i state (commands ++ command ∷ []) (record { sequence = place.sequence; used = place.used + 1 })) calls m image
+  in_held calls m image within = record {
+    from = within.from;
+    to = within.to;
+    either = ⊎_elim (λ old. inl (holds_still image state commands place seen (held seen here) old)) (λ new. inr (more new)) within.either;
+    done = λ end. more (within.done end);
+  }
+    where
+      more : Stores (layout_of Two) image place.sequence (state_bytes Two state) (journal Two place.sequence 0 commands ++ bytes ∷ [])
+          → Holds Two image state (commands ++ command ∷ []) (record { sequence = place.sequence; used = place.used + 1 })
+      more stored = holds_more image state commands command place seen (held seen here) recorded
+          (subst (λ (b : List ℕ). Stores (layout_of Two) image place.sequence (state_bytes Two state) (journal Two place.sequence 0 commands ++ b ∷ [])) is stored)

@@ -1,0 +1,43 @@
+-- What a stop may leave within the zeros' put and within the snapshot's.
+use Rattle.std.proofs.Common.{◌≡◌, ◌*◌, ◌+◌, ◌≤◌, ℕ, List, length, refl, sym, ◌∙◌, subst, arith}
+use Rattle.sector_disk.specs.Throughout.{joined, weakened}
+use Rattle.checkpoint.specs.Puts.{IsInPut, IsInSnapshot, IsZeros}
+use Rattle.checkpoint.proofs.Cleared.{clears, length_cleared}
+use Rattle.checkpoint.proofs.NewStore.{IsMaking, first_header, in_zeros, in_snapshot}
+use Rattle.checkpoint.proofs.making.put_all.Goals as goal
+
+pub put-requires : goal.put-requires
+put-requires g c = record { some = omega (arith, c.requires.zeros.long); whole = omega (arith, c.requires.zeros.long); inside = omega (arith, c.requires.zeros.long, c.requires.room) }
+
+pub returns-in_err-put-clause-moments : goal.returns-in_err-put-clause-moments
+returns-in_err-put-clause-moments g c honest =
+    let d = g.D.Sectors in
+    let start = c.args.device.now in
+    let from = c.put.ensures.honest honest in
+    let size = g.met.D.Sectors.image_size start (d.seen start) from (g.met.D.Sectors.reads_possible start from) in
+    let zeros = c.args.zeros.now in
+    let is = c.requires.zeros in
+    weakened d.clock d.possible_since start c.put.new.device (IsInPut 0 zeros (d.possible start) (d.seen start) (d.calls start)) (IsMaking c.args.bytes.now c.args.size (d.calls start))
+    (in_zeros c.args.bytes.now c.args.size zeros (d.seen start) (clears 132096 zeros (d.seen start) is refl (omega (arith, size, c.requires.room))) (d.calls start) (d.possible start))
+    (c.put.ensures.moments honest)
+
+pub returns-clause-moments : goal.returns-clause-moments
+returns-clause-moments g c honest =
+    let d = g.D.Sectors in
+    let start = c.args.device.now in
+    let mid = c.put_snapshot.ensures.honest honest in
+    let from = c.put.ensures.honest mid in
+    let size = g.met.D.Sectors.image_size start (d.seen start) from (g.met.D.Sectors.reads_possible start from) in
+    let zeros = c.args.zeros.now in
+    let is = c.requires.zeros in
+    let front = clears 132096 zeros (d.seen start) is refl (omega (arith, size, c.requires.room)) in
+    let long = length_cleared 132096 zeros (d.seen start) is refl (omega (arith, size, c.requires.room)) in
+    let all = IsMaking c.args.bytes.now c.args.size (d.calls start) in
+    let first = weakened d.clock d.possible_since start c.put.new.device (IsInPut 0 zeros (d.possible start) (d.seen start) (d.calls start)) all
+    (in_zeros c.args.bytes.now c.args.size zeros (d.seen start) front (d.calls start) (d.possible start))
+    (c.put.ensures.moments mid) in
+    let second = weakened d.clock d.possible_since c.put.new.device c.put_snapshot.new.device (IsInSnapshot (first_header c.args.size) c.args.bytes.now (d.possible c.put.new.device) (d.seen c.put.new.device) (d.calls c.put.new.device)) all
+    (in_snapshot c.args.bytes.now c.args.size zeros (d.seen start) front (d.calls start) c.requires.whole c.requires.fits c.requires.some c.requires.length (omega (arith, long, size, c.requires.room))
+    (d.possible c.put.new.device) (d.seen c.put.new.device) (d.calls c.put.new.device) c.in_ok-put.ensures.finished (c.in_ok-put.ensures.seen mid) (c.in_ok-put.ensures.durable mid))
+    (c.put_snapshot.ensures.moments honest) in
+    joined d.clock d.possible_since start c.put.new.device c.put_snapshot.new.device all first second

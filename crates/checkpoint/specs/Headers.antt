@@ -1,0 +1,15 @@
+-- The bytes of a header.
+use Rattle.std.specs.Prelude.{◌≡◌, ◌≢◌, ℕ, List, ◌++◌, replicate, take, drop, codes}
+use Rattle.byteorder.specs.Endian.{big_bytes}
+use Rattle.checkpoint.specs.declared.headers.Header.{Header}
+
+abbrev pub magic : List ℕ
+magic = codes "PDRSTORE"
+
+-- the magic, the version in 4 bytes, the sequence and the snapshot's length in 8 each, and zeros to the sector's end
+abbrev pub header_bytes : ℕ → Header → List ℕ
+header_bytes version header = magic ++ big_bytes 4 version ++ big_bytes 8 header.sequence ++ big_bytes 8 header.length ++ replicate 484 0
+
+-- a sector with the magic and another version
+abbrev pub HasOtherVersion : ℕ → List ℕ → Type 0
+HasOtherVersion version bytes = (take 8 bytes ≡ magic) × (take 4 (drop 8 bytes) ≢ big_bytes 4 version)

@@ -1,0 +1,13 @@
+-- what public contracts reach
+pub mod Layouts
+pub mod Headers
+pub mod Stores
+pub mod Holds
+pub mod Moments
+pub mod Reads
+pub mod Holdless
+pub mod Refused
+pub mod Names
+-- of private functions alone
+pub mod Puts
+pub mod Encoding

@@ -1,0 +1,48 @@
+-- What a stop may leave while a store is written, in bytes.
+use Rattle.std.specs.Prelude.{◌≡◌, ◌⊎◌, ℕ, ◌+◌, ◌%◌, ◌<◌, ◌≤◌, List, length, take, replicate}
+use Rattle.sector_disk.specs.Image.{written}
+use Rattle.sector_disk.specs.Sectors.{Reached}
+use Rattle.checkpoint.specs.declared.headers.Header.{Header}
+use Rattle.checkpoint.specs.Layouts.{version_2, half_at}
+use Rattle.checkpoint.specs.Headers.{header_bytes}
+
+-- Within a write of these bytes and its sync, with m calls finished in all, and `calls` when it began.
+pub record IsInPut (first : ℕ) (bytes : List ℕ) (possible : List ℕ → Type 0) (seen : List ℕ) (calls m : ℕ) (image : List ℕ) : Type 0 where
+  pub from : calls ≤ m
+  pub to : m ≤ calls + 2
+  pub reached : Reached first bytes possible image
+  pub done : m ≡ calls + 2 → image ≡ written first bytes seen
+
+-- the first sector of the half that a snapshot is written to
+abbrev pub half_of : Header → ℕ
+half_of header = half_at version_2 header.sequence
+
+-- an image with a snapshot in its half, and then with its header
+abbrev pub with_snapshot : Header → List ℕ → List ℕ → List ℕ
+with_snapshot header bytes image = written (half_of header) bytes image
+
+abbrev pub with_header : Header → List ℕ → List ℕ
+with_header header image = written (header.sequence % 2) (header_bytes 2 header) image
+
+abbrev pub with_both : Header → List ℕ → List ℕ → List ℕ
+with_both header bytes image = with_header header (with_snapshot header bytes image)
+
+-- Within the four calls that write a snapshot and its header: until the header's sync no more than the snapshot's write is seen, and from the header's
+-- write on the whole may be.
+pub record IsInSnapshot (header : Header) (bytes : List ℕ) (possible : List ℕ → Type 0) (seen : List ℕ) (calls m : ℕ) (image : List ℕ) : Type 0 where
+  pub from : calls ≤ m
+  pub to : m ≤ calls + 4
+  pub stage : ((m ≤ calls + 3) × Reached (half_of header) bytes possible image) ⊎ ((calls + 2 ≤ m) × (image ≡ with_both header bytes seen))
+  pub done : m ≡ calls + 4 → image ≡ with_both header bytes seen
+
+-- n zeros
+pub record IsZeros (n : ℕ) (bytes : List ℕ) : Type 0 where
+  pub are : bytes ≡ replicate n 0
+  pub long : length bytes ≡ n
+
+-- these bytes, and fewer than a sector's behind them, to a whole sector
+pub record IsFilled (bytes filled : List ℕ) : Type 0 where
+  pub front : take (length bytes) filled ≡ bytes
+  pub long : length bytes ≤ length filled
+  pub short : length filled < length bytes + 512
+  pub whole : length filled % 512 ≡ 0

@@ -1,0 +1,125 @@
+// Why a store can't be made, read or changed.
+ghost use Rattle.std.specs.Prelude.{◌≡◌};
+
+use sector_disk::DeviceFault;
+use state_codec::CodecFault;
+use std::alloc::{AllocError, AllocFailed};
+use thiserror::Error;
+
+/// Why a device was not formatted.
+#[derive(Clone, Copy, Debug, PartialEq, Eq, Error)]
+pub enum FormatFault {
+    #[error("the device is too small")]
+    TooSmall,
+    #[error("the device failed")]
+    DeviceFault,
+    #[error("out of memory")]
+    OutOfMemory,
+}
+
+impl FormatFault {
+    ghost use Rattle.checkpoint.specs.Names.{format_fault_name};
+
+    /// Its name, as answers print it.
+    pub fn name(&self) -> &'static str
+        ensures { result.now ≡ format_fault_name self.now }
+    {
+        match self {
+            FormatFault::TooSmall => "TooSmall",
+            FormatFault::DeviceFault => "DeviceFault",
+            FormatFault::OutOfMemory => "OutOfMemory",
+        }
+    }
+}
+
+impl From<AllocError> for FormatFault {
+    ghost use Rattle.std.specs.Prelude.{◌≡◌};
+    ghost use Rattle.checkpoint.specs.declared.faults.FormatFault.TheVariants.{OutOfMemory};
+
+    ghost from_gives = { λ _ fault. fault ≡ OutOfMemory };
+
+    fn from(_: AllocError) -> FormatFault {
+        FormatFault::OutOfMemory
+    }
+}
+
+impl<T: Drop> From<AllocFailed<T>> for FormatFault {
+    ghost use Rattle.std.specs.Prelude.{◌≡◌};
+    ghost use Rattle.checkpoint.specs.declared.faults.FormatFault.TheVariants.{OutOfMemory};
+
+    ghost from_gives = { λ _ fault. fault ≡ OutOfMemory };
+
+    fn from(_: AllocFailed<T>) -> FormatFault {
+        FormatFault::OutOfMemory
+    }
+}
+
+impl From<DeviceFault> for FormatFault {
+    ghost use Rattle.std.specs.Prelude.{◌≡◌};
+    ghost use Rattle.checkpoint.specs.declared.faults.FormatFault.TheVariants.{DeviceFault};
+
+    ghost from_gives = { λ _ fault. fault ≡ DeviceFault };
+
+    fn from(_: DeviceFault) -> FormatFault {
+        FormatFault::DeviceFault
+    }
+}
+
+/// Why a store was not read or not changed.
+#[derive(Clone, Copy, Debug, PartialEq, Eq, Error)]
+pub enum StoreFault {
+    #[error("the device holds no store")]
+    NotFormatted,
+    #[error("the store is of another version")]
+    BadVersion,
+    /// The snapshot's bytes are no state, or the journal has a record that does not belong to it. Want of memory is `OutOfMemory`.
+    #[error("the store is broken: {0}")]
+    Codec(CodecFault),
+    /// The sequence is 2^60. Nothing was written.
+    #[error("the sequences are spent")]
+    Spent,
+    #[error("out of memory")]
+    OutOfMemory,
+    #[error("the device failed")]
+    DeviceFault,
+}
+
+impl StoreFault {
+    ghost use Rattle.checkpoint.specs.Names.{store_fault_name};
+
+    /// Its name, as answers print it.
+    pub fn name(&self) -> &'static str
+        ensures { result.now ≡ store_fault_name self.now }
+    {
+        match self {
+            StoreFault::NotFormatted => "NotFormatted",
+            StoreFault::BadVersion => "BadVersion",
+            StoreFault::Codec(_) => "Codec",
+            StoreFault::Spent => "Spent",
+            StoreFault::OutOfMemory => "OutOfMemory",
+            StoreFault::DeviceFault => "DeviceFault",
+        }
+    }
+}
+
+impl From<AllocError> for StoreFault {
+    ghost use Rattle.std.specs.Prelude.{◌≡◌};
+    ghost use Rattle.checkpoint.specs.declared.faults.StoreFault.TheVariants.{OutOfMemory};
+
+    ghost from_gives = { λ _ fault. fault ≡ OutOfMemory };
+
+    fn from(_: AllocError) -> StoreFault {
+        StoreFault::OutOfMemory
+    }
+}
+
+impl<T: Drop> From<AllocFailed<T>> for StoreFault {
+    ghost use Rattle.std.specs.Prelude.{◌≡◌};
+    ghost use Rattle.checkpoint.specs.declared.faults.StoreFault.TheVariants.{OutOfMemory};
+
+    ghost from_gives = { λ _ fault. fault ≡ OutOfMemory };
+
+    fn from(_: AllocFailed<T>) -> StoreFault {
+        StoreFault::OutOfMemory
+    }
+}
