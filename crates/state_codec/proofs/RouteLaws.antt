@@ -165,7 +165,7 @@ AreFronts [] (route ∷ routes) = ⊥
 AreFronts (pin ∷ pins) [] = ⊥
 AreFronts (pin ∷ pins) (route ∷ routes) = IsFront pin route × AreFronts pins routes
 
-more_vehicles : (v : Version) (pins routes before-pins before : List (List ℕ)) (rest : List ℕ) → AreFronts pins routes → AllByRecursion (IsWritable v) routes → times (next_vehicle v) (length routes) (before-pins, before) (vehicles_bytes v pins routes ++ rest) ≡ Ok ((before-pins ++ pins, before ++ routes), rest)
+pub more_vehicles : (v : Version) (pins routes before-pins before : List (List ℕ)) (rest : List ℕ) → AreFronts pins routes → AllByRecursion (IsWritable v) routes → times (next_vehicle v) (length routes) (before-pins, before) (vehicles_bytes v pins routes ++ rest) ≡ Ok ((before-pins ++ pins, before ++ routes), rest)
 unfolding times
 more_vehicles v [] [] before-pins before rest fronts fit = rw (append-nil before-pins, append-nil before) refl
 more_vehicles v [] (route ∷ routes) before-pins before rest fronts fit = absurd fronts

@@ -45,11 +45,11 @@ among : (next q : ℕ) (ns : List ℕ) → AreBelow next ns → list_any (eqb q)
 among next q [] h e = absurd cc
 among next q (n ∷ ns) h e = head_among q n (eqb q n) (list_any (eqb q) ns) (q < next) refl e (λ same. omega (arith, same, h.0.1)) (λ f. among next q ns h.1 f)
 
-pub few : (next : ℕ) (ns : List ℕ) → IsDistinct eqb ns → AreBelow next ns → 1 ≤ next → next ≤ 40001 → length ns ≤ 40000
+pub few : (next : ℕ) (ns : List ℕ) → IsDistinct eqb ns → AreBelow next ns → 1 ≤ next → length ns < next
 unfolding IsDistinct
-few next ns distinct below one most =
+few next ns distinct below one =
     let all = length-le_from_distinct_below (0 ∷ ns) next (no_zero next ns below, distinct) within in
-    omega (arith, all, most)
+    omega (arith, all)
   where
     within : (q : ℕ) → list_any (eqb q) (0 ∷ ns) ≡ true → q < next
     within zero e = omega (arith, one)
@@ -88,11 +88,11 @@ module _ (law : StopsAreBelowNext) (p : Instance) (is : IsInstance p) where
       some (Some x) e = refl
 
   -- the stops of a plan
-  pub few_live : (ns : List ℕ) → are_live_once p ns ≡ true → (length ns ≤ 40000) × AreBelow p.next_number ns
+  pub few_live : (ns : List ℕ) → are_live_once p ns ≡ true → (length ns < p.next_number) × AreBelow p.next_number ns
   few_live ns h =
       let q = and_parts (list_all (λ n. is_some (stop_at p n)) ns) (are_distinct ns) h in
       let below = live_below ns q.0 in
-      (few p.next_number ns (distinct_is ns q.1) below is.next_from_one is.next_to_most, below)
+      (few p.next_number ns (distinct_is ns q.1) below is.next_from_one, below)
 
 numbered : (es : List (ℕ × Request)) (next : ℕ) → AllByRecursion (λ e. IsRequest e.1) es → AllByRecursion (λ n. n < next) (numbers_among es) → AreBelow next (numbers_among es)
 numbered [] next h b = tt
@@ -105,15 +105,18 @@ fewer ((n, Single s) ∷ es) = let h = fewer es in omega (arith, h)
 fewer ((n, Pair x y) ∷ es) = let h = fewer es in omega (arith, h)
 
 -- the stops of the requests
-pub few_numbers : (p : Instance) → IsInstance p → length (numbers_among p.requests) ≤ 40000
-few_numbers p is = few p.next_number (numbers_among p.requests) is.distinct (numbered p.requests p.next_number is.valid is.above) is.next_from_one is.next_to_most
+pub few_numbers : (p : Instance) → IsInstance p → length (numbers_among p.requests) < p.next_number
+few_numbers p is = few p.next_number (numbers_among p.requests) is.distinct (numbered p.requests p.next_number is.valid is.above) is.next_from_one
 
 pub few_requests : (p : Instance) → IsInstance p → length p.requests ≤ 40000
-few_requests p is = let a = few_numbers p is in let b = fewer p.requests in omega (arith, a, b)
+few_requests p is = let a = few_numbers p is in let b = fewer p.requests in omega (arith, a, b, is.next_to_most)
+
+pub requests_below : (p : Instance) → IsInstance p → length p.requests < p.next_number
+requests_below p is = let a = few_numbers p is in let b = fewer p.requests in omega (arith, a, b)
 
 -- ---- routes and pins
 
-short_routes : (routes : List (List ℕ)) (n : ℕ) → length (concat routes) ≤ n → AllByRecursion (λ r. length r ≤ n) routes
+pub short_routes : (routes : List (List ℕ)) (n : ℕ) → length (concat routes) ≤ n → AllByRecursion (λ r. length r ≤ n) routes
 short_routes [] n h = tt
 short_routes (r ∷ routes) n h =
     let whole = length-append r (concat routes) in
@@ -147,7 +150,7 @@ parts_below next (r ∷ routes) h = let q = split_below next r (concat routes) h
 
 -- what is known of a plan that passes
 pub record IsSized (p : Instance) (routes pins : List (List ℕ)) : Type 0 where
-  pub total : length (concat routes) ≤ 40000
+  pub total : length (concat routes) < p.next_number
   pub each : AllByRecursion (λ r. length r ≤ 40000) routes
   pub below : AllByRecursion (AreBelow p.next_number) routes
   pub fleet : length routes ≡ p.fleet
@@ -160,7 +163,7 @@ sized law p is routes pins h =
     let b = and_parts (length routes == p.fleet) (list_all (feasible_alone p) routes && begin_with_pins routes pins) a.1 in
     let d = and_parts (list_all (feasible_alone p) routes) (begin_with_pins routes pins) b.1 in
     let live = few_live law p is (concat routes) a.0 in
-    record { total = live.0; each = short_routes routes 40000 live.0; below = parts_below p.next_number routes live.1; fleet = eqb-true (length routes) p.fleet b.0; begins = d.1 }
+    record { total = live.0; each = short_routes routes 40000 (omega (arith, live.0, is.next_to_most)); below = parts_below p.next_number routes live.1; fleet = eqb-true (length routes) p.fleet b.0; begins = d.1 }
 
 -- what is known of a job
 pub record Sizes (j : JobValue) : Type 0 where

@@ -47,6 +47,19 @@ Decodes v bytes (Err BadField) = whole_at v bytes ≡ Err BadField
 Decodes v bytes (Err (PlanRefused rule)) = (j : JobValue) × (bytes ≡ state_bytes v (Loaded j)) × IsStateOf v (Loaded j) × IsRefused j rule
 Decodes v bytes (Err OutOfMemory) = Unit {0}
 
+-- what was read: nothing is loaded, or a job
+abbrev pub option_of : State → Option JobValue
+option_of Empty = None
+option_of (Loaded j) = Some j
+
+-- the same by what reading gives
+abbrev pub IsDecoded : Version → List ℕ → Result State CodecFault → Type 0
+IsDecoded v bytes (Ok state) = whole_at v bytes ≡ Ok (option_of state)
+IsDecoded v bytes (Err Truncated) = whole_at v bytes ≡ Err Truncated
+IsDecoded v bytes (Err BadField) = whole_at v bytes ≡ Err BadField
+IsDecoded v bytes (Err (PlanRefused rule)) = (j : JobValue) × (whole_at v bytes ≡ Ok (Some j)) × IsRefused j rule
+IsDecoded v bytes (Err OutOfMemory) = Unit {0}
+
 -- the answer is this state, unless memory ran out
 abbrev pub IsUnlessMemory : State → Result State CodecFault → Type 0
 IsUnlessMemory state (Ok s) = s ≡ state

@@ -1,18 +1,19 @@
 //! States from bytes.
-ghost use Rattle.std.specs.Prelude.{◌≡◌, IfOk, IfErr, OnOk, length, ◌≤◌, ◌<◌, ◌^◌};
-ghost use Rattle.command_core.specs.Job.{IsJob};
+ghost use Rattle.std.specs.Prelude.{◌≡◌, IfOk, IfErr};
 ghost use Rattle.command_core.specs.declared.states.State.{State};
 ghost use Rattle.state_codec.specs.declared.version.Version.TheVariants.{One, Two};
 ghost use Rattle.state_codec.specs.Parts.{job_in, IsWithin};
-ghost use Rattle.state_codec.specs.Refused.{Decodes, IsRefused, Tells};
+ghost use Rattle.state_codec.specs.Refused.{Decodes, IsDecoded, IsRefused, IsSound, IsUnlessMemory, Tells};
+ghost use Rattle.state_codec.specs.Bytes.{state_bytes};
+ghost use Rattle.state_codec.specs.Limits.{IsStateOf};
 
 use crate::fault::CodecFault;
 use crate::judging::{audited, judged_pins};
 use crate::parts::{Parts, whole_at};
 use crate::version::Version;
 use command_core::{Job, State};
-use plan_audit::pins_are_live_once;
-use plan_types::Problem;
+use plan_audit::{pins_are_live_once, tests_say_feasible, tests_say_pass, verdicts_are_unique};
+use plan_types::numbers_are_below_the_next;
 use std::alloc::Global;
 
 // The job of these parts, where plan, pins and working plan keep the rules.
@@ -43,21 +44,31 @@ fn judged(alloc: Global, parts: Parts) -> Result<Job, CodecFault>
 /// that is due, `BadField` at a field that its rule refuses or where a byte follows the end; then, of bytes that were read whole,
 /// `PlanRefused` with the rule that the plan breaks, or the first pin alone, or the working plan. `OutOfMemory` at any time.
 pub fn decode_state(alloc: Global, bytes: &[u8]) -> Result<State, CodecFault>
-    ensures { Decodes Two bytes.now result }
+    ensures decodes { Decodes Two bytes.now result }
+    ensures only { (state : State) → IsSound state → IsStateOf Two state → bytes.now ≡ state_bytes Two state → IsUnlessMemory state result }
 {
+    numbers_are_below_the_next();
+    verdicts_are_unique();
+    tests_say_pass();
+    tests_say_feasible();
     decode(alloc, Version::Two, bytes)
 }
 
 /// The same for the bytes of version 1, which have shorter numbers and lower limits. The state has deviation 0, and the plan is the
 /// working plan.
 pub fn decode_state_v1(alloc: Global, bytes: &[u8]) -> Result<State, CodecFault>
-    ensures { Decodes One bytes.now result }
+    ensures decodes { Decodes One bytes.now result }
+    ensures only { (state : State) → IsSound state → IsStateOf One state → bytes.now ≡ state_bytes One state → IsUnlessMemory state result }
 {
+    numbers_are_below_the_next();
+    verdicts_are_unique();
+    tests_say_pass();
+    tests_say_feasible();
     decode(alloc, Version::One, bytes)
 }
 
 fn decode(alloc: Global, version: Version, bytes: &[u8]) -> Result<State, CodecFault>
-    ensures { Decodes version bytes.now result }
+    ensures { IsDecoded version bytes.now result }
 {
     match whole_at(alloc, version, bytes)? {
         None => Ok(State::Empty),

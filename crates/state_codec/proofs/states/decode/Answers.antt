@@ -3,11 +3,11 @@ use Rattle.std.specs.Option.{option_map}
 use Rattle.std.proofs.lemmas.Result.{err_from_is_err_and}
 use Rattle.state_codec.specs.Parts.{job_in}
 use Rattle.state_codec.specs.Reading.{whole_at}
-use Rattle.state_codec.proofs.DecodeLemmas.{within, by_fault, by_job, by_rule, by_none}
+use Rattle.state_codec.proofs.DecodeLemmas.{within, by_fault, by_job, by_rule}
 use Rattle.state_codec.proofs.states.decode.Goals as goal
 
 pub judged-requires : goal.judged-requires
-judged-requires c = within c.args.version c.args.bytes.now (λ i. omega (arith, c.type_inv.bytes i)) (job_in c.in-Some.parts) (c.in_ok-whole_at.ensures ∙ ap (λ o. Ok (option_map job_in o)) c.in-Some.is)
+judged-requires c = within c.args.version c.args.bytes.now (job_in c.in-Some.parts) (c.in_ok-whole_at.ensures ∙ ap (λ o. Ok (option_map job_in o)) c.in-Some.is) (λ i. omega (arith, c.type_inv.bytes i))
 
 pub returns-in_err-whole_at : goal.returns-in_err-whole_at
 returns-in_err-whole_at c =
@@ -17,10 +17,10 @@ returns-in_err-whole_at c =
 pub returns-in_err-job-in-Some : goal.returns-in_err-job-in-Some
 returns-in_err-job-in-Some c =
     let p = err_from_is_err_and c.from_residual-in_err-job-in-Some.result c.from_residual-in_err-job-in-Some.ensures.1 in
-    rw (p.1, p.2) (by_rule c.args.version c.args.bytes.now (λ i. omega (arith, c.type_inv.bytes i)) (job_in c.in-Some.parts) (c.in_ok-whole_at.ensures ∙ ap (λ o. Ok (option_map job_in o)) c.in-Some.is) c.in_err-job-in-Some.field-0.0 c.in_err-job-in-Some.ensures.err)
+    rw (p.1, p.2) (by_rule c.args.version c.args.bytes.now (job_in c.in-Some.parts) (c.in_ok-whole_at.ensures ∙ ap (λ o. Ok (option_map job_in o)) c.in-Some.is) c.in_err-job-in-Some.field-0.0 c.in_err-job-in-Some.ensures.err)
 
 pub returns-in-None : goal.returns-in-None
-returns-in-None c = by_none c.args.version c.args.bytes.now (λ i. omega (arith, c.type_inv.bytes i)) (c.in_ok-whole_at.ensures ∙ ap (λ o. Ok (option_map job_in o)) c.in-None.is)
+returns-in-None c = c.in_ok-whole_at.ensures ∙ ap (λ o. Ok (option_map job_in o)) c.in-None.is
 
 pub returns-in_ok-job-in-Some : goal.returns-in_ok-job-in-Some
-returns-in_ok-job-in-Some c = by_job c.args.version c.args.bytes.now (λ i. omega (arith, c.type_inv.bytes i)) (job_in c.in-Some.parts) (c.in_ok-whole_at.ensures ∙ ap (λ o. Ok (option_map job_in o)) c.in-Some.is) c.in_ok-job-in-Some.job c.in_ok-job-in-Some.ensures.ok
+returns-in_ok-job-in-Some c = by_job c.args.version c.args.bytes.now (job_in c.in-Some.parts) (c.in_ok-whole_at.ensures ∙ ap (λ o. Ok (option_map job_in o)) c.in-Some.is) c.in_ok-job-in-Some.job c.in_ok-job-in-Some.ensures.ok
