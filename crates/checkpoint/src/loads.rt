@@ -21,8 +21,8 @@ use crate::places::Place;
 use crate::reads::read_run;
 use command_core::{Command, State};
 use sector_disk::{SECTOR_SIZE, Sectors};
-use state_codec::{CodecFault, decode_state};
 use state_codec::version::Version;
+use state_codec::{CodecFault, decode_state};
 use std::alloc::Global;
 
 /// The sectors of the smallest store of any version.

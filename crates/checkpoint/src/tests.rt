@@ -150,3 +150,30 @@ fn faults_have_names(rt: HostRuntime) {
         ("OutOfMemory", "DeviceFault")
     );
 }
+
+#[test]
+fn what_was_committed_is_loaded(rt: HostRuntime) -> Result<(), Fail> {
+    let mut device = MemDevice::new(rt.alloc(), SECTORS)?;
+    assert!(rt;
+        matches!(
+            load_latest(rt.alloc(), &mut device),
+            Err(StoreFault::NotFormatted)
+        )
+    );
+    let place = format(rt.alloc(), &mut device)?;
+    let place = commit_record(&mut device, place, &Command::Search(256))?;
+    let place = commit_record(&mut device, place, &Command::Pin(1, 2))?;
+    let loaded = load_latest(rt.alloc(), &mut device)?;
+    assert_eq!(rt; (loaded.place, device.calls()), (place, 10));
+    assert!(rt; matches!(loaded.state, State::Empty));
+    assert!(rt;
+        matches!(
+            loaded.commands.as_slice(),
+            [Command::Search(256), Command::Pin(1, 2)]
+        )
+    );
+    let place = commit_snapshot(rt.alloc(), &mut device, place, &State::Empty)?;
+    let loaded = load_latest(rt.alloc(), &mut device)?;
+    assert_eq!(rt; (loaded.place, loaded.commands.len()), (place, 0));
+    Ok(())
+}

@@ -22,5 +22,5 @@ pub returns-in-Err : goal.returns-in-Err
 returns-in-Err c = record {
   fails = subst IsOfBytes (sym c.told_of.ensures) (of_bytes c.in-Err.fault);
   found = λ sectors image parts. subst (UnlessUnread (HoldsNothing c.args.version image)) (sym c.told_of.ensures)
-    (codec_refused c.args.version image c.args.opened.now.header c.args.bytes.now parts.counts parts.snapshot c.in-Err.fault (subst (Decodes c.args.version c.args.bytes.now) c.in-Err.is c.requires.decodes));
+      (codec_refused c.args.version image c.args.opened.now.header c.args.bytes.now parts.counts parts.snapshot c.in-Err.fault (subst (Decodes c.args.version c.args.bytes.now) c.in-Err.is c.requires.decodes));
 }
