@@ -51,7 +51,7 @@ decodes v bytes fits (Ok Empty) h = whole_takes v bytes fits None h
 decodes v bytes fits (Ok (Loaded j)) h = let k = whole_takes v bytes fits (Some j) h in (k.0, k.1.of)
 decodes v bytes fits (Err Truncated) h = h
 decodes v bytes fits (Err BadField) h = h
-decodes v bytes fits (Err (PlanRefused rule)) h = let k = whole_takes v bytes fits (Some h.0) h.1 in (h.0, k.0, k.1.of, h.2)
+decodes v bytes fits (Err (PlanRefused rule)) h = let k = whole_takes v bytes fits (Some h.0) h.1 in (h.0, h.1, k.0, k.1.of, h.2)
 decodes v bytes fits (Err OutOfMemory) h = tt
 
 -- ---- a state that keeps its facts is not refused

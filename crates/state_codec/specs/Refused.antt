@@ -44,7 +44,7 @@ abbrev pub Decodes : Version → List ℕ → Result State CodecFault → Type 0
 Decodes v bytes (Ok state) = (bytes ≡ state_bytes v state) × IsStateOf v state
 Decodes v bytes (Err Truncated) = whole_at v bytes ≡ Err Truncated
 Decodes v bytes (Err BadField) = whole_at v bytes ≡ Err BadField
-Decodes v bytes (Err (PlanRefused rule)) = (j : JobValue) × (bytes ≡ state_bytes v (Loaded j)) × IsStateOf v (Loaded j) × IsRefused j rule
+Decodes v bytes (Err (PlanRefused rule)) = (j : JobValue) × (whole_at v bytes ≡ Ok (Some j)) × (bytes ≡ state_bytes v (Loaded j)) × IsStateOf v (Loaded j) × IsRefused j rule
 Decodes v bytes (Err OutOfMemory) = Unit {0}
 
 -- what was read: nothing is loaded, or a job
