@@ -106,12 +106,12 @@ visit_again s wanted rest visit goods fits =
     let window : (nat_le s.earliest s.latest && is_time s.latest) ≡ true = parts_and _ _ (is_le s.earliest s.latest visit.window) (is_le s.latest 100000000 visit.latest) in
     ap (visit_at s.number wanted) regrouped
     ∙ rw (only_again is_coordinate (signed_at (signed_bytes s.x ++ y)) (s.x, y) (signed_again s.x y (small s.x visit.x.0 visit.x.1)) (is_coordinate-holds s.x visit.x))
-      (rw (only_again is_coordinate (signed_at y) (s.y, demand) (signed_again s.y demand (small s.y visit.y.0 visit.y.1)) (is_coordinate-holds s.y visit.y))
-      (rw (only_again (is_wanted wanted) (signed_at demand) (s.demand, earliest) (signed_again s.demand earliest fits) goods)
-      (rw (only_again is_time (number_at 4 earliest) (s.earliest, latest) (number_again 4 s.earliest latest (omega (arith, visit.window, visit.latest))) (is_le s.earliest 100000000 (omega (arith, visit.window, visit.latest))))
-      (rw (only_again (λ t. nat_le s.earliest t && is_time t) (number_at 4 latest) (s.latest, service) (number_again 4 s.latest service (omega (arith, visit.latest))) window)
-      (rw (only_again is_service (number_at 4 service) (s.service, rest) (number_again 4 s.service rest (omega (arith, visit.service))) (is_le s.service 1000000 visit.service))
-      refl)))))
+    (rw (only_again is_coordinate (signed_at y) (s.y, demand) (signed_again s.y demand (small s.y visit.y.0 visit.y.1)) (is_coordinate-holds s.y visit.y))
+    (rw (only_again (is_wanted wanted) (signed_at demand) (s.demand, earliest) (signed_again s.demand earliest fits) goods)
+    (rw (only_again is_time (number_at 4 earliest) (s.earliest, latest) (number_again 4 s.earliest latest (omega (arith, visit.window, visit.latest))) (is_le s.earliest 100000000 (omega (arith, visit.window, visit.latest))))
+    (rw (only_again (λ t. nat_le s.earliest t && is_time t) (number_at 4 latest) (s.latest, service) (number_again 4 s.latest service (omega (arith, visit.latest))) window)
+    (rw (only_again is_service (number_at 4 service) (s.service, rest) (number_again 4 s.service rest (omega (arith, visit.service))) (is_le s.service 1000000 visit.service))
+    refl)))))
 
 -- ---- stops with their numbers
 

@@ -132,8 +132,8 @@ vehicle_again v pin route rest front fit =
     let regrouped : vehicle_word v (pin, route) ++ rest ≡ count_bytes v (length pin) ++ len = simp append_assoc in
     ap (vehicle_at v) regrouped
     ∙ rw (number_again (width v) (length pin) len (omega (arith, front.within, fit.short)))
-      (rw (only_again (nat_le (length pin)) (number_at (width v) len) (length route, stops) (number_again (width v) (length route) stops fit.short) (is_le (length pin) (length route) front.within))
-      (rw (stops_again v route rest fit.stops) (ap (λ (p : List ℕ). Ok ((p, route), rest)) front.front)))
+    (rw (only_again (nat_le (length pin)) (number_at (width v) len) (length route, stops) (number_again (width v) (length route) stops fit.short) (is_le (length pin) (length route) front.within))
+    (rw (stops_again v route rest fit.stops) (ap (λ (p : List ℕ). Ok ((p, route), rest)) front.front)))
 
 abbrev pairs_bytes : Version → List (List ℕ) × List (List ℕ) → List ℕ
 pairs_bytes v e = vehicles_bytes v e.0 e.1

@@ -10,7 +10,7 @@ pub one_more : (pins routes : List (List ℕ)) (k : ℕ) (out old : List ℕ) �
 one_more pins routes k out old same below is =
     let word = count_bytes Two (length (get_or pins k [])) ++ (count_bytes Two (length (get_or routes k [])) ++ stops_bytes Two (get_or routes k [])) in
     let more : vehicles_bytes Two (take (k + 1) pins) (take (k + 1) routes) ≡ vehicles_bytes Two (take k pins) (take k routes) ++ word =
-        rw (take_more pins k [] below, take_more routes k [] (omega (arith, same, below))) (vehicles_one Two (take k pins) (take k routes) (get_or pins k []) (get_or routes k []) (omega (arith, same, length-take k pins, length-take k routes))) in
+    rw (take_more pins k [] below, take_more routes k [] (omega (arith, same, below))) (vehicles_one Two (take k pins) (take k routes) (get_or pins k []) (get_or routes k []) (omega (arith, same, length-take k pins, length-take k routes))) in
     ap (λ t. t ++ word) is ∙ append_assoc old (vehicles_bytes Two (take k pins) (take k routes)) word ∙ ap (λ t. old ++ t) (sym more)
 
 pub one_written : (pins routes : List (List ℕ)) (k : ℕ) (out old new pin route : List ℕ) → length pins ≡ length routes → k < length pins → out ≡ old ++ vehicles_bytes Two (take k pins) (take k routes) → pin ≡ get_or pins k [] → route ≡ get_or routes k []

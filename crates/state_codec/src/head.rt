@@ -13,6 +13,7 @@ use plan_types::limits::MAX_CAPACITY;
 use plan_types::{Kind, Stop};
 
 const MAX_STEPS: u64 = 1 << 60;
+
 const MAX_DEVIATION: u32 = 1_000_000_000;
 
 #[derive(Clone, Copy, Debug)]
