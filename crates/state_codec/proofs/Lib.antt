@@ -16,3 +16,4 @@ pub mod PinLemmas
 pub mod PlainLaws
 pub mod DecodeLemmas
 pub mod AgainLaws
+pub mod LengthLemmas

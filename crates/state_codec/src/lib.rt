@@ -5,6 +5,7 @@ mod fault;
 mod fields;
 mod head;
 mod judging;
+mod laws;
 mod parts;
 mod records;
 mod requests;
@@ -15,6 +16,7 @@ mod version;
 mod writing;
 
 pub use fault::CodecFault;
+pub use laws::encodings_fit;
 pub use records::{decode_record, decode_record_v1, encode_record};
 pub use states::{decode_state, decode_state_v1};
 pub use writing::encode_state;
