@@ -49,7 +49,7 @@ unfolding first_at
 first_again v next before s rest most-is is goods name below =
     ap (first_at v next before) (append_assoc (count_bytes v s.number) (visit_bytes s) rest)
     ∙ rw (only_again (is_name next before) (number_at (width v) (count_bytes v s.number ++ (visit_bytes s ++ rest))) (s.number, visit_bytes s ++ rest) (number_again (width v) s.number (visit_bytes s ++ rest) (room v next s.number most-is below)) name)
-      (visit_again s None rest is.visit (is_demand-holds s.demand goods) (small s.demand (grind (arith, ints, goods.0)) goods.1))
+    (visit_again s None rest is.visit (is_demand-holds s.demand goods) (small s.demand (grind (arith, ints, goods.0)) goods.1))
 
 delivery_again : (v : Version) (next : ℕ) (before : List (ℕ × Request)) (p d : Stop) (rest : List ℕ) → next ≤ most v + 1 → IsStop d → IsDemand p.demand → d.demand ≡ neg_ℤ p.demand → is_delivery next before p.number d.number ≡ true → d.number < next → delivery_at v next before p (stop_bytes v d ++ rest) ≡ Ok (d, rest)
 unfolding delivery_at
@@ -57,7 +57,7 @@ delivery_again v next before p d rest most-is is goods opposite name below =
     let wanted : is_wanted (Some (neg_ℤ p.demand)) d.demand ≡ true = rw opposite (int_eq-same (neg_ℤ p.demand)) in
     ap (delivery_at v next before p) (append_assoc (count_bytes v d.number) (visit_bytes d) rest)
     ∙ rw (only_again (is_delivery next before p.number) (number_at (width v) (count_bytes v d.number ++ (visit_bytes d ++ rest))) (d.number, visit_bytes d ++ rest) (number_again (width v) d.number (visit_bytes d ++ rest) (room v next d.number most-is below)) name)
-      (visit_again d (Some (neg_ℤ p.demand)) rest is.visit wanted (small d.demand (grind (arith, ints, opposite, goods.0, goods.1)) (grind (arith, ints, opposite, goods.0, goods.1))))
+    (visit_again d (Some (neg_ℤ p.demand)) rest is.visit wanted (small d.demand (grind (arith, ints, opposite, goods.0, goods.1)) (grind (arith, ints, opposite, goods.0, goods.1))))
 
 not_eq : (a b : ℕ) → b ≢ a → not (a == b) ≡ true
 not_eq a b h = grind (arith, h)
@@ -73,7 +73,7 @@ request_again v next before (Pair p d) rest most-is new =
     let second = stop_bytes v d ++ rest in
     ap (λ t. request_at v next before (2 ∷ t)) (append_assoc (stop_bytes v p) (stop_bytes v d) rest)
     ∙ rw (first_again v next before p second most-is new.request.0 new.request.3 name new.below.0)
-      (rw (delivery_again v next before p d rest most-is new.request.1 new.request.3 new.request.4 other new.below.1.0) refl)
+    (rw (delivery_again v next before p d rest most-is new.request.1 new.request.3 new.request.4 other new.below.1.0) refl)
 
 -- ---- all requests of a problem
 
@@ -124,12 +124,14 @@ IsNext next before e = IsNew next before e.1 × (e.0 ≡ request_name e.1)
 
 behind : (next : ℕ) (before : List (ℕ × Request)) (e : ℕ × Request) (es : List (ℕ × Request)) → IsBehind next before (e ∷ es) → IsNew next before e.1 × IsBehind next (before ++ e ∷ []) es
 unfolding IsDistinct IsStrictlySortedBy
-behind next before (n, Single s) es is =
-    (record { request = is.valid.0; names = subst (λ k. list_all (λ f. nat_lt f.0 k) before ≡ true) is.named.0 is.names.0; free = (is.free.0, tt); below = (is.below.0, tt) },
-    record { names = names_all before (n, Single s) es is.names.1 is.rising.0; free = free_all before (n, Single s) (numbers_among es) is.free.1 (single_apart s (numbers_among es) is.distinct.0); rising = is.rising.1; distinct = is.distinct.1; named = is.named.1; valid = is.valid.1; below = is.below.1 })
-behind next before (n, Pair a b) es is =
-    (record { request = is.valid.0; names = subst (λ k. list_all (λ f. nat_lt f.0 k) before ≡ true) is.named.0 is.names.0; free = (is.free.0, (is.free.1.0, tt)); below = (is.below.0, (is.below.1.0, tt)) },
-    record { names = names_all before (n, Pair a b) es is.names.1 is.rising.0; free = free_all before (n, Pair a b) (numbers_among es) is.free.1.1 (pair_apart a b (numbers_among es) is.distinct.0.1 is.distinct.1.0); rising = is.rising.1; distinct = is.distinct.1.1; named = is.named.1; valid = is.valid.1; below = is.below.1.1 })
+behind next before (n, Single s) es is = (
+  record { request = is.valid.0; names = subst (λ k. list_all (λ f. nat_lt f.0 k) before ≡ true) is.named.0 is.names.0; free = (is.free.0, tt); below = (is.below.0, tt) },
+  record { names = names_all before (n, Single s) es is.names.1 is.rising.0; free = free_all before (n, Single s) (numbers_among es) is.free.1 (single_apart s (numbers_among es) is.distinct.0); rising = is.rising.1; distinct = is.distinct.1; named = is.named.1; valid = is.valid.1; below = is.below.1 },
+)
+behind next before (n, Pair a b) es is = (
+  record { request = is.valid.0; names = subst (λ k. list_all (λ f. nat_lt f.0 k) before ≡ true) is.named.0 is.names.0; free = (is.free.0, (is.free.1.0, tt)); below = (is.below.0, (is.below.1.0, tt)) },
+  record { names = names_all before (n, Pair a b) es is.names.1 is.rising.0; free = free_all before (n, Pair a b) (numbers_among es) is.free.1.1 (pair_apart a b (numbers_among es) is.distinct.0.1 is.distinct.1.0); rising = is.rising.1; distinct = is.distinct.1.1; named = is.named.1; valid = is.valid.1; below = is.below.1.1 },
+)
 
 abbrev snoc : List (ℕ × Request) → ℕ × Request → List (ℕ × Request)
 snoc before e = before ++ e ∷ []
@@ -188,7 +190,11 @@ head_is v j is of =
     let p = is.problem in
     record {
       head = record { depot = p.depot; capacity = p.capacity; fleet = p.fleet; next_from_one = p.next_from_one; next_to_most = p.next_to_most };
-      fleet = fleet_most v j of p; next_number = next_most v j of p; deviation = allowance_of v j of is.deviation; seed = is.seed; steps = is.steps;
+      fleet = fleet_most v j of p;
+      next_number = next_most v j of p;
+      deviation = allowance_of v j of is.deviation;
+      seed = is.seed;
+      steps = is.steps;
     }
 
 room_all : (v : Version) (next : ℕ) (ns : List ℕ) → next ≤ most v + 1 → AreBelow next ns → HaveRoom v ns
@@ -204,7 +210,7 @@ unfolding problem_at
 problem_again v j rest is below =
     let es = j.problem.requests in
     rw (number_again (width v) (length es) (requests_bytes v es ++ rest) (room v j.problem.next_number (length es) below (requests_below j.problem is)))
-      (rw (requests_again v j.problem.next_number es rest below (first_behind j.problem is)) refl)
+    (rw (requests_again v j.problem.next_number es rest below (first_behind j.problem is)) refl)
 
 work_again : (v : Version) (j : JobValue) (rest : List ℕ) → IsJobOf v j → length j.work ≡ j.problem.fleet → AllByRecursion (IsWritable v) j.work → work_at v j.problem.fleet j.plan (work_bytes v j.work ++ rest) ≡ Ok (j.work, rest)
 work_again One j rest of same fit = ap (λ (w : List (List ℕ)). Ok (w, rest)) (sym of.work)
@@ -227,9 +233,9 @@ job_again law v j rest is of =
     let all-vehicles : times (next_vehicle v) j.problem.fleet ([], []) vehicles ≡ Ok ((j.pins, j.plan), work) = ap (λ n. times (next_vehicle v) n ([], []) vehicles) (sym s.plan.fleet) ∙ more_vehicles v j.pins j.plan [] [] work s.fronts plan-fit in
     ap (job_at v) regrouped
     ∙ rw (head_again v (head_of j) problem (head_is v j is of))
-      (rw (problem_again v j vehicles is.problem below)
-      (rw all-vehicles
-      (rw (work_again v j rest of s.work.fleet work-fit) refl)))
+    (rw (problem_again v j vehicles is.problem below)
+    (rw all-vehicles
+    (rw (work_again v j rest of s.work.fleet work-fit) refl)))
 
 pub whole_again : StopsAreBelowNext → (v : Version) (j : JobValue) → IsJob j → IsJobOf v j → whole_at v (1 ∷ job_bytes v j) ≡ Ok (Some j)
 unfolding whole_at state_at byte_at

@@ -71,10 +71,10 @@ depot_again s rest is =
     let window : (nat_le s.earliest s.latest && is_time s.latest) ≡ true = parts_and _ _ (is_le s.earliest s.latest visit.window) (is_le s.latest 100000000 visit.latest) in
     ap depot_at regrouped
     ∙ rw (only_again is_coordinate (signed_at (signed_bytes s.x ++ y)) (s.x, y) (signed_again s.x y (small s.x visit.x.0 visit.x.1)) (is_coordinate-holds s.x visit.x))
-      (rw (only_again is_coordinate (signed_at y) (s.y, earliest) (signed_again s.y earliest (small s.y visit.y.0 visit.y.1)) (is_coordinate-holds s.y visit.y))
-      (rw (only_again is_time (number_at 4 earliest) (s.earliest, latest) (number_again 4 s.earliest latest (omega (arith, visit.window, visit.latest))) (is_le s.earliest 100000000 (omega (arith, visit.window, visit.latest))))
-      (rw (only_again (λ t. nat_le s.earliest t && is_time t) (number_at 4 latest) (s.latest, rest) (number_again 4 s.latest rest (omega (arith, visit.latest))) window)
-      (ap (λ (z : Stop). Ok (z, rest)) (depot_is s is)))))
+    (rw (only_again is_coordinate (signed_at y) (s.y, earliest) (signed_again s.y earliest (small s.y visit.y.0 visit.y.1)) (is_coordinate-holds s.y visit.y))
+    (rw (only_again is_time (number_at 4 earliest) (s.earliest, latest) (number_again 4 s.earliest latest (omega (arith, visit.window, visit.latest))) (is_le s.earliest 100000000 (omega (arith, visit.window, visit.latest))))
+    (rw (only_again (λ t. nat_le s.earliest t && is_time t) (number_at 4 latest) (s.latest, rest) (number_again 4 s.latest rest (omega (arith, visit.latest))) window)
+    (ap (λ (z : Stop). Ok (z, rest)) (depot_is s is)))))
 
 -- ---- the deviation
 
@@ -153,10 +153,10 @@ head_again v h rest is =
     let regrouped : head_text v h ++ rest ≡ kind_code h.kind ∷ seed = ap (λ t. kind_code h.kind ∷ t) moved in
     ap (head_at v) regrouped
     ∙ rw (kind_again h.kind seed)
-      (rw (number_again 8 h.seed steps is.seed)
-      (rw (only_again is_steps (number_at 8 steps) (h.steps, capacity) (number_again 8 h.steps capacity (omega (arith, is.steps))) (is_le h.steps (2 ^ 60) is.steps))
-      (rw (only_again is_capacity (number_at 4 capacity) (h.capacity, fleet) (number_again 4 h.capacity fleet (omega (arith, is.head.capacity))) (is_le h.capacity 1000000 is.head.capacity))
-      (rw (only_again (is_fleet v) (number_at (width v) fleet) (h.fleet, next) (number_again (width v) h.fleet next (fleet_below v h.fleet (omega (arith, is.fleet)))) (parts_and _ _ (is_le 1 h.fleet is.head.fleet.0) (is_le h.fleet (most v) is.fleet)))
-      (rw (only_again (is_next v) (number_at (width v) next) (h.next_number, depot) (number_again (width v) h.next_number depot (fleet_below v h.next_number is.next_number)) (parts_and _ _ (is_le 1 h.next_number is.head.next_from_one) (is_le h.next_number (most v + 1) is.next_number)))
-      (rw (depot_again h.depot deviation is.head.depot)
-      (rw (allowance_again v h.deviation rest is.deviation) refl)))))))
+    (rw (number_again 8 h.seed steps is.seed)
+    (rw (only_again is_steps (number_at 8 steps) (h.steps, capacity) (number_again 8 h.steps capacity (omega (arith, is.steps))) (is_le h.steps (2 ^ 60) is.steps))
+    (rw (only_again is_capacity (number_at 4 capacity) (h.capacity, fleet) (number_again 4 h.capacity fleet (omega (arith, is.head.capacity))) (is_le h.capacity 1000000 is.head.capacity))
+    (rw (only_again (is_fleet v) (number_at (width v) fleet) (h.fleet, next) (number_again (width v) h.fleet next (fleet_below v h.fleet (omega (arith, is.fleet)))) (parts_and _ _ (is_le 1 h.fleet is.head.fleet.0) (is_le h.fleet (most v) is.fleet)))
+    (rw (only_again (is_next v) (number_at (width v) next) (h.next_number, depot) (number_again (width v) h.next_number depot (fleet_below v h.next_number is.next_number)) (parts_and _ _ (is_le 1 h.next_number is.head.next_from_one) (is_le h.next_number (most v + 1) is.next_number)))
+    (rw (depot_again h.depot deviation is.head.depot)
+    (rw (allowance_again v h.deviation rest is.deviation) refl)))))))

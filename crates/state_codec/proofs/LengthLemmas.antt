@@ -1,88 +1,73 @@
--- The lengths of the parts of a state.
-use Rattle.std.proofs.Common.{◌≡◌, ℕ, zero, suc, ◌+◌, ◌*◌, ◌<◌, ◌≤◌, List, [], ◌∷◌, ◌++◌, length, refl, sym, ap, ◌∙◌, arith, length-append}
-use Rattle.std.specs.List.{concat, flat_map}
-use Rattle.plan_types.specs.Instance.{Instance, IsInstance, numbers_among}
+-- The lengths of encodings.
+use Rattle.std.proofs.Common.{◌≡◌, ℕ, ◌+◌, ◌*◌, ◌<◌, ◌≤◌, List, [], ◌∷◌, ◌++◌, length, refl, sym, ap, ◌∙◌, arith, length-append}
+use Rattle.std.specs.List.{concat}
 use Rattle.plan_types.specs.Laws.{StopsAreBelowNext}
+use Rattle.plan_types.specs.Instance.{numbers_among}
+use Rattle.plan_types.specs.declared.requests.Stop.{Stop}
+use Rattle.plan_types.specs.declared.requests.Kind.{Kind}
 use Rattle.plan_types.specs.declared.requests.Request.{Request}
 use Rattle.plan_types.specs.declared.requests.Request.TheVariants.{Single, Pair}
 use Rattle.command_core.specs.Job.{JobValue, IsJob}
-use Rattle.command_core.specs.declared.states.State.TheVariants.{Loaded}
+use Rattle.command_core.specs.declared.states.State.{State}
+use Rattle.command_core.specs.declared.states.State.TheVariants.{Empty, Loaded}
 use Rattle.state_codec.specs.declared.version.Version.TheVariants.{Two}
-use Rattle.state_codec.specs.Bytes.{number_bytes, signed_bytes, head_bytes, count_bytes, request_bytes, requests_bytes, stops_bytes, vehicles_bytes, routes_bytes, state_bytes}
-use Rattle.state_codec.proofs.SizeLemmas.{Sizes, sizes, few_numbers}
+use Rattle.state_codec.specs.Bytes.{number_bytes, signed_bytes, stop_bytes, requests_bytes, stops_bytes, vehicles_bytes, routes_bytes, head_bytes, job_bytes, state_bytes}
+use Rattle.state_codec.specs.Sizes.{StatesAreShort}
+use Rattle.state_codec.specs.Lengths.{state_len, EncodingsFit}
+use Rattle.state_codec.proofs.SizeLemmas.{sizes, few_numbers, requests_below}
 
--- the fields before the requests
-length-head : (j : JobValue) → length (head_bytes Two j) ≡ 49
+len_stop : (s : Stop) → length (stop_bytes Two s) ≡ 28
 unfolding number_bytes signed_bytes
-length-head j = refl
+len_stop s = refl
 
-length-count : (n : ℕ) → length (count_bytes Two n) ≡ 4
+len_stops : (ns : List ℕ) → length (stops_bytes Two ns) ≡ 4 * length ns
 unfolding number_bytes
-length-count n = refl
+len_stops [] = refl
+len_stops (n ∷ ns) = let h = len_stops ns in omega (arith, h)
 
-length-single : (request : Request) → length (request_bytes Two request) ≤ 29 * length (numbers_among ((0, request) ∷ []))
+len_routes : (rs : List (List ℕ)) → length (routes_bytes Two rs) ≡ 4 * length rs + 4 * length (concat rs)
+unfolding number_bytes
+len_routes [] = refl
+len_routes (r ∷ rs) =
+    let h = len_routes rs in
+    omega (arith, h, len_stops r, length-append (number_bytes 4 (length r) ++ stops_bytes Two r) (routes_bytes Two rs), length-append r (concat rs), length-append (number_bytes 4 (length r)) (stops_bytes Two r))
+
+len_vehicles : (ps rs : List (List ℕ)) → length ps ≡ length rs → length (vehicles_bytes Two ps rs) ≡ 8 * length rs + 4 * length (concat rs)
+unfolding number_bytes
+len_vehicles [] [] same = refl
+len_vehicles [] (r ∷ rs) same = absurd (omega (arith, same))
+len_vehicles (p ∷ ps) [] same = absurd (omega (arith, same))
+len_vehicles (p ∷ ps) (r ∷ rs) same =
+    let h = len_vehicles ps rs (omega (arith, same)) in
+    omega (arith, h, len_stops r, length-append (number_bytes 4 (length p) ++ (number_bytes 4 (length r) ++ stops_bytes Two r)) (vehicles_bytes Two ps rs), length-append r (concat rs))
+
+len_requests : (es : List (ℕ × Request)) → length (requests_bytes Two es) ≡ length es + 28 * length (numbers_among es)
 unfolding number_bytes signed_bytes
-length-single (Single stop) = omega arith
-length-single (Pair pickup delivery) = omega arith
+len_requests [] = refl
+len_requests ((n, Single s) ∷ es) = let h = len_requests es in omega (arith, h)
+len_requests ((n, Pair a b) ∷ es) = let h = len_requests es in omega (arith, h)
 
-length-requests : (requests : List (ℕ × Request)) → length (requests_bytes Two requests) ≤ 29 * length (numbers_among requests)
-length-requests [] = omega arith
-length-requests ((n, Single stop) ∷ requests) =
-    let one = length-single (Single stop) in
-    let rest = length-requests requests in
-    let whole = length-append (request_bytes Two (Single stop)) (requests_bytes Two requests) in
-    omega (arith, one, rest, whole)
-length-requests ((n, Pair pickup delivery) ∷ requests) =
-    let one = length-single (Pair pickup delivery) in
-    let rest = length-requests requests in
-    let whole = length-append (request_bytes Two (Pair pickup delivery)) (requests_bytes Two requests) in
-    omega (arith, one, rest, whole)
+len_head : (j : JobValue) → length (head_bytes Two j) ≡ 49
+unfolding number_bytes signed_bytes
+len_head j = refl
 
-length-stops : (stops : List ℕ) → length (stops_bytes Two stops) ≡ 4 * length stops
-length-stops [] = refl
-length-stops (n ∷ stops) =
-    let one = length-count n in
-    let rest = length-stops stops in
-    let whole = length-append (count_bytes Two n) (stops_bytes Two stops) in
-    omega (arith, one, rest, whole)
+len_count : (n : ℕ) → length (number_bytes 4 n) ≡ 4
+unfolding number_bytes
+len_count n = refl
 
-length-vehicles : (pins routes : List (List ℕ)) → length (vehicles_bytes Two pins routes) ≤ 8 * length routes + 4 * length (concat routes)
-length-vehicles [] routes = omega arith
-length-vehicles (pin ∷ pins) [] = omega arith
-length-vehicles (pin ∷ pins) (route ∷ routes) =
-    let rest = length-vehicles pins routes in
-    let stops = length-stops route in
-    let first = length-count (length pin) in
-    let second = length-count (length route) in
-    let inner = length-append (count_bytes Two (length route)) (stops_bytes Two route) in
-    let vehicle = length-append (count_bytes Two (length pin)) (count_bytes Two (length route) ++ stops_bytes Two route) in
-    let whole = length-append (count_bytes Two (length pin) ++ (count_bytes Two (length route) ++ stops_bytes Two route)) (vehicles_bytes Two pins routes) in
-    let joined = length-append route (concat routes) in
-    omega (arith, rest, stops, first, second, inner, vehicle, whole, joined)
-
-length-routes : (routes : List (List ℕ)) → length (routes_bytes Two routes) ≡ 4 * length routes + 4 * length (concat routes)
-length-routes [] = refl
-length-routes (route ∷ routes) =
-    let rest = length-routes routes in
-    let stops = length-stops route in
-    let second = length-count (length route) in
-    let inner = length-append (count_bytes Two (length route)) (stops_bytes Two route) in
-    let whole = length-append (count_bytes Two (length route) ++ stops_bytes Two route) (routes_bytes Two routes) in
-    let joined = length-append route (concat routes) in
-    omega (arith, rest, stops, second, inner, whole, joined)
-
-pub short : StopsAreBelowNext → (j : JobValue) → IsJob j → length (state_bytes Two (Loaded j)) ≤ 1960054
-short law j is =
+pub encodings_fit : StopsAreBelowNext → EncodingsFit
+encodings_fit law Empty is = (refl, omega arith)
+encodings_fit law (Loaded j) is =
     let s = sizes law j is in
-    let head = length-head j in
-    let count = length-count (length j.problem.requests) in
-    let requests = length-requests j.problem.requests in
-    let numbers = few_numbers j.problem is.problem in
-    let vehicles = length-vehicles j.pins j.plan in
-    let work = length-routes j.work in
-    let fleet = is.problem.fleet in
-    let a = length-append (vehicles_bytes Two j.pins j.plan) (routes_bytes Two j.work) in
-    let b = length-append (requests_bytes Two j.problem.requests) (vehicles_bytes Two j.pins j.plan ++ routes_bytes Two j.work) in
-    let d = length-append (count_bytes Two (length j.problem.requests)) (requests_bytes Two j.problem.requests ++ (vehicles_bytes Two j.pins j.plan ++ routes_bytes Two j.work)) in
-    let e = length-append (head_bytes Two j) (count_bytes Two (length j.problem.requests) ++ (requests_bytes Two j.problem.requests ++ (vehicles_bytes Two j.pins j.plan ++ routes_bytes Two j.work))) in
-    omega (arith, head, count, requests, numbers, vehicles, work, s.plan.total, s.plan.fleet, s.work.total, s.work.fleet, fleet, a, b, d, e)
+    let count = number_bytes 4 (length j.problem.requests) in
+    let requests = requests_bytes Two j.problem.requests in
+    let vehicles = vehicles_bytes Two j.pins j.plan in
+    let routes = routes_bytes Two j.work in
+    (
+      omega (arith, len_head j, len_count (length j.problem.requests), len_requests j.problem.requests, len_vehicles j.pins j.plan s.same, len_routes j.work, length-append (head_bytes Two j) (count ++ (requests ++ (vehicles ++ routes))), length-append count (requests ++ (vehicles ++ routes)), length-append requests (vehicles ++ routes), length-append vehicles routes),
+      omega (arith, few_numbers j.problem is.problem, requests_below j.problem is.problem, s.plan.total, s.work.total, s.plan.fleet, s.work.fleet, is.problem.fleet.1, is.problem.next_to_most),
+    )
+
+-- the bound alone, of a job
+pub short : StopsAreBelowNext → StatesAreShort
+short law j is = let h = encodings_fit law (Loaded j) is in omega (arith, h.0, h.1)

@@ -10,10 +10,10 @@ pub mod RouteLaws
 pub mod WritingLemmas
 pub mod PutLemmas
 pub mod SizeLemmas
-mod LengthLemmas
 pub mod HeadLaws
 pub mod JobLaws
 pub mod PinLemmas
 pub mod PlainLaws
 pub mod DecodeLemmas
 pub mod AgainLaws
+pub mod LengthLemmas

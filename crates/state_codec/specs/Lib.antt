@@ -1,6 +1,7 @@
 -- what public contracts reach
 pub mod Bytes
 pub mod Fields
+pub mod Lengths
 pub mod Limits
 pub mod Reading
 pub mod Sizes

@@ -5,6 +5,7 @@ mod fault;
 mod fields;
 mod head;
 mod judging;
+mod laws;
 mod parts;
 mod records;
 mod requests;
@@ -16,6 +17,7 @@ mod states;
 mod writing;
 
 pub use fault::CodecFault;
+pub use laws::encodings_fit;
 pub use records::{decode_record, decode_record_v1, encode_record};
 pub use sizes::states_are_short;
 pub use states::{decode_state, decode_state_v1};

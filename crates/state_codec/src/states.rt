@@ -35,9 +35,7 @@ fn judged(alloc: Global, parts: Parts) -> Result<Job, CodecFault>
     pins_are_live_once();
     judged_pins(&problem, pins.routes.as_slice())?;
     audited(alloc, &problem, &pins, &work)?;
-    Ok(Job::from_parts(
-        problem, pins, plan, work, deviation, seed, steps,
-    ))
+    Ok(Job::from_parts(problem, pins, plan, work, deviation, seed, steps))
 }
 
 /// The state whose encoding the bytes are. Else the first fault in reading order: `Truncated` where the bytes end before or inside a field

@@ -6,17 +6,17 @@ use command_core::{Command, Spot, State};
 
 // One customer, 1 at (3, 4) with demand 6, a capacity of 10 and one vehicle, just loaded.
 const LOADED: [u8; 95] = [
-    1, 2, 0, 0, 0, 0, 0, 0, 0, 0, 0, 0, 0, 0, 0, 0, 0, 0, 0, 0, 0, 10, 0, 0, 0, 1, 0, 0, 0, 2, 0, 0,
-    0, 0, 0, 0, 0, 0, 0, 0, 0, 0, 5, 245, 225, 0, 0, 0, 0, 0, 0, 0, 0, 1, 1, 0, 0, 0, 1, 0, 0, 0, 3,
-    0, 0, 0, 4, 0, 0, 0, 6, 0, 0, 0, 0, 5, 245, 225, 0, 0, 0, 0, 0, 0, 0, 0, 0, 0, 0, 0, 0, 0, 0, 0,
-    0,
+    1, 2, 0, 0, 0, 0, 0, 0, 0, 0, 0, 0, 0, 0, 0, 0, 0, 0, 0, 0, 0, 10, 0, 0, 0, 1, 0, 0, 0, 2, 0,
+    0, 0, 0, 0, 0, 0, 0, 0, 0, 0, 0, 5, 245, 225, 0, 0, 0, 0, 0, 0, 0, 0, 1, 1, 0, 0, 0, 1, 0, 0,
+    0, 3, 0, 0, 0, 4, 0, 0, 0, 6, 0, 0, 0, 0, 5, 245, 225, 0, 0, 0, 0, 0, 0, 0, 0, 0, 0, 0, 0, 0,
+    0, 0, 0, 0,
 ];
 
 // The same in version 1.
 const LOADED_V1: [u8; 75] = [
-    1, 2, 0, 0, 0, 0, 0, 0, 0, 0, 0, 0, 0, 0, 0, 0, 0, 0, 0, 0, 0, 10, 0, 1, 0, 2, 0, 0, 0, 0, 0, 0,
-    0, 0, 0, 0, 0, 0, 5, 245, 225, 0, 0, 1, 1, 0, 1, 0, 0, 0, 3, 0, 0, 0, 4, 0, 0, 0, 6, 0, 0, 0, 0,
-    5, 245, 225, 0, 0, 0, 0, 0, 0, 0, 0, 0,
+    1, 2, 0, 0, 0, 0, 0, 0, 0, 0, 0, 0, 0, 0, 0, 0, 0, 0, 0, 0, 0, 10, 0, 1, 0, 2, 0, 0, 0, 0, 0,
+    0, 0, 0, 0, 0, 0, 0, 5, 245, 225, 0, 0, 1, 1, 0, 1, 0, 0, 0, 3, 0, 0, 0, 4, 0, 0, 0, 6, 0, 0,
+    0, 0, 5, 245, 225, 0, 0, 0, 0, 0, 0, 0, 0, 0,
 ];
 
 #[test]
@@ -128,10 +128,20 @@ fn each_command_has_its_record(rt: HostRuntime) {
         delivery: spot,
     };
     let record = encode_record(7, 8, &add);
-    assert!(rt; matches!(decode_record(&record, 7, 8), Some(Command::Add { demand: 5, .. })));
+    assert!(rt;
+        matches!(
+            decode_record(&record, 7, 8),
+            Some(Command::Add { demand: 5, .. })
+        )
+    );
     let record = encode_record(7, 8, &Command::Add1 { demand: 5, spot });
     assert!(rt; record[12..25] == [2, 0, 0, 0, 5, 255, 255, 255, 255, 0, 0, 0, 2]);
-    assert!(rt; matches!(decode_record(&record, 7, 8), Some(Command::Add1 { demand: 5, .. })));
+    assert!(rt;
+        matches!(
+            decode_record(&record, 7, 8),
+            Some(Command::Add1 { demand: 5, .. })
+        )
+    );
     let record = encode_record(7, 8, &Command::Pin(1, 65536));
     assert!(rt; matches!(decode_record(&record, 7, 8), Some(Command::Pin(1, 65536))));
     let record = encode_record(7, 8, &Command::Deviation(1_000_000_000));
