@@ -68,11 +68,13 @@ pub fn search_steps(
     ensures found { IfOk result (λ found. walked found.plan.routes found.work.routes ≡ steps problem.now pins.now.routes deviation seed step count (walked plan.now.routes work.now.routes)) }
     ensures passing { IfOk result (λ found. BothPass problem.now pins.now.routes (walked found.plan.routes found.work.routes)) }
 {
+    passes_are_local();
     plans_pass_without_pins();
     let mut found = Found {
         plan: plan.copy()?,
         work: work.copy()?,
     };
+    let mut best = plan_cost(problem, plan);
     let mut tables = Tables::build(alloc, problem, work)?;
     let mut words = StepWords::from_step(seed, step);
     for done in 0..count {
@@ -81,6 +83,7 @@ pub fn search_steps(
             problem,
             pins,
             &mut tables,
+            &mut best,
             found,
             deviation,
             &words.next_step(),
@@ -95,49 +98,55 @@ fn walked_on(
     problem: &Problem,
     pins: &Pins,
     tables: &mut Tables,
+    best: &mut Cost,
     found: Found,
     deviation: u32,
     words: &[u32; 16],
 ) -> Result<Found, OutOfMemory>
+    requires best { best.old ≡ cost_of problem.now found.plan.routes }
     requires tables { AreTablesOf problem.now found.work.routes tables.old }
     requires passing { BothPass problem.now pins.now.routes (walked found.plan.routes found.work.routes) }
     ensures found { IfOk result (λ new. walked new.plan.routes new.work.routes ≡ moved_on_by problem.now deviation (walked found.plan.routes found.work.routes) (candidate problem.now pins.now.routes found.work.routes words.now)) }
     ensures passing { IfOk result (λ new. BothPass problem.now pins.now.routes (walked new.plan.routes new.work.routes)) }
     ensures tables { IfOk result (λ new. AreTablesOf problem.now new.work.routes tables.new) }
+    ensures best { IfOk result (λ new. best.new ≡ cost_of problem.now new.plan.routes) }
 {
     passes_are_local();
     plans_pass_without_pins();
     match candidate(alloc, problem, pins, tables, &found.work, words)? {
-        Some(candidate) => moved_on(alloc, problem, tables, found, candidate, deviation),
+        Some(candidate) => moved_on(alloc, problem, tables, best, found, candidate, deviation),
         None => Ok(found),
     }
 }
 
-// What the candidate replaces. The tables are its own, and then those of the working plan.
+// What the candidate replaces. The tables are its own, and then those of the working plan; `best` is the incumbent's cost.
 fn moved_on(
     alloc: Global,
     problem: &Problem,
     tables: &mut Tables,
+    best: &mut Cost,
     found: Found,
     candidate: Plan,
     deviation: u32,
 ) -> Result<Found, OutOfMemory>
     requires tables { AreTablesOf problem.now candidate.routes tables.old }
-    requires incumbent { IsPlan problem.now found.plan.routes }
+    requires best { best.old ≡ cost_of problem.now found.plan.routes }
     requires plan { IsPlan problem.now candidate.routes }
     requires candidate { passes problem.now [] candidate.routes ≡ true }
     requires work { passes problem.now [] found.work.routes ≡ true }
     ensures moved { IfOk result (λ new. walked new.plan.routes new.work.routes ≡ moved_on problem.now deviation (walked found.plan.routes found.work.routes) candidate.routes) }
     ensures tables { IfOk result (λ new. AreTablesOf problem.now new.work.routes tables.new) }
+    ensures best { IfOk result (λ new. best.new ≡ cost_of problem.now new.plan.routes) }
 {
     costs_compare_part_by_part();
     let cost = plan_cost(problem, &candidate);
-    let best = plan_cost(problem, &found.plan);
+    let near = is_near(deviation, &cost, best);
     let mut found = found;
-    if cost <= best {
+    if cost <= *best {
         found.plan = candidate.copy()?;
+        *best = cost;
     }
-    if is_near(deviation, &cost, &best) {
+    if near {
         found.work = candidate;
     } else {
         follow(

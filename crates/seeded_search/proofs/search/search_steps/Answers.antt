@@ -12,6 +12,7 @@ loop-done-preserved c =
     record {
       seed = search rules;
       step = omega (arith, c.loop-done.invariant.step, ap (λ (w : NextStep). w.step) c.next_step.ensures.after);
+      best = c.in_ok-found.ensures.best;
       tables = c.in_ok-found.ensures.tables;
       passing = c.in_ok-found.ensures.passing;
       left = walked_more p pins c.args.deviation c.args.seed c.args.step c.args.count c.loop-done.done (walked c.loop-done.found.plan.routes c.loop-done.found.work.routes)

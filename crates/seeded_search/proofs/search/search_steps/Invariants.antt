@@ -1,4 +1,5 @@
 use Rattle.std.proofs.Common.{◌≡◌, ◌+◌, ◌-◌}
+use Rattle.route_sched.specs.Cost.{cost_of}
 use Rattle.seeded_search.specs.Steps.{walked, steps}
 use Rattle.seeded_search.specs.StepLaws.{BothPass}
 use Rattle.seeded_search.specs.Working.{AreTablesOf}
@@ -9,6 +10,7 @@ abbrev pub invariant-loop-done : goal.invariant-loop-done
 invariant-loop-done l = record {
   seed : l.words.seed ≡ l.seed;
   step : l.words.step ≡ l.step + l.done;
+  best : l.best ≡ cost_of l.problem l.found.plan.routes;
   tables : AreTablesOf l.problem l.found.work.routes l.tables;
   passing : BothPass l.problem l.pins.routes (walked l.found.plan.routes l.found.work.routes);
   left : steps l.problem l.pins.routes l.deviation l.seed (l.step + l.done) (l.count - l.done) (walked l.found.plan.routes l.found.work.routes)
