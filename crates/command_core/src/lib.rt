@@ -26,6 +26,3 @@ pub use laws::{
 pub use limits::{MAX_COUNT, MAX_DEVIATION, MAX_STEPS};
 pub use refusals::Refusal;
 pub use states::{Job, State};
-
-#[cfg(test)]
-mod tests;
