@@ -62,8 +62,7 @@ encodings_fit law (Loaded j) is =
     let count = number_bytes 4 (length j.problem.requests) in
     let requests = requests_bytes Two j.problem.requests in
     let vehicles = vehicles_bytes Two j.pins j.plan in
-    let routes = routes_bytes Two j.work in
-    (
+    let routes = routes_bytes Two j.work in (
       omega (arith, len_head j, len_count (length j.problem.requests), len_requests j.problem.requests, len_vehicles j.pins j.plan s.same, len_routes j.work, length-append (head_bytes Two j) (count ++ (requests ++ (vehicles ++ routes))), length-append count (requests ++ (vehicles ++ routes)), length-append requests (vehicles ++ routes), length-append vehicles routes),
       omega (arith, few_numbers j.problem is.problem, requests_below j.problem is.problem, s.plan.total, s.work.total, s.plan.fleet, s.work.fleet, is.problem.fleet.1, is.problem.next_to_most),
     )

@@ -66,9 +66,10 @@ fn a_pin_over_an_empty_route_is_a_bad_field(rt: HostRuntime) {
 
 // The same with these bytes of vehicles and working routes in place of the last twelve.
 fn with_end(rt: &HostRuntime, demand: u8, end: &[u8]) -> Result<State, CodecFault> {
+    let mut front = LOADED;
+    front[70] = demand;
     let mut bytes = Vec::new(rt.alloc());
-    bytes.extend_from_slice(&LOADED[..83])?;
-    bytes[70] = demand;
+    bytes.extend_from_slice(&front[..83])?;
     bytes.extend_from_slice(end)?;
     decode_state(rt.alloc(), bytes.as_slice())
 }
