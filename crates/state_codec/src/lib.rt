@@ -12,8 +12,8 @@ mod requests;
 mod routes;
 mod sector;
 mod sizes;
-pub mod version;
 mod states;
+pub mod version;
 mod writing;
 
 pub use fault::CodecFault;
