@@ -1,0 +1,12 @@
+pub mod AddLemmas
+pub mod CountLemmas
+pub mod Examples
+pub mod FactLemmas
+pub mod ListLemmas
+pub mod NumberLemmas
+pub mod PassLemmas
+pub mod PinLemmas
+pub mod PlacedLemmas
+pub mod RunLemmas
+pub mod SearchLemmas
+pub mod TakeLemmas

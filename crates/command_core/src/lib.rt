@@ -1,10 +1,20 @@
 //! The state of a planner, and what each command makes of it.
 #![tactic(auto)]
 
+mod checking;
 mod commands;
+mod laws;
+mod limits;
+mod lists;
 mod refusals;
 mod states;
 
+pub use checking::check;
 pub use commands::{Command, Spot};
+pub use laws::{
+    accepted_commands_fit_records, costs_never_rise, effects_keep_facts, given_numbers_are_new,
+    plans_never_cost_more, searches_add_up,
+};
+pub use limits::{MAX_COUNT, MAX_DEVIATION, MAX_STEPS};
 pub use refusals::Refusal;
 pub use states::{Job, State};

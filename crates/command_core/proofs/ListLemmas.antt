@@ -1,0 +1,50 @@
+-- Lists of routes, and parts of live stops that stand once.
+use Rattle.std.proofs.Common.{◌≡◌, ℕ, zero, suc, ◌+◌, ◌<◌, ◌||◌, true, false, List, [], ◌∷◌, length, take, drop, get_or, ap, subst, sym, ◌∙◌, nat_eq}
+use Rattle.std.specs.List.{AllByRecursion, IsDistinct, concat}
+use Rattle.std.proofs.lemmas.List.Folds.{list_any-append}
+use Rattle.std.proofs.lemmas.List.{drop_more}
+use Rattle.std.proofs.lemmas.List.Elements.{All-take, All-nil, recursion_from_All}
+use Rattle.plan_types.specs.Instance.{Instance}
+use Rattle.route_sched.specs.Cost.{has_stop}
+use Rattle.route_sched.specs.Route.{IsLive, AreLiveOnce}
+use Rattle.plan_audit.specs.Passes.{has, passes}
+use Rattle.plan_audit.specs.Locality.{PassesAreLocal, PlansAreLocal}
+use Rattle.move_ops.specs.Insertion.{of_vehicle}
+
+-- the stop is in the next list, or in those behind it
+pub has_stop_more : (lists : List (List ℕ)) (k n : ℕ) → k < length lists → has_stop (drop k lists) n ≡ has (get_or lists k []) n || has_stop (drop (k + 1) lists) n
+has_stop_more lists k n within =
+    ap (λ ls. has_stop ls n) (drop_more lists k [] within) ∙ list_any-append (nat_eq n) (get_or lists k []) (concat (drop (k + 1) lists))
+
+all_front : {X : Type 0} (P : X → Type 0) (xs : List X) (k : ℕ) → AllByRecursion P xs → AllByRecursion P (take k xs)
+all_front P xs zero all = tt
+all_front P [] (suc k) all = tt
+all_front P (x ∷ xs) (suc k) all = (all.0, all_front P xs k all.1)
+
+distinct_front : (xs : List ℕ) (k : ℕ) → IsDistinct nat_eq xs → IsDistinct nat_eq (take k xs)
+unfolding IsDistinct
+distinct_front xs zero once = tt
+distinct_front [] (suc k) once = tt
+distinct_front (x ∷ xs) (suc k) once = (all_front (λ y. nat_eq x y ≡ false) xs k once.0, distinct_front xs k once.1)
+
+-- what holds of each list, and of none, holds of a vehicle's
+pub of_vehicle_has : (P : List ℕ → Type 0) → P [] → (lists : List (List ℕ)) → AllByRecursion P lists → (v : ℕ) → P (of_vehicle lists v)
+of_vehicle_has P none lists all zero = none
+of_vehicle_has P none [] all (suc v) = none
+of_vehicle_has P none (r ∷ rs) all (suc zero) = all.0
+of_vehicle_has P none (r ∷ rs) all (suc (suc v)) = of_vehicle_has P none rs all.1 (suc v)
+
+no_stops_once : (p : Instance) → AreLiveOnce p []
+unfolding IsDistinct
+no_stops_once p = record { live = All-nil (IsLive p); distinct = tt }
+
+front_once : (p : Instance) (xs : List ℕ) (k : ℕ) → AreLiveOnce p xs → AreLiveOnce p (take k xs)
+front_once p xs k once = record { live = All-take (IsLive p) k xs (once.live); distinct = distinct_front xs k (once.distinct) }
+
+-- the first stops of a route of a passing plan are live, each once
+pub front_of_route_once : PassesAreLocal → PlansAreLocal → (p : Instance) (pins routes : List (List ℕ)) → passes p pins routes ≡ true → (v k : ℕ) (front route : List ℕ)
+    → front ≡ take k route → route ≡ of_vehicle routes v → AreLiveOnce p front
+front_of_route_once local plans p pins routes good v k front route is_front is_route =
+    let all = recursion_from_All (AreLiveOnce p) routes (((plans p routes).0 (((local p pins routes).0 good).plan)).0) in
+    let whole = of_vehicle_has (AreLiveOnce p) (no_stops_once p) routes all v in
+    subst (λ l. AreLiveOnce p l) (sym (is_front ∙ ap (take k) is_route)) (front_once p (of_vehicle routes v) k whole)

@@ -1,0 +1,150 @@
+-- A request that is put into a plan is planned there, beside all that were planned before; so the plan costs less.
+use Rattle.std.proofs.Common.{◌≡◌, ℕ, zero, suc, ◌+◌, ◌-◌, ◌<◌, ◌≤◌, ◌||◌, Bool, true, false, cond, not, List, [], ◌∷◌, length, take, drop, Option, Some, None, unwrap_or, slice_get, refl, sym, ap, subst, ◌∙◌, inl, inr, arith, nat_lt, IsTrue}
+use Rattle.std.specs.List.{concat}
+use Rattle.std.specs.Option.{option_and_then}
+use Rattle.std.proofs.lemmas.Bool.{and_parts, leb-true, lt-ltb, or_left, or_right, or_cases, not-true}
+use Rattle.plan_types.specs.Cost.{cost_at_most, CostsAreTotal, CostsAreTransitive, BelowIsAtMost}
+use Rattle.plan_types.specs.Instance.{Instance}
+use Rattle.plan_types.specs.declared.requests.Request.{Request}
+use Rattle.plan_types.specs.declared.requests.Request.TheVariants.{Single, Pair}
+use Rattle.route_sched.specs.Cost.{has_stop, is_planned, unplanned_count, cost_of}
+use Rattle.plan_audit.specs.Passes.{passes}
+use Rattle.move_ops.specs.Insertion.{Place, request_named, of_vehicle, passing, put_at, inserted, with_request_at, is_place_of, best_insertion, put_in}
+use Rattle.seeded_search.specs.Steps.{placed, placed_all}
+use Rattle.command_core.proofs.CountLemmas.{none_some, some_same, one_here, times, times-append, times_split, had_stands, stands_had, times_replaced, found, count_less}
+
+-- what a chain of options gives
+pub and_then_some : {X Y : Type 0} (f : X → Option Y) (o : Option X) (y : Y) → option_and_then f o ≡ Some y → (x : X) × (o ≡ Some x) × (f x ≡ Some y)
+and_then_some f None y is = absurd (none_some y is)
+and_then_some f (Some x) y is = (x, refl, is)
+
+then_some : {X : Type 0} (b : Bool) (o : Option X) (y : X) → cond b o None ≡ Some y → (b ≡ true) × (o ≡ Some y)
+then_some true o y is = (refl, is)
+then_some false o y is = absurd (none_some y is)
+
+-- a stop more in a route
+times_put : (n i m : ℕ) (route : List ℕ) → times n (put_at route i m) ≡ times n (m ∷ []) + times n route
+times_put n i m route =
+    let e = times-append n (take (i - 1) route) (m ∷ drop (i - 1) route) in
+    let f = times_split n (i - 1) route in
+    omega arith
+
+-- the numbers of a request
+abbrev numbers_of : Request → List ℕ
+numbers_of (Single s) = s.number ∷ []
+numbers_of (Pair a b) = a.number ∷ b.number ∷ []
+
+times_inserted : (n : ℕ) (r : Request) (i j : ℕ) (route : List ℕ) → times n (inserted r i j route) ≡ times n (numbers_of r) + times n route
+times_inserted n (Single s) i j route = times_put n i s.number route
+times_inserted n (Pair a b) i j route =
+    let e = times_put n j b.number (put_at route i a.number) in
+    let f = times_put n i a.number route in
+    omega arith
+
+-- the vehicle's route is one of the plan's
+own_route : (routes : List (List ℕ)) (v : ℕ) → 1 ≤ v → v ≤ length routes → slice_get routes (v - 1) ≡ Some (of_vehicle routes v)
+own_route routes zero from to = absurd (omega arith)
+own_route routes (suc k) from to =
+    let t = found routes k (omega arith) in
+    let e : suc k - 1 ≡ k = omega arith in
+    rw e (t.1 ∙ ap Some (sym (ap (λ o. unwrap_or o []) t.1)))
+
+times_with : (n : ℕ) (pins routes : List (List ℕ)) (r : Request) (x : Place) → is_place_of pins routes r x ≡ true → times n (concat (with_request_at routes r x)) ≡ times n (numbers_of r) + times n (concat routes)
+times_with n pins routes r x at =
+    let a = and_parts _ _ at in
+    let b = and_parts _ _ a.1 in
+    let own = own_route routes x.0 (leb-true 1 x.0 a.0) (leb-true x.0 (length routes) b.0) in
+    let e = times_replaced n routes (x.0 - 1) (of_vehicle routes x.0) (inserted r x.1 x.2 (of_vehicle routes x.0)) own in
+    let f = times_inserted n r x.1 x.2 (of_vehicle routes x.0) in
+    omega arith
+
+module _ (p : Instance) (pins routes : List (List ℕ)) (r : Request) (x : Place) (at : is_place_of pins routes r x ≡ true) where
+  abbrev new : List (List ℕ)
+  new = with_request_at routes r x
+
+  stop_kept : (n : ℕ) → has_stop routes n ≡ true → has_stop new n ≡ true
+  stop_kept n had = let h = had_stands n (concat routes) had in let e = times_with n pins routes r x at in stands_had n (concat new) (omega arith)
+
+  planned_kept : (s : Request) → is_planned routes s ≡ true → is_planned new s ≡ true
+  planned_kept (Single s) had = elim (or_cases (has_stop routes s.number) false had) [
+    | inl t ↦ or_left (has_stop new s.number) false (stop_kept s.number t)
+    | inr t ↦ absurd (let h : false ≡ true = t in cc)
+  ]
+  planned_kept (Pair a b) had = elim (or_cases (has_stop routes a.number) (has_stop routes b.number || false) had) [
+    | inl t ↦ or_left (has_stop new a.number) (has_stop new b.number || false) (stop_kept a.number t)
+    | inr t ↦ elim (or_cases (has_stop routes b.number) false t) [
+      | inl u ↦ or_right (has_stop new a.number) (has_stop new b.number || false) (or_left (has_stop new b.number) false (stop_kept b.number u))
+      | inr u ↦ absurd (let h : false ≡ true = u in cc)
+    ]
+  ]
+
+  planned_now : is_planned new r ≡ true
+  planned_now = by r refl
+    where
+      by : (q : Request) → q ≡ r → is_planned new q ≡ true
+      by (Single s) same = or_left (has_stop new s.number) false (stands_had s.number (concat new) (let e = times_with s.number pins routes r x at in let f : times s.number (numbers_of r) ≡ times s.number (s.number ∷ []) = ap (λ q. times s.number (numbers_of q)) (sym same) in let g = one_here s.number s.number refl in omega arith))
+      by (Pair a b) same = or_left (has_stop new a.number) (has_stop new b.number || false) (stands_had a.number (concat new) (let e = times_with a.number pins routes r x at in let f : times a.number (numbers_of r) ≡ times a.number (a.number ∷ b.number ∷ []) = ap (λ q. times a.number (numbers_of q)) (sym same) in let g = one_here a.number a.number refl in omega arith))
+
+  unplanned_less : (name : ℕ) → request_named p name ≡ Some r → is_planned routes r ≡ false → unplanned_count p new < unplanned_count p routes
+  unplanned_less name named unplanned =
+      count_less (λ s. not (is_planned routes s)) (λ s. not (is_planned new s)) p.requests name r each named (ap not unplanned) (ap not planned_now)
+    where
+      each : (s : Request) → not (is_planned new s) ≡ true → not (is_planned routes s) ≡ true
+      each s none = by (is_planned routes s) refl
+        where
+          by : (b : Bool) → is_planned routes s ≡ b → not b ≡ true
+          by false e = refl
+          by true e = absurd (let h : is_planned new s ≡ false = not-true (is_planned new s) none in let g : true ≡ false = sym (planned_kept s e) ∙ h in cc)
+
+-- a chain of tests and look-ups gives the plan
+put_in_gives : (p : Instance) (pins routes : List (List ℕ)) (name : ℕ) (x : Place) (y : List (List ℕ)) → put_in p pins routes name x ≡ Some y
+    → (r : Request) × (request_named p name ≡ Some r) × (is_planned routes r ≡ false) × (is_place_of pins routes r x ≡ true) × (passes p pins y ≡ true) × (y ≡ with_request_at routes r x)
+put_in_gives p pins routes name x y is =
+    let t = and_then_some _ (request_named p name) y is in
+    let r = t.0 in
+    let u = then_some _ (passing p pins (with_request_at routes r x)) y t.2 in
+    let v = then_some (passes p pins (with_request_at routes r x)) (Some (with_request_at routes r x)) y u.1 in
+    let same : with_request_at routes r x ≡ y = some_same _ _ v.1 in
+    let both = and_parts (not (is_planned routes r)) (is_place_of pins routes r x) u.0 in
+    (r, t.1, not-true (is_planned routes r) both.0, both.1, subst (λ l. passes p pins l ≡ true) same v.0, sym same)
+
+module _ (total : CostsAreTotal) (transitive : CostsAreTransitive) (below : BelowIsAtMost) (p : Instance) (pins : List (List ℕ)) where
+  abbrev CostsNoMore : List (List ℕ) → List (List ℕ) → Type 0
+  CostsNoMore new old = IsTrue (cost_at_most (cost_of p new) (cost_of p old))
+
+  pub same_cost : (routes : List (List ℕ)) → CostsNoMore routes routes
+  same_cost routes = elim (total (cost_of p routes) (cost_of p routes)) [ inl t ↦ t | inr t ↦ t ]
+
+  put_in_cost : (routes : List (List ℕ)) (name : ℕ) (x : Place) (y : List (List ℕ)) → put_in p pins routes name x ≡ Some y → CostsNoMore y routes
+  put_in_cost routes name x y is =
+      let t = put_in_gives p pins routes name x y is in
+      let less = unplanned_less p pins routes t.0 x t.3 name t.1 t.2 in
+      let one : CostsNoMore (with_request_at routes t.0 x) routes =
+      below (cost_of p (with_request_at routes t.0 x)) (cost_of p routes) (or_left (nat_lt (unplanned_count p (with_request_at routes t.0 x)) (unplanned_count p routes)) _ (lt-ltb _ _ less)) in
+      subst (λ l. CostsNoMore l routes) (sym t.5) one
+
+  placed_cost : (routes : List (List ℕ)) (name : ℕ) → CostsNoMore (placed p pins routes name) routes
+  placed_cost routes name = by (option_and_then (put_in p pins routes name) (best_insertion p pins routes name)) refl
+    where
+      by : (o : Option (List (List ℕ))) → option_and_then (put_in p pins routes name) (best_insertion p pins routes name) ≡ o → CostsNoMore (unwrap_or o routes) routes
+      by None e = same_cost routes
+      by (Some y) e = let t = and_then_some (put_in p pins routes name) (best_insertion p pins routes name) y e in put_in_cost routes name t.0 y t.2
+
+  -- requests that are placed one after another
+  pub placed_all_cost : (names : List ℕ) (routes : List (List ℕ)) → CostsNoMore (placed_all p pins routes names) routes
+  placed_all_cost [] routes = same_cost routes
+  placed_all_cost (name ∷ names) routes =
+      transitive (cost_of p (placed_all p pins (placed p pins routes name) names)) (cost_of p (placed p pins routes name)) (cost_of p routes)
+      (placed_all_cost names (placed p pins routes name)) (placed_cost routes name)
+
+module _ (p : Instance) (pins : List (List ℕ)) where
+  placed_passes : (routes : List (List ℕ)) (name : ℕ) → passes p pins routes ≡ true → passes p pins (placed p pins routes name) ≡ true
+  placed_passes routes name pass = by (option_and_then (put_in p pins routes name) (best_insertion p pins routes name)) refl
+    where
+      by : (o : Option (List (List ℕ))) → option_and_then (put_in p pins routes name) (best_insertion p pins routes name) ≡ o → passes p pins (unwrap_or o routes) ≡ true
+      by None e = pass
+      by (Some y) e = let t = and_then_some (put_in p pins routes name) (best_insertion p pins routes name) y e in (put_in_gives p pins routes name t.0 y t.2).4
+
+  pub placed_all_passes : (names : List ℕ) (routes : List (List ℕ)) → passes p pins routes ≡ true → passes p pins (placed_all p pins routes names) ≡ true
+  placed_all_passes [] routes pass = pass
+  placed_all_passes (name ∷ names) routes pass = placed_all_passes names (placed p pins routes name) (placed_passes routes name pass)

@@ -1,0 +1,136 @@
+-- What many commands keep: the plan's cost between changes, and the facts of states.
+use Rattle.std.proofs.Common.{◌≡◌, ℕ, zero, suc, ◌+◌, ◌≤◌, ◌||◌, Bool, true, false, List, [], ◌∷◌, Some, None, refl, ◌∙◌, arith}
+use Rattle.std.specs.List.{list_any}
+use Rattle.plan_types.specs.Cost.{CostsAreTotal, CostsAreTransitive, BelowIsAtMost}
+use Rattle.route_sched.specs.Cost.{cost_of}
+use Rattle.seeded_search.specs.Steps.{unplanned_names}
+use Rattle.seeded_search.specs.StepLaws.{IncumbentsNeverCostMore}
+use Rattle.command_core.specs.Effects.{effect}
+use Rattle.command_core.specs.Refusing.{refusal}
+use Rattle.command_core.specs.Runs.{after, AreAccepted, changes_requests, changes_pins, is_change, last_change}
+use Rattle.command_core.specs.RunLaws.{EffectsKeepFacts, RunsKeepFacts, IsNoWorse, CostsNeverRise, HaveSamePins, PlansNeverCostMore}
+use Rattle.command_core.specs.declared.states.State.{State}
+use Rattle.command_core.specs.declared.states.State.TheVariants.{Empty, Loaded}
+use Rattle.command_core.specs.declared.refusals.Refusal.{Refusal}
+use Rattle.command_core.specs.declared.commands.Command.{Command}
+use Rattle.command_core.specs.declared.commands.Command.TheVariants.{Load, Add, Add1, Withdraw, Pin, Unpin, Build, Search, Checkpoint, Deviation}
+use Rattle.command_core.proofs.PlacedLemmas.{same_cost, placed_all_cost}
+
+pub runs_keep_facts : EffectsKeepFacts → RunsKeepFacts
+runs_keep_facts keep s [] is accepted = is
+runs_keep_facts keep s (c ∷ cs) is accepted = runs_keep_facts keep (effect s c) cs (keep s c is accepted.0 accepted.1) accepted.2
+
+refused : {X : Type 0} (r : Refusal) → Some r ≡ None → X
+refused r h = absurd (let g = h in cc)
+
+clash : {X : Type 0} → true ≡ false → X
+clash h = absurd (let g = h in cc)
+
+module _ (total : CostsAreTotal) (transitive : CostsAreTransitive) (below : BelowIsAtMost) (search : IncumbentsNeverCostMore) where
+  pub costs_never_rise : CostsNeverRise
+  costs_never_rise (Loaded j) (Load p seed) none kept = clash kept
+  costs_never_rise (Loaded j) (Add q a b) none kept = clash kept
+  costs_never_rise (Loaded j) (Add1 q s) none kept = clash kept
+  costs_never_rise (Loaded j) (Withdraw name) none kept = clash kept
+  costs_never_rise (Loaded j) (Pin v k) none kept = record { problem = refl; cost = same_cost total transitive below j.problem j.pins j.plan }
+  costs_never_rise (Loaded j) (Unpin v) none kept = record { problem = refl; cost = same_cost total transitive below j.problem j.pins j.plan }
+  costs_never_rise (Loaded j) Build none kept = record { problem = refl; cost = placed_all_cost total transitive below j.problem j.pins (unplanned_names j.problem j.pins j.plan) j.plan }
+  costs_never_rise (Loaded j) (Search count) none kept =
+      record { problem = refl; cost = search j.problem j.pins j.deviation j.seed j.steps count (record { incumbent = j.plan; working = j.work }) }
+  costs_never_rise (Loaded j) Checkpoint none kept = record { problem = refl; cost = same_cost total transitive below j.problem j.pins j.plan }
+  costs_never_rise (Loaded j) (Deviation d) none kept = record { problem = refl; cost = same_cost total transitive below j.problem j.pins j.plan }
+  costs_never_rise Empty (Load p seed) none kept = clash kept
+  costs_never_rise Empty (Add q a b) none kept = refused _ none
+  costs_never_rise Empty (Add1 q s) none kept = refused _ none
+  costs_never_rise Empty (Withdraw name) none kept = refused _ none
+  costs_never_rise Empty (Pin v k) none kept = refused _ none
+  costs_never_rise Empty (Unpin v) none kept = refused _ none
+  costs_never_rise Empty Build none kept = refused _ none
+  costs_never_rise Empty (Search count) none kept = refused _ none
+  costs_never_rise Empty Checkpoint none kept = refused _ none
+  costs_never_rise Empty (Deviation d) none kept = refused _ none
+
+  -- as good, with the same pins
+  abbrev IsAsGood : State → State → Type 0
+  IsAsGood s t = IsNoWorse s t × HaveSamePins s t
+
+  as_good : (s : State) → IsAsGood s s
+  as_good Empty = (tt, tt)
+  as_good (Loaded j) = (record { problem = refl; cost = same_cost total transitive below j.problem j.pins j.plan }, refl)
+
+  as_good_on : (s t u : State) → IsAsGood s t → IsAsGood t u → IsAsGood s u
+  as_good_on Empty Empty u a b = b
+  as_good_on Empty (Loaded j) u a b = absurd a.0
+  as_good_on (Loaded i) Empty u a b = absurd a.0
+  as_good_on (Loaded i) (Loaded j) Empty a b = absurd b.0
+  as_good_on (Loaded i) (Loaded j) (Loaded k) a b =
+      let first = a.0 in
+      let second = b.0 in (
+        record {
+          problem = second.problem ∙ first.problem;
+          cost = transitive (cost_of k.problem k.plan) (cost_of j.problem j.plan) (cost_of i.problem i.plan) (second.cost) (first.cost);
+        },
+        b.1 ∙ a.1,
+      )
+
+  -- a command that is no change
+  pins_kept : (s : State) (c : Command) → refusal s c ≡ None → is_change c ≡ false → HaveSamePins s (effect s c)
+  pins_kept (Loaded j) (Load p seed) none kept = clash kept
+  pins_kept (Loaded j) (Add q a b) none kept = clash kept
+  pins_kept (Loaded j) (Add1 q s) none kept = clash kept
+  pins_kept (Loaded j) (Withdraw name) none kept = clash kept
+  pins_kept (Loaded j) (Pin v k) none kept = clash kept
+  pins_kept (Loaded j) (Unpin v) none kept = clash kept
+  pins_kept (Loaded j) Build none kept = refl
+  pins_kept (Loaded j) (Search count) none kept = refl
+  pins_kept (Loaded j) Checkpoint none kept = refl
+  pins_kept (Loaded j) (Deviation d) none kept = refl
+  pins_kept Empty (Load p seed) none kept = clash kept
+  pins_kept Empty (Add q a b) none kept = refused _ none
+  pins_kept Empty (Add1 q s) none kept = refused _ none
+  pins_kept Empty (Withdraw name) none kept = refused _ none
+  pins_kept Empty (Pin v k) none kept = refused _ none
+  pins_kept Empty (Unpin v) none kept = refused _ none
+  pins_kept Empty Build none kept = refused _ none
+  pins_kept Empty (Search count) none kept = refused _ none
+  pins_kept Empty Checkpoint none kept = refused _ none
+  pins_kept Empty (Deviation d) none kept = refused _ none
+
+  neither : (a b : Bool) → (a || b) ≡ false → (a ≡ false) × (b ≡ false)
+  neither false b none = (refl, none)
+  neither true b none = clash none
+
+  one_kept : (s : State) (c : Command) → refusal s c ≡ None → is_change c ≡ false → IsAsGood s (effect s c)
+  one_kept s c none kept = (costs_never_rise s c none (neither (changes_requests c) (changes_pins c) kept).0, pins_kept s c none kept)
+
+  -- where no command is a change
+  all_kept : (s : State) (cs : List Command) → AreAccepted s cs → list_any is_change cs ≡ false → IsAsGood s (after s cs)
+  all_kept s [] accepted none = as_good s
+  all_kept s (c ∷ cs) accepted none =
+      let parts = neither (is_change c) (list_any is_change cs) none in
+      as_good_on s (effect s c) (after (effect s c) cs) (one_kept s c accepted.1 parts.0) (all_kept (effect s c) cs accepted.2 parts.1)
+
+  last_in_rest : (c : Command) (cs : List Command) (q : ℕ) → last_change (c ∷ cs) ≤ suc q → last_change cs ≤ q
+  last_in_rest c cs q within = by (list_any is_change (c ∷ cs)) refl
+    where
+      none_last : (ds : List Command) → list_any is_change ds ≡ false → last_change ds ≡ 0
+      none_last [] none = refl
+      none_last (d ∷ ds) none = rw none refl
+
+      by : (b : Bool) → list_any is_change (c ∷ cs) ≡ b → last_change cs ≤ q
+      by true e = (let h : 1 + last_change cs ≤ suc q = rw e at within in omega arith)
+      by false e = (let h = none_last cs (neither (is_change c) (list_any is_change cs) e).1 in omega arith)
+
+  none_before : (c : Command) (cs : List Command) → last_change (c ∷ cs) ≤ 0 → list_any is_change (c ∷ cs) ≡ false
+  none_before c cs within = by (list_any is_change (c ∷ cs)) refl
+    where
+      by : (b : Bool) → list_any is_change (c ∷ cs) ≡ b → b ≡ false
+      by false e = refl
+      by true e = absurd (let h : 1 + last_change cs ≤ 0 = rw e at within in omega arith)
+
+  pub plans_never_cost_more : PlansNeverCostMore
+  plans_never_cost_more s [] zero accepted from to = as_good s
+  plans_never_cost_more s [] (suc q) accepted from to = absurd (omega arith)
+  plans_never_cost_more s (c ∷ cs) zero accepted from to = all_kept s (c ∷ cs) accepted (none_before c cs from)
+  plans_never_cost_more s (c ∷ cs) (suc q) accepted from to =
+      plans_never_cost_more (effect s c) cs q accepted.2 (last_in_rest c cs q from) (omega arith)

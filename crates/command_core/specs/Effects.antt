@@ -1,0 +1,98 @@
+-- What each command makes of a state. Vehicles count from 1.
+use Rattle.std.specs.Prelude.{ℕ, ◌+◌, List, [], ◌∷◌, map, filter, take, replicate, not, Bool, if◌then◌else◌}
+use Rattle.std.specs.List.{list_any, zip}
+use Rattle.plan_types.specs.Instance.{Instance, with_request, without_request}
+use Rattle.plan_types.specs.declared.requests.Request.{Request}
+use Rattle.plan_audit.specs.Passes.{feasible_alone}
+use Rattle.move_ops.specs.Insertion.{of_vehicle, with_route}
+use Rattle.move_ops.specs.Moves.{is_of_named}
+use Rattle.seeded_search.specs.Steps.{unplanned_names, placed_all, steps}
+use Rattle.command_core.specs.Job.{JobValue}
+use Rattle.command_core.specs.Wishes.{single_at, pair_at}
+use Rattle.command_core.specs.declared.states.State.{State}
+use Rattle.command_core.specs.declared.states.State.TheVariants.{Empty, Loaded}
+use Rattle.command_core.specs.declared.commands.Command.{Command}
+use Rattle.command_core.specs.declared.commands.Command.TheVariants.{Load, Add, Add1, Withdraw, Pin, Unpin, Build, Search, Checkpoint, Deviation}
+
+-- a list for each vehicle, with no stop
+abbrev pub no_stops : Instance → List (List ℕ)
+no_stops p = replicate p.fleet []
+
+-- Load: this problem and seed; no request is planned, nothing is pinned, no step is made, and the deviation is 0
+abbrev pub loaded : Instance → ℕ → JobValue
+loaded p seed = record { problem = p; pins = no_stops p; plan = no_stops p; work = no_stops p; deviation = 0; seed = seed; steps = 0 }
+
+-- Each other command but Search and Checkpoint sets the working plan to the incumbent that it leaves.
+
+-- Add, Add1: one more request, unplanned
+abbrev pub added : JobValue → Request → JobValue
+added j r = record j { problem = with_request j.problem r; work = j.plan }
+
+-- the vehicle visits a stop of the request with this name
+abbrev pub serves : Instance → ℕ → List ℕ → Bool
+serves p name route = list_any (is_of_named p (name ∷ [])) route
+
+-- its route without the stops of that request
+abbrev pub route_without : Instance → ℕ → List ℕ → List ℕ
+route_without p name route = filter (λ n. not (is_of_named p (name ∷ []) n)) route
+
+-- What a vehicle with this pin and route does once the request is withdrawn. If it served the request, its stops are taken out; where the
+-- route is then not feasible alone, it becomes the pin, so that the other requests behind the pin become unplanned.
+abbrev pub route_left : Instance → ℕ → List ℕ → List ℕ → List ℕ
+route_left p name pin route =
+    if serves p name route
+    then (if feasible_alone (without_request p name) (route_without p name route) then route_without p name route else pin)
+    else route
+
+-- this for each vehicle
+abbrev pub routes_left : Instance → ℕ → List (List ℕ) → List (List ℕ) → List (List ℕ)
+routes_left p name pins routes = map (λ e. route_left p name e.0 e.1) (zip pins routes)
+
+-- Withdraw: the request is taken out, of the problem and of the plan
+abbrev pub withdrawn : JobValue → ℕ → JobValue
+withdrawn j name =
+    let plan = routes_left j.problem name j.pins j.plan in
+    record j { problem = without_request j.problem name; plan = plan; work = plan }
+
+-- Pin: the first k stops of the route of vehicle v become its pin, in place of an older one
+abbrev pub pinned : JobValue → ℕ → ℕ → JobValue
+pinned j v k = record j { pins = with_route j.pins v (take k (of_vehicle j.plan v)); work = j.plan }
+
+-- Unpin: the vehicle has no pin
+abbrev pub unpinned : JobValue → ℕ → JobValue
+unpinned j v = record j { pins = with_route j.pins v []; work = j.plan }
+
+-- Build: each unplanned request, by rising name, is put at its best insertion, or stays unplanned where it has none
+abbrev pub built : JobValue → JobValue
+built j =
+    let plan = placed_all j.problem j.pins j.plan (unplanned_names j.problem j.pins j.plan) in
+    record j { plan = plan; work = plan }
+
+-- Search: so many steps, from the number of those already made on
+abbrev pub searched : JobValue → ℕ → JobValue
+searched j count =
+    let s = steps j.problem j.pins j.deviation j.seed j.steps count (record { incumbent = j.plan; working = j.work }) in
+    record j { plan = s.incumbent; work = s.working; steps = j.steps + count }
+
+-- Deviation: how far the working plan may be from the incumbent
+abbrev pub with_deviation : JobValue → ℕ → JobValue
+with_deviation j d = record j { work = j.plan; deviation = d }
+
+-- what a command makes of a job
+abbrev pub job_after : JobValue → Command → JobValue
+job_after j (Load p seed) = loaded p seed
+job_after j (Add q a b) = added j (pair_at j.problem.next_number q a b)
+job_after j (Add1 q s) = added j (single_at j.problem.next_number q s)
+job_after j (Withdraw name) = withdrawn j name
+job_after j (Pin v k) = pinned j v k
+job_after j (Unpin v) = unpinned j v
+job_after j Build = built j
+job_after j (Search count) = searched j count
+job_after j Checkpoint = j
+job_after j (Deviation d) = with_deviation j d
+
+-- What a command makes of a state. Before the first Load nothing else is accepted.
+abbrev pub effect : State → Command → State
+effect (Loaded j) c = Loaded (job_after j c)
+effect Empty (Load p seed) = Loaded (loaded p seed)
+effect Empty _ = Empty

@@ -1,0 +1,71 @@
+-- Why a state refuses a command: the first cause, in the order in which the refusals are declared.
+use Rattle.std.specs.Prelude.{ℕ, ◌+◌, ◌^◌, nat_le, ◌&&◌, not, Bool, take, length, Option, Some, None, if◌then◌else◌}
+use Rattle.std.specs.Option.{option_map_or}
+use Rattle.plan_types.specs.Instance.{Instance}
+use Rattle.plan_types.specs.declared.requests.Request.{Request}
+use Rattle.route_sched.specs.Cost.{is_planned}
+use Rattle.plan_audit.specs.Passes.{feasible_alone}
+use Rattle.move_ops.specs.Insertion.{request_named, of_vehicle}
+use Rattle.command_core.specs.Job.{JobValue}
+use Rattle.command_core.specs.Wishes.{is_spot, is_demand}
+use Rattle.command_core.specs.declared.states.State.{State}
+use Rattle.command_core.specs.declared.states.State.TheVariants.{Empty, Loaded}
+use Rattle.command_core.specs.declared.commands.Command.{Command}
+use Rattle.command_core.specs.declared.commands.Command.TheVariants.{Load, Add, Add1, Withdraw, Pin, Unpin, Build, Search, Checkpoint, Deviation}
+use Rattle.command_core.specs.declared.refusals.Refusal.{Refusal}
+use Rattle.command_core.specs.declared.refusals.Refusal.TheVariants.{NoInstance, Range, NoSuchRequest, Pinned, NoSuchPlace, NotARoute, NumbersSpent, StepsSpent}
+
+-- so many new stops, where their fields keep the limits or not: no number is above 40,000
+abbrev pub add_refusal : Instance → Bool → ℕ → Option Refusal
+add_refusal p are_limits_kept stops =
+    if not are_limits_kept then Some Range else if nat_le (p.next_number + stops) 40001 then None else Some NumbersSpent
+
+-- a request that is there, and is pinned or not
+abbrev pub pinned_refusal : JobValue → Request → Option Refusal
+pinned_refusal j r = if is_planned j.pins r then Some Pinned else None
+
+abbrev pub withdraw_refusal : JobValue → ℕ → Option Refusal
+withdraw_refusal j name = option_map_or (pinned_refusal j) (request_named j.problem name) (Some NoSuchRequest)
+
+-- there is such a vehicle
+abbrev pub is_vehicle : Instance → ℕ → Bool
+is_vehicle p v = nat_le 1 v && nat_le v p.fleet
+
+-- there is such a vehicle, and its route has so many stops
+abbrev pub is_place : JobValue → ℕ → ℕ → Bool
+is_place j v k = is_vehicle j.problem v && nat_le k (length (of_vehicle j.plan v))
+
+-- the first k stops of its route must be a route of their own
+abbrev pub pin_refusal : JobValue → ℕ → ℕ → Option Refusal
+pin_refusal j v k =
+    if not (is_place j v k) then Some NoSuchPlace else if feasible_alone j.problem (take k (of_vehicle j.plan v)) then None else Some NotARoute
+
+abbrev pub unpin_refusal : Instance → ℕ → Option Refusal
+unpin_refusal p v = if is_vehicle p v then None else Some NoSuchPlace
+
+-- so many steps beside those already made
+abbrev pub search_refusal : ℕ → ℕ → Option Refusal
+search_refusal steps count =
+    if not (nat_le 1 count && nat_le count 256) then Some Range else if nat_le (steps + count) (2 ^ 60) then None else Some StepsSpent
+
+abbrev pub deviation_refusal : ℕ → Option Refusal
+deviation_refusal d = if nat_le d 1000000000 then None else Some Range
+
+-- why a job refuses a command
+abbrev pub job_refusal : JobValue → Command → Option Refusal
+job_refusal j (Load p seed) = None
+job_refusal j (Add q a b) = add_refusal j.problem (is_demand q && (is_spot a && is_spot b)) 2
+job_refusal j (Add1 q s) = add_refusal j.problem (is_demand q && is_spot s) 1
+job_refusal j (Withdraw name) = withdraw_refusal j name
+job_refusal j (Pin v k) = pin_refusal j v k
+job_refusal j (Unpin v) = unpin_refusal j.problem v
+job_refusal j Build = None
+job_refusal j (Search count) = search_refusal j.steps count
+job_refusal j Checkpoint = None
+job_refusal j (Deviation d) = deviation_refusal d
+
+-- why a state does: before the first Load, nothing but a Load is accepted
+abbrev pub refusal : State → Command → Option Refusal
+refusal (Loaded j) c = job_refusal j c
+refusal Empty (Load p seed) = None
+refusal Empty _ = Some NoInstance

@@ -1,0 +1,137 @@
+//! Why a state refuses a command.
+ghost use Rattle.std.specs.Prelude.{◌≡◌, ◌≤◌, ◌^◌, None, Some, MatchResult};
+ghost use Rattle.command_core.specs.Refusing.{is_vehicle, add_refusal, withdraw_refusal, pin_refusal, unpin_refusal, search_refusal, deviation_refusal, job_refusal, refusal};
+
+use crate::commands::Command;
+use crate::limits::{MAX_COUNT, MAX_DEVIATION, MAX_STEPS, is_demand, is_spot};
+use crate::lists::{is_feasible, is_planned, of_vehicle};
+use crate::refusals::Refusal;
+use crate::states::{Job, State};
+use plan_audit::{passes_are_local, plans_are_local};
+use plan_types::Problem;
+use plan_types::limits::MAX_STOP_NUMBER;
+
+/// Whether the state accepts the command: if not, the first refusal, as they are declared, that has a cause. Takes no memory.
+pub fn check(state: &State, command: &Command) -> Result<(), Refusal>
+    ensures { MatchResult result (λ _. refusal state.now command.now ≡ None) (λ r. refusal state.now command.now ≡ Some r) }
+{
+    match state_refusal(state, command) {
+        Some(refusal) => Err(refusal),
+        None => Ok(()),
+    }
+}
+
+fn state_refusal(state: &State, command: &Command) -> Option<Refusal>
+    ensures { result ≡ refusal state.now command.now }
+{
+    match (state, command) {
+        (State::Loaded(job), _) => job_refusal(job, command),
+        (State::Empty, Command::Load(_, _)) => None,
+        (State::Empty, _) => Some(Refusal::NoInstance),
+    }
+}
+
+fn job_refusal(job: &Job, command: &Command) -> Option<Refusal>
+    ensures { result ≡ job_refusal job.now command.now }
+{
+    let problem = &job.problem;
+    match command {
+        Command::Load(_, _) | Command::Build | Command::Checkpoint => None,
+        Command::Add {
+            demand,
+            pickup,
+            delivery,
+        } => {
+            let are_limits_kept = is_demand(*demand) && is_spot(pickup) && is_spot(delivery);
+            add_refusal(problem, are_limits_kept, 2)
+        }
+        Command::Add1 { demand, spot } => {
+            let are_limits_kept = is_demand(*demand) && is_spot(spot);
+            add_refusal(problem, are_limits_kept, 1)
+        }
+        Command::Withdraw(name) => withdraw_refusal(job, *name),
+        Command::Pin(vehicle, stops) => pin_refusal(job, *vehicle, *stops),
+        Command::Unpin(vehicle) => unpin_refusal(problem, *vehicle),
+        Command::Search(count) => search_refusal(job.steps, *count),
+        Command::Deviation(deviation) => deviation_refusal(*deviation),
+    }
+}
+
+// So many new stops: each takes a number.
+fn add_refusal(problem: &Problem, are_limits_kept: bool, stops: u32) -> Option<Refusal>
+    requires { stops ≤ 2 }
+    ensures { result ≡ add_refusal problem.now are_limits_kept stops }
+{
+    if !are_limits_kept {
+        return Some(Refusal::Range);
+    }
+    if problem.next_number + stops <= MAX_STOP_NUMBER + 1 {
+        return None;
+    }
+    Some(Refusal::NumbersSpent)
+}
+
+fn withdraw_refusal(job: &Job, name: u32) -> Option<Refusal>
+    ensures { result ≡ withdraw_refusal job.now name }
+{
+    let problem = &job.problem;
+    let Some(request) = problem.requests.get(&name) else {
+        return Some(Refusal::NoSuchRequest);
+    };
+    if is_planned(job.pins.routes.as_slice(), request) {
+        return Some(Refusal::Pinned);
+    }
+    None
+}
+
+fn pin_refusal(job: &Job, vehicle: u32, stops: u32) -> Option<Refusal>
+    ensures { result ≡ pin_refusal job.now vehicle stops }
+{
+    let route = of_vehicle(job.plan.routes.as_slice(), vehicle);
+    if !is_vehicle(&job.problem, vehicle) || route.len() < stops as usize {
+        return Some(Refusal::NoSuchPlace);
+    }
+    passes_are_local();
+    plans_are_local();
+    if is_feasible(&job.problem, &route[..stops as usize]) {
+        return None;
+    }
+    Some(Refusal::NotARoute)
+}
+
+fn unpin_refusal(problem: &Problem, vehicle: u32) -> Option<Refusal>
+    ensures { result ≡ unpin_refusal problem.now vehicle }
+{
+    if is_vehicle(problem, vehicle) {
+        return None;
+    }
+    Some(Refusal::NoSuchPlace)
+}
+
+fn is_vehicle(problem: &Problem, vehicle: u32) -> bool
+    ensures { result ≡ is_vehicle problem.now vehicle }
+{
+    1 <= vehicle && vehicle <= problem.fleet
+}
+
+fn search_refusal(steps: u64, count: u16) -> Option<Refusal>
+    requires { steps ≤ 2 ^ 60 }
+    ensures { result ≡ search_refusal steps count }
+{
+    if count < 1 || MAX_COUNT < count {
+        return Some(Refusal::Range);
+    }
+    if steps + u64::from(count) <= MAX_STEPS {
+        return None;
+    }
+    Some(Refusal::StepsSpent)
+}
+
+fn deviation_refusal(deviation: u32) -> Option<Refusal>
+    ensures { result ≡ deviation_refusal deviation }
+{
+    if deviation <= MAX_DEVIATION {
+        return None;
+    }
+    Some(Refusal::Range)
+}

@@ -1,0 +1,61 @@
+//! Routes and pins of vehicles.
+ghost use Rattle.std.specs.Prelude.{◌≡◌};
+ghost use Rattle.route_sched.specs.Cost.{is_planned, has_stop};
+ghost use Rattle.route_sched.specs.Route.{AreLiveOnce};
+ghost use Rattle.plan_audit.specs.Passes.{has, feasible_alone};
+ghost use Rattle.move_ops.specs.Insertion.{of_vehicle};
+
+use plan_audit::{route_fault, tests_say_feasible};
+use plan_types::{Problem, Request, Route};
+
+/// What this vehicle has, its route or its pin; nothing where there is no such vehicle.
+pub(crate) fn of_vehicle(lists: &[Route], vehicle: u32) -> &[u32]
+    ensures { result.now ≡ of_vehicle lists.now vehicle }
+{
+    if vehicle == 0 {
+        return &[];
+    }
+    match lists.get((vehicle - 1) as usize) {
+        Some(route) => route.as_slice(),
+        None => &[],
+    }
+}
+
+/// Whether a stop of the request is in one of the lists.
+pub(crate) fn is_planned(lists: &[Route], request: &Request) -> bool
+    ensures { result ≡ is_planned lists.now request.now }
+{
+    match request {
+        Request::Single(stop) => has_stop(lists, stop.number),
+        Request::Pair(pickup, delivery) => {
+            has_stop(lists, pickup.number) || has_stop(lists, delivery.number)
+        }
+    }
+}
+
+#[tactic(auto, using(crate::proofs::ListLemmas::has_stop_more))]
+fn has_stop(lists: &[Route], number: u32) -> bool
+    ensures { result ≡ has_stop lists.now number }
+{
+    for list in lists {
+        if is_in(list.as_slice(), number) {
+            return true;
+        }
+    }
+    false
+}
+
+fn is_in(list: &[u32], number: u32) -> bool
+    ensures { result ≡ has list.now number }
+{
+    list.contains(&number)
+}
+
+/// Whether the route is feasible alone.
+pub(crate) fn is_feasible(problem: &Problem, route: &[u32]) -> bool
+    requires { AreLiveOnce problem.now route.now }
+    ensures { result ≡ feasible_alone problem.now route.now }
+{
+    tests_say_feasible();
+    route_fault(problem, route).is_none()
+}
