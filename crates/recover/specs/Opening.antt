@@ -1,0 +1,21 @@
+-- What opening a device gives.
+use Rattle.std.specs.Prelude.{◌≡◌, ℕ, List, Result, Ok, Err, ⊤}
+use Rattle.state_codec.specs.declared.fault.CodecFault.{CodecFault}
+use Rattle.command_core.specs.declared.states.State.{State}
+use Rattle.checkpoint.specs.declared.faults.StoreFault.{StoreFault}
+use Rattle.checkpoint.specs.declared.faults.StoreFault.TheVariants.{NotFormatted, BadVersion, Codec, Spent, OutOfMemory, DeviceFault}
+use Rattle.recover.specs.StandsFor.{StandsFor}
+
+-- A state is given, and it has P, unless memory was refused or the device failed.
+abbrev pub GivesUnlessFailed : (State → Type 0) → Result State StoreFault → Type 0
+GivesUnlessFailed P (Ok state) = P state
+GivesUnlessFailed P (Err OutOfMemory) = ⊤
+GivesUnlessFailed P (Err DeviceFault) = ⊤
+GivesUnlessFailed P (Err NotFormatted) = ⊥
+GivesUnlessFailed P (Err BadVersion) = ⊥
+GivesUnlessFailed P (Err (Codec fault)) = ⊥
+GivesUnlessFailed P (Err Spent) = ⊥
+
+-- What opening a device promises of the image that its reads give: if it stands for a state, then that one is given.
+abbrev pub Opens : List ℕ → Result State StoreFault → Type 0
+Opens image outcome = (state : State) → StandsFor image state → GivesUnlessFailed (λ given. given ≡ state) outcome
