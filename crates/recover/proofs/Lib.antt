@@ -1,1 +1,4 @@
 mod Headlines
+mod RunLemmas
+mod StepLemmas
+mod SessionLemmas

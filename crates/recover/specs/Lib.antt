@@ -5,4 +5,8 @@ pub mod Replies
 pub mod Moments
 pub mod Opening
 pub mod Sessions
+pub mod Applying
 pub mod Headline
+-- of private functions alone
+pub mod Committing
+pub mod Lower

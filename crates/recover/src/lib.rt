@@ -1,8 +1,10 @@
 //! Sessions over a store: commands that are acknowledged once they are durable, and recovery after a stop at any moment.
 #![tactic(auto)]
 
+mod commits;
 mod denials;
 mod laws;
+mod lower;
 mod replies;
 mod sessions;
 

@@ -1,12 +1,23 @@
-// Sessions over a device, and what may be asked of one.
-ghost use Rattle.std.specs.Prelude.{◌≡◌, false, List, ℕ};
+// Sessions over a device.
+ghost use Rattle.std.specs.Prelude.{◌≡◌, ◌+◌, false, true, List, [], ◌∷◌, ℕ, None, OnOk};
 ghost use Rattle.command_core.specs.Runs.{IsState};
+ghost use Rattle.sector_disk.specs.Sectors.{Throughout};
 ghost use Rattle.recover.specs.StandsFor.{StandsFor};
+ghost use Rattle.recover.specs.Moments.{RunLeaves};
+ghost use Rattle.recover.specs.Applying.{denial, calls_of, IsAnswer, Makes, IsBetween, faults_after_answer};
 
+use crate::commits::{CommitFault, commit, is_snapshot_due};
+use crate::denials::Denial;
+use crate::lower::apply;
+use crate::replies::Reply;
 use checkpoint::Place;
-use command_core::State;
+use command_core::{Command, State, accepted_commands_fit_records, check};
 use sector_disk::Sectors;
+use std::alloc::Global;
 use std::marker::Model;
+
+/// The greatest sequence of a store.
+const LAST_SEQUENCE: u64 = 1 << 60;
 
 /// A store that takes commands. Unless it is broken and while its device is honest, each image that a stop may leave stands for its state.
 #[derive(Drop)]
@@ -30,6 +41,99 @@ impl<D: Sectors> Model for Session<D> {
 }
 
 impl<D: Sectors> Session<D> {
+    /// Carries a command out and makes it durable. `Ok` comes after the last sync; from then on no stop loses the command.
+    ///
+    /// `Load` and `Checkpoint` write a snapshot, with four calls of the device. Any other command writes a record, with two, or a snapshot
+    /// where 256 records stand. Every denial but `DeviceFault` leaves all as it was. After `DeviceFault` the session is broken: each image
+    /// that a stop may leave stands for the state before the command or for the one after it, and opening the device tells which.
+    pub fn apply(&mut self, alloc: Global, command: Command) -> Reply
+        ensures answer { IsAnswer (denial self.old command) result.answer }
+        ensures makes { Makes result.answer self.old command self.new }
+        ensures count { result.calls ≡ D.calls self.new.device }
+        ensures finished { OnOk result.answer (D.calls self.new.device ≡ D.calls self.old.device + calls_of self.old.place command) }
+        ensures fault { D.faults self.new.device ≡ faults_after_answer result.answer (D.faults self.old.device) }
+        ensures same_len { D.len self.new.device ≡ D.len self.old.device }
+        ensures honest { D.honest self.new.device → D.honest self.old.device }
+        ensures moments { self.old.is_broken ≡ false → D.honest self.new.device
+            → Throughout D.clock D.possible_since self.old.device self.new.device (RunLeaves self.old.state (command ∷ []) (result ∷ [])) }
+        ensures counts { D.honest self.new.device → Throughout D.clock D.possible_since self.old.device self.new.device
+            (IsBetween (D.calls self.old.device) (D.calls self.old.device + calls_of self.old.place command)) }
+        ensures stands { self.new.is_broken ≡ false → D.honest self.new.device → (image : List ℕ) → D.possible self.new.device image → StandsFor image self.new.state }
+    {
+        let answer = self.answer(alloc, &command);
+        Reply {
+            answer,
+            calls: self.device.calls(),
+        }
+    }
+
+    // What the command is answered.
+    fn answer(&mut self, alloc: Global, command: &Command) -> Result<(), Denial>
+        ensures answer { IsAnswer (denial self.old command.now) result }
+        ensures makes { Makes result self.old command.now self.new }
+        ensures finished { OnOk result (D.calls self.new.device ≡ D.calls self.old.device + calls_of self.old.place command.now) }
+        ensures fault { D.faults self.new.device ≡ faults_after_answer result (D.faults self.old.device) }
+        ensures same_len { D.len self.new.device ≡ D.len self.old.device }
+        ensures honest { D.honest self.new.device → D.honest self.old.device }
+        ensures moments { self.old.is_broken ≡ false → D.honest self.new.device → Throughout D.clock D.possible_since self.old.device self.new.device
+            (RunLeaves self.old.state (command.now ∷ []) (record { answer = result; calls = D.calls self.new.device } ∷ [])) }
+        ensures counts { D.honest self.new.device → Throughout D.clock D.possible_since self.old.device self.new.device
+            (IsBetween (D.calls self.old.device) (D.calls self.old.device + calls_of self.old.place command.now)) }
+    {
+        match self.denial(command) {
+            Some(denial) => Err(denial),
+            None => self.carry_out(alloc, command),
+        }
+    }
+
+    // Why the command is denied, before memory is asked for and the device is called.
+    fn denial(&self, command: &Command) -> Option<Denial>
+        ensures { result ≡ denial self.now command.now }
+    {
+        if self.is_broken {
+            return Some(Denial::Broken);
+        }
+        if let Err(refusal) = check(&self.state, command) {
+            return Some(Denial::Core(refusal));
+        }
+        if is_snapshot_due(self.place, command) && self.place.sequence == LAST_SEQUENCE {
+            return Some(Denial::Spent);
+        }
+        None
+    }
+
+    // Carries out a command that is not denied: first the state after it, for which there may be no memory, and then the commit.
+    fn carry_out(&mut self, alloc: Global, command: &Command) -> Result<(), Denial>
+        requires { denial self.old command.now ≡ None }
+        ensures answer { IsAnswer None result }
+        ensures makes { Makes result self.old command.now self.new }
+        ensures finished { OnOk result (D.calls self.new.device ≡ D.calls self.old.device + calls_of self.old.place command.now) }
+        ensures fault { D.faults self.new.device ≡ faults_after_answer result (D.faults self.old.device) }
+        ensures same_len { D.len self.new.device ≡ D.len self.old.device }
+        ensures honest { D.honest self.new.device → D.honest self.old.device }
+        ensures moments { D.honest self.new.device → Throughout D.clock D.possible_since self.old.device self.new.device
+            (RunLeaves self.old.state (command.now ∷ []) (record { answer = result; calls = D.calls self.new.device } ∷ [])) }
+        ensures counts { D.honest self.new.device → Throughout D.clock D.possible_since self.old.device self.new.device
+            (IsBetween (D.calls self.old.device) (D.calls self.old.device + calls_of self.old.place command.now)) }
+    {
+        accepted_commands_fit_records();
+        let Ok(next) = apply(alloc, &self.state, command) else {
+            return Err(Denial::OutOfMemory);
+        };
+        match commit(alloc, &mut self.device, self.place, command, &next) {
+            Ok(place) => {
+                self.state = next;
+                self.place = place;
+                Ok(())
+            }
+            Err(CommitFault::OutOfMemory) => Err(Denial::OutOfMemory),
+            Err(CommitFault::DeviceFault) => {
+                self.is_broken = true;
+                Err(Denial::DeviceFault)
+            }
+        }
+    }
+
     /// The state after every acknowledged command.
     pub fn state(&self) -> &State
         ensures state { result.now ≡ self.now.state }
