@@ -11,9 +11,11 @@ use Rattle.checkpoint.specs.declared.faults.FormatFault.TheVariants.{TooSmall, D
 use Rattle.checkpoint.specs.declared.places.Place.{Place}
 use Rattle.checkpoint.specs.Layouts.{version_2}
 use Rattle.checkpoint.specs.Stores.{Stores, IsUnformatted}
-use Rattle.checkpoint.specs.Holds.{Holds, KeepsFacts}
-use Rattle.checkpoint.specs.Moments.{IsInFormat}
+use Rattle.command_core.specs.declared.commands.Command.{Command}
+use Rattle.checkpoint.specs.Holds.{Holds, KeepsFacts, layout_of, journal}
+use Rattle.checkpoint.specs.Moments.{IsInFormat, IsInCommit}
 use Rattle.checkpoint.specs.Refused.{OnCalls}
+use Rattle.checkpoint.proofs.Journals.{holds_still}
 
 told : (state : State) → IsStateOf Two state
 told Empty = tt
@@ -52,3 +54,20 @@ pub at_end : {T : Type 0} {D : Type 0} (result : Result T FormatFault) (clock : 
     → OnCalls result (Throughout clock since old new (IsInFormat unformatted P calls_old)) → OnOk result ((image : List ℕ) → possible image → P image)
 at_end (Ok x) clock since old new possible unformatted P calls_old calls_new counts finished all = λ image left. (all.each calls_new image (counts (clock old) image all.later left)).done finished
 at_end (Err fault) clock since old new possible unformatted P calls_old calls_new counts finished all = finished
+
+-- from what each image stores at each moment of a commit to what it holds
+module _ (place : Place) (state : State) (bytes : List ℕ) (is : bytes ≡ state_bytes Two state) (facts : KeepsFacts state)
+    (possible : List ℕ → Type 0) (seen : List ℕ) (here : possible seen) (old : State) (commands : List Command) (held : (image : List ℕ) → possible image → Holds Two image old commands place) where
+  pub in_saved : (calls m : ℕ) (image : List ℕ)
+      → IsInCommit (λ i. Stores (layout_of Two) i place.sequence (state_bytes Two old) (journal Two place.sequence 0 commands)) (λ i. Stores version_2 i (place.sequence + 1) bytes []) calls m image
+      → IsInCommit (λ i. Holds Two i old commands place) (λ i. Holds Two i state [] (record { sequence = place.sequence + 1; used = 0 })) calls m image
+  in_saved calls m image within = record {
+    from = within.from;
+    to = within.to;
+    early = λ before. still (within.early before);
+    either = ⊎_elim (λ kept. inl (still kept)) (λ new. inr (new_holds image state (place.sequence + 1) bytes is facts new)) within.either;
+    done = λ end. new_holds image state (place.sequence + 1) bytes is facts (within.done end);
+  }
+    where
+      still : Stores (layout_of Two) image place.sequence (state_bytes Two old) (journal Two place.sequence 0 commands) → Holds Two image old commands place
+      still = holds_still image old commands place seen (held seen here)

@@ -11,3 +11,8 @@ mod Extends
 mod NewStore
 mod Journals
 mod Fresh
+mod Heads
+mod Led
+mod FaultKinds
+mod Loading
+mod Snapshots

@@ -12,7 +12,7 @@ take_front n m xs h inside =
     sym (take-append-le n (take m xs) (drop m xs) room) ∙ ap (take n) (take-append-drop m xs)
 
 -- a sector of the front k sectors
-sector_front : (k j : ℕ) (xs : List ℕ) → j < k → 512 * k ≤ length xs → sector j (take (512 * k) xs) ≡ sector j xs
+pub sector_front : (k j : ℕ) (xs : List ℕ) → j < k → 512 * k ≤ length xs → sector j (take (512 * k) xs) ≡ sector j xs
 sector_front k j xs h inside =
     let room : 512 * j + 512 ≤ length (take (512 * k) xs) = simp length-take (omega arith) in
     sym (sector_left j (take (512 * k) xs) (drop (512 * k) xs) room) ∙ ap (sector j) (take-append-drop (512 * k) xs)

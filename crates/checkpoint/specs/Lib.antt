@@ -4,7 +4,10 @@ pub mod Headers
 pub mod Stores
 pub mod Holds
 pub mod Moments
+pub mod Reads
+pub mod Holdless
 pub mod Refused
 pub mod Names
 -- of private functions alone
 pub mod Puts
+pub mod Encoding

@@ -2,6 +2,8 @@
 use Rattle.std.specs.Prelude.{◌≡◌, ℕ, ◌+◌, ◌-◌, ◌^◌, min, Result, Ok, Err}
 use Rattle.checkpoint.specs.declared.faults.FormatFault.{FormatFault}
 use Rattle.checkpoint.specs.declared.faults.FormatFault.TheVariants.{TooSmall, DeviceFault, OutOfMemory}
+use Rattle.checkpoint.specs.declared.faults.StoreFault.{StoreFault}
+use Rattle.checkpoint.specs.declared.faults.StoreFault.TheVariants as store
 
 -- one failed call more; the count stays at the last number of 64 bits
 abbrev pub one_more_fault : ℕ → ℕ
@@ -28,3 +30,42 @@ OnCalls (Ok x) P = P
 OnCalls (Err DeviceFault) P = P
 OnCalls (Err TooSmall) P = Unit {0}
 OnCalls (Err OutOfMemory) P = Unit {0}
+
+-- the same of a call that a store refuses
+abbrev pub faults_of_store : StoreFault → ℕ → ℕ
+faults_of_store store.DeviceFault faults = one_more_fault faults
+faults_of_store store.NotFormatted faults = faults
+faults_of_store store.BadVersion faults = faults
+faults_of_store (store.Codec fault) faults = faults
+faults_of_store store.Spent faults = faults
+faults_of_store store.OutOfMemory faults = faults
+
+abbrev pub faults_after_reading : {T : Type 0} → Result T StoreFault → ℕ → ℕ
+faults_after_reading (Ok x) faults = faults
+faults_after_reading (Err fault) faults = faults_of_store fault faults
+
+-- what reading a run of sectors may be refused for
+abbrev pub IsOfReading : StoreFault → Type 0
+IsOfReading store.DeviceFault = Unit {0}
+IsOfReading store.OutOfMemory = Unit {0}
+IsOfReading store.NotFormatted = ⊥
+IsOfReading store.BadVersion = ⊥
+IsOfReading (store.Codec fault) = ⊥
+IsOfReading store.Spent = ⊥
+
+-- What a snapshot's commit may be refused for. Only a failed call leaves anything of it on the device.
+abbrev pub IsOfCommit : StoreFault → Type 0
+IsOfCommit store.Spent = Unit {0}
+IsOfCommit store.OutOfMemory = Unit {0}
+IsOfCommit store.DeviceFault = Unit {0}
+IsOfCommit store.NotFormatted = ⊥
+IsOfCommit store.BadVersion = ⊥
+IsOfCommit (store.Codec fault) = ⊥
+
+abbrev pub IsKeptByCommit : {D : Type 0} → StoreFault → D → D → Type 0
+IsKeptByCommit store.DeviceFault old new = Unit {0}
+IsKeptByCommit store.NotFormatted old new = new ≡ old
+IsKeptByCommit store.BadVersion old new = new ≡ old
+IsKeptByCommit (store.Codec fault) old new = new ≡ old
+IsKeptByCommit store.Spent old new = new ≡ old
+IsKeptByCommit store.OutOfMemory old new = new ≡ old

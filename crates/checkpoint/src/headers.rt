@@ -7,7 +7,7 @@ ghost use Rattle.checkpoint.specs.declared.headers.Header.{Header};
 use byteorder::{BigEndian, ByteOrder};
 use sector_disk::SECTOR_SIZE;
 
-const MAGIC: [u8; 8] = *b"PDRSTORE";
+pub const MAGIC: [u8; 8] = *b"PDRSTORE";
 
 /// What a header says of the store.
 #[derive(Clone, Copy, Debug, PartialEq, Eq)]
@@ -42,7 +42,7 @@ pub fn begins_with(bytes: &[u8]) -> u64
 }
 
 /// The header that a sector of a store of this version holds.
-fn header_in(version: u32, sector: &[u8]) -> Option<Header>
+pub fn header_in(version: u32, sector: &[u8]) -> Option<Header>
     requires { length sector.now ≡ 512 }
     ensures only { IfSome result (λ header. sector.now ≡ header_bytes version header) }
     ensures all { (header : Header) → header.sequence < 2 ^ 64 → header.length < 2 ^ 64 → sector.now ≡ header_bytes version header → result ≡ Some header }

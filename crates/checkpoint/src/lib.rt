@@ -3,14 +3,19 @@
 #![tactic(auto)]
 
 mod changes;
+mod encoding;
 mod faults;
+mod fronts;
 mod headers;
 mod layouts;
+mod loads;
 mod making;
 mod places;
 mod puts;
+mod reads;
+mod zeros;
 
-pub use changes::commit_record;
+pub use changes::{commit_record, commit_snapshot};
 pub use faults::{FormatFault, StoreFault};
 pub use making::format;
 pub use places::Place;

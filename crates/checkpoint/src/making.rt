@@ -14,18 +14,12 @@ use crate::faults::FormatFault;
 use crate::headers::Header;
 use crate::places::Place;
 use crate::puts::{SECTORS, put, put_snapshot};
+use crate::zeros::zeros;
 use sector_disk::{DeviceFault, SECTOR_SIZE, Sectors};
-use std::alloc::{AllocError, Global};
+use std::alloc::Global;
 
 /// The bytes of the headers and of the records.
 pub const FRONT: usize = 258 * 512;
-
-/// So many zeros.
-fn zeros(alloc: Global, n: usize) -> Result<Vec<u8>, AllocError>
-    ensures { IfOk result (λ zeros. IsZeros n zeros.items) }
-{
-    vec![in alloc; 0; n]
-}
 
 /// Writes zeros over the headers and the records, and then the first snapshot with its header. Its bytes are the first of `bytes`. Six calls.
 fn put_all<D: Sectors>(

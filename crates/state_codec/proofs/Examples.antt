@@ -20,7 +20,12 @@ depot = record { number = 0; x = pos 0; y = pos 0; demand = pos 0; earliest = 0;
 abbrev just_loaded : JobValue
 just_loaded = record {
   problem = record { kind = Vrp; depot = depot; capacity = 10; fleet = 1; requests = (1, Single customer) ∷ []; next_number = 2 };
-  pins = [] ∷ []; plan = [] ∷ []; work = [] ∷ []; deviation = 0; seed = 0; steps = 0;
+  pins = [] ∷ [];
+  plan = [] ∷ [];
+  work = [] ∷ [];
+  deviation = 0;
+  seed = 0;
+  steps = 0;
 }
 
 -- the 95 bytes of version 2

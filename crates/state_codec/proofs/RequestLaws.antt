@@ -16,7 +16,7 @@ use Rattle.state_codec.specs.declared.fault.CodecFault.{CodecFault}
 use Rattle.state_codec.specs.declared.fault.CodecFault.TheVariants.{BadField}
 use Rattle.state_codec.specs.Bytes.{number_bytes, signed_bytes, count_bytes, visit_bytes, stop_bytes, request_bytes, width}
 use Rattle.state_codec.specs.Fields.{◌>>=◌, Field, only, byte_at, number_at, signed_at, is_coordinate, is_demand, is_time, is_service, int_eq}
-use Rattle.state_codec.specs.Reading.{is_free, is_name, is_delivery, is_wanted, visit_at, first_at, delivery_at, single_at, pair_at, request_at, requests_at}
+use Rattle.state_codec.specs.Reading.{is_free, is_name, is_delivery, is_wanted, visit_at, first_at, delivery_at, single_at, pair_at, request_at}
 use Rattle.state_codec.proofs.FieldLaws.{IsBytes, Takes, takes_then, step, only_ok, number_takes, signed_takes, of_4, of_width, bind_ok, ok_is, only_again, number_again, signed_again, small}
 
 -- ---- what the rules of fields say
@@ -64,7 +64,7 @@ demand_takes wanted bytes fits x e =
     let o = only_ok (is_wanted wanted) (signed_at bytes) x e in
     (signed_takes bytes x fits o.0, o.1)
 
-number_only : (rule : ℕ → Bool) (size : ℕ) → ((bytes : List ℕ) (x : ℕ × List ℕ) → IsBytes bytes → number_at size bytes ≡ Ok x → Takes bytes (number_bytes size x.0) x.1 × (x.0 < 256 ^ size)) → (bytes : List ℕ) → IsBytes bytes → (x : ℕ × List ℕ) → only rule (number_at size bytes) ≡ Ok x → Takes bytes (number_bytes size x.0) x.1 × (rule x.0 ≡ true)
+pub number_only : (rule : ℕ → Bool) (size : ℕ) → ((bytes : List ℕ) (x : ℕ × List ℕ) → IsBytes bytes → number_at size bytes ≡ Ok x → Takes bytes (number_bytes size x.0) x.1 × (x.0 < 256 ^ size)) → (bytes : List ℕ) → IsBytes bytes → (x : ℕ × List ℕ) → only rule (number_at size bytes) ≡ Ok x → Takes bytes (number_bytes size x.0) x.1 × (rule x.0 ≡ true)
 number_only rule size takes bytes fits x e =
     let o = only_ok rule (number_at size bytes) x e in
     ((takes bytes x fits o.0).0, o.1)
@@ -106,12 +106,12 @@ visit_again s wanted rest visit goods fits =
     let window : (nat_le s.earliest s.latest && is_time s.latest) ≡ true = parts_and _ _ (is_le s.earliest s.latest visit.window) (is_le s.latest 100000000 visit.latest) in
     ap (visit_at s.number wanted) regrouped
     ∙ rw (only_again is_coordinate (signed_at (signed_bytes s.x ++ y)) (s.x, y) (signed_again s.x y (small s.x visit.x.0 visit.x.1)) (is_coordinate-holds s.x visit.x))
-      (rw (only_again is_coordinate (signed_at y) (s.y, demand) (signed_again s.y demand (small s.y visit.y.0 visit.y.1)) (is_coordinate-holds s.y visit.y))
-      (rw (only_again (is_wanted wanted) (signed_at demand) (s.demand, earliest) (signed_again s.demand earliest fits) goods)
-      (rw (only_again is_time (number_at 4 earliest) (s.earliest, latest) (number_again 4 s.earliest latest (omega (arith, visit.window, visit.latest))) (is_le s.earliest 100000000 (omega (arith, visit.window, visit.latest))))
-      (rw (only_again (λ t. nat_le s.earliest t && is_time t) (number_at 4 latest) (s.latest, service) (number_again 4 s.latest service (omega (arith, visit.latest))) window)
-      (rw (only_again is_service (number_at 4 service) (s.service, rest) (number_again 4 s.service rest (omega (arith, visit.service))) (is_le s.service 1000000 visit.service))
-      refl)))))
+    (rw (only_again is_coordinate (signed_at y) (s.y, demand) (signed_again s.y demand (small s.y visit.y.0 visit.y.1)) (is_coordinate-holds s.y visit.y))
+    (rw (only_again (is_wanted wanted) (signed_at demand) (s.demand, earliest) (signed_again s.demand earliest fits) goods)
+    (rw (only_again is_time (number_at 4 earliest) (s.earliest, latest) (number_again 4 s.earliest latest (omega (arith, visit.window, visit.latest))) (is_le s.earliest 100000000 (omega (arith, visit.window, visit.latest))))
+    (rw (only_again (λ t. nat_le s.earliest t && is_time t) (number_at 4 latest) (s.latest, service) (number_again 4 s.latest service (omega (arith, visit.latest))) window)
+    (rw (only_again is_service (number_at 4 service) (s.service, rest) (number_again 4 s.service rest (omega (arith, visit.service))) (is_le s.service 1000000 visit.service))
+    refl)))))
 
 -- ---- stops with their numbers
 

@@ -1,14 +1,21 @@
 -- Reading the tables of a state, each the inverse of what `Bytes` writes. Each rule is judged at the field that it names.
-use Rattle.std.specs.Prelude.{◌≡◌, ℕ, zero, suc, ℤ, Bool, not, ◌&&◌, ◌==◌, nat_lt, nat_le, nat_eq, List, [], ◌∷◌, ◌++◌, take, Option, Some, None, Result, Ok, Err, is_some, if◌then◌else◌, neg_ℤ}
+use Rattle.std.specs.Prelude.{◌≡◌, ℕ, zero, suc, ◌+◌, ◌^◌, ℤ, pos, length, Bool, not, ◌&&◌, ◌==◌, nat_lt, nat_le, nat_eq, List, [], ◌∷◌, ◌++◌, take, Option, Some, None, Result, Ok, Err, is_some, if◌then◌else◌, neg_ℤ}
 use Rattle.std.specs.List.{list_all}
 use Rattle.plan_types.specs.Instance.{first_some}
 use Rattle.plan_types.specs.Request.{request_name, stop_in}
 use Rattle.plan_types.specs.declared.requests.Stop.{Stop}
 use Rattle.plan_types.specs.declared.requests.Request.{Request}
 use Rattle.plan_types.specs.declared.requests.Request.TheVariants.{Single, Pair}
+use Rattle.plan_types.specs.declared.requests.Kind.{Kind}
+use Rattle.plan_types.specs.declared.requests.Kind.TheVariants.{LiLim, Vrp}
+use Rattle.command_core.specs.Job.{JobValue}
 use Rattle.state_codec.specs.declared.version.Version.{Version}
+use Rattle.state_codec.specs.declared.version.Version.TheVariants.{One, Two}
+use Rattle.state_codec.specs.declared.fault.CodecFault.{CodecFault}
+use Rattle.state_codec.specs.declared.head.Head.{Head}
 use Rattle.state_codec.specs.declared.fault.CodecFault.TheVariants.{BadField}
 use Rattle.state_codec.specs.Bytes.{width}
+use Rattle.state_codec.specs.Limits.{most}
 use Rattle.state_codec.specs.Fields.{◌>>=◌, Field, only, byte_at, number_at, signed_at, is_coordinate, is_demand, is_time, is_service, int_eq}
 
 -- no request so far has a stop with this number
@@ -68,44 +75,131 @@ request_at v next before bytes = do
   form ← byte_at bytes
   if form.0 == 1 then single_at v next before form.1 else if form.0 == 2 then pair_at v next before form.1 else Err BadField
 
--- so many requests more
-unfoldable pub requests_at : Version → ℕ → ℕ → List (ℕ × Request) → List ℕ → Field (List (ℕ × Request))
-requests_at v next zero before bytes = Ok (before, bytes)
-requests_at v next (suc count) before bytes = do
-  request ← request_at v next before bytes
-  requests_at v next count (before ++ (request_name request.0, request.0) ∷ []) request.1
+-- so many times: each time something is read and added to what was read before
+unfoldable pub times : {A : Type 0} → (A → List ℕ → Field A) → ℕ → A → List ℕ → Field A
+times more zero before bytes = Ok (before, bytes)
+times more (suc count) before bytes = do
+  one ← more before bytes
+  times more count one.0 one.1
 
--- so many stop numbers more
-unfoldable pub stops_at : Version → ℕ → List ℕ → List ℕ → Field (List ℕ)
-stops_at v zero before bytes = Ok (before, bytes)
-stops_at v (suc count) before bytes = do
+-- one request more
+abbrev pub next_request : Version → ℕ → List (ℕ × Request) → List ℕ → Field (List (ℕ × Request))
+next_request v next before bytes = do
+  request ← request_at v next before bytes
+  Ok (before ++ (request_name request.0, request.0) ∷ [], request.1)
+
+-- one stop number more
+abbrev pub next_stop : Version → List ℕ → List ℕ → Field (List ℕ)
+next_stop v before bytes = do
   stop ← number_at (width v) bytes
-  stops_at v count (before ++ stop.0 ∷ []) stop.1
+  Ok (before ++ stop.0 ∷ [], stop.1)
 
 -- the pin and the route of a vehicle: the pin's length, the route's, and the route's stops, with which the pin begins
 unfoldable pub vehicle_at : Version → List ℕ → Field (List ℕ × List ℕ)
 vehicle_at v bytes = do
   pin ← number_at (width v) bytes
   len ← only (nat_le pin.0) (number_at (width v) pin.1)
-  route ← stops_at v len.0 [] len.1
+  route ← times (next_stop v) len.0 [] len.1
   Ok ((take pin.0 route.0, route.0), route.1)
 
--- so many vehicles more: their pins, and their routes
-unfoldable pub vehicles_at : Version → ℕ → List (List ℕ) → List (List ℕ) → List ℕ → Field (List (List ℕ) × List (List ℕ))
-vehicles_at v zero pins routes bytes = Ok ((pins, routes), bytes)
-vehicles_at v (suc count) pins routes bytes = do
+-- one vehicle more: its pin and its route
+abbrev pub next_vehicle : Version → List (List ℕ) × List (List ℕ) → List ℕ → Field (List (List ℕ) × List (List ℕ))
+next_vehicle v before bytes = do
   vehicle ← vehicle_at v bytes
-  vehicles_at v count (pins ++ vehicle.0.0 ∷ []) (routes ++ vehicle.0.1 ∷ []) vehicle.1
+  Ok ((before.0 ++ vehicle.0.0 ∷ [], before.1 ++ vehicle.0.1 ∷ []), vehicle.1)
 
 -- a route without a pin
 unfoldable pub route_at : Version → List ℕ → Field (List ℕ)
 route_at v bytes = do
   len ← number_at (width v) bytes
-  stops_at v len.0 [] len.1
+  times (next_stop v) len.0 [] len.1
 
--- so many routes more
-unfoldable pub routes_at : Version → ℕ → List (List ℕ) → List ℕ → Field (List (List ℕ))
-routes_at v zero before bytes = Ok (before, bytes)
-routes_at v (suc count) before bytes = do
+-- one route more
+abbrev pub next_route : Version → List (List ℕ) → List ℕ → Field (List (List ℕ))
+next_route v before bytes = do
   route ← route_at v bytes
-  routes_at v count (before ++ route.0 ∷ []) route.1
+  Ok (before ++ route.0 ∷ [], route.1)
+
+-- the working routes: version 1 has none, and the plan's stand for them
+abbrev pub work_at : Version → ℕ → List (List ℕ) → List ℕ → Field (List (List ℕ))
+work_at One fleet plan bytes = Ok (plan, bytes)
+work_at Two fleet plan bytes = times (next_route Two) fleet [] bytes
+
+-- ---- what stands before the requests
+
+abbrev pub kind_at : List ℕ → Field Kind
+kind_at bytes = byte_at bytes >>= λ b. if b.0 == 1 then Ok (LiLim, b.1) else if b.0 == 2 then Ok (Vrp, b.1) else Err BadField
+
+abbrev pub is_steps : ℕ → Bool
+is_steps n = nat_le n (2 ^ 60)
+
+abbrev pub is_capacity : ℕ → Bool
+is_capacity n = nat_le n 1000000
+
+abbrev pub is_fleet : Version → ℕ → Bool
+is_fleet v n = nat_le 1 n && nat_le n (most v)
+
+abbrev pub is_next : Version → ℕ → Bool
+is_next v n = nat_le 1 n && nat_le n (most v + 1)
+
+abbrev pub is_deviation : ℕ → Bool
+is_deviation d = nat_le d 1000000000
+
+unfoldable pub depot_at : List ℕ → Field Stop
+depot_at bytes = do
+  x ← only is_coordinate (signed_at bytes)
+  y ← only is_coordinate (signed_at x.1)
+  earliest ← only is_time (number_at 4 y.1)
+  latest ← only (λ t. nat_le earliest.0 t && is_time t) (number_at 4 earliest.1)
+  Ok (record { number = 0; x = x.0; y = y.0; demand = pos 0; earliest = earliest.0; latest = latest.0; service = 0 }, latest.1)
+
+-- version 1 has no deviation: it is 0
+abbrev pub allowance_at : Version → List ℕ → Field ℕ
+allowance_at One bytes = Ok (0, bytes)
+allowance_at Two bytes = only is_deviation (number_at 4 bytes)
+
+unfoldable pub head_at : Version → List ℕ → Field Head
+head_at v bytes = do
+  kind ← kind_at bytes
+  seed ← number_at 8 kind.1
+  steps ← only is_steps (number_at 8 seed.1)
+  capacity ← only is_capacity (number_at 4 steps.1)
+  fleet ← only (is_fleet v) (number_at (width v) capacity.1)
+  next ← only (is_next v) (number_at (width v) fleet.1)
+  depot ← depot_at next.1
+  deviation ← allowance_at v depot.1
+  Ok (record { kind = kind.0; seed = seed.0; steps = steps.0; capacity = capacity.0; fleet = fleet.0; next_number = next.0; depot = depot.0; deviation = deviation.0 }, deviation.1)
+
+-- ---- a whole state
+
+abbrev pub job_from : Head → List (ℕ × Request) → List (List ℕ) × List (List ℕ) → List (List ℕ) → JobValue
+job_from h requests vehicles work = record {
+  problem = record { kind = h.kind; depot = h.depot; capacity = h.capacity; fleet = h.fleet; requests = requests; next_number = h.next_number };
+  pins = vehicles.0;
+  plan = vehicles.1;
+  work = work;
+  deviation = h.deviation;
+  seed = h.seed;
+  steps = h.steps;
+}
+
+unfoldable pub job_at : Version → List ℕ → Field JobValue
+job_at v bytes = do
+  head ← head_at v bytes
+  count ← number_at (width v) head.1
+  requests ← times (next_request v head.0.next_number) count.0 [] count.1
+  vehicles ← times (next_vehicle v) head.0.fleet ([], []) requests.1
+  work ← work_at v head.0.fleet vehicles.0.1 vehicles.1
+  Ok (job_from head.0 requests.0 vehicles.0 work.0, work.1)
+
+-- a byte that tells whether a job follows
+unfoldable pub state_at : Version → List ℕ → Field (Option JobValue)
+state_at v bytes = do
+  loaded ← byte_at bytes
+  if loaded.0 == 0 then Ok (None, loaded.1) else if loaded.0 == 1 then (job_at v loaded.1 >>= λ job. Ok (Some job.0, job.1)) else Err BadField
+
+-- and nothing behind it
+unfoldable pub whole_at : Version → List ℕ → Result (Option JobValue) CodecFault
+whole_at v bytes = do
+  state ← state_at v bytes
+  if length state.1 == 0 then Ok state.0 else Err BadField

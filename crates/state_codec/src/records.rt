@@ -15,6 +15,7 @@ use command_core::{Command, Spot};
 use plan_types::limits::{MAX_COORDINATE, MAX_DEMAND, MAX_SERVICE, MAX_TIME};
 
 const MAX_STEPS: u16 = 256;
+
 const MAX_DEVIATION: u32 = 1_000_000_000;
 
 /// The sector of a record: the command as the one of this index in the journal of this sequence. The command is none of Load and

@@ -1,10 +1,13 @@
 //! The requests of a state.
-ghost use Rattle.std.specs.Prelude.{◌≡◌, ◌&&◌, nat_le, nat_lt};
+ghost use Rattle.std.specs.Prelude.{◌≡◌, ◌≤◌, ◌&&◌, [], nat_le, nat_lt, OnOk, IfOk, IfErr};
+ghost use Rattle.plan_types.specs.Instance.{with_request, IsTaken};
+ghost use Rattle.plan_types.specs.Request.{IsRequest};
+ghost use Rattle.state_codec.specs.Filled.{IsFilled};
 ghost use Rattle.plan_types.specs.Limits.{IsDemand};
 ghost use Rattle.std.specs.List.{list_all};
 ghost use Rattle.state_codec.specs.Bytes.{width};
-ghost use Rattle.state_codec.specs.Fields.{Reads, only, number_at, signed_at, is_coordinate, is_service, is_time};
-ghost use Rattle.state_codec.specs.Reading.{is_free, is_name, is_delivery, is_wanted, visit_at, first_at, delivery_at, single_at, pair_at, request_at, requests_at};
+ghost use Rattle.state_codec.specs.Fields.{Reads, Gives, only, number_at, signed_at, is_coordinate, is_service, is_time};
+ghost use Rattle.state_codec.specs.Reading.{is_free, is_name, is_delivery, is_wanted, visit_at, first_at, delivery_at, single_at, pair_at, request_at, depot_at, times, next_request};
 
 use crate::fault::CodecFault;
 use crate::fields::{coordinate_at, i32_at, number_at, time_at, u8_at, u32_at};
@@ -79,6 +82,27 @@ fn service_at(bytes: &[u8]) -> Result<(u32, &[u8]), CodecFault>
         return Err(CodecFault::BadField);
     }
     Ok((service, rest))
+}
+
+/// The depot's place and window.
+#[tactic(auto, unfolding(crate::specs::Reading::depot_at))]
+pub(crate) fn depot_at(bytes: &[u8]) -> Result<(Stop, &[u8]), CodecFault>
+    ensures { Reads (λ x. (x.0, x.1.now)) result (depot_at bytes.now) }
+{
+    let (x, rest) = coordinate_at(bytes)?;
+    let (y, rest) = coordinate_at(rest)?;
+    let (earliest, rest) = time_at(rest)?;
+    let (latest, rest) = end_at(earliest, rest)?;
+    let depot = Stop {
+        number: 0,
+        x,
+        y,
+        demand: 0,
+        earliest,
+        latest,
+        service: 0,
+    };
+    Ok((depot, rest))
 }
 
 #[tactic(auto, unfolding(crate::specs::Reading::visit_at))]
@@ -204,4 +228,42 @@ fn request_at<'a>(
         2 => pair_at(version, problem, next, rest),
         _ => Err(CodecFault::BadField),
     }
+}
+
+// Puts a request that a problem can take.
+fn put_new(problem: &mut Problem, request: Request) -> Result<(), CodecFault>
+    requires request { IsRequest request }
+    requires free { ¬ IsTaken problem.old request }
+    ensures ok { OnOk result (problem.new ≡ with_request problem.old request) }
+    ensures err { IfErr result (λ e. e ≡ CodecFault.OutOfMemory) }
+{
+    match problem.put(request) {
+        Ok(()) => Ok(()),
+        // No other fault is left.
+        Err(_) => Err(CodecFault::OutOfMemory),
+    }
+}
+
+/// So many requests, put into a problem that has none. Each number is below the next one. No room is made for them by their count
+/// alone.
+pub(crate) fn requests_at<'a>(
+    version: Version,
+    problem: Problem,
+    next: u32,
+    count: u32,
+    bytes: &'a [u8],
+) -> Result<(Problem, &'a [u8]), CodecFault>
+    requires empty { problem.requests ≡ [] }
+    requires next { next ≤ 40001 }
+    ensures read { Gives (λ x. (x.0.requests, x.1.now)) result (times (next_request version next) count [] bytes.now) }
+    ensures problem { IfOk result (λ x. IsFilled problem next x.0) }
+{
+    let mut problem = problem;
+    let mut rest = bytes;
+    for _ in 0..count {
+        let (request, after) = request_at(version, &problem, next, rest)?;
+        put_new(&mut problem, request)?;
+        rest = after;
+    }
+    Ok((problem, rest))
 }

@@ -1,0 +1,70 @@
+-- What reading leaves, and what the front of an image tells.
+use Rattle.std.specs.Prelude.{◌≡◌, ◌≢◌, ℕ, ◌+◌, ◌*◌, ◌%◌, ◌^◌, ◌<◌, ◌≤◌, List, Option, Some, None, length, take, All}
+use Rattle.sector_disk.specs.Image.{sector}
+use Rattle.sector_disk.specs.Sectors.{SameImages, Throughout}
+use Rattle.command_core.specs.declared.commands.Command.{Command}
+use Rattle.state_codec.specs.declared.version.Version.{Version}
+use Rattle.state_codec.specs.Bytes.{record_bytes}
+use Rattle.state_codec.specs.Limits.{IsRecorded}
+use Rattle.checkpoint.specs.declared.layouts.Layout.{Layout}
+use Rattle.checkpoint.specs.declared.headers.Header.{Header}
+use Rattle.checkpoint.specs.Layouts.{sectors_in}
+use Rattle.checkpoint.specs.Stores.{IsValid, Counts, snapshot_in, record_sectors, begins_with}
+use Rattle.checkpoint.specs.Holds.{layout_of, journal}
+
+-- A device that was only read: reads give the same, the images are the same, and so they were at each moment.
+pub record IsUnchanged {D : Type 0} (clock : D → ℕ) (since : D → ℕ → ℕ → List ℕ → Type 0) (possible : D → List ℕ → Type 0) (seen : D → List ℕ) (calls : D → ℕ) (old new : D) : Type 0 where
+  pub reads : seen new ≡ seen old
+  pub images : SameImages (possible old) (possible new)
+  pub moments : Throughout clock since old new (λ m image. (m ≡ calls old) × possible old image)
+
+-- the headers and the records of an image of so many sectors
+pub record IsFront (sectors : ℕ) (front image : List ℕ) : Type 0 where
+  pub size : length image ≡ 512 * sectors
+  pub room : 258 ≤ sectors
+  pub is : take (512 * 258) image ≡ front
+
+-- a header whose snapshot has room in its half, on a device that has room for the layout
+pub record FitsLayout (layout : Layout) (sectors : ℕ) (header : Header) : Type 0 where
+  pub room : sectors_in layout ≤ sectors
+  pub some : 1 ≤ header.length
+  pub fits : header.length ≤ 512 * layout.half
+
+-- a header that may stand in this sector of a device of so many sectors
+pub record IsAllowed (layout : Layout) (sectors : ℕ) (header : Header) (index : ℕ) : Type 0 where
+  pub room : sectors_in layout ≤ sectors
+  pub parity : header.sequence % 2 ≡ index
+  pub first : 1 ≤ header.sequence
+  pub last : header.sequence ≤ 2 ^ 60
+  pub some : 1 ≤ header.length
+  pub fits : header.length ≤ 512 * layout.half
+
+-- the valid header of one of the two sectors, if it has one
+abbrev pub IsOfParity : Layout → List ℕ → ℕ → Option Header → Type 0
+IsOfParity layout image index None = (header : Header) → header.sequence % 2 ≡ index → ¬ IsValid layout image header
+IsOfParity layout image index (Some header) = (header.sequence % 2 ≡ index) × IsValid layout image header
+
+-- the first records of a sequence: those of these commands
+pub record IsLed (version : Version) (image : List ℕ) (sequence : ℕ) (commands : List Command) : Type 0 where
+  pub records : record_sectors 0 (length commands) image ≡ journal version sequence 0 commands
+  pub recorded : All (IsRecorded version) commands
+
+-- the records of a sequence as far as they go: those of these commands, and the sector behind them is none
+pub record HasRecords (version : Version) (image : List ℕ) (sequence : ℕ) (commands : List Command) : Type 0 where
+  pub led : IsLed version image sequence commands
+  pub count : length commands ≤ 256
+  pub ends : length commands < 256 → (command : Command) → IsRecorded version command → sector (2 + length commands) image ≢ record_bytes version sequence (length commands) command
+
+-- from this index on no record sector begins with this sequence or a greater one
+abbrev pub IsClearFrom : ℕ → List ℕ → ℕ → Type 0
+IsClearFrom used image sequence = (i : ℕ) → used ≤ i → i < 256 → begins_with (sector (2 + i) image) < sequence
+
+-- from this index on some record sector does
+abbrev pub HasStrayFrom : ℕ → List ℕ → ℕ → Type 0
+HasStrayFrom used image sequence = (i : ℕ) × (used ≤ i) × (i < 256) × (sequence ≤ begins_with (sector (2 + i) image))
+
+-- the parts of an image that a store is read from: the header that counts, the front and the snapshot's bytes
+pub record HasParts (version : Version) (sectors : ℕ) (image : List ℕ) (header : Header) (front bytes : List ℕ) : Type 0 where
+  pub whole : IsFront sectors front image
+  pub counts : Counts (layout_of version) image header
+  pub snapshot : bytes ≡ snapshot_in (layout_of version) image header.sequence header.length

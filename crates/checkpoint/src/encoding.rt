@@ -1,0 +1,41 @@
+// States as snapshots.
+ghost use Rattle.std.specs.Prelude.{IfOk};
+ghost use Rattle.checkpoint.specs.Encoding.{IsSnapshot};
+ghost use Rattle.checkpoint.specs.Holds.{KeepsFacts};
+
+use crate::zeros::filled;
+use command_core::State;
+use state_codec::{encode_state, states_are_short};
+use std::alloc::{AllocError, Global};
+
+/// The bytes of a snapshot, to a whole sector.
+#[derive(Drop)]
+pub struct Snapshot {
+    /// How many of the bytes are the state's.
+    pub size: u64,
+    pub bytes: Vec<u8>,
+}
+
+/// A state keeps its facts.
+pub fn keeps_facts(state: &State)
+    ensures { KeepsFacts state.now }
+{
+    match state {
+        State::Empty => {}
+        State::Loaded(job) => {
+            let _seed = job.seed;
+        }
+    }
+}
+
+/// The snapshot of a state.
+pub fn snapshot_of(alloc: Global, state: &State) -> Result<Snapshot, AllocError>
+    ensures { IfOk result (λ snapshot. IsSnapshot state.now snapshot.size snapshot.bytes.items) }
+{
+    states_are_short();
+    keeps_facts(state);
+    let bytes = encode_state(alloc, state)?;
+    let size = bytes.len() as u64;
+    let bytes = filled(bytes)?;
+    Ok(Snapshot { size, bytes })
+}

@@ -1,0 +1,175 @@
+// What the headers and the records of a device tell.
+ghost use Rattle.std.specs.Prelude.{◌≡◌, ◌≢◌, ◌+◌, ◌*◌, ◌%◌, ◌<◌, ◌≤◌, ◌^◌, ◌↔◌, ℕ, List, length, take, OnOk, OnErr, IfOk, IfErr, IfSome, IsTrue, MatchOption, MatchResult, Some, None};
+ghost use Rattle.sector_disk.specs.Image.{sector};
+ghost use Rattle.checkpoint.specs.Layouts.{sectors_in};
+ghost use Rattle.checkpoint.specs.Headers.{HasOtherVersion};
+ghost use Rattle.checkpoint.specs.Stores.{IsValid, Counts, begins_with};
+ghost use Rattle.checkpoint.specs.Reads.{IsFront, FitsLayout, IsAllowed, IsOfParity, HasRecords, IsClearFrom, HasStrayFrom};
+ghost use Rattle.checkpoint.specs.Holdless.{HasNoHeader, IsOfHeaders};
+ghost use Rattle.command_core.specs.declared.commands.Command.{Command};
+ghost use Rattle.state_codec.specs.Bytes.{record_bytes};
+ghost use Rattle.state_codec.specs.Limits.{IsRecorded};
+ghost use Rattle.checkpoint.specs.declared.headers.Header.{Header};
+
+use crate::faults::StoreFault;
+use crate::headers::{Header, MAGIC, begins_with, header_in};
+use crate::layouts::Layout;
+use command_core::Command;
+use sector_disk::SECTOR_SIZE;
+use state_codec::version::Version;
+use state_codec::{decode_record, decode_record_v1};
+use std::alloc::{AllocError, Global};
+
+/// A sector of the front of a device.
+fn sector_at(front: &[u8], i: usize) -> [u8; SECTOR_SIZE]
+    requires { 512 * i + 512 ≤ length front.now }
+    ensures { result ≡ sector i front.now }
+{
+    let mut sector = [0; SECTOR_SIZE];
+    sector.copy_from_slice(&front[i * SECTOR_SIZE..(i + 1) * SECTOR_SIZE]);
+    sector
+}
+
+/// How many sectors a store has.
+fn sectors_in(layout: Layout) -> u64
+    ensures { result ≡ sectors_in layout }
+{
+    258 + 2 * u64::from(layout.half)
+}
+
+/// Whether a header may stand in this sector of a device of so many sectors.
+fn is_allowed(layout: Layout, sectors: u64, header: Header, index: u64) -> bool
+    ensures { IsTrue result ↔ IsAllowed layout sectors header index }
+{
+    if sectors < sectors_in(layout) || header.sequence % 2 != index {
+        return false;
+    }
+    if header.sequence < 1 || 1 << 60 < header.sequence {
+        return false;
+    }
+    1 <= header.length && header.length <= 512 * u64::from(layout.half)
+}
+
+/// The valid header in one of the first two sectors.
+fn valid_header(layout: Layout, sectors: u64, front: &[u8], index: usize) -> Option<Header>
+    requires front { length front.now ≡ 512 * 258 }
+    requires index { index < 2 }
+    ensures fits { IfSome result (FitsLayout layout sectors) }
+    ensures valid { (image : List ℕ) → IsFront sectors front.now image → IsOfParity layout image index result }
+{
+    match header_in(layout.version, &sector_at(front, index)) {
+        Some(header) => {
+            if is_allowed(layout, sectors, header, index as u64) {
+                Some(header)
+            } else {
+                None
+            }
+        }
+        None => None,
+    }
+}
+
+/// Whether a sector has the magic and another version.
+fn is_of_other_version(version: u32, sector: &[u8; SECTOR_SIZE]) -> bool
+    ensures { IsTrue result ↔ HasOtherVersion version sector.now }
+{
+    &sector[..8] == MAGIC.as_slice() && &sector[8..12] != version.to_be_bytes().as_slice()
+}
+
+/// What is told where no header is valid.
+fn no_header(layout: Layout, front: &[u8]) -> StoreFault
+    requires front { length front.now ≡ 512 * 258 }
+    ensures kind { IsOfHeaders result }
+    ensures told { (sectors : ℕ) (image : List ℕ) → 802 ≤ sectors → IsFront sectors front.now image → ((header : Header) → ¬ IsValid layout image header) → HasNoHeader layout image result }
+{
+    if is_of_other_version(layout.version, &sector_at(front, 0)) {
+        return StoreFault::BadVersion;
+    }
+    if is_of_other_version(layout.version, &sector_at(front, 1)) {
+        return StoreFault::BadVersion;
+    }
+    StoreFault::NotFormatted
+}
+
+/// The header that counts, on a device of so many sectors.
+pub fn current_header(layout: Layout, sectors: u64, front: &[u8]) -> Result<Header, StoreFault>
+    requires front { length front.now ≡ 512 * 258 }
+    requires room { 802 ≤ sectors }
+    ensures kind { IfErr result IsOfHeaders }
+    ensures fits { IfOk result (FitsLayout layout sectors) }
+    ensures found { (image : List ℕ) → IsFront sectors front.now image → MatchResult result (λ header. Counts layout image header) (λ fault. HasNoHeader layout image fault) }
+{
+    let first = valid_header(layout, sectors, front, 0);
+    let second = valid_header(layout, sectors, front, 1);
+    match first {
+        Some(first) => match second {
+            Some(second) => {
+                if first.sequence < second.sequence {
+                    Ok(second)
+                } else {
+                    Ok(first)
+                }
+            }
+            None => Ok(first),
+        },
+        None => match second {
+            Some(second) => Ok(second),
+            None => Err(no_header(layout, front)),
+        },
+    }
+}
+
+/// The command whose record of this sequence and index a sector is, if it is one.
+fn command_in(
+    version: Version,
+    sector: &[u8; SECTOR_SIZE],
+    sequence: u64,
+    index: u32,
+) -> Option<Command>
+    ensures { MatchOption result ((command : Command) → IsRecorded version command → sector.now ≢ record_bytes version sequence index command)
+        (λ command. IsRecorded version command × (sector.now ≡ record_bytes version sequence index command)) }
+{
+    match version {
+        Version::One => decode_record_v1(sector, sequence, index),
+        Version::Two => decode_record(sector, sequence, index),
+    }
+}
+
+/// The commands of the records of a sequence, up to the first sector that is none.
+pub fn leading_commands(
+    alloc: Global,
+    version: Version,
+    front: &[u8],
+    sequence: u64,
+) -> Result<Vec<Command>, AllocError>
+    requires { length front.now ≡ 512 * 258 }
+    ensures { IfOk result (λ commands. HasRecords version front.now sequence commands.items) }
+{
+    let mut commands = Vec::new(alloc);
+    for index in 0..256u32 {
+        match command_in(
+            version,
+            &sector_at(front, 2 + index as usize),
+            sequence,
+            index,
+        ) {
+            Some(command) => commands.push(command)?,
+            None => return Ok(commands),
+        }
+    }
+    Ok(commands)
+}
+
+/// The first record sector from this index on that begins with this sequence or a greater one.
+pub fn stray_from(front: &[u8], used: usize, sequence: u64) -> Option<usize>
+    requires front { length front.now ≡ 512 * 258 }
+    requires used { used ≤ 256 }
+    ensures { MatchOption result (IsClearFrom used front.now sequence) (λ i. HasStrayFrom used front.now sequence) }
+{
+    for i in used..256 {
+        if sequence <= begins_with(&sector_at(front, 2 + i)) {
+            return Some(i);
+        }
+    }
+    None
+}

@@ -1,0 +1,198 @@
+// Reading a store.
+ghost use Rattle.std.specs.Prelude.{◌≡◌, ◌+◌, ◌*◌, ◌/◌, ◌%◌, ◌<◌, ◌≤◌, ℕ, List, length, take, drop, OnOk, IfOk, IfErr, IsErrOf, MatchResult};
+ghost use Rattle.checkpoint.specs.Layouts.{sectors_in, half_at};
+ghost use Rattle.checkpoint.specs.Stores.{Counts, snapshot_in};
+ghost use Rattle.checkpoint.specs.Reads.{IsFront, IsUnchanged, FitsLayout, HasParts};
+ghost use Rattle.state_codec.specs.Bytes.{state_bytes};
+ghost use Rattle.state_codec.specs.Limits.{IsStateOf};
+ghost use Rattle.checkpoint.specs.Holds.{Holds, layout_of};
+ghost use Rattle.checkpoint.specs.Holdless.{HasNoHeader, HasStray, IsOfHeadersOrUnread, IsOfJournal, UnlessUnread};
+ghost use Rattle.checkpoint.specs.Refused.{IsOfReading, faults_after_reading};
+
+use crate::encoding::keeps_facts;
+use crate::faults::StoreFault;
+use crate::fronts::{current_header, leading_commands, stray_from};
+use crate::headers::Header;
+use crate::layouts::Layout;
+use crate::making::FRONT;
+use crate::places::Place;
+use crate::reads::read_run;
+use command_core::{Command, State};
+use sector_disk::{SECTOR_SIZE, Sectors};
+use state_codec::CodecFault;
+use state_codec::version::Version;
+use std::alloc::Global;
+
+/// The sectors of the smallest store of any version.
+const LEAST_SECTORS: u64 = 802;
+
+/// The headers and the records of a device, and the header that counts.
+#[derive(Drop)]
+pub struct Opened {
+    pub front: Vec<u8>,
+    pub header: Header,
+}
+
+/// Reads the headers and the records. One device call.
+pub fn read_front<D: Sectors>(
+    alloc: Global,
+    device: &mut D,
+    layout: Layout,
+) -> Result<Opened, StoreFault>
+    requires { 802 ≤ D.len device.old }
+
+    ensures fails { IfErr result IsOfHeadersOrUnread }
+    ensures long { IfOk result (λ opened. length opened.front.items ≡ 512 * 258) }
+    ensures fits { IfOk result (λ opened. FitsLayout layout (D.len device.old) opened.header) }
+    ensures found { D.honest device.new → MatchResult result (λ opened. IsFront (D.len device.old) opened.front.items (D.seen device.old) × Counts layout (D.seen device.old) opened.header)
+        (UnlessUnread (HasNoHeader layout (D.seen device.old))) }
+    ensures same_len { D.len device.new ≡ D.len device.old }
+    ensures same_calls { D.calls device.new ≡ D.calls device.old }
+    ensures fault { D.faults device.new ≡ faults_after_reading result (D.faults device.old) }
+    ensures honest { D.honest device.new → D.honest device.old }
+    ensures kept { D.honest device.new → IsUnchanged D.clock D.possible_since D.possible D.seen D.calls device.old device.new }
+{
+    let sectors = device.len();
+    let front = match read_run(alloc, device, 0, FRONT) {
+        Ok(front) => front,
+        Err(fault) => return Err(fault),
+    };
+    match current_header(layout, sectors, &front) {
+        Ok(header) => Ok(Opened { front, header }),
+        Err(fault) => Err(fault),
+    }
+}
+
+/// The first sector of the half of a sequence.
+fn half_start(layout: Layout, sequence: u64) -> u64
+    ensures { result ≡ half_at layout sequence }
+{
+    258 + u64::from(layout.half) * (sequence % 2)
+}
+
+/// Reads the snapshot of a header, which is no longer than the device's half has room for. One device call.
+pub fn read_snapshot<D: Sectors>(
+    alloc: Global,
+    device: &mut D,
+    layout: Layout,
+    header: Header,
+) -> Result<Vec<u8>, StoreFault>
+    requires { FitsLayout layout (D.len device.old) header }
+
+    ensures fails { IfErr result IsOfReading }
+    ensures bytes { D.honest device.new → IfOk result (λ bytes. bytes.items ≡ snapshot_in layout (D.seen device.old) header.sequence header.length) }
+    ensures same_len { D.len device.new ≡ D.len device.old }
+    ensures same_calls { D.calls device.new ≡ D.calls device.old }
+    ensures fault { D.faults device.new ≡ faults_after_reading result (D.faults device.old) }
+    ensures honest { D.honest device.new → D.honest device.old }
+    ensures kept { D.honest device.new → IsUnchanged D.clock D.possible_since D.possible D.seen D.calls device.old device.new }
+{
+    let size = (header.length as usize).div_ceil(SECTOR_SIZE) * SECTOR_SIZE;
+    match read_run(alloc, device, half_start(layout, header.sequence), size) {
+        Ok(mut bytes) => {
+            bytes.truncate(header.length as usize);
+            Ok(bytes)
+        }
+        Err(fault) => Err(fault),
+    }
+}
+
+/// What a store holds.
+#[derive(Debug, Drop)]
+pub struct Loaded {
+    /// The state of the snapshot.
+    pub state: State,
+    /// The commands of the records since, in order.
+    pub commands: Vec<Command>,
+    /// Where the journal goes on.
+    pub place: Place,
+}
+
+/// Where the parts of a store of this version lie.
+pub fn layout_of(version: Version) -> Layout
+    ensures { result ≡ layout_of version }
+{
+    match version {
+        Version::One => Layout {
+            version: 1,
+            half: 272,
+        },
+        Version::Two => Layout {
+            version: 2,
+            half: 4096,
+        },
+    }
+}
+
+/// Reads the journal behind a snapshot that was decoded.
+pub fn with_journal(
+    alloc: Global,
+    version: Version,
+    header: Header,
+    front: &[u8],
+    state: State,
+) -> Result<Loaded, StoreFault>
+    requires { length front.now ≡ 512 * 258 }
+
+    ensures fails { IfErr result IsOfJournal }
+    ensures found { (sectors : ℕ) (image : List ℕ) → IsFront sectors front.now image → Counts (layout_of version) image header
+        → snapshot_in (layout_of version) image header.sequence header.length ≡ state_bytes version state → IsStateOf version state
+        → MatchResult result (λ loaded. Holds version image loaded.state loaded.commands.items loaded.place) (UnlessUnread (λ fault. HasStray version image header.sequence)) }
+{
+    keeps_facts(&state);
+    let commands = match leading_commands(alloc, version, front, header.sequence) {
+        Ok(commands) => commands,
+        Err(_) => return Err(StoreFault::OutOfMemory),
+    };
+    match stray_from(front, commands.len(), header.sequence) {
+        Some(_) => Err(StoreFault::Codec(CodecFault::BadField)),
+        None => Ok(Loaded {
+            place: Place {
+                sequence: header.sequence,
+                used: commands.len() as u32,
+            },
+            state,
+            commands,
+        }),
+    }
+}
+
+/// What is read of a store before anything is decoded.
+#[derive(Drop)]
+pub struct Parts {
+    pub opened: Opened,
+    /// The snapshot's bytes.
+    pub bytes: Vec<u8>,
+}
+
+/// Reads the front of a store, and its snapshot. Two device calls, and none on a device that is smaller than any store.
+pub fn read_parts<D: Sectors>(
+    alloc: Global,
+    device: &mut D,
+    version: Version,
+) -> Result<Parts, StoreFault>
+    ensures small { D.len device.old < 802 → device.new ≡ device.old }
+    ensures told { D.len device.old < 802 → IsErrOf result StoreFault.NotFormatted }
+    ensures fails { IfErr result IsOfHeadersOrUnread }
+    ensures long { IfOk result (λ parts. length parts.opened.front.items ≡ 512 * 258) }
+    ensures found { D.honest device.new → MatchResult result (λ parts. HasParts version (D.len device.old) (D.seen device.old) parts.opened.header parts.opened.front.items parts.bytes.items)
+        (UnlessUnread (HasNoHeader (layout_of version) (D.seen device.old))) }
+    ensures same_len { D.len device.new ≡ D.len device.old }
+    ensures same_calls { D.calls device.new ≡ D.calls device.old }
+    ensures fault { D.faults device.new ≡ faults_after_reading result (D.faults device.old) }
+    ensures honest { D.honest device.new → D.honest device.old }
+    ensures kept { D.honest device.new → IsUnchanged D.clock D.possible_since D.possible D.seen D.calls device.old device.new }
+{
+    if device.len() < LEAST_SECTORS {
+        return Err(StoreFault::NotFormatted);
+    }
+    let layout = layout_of(version);
+    let opened = match read_front(alloc, device, layout) {
+        Ok(opened) => opened,
+        Err(fault) => return Err(fault),
+    };
+    match read_snapshot(alloc, device, layout, opened.header) {
+        Ok(bytes) => Ok(Parts { opened, bytes }),
+        Err(fault) => Err(fault),
+    }
+}

@@ -1,0 +1,36 @@
+// Reading a device.
+ghost use Rattle.std.specs.Prelude.{◌≡◌, ◌+◌, ◌*◌, ◌%◌, ◌<◌, ◌≤◌, ℕ, List, length, take, drop, OnOk, OnErr, IfOk, IfErr};
+ghost use Rattle.checkpoint.specs.Reads.{IsUnchanged};
+ghost use Rattle.checkpoint.specs.Refused.{IsOfReading, faults_after_reading};
+
+use crate::faults::StoreFault;
+use crate::zeros::zeros;
+use sector_disk::{DeviceFault, Sectors};
+use std::alloc::Global;
+
+/// The bytes of a run of whole sectors.
+pub fn read_run<D: Sectors>(
+    alloc: Global,
+    device: &mut D,
+    first: u64,
+    size: usize,
+) -> Result<Vec<u8>, StoreFault>
+    requires some { 0 < size }
+    requires whole { size % 512 ≡ 0 }
+    requires inside { 512 * first + size ≤ 512 * D.len device.old }
+
+    ensures fails { IfErr result IsOfReading }
+    ensures long { IfOk result (λ bytes. length bytes.items ≡ size) }
+    ensures bytes { D.honest device.new → IfOk result (λ bytes. bytes.items ≡ take size (drop (512 * first) (D.seen device.old))) }
+    ensures same_len { D.len device.new ≡ D.len device.old }
+    ensures same_calls { D.calls device.new ≡ D.calls device.old }
+    ensures fault { D.faults device.new ≡ faults_after_reading result (D.faults device.old) }
+    ensures honest { D.honest device.new → D.honest device.old }
+    ensures kept { D.honest device.new → IsUnchanged D.clock D.possible_since D.possible D.seen D.calls device.old device.new }
+{
+    let mut bytes = zeros(alloc, size)?;
+    match device.read(first, &mut bytes) {
+        Ok(()) => Ok(bytes),
+        Err(DeviceFault) => Err(StoreFault::DeviceFault),
+    }
+}

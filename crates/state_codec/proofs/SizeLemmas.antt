@@ -1,0 +1,194 @@
+-- How long the lists of a state can be.
+use Rattle.std.proofs.Common.{◌≡◌, ℕ, zero, suc, ◌+◌, ◌*◌, ◌<◌, ◌≤◌, Bool, true, false, List, [], ◌∷◌, ◌++◌, length, take, All, Option, Some, None, refl, sym, ap, subst, ◌∙◌, arith, eqb, cond, length-append, length-take}
+use Rattle.std.specs.Prelude.{IsSome, not, is_some, ◌&&◌, ◌||◌, ◌==◌, ◌^◌}
+use Rattle.std.specs.List.{list_all, list_any, AllByRecursion, IsDistinct, concat, starts_with, flat_map}
+use Rattle.std.proofs.lemmas.List.Elements.{All-from_recursion}
+use Rattle.std.proofs.lemmas.Map.Steps.{length-le_from_distinct_below}
+use Rattle.std.proofs.lemmas.Bool.{eqb-true}
+use Rattle.plan_types.specs.Request.{IsRequest, stop_in, stops_of}
+use Rattle.plan_types.specs.Instance.{Instance, IsInstance, stop_at, first_some, numbers_among}
+use Rattle.plan_types.specs.Laws.{StopsAreBelowNext}
+use Rattle.plan_types.specs.declared.requests.Request.{Request}
+use Rattle.plan_types.specs.declared.requests.Request.TheVariants.{Single, Pair}
+use Rattle.plan_audit.specs.Passes.{has, are_distinct, are_live_once, feasible_alone, begin_with_pins, passes}
+use Rattle.std.specs.Prelude.{nat_eq}
+use Rattle.std.proofs.lemmas.Slice.Eq.{bytes_eq-Decides}
+use Rattle.command_core.specs.Job.{JobValue, IsJob}
+use Rattle.state_codec.proofs.RequestLaws.{and_parts}
+use Rattle.state_codec.proofs.RouteLaws.{IsFront, AreFronts}
+
+not_zero : (n : ℕ) → 1 ≤ n → eqb n 0 ≡ false
+not_zero n h = grind (arith, h)
+
+zero_not : (n : ℕ) → 1 ≤ n → eqb 0 n ≡ false
+zero_not n h = grind (arith, h)
+
+-- no stop has the depot's number
+zero_in : (es : List (ℕ × Request)) → AllByRecursion (λ e. IsRequest e.1) es → first_some (stop_in 0) es ≡ None
+zero_in [] h = refl
+zero_in ((n, Single s) ∷ es) h = rw (not_zero s.number h.0.0.from_one) (zero_in es h.1)
+zero_in ((n, Pair a b) ∷ es) h = rw (not_zero a.number h.0.0.from_one, not_zero b.number h.0.1.from_one) (zero_in es h.1)
+
+-- numbers from 1 on, below a bound
+abbrev pub AreBelow : ℕ → List ℕ → Type 0
+AreBelow next ns = AllByRecursion (λ n. (1 ≤ n) × (n < next)) ns
+
+no_zero : (next : ℕ) (ns : List ℕ) → AreBelow next ns → AllByRecursion (λ n. eqb 0 n ≡ false) ns
+no_zero next [] h = tt
+no_zero next (n ∷ ns) h = (zero_not n h.0.0, no_zero next ns h.1)
+
+head_among : (q n : ℕ) (b rest : Bool) (P : Type 0) → eqb q n ≡ b → (b || rest) ≡ true → (q ≡ n → P) → (rest ≡ true → P) → P
+head_among q n true rest P is e f g = f (eqb-true q n is)
+head_among q n false rest P is e f g = g e
+
+among : (next q : ℕ) (ns : List ℕ) → AreBelow next ns → list_any (eqb q) ns ≡ true → q < next
+among next q [] h e = absurd cc
+among next q (n ∷ ns) h e = head_among q n (eqb q n) (list_any (eqb q) ns) (q < next) refl e (λ same. omega (arith, same, h.0.1)) (λ f. among next q ns h.1 f)
+
+pub few : (next : ℕ) (ns : List ℕ) → IsDistinct eqb ns → AreBelow next ns → 1 ≤ next → next ≤ 40001 → length ns ≤ 40000
+unfolding IsDistinct
+few next ns distinct below one most =
+    let all = length-le_from_distinct_below (0 ∷ ns) next (no_zero next ns below, distinct) within in
+    omega (arith, all, most)
+  where
+    within : (q : ℕ) → list_any (eqb q) (0 ∷ ns) ≡ true → q < next
+    within zero e = omega (arith, one)
+    within (suc q) e = among next (suc q) ns below (subst (λ b. (b || list_any (eqb (suc q)) ns) ≡ true) (not_zero (suc q) (omega arith)) e)
+
+not_true : (b : Bool) → not b ≡ true → b ≡ false
+not_true true e = sym e
+not_true false e = refl
+
+parts_or : (a b : Bool) → (a || b) ≡ false → (a ≡ false) × (b ≡ false)
+parts_or true b h = absurd cc
+parts_or false b h = (refl, h)
+
+all_other : (n : ℕ) (ns : List ℕ) → list_any (eqb n) ns ≡ false → AllByRecursion (λ m. eqb n m ≡ false) ns
+all_other n [] h = tt
+all_other n (m ∷ ns) h = let p = parts_or (eqb n m) (list_any (eqb n) ns) h in (p.0, all_other n ns p.1)
+
+distinct_is : (ns : List ℕ) → are_distinct ns ≡ true → IsDistinct eqb ns
+unfolding IsDistinct
+distinct_is [] h = tt
+distinct_is (n ∷ ns) h = let p = and_parts (not (has ns n)) (are_distinct ns) h in (all_other n ns (not_true (has ns n) p.0), distinct_is ns p.1)
+
+module _ (law : StopsAreBelowNext) (p : Instance) (is : IsInstance p) where
+  live_below : (ns : List ℕ) → list_all (λ n. is_some (stop_at p n)) ns ≡ true → AreBelow p.next_number ns
+  live_below [] h = tt
+  live_below (zero ∷ ns) h =
+      let q = and_parts (is_some (stop_at p 0)) (list_all (λ n. is_some (stop_at p n)) ns) h in
+      let none : is_some (stop_at p 0) ≡ false = ap is_some (zero_in p.requests is.valid) in
+      absurd cc
+  live_below (suc n ∷ ns) h =
+      let q = and_parts (is_some (stop_at p (suc n))) (list_all (λ n. is_some (stop_at p n)) ns) h in
+      ((omega arith, law p (suc n) is (some (stop_at p (suc n)) q.0)), live_below ns q.1)
+    where
+      some : {X : Type 0} (o : Option X) → is_some o ≡ true → IsSome o
+      some None e = absurd cc
+      some (Some x) e = refl
+
+  -- the stops of a plan
+  pub few_live : (ns : List ℕ) → are_live_once p ns ≡ true → (length ns ≤ 40000) × AreBelow p.next_number ns
+  few_live ns h =
+      let q = and_parts (list_all (λ n. is_some (stop_at p n)) ns) (are_distinct ns) h in
+      let below = live_below ns q.0 in
+      (few p.next_number ns (distinct_is ns q.1) below is.next_from_one is.next_to_most, below)
+
+numbered : (es : List (ℕ × Request)) (next : ℕ) → AllByRecursion (λ e. IsRequest e.1) es → AllByRecursion (λ n. n < next) (numbers_among es) → AreBelow next (numbers_among es)
+numbered [] next h b = tt
+numbered ((n, Single s) ∷ es) next h b = ((h.0.0.from_one, b.0), numbered es next h.1 b.1)
+numbered ((n, Pair x y) ∷ es) next h b = ((h.0.0.from_one, b.0), ((h.0.1.from_one, b.1.0), numbered es next h.1 b.1.1))
+
+fewer : (es : List (ℕ × Request)) → length es ≤ length (numbers_among es)
+fewer [] = omega arith
+fewer ((n, Single s) ∷ es) = let h = fewer es in omega (arith, h)
+fewer ((n, Pair x y) ∷ es) = let h = fewer es in omega (arith, h)
+
+-- the stops of the requests
+pub few_numbers : (p : Instance) → IsInstance p → length (numbers_among p.requests) ≤ 40000
+few_numbers p is = few p.next_number (numbers_among p.requests) is.distinct (numbered p.requests p.next_number is.valid is.above) is.next_from_one is.next_to_most
+
+pub few_requests : (p : Instance) → IsInstance p → length p.requests ≤ 40000
+few_requests p is = let a = few_numbers p is in let b = fewer p.requests in omega (arith, a, b)
+
+-- ---- routes and pins
+
+short_routes : (routes : List (List ℕ)) (n : ℕ) → length (concat routes) ≤ n → AllByRecursion (λ r. length r ≤ n) routes
+short_routes [] n h = tt
+short_routes (r ∷ routes) n h =
+    let whole = length-append r (concat routes) in
+    (omega (arith, h, whole), short_routes routes n (omega (arith, h, whole)))
+
+begins : (route pin : List ℕ) → starts_with nat_eq route pin ≡ true → IsFront pin route
+begins route pin h =
+    let same = (bytes_eq-Decides pin (take (length pin) route)).0 h in
+    record { front = sym same; within = omega (arith, length-take (length pin) route, ap length same) }
+
+fronts : (routes pins : List (List ℕ)) → length pins ≡ length routes → begin_with_pins routes pins ≡ true → AreFronts pins routes
+fronts [] [] same h = tt
+fronts (r ∷ routes) [] same h = absurd (omega (arith, same))
+fronts [] (p ∷ pins) same h = absurd (omega (arith, same))
+fronts (r ∷ routes) (p ∷ pins) same h =
+    let q = and_parts (starts_with nat_eq r p) (begin_with_pins routes pins) h in
+    (begins r p q.0, fronts routes pins (omega (arith, same)) q.1)
+
+short_pins : (n : ℕ) (pins routes : List (List ℕ)) → AreFronts pins routes → AllByRecursion (λ r. length r ≤ n) routes → AllByRecursion (λ r. length r ≤ n) pins
+short_pins n [] routes h s = tt
+short_pins n (p ∷ pins) [] h s = absurd h
+short_pins n (p ∷ pins) (r ∷ routes) h s = (omega (arith, h.0.within, s.0), short_pins n pins routes h.1 s.1)
+
+parts_below : (next : ℕ) (routes : List (List ℕ)) → AreBelow next (concat routes) → AllByRecursion (AreBelow next) routes
+parts_below next [] h = tt
+parts_below next (r ∷ routes) h = let q = split_below next r (concat routes) h in (q.0, parts_below next routes q.1)
+  where
+    split_below : (next : ℕ) (xs ys : List ℕ) → AreBelow next (xs ++ ys) → AreBelow next xs × AreBelow next ys
+    split_below next [] ys h = (tt, h)
+    split_below next (x ∷ xs) ys h = let q = split_below next xs ys h.1 in ((h.0, q.0), q.1)
+
+-- what is known of a plan that passes
+pub record IsSized (p : Instance) (routes pins : List (List ℕ)) : Type 0 where
+  pub total : length (concat routes) ≤ 40000
+  pub each : AllByRecursion (λ r. length r ≤ 40000) routes
+  pub below : AllByRecursion (AreBelow p.next_number) routes
+  pub fleet : length routes ≡ p.fleet
+  pub begins : begin_with_pins routes pins ≡ true
+
+pub sized : StopsAreBelowNext → (p : Instance) → IsInstance p → (routes pins : List (List ℕ)) → passes p pins routes ≡ true → IsSized p routes pins
+unfolding passes
+sized law p is routes pins h =
+    let a = and_parts (are_live_once p (concat routes)) ((length routes == p.fleet) && (list_all (feasible_alone p) routes && begin_with_pins routes pins)) h in
+    let b = and_parts (length routes == p.fleet) (list_all (feasible_alone p) routes && begin_with_pins routes pins) a.1 in
+    let d = and_parts (list_all (feasible_alone p) routes) (begin_with_pins routes pins) b.1 in
+    let live = few_live law p is (concat routes) a.0 in
+    record { total = live.0; each = short_routes routes 40000 live.0; below = parts_below p.next_number routes live.1; fleet = eqb-true (length routes) p.fleet b.0; begins = d.1 }
+
+-- what is known of a job
+pub record Sizes (j : JobValue) : Type 0 where
+  pub plan : IsSized j.problem j.plan j.pins
+  pub work : IsSized j.problem j.work j.pins
+  pub same : length j.pins ≡ length j.plan
+  pub fronts : AreFronts j.pins j.plan
+  pub pins : AllByRecursion (λ r. length r ≤ 40000) j.pins
+  pub requests : length j.problem.requests ≤ 40000
+
+pub sizes : StopsAreBelowNext → (j : JobValue) → IsJob j → Sizes j
+sizes law j is =
+    let plan = sized law j.problem is.problem j.plan j.pins is.plan in
+    let same : length j.pins ≡ length j.plan = is.fleet ∙ sym plan.fleet in
+    let front = fronts j.plan j.pins same plan.begins in
+    record {
+      plan = plan;
+      work = sized law j.problem is.problem j.work j.pins is.work;
+      same = same;
+      fronts = front;
+      pins = short_pins 40000 j.pins j.plan front plan.each;
+      requests = few_requests j.problem is.problem;
+    }
+
+-- lengths that four bytes hold
+pub fit : (routes : List (List ℕ)) → AllByRecursion (λ r. length r ≤ 40000) routes → All (λ r. length r < 2 ^ 32) routes
+fit routes h = All-from_recursion (λ r. length r < 2 ^ 32) routes (by routes h)
+  where
+    by : (routes : List (List ℕ)) → AllByRecursion (λ r. length r ≤ 40000) routes → AllByRecursion (λ r. length r < 2 ^ 32) routes
+    by [] h = tt
+    by (r ∷ routes) h = (omega (arith, h.0), by routes h.1)

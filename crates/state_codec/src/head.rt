@@ -1,0 +1,130 @@
+//! What stands before the requests of a state.
+ghost use Rattle.std.specs.Prelude.{◌≡◌};
+ghost use Rattle.state_codec.specs.Bytes.{width};
+ghost use Rattle.state_codec.specs.Fields.{Reads, only, number_at};
+ghost use Rattle.state_codec.specs.Limits.{most};
+ghost use Rattle.state_codec.specs.Reading.{kind_at, is_steps, is_capacity, is_fleet, is_next, is_deviation, allowance_at, head_at};
+
+use crate::fault::CodecFault;
+use crate::fields::{number_at, u8_at, u32_at, u64_at};
+use crate::requests::depot_at;
+use crate::version::Version;
+use plan_types::limits::MAX_CAPACITY;
+use plan_types::{Kind, Stop};
+
+const MAX_STEPS: u64 = 1 << 60;
+
+const MAX_DEVIATION: u32 = 1_000_000_000;
+
+#[derive(Clone, Copy, Debug)]
+pub(crate) struct Head {
+    pub(crate) kind: Kind,
+    pub(crate) seed: u64,
+    pub(crate) steps: u64,
+    pub(crate) capacity: u32,
+    pub(crate) fleet: u32,
+    pub(crate) next_number: u32,
+    pub(crate) depot: Stop,
+    pub(crate) deviation: u32,
+}
+
+// The greatest stop number and the largest fleet.
+fn most(version: Version) -> u32
+    ensures { result ≡ most version }
+{
+    match version {
+        Version::One => 4_000,
+        Version::Two => 40_000,
+    }
+}
+
+fn kind_at(bytes: &[u8]) -> Result<(Kind, &[u8]), CodecFault>
+    ensures { Reads (λ x. (x.0, x.1.now)) result (kind_at bytes.now) }
+{
+    let (code, rest) = u8_at(bytes)?;
+    match code {
+        1 => Ok((Kind::LiLim, rest)),
+        2 => Ok((Kind::Vrp, rest)),
+        _ => Err(CodecFault::BadField),
+    }
+}
+
+fn steps_at(bytes: &[u8]) -> Result<(u64, &[u8]), CodecFault>
+    ensures { Reads (λ x. (x.0, x.1.now)) result (only is_steps (number_at 8 bytes.now)) }
+{
+    let (steps, rest) = u64_at(bytes)?;
+    if MAX_STEPS < steps {
+        return Err(CodecFault::BadField);
+    }
+    Ok((steps, rest))
+}
+
+fn capacity_at(bytes: &[u8]) -> Result<(u32, &[u8]), CodecFault>
+    ensures { Reads (λ x. (x.0, x.1.now)) result (only is_capacity (number_at 4 bytes.now)) }
+{
+    let (capacity, rest) = u32_at(bytes)?;
+    if MAX_CAPACITY < capacity {
+        return Err(CodecFault::BadField);
+    }
+    Ok((capacity, rest))
+}
+
+fn fleet_at(version: Version, bytes: &[u8]) -> Result<(u32, &[u8]), CodecFault>
+    ensures { Reads (λ x. (x.0, x.1.now)) result (only (is_fleet version) (number_at (width version) bytes.now)) }
+{
+    let (fleet, rest) = number_at(version, bytes)?;
+    if fleet < 1 || most(version) < fleet {
+        return Err(CodecFault::BadField);
+    }
+    Ok((fleet, rest))
+}
+
+fn next_number_at(version: Version, bytes: &[u8]) -> Result<(u32, &[u8]), CodecFault>
+    ensures { Reads (λ x. (x.0, x.1.now)) result (only (is_next version) (number_at (width version) bytes.now)) }
+{
+    let (next, rest) = number_at(version, bytes)?;
+    if next < 1 || most(version) + 1 < next {
+        return Err(CodecFault::BadField);
+    }
+    Ok((next, rest))
+}
+
+// How much longer the working plan may be.
+fn allowance_at(version: Version, bytes: &[u8]) -> Result<(u32, &[u8]), CodecFault>
+    ensures { Reads (λ x. (x.0, x.1.now)) result (allowance_at version bytes.now) }
+{
+    match version {
+        Version::One => return Ok((0, bytes)),
+        Version::Two => {}
+    }
+    let (deviation, rest) = u32_at(bytes)?;
+    if MAX_DEVIATION < deviation {
+        return Err(CodecFault::BadField);
+    }
+    Ok((deviation, rest))
+}
+
+#[tactic(auto, unfolding(crate::specs::Reading::head_at))]
+pub(crate) fn head_at(version: Version, bytes: &[u8]) -> Result<(Head, &[u8]), CodecFault>
+    ensures { Reads (λ x. (x.0, x.1.now)) result (head_at version bytes.now) }
+{
+    let (kind, rest) = kind_at(bytes)?;
+    let (seed, rest) = u64_at(rest)?;
+    let (steps, rest) = steps_at(rest)?;
+    let (capacity, rest) = capacity_at(rest)?;
+    let (fleet, rest) = fleet_at(version, rest)?;
+    let (next_number, rest) = next_number_at(version, rest)?;
+    let (depot, rest) = depot_at(rest)?;
+    let (deviation, rest) = allowance_at(version, rest)?;
+    let head = Head {
+        kind,
+        seed,
+        steps,
+        capacity,
+        fleet,
+        next_number,
+        depot,
+        deviation,
+    };
+    Ok((head, rest))
+}
