@@ -180,7 +180,7 @@ module _ (laws : LowerLaws) (j : JobValue) (is : IsJob j) where
       with_pins j is v (take k (of_vehicle j.plan v)) u (pinned_passes j.problem j.pins j.plan (is.plan) v k from)
   job_keeps_facts (Unpin v) command none = with_pins j is v [] (none_feasible j.problem) (unpinned_passes j.problem j.pins j.plan (is.plan) v)
   job_keeps_facts Build command none =
-      let good = placed_all_passes j.problem j.pins (unplanned_names j.problem j.pins j.plan) j.plan (is.plan) in
+      let good = placed_all_passes j.problem j.pins (unplanned_names j.problem j.plan) j.plan (is.plan) in
       with_plans j is _ _ good good j.steps (is.steps)
   job_keeps_facts (Search count) command none = let t = asked _ _ _ none in searched_job count (leb-true (j.steps + count) (2 ^ 60) (asked_last _ _ t.1))
   job_keeps_facts Checkpoint command none = is

@@ -1,8 +1,10 @@
 pub mod AddLemmas
+pub mod AuditLemmas
 pub mod CountLemmas
 pub mod Examples
 pub mod FactLemmas
 pub mod ListLemmas
+pub mod NameLemmas
 pub mod NumberLemmas
 pub mod PassLemmas
 pub mod PinLemmas

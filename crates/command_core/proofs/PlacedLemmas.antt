@@ -138,7 +138,7 @@ module _ (total : CostsAreTotal) (transitive : CostsAreTransitive) (below : Belo
       (placed_all_cost names (placed p pins routes name)) (placed_cost routes name)
 
 module _ (p : Instance) (pins : List (List ℕ)) where
-  placed_passes : (routes : List (List ℕ)) (name : ℕ) → passes p pins routes ≡ true → passes p pins (placed p pins routes name) ≡ true
+  pub placed_passes : (routes : List (List ℕ)) (name : ℕ) → passes p pins routes ≡ true → passes p pins (placed p pins routes name) ≡ true
   placed_passes routes name pass = by (option_and_then (put_in p pins routes name) (best_insertion p pins routes name)) refl
     where
       by : (o : Option (List (List ℕ))) → option_and_then (put_in p pins routes name) (best_insertion p pins routes name) ≡ o → passes p pins (unwrap_or o routes) ≡ true

@@ -34,7 +34,7 @@ module _ (total : CostsAreTotal) (transitive : CostsAreTransitive) (below : Belo
   costs_never_rise (Loaded j) (Withdraw name) none kept = clash kept
   costs_never_rise (Loaded j) (Pin v k) none kept = record { problem = refl; cost = same_cost total transitive below j.problem j.pins j.plan }
   costs_never_rise (Loaded j) (Unpin v) none kept = record { problem = refl; cost = same_cost total transitive below j.problem j.pins j.plan }
-  costs_never_rise (Loaded j) Build none kept = record { problem = refl; cost = placed_all_cost total transitive below j.problem j.pins (unplanned_names j.problem j.pins j.plan) j.plan }
+  costs_never_rise (Loaded j) Build none kept = record { problem = refl; cost = placed_all_cost total transitive below j.problem j.pins (unplanned_names j.problem j.plan) j.plan }
   costs_never_rise (Loaded j) (Search count) none kept =
       record { problem = refl; cost = search j.problem j.pins j.deviation j.seed j.steps count (record { incumbent = j.plan; working = j.work }) }
   costs_never_rise (Loaded j) Checkpoint none kept = record { problem = refl; cost = same_cost total transitive below j.problem j.pins j.plan }

@@ -47,7 +47,7 @@ has_found n (e ∷ es) r is = by (stop_in n e.1) refl (has_found n es r) is
 
 module _ (p : Instance) (name : ℕ) (valid : IsInstance p) where
   -- the stop is none of the request's
-  abbrev IsOther : ℕ → Type 0
+  abbrev pub IsOther : ℕ → Type 0
   IsOther n = is_of_named p (name ∷ []) n ≡ false
 
   named_of : (n : ℕ) → is_of_named p (name ∷ []) n ≡ true → name_at p n ≡ Some name
@@ -64,10 +64,10 @@ module _ (p : Instance) (name : ℕ) (valid : IsInstance p) where
   of_named n named = ap (λ (o : Option ℕ). option_map_or (has (name ∷ [])) o false) named ∙ or_left (nat_eq name name) false (eq-eqb name name refl)
 
   -- a live stop of another request
-  abbrev IsKept : ℕ → Type 0
+  abbrev pub IsKept : ℕ → Type 0
   IsKept n = IsLive p n × IsOther n
 
-  agree : TakeKeepsOthers → Agree p (without_request p name) IsKept
+  pub agree : TakeKeepsOthers → Agree p (without_request p name) IsKept
   agree law = record {
     kind = refl;
     depot = refl;
@@ -112,7 +112,7 @@ module _ (p : Instance) (name : ℕ) (valid : IsInstance p) where
   kept_lists (l ∷ lists) live others = (kept_all l live.0 others.0, kept_lists lists live.1 others.1)
 
   -- of the route without its stops
-  kept_without : (route : List ℕ) → AllByRecursion (IsLive p) route → AllByRecursion IsKept (route_without p name route)
+  pub kept_without : (route : List ℕ) → AllByRecursion (IsLive p) route → AllByRecursion IsKept (route_without p name route)
   kept_without [] live = tt
   kept_without (n ∷ route) live = by (is_of_named p (name ∷ []) n) refl (kept_without route live.1)
     where

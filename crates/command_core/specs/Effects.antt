@@ -54,18 +54,22 @@ withdrawn j name =
     let plan = routes_left j.problem name j.pins j.plan in
     record j { problem = without_request j.problem name; plan = plan; work = plan }
 
+-- the job with these pins
+abbrev pub with_pins : JobValue → List (List ℕ) → JobValue
+with_pins j pins = record j { pins = pins; work = j.plan }
+
 -- Pin: the first k stops of the route of vehicle v become its pin, in place of an older one
 abbrev pub pinned : JobValue → ℕ → ℕ → JobValue
-pinned j v k = record j { pins = with_route j.pins v (take k (of_vehicle j.plan v)); work = j.plan }
+pinned j v k = with_pins j (with_route j.pins v (take k (of_vehicle j.plan v)))
 
 -- Unpin: the vehicle has no pin
 abbrev pub unpinned : JobValue → ℕ → JobValue
-unpinned j v = record j { pins = with_route j.pins v []; work = j.plan }
+unpinned j v = with_pins j (with_route j.pins v [])
 
 -- Build: each unplanned request, by rising name, is put at its best insertion, or stays unplanned where it has none
 abbrev pub built : JobValue → JobValue
 built j =
-    let plan = placed_all j.problem j.pins j.plan (unplanned_names j.problem j.pins j.plan) in
+    let plan = placed_all j.problem j.pins j.plan (unplanned_names j.problem j.plan) in
     record j { plan = plan; work = plan }
 
 -- Search: so many steps, from the number of those already made on

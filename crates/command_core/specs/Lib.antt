@@ -8,3 +8,5 @@ pub mod Runs
 pub mod Wishes
 -- of private functions alone
 pub mod Fields
+pub mod Marks
+pub mod Passing

@@ -1,14 +1,20 @@
 //! The state of a planner, and what each command makes of it.
 #![tactic(auto)]
 
+mod applying;
 mod checking;
 mod commands;
+mod effects;
 mod laws;
 mod limits;
 mod lists;
+mod marks;
+mod planning;
 mod refusals;
 mod states;
+mod withdrawing;
 
+pub use applying::apply;
 pub use checking::check;
 pub use commands::{Command, Spot};
 pub use laws::{
@@ -18,3 +24,6 @@ pub use laws::{
 pub use limits::{MAX_COUNT, MAX_DEVIATION, MAX_STEPS};
 pub use refusals::Refusal;
 pub use states::{Job, State};
+
+#[cfg(test)]
+mod tests;

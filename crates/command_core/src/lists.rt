@@ -1,12 +1,13 @@
 //! Routes and pins of vehicles.
-ghost use Rattle.std.specs.Prelude.{◌≡◌};
+ghost use Rattle.std.specs.Prelude.{◌≡◌, [], replicate, IfOk};
 ghost use Rattle.route_sched.specs.Cost.{is_planned, has_stop};
 ghost use Rattle.route_sched.specs.Route.{AreLiveOnce};
 ghost use Rattle.plan_audit.specs.Passes.{has, feasible_alone};
 ghost use Rattle.move_ops.specs.Insertion.{of_vehicle};
 
 use plan_audit::{route_fault, tests_say_feasible};
-use plan_types::{Problem, Request, Route};
+use plan_types::{OutOfMemory, Problem, Request, Route, Routes};
+use std::alloc::Global;
 
 /// What this vehicle has, its route or its pin; nothing where there is no such vehicle.
 pub(crate) fn of_vehicle(lists: &[Route], vehicle: u32) -> &[u32]
@@ -58,4 +59,15 @@ pub(crate) fn is_feasible(problem: &Problem, route: &[u32]) -> bool
 {
     tests_say_feasible();
     route_fault(problem, route).is_none()
+}
+
+/// A list for each vehicle, with no stop.
+pub(crate) fn no_stops(alloc: Global, vehicles: u32) -> Result<Routes, OutOfMemory>
+    ensures { IfOk result (λ lists. lists ≡ replicate vehicles []) }
+{
+    let mut lists = Routes::with_capacity(alloc, vehicles as usize)?;
+    for _ in 0..vehicles {
+        lists.push(Route::new(alloc))?;
+    }
+    Ok(lists)
 }

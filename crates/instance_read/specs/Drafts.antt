@@ -3,7 +3,7 @@ use Rattle.std.specs.Prelude.{◌≡◌, ℕ, zero, suc, ◌-◌, ◌<◌, ◌�
 use Rattle.std.specs.Int.RustNames.{unsigned_abs}
 use Rattle.std.specs.Option.{option_or}
 use Rattle.text_lines.specs.Words.{words_of}
-use Rattle.plan_types.specs.Limits.{IsCoordinate, IsDemand}
+use Rattle.plan_types.specs.Limits.{IsCapacity, IsCoordinate, IsDemand}
 use Rattle.instance_read.specs.declared.faults.ReadFaultKind.{ReadFaultKind}
 use Rattle.instance_read.specs.declared.faults.ReadFaultKind.TheVariants.{OutOfMemory}
 use Rattle.instance_read.specs.declared.vrp_draft.Draft.{Draft}
@@ -13,7 +13,7 @@ use Rattle.instance_read.specs.declared.vrp_lines.Place.{Place}
 use Rattle.instance_read.specs.declared.vrp_lines.Place.TheVariants.{Outside, CoordinateLine, DemandLine, DepotLine, AfterEnd}
 use Rattle.instance_read.specs.Fields.{value_at}
 use Rattle.instance_read.specs.Rows.{Row}
-use Rattle.instance_read.specs.Vrp.{key_number, key_fault, node_fault, depot_fault, coordinate_limits, demand_limits}
+use Rattle.instance_read.specs.Vrp.{key_number, key_fault, most_nodes, node_fault, depot_fault, coordinate_limits, demand_limits}
 use Rattle.instance_read.specs.VrpLines.{key_of, place_after, value_of}
 use Rattle.instance_read.specs.Walk.{HasNoKind, IsFirstKind}
 
@@ -74,8 +74,8 @@ IsPoint point = IsCoordinate point.0 × IsCoordinate point.1
 -- every number is within its limits
 pub record IsDraft (draft : Draft) : Type 0 where
   pub keys : length draft.seen ≡ 11
-  pub nodes : IfSome draft.nodes (λ n. (2 ≤ n) × (n ≤ 40001))
-  pub capacity : IfSome draft.capacity (λ q. q ≤ 1000000)
+  pub nodes : IfSome draft.nodes (λ n. (2 ≤ n) × (n ≤ most_nodes))
+  pub capacity : IfSome draft.capacity IsCapacity
   pub coordinates : All (λ entry. IfSome entry IsPoint) draft.coordinates.items
   pub demands : All (λ entry. IfSome entry IsDemand) draft.demands.items
 

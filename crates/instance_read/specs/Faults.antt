@@ -46,6 +46,10 @@ IsFirstFault Fault f =
     (class : Class) × Fault class f.line f.kind
     × ((class' : Class) (line' : ℕ) (kind' : ReadFaultKind) → Fault class' line' kind' → IsNoLater class f.line f.kind class' line' kind')
 
--- the answer of a reader that gave up: the first fault, or want of memory, which has line 0
+-- memory ran out, which is in no line
+abbrev pub no_memory : ReadFault
+no_memory = record { line = 0; kind = OutOfMemory }
+
+-- the answer of a reader that gave up: the first fault, or want of memory
 abbrev pub Tells : (Class → ℕ → ReadFaultKind → Type 0) → ReadFault → Type 0
-Tells Fault f = (f ≡ record { line = 0; kind = OutOfMemory }) ⊎ IsFirstFault Fault f
+Tells Fault f = (f ≡ no_memory) ⊎ IsFirstFault Fault f

@@ -1,8 +1,8 @@
 -- What reading the numbers of a line gives.
-use Rattle.std.specs.Prelude.{◌≡◌, ℕ, ◌<◌, Bool, false, true, not, ◌==◌, if◌then◌else◌, List, length, slice_index_or, Option, Some, ℤ, pos}
+use Rattle.std.specs.Prelude.{◌≡◌, ℕ, ◌<◌, Bool, false, true, not, ◌==◌, if◌then◌else◌, List, length, slice_index_or, Option, Some, ℤ, pos, int_lt}
 use Rattle.instance_read.specs.declared.faults.ReadFaultKind.{ReadFaultKind}
-use Rattle.instance_read.specs.declared.faults.ReadFaultKind.TheVariants.{BadNumber, Range, FieldCount}
-use Rattle.instance_read.specs.Fields.{field, has_no_number, is_beyond, any_beyond}
+use Rattle.instance_read.specs.declared.faults.ReadFaultKind.TheVariants.{BadNumber, Range, FieldCount, TooManyStops}
+use Rattle.instance_read.specs.Fields.{field, has_no_number, is_beyond, is_that, any_beyond}
 
 -- the number is this value, and within these limits
 abbrev pub IsValue : ℤ × ℤ → Option ℤ → ℤ → Type 0
@@ -38,3 +38,7 @@ numbers_fault count limits words _ = false
 -- what is told of a line that has not so many numbers within their limits
 abbrev pub numbers_kind : ℕ → List (List ℕ) → ReadFaultKind
 numbers_kind count words = if not (length words == count) then FieldCount else if has_no_number words then BadNumber else Range
+
+-- what is told of a line whose first number is beyond its limits: one that is above the most stops is one too many
+abbrev pub kind_beyond : ℕ → List (List ℕ) → ReadFaultKind
+kind_beyond most words = if is_that (λ z. int_lt (pos most) z) (field words 0) then TooManyStops else Range

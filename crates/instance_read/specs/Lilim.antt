@@ -5,6 +5,7 @@ use Rattle.std.specs.List.{last_or}
 use Rattle.text_lines.specs.Lines.{lines_of}
 use Rattle.text_lines.specs.Words.{words_of}
 use Rattle.plan_types.specs.Instance.{Instance}
+use Rattle.plan_types.specs.declared.limits.TheConstants.{MAX_CAPACITY, MAX_COORDINATE, MAX_DEMAND, MAX_FLEET, MAX_SERVICE, MAX_STOP_NUMBER, MAX_TIME}
 use Rattle.plan_types.specs.declared.requests.Kind.TheVariants.{LiLim}
 use Rattle.plan_types.specs.declared.requests.Stop.{Stop}
 use Rattle.instance_read.specs.declared.faults.ReadFaultKind.{ReadFaultKind}
@@ -17,17 +18,17 @@ use Rattle.instance_read.specs.Rows.{Row, rows_of}
 
 -- fleet and capacity; the speed that follows them may be any number
 abbrev pub header_limits : List (ℤ × ℤ)
-header_limits = (pos 1, pos 40000) ∷ (pos 0, pos 1000000) ∷ []
+header_limits = (pos 1, pos MAX_FLEET) ∷ (pos 0, pos MAX_CAPACITY) ∷ []
 
 -- number, x, y, demand, earliest, latest, service, pickup, delivery
 abbrev pub task_limits : List (ℤ × ℤ)
 task_limits =
-    (pos 0, pos 40000)
-    ∷ (neg_ℤ (pos 1000000), pos 1000000) ∷ (neg_ℤ (pos 1000000), pos 1000000)
-    ∷ (neg_ℤ (pos 1000000), pos 1000000)
-    ∷ (pos 0, pos 100000000) ∷ (pos 0, pos 100000000)
-    ∷ (pos 0, pos 1000000)
-    ∷ (pos 0, pos 40000) ∷ (pos 0, pos 40000)
+    (pos 0, pos MAX_STOP_NUMBER)
+    ∷ (neg_ℤ MAX_COORDINATE, MAX_COORDINATE) ∷ (neg_ℤ MAX_COORDINATE, MAX_COORDINATE)
+    ∷ (neg_ℤ MAX_DEMAND, MAX_DEMAND)
+    ∷ (pos 0, pos MAX_TIME) ∷ (pos 0, pos MAX_TIME)
+    ∷ (pos 0, pos MAX_SERVICE)
+    ∷ (pos 0, pos MAX_STOP_NUMBER) ∷ (pos 0, pos MAX_STOP_NUMBER)
     ∷ []
 
 -- what may be wrong with the words of the first line
@@ -46,7 +47,7 @@ is_out_of_order (Some previous) z = not (int_lt (pos previous.stop.number) z)
 abbrev pub task_fault : Option Task → List (List ℕ) → ReadFaultKind → Bool
 task_fault previous words FieldCount = not (length words == 9)
 task_fault previous words BadNumber = has_no_number words
-task_fault previous words TooManyStops = is_that (λ z. int_lt (pos 40000) z) (field words 0)
+task_fault previous words TooManyStops = is_that (λ z. int_lt (pos MAX_STOP_NUMBER) z) (field words 0)
 task_fault previous words Range = any_beyond task_limits words
 task_fault previous words TaskOrder = is_that (is_out_of_order previous) (field words 0)
 task_fault previous words EmptyWindow = exceeds (field words 4) (field words 5)

@@ -3,10 +3,12 @@ use Rattle.std.specs.Prelude.{◌≡◌, ℕ, ◌<◌, ◌⊎◌, false, List, [
 use Rattle.std.specs.Int.RustNames.{unsigned_abs}
 use Rattle.std.specs.List.{AllByRecursion, position_from}
 use Rattle.plan_types.specs.Limits.{IsCapacity, IsFleet, IsStop, IsVisit}
+use Rattle.plan_types.specs.declared.limits.TheConstants.{MAX_DEMAND}
 use Rattle.instance_read.specs.declared.faults.ReadFault.{ReadFault}
-use Rattle.instance_read.specs.declared.faults.ReadFaultKind.TheVariants.{PairMismatch, OutOfMemory}
+use Rattle.instance_read.specs.declared.faults.ReadFaultKind.TheVariants.{PairMismatch}
 use Rattle.instance_read.specs.declared.tasks.Header.{Header}
 use Rattle.instance_read.specs.declared.tasks.Task.{Task}
+use Rattle.instance_read.specs.Faults.{no_memory}
 use Rattle.instance_read.specs.Fields.{value_at}
 use Rattle.instance_read.specs.Pairs.{is_mismatched}
 
@@ -21,7 +23,7 @@ IsTable tasks table = (n : ℕ) → slice_index_or table n None ≡ place_of n t
 -- a customer's task within its limits
 pub record IsCustomer (t : Task) : Type 0 where
   pub stop : IsStop t.stop
-  pub demand : t.stop.demand ≤ℤ pos 1000000
+  pub demand : t.stop.demand ≤ℤ MAX_DEMAND
 
 -- each has a greater number than the one before it
 abbrev pub RisesFrom : ℕ → List Task → Type 0
@@ -49,5 +51,5 @@ ArePaired customers = AllByRecursion (λ t. is_mismatched customers t ≡ false)
 -- want of memory, or the first task that is no half of a pair
 abbrev pub TellsMismatch : List Task → ReadFault → Type 0
 TellsMismatch customers f =
-    (f ≡ record { line = 0; kind = OutOfMemory })
+    (f ≡ no_memory)
     ⊎ ((t : Task) × (find (is_mismatched customers) customers ≡ Some t) × (f ≡ record { line = t.line; kind = PairMismatch }))

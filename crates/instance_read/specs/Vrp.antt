@@ -9,6 +9,7 @@ use Rattle.text_lines.specs.Numbers.{number_of}
 use Rattle.text_lines.specs.Lines.{lines_of}
 use Rattle.text_lines.specs.Words.{words_of}
 use Rattle.plan_types.specs.Instance.{Instance}
+use Rattle.plan_types.specs.declared.limits.TheConstants.{MAX_CAPACITY, MAX_COORDINATE, MAX_DEMAND, MAX_STOP_NUMBER, MAX_TIME}
 use Rattle.plan_types.specs.declared.requests.Kind.TheVariants.{Vrp}
 use Rattle.plan_types.specs.declared.requests.Request.TheVariants.{Single}
 use Rattle.plan_types.specs.declared.requests.Stop.{Stop}
@@ -57,11 +58,15 @@ first_key key ps = option_map (λ p. p.row) (find (has_key key) ps)
 abbrev pub nodes_of : List Placed → ℕ
 nodes_of ps = option_map_or (λ row. unsigned_abs (value_at (value_words row) 0)) (first_key Dimension ps) 0
 
+-- the depot is a node too
+abbrev pub most_nodes : ℕ
+most_nodes = MAX_STOP_NUMBER + 1
+
 -- what may be wrong with the words of a DIMENSION, where one may stand before it
 abbrev pub dimension_fault : Bool → List (List ℕ) → ReadFaultKind → Bool
 dimension_fault stands words FieldCount = not (length words == 1)
 dimension_fault stands words BadNumber = has_no_number words
-dimension_fault stands words TooManyStops = is_that (λ z. int_lt (pos 40001) z) (field words 0)
+dimension_fault stands words TooManyStops = is_that (λ z. int_lt (pos most_nodes) z) (field words 0)
 dimension_fault stands words Range = is_that (λ z. int_lt z (pos 2)) (field words 0)
 dimension_fault stands words NodeRepeated = stands
 dimension_fault stands words _ = false
@@ -70,7 +75,7 @@ dimension_fault stands words _ = false
 abbrev pub capacity_fault : Bool → List (List ℕ) → ReadFaultKind → Bool
 capacity_fault stands words FieldCount = not (length words == 1)
 capacity_fault stands words BadNumber = has_no_number words
-capacity_fault stands words Range = is_that (is_beyond (pos 0, pos 1000000)) (field words 0)
+capacity_fault stands words Range = is_that (is_beyond (pos 0, pos MAX_CAPACITY)) (field words 0)
 capacity_fault stands words NodeRepeated = stands
 capacity_fault stands words _ = false
 
@@ -140,10 +145,10 @@ node_fault count limits taken words NodeRepeated = is_that taken (field words 0)
 node_fault count limits taken words _ = false
 
 abbrev pub coordinate_limits : ℕ → List (ℤ × ℤ)
-coordinate_limits nodes = (pos 1, pos nodes) ∷ (neg_ℤ (pos 1000000), pos 1000000) ∷ (neg_ℤ (pos 1000000), pos 1000000) ∷ []
+coordinate_limits nodes = (pos 1, pos nodes) ∷ (neg_ℤ MAX_COORDINATE, MAX_COORDINATE) ∷ (neg_ℤ MAX_COORDINATE, MAX_COORDINATE) ∷ []
 
 abbrev pub demand_limits : ℕ → List (ℤ × ℤ)
-demand_limits nodes = (pos 1, pos nodes) ∷ (pos 0, pos 1000000) ∷ []
+demand_limits nodes = (pos 1, pos nodes) ∷ (pos 0, MAX_DEMAND) ∷ []
 
 -- the number is there, and is not this one
 abbrev pub is_other : ℤ → Option ℤ → Bool
@@ -215,7 +220,7 @@ node_stop ps demand n = record {
   y = node_value in_coordinates ps (n + 1) 2;
   demand = demand;
   earliest = 0;
-  latest = 100000000;
+  latest = MAX_TIME;
   service = 0;
 }
 

@@ -5,17 +5,18 @@ use Rattle.std.specs.List.{range_with_len}
 use Rattle.std.specs.Option.{option_map}
 use Rattle.text_lines.specs.Words.{words_of}
 use Rattle.plan_types.specs.Instance.{Instance}
+use Rattle.plan_types.specs.declared.limits.TheConstants.{MAX_TIME}
 use Rattle.plan_types.specs.declared.requests.Kind.TheVariants.{Vrp}
 use Rattle.plan_types.specs.declared.requests.Request.{Request}
 use Rattle.plan_types.specs.declared.requests.Request.TheVariants.{Single}
 use Rattle.plan_types.specs.declared.requests.Stop.{Stop}
 use Rattle.instance_read.specs.declared.faults.ReadFault.{ReadFault}
-use Rattle.instance_read.specs.declared.faults.ReadFaultKind.TheVariants.{OutOfMemory}
 use Rattle.instance_read.specs.declared.vrp_draft.Draft.{Draft}
 use Rattle.instance_read.specs.declared.vrp_lines.Key.{Key}
 use Rattle.instance_read.specs.declared.vrp_lines.Key.TheVariants.{Dimension, Capacity, WeightType, Coordinates, Demands, Depots, End}
 use Rattle.instance_read.specs.declared.vrp_lines.Place.TheVariants.{Outside}
 use Rattle.instance_read.specs.Drafts.{entry_at, has_seen, nodes_in}
+use Rattle.instance_read.specs.Faults.{no_memory}
 use Rattle.instance_read.specs.Fields.{value_at}
 use Rattle.instance_read.specs.Rows.{Row}
 use Rattle.instance_read.specs.Vrp.{any_key, first_key, in_coordinates, in_demands, is_node_line, place_fault}
@@ -63,7 +64,7 @@ placed_rows rows = placed_from None Outside rows
 
 -- want of memory, or the first fault of these lines
 abbrev pub TellsLine : List Placed → ReadFault → Type 0
-TellsLine ps f = (f ≡ record { line = 0; kind = OutOfMemory }) ⊎ IsFirstFaultyLine ps f
+TellsLine ps f = (f ≡ no_memory) ⊎ IsFirstFaultyLine ps f
 
 -- a key or a section that each text has was not seen
 abbrev pub draft_lacks_key : Draft → Bool
@@ -84,7 +85,7 @@ drafted_stop draft demand n = record {
   y = (point_at draft n).1;
   demand = demand;
   earliest = 0;
-  latest = 100000000;
+  latest = MAX_TIME;
   service = 0;
 }
 

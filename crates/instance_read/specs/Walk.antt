@@ -3,9 +3,8 @@ use Rattle.std.specs.Prelude.{◌≡◌, ℕ, ◌<◌, ◌≤◌, Bool, true, fa
 use Rattle.text_lines.specs.Words.{words_of}
 use Rattle.instance_read.specs.declared.faults.ReadFault.{ReadFault}
 use Rattle.instance_read.specs.declared.faults.ReadFaultKind.{ReadFaultKind}
-use Rattle.instance_read.specs.declared.faults.ReadFaultKind.TheVariants.{OutOfMemory}
 use Rattle.instance_read.specs.declared.tasks.Task.{Task}
-use Rattle.instance_read.specs.Faults.{rank, IsNoLaterPlace}
+use Rattle.instance_read.specs.Faults.{rank, IsNoLaterPlace, no_memory}
 use Rattle.instance_read.specs.Lilim.{task_fault}
 use Rattle.instance_read.specs.Pairs.{task_of}
 use Rattle.instance_read.specs.Rows.{Row}
@@ -40,7 +39,7 @@ pub record IsFirstTaskFault (previous : Option Task) (rows : List Row) (f : Read
 
 -- want of memory, or the first fault of these task lines
 abbrev pub TellsTaskFault : Option Task → List Row → ReadFault → Type 0
-TellsTaskFault previous rows f = (f ≡ record { line = 0; kind = OutOfMemory }) ⊎ IsFirstTaskFault previous rows f
+TellsTaskFault previous rows f = (f ≡ no_memory) ⊎ IsFirstTaskFault previous rows f
 
 -- the line numbers rise, from above n
 abbrev pub LinesAbove : ℕ → List Row → Type 0

@@ -44,6 +44,7 @@ pub struct ReadFault {
 }
 
 impl ReadFault {
+    ghost use Rattle.instance_read.specs.Faults.{no_memory};
     ghost use Rattle.instance_read.specs.Names.{kind_name};
     ghost use Rattle.instance_read.specs.declared.faults.ReadFaultKind.TheVariants.{OutOfMemory};
 
@@ -70,7 +71,7 @@ impl ReadFault {
 
     /// A fault that was met in a line. Want of memory has no line.
     pub(crate) fn of_line(line: u64, kind: ReadFaultKind) -> ReadFault
-        ensures memory { kind ≡ OutOfMemory → result ≡ record { line = 0; kind = OutOfMemory } }
+        ensures memory { kind ≡ OutOfMemory → result ≡ no_memory }
         ensures other { ¬ (kind ≡ OutOfMemory) → result ≡ record { line = line; kind = kind } }
     {
         match kind {
@@ -82,9 +83,9 @@ impl ReadFault {
 
 impl From<AllocError> for ReadFault {
     ghost use Rattle.std.specs.Prelude.{◌≡◌};
-    ghost use Rattle.instance_read.specs.declared.faults.ReadFaultKind.TheVariants.{OutOfMemory};
+    ghost use Rattle.instance_read.specs.Faults.{no_memory};
 
-    ghost from_gives = { λ _ fault. fault ≡ record { line = 0; kind = OutOfMemory } };
+    ghost from_gives = { λ _ fault. fault ≡ no_memory };
 
     fn from(_: AllocError) -> ReadFault {
         ReadFault {
@@ -96,9 +97,9 @@ impl From<AllocError> for ReadFault {
 
 impl<T: Drop> From<AllocFailed<T>> for ReadFault {
     ghost use Rattle.std.specs.Prelude.{◌≡◌};
-    ghost use Rattle.instance_read.specs.declared.faults.ReadFaultKind.TheVariants.{OutOfMemory};
+    ghost use Rattle.instance_read.specs.Faults.{no_memory};
 
-    ghost from_gives = { λ _ fault. fault ≡ record { line = 0; kind = OutOfMemory } };
+    ghost from_gives = { λ _ fault. fault ≡ no_memory };
 
     fn from(_: AllocFailed<T>) -> ReadFault {
         ReadFault {

@@ -1,8 +1,8 @@
 //! The numbers of a line, within their limits.
-ghost use Rattle.std.specs.Prelude.{◌≡◌, ◌<◌, ℕ, not, ◌==◌, length, drop, pos, int_lt, if◌then◌else◌, MatchOption, MatchResult, OnSome};
+ghost use Rattle.std.specs.Prelude.{◌≡◌, ◌<◌, ℕ, length, drop, MatchOption, MatchResult, OnSome};
 ghost use Rattle.text_lines.specs.Words.{words_of};
-ghost use Rattle.instance_read.specs.Fields.{field, has_no_number, is_that};
-ghost use Rattle.instance_read.specs.FieldValues.{HasNumbers, HasNoNumbers, HasValue, HasNoValue, IsValue, IsNoValue, numbers_fault, numbers_kind};
+ghost use Rattle.instance_read.specs.Fields.{field, has_no_number};
+ghost use Rattle.instance_read.specs.FieldValues.{HasNumbers, HasNoNumbers, HasValue, HasNoValue, IsValue, IsNoValue, kind_beyond, numbers_fault, numbers_kind};
 ghost use Rattle.instance_read.specs.Walk.{IsFirstKind};
 
 use crate::ReadFaultKind;
@@ -30,7 +30,9 @@ pub fn read_numbers<const N: usize>(
     line: &[u8],
     limits: &[Limits; N],
 ) -> Result<[i32; N], ReadFaultKind>
-    ensures { MatchResult result (HasNumbers N limits.now (words_of line.now)) (IsFirstKind (numbers_fault N limits.now (words_of line.now))) }
+    ensures { let words = words_of line.now in MatchResult result
+        (HasNumbers N limits.now words)
+        (IsFirstKind (numbers_fault N limits.now words)) }
 {
     match values(line, limits) {
         Some(values) => Ok(values),
@@ -53,7 +55,8 @@ fn numbers_kind(line: &[u8], count: usize) -> ReadFaultKind
 
 // The numbers of a line of N words, if each is within its limits: a good line is cut into words once.
 fn values<const N: usize>(line: &[u8], limits: &[Limits; N]) -> Option<[i32; N]>
-    ensures { MatchOption result (HasNoNumbers N limits.now (words_of line.now)) (HasNumbers N limits.now (words_of line.now)) }
+    ensures { let words = words_of line.now in
+        MatchOption result (HasNoNumbers N limits.now words) (HasNumbers N limits.now words) }
 {
     let mut words = Words::new(line);
     let values = next_values(&mut words, limits)?;
@@ -80,14 +83,15 @@ pub fn next_values<const N: usize>(words: &mut Words<'_>, limits: &[Limits; N]) 
 #[inline(always)]
 fn next_value(words: &mut Words<'_>, limits: Limits) -> Option<i32>
     ensures rest { words.new ≡ drop 1 words.old }
-    ensures value { MatchOption result (IsNoValue limits (field words.old 0)) (λ value. IsValue limits (field words.old 0) value) }
+    ensures value { let number = field words.old 0 in
+        MatchOption result (IsNoValue limits number) (IsValue limits number) }
 {
     words.next_number(limits.0, limits.1)
 }
 
 /// What is wrong with a first number beyond its limits: above the most stops it is one too many, else it is out of range.
 pub fn beyond_limits(line: &[u8], most: u32) -> ReadFaultKind
-    ensures { result ≡ (if is_that (λ z. int_lt (pos most) z) (field (words_of line.now) 0) then ReadFaultKind.TooManyStops else ReadFaultKind.Range) }
+    ensures { result ≡ kind_beyond most (words_of line.now) }
 {
     let Some(first) = Words::new(line).next() else {
         return ReadFaultKind::Range;

@@ -51,7 +51,8 @@ pub fn read_lilim(alloc: Global, text: &[u8]) -> Result<Problem, ReadFault>
 // The tasks of the lines after the first.
 fn read_tasks(alloc: Global, lines: NumberedLines<'_>) -> Result<Vec<Task>, ReadFault>
     requires { LinesAbove 0 lines }
-    ensures ok { IfOk result (λ tasks. HasNoTaskFault None lines.entry × (tasks.items ≡ map task_of lines.entry)) }
+    ensures ok { IfOk result (λ tasks. HasNoTaskFault None lines.entry
+        × (tasks.items ≡ map task_of lines.entry)) }
     ensures err { IfErr result (TellsTaskFault None lines.entry) }
 {
     let mut tasks: Vec<Task> = Vec::new(alloc);
@@ -72,7 +73,10 @@ fn read_tasks(alloc: Global, lines: NumberedLines<'_>) -> Result<Vec<Task>, Read
 
 // What is missing is told one line after the last.
 fn truncated(text: &[u8]) -> ReadFault
-    ensures { result ≡ record { line = length (lines_of text.now) + 1; kind = ReadFaultKind.Truncated } }
+    ensures { result ≡ record {
+      line = length (lines_of text.now) + 1;
+      kind = ReadFaultKind.Truncated;
+    } }
 {
     ReadFault {
         line: Lines::new(text).count() as u64 + 1,

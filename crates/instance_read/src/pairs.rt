@@ -4,6 +4,7 @@ ghost use Rattle.std.specs.List.{AllByRecursion};
 ghost use Rattle.std.specs.Option.{option_copied, option_map};
 ghost use Rattle.plan_types.specs.Instance.{IsInstance, IsTaken, new_instance, with_request};
 ghost use Rattle.plan_types.specs.Limits.{IsVisit};
+ghost use Rattle.plan_types.specs.declared.limits.TheConstants.{MAX_STOP_NUMBER};
 ghost use Rattle.plan_types.specs.declared.requests.Kind.TheVariants.{LiLim};
 ghost use Rattle.plan_types.specs.Request.{IsRequest, request_name};
 ghost use Rattle.instance_read.specs.Lilim.{depot_from, problem_from};
@@ -26,7 +27,8 @@ pub fn pair_up(
 ) -> Result<Problem, ReadFault>
     requires header { HeaderKeepsLimits header }
     requires tasks { AreTasks depot.now customers.now }
-    ensures ok { IfOk result (λ p. ArePaired customers.now × (p ≡ problem_from header.fleet header.capacity depot.now customers.now)) }
+    ensures ok { IfOk result (λ problem. ArePaired customers.now
+        × (problem ≡ problem_from header.fleet header.capacity depot.now customers.now)) }
     ensures err { IfErr result (TellsMismatch customers.now) }
 {
     let table = task_table(alloc, customers)?;
@@ -55,7 +57,7 @@ fn table_len(tasks: &[Task]) -> usize
 
 // The places of the tasks by their numbers, so that looking one up needs no search.
 fn task_table(alloc: Global, tasks: &[Task]) -> Result<Vec<Option<u32>>, AllocError>
-    requires { length tasks.now ≤ 40000 }
+    requires { length tasks.now ≤ MAX_STOP_NUMBER }
     ensures { IfOk result (λ table. IsTable tasks.now table.items) }
 {
     let mut table = vec![in alloc; None; table_len(tasks)]?;
@@ -125,7 +127,8 @@ fn problem_without_requests(alloc: Global, header: Header, depot: &Task) -> Prob
     requires header { HeaderKeepsLimits header }
     requires first { depot.now.stop.number ≡ 0 }
     requires visit { IsVisit depot.now.stop }
-    ensures { (result ≡ new_instance LiLim (depot_from depot.now) header.capacity header.fleet) × IsInstance result }
+    ensures { (result ≡ new_instance LiLim (depot_from depot.now) header.capacity header.fleet)
+        × IsInstance result }
 {
     let stop = Stop {
         number: 0,
@@ -148,7 +151,10 @@ fn put_pairs(problem: &mut Problem, tasks: &[Task], table: &[Option<u32>]) -> Re
     requires valid { AllByRecursion IsCustomer tasks.now }
     requires rising { RisesFrom 0 tasks.now }
     requires paired { ArePaired tasks.now }
-    ensures { OnOk result (problem.new ≡ record problem.old { requests = pairs_of tasks.now; next_number = problem.new.next_number }) }
+    ensures { OnOk result (problem.new ≡ record problem.old {
+      requests = pairs_of tasks.now;
+      next_number = problem.new.next_number;
+    }) }
 {
     // With room for all, none that is there has to be moved.
     problem.requests.reserve(tasks.len() / 2)?;

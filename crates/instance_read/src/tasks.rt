@@ -81,7 +81,8 @@ impl Task {
     /// Reads the words of a task's line, after the line of the previous task.
     pub fn read(previous: Option<Task>, number: u64, line: &[u8]) -> Result<Task, ReadFaultKind>
         ensures { let words = words_of line.now in
-            Reads (task_fault previous words) (λ task. task ≡ task_from number (value_at words)) result }
+            Reads (task_fault previous words)
+            (λ task. task ≡ task_from number (value_at words)) result }
     {
         let values = match read_numbers(line, &TASK_LIMITS) {
             Ok(values) => values,

@@ -51,7 +51,9 @@ pub fn read_vrp(alloc: Global, text: &[u8]) -> Result<Problem, ReadFault>
 
 // What the lines say, and the place behind them.
 fn read_lines(alloc: Global, lines: NumberedLines<'_>) -> Result<(Draft, Place), ReadFault>
-    ensures ok { IfOk result (λ r. Knows (placed_rows lines.entry) r.0 × IsDraft r.0 × HasNoLineFault (placed_rows lines.entry)
+    ensures ok { let placed = placed_rows lines.entry in IfOk result (λ r. Knows placed r.0
+        × IsDraft r.0
+        × HasNoLineFault placed
         × (r.1 ≡ end_from None Outside lines.entry)) }
     ensures err { IfErr result (TellsLine (placed_rows lines.entry)) }
 {

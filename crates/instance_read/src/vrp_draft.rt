@@ -86,7 +86,8 @@ impl Draft {
     fn take_key(&mut self, alloc: Global, line: &NumberedLine<'_>) -> Result<Place, ReadFaultKind>
         requires { IsDraft self.old }
         ensures ok { IfOk result (TakesTo self.old (row_view line.now) Place.Outside self.new) }
-        ensures err { IfErr result (TellsKind (line_fault self.old (row_view line.now) Place.Outside)) }
+        ensures err { IfErr result
+            (TellsKind (line_fault self.old (row_view line.now) Place.Outside)) }
     {
         let (key, value) = read_key(line.text);
         let next = Place::after_key(self.nodes, key);
@@ -105,7 +106,8 @@ impl Draft {
     ) -> Result<(), ReadFaultKind>
         requires { IsDraft self.old }
         ensures ok { IfOk result (λ _. TakesKey self.old line value.now key stands self.new) }
-        ensures err { IfErr result (TellsKind (key_fault (is_some self.old.nodes) stands value.now key)) }
+        ensures err { IfErr result
+            (TellsKind (key_fault (is_some self.old.nodes) stands value.now key)) }
     {
         match key {
             Key::Dimension => self.nodes = Some(read_dimension(stands, value)?),
@@ -158,8 +160,10 @@ impl Draft {
     fn take_coordinates(&mut self, text: &[u8]) -> Result<(), ReadFaultKind>
         requires draft { IsDraft self.old }
         requires fits { length self.old.coordinates.items ≡ nodes_in self.old }
-        ensures ok { IfOk result (λ _. Takes self.old (unnumbered text.now) (Place.CoordinateLine 0) self.new) }
-        ensures err { IfErr result (IsFirstKind (line_fault self.old (unnumbered text.now) (Place.CoordinateLine 0))) }
+        ensures ok { IfOk result
+            (λ _. Takes self.old (unnumbered text.now) (Place.CoordinateLine 0) self.new) }
+        ensures err { IfErr result
+            (IsFirstKind (line_fault self.old (unnumbered text.now) (Place.CoordinateLine 0))) }
     {
         let (node, point) = read_coordinates(self.nodes.unwrap_or(0), text)?;
         let entry = &mut self.coordinates[node as usize - 1];
@@ -173,8 +177,10 @@ impl Draft {
     fn take_demand(&mut self, text: &[u8]) -> Result<(), ReadFaultKind>
         requires draft { IsDraft self.old }
         requires fits { length self.old.demands.items ≡ nodes_in self.old }
-        ensures ok { IfOk result (λ _. Takes self.old (unnumbered text.now) (Place.DemandLine 0) self.new) }
-        ensures err { IfErr result (IsFirstKind (line_fault self.old (unnumbered text.now) (Place.DemandLine 0))) }
+        ensures ok { IfOk result
+            (λ _. Takes self.old (unnumbered text.now) (Place.DemandLine 0) self.new) }
+        ensures err { IfErr result
+            (IsFirstKind (line_fault self.old (unnumbered text.now) (Place.DemandLine 0))) }
     {
         let (node, demand) = read_demand(self.nodes.unwrap_or(0), text)?;
         let entry = &mut self.demands[node as usize - 1];

@@ -4,9 +4,9 @@ ghost use Rattle.std.specs.Int.RustNames.{unsigned_abs};
 ghost use Rattle.std.specs.Option.{option_and_then};
 ghost use Rattle.text_lines.specs.Numbers.{number_of};
 ghost use Rattle.text_lines.specs.Words.{words_of};
-ghost use Rattle.plan_types.specs.Limits.{IsCoordinate, IsDemand};
+ghost use Rattle.plan_types.specs.Limits.{IsCapacity, IsCoordinate, IsDemand};
 ghost use Rattle.instance_read.specs.Fields.{field, has_no_number, value_at};
-ghost use Rattle.instance_read.specs.Vrp.{capacity_fault, coordinate_limits, demand_limits, depot_fault, dimension_fault, goes_on_after_end, is_end, is_other, node_fault, opening_fault, spelling_fault};
+ghost use Rattle.instance_read.specs.Vrp.{capacity_fault, coordinate_limits, demand_limits, depot_fault, dimension_fault, goes_on_after_end, is_end, is_other, most_nodes, node_fault, opening_fault, spelling_fault};
 ghost use Rattle.instance_read.specs.Walk.{HasNoKind, IsFirstKind, Passes, Reads};
 
 use crate::ReadFaultKind;
@@ -30,7 +30,7 @@ const COORDINATE: Limits = (-MAX_COORDINATE, MAX_COORDINATE);
 pub fn read_dimension(stands: bool, value: &[u8]) -> Result<u32, ReadFaultKind>
     ensures read { let words = words_of value.now in
         Reads (dimension_fault stands words) (λ n. n ≡ unsigned_abs (value_at words 0)) result }
-    ensures within { IfOk result (λ n. (2 ≤ n) × (n ≤ 40001)) }
+    ensures within { IfOk result (λ n. (2 ≤ n) × (n ≤ most_nodes)) }
 {
     let [nodes] = match read_numbers(value, &[DIMENSION]) {
         Ok(values) => values,
@@ -47,7 +47,7 @@ pub fn read_dimension(stands: bool, value: &[u8]) -> Result<u32, ReadFaultKind>
 pub fn read_capacity(stands: bool, value: &[u8]) -> Result<u32, ReadFaultKind>
     ensures read { let words = words_of value.now in
         Reads (capacity_fault stands words) (λ n. n ≡ unsigned_abs (value_at words 0)) result }
-    ensures within { IfOk result (λ n. n ≤ 1000000) }
+    ensures within { IfOk result IsCapacity }
 {
     let [capacity] = read_numbers(value, &[CAPACITY])?;
     if stands {
@@ -84,12 +84,16 @@ pub fn open_section(announced: bool, stands: bool) -> Result<(), ReadFaultKind>
 
 /// A node and where it lies.
 pub fn read_coordinates(nodes: u32, line: &[u8]) -> Result<(u32, (i32, i32)), ReadFaultKind>
-    requires { nodes ≤ 40001 }
-    ensures read { MatchResult result
-        (λ r. HasNoKind (node_fault 3 (coordinate_limits nodes) (λ _. false) (words_of line.now)) × (field (words_of line.now) 0 ≡ Some (pos r.0))
-        × (r.1 ≡ (value_at (words_of line.now) 1, value_at (words_of line.now) 2)))
-        (IsFirstKind (node_fault 3 (coordinate_limits nodes) (λ _. false) (words_of line.now))) }
-    ensures within { IfOk result (λ r. (1 ≤ r.0) × (r.0 ≤ nodes) × IsCoordinate r.1.0 × IsCoordinate r.1.1) }
+    requires { nodes ≤ most_nodes }
+    ensures read { let words = words_of line.now in
+        let fault = node_fault 3 (coordinate_limits nodes) (λ _. false) words in
+        MatchResult result
+        (λ r. HasNoKind fault
+        × (field words 0 ≡ Some (pos r.0))
+        × (r.1 ≡ (value_at words 1, value_at words 2)))
+        (IsFirstKind fault) }
+    ensures within { IfOk result
+        (λ r. (1 ≤ r.0) × (r.0 ≤ nodes) × IsCoordinate r.1.0 × IsCoordinate r.1.1) }
 {
     let [node, x, y] = read_numbers(line, &[node_limits(nodes), COORDINATE, COORDINATE])?;
     Ok((node.unsigned_abs(), (x, y)))
@@ -97,11 +101,14 @@ pub fn read_coordinates(nodes: u32, line: &[u8]) -> Result<(u32, (i32, i32)), Re
 
 /// A node and its demand.
 pub fn read_demand(nodes: u32, line: &[u8]) -> Result<(u32, i32), ReadFaultKind>
-    requires { nodes ≤ 40001 }
-    ensures read { MatchResult result
-        (λ r. HasNoKind (node_fault 2 (demand_limits nodes) (λ _. false) (words_of line.now)) × (field (words_of line.now) 0 ≡ Some (pos r.0))
-        × (r.1 ≡ value_at (words_of line.now) 1))
-        (IsFirstKind (node_fault 2 (demand_limits nodes) (λ _. false) (words_of line.now))) }
+    requires { nodes ≤ most_nodes }
+    ensures read { let words = words_of line.now in
+        let fault = node_fault 2 (demand_limits nodes) (λ _. false) words in
+        MatchResult result
+        (λ r. HasNoKind fault
+        × (field words 0 ≡ Some (pos r.0))
+        × (r.1 ≡ value_at words 1))
+        (IsFirstKind fault) }
     ensures within { IfOk result (λ r. (1 ≤ r.0) × (r.0 ≤ nodes) × IsDemand r.1) }
 {
     let [node, demand] = read_numbers(line, &[node_limits(nodes), DEMAND])?;
@@ -109,7 +116,7 @@ pub fn read_demand(nodes: u32, line: &[u8]) -> Result<(u32, i32), ReadFaultKind>
 }
 
 fn node_limits(nodes: u32) -> Limits
-    requires { nodes ≤ 40001 }
+    requires { nodes ≤ most_nodes }
     ensures { result ≡ (pos 1, pos nodes) }
 {
     (1, nodes as i32)

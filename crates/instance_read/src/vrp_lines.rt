@@ -139,7 +139,8 @@ fn split_key(line: &[u8]) -> (&[u8], &[u8])
 // Where the first colon stands.
 fn colon_place(line: &[u8]) -> Option<usize>
     ensures bound { IfSome result (λ colon. colon < length line.now) }
-    ensures place { MatchOption result (length line.now ≤ position_or_len is_colon line.now) (λ colon. colon ≡ position_or_len is_colon line.now) }
+    ensures place { let place = position_or_len is_colon line.now in
+        MatchOption result (length line.now ≤ place) (λ colon. colon ≡ place) }
 {
     line.iter().position(|byte| *byte == b':')
 }

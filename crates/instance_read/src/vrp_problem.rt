@@ -4,8 +4,8 @@ ghost use Rattle.plan_types.specs.Instance.{IsInstance, new_instance};
 ghost use Rattle.plan_types.specs.Limits.{IsDemand};
 ghost use Rattle.plan_types.specs.declared.requests.Kind.TheVariants.{Vrp};
 ghost use Rattle.plan_types.specs.declared.requests.Request.TheVariants.{Single};
-ghost use Rattle.instance_read.specs.declared.faults.ReadFaultKind.TheVariants.{OutOfMemory};
 ghost use Rattle.instance_read.specs.Drafts.{IsDraft, nodes_in};
+ghost use Rattle.instance_read.specs.Faults.{no_memory};
 ghost use Rattle.instance_read.specs.VrpWalk.{customers_in, demand_at, drafted_problem, drafted_stop};
 
 use crate::ReadFault;
@@ -21,7 +21,7 @@ pub fn problem_of(alloc: Global, draft: &Draft) -> Result<Problem, ReadFault>
     requires draft { IsDraft draft.now }
     requires announced { is_some draft.now.nodes ≡ true }
     ensures ok { IfOk result (λ p. p ≡ drafted_problem draft.now) }
-    ensures err { IfErr result (λ f. f ≡ record { line = 0; kind = OutOfMemory }) }
+    ensures err { IfErr result (λ fault. fault ≡ no_memory) }
 {
     let mut problem = problem_without_customers(alloc, draft);
     put_customers(&mut problem, draft)?;
@@ -31,7 +31,8 @@ pub fn problem_of(alloc: Global, draft: &Draft) -> Result<Problem, ReadFault>
 fn problem_without_customers(alloc: Global, draft: &Draft) -> Problem
     requires draft { IsDraft draft.now }
     requires announced { is_some draft.now.nodes ≡ true }
-    ensures { result ≡ new_instance Vrp (drafted_stop draft.now (pos 0) 0) (drafted_problem draft.now).capacity (drafted_problem draft.now).fleet }
+    ensures { let problem = drafted_problem draft.now in
+        result ≡ new_instance Vrp problem.depot problem.capacity problem.fleet }
 {
     let depot = node_stop(draft, 0, 0);
     let capacity = draft.capacity.unwrap_or(0);
@@ -48,7 +49,10 @@ fn put_customers(problem: &mut Problem, draft: &Draft) -> Result<(), AllocError>
     requires announced { is_some draft.now.nodes ≡ true }
     requires empty { problem.old.requests ≡ [] }
     requires next { problem.old.next_number ≡ 1 }
-    ensures { OnOk result (problem.new ≡ record problem.old { requests = customers_in draft.now (nodes_in draft.now - 1); next_number = nodes_in draft.now }) }
+    ensures { OnOk result (problem.new ≡ record problem.old {
+      requests = customers_in draft.now (nodes_in draft.now - 1);
+      next_number = nodes_in draft.now;
+    }) }
 {
     // With room for all, none that is there has to be moved.
     problem.requests.reserve(draft.node_count() as usize - 1)?;

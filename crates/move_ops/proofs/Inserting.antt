@@ -27,10 +27,10 @@ abbrev pub numbers_of : Request → List ℕ
 numbers_of (Single s) = s.number ∷ []
 numbers_of (Pair a b) = a.number ∷ b.number ∷ []
 
-times_put : (n : ℕ) (route : List ℕ) (i m : ℕ) → times n (put_at route i m) ≡ times n route + cond (eqb n m) 1 0
+pub times_put : (n : ℕ) (route : List ℕ) (i m : ℕ) → times n (put_at route i m) ≡ times n route + cond (eqb n m) 1 0
 times_put n route i m = let e = times-append n (take (i - 1) route) (m ∷ drop (i - 1) route) in let f = times_split n (i - 1) route in omega arith
 
-times_inserted : (n : ℕ) (r : Request) (i j : ℕ) (route : List ℕ) → times n (inserted r i j route) ≡ times n route + times n (numbers_of r)
+pub times_inserted : (n : ℕ) (r : Request) (i j : ℕ) (route : List ℕ) → times n (inserted r i j route) ≡ times n route + times n (numbers_of r)
 times_inserted n (Single s) i j route = let e = times_put n route i s.number in omega arith
 times_inserted n (Pair a b) i j route =
     let e = times_put n route i a.number in let f = times_put n (put_at route i a.number) j b.number in omega arith
@@ -51,17 +51,17 @@ front_inserted (Single s) route i j k n below order at = front_put route i s.num
 front_inserted (Pair a b) route i j k n below order at = front_put (put_at route i a.number) j b.number k n (omega arith) (front_put route i a.number k n below at)
 
 -- the request's stops are live, and stand in no route
-found_live : NamedAreFound → (p : Instance) (name n : ℕ) (r : Request) → IsInstance p → lookup (nat_eq name) p.requests ≡ Some r → IsSome (stop_in n r) → IsLive p n
+pub found_live : NamedAreFound → (p : Instance) (name n : ℕ) (r : Request) → IsInstance p → lookup (nat_eq name) p.requests ≡ Some r → IsSome (stop_in n r) → IsLive p n
 found_live found p name n r valid at some = subst (λ o. IsSome o) (sym (found p n name r valid at some).stop) some
 
-valid_request : (es : List (ℕ × Request)) (name : ℕ) (r : Request) → AllByRecursion (λ e. IsRequest e.1) es → lookup (nat_eq name) es ≡ Some r → IsRequest r
+pub valid_request : (es : List (ℕ × Request)) (name : ℕ) (r : Request) → AllByRecursion (λ e. IsRequest e.1) es → lookup (nat_eq name) es ≡ Some r → IsRequest r
 valid_request [] name r valid at = absurd (none_some r at)
 valid_request (e ∷ es) name r valid at = elim (eqb_tells name e.0) [
   | inl t ↦ subst IsRequest (some_same e.1 r (rw t.0 at at)) valid.0
   | inr t ↦ valid_request es name r valid.1 (rw t.0 at at)
 ]
 
-in_numbers : (n : ℕ) (r : Request) → 1 ≤ times n (numbers_of r) → IsSome (stop_in n r)
+pub in_numbers : (n : ℕ) (r : Request) → 1 ≤ times n (numbers_of r) → IsSome (stop_in n r)
 in_numbers n (Single s) some = elim (eqb_tells n s.number) [
   | inl t ↦ rw (eq-eqb s.number n (sym t.1)) (search rules)
   | inr t ↦ (let e = none_here n s.number t.0 in absurd (omega arith))
@@ -97,7 +97,7 @@ or_false : (a b : Bool) → (a || b) ≡ false → (a ≡ false) × (b ≡ false
 or_false true b h = absurd (let k : true ≡ false = h in cc)
 or_false false b h = (refl, h)
 
-nowhere : (routes : List (List ℕ)) (r : Request) → is_planned routes r ≡ false → (n : ℕ) → 1 ≤ times n (numbers_of r) → times n (concat routes) ≡ 0
+pub nowhere : (routes : List (List ℕ)) (r : Request) → is_planned routes r ≡ false → (n : ℕ) → 1 ≤ times n (numbers_of r) → times n (concat routes) ≡ 0
 nowhere routes (Single s) free n some = elim (eqb_tells n s.number) [
   | inl t ↦ rw t.1 (none_anywhere s.number (concat routes) (or_false (has_stop routes s.number) false free).0)
   | inr t ↦ (let e = none_here n s.number t.0 in absurd (omega arith))

@@ -1,6 +1,15 @@
-pub mod Best
+pub mod Asked
+pub mod BestLemmas
+pub mod Bounds
+pub mod Changing
+pub mod Choosing
+pub mod Costs
 pub mod Crossing
+pub mod Exchanging
+pub mod Fitting
 pub mod Inserting
 pub mod Places
+pub mod Refreshing
+pub mod Removing
 pub mod Replacing
 pub mod Times

@@ -12,16 +12,16 @@ use Rattle.move_ops.specs.Insertion.{Place, request_named, of_vehicle, passing, 
 use Rattle.move_ops.specs.Laws.{InsertionsCanBePutIn}
 
 -- x is in the list, by cases on the list
-abbrev In : {X : Type 0} → List X → X → Type 0
+abbrev pub In : {X : Type 0} → List X → X → Type 0
 In [] x = ⊥
 In (y ∷ ys) x = (y ≡ x) ⊎ In ys x
 
-contained : {X : Type 0} (xs : List X) (x : X) → In xs x → Contains xs x
+pub contained : {X : Type 0} (xs : List X) (x : X) → In xs x → Contains xs x
 contained [] x i = absurd i
 contained (y ∷ ys) x (inl same) = (zero, omega arith, same)
 contained (y ∷ ys) x (inr there) = let c = contained ys x there in (suc c.0, (let h = c.1 in omega arith), c.2)
 
-within : {X : Type 0} (xs : List X) (x : X) → Contains xs x → In xs x
+pub within : {X : Type 0} (xs : List X) (x : X) → Contains xs x → In xs x
 within [] x c = absurd (let h = c.1 in omega arith)
 within (y ∷ ys) x (zero, less, at) = inl at
 within (y ∷ ys) x (suc k, less, at) = inr (within ys x (k, omega arith, at))
@@ -175,7 +175,7 @@ module _ (p : Instance) (pins routes : List (List ℕ)) where
   passing_at r x = passes p pins (with_request_at routes r x)
 
   -- for a request that is there
-  listed : (r : Request) (x : Place) → In (insertions_of p pins routes r) x → (is_planned routes r ≡ false) × (is_place_of pins routes r x ≡ true) × (passing_at r x ≡ true)
+  pub listed : (r : Request) (x : Place) → In (insertions_of p pins routes r) x → (is_planned routes r ≡ false) × (is_place_of pins routes r x ≡ true) × (passing_at r x ≡ true)
   listed r x there = elim (cases_Bool (is_planned routes r)) [
     | inl taken ↦ absurd (rw taken at there)
     | inr free ↦ (
@@ -183,7 +183,7 @@ module _ (p : Instance) (pins routes : List (List ℕ)) where
         (free, of_places_of pins routes r x t.0, t.1))
   ]
 
-  to_list : (r : Request) (x : Place) → is_planned routes r ≡ false → is_place_of pins routes r x ≡ true → passing_at r x ≡ true → In (insertions_of p pins routes r) x
+  pub to_list : (r : Request) (x : Place) → is_planned routes r ≡ false → is_place_of pins routes r x ≡ true → passing_at r x ≡ true → In (insertions_of p pins routes r) x
   to_list r x free place good = rw free (in_filter (passing_at r) (places_of pins routes r) x (in_places_of pins routes r x place) good)
 
   abbrev put_of : Request → Place → Option (List (List ℕ))

@@ -1,7 +1,6 @@
 -- Where an unplanned request can be put into a plan, and where best. Vehicles and places count from 1.
-use Rattle.std.specs.Prelude.{◌≡◌, ◌↔◌, ℕ, ◌+◌, ◌-◌, nat_lt, nat_le, nat_eq, ◌==◌, ◌&&◌, ◌||◌, not, Bool, true, IsTrue, List, [], ◌∷◌, ◌++◌, length, take, drop, map, filter, slice_set, Option, Some, None, is_some, unwrap_or, if◌then◌else◌}
-use Rattle.std.specs.List.{Contains, flat_map, range_with_len}
-use Rattle.std.specs.Map.{lookup}
+use Rattle.std.specs.Prelude.{◌≡◌, ◌↔◌, ℕ, ◌+◌, ◌-◌, nat_lt, nat_le, ◌==◌, ◌&&◌, ◌||◌, not, Bool, true, IsTrue, List, [], ◌∷◌, length, map, filter, slice_set, Option, Some, None, is_some, unwrap_or, if◌then◌else◌}
+use Rattle.std.specs.List.{Contains, flat_map, insert, range_with_len}
 use Rattle.std.specs.Option.{option_map, option_map_or, option_and_then}
 use Rattle.plan_types.specs.Cost.{cost_below, cost_at_most}
 use Rattle.plan_types.specs.Instance.{Instance}
@@ -11,14 +10,11 @@ use Rattle.plan_types.specs.declared.requests.Request.TheVariants.{Single, Pair}
 use Rattle.route_sched.specs.Cost.{is_planned, cost_of}
 use Rattle.plan_audit.specs.Passes.{passes}
 use Rattle.plan_audit.specs.Rules.{item_at}
+pub use Rattle.slack_tables.specs.Insertion.{request_named, inserted}
 
 -- a vehicle, the place of the pickup and the place of the delivery in its new route; a single has one place, twice
 abbrev pub Place : Type 0
 Place = ℕ × ℕ × ℕ
-
--- the request of this name
-abbrev pub request_named : Instance → ℕ → Option Request
-request_named p name = lookup (nat_eq name) p.requests
 
 -- what a vehicle has: its route, or its pin
 abbrev pub of_vehicle : List (List ℕ) → ℕ → List ℕ
@@ -34,12 +30,7 @@ with_route routes v route = slice_set routes (v - 1) route
 
 -- the route with one more stop, which then stands at this place
 abbrev pub put_at : List ℕ → ℕ → ℕ → List ℕ
-put_at route i n = take (i - 1) route ++ n ∷ drop (i - 1) route
-
--- the route with the request put in: its pickup at place i, and then its delivery at place j of what that gives
-abbrev pub inserted : Request → ℕ → ℕ → List ℕ → List ℕ
-inserted (Single s) i j route = put_at route i s.number
-inserted (Pair a b) i j route = put_at (put_at route i a.number) j b.number
+put_at route i n = insert route (i - 1) n
 
 -- the places that a request can have behind the first `kept` stops of a route of so many stops, rising
 abbrev pub places_in : Request → ℕ → ℕ → List (ℕ × ℕ)

@@ -4,6 +4,7 @@ use Rattle.std.specs.List.{Contains}
 use Rattle.std.specs.Option.{MatchOption}
 use Rattle.plan_types.specs.Instance.{Instance}
 use Rattle.plan_types.specs.declared.requests.Request.{Request}
+use Rattle.plan_audit.specs.Passes.{passes}
 use Rattle.move_ops.specs.Insertion.{Place, request_named, insertions, insertions_of, is_no_worse, best_insertion, put_in}
 
 -- it is an insertion, and no worse than any: by cost, vehicle, pickup and delivery
@@ -23,3 +24,7 @@ BestInsertionsAreUnique = (p : Instance) (pins routes : List (List ℕ)) (r : Re
 -- law: the list of the insertions holds those that can be put in, and no others
 abbrev pub InsertionsCanBePutIn : Type 0
 InsertionsCanBePutIn = (p : Instance) (pins routes : List (List ℕ)) (name : ℕ) (x : Place) → Contains (insertions p pins routes name) x ↔ IsSome (put_in p pins routes name x)
+
+-- law: a plan that passes with its pins passes with none
+abbrev pub PlansPassWithoutPins : Type 0
+PlansPassWithoutPins = (p : Instance) (pins routes : List (List ℕ)) → passes p pins routes ≡ true → passes p [] routes ≡ true

@@ -1,5 +1,5 @@
 -- The moves from plan to plan: each gives the plan that it names where that passes. Vehicles and places count from 1.
-use Rattle.std.specs.Prelude.{◌≡◌, ℕ, nat_le, ◌==◌, ◌&&◌, not, Bool, true, false, List, ◌++◌, length, take, drop, map, filter, Option, Some, None, if◌then◌else◌}
+use Rattle.std.specs.Prelude.{ℕ, nat_le, ◌==◌, ◌&&◌, not, Bool, true, false, List, ◌++◌, length, take, drop, map, filter, Option, None, if◌then◌else◌}
 use Rattle.std.specs.List.{list_all}
 use Rattle.std.specs.Option.{option_map_or, option_and_then}
 use Rattle.plan_types.specs.Instance.{Instance, name_at}
@@ -46,9 +46,13 @@ counterpart (Single s) (Pair c d) n = n
 counterpart (Pair a b) (Single t) n = n
 counterpart (Pair a b) (Pair c d) n = swapped a.number c.number (swapped b.number d.number n)
 
+-- both can be moved, and each to the places of the other
+abbrev pub are_exchangeable : List (List ℕ) → List (List ℕ) → Request → Request → Bool
+are_exchangeable pins routes r s = is_movable pins routes r && (is_movable pins routes s && have_same_form r s)
+
 abbrev pub exchange_of : Instance → List (List ℕ) → List (List ℕ) → Request → Request → Option (List (List ℕ))
 exchange_of p pins routes r s =
-    if is_movable pins routes r && (is_movable pins routes s && have_same_form r s) then passing p pins (map (map (counterpart r s)) routes) else None
+    if are_exchangeable pins routes r s then passing p pins (map (map (counterpart r s)) routes) else None
 
 -- `exchange`: the stops of two requests that can be moved take one another's places
 abbrev pub exchanged : Instance → List (List ℕ) → List (List ℕ) → ℕ → ℕ → Option (List (List ℕ))

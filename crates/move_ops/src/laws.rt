@@ -1,6 +1,7 @@
 //! What the best insertion is.
-ghost use Rattle.move_ops.specs.Laws.{BestInsertionsAreLeast, BestInsertionsAreUnique, InsertionsCanBePutIn};
+ghost use Rattle.move_ops.specs.Laws.{BestInsertionsAreLeast, BestInsertionsAreUnique, InsertionsCanBePutIn, PlansPassWithoutPins};
 
+use plan_audit::passes_are_local;
 use plan_types::costs_are_in_order;
 
 /// The best insertion of a request is one of its insertions, and no other costs less, or as much at an earlier vehicle, pickup place or
@@ -22,3 +23,10 @@ pub fn best_insertions_are_unique()
 pub fn insertions_can_be_put_in()
     ensures { InsertionsCanBePutIn }
 {}
+
+/// A plan that passes with its pins passes with none.
+pub fn plans_pass_without_pins()
+    ensures { PlansPassWithoutPins }
+{
+    passes_are_local();
+}

@@ -1,14 +1,28 @@
 //! Moves from plan to plan, each of which gives a plan that passes, or none; and where a request is put in best.
 #![tactic(auto)]
 
+mod best;
+mod changed;
 mod cross;
 mod insert;
 mod laws;
 mod lists;
+mod removal;
+mod swap;
+mod tables;
 
+pub use best::best_insertion;
 pub use cross::two_opt_star;
 pub use insert::insert_at;
-pub use laws::{best_insertions_are_least, best_insertions_are_unique, insertions_can_be_put_in};
+pub use laws::{
+    best_insertions_are_least, best_insertions_are_unique, insertions_can_be_put_in,
+    plans_pass_without_pins,
+};
+pub use removal::remove;
+pub use swap::exchange;
+pub use tables::Tables;
 
+#[cfg(test)]
+mod best_tests;
 #[cfg(test)]
 mod tests;

@@ -4,6 +4,7 @@ ghost use Rattle.route_sched.specs.Cost.{is_planned, has_stop};
 ghost use Rattle.route_sched.specs.Route.{AreLiveOnce};
 ghost use Rattle.plan_audit.specs.Passes.{has, feasible_alone};
 ghost use Rattle.move_ops.specs.Insertion.{of_vehicle, with_route};
+ghost use Rattle.move_ops.specs.Moves.{is_movable};
 
 use plan_audit::{route_fault, tests_say_feasible};
 use plan_types::{OutOfMemory, Plan, Problem, Request, Route};
@@ -31,6 +32,13 @@ pub(crate) fn is_planned(lists: &[Route], request: &Request) -> bool
             has_stop(lists, pickup.number) || has_stop(lists, delivery.number)
         }
     }
+}
+
+/// Whether the request is planned, and none of its stops is pinned.
+pub(crate) fn is_movable(pins: &[Route], routes: &[Route], request: &Request) -> bool
+    ensures { result ≡ is_movable pins.now routes.now request.now }
+{
+    is_planned(routes, request) && !is_planned(pins, request)
 }
 
 #[tactic(auto, using(crate::proofs::Times::has_stop_more))]

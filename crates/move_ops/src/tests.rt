@@ -7,7 +7,9 @@ use plan_types::{Kind, Pins, Plan, Problem, Request, Route, Routes, Stop};
 use std::alloc::Global;
 use std::test::Fail;
 
-fn stop_at(number: u32, place: (i32, i32), demand: i32, latest: u32) -> Stop {
+mod rearranging;
+
+pub(crate) fn stop_at(number: u32, place: (i32, i32), demand: i32, latest: u32) -> Stop {
     Stop {
         number,
         x: place.0,
@@ -20,7 +22,7 @@ fn stop_at(number: u32, place: (i32, i32), demand: i32, latest: u32) -> Stop {
 }
 
 // Four customers and a fleet of four, without windows.
-fn customers(alloc: Global, capacity: u32) -> Result<Problem, Fail> {
+pub(crate) fn customers(alloc: Global, capacity: u32) -> Result<Problem, Fail> {
     let depot = stop_at(0, (0, 0), 0, 100_000_000);
     let mut problem = Problem::new(alloc, Kind::Vrp, depot, capacity, 4)?;
     for (number, place) in [(1, (0, 10)), (2, (6, 8)), (3, (6, 0)), (4, (3, 4))] {
@@ -30,7 +32,7 @@ fn customers(alloc: Global, capacity: u32) -> Result<Problem, Fail> {
 }
 
 // Two pairs on two places, with a fleet of one. The second pickup has to be served soon.
-fn pairs(alloc: Global) -> Result<Problem, Fail> {
+pub(crate) fn pairs(alloc: Global) -> Result<Problem, Fail> {
     let depot = stop_at(0, (0, 0), 0, 100);
     let mut problem = Problem::new(alloc, Kind::LiLim, depot, 10, 1)?;
     let pickup = stop_at(1, (1, 1), 1, 50);
@@ -55,13 +57,13 @@ fn lists_of(alloc: Global, stops: &[u32]) -> Result<Routes, Fail> {
     Ok(Routes::from(routes))
 }
 
-fn plan_of(alloc: Global, stops: &[u32]) -> Result<Plan, Fail> {
+pub(crate) fn plan_of(alloc: Global, stops: &[u32]) -> Result<Plan, Fail> {
     Ok(Plan {
         routes: lists_of(alloc, stops)?,
     })
 }
 
-fn pins_of(alloc: Global, stops: &[u32]) -> Result<Pins, Fail> {
+pub(crate) fn pins_of(alloc: Global, stops: &[u32]) -> Result<Pins, Fail> {
     Ok(Pins {
         routes: lists_of(alloc, stops)?,
     })
@@ -79,7 +81,12 @@ fn stops_of(alloc: Global, plan: &Option<Plan>) -> Result<Vec<u32>, Fail> {
     Ok(stops)
 }
 
-fn is_passing(alloc: Global, problem: &Problem, pins: &Pins, plan: &Plan) -> Result<bool, Fail>
+pub(crate) fn is_passing(
+    alloc: Global,
+    problem: &Problem,
+    pins: &Pins,
+    plan: &Plan,
+) -> Result<bool, Fail>
     ensures { IfOk result (λ b. IsTrue b → passes problem.now pins.now.routes plan.now.routes ≡ true) }
 {
     tests_say_pass();

@@ -1,5 +1,5 @@
 /// A call of a file, and whether it succeeded. The bytes that were read or written stand beside it.
-#[derive(Clone, Copy, Debug, PartialEq, Eq)]
+#[derive(Clone, Copy)]
 pub enum Answer {
     ReadGave { first: u64 },
     ReadFailed,

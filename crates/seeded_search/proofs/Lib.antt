@@ -1,5 +1,6 @@
 mod BlockLemmas
 mod Examples
+pub mod NameLemmas
 mod PickLemmas
 mod StepExamples
 mod StepLemmas

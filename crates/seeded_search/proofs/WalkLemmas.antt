@@ -1,5 +1,5 @@
 -- What the steps of a search keep, proved.
-use Rattle.std.proofs.Common.{◌≡◌, ℕ, zero, suc, ◌+◌, ◌<◌, ◌≤◌, ◌⊎◌, Bool, true, false, cond, not, ◌&&◌, ◌||◌, nat_lt, nat_le, List, [], ◌∷◌, ◌++◌, length, fold, slice_index, Option, Some, None, unwrap_or, IsTrue, refl, sym, ap, subst, ◌∙◌, inl, inr, arith, add-one, eqb}
+use Rattle.std.proofs.Common.{◌≡◌, ℕ, zero, suc, ◌+◌, ◌-◌, ◌<◌, ◌≤◌, ◌⊎◌, Bool, true, false, cond, not, ◌&&◌, ◌||◌, nat_lt, nat_le, List, [], ◌∷◌, ◌++◌, length, fold, slice_index, Option, Some, None, unwrap_or, IsTrue, refl, sym, ap, subst, ◌∙◌, inl, inr, arith, add-one, eqb}
 use Rattle.std.specs.Option.{option_map, option_and_then}
 use Rattle.std.proofs.lemmas.Bool.{cond_both, cases_lt, cases_order, eqb-true, eq-eqb, leb-true, le-leb, lt-ltb, not_from_true, or_cases, or_left, or_right, and_parts, and_from, both_ways}
 use Rattle.plan_types.specs.Cost.{cost_below, cost_at_most, CostsAreTotal, CostsAreTransitive, BelowIsAtMost}
@@ -51,7 +51,7 @@ module _ (p : Instance) (pins : List (List ℕ)) where
   put_in_passes : (routes : List (List ℕ)) (name : ℕ) (x : Place) (y : List (List ℕ)) → put_in p pins routes name x ≡ Some y → Passes y
   put_in_passes routes name x y is = let t = and_then_some _ (request_named p name) y is in passing_gives _ y (then_some _ _ y t.1)
 
-  removed_passes : (routes : List (List ℕ)) (names : List ℕ) (y : List (List ℕ)) → removed p pins routes names ≡ Some y → Passes y
+  pub removed_passes : (routes : List (List ℕ)) (names : List ℕ) (y : List (List ℕ)) → removed p pins routes names ≡ Some y → Passes y
   removed_passes routes names y is = passing_gives _ y (then_some _ _ y is)
 
   exchanged_passes : (routes : List (List ℕ)) (a b : ℕ) (y : List (List ℕ)) → exchanged p pins routes a b ≡ Some y → Passes y
@@ -63,7 +63,7 @@ module _ (p : Instance) (pins : List (List ℕ)) where
   crossed_passes : (routes : List (List ℕ)) (a ca b cb : ℕ) (y : List (List ℕ)) → crossed p pins routes a ca b cb ≡ Some y → Passes y
   crossed_passes routes a ca b cb y is = passing_gives _ y (then_some _ _ y is)
 
-  placed_passes : (routes : List (List ℕ)) (name : ℕ) → Passes routes → Passes (placed p pins routes name)
+  pub placed_passes : (routes : List (List ℕ)) (name : ℕ) → Passes routes → Passes (placed p pins routes name)
   placed_passes routes name pass = by (option_and_then (put_in p pins routes name) (best_insertion p pins routes name)) refl
     where
       by : (o : Option (List (List ℕ))) → option_and_then (put_in p pins routes name) (best_insertion p pins routes name) ≡ o → Passes (unwrap_or o routes)
@@ -88,25 +88,25 @@ module _ (p : Instance) (pins : List (List ℕ)) where
 
   -- what the words make of the vehicles that they pick
   abbrev second_vehicle : List (List ℕ) → List ℕ → ℕ → ℕ → Option (List (List ℕ))
-  second_vehicle routes words a b = crossed p pins routes a (cut_by p pins routes a (slice_index words 3)) b (cut_by p pins routes b (slice_index words 4))
+  second_vehicle routes words a b = crossed p pins routes a (cut_by pins routes a (slice_index words 3)) b (cut_by pins routes b (slice_index words 4))
 
   abbrev first_vehicle : List (List ℕ) → List ℕ → ℕ → Option (List (List ℕ))
-  first_vehicle routes words a = option_and_then (second_vehicle routes words a) (picked (slice_index words 2) (used_vehicles p pins routes))
+  first_vehicle routes words a = option_and_then (second_vehicle routes words a) (picked (slice_index words 2) (used_vehicles routes))
 
   crossed_by_passes : (routes : List (List ℕ)) (words : List ℕ) (y : List (List ℕ)) → crossed_by p pins routes words ≡ Some y → Passes y
   crossed_by_passes routes words y is =
-      let t = and_then_some (first_vehicle routes words) (picked (slice_index words 1) (used_vehicles p pins routes)) y is in
-      let u = and_then_some (second_vehicle routes words t.0) (picked (slice_index words 2) (used_vehicles p pins routes)) y t.1 in
-      crossed_passes routes t.0 (cut_by p pins routes t.0 (slice_index words 3)) u.0 (cut_by p pins routes u.0 (slice_index words 4)) y u.1
+      let t = and_then_some (first_vehicle routes words) (picked (slice_index words 1) (used_vehicles routes)) y is in
+      let u = and_then_some (second_vehicle routes words t.0) (picked (slice_index words 2) (used_vehicles routes)) y t.1 in
+      crossed_passes routes t.0 (cut_by pins routes t.0 (slice_index words 3)) u.0 (cut_by pins routes u.0 (slice_index words 4)) y u.1
 
   recreated_by_passes : (routes : List (List ℕ)) (words : List ℕ) (y : List (List ℕ)) → recreated_by p pins routes words ≡ Some y → Passes y
   recreated_by_passes routes words y is =
       let names = ruined_names p pins routes words in
-      let t = map_some (λ left. placed_all p pins left (ruined_names p pins routes words ++ unplanned_names p pins routes)) (removed p pins routes (ruined_names p pins routes words)) y
+      let t = map_some (λ left. placed_all p pins left (ruined_names p pins routes words ++ unplanned_names p routes)) (removed p pins routes (ruined_names p pins routes words)) y
       (else_some (eqb (length (ruined_names p pins routes words)) 0) _ y is) in
-      subst Passes t.2 (placed_all_passes (ruined_names p pins routes words ++ unplanned_names p pins routes) t.0 (removed_passes routes (ruined_names p pins routes words) t.0 t.1))
+      subst Passes t.2 (placed_all_passes (ruined_names p pins routes words ++ unplanned_names p routes) t.0 (removed_passes routes (ruined_names p pins routes words) t.0 t.1))
 
-  candidate_passes : (routes : List (List ℕ)) (words : List ℕ) (y : List (List ℕ)) → candidate p pins routes words ≡ Some y → Passes y
+  pub candidate_passes : (routes : List (List ℕ)) (words : List ℕ) (y : List (List ℕ)) → candidate p pins routes words ≡ Some y → Passes y
   unfolding candidate
   candidate_passes routes words y is = by (eqb (pick (slice_index words 0) 4) 0) (eqb (pick (slice_index words 0) 4) 1) (eqb (pick (slice_index words 0) 4) 2) is
     where
@@ -119,18 +119,30 @@ module _ (p : Instance) (pins : List (List ℕ)) where
       by false false false is = recreated_by_passes routes words y is
 
   module _ (deviation seed : ℕ) where
+    pub moved_passes : (words : List ℕ) (s : Walked) → BothPass p pins s → (o : Option (List (List ℕ))) → candidate p pins s.working words ≡ o → BothPass p pins (moved_on_by p deviation s o)
+    moved_passes words s both None e = both
+    moved_passes words s both (Some c) e =
+        let pass = candidate_passes s.working words c e in
+        record {
+          incumbent = cond_both (cost_at_most (cost_of p c) (cost_of p s.incumbent)) c s.incumbent Passes (λ t. pass) (λ t. both.incumbent);
+          working = cond_both (is_near deviation (cost_of p c) (cost_of p s.incumbent)) c s.working Passes (λ t. pass) (λ t. both.working);
+        }
+
     step_passes : (n : ℕ) (s : Walked) → BothPass p pins s → BothPass p pins (step p pins deviation seed n s)
     unfolding step
-    step_passes n s both = by (candidate p pins s.working (step_words seed n)) refl
-      where
-        by : (o : Option (List (List ℕ))) → candidate p pins s.working (step_words seed n) ≡ o → BothPass p pins (moved_on_by p deviation s o)
-        by None e = both
-        by (Some c) e =
-            let pass = candidate_passes s.working (step_words seed n) c e in
-            record {
-              incumbent = cond_both (cost_at_most (cost_of p c) (cost_of p s.incumbent)) c s.incumbent Passes (λ t. pass) (λ t. both.incumbent);
-              working = cond_both (is_near deviation (cost_of p c) (cost_of p s.incumbent)) c s.working Passes (λ t. pass) (λ t. both.working);
-            }
+    step_passes n s both = moved_passes (step_words seed n) s both (candidate p pins s.working (step_words seed n)) refl
+
+    -- a step with the words of its number is the next of many
+    pub walked_more : (n count k : ℕ) (s new : Walked) (words : List ℕ) (key number : ℕ) (all : Walked) → steps p pins deviation seed (n + k) (count - k) s ≡ all → k < count
+        → words ≡ step_words key number → key ≡ seed → number ≡ n + k → new ≡ moved_on_by p deviation s (candidate p pins s.working words) → steps p pins deviation seed (n + (k + 1)) (count - (k + 1)) new ≡ all
+    unfolding step steps
+    walked_more n count k s new words key number all so_far within is_words is_seed is_number made =
+        let one : count - k ≡ suc (count - (k + 1)) = omega arith in
+        let there : n + k + 1 ≡ n + (k + 1) = omega arith in
+        let same : new ≡ step p pins deviation seed (n + k) s =
+        made ∙ ap (λ ws. moved_on_by p deviation s (candidate p pins s.working ws)) (is_words ∙ (ap (λ x. step_words x number) is_seed ∙ ap (step_words seed) is_number)) in
+        ap (λ m. steps p pins deviation seed m (count - (k + 1)) new) (sym there)
+        ∙ (ap (λ t. steps p pins deviation seed (n + k + 1) (count - (k + 1)) t) same ∙ (ap (λ m. steps p pins deviation seed (n + k) m s) (sym one) ∙ so_far))
 
     steps_pass : (count n : ℕ) (s : Walked) → BothPass p pins s → BothPass p pins (steps p pins deviation seed n count s)
     unfolding steps

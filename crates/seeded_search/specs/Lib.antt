@@ -6,3 +6,4 @@ pub mod Steps
 pub mod StepLaws
 -- of private functions alone
 pub mod Generator
+pub mod Marks

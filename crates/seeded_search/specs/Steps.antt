@@ -21,14 +21,22 @@ drawn [] left = []
 drawn (w ∷ ws) [] = []
 drawn (w ∷ ws) (x ∷ xs) = slice_index (x ∷ xs) (pick w (length (x ∷ xs))) ∷ drawn ws (remove (x ∷ xs) (pick w (length (x ∷ xs))))
 
+-- the names of the unplanned requests, rising
+abbrev pub unplanned_names : Instance → List (List ℕ) → List ℕ
+unplanned_names p routes = map (λ e. e.0) (filter (λ e. not (is_planned routes e.1)) p.requests)
+
+-- the vehicles that are used, in order
+abbrev pub used_vehicles : List (List ℕ) → List ℕ
+used_vehicles routes = filter (λ v. not (length (of_vehicle routes v) == 0)) (range_with_len 1 (length routes))
+
+-- a cut of a vehicle's route behind its pin
+abbrev pub cut_by : List (List ℕ) → List (List ℕ) → ℕ → ℕ → ℕ
+cut_by pins routes v w = length (of_vehicle pins v) + pick w (length (of_vehicle routes v) - length (of_vehicle pins v) + 1)
+
 module _ (p : Instance) (pins : List (List ℕ)) where
   -- the names of the planned requests without a pinned stop, rising
   abbrev pub movable_names : List (List ℕ) → List ℕ
   movable_names routes = map (λ e. e.0) (filter (λ e. is_movable pins routes e.1) p.requests)
-
-  -- the names of the unplanned requests, rising
-  abbrev pub unplanned_names : List (List ℕ) → List ℕ
-  unplanned_names routes = map (λ e. e.0) (filter (λ e. not (is_planned routes e.1)) p.requests)
 
   -- the plan with the request at its best insertion, or as it is where it has none
   abbrev pub placed : List (List ℕ) → ℕ → List (List ℕ)
@@ -46,18 +54,10 @@ module _ (p : Instance) (pins : List (List ℕ)) where
   abbrev pub exchanged_by : List (List ℕ) → ℕ → ℕ → Option (List (List ℕ))
   exchanged_by routes w v = option_and_then (λ a. option_and_then (λ b. exchanged p pins routes a b) (picked v (movable_names routes))) (picked w (movable_names routes))
 
-  -- the vehicles that are used, in order
-  abbrev pub used_vehicles : List (List ℕ) → List ℕ
-  used_vehicles routes = filter (λ v. not (length (of_vehicle routes v) == 0)) (range_with_len 1 (length routes))
-
-  -- a cut of a route behind its pin
-  abbrev pub cut_by : List (List ℕ) → ℕ → ℕ → ℕ
-  cut_by routes v w = length (of_vehicle pins v) + pick w (length (of_vehicle routes v) - length (of_vehicle pins v) + 1)
-
   -- 2-opt*: two routes exchange what stands behind their cuts
   abbrev pub crossed_by : List (List ℕ) → List ℕ → Option (List (List ℕ))
   crossed_by routes words =
-      option_and_then (λ a. option_and_then (λ b. crossed p pins routes a (cut_by routes a (slice_index words 3)) b (cut_by routes b (slice_index words 4))) (picked (slice_index words 2) (used_vehicles routes)))
+      option_and_then (λ a. option_and_then (λ b. crossed p pins routes a (cut_by pins routes a (slice_index words 3)) b (cut_by pins routes b (slice_index words 4))) (picked (slice_index words 2) (used_vehicles routes)))
       (picked (slice_index words 1) (used_vehicles routes))
 
   -- the requests that are removed: one to eight, as word 1 picks, drawn by the words behind it
@@ -69,7 +69,7 @@ module _ (p : Instance) (pins : List (List ℕ)) where
   abbrev pub recreated_by : List (List ℕ) → List ℕ → Option (List (List ℕ))
   recreated_by routes words =
       let names = ruined_names routes words in
-      if length names == 0 then None else option_map (λ left. placed_all left (names ++ unplanned_names routes)) (removed p pins routes names)
+      if length names == 0 then None else option_map (λ left. placed_all left (names ++ unplanned_names p routes)) (removed p pins routes names)
 
   -- the candidate that the words make of a plan, if there is one
   unfoldable pub candidate : List (List ℕ) → List ℕ → Option (List (List ℕ))
@@ -84,6 +84,9 @@ module _ (p : Instance) (pins : List (List ℕ)) where
 pub record Walked : Type 0 where
   pub incumbent : List (List ℕ)
   pub working : List (List ℕ)
+
+abbrev pub walked : List (List ℕ) → List (List ℕ) → Walked
+walked incumbent working = record { incumbent = incumbent; working = working }
 
 -- fewer unplanned requests, or as many and fewer vehicles
 abbrev pub has_less_pair : Cost → Cost → Bool

@@ -1,3 +1,5 @@
+mod steps;
+
 use crate::stream::StepWords;
 use crate::{pick, words};
 

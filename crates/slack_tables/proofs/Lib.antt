@@ -1,11 +1,17 @@
 pub mod AlongLemmas
+pub mod BestLemmas
 pub mod CourseLemmas
+pub mod DetourLemmas
 pub mod FillLemmas
+pub mod FirstLemmas
 pub mod InsertLemmas
 pub mod KnownLemmas
 pub mod LatestLemmas
+pub mod LegLemmas
 pub mod OpenLemmas
 pub mod ReadLemmas
+pub mod ScanLemmas
 pub mod SpliceLemmas
 pub mod TableLemmas
 pub mod TestLemmas
+pub mod WalkLemmas

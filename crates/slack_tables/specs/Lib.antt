@@ -1,4 +1,5 @@
 -- what public contracts say
+pub mod Best
 pub mod Course
 pub mod Insertion
 pub mod Latest
@@ -7,5 +8,9 @@ pub mod Along
 pub mod Driven
 pub mod Filled
 pub mod Inside
+pub mod Legs
 pub mod Opened
 pub mod Places
+pub mod Ride
+pub mod Scan
+pub mod Walk

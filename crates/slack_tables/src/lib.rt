@@ -2,10 +2,14 @@
 #![tactic(auto)]
 
 mod insertion;
+mod legs;
 mod progress;
+mod ride;
+mod scan;
 mod slack;
 mod table;
 
+pub use scan::Addition;
 pub use table::RouteTable;
 
 #[cfg(test)]

@@ -98,7 +98,7 @@ pub(crate) fn driven_on(from: &Progress, stop: &Stop) -> Progress
 }
 
 /// What the vehicle carries after a stop with this demand.
-fn load_behind(load: i64, demand: i32) -> i64
+pub(crate) fn load_behind(load: i64, demand: i32) -> i64
     requires { unsigned_abs load ≤ 2 ^ 60 }
     ensures value { result ≡ load +ℤ demand }
     ensures bound { unsigned_abs result ≤ unsigned_abs load + 2 ^ 31 }
@@ -114,7 +114,7 @@ pub(crate) fn keeps(limits: Limits, at: &Progress) -> bool
         && is_in_time(limits.kind, at.start, u64::from(at.stop.latest))
 }
 
-fn is_in_time(kind: Kind, start: u64, latest: u64) -> bool
+pub(crate) fn is_in_time(kind: Kind, start: u64, latest: u64) -> bool
     ensures { result ≡ is_in_time kind start latest }
 {
     match kind {
@@ -134,7 +134,7 @@ fn bears(limits: Limits, at: &Progress, tail: &Place) -> bool
 }
 
 /// A load of a route where the vehicle comes to an earlier place with another load.
-fn moved_load(load: i64, before: i64, after: i64) -> i64
+pub(crate) fn moved_load(load: i64, before: i64, after: i64) -> i64
     requires load { unsigned_abs load ≤ 2 ^ 60 }
     requires before { unsigned_abs before ≤ 2 ^ 60 }
     requires after { unsigned_abs after ≤ 2 ^ 60 }
@@ -143,7 +143,7 @@ fn moved_load(load: i64, before: i64, after: i64) -> i64
     after - before + load
 }
 
-fn difference(to: u64, from: u64) -> i64
+pub(crate) fn difference(to: u64, from: u64) -> i64
     requires to { to ≤ 2 ^ 60 }
     requires from { from ≤ 2 ^ 60 }
     ensures { result ≡ pos to -ℤ pos from }

@@ -11,6 +11,7 @@ ghost use Rattle.slack_tables.specs.Opened.{leaving, open_place, AreOpen};
 
 use crate::insertion::{pair_added, single_added};
 use crate::progress::{Limits, Place, Progress, driven_on};
+use crate::scan::{Addition, best_pair, best_single};
 use crate::slack::fill_slack;
 use plan_types::{
     Kind, OutOfMemory, Problem, Request, Stop, numbers_are_below_the_next,
@@ -48,6 +49,7 @@ impl RouteTable {
     ghost use Rattle.slack_tables.specs.Latest.{IsLimitOfStarts};
     ghost use Rattle.slack_tables.specs.Course.{course_of, route_of, IsCourseIn};
     ghost use Rattle.slack_tables.specs.Insertion.{inserted, ArePlaces, KeepsLimits, IsAdded};
+    ghost use Rattle.slack_tables.specs.Best.{IsBestAddition};
 
     /// The table of a route that keeps the capacity and the windows.
     pub fn build(alloc: Global, problem: &Problem, route: &[u32]) -> Result<RouteTable, OutOfMemory>
@@ -145,9 +147,35 @@ impl RouteTable {
             }
         }
     }
+
+    /// The places at which a request adds the least distance to the route, its pickup or single
+    /// behind the first `kept` stops; `None` where it fits nowhere for less than `below`. Of places
+    /// that add the same the earliest by the pickup, then by the delivery. Takes no memory.
+    ///
+    /// This is what `try_insert` answers at the best of all places, in a problem that has the
+    /// request and the route's stops.
+    pub fn best_places(&self, request: &Request, kept: u64, below: i64) -> Option<Addition>
+        requires request { IsRequest request.now }
+        requires kept { kept ≤ length self.now.stops }
+        ensures { (p : Instance) (name : ℕ) → IsInstance p → IsCourseIn p self.now → request_named p name ≡ Some request.now → IsBestAddition p (route_of self.now) request.now kept below result }
+    {
+        requests_are_found_by_stop();
+        let places = self.places.as_slice();
+        match request {
+            Request::Single(stop) => best_single(self.limits, places, stop, kept as usize, below),
+            Request::Pair(pickup, delivery) => best_pair(
+                self.limits,
+                places,
+                pickup,
+                delivery,
+                kept as usize,
+                below,
+            ),
+        }
+    }
 }
 
-fn place_at(places: &[Place], place: usize) -> &Place
+pub(crate) fn place_at(places: &[Place], place: usize) -> &Place
     requires { place < length places.now }
     ensures { (d : Place) → result.now ≡ slice_index_or places.now place d }
 {
@@ -184,7 +212,7 @@ pub(crate) fn driven(
 }
 
 /// The request of a live name.
-fn live_request(problem: &Problem, name: u32) -> &Request
+pub(crate) fn live_request(problem: &Problem, name: u32) -> &Request
     requires { IsSome (request_named problem.now name) }
     ensures found { request_named problem.now name ≡ Some result.now }
     ensures request { IsRequest result.now }

@@ -1,4 +1,4 @@
-ghost use Rattle.std.specs.Prelude.{◌≡◌, ℕ, ◌<◌, true, IfOk, IfSome, IsTrue, length, slice_index_or};
+ghost use Rattle.std.specs.Prelude.{◌≡◌, ℕ, ◌<◌, ◌≤◌, true, IfOk, IfSome, IsTrue, length, slice_index_or};
 ghost use Rattle.route_sched.specs.Route.{AreLiveOnce};
 ghost use Rattle.slack_tables.specs.Course.{IsCourseIn};
 ghost use Rattle.slack_tables.specs.Driven.{keeps};
@@ -7,7 +7,7 @@ ghost use Rattle.slack_tables.specs.declared.progress.Place.{Place};
 
 use super::*;
 use crate::progress::{Limits, Place, keeps};
-use crate::table::driven;
+use crate::table::{driven, live_request};
 use plan_types::{Kind, OutOfMemory, Problem, Request, Stop};
 use std::alloc::Global;
 use std::test::Fail;
@@ -119,6 +119,47 @@ fn asked(problem: &Problem, table: &RouteTable, name: u32, i: u64, j: u64) -> Op
     Some(table.try_insert(problem, name, i, j))
 }
 
+// What `best_places` answers, `None` where it is not asked.
+fn best_of(
+    alloc: Global,
+    problem: &Problem,
+    route: &[u32],
+    name: u32,
+    bounds: (u64, i64),
+) -> Result<Option<Option<Addition>>, OutOfMemory> {
+    let (kept, below) = bounds;
+    let Some(table) = table_of(alloc, problem, route)? else {
+        return Ok(None);
+    };
+    if kept > table.stop_count() as u64 {
+        return Ok(None);
+    }
+    Ok(best_in(problem, &table, name, kept, below))
+}
+
+// The same of a table.
+fn best_in(
+    problem: &Problem,
+    table: &RouteTable,
+    name: u32,
+    kept: u64,
+    below: i64,
+) -> Option<Option<Addition>>
+    requires { kept ≤ length table.now.stops }
+{
+    problem.requests.get(&name)?;
+    let request = live_request(problem, name);
+    Some(table.best_places(request, kept, below))
+}
+
+fn addition(distance: i64, pickup: u64, delivery: u64) -> Addition {
+    Addition {
+        distance,
+        pickup,
+        delivery,
+    }
+}
+
 // Two pairs; the direct way to stop 3 takes 3, and its latest time is 2.
 fn two_pairs(alloc: Global, kind: Kind) -> Result<Problem, Fail> {
     let depot = stop_at(0, 0, 0, 0, 100);
@@ -195,5 +236,86 @@ fn takes_the_largest_route(rt: HostRuntime) -> Result<(), Fail> {
         (20_000, 20_000),
     )?;
     assert_eq!(rt; added, Some(Some(0)));
+    Ok(())
+}
+
+#[test]
+fn finds_the_best_places_of_a_pair(rt: HostRuntime) -> Result<(), Fail> {
+    let problem = two_pairs(rt.alloc(), Kind::LiLim)?;
+    for (bounds, want) in [
+        ((0, 1000), Some(addition(2, 2, 3))),
+        ((0, 3), Some(addition(2, 2, 3))),
+        ((0, 2), None),
+        ((1, 1000), Some(addition(2, 2, 3))),
+        ((2, 1000), Some(addition(3, 3, 4))),
+    ] {
+        let best = best_of(rt.alloc(), &problem, &[1, 2], 3, bounds)?;
+        assert_eq!(rt; best, Some(want));
+    }
+    let best = best_of(rt.alloc(), &problem, &[], 1, (0, 1000))?;
+    assert_eq!(rt; best, Some(Some(addition(2, 1, 2))));
+    Ok(())
+}
+
+// Stops 1, 2 and 3 on a line, ten apart; in the pair 4 and 5 the delivery lies between 2 and 3.
+fn line(alloc: Global) -> Result<Problem, Fail> {
+    let depot = stop_at(0, 0, 0, 0, 100);
+    let mut problem = Problem::new(alloc, Kind::Vrp, depot, 10, 1)?;
+    problem.put(Request::Single(stop_at(1, 10, 0, 1, 100)))?;
+    problem.put(Request::Single(stop_at(2, 20, 0, 1, 100)))?;
+    problem.put(Request::Single(stop_at(3, 30, 0, 1, 100)))?;
+    let pickup = stop_at(4, 5, 0, 1, 100);
+    problem.put(Request::Pair(pickup, stop_at(5, 25, 0, -1, 100)))?;
+    problem.put(Request::Single(stop_at(6, 5, 0, 1, 100)))?;
+    problem.put(Request::Single(stop_at(7, 12, 0, 1, 100)))?;
+    problem.put(Request::Single(stop_at(8, 12, 0, 8, 100)))?;
+    Ok(problem)
+}
+
+// On the way out and on the way back: of both the earlier one behind what is kept.
+#[test]
+fn finds_the_best_place_of_a_single(rt: HostRuntime) -> Result<(), Fail> {
+    let problem = line(rt.alloc())?;
+    for (name, kept, want) in [
+        (4, 0, Some(addition(0, 1, 4))),
+        (6, 0, Some(addition(0, 1, 1))),
+        (6, 1, Some(addition(0, 4, 4))),
+        (6, 3, Some(addition(0, 4, 4))),
+        (7, 0, Some(addition(0, 2, 2))),
+        (7, 1, Some(addition(0, 2, 2))),
+        (7, 2, Some(addition(0, 4, 4))),
+        (8, 0, None),
+    ] {
+        let best = best_of(rt.alloc(), &problem, &[1, 2, 3], name, (kept, 100))?;
+        assert_eq!(rt; best, Some(want), "the best place of {name} behind {kept}");
+    }
+    Ok(())
+}
+
+// With both pairs on board the vehicle would carry too much.
+#[test]
+fn carries_one_pair_after_the_other(rt: HostRuntime) -> Result<(), Fail> {
+    let depot = stop_at(0, 0, 0, 0, 100);
+    let mut problem = Problem::new(rt.alloc(), Kind::LiLim, depot, 10, 1)?;
+    let pickup = stop_at(1, 10, 0, 6, 100);
+    problem.put(Request::Pair(pickup, stop_at(2, 20, 0, -6, 100)))?;
+    let pickup = stop_at(3, 12, 0, 6, 100);
+    problem.put(Request::Pair(pickup, stop_at(4, 18, 0, -6, 100)))?;
+    let best = best_of(rt.alloc(), &problem, &[1, 2], 3, (0, 100))?;
+    assert_eq!(rt; best, Some(Some(addition(12, 3, 4))));
+    Ok(())
+}
+
+// Stop 2 lies on the way to stop 1, and the rounded way over it is shorter than the direct one.
+#[test]
+fn finds_places_that_shorten_a_route(rt: HostRuntime) -> Result<(), Fail> {
+    let depot = stop_at(0, 0, 0, 0, 100);
+    let mut problem = Problem::new(rt.alloc(), Kind::Vrp, depot, 10, 1)?;
+    problem.put(Request::Single(stop_at(1, 2, 2, 1, 100)))?;
+    problem.put(Request::Single(stop_at(2, 1, 1, 1, 100)))?;
+    for (below, want) in [(0, Some(addition(-1, 1, 1))), (-1, None)] {
+        let best = best_of(rt.alloc(), &problem, &[1], 2, (0, below))?;
+        assert_eq!(rt; best, Some(want));
+    }
     Ok(())
 }

@@ -64,8 +64,27 @@ after_key_is : (letters rest : List ℕ) → after_key (map to_ascii_lowercase l
 after_key_is [] rest = refl
 after_key_is (b ∷ letters) rest = rw (eq-eqb (to_ascii_lowercase b) (to_ascii_lowercase b) refl) (after_key_is letters rest)
 
-key_is : (key letters rest : List ℕ) → map to_ascii_lowercase letters ≡ key → after_key key (letters ++ rest) ≡ Some rest
+pub key_is : (key letters rest : List ℕ) → map to_ascii_lowercase letters ≡ key → after_key key (letters ++ rest) ≡ Some rest
 key_is key letters rest same = subst (λ k. after_key k (letters ++ rest) ≡ Some rest) same (after_key_is letters rest)
+
+-- a text that is too short has no key
+pub key_short : (key text : List ℕ) → length text < length key → after_key (map to_ascii_lowercase key) text ≡ None
+key_short [] text short = absurd (omega arith)
+key_short (c ∷ key) [] short = refl
+key_short (c ∷ key) (b ∷ text) short =
+    let rest = key_short key text (omega arith) in
+    elim (eqb_tells (to_ascii_lowercase b) (to_ascii_lowercase c)) [ inl t ↦ rw t.0 rest | inr t ↦ rw t.0 refl ]
+
+-- nor one that begins with other letters
+pub key_other : (key front rest : List ℕ) → length front ≡ length key → (map to_ascii_lowercase front ≡ map to_ascii_lowercase key → ⊥) → after_key (map to_ascii_lowercase key) (front ++ rest) ≡ None
+key_other [] [] rest same other = absurd (other refl)
+key_other [] (b ∷ front) rest same other = absurd (omega (arith, same))
+key_other (c ∷ key) [] rest same other = absurd (omega (arith, same))
+key_other (c ∷ key) (b ∷ front) rest same other =
+    elim (eqb_tells (to_ascii_lowercase b) (to_ascii_lowercase c)) [
+      | inl t ↦ rw t.0 (key_other key front rest (omega (arith, same)) (λ e. other (ap (λ l. l ∷ map to_ascii_lowercase front) t.1 ∙ ap (λ ls. to_ascii_lowercase c ∷ ls) e)))
+      | inr t ↦ rw t.0 refl
+    ]
 
 -- ---- blanks, a mark, digits, a colon
 blanks_whole : (text : List ℕ) → text ≡ take (prefix_len is_blank text) text ++ after_blanks text

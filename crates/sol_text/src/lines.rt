@@ -1,7 +1,7 @@
 //! The lines of a solution text.
 
-ghost use Rattle.std.specs.Prelude.{◌≡◌, ◌≤◌, ◌∷◌, [], drop, length};
-ghost use Rattle.std.specs.Char.{is_ascii_digit};
+ghost use Rattle.std.specs.Prelude.{◌≡◌, drop, map};
+ghost use Rattle.std.specs.Char.{to_ascii_lowercase};
 ghost use Rattle.std.specs.List.{prefix_len};
 ghost use Rattle.std.specs.Option.{option_copied};
 ghost use Rattle.text_lines.specs.Words.{words_of};
@@ -13,7 +13,7 @@ ghost use Rattle.sol_text.specs.declared.lines.Line.TheVariants.{Route as Routed
 use crate::faults::{SolFault, SolFaultKind};
 use plan_types::Route;
 use std::alloc::Global;
-use text_lines::{Number, Words, digits_to_u32, is_blank_line, trim_blanks_start};
+use text_lines::{Number, Words, digits_len, digits_to_u32, is_blank_line, trim_blanks_start};
 
 /// What a line says.
 #[derive(Drop)]
@@ -117,17 +117,13 @@ fn cost_tail(line: &[u8]) -> Option<&[u8]>
     }
 }
 
-/// What follows the key, which is in small letters and stands there in any letter case.
+/// What follows the key, which stands there in any letter case.
 fn strip_key<'a>(text: &'a [u8], key: &[u8]) -> Option<&'a [u8]>
-    ensures { option_copied result ≡ after_key key.now text.now }
+    ensures { option_copied result ≡ after_key (map to_ascii_lowercase key.now) text.now }
 {
-    let mut rest = text;
-    for letter in key {
-        let (first, others) = rest.split_first()?;
-        if first.to_ascii_lowercase() != *letter {
-            return None;
-        }
-        rest = others;
+    let (front, rest) = text.split_at_checked(key.len())?;
+    if !front.eq_ignore_ascii_case(key) {
+        return None;
     }
     Some(rest)
 }
@@ -136,19 +132,13 @@ fn strip_key<'a>(text: &'a [u8], key: &[u8]) -> Option<&'a [u8]>
 fn strip_one(text: &[u8], mark: u8) -> &[u8]
     ensures { result.now ≡ after_one mark text.now }
 {
-    match text {
-        [first, rest @ ..] if *first == mark => rest,
-        _ => text,
-    }
+    text.strip_prefix([mark].as_slice()).unwrap_or(text)
 }
 
 fn strip_colon(text: &[u8]) -> Option<&[u8]>
     ensures { option_copied result ≡ after_colon text.now }
 {
-    match text {
-        [b':', rest @ ..] => Some(rest),
-        _ => None,
-    }
+    text.strip_prefix(b":")
 }
 
 /// What follows one or more digits.
@@ -160,17 +150,4 @@ fn strip_digits(text: &[u8]) -> Option<&[u8]>
         return None;
     }
     Some(&text[digits..])
-}
-
-/// How many digits stand at the front.
-fn digits_len(text: &[u8]) -> usize
-    ensures value { result ≡ prefix_len is_ascii_digit text.now }
-    ensures bound { result ≤ length text.now }
-{
-    for (i, byte) in text.iter().enumerate() {
-        if !byte.is_ascii_digit() {
-            return i;
-        }
-    }
-    text.len()
 }

@@ -26,10 +26,14 @@ pub fn write_sol(alloc: Global, problem: &Problem, plan: &Plan) -> Result<Vec<u8
     ensures text { IfOk result (λ text. text.items
         ≡ solution_text (used_routes plan.now.routes) (total_length problem.now plan.now.routes)) }
     ensures spells { IfOk result (λ text. Spells text.items
-        (record { routes = used_routes plan.now.routes; cost = total_length problem.now plan.now.routes })) }
+        (record {
+          routes = used_routes plan.now.routes;
+          cost = total_length problem.now plan.now.routes;
+        })) }
     ensures unplanned { let n = unplanned_count problem.now plan.now.routes in
         0 < n → IsErrOf result (Unplanned n) }
-    ensures planned { unplanned_count problem.now plan.now.routes ≡ 0 → IsOkUnless result OutOfMemory }
+    ensures planned { unplanned_count problem.now plan.now.routes ≡ 0
+        → IsOkUnless result OutOfMemory }
 {
     let cost = plan_cost(problem, plan);
     if cost.unplanned > 0 {
@@ -46,7 +50,8 @@ pub fn write_sol(alloc: Global, problem: &Problem, plan: &Plan) -> Result<Vec<u8
 }
 
 fn write_routes(text: &mut Vec<u8>, routes: &[Route]) -> Result<(), AllocError>
-    ensures { OnOk result (text.new.items ≡ text.old.items ++ routes_text 1 (used_routes routes.now)) }
+    ensures { OnOk result (text.new.items
+        ≡ text.old.items ++ routes_text 1 (used_routes routes.now)) }
 {
     let mut number = 1u64;
     for route in routes {
@@ -60,7 +65,8 @@ fn write_routes(text: &mut Vec<u8>, routes: &[Route]) -> Result<(), AllocError>
 
 #[tactic(auto, unfolding(crate::specs::Written::route_text))]
 fn write_route(text: &mut Vec<u8>, number: u64, route: &[u32]) -> Result<(), AllocError>
-    ensures { OnOk result (text.new.items ≡ text.old.items ++ (route_text number route.now ++ 10 ∷ [])) }
+    ensures { OnOk result (text.new.items
+        ≡ text.old.items ++ (route_text number route.now ++ 10 ∷ [])) }
 {
     text.extend_from_slice(b"Route #")?;
     write_number(text, number)?;

@@ -1,4 +1,5 @@
 pub mod PieceLemmas
+pub mod PlaceLemmas
 pub mod WordLemmas
 pub mod NumberLemmas
 pub mod FrontLemmas

@@ -3,7 +3,7 @@ use Rattle.std.specs.Prelude.{◌≡◌, ◌<◌, ◌^◌, ℕ, Bool, true, fals
 use Rattle.std.specs.Char.{is_ascii_digit}
 use Rattle.std.specs.Fmt.{decimal}
 use Rattle.std.specs.List.{list_all, prefix_len}
-use Rattle.std.specs.Option.{option_and_then, option_map}
+use Rattle.std.specs.Option.{SomeIff, option_and_then, option_map}
 use Rattle.std.specs.Str.Parse.{digits_value, starts_with_minus, without_leading_sign}
 
 -- one digit or more, and nothing else
@@ -14,6 +14,10 @@ is_digits (b ∷ bs) = list_all is_ascii_digit (b ∷ bs)
 -- the value of a word of digits
 unfoldable pub digits_of : List ℕ → Option ℕ
 digits_of word = if is_digits word then Some (digits_value 10 word) else None
+
+-- the value of these digits, where a `u64` can hold it
+abbrev pub IsFittingValue : List ℕ → Option ℕ → Type 0
+IsFittingValue digits value = SomeIff value (digits_value 10 digits < 2 ^ 64) (digits_value 10 digits)
 
 -- a number, if it is below a limit
 abbrev pub below : ℕ → Option ℕ → Option ℕ

@@ -1,5 +1,5 @@
 -- The words of a line.
-use Rattle.std.specs.Prelude.{◌≡◌, ℕ, ◌<◌, Bool, true, false, ◌==◌, ◌||◌, nat_lt, List, [], ◌∷◌, ◌++◌, length, filter}
+use Rattle.std.specs.Prelude.{◌≡◌, ◌↔◌, ℕ, ◌<◌, Bool, true, false, ◌==◌, ◌||◌, nat_lt, List, [], ◌∷◌, ◌++◌, length, filter}
 use Rattle.std.specs.List.{AllByRecursion, list_all, slice_split}
 
 -- a blank or a tab
@@ -31,3 +31,7 @@ abbrev pub IsMadeOf : List ℕ → List (List ℕ) → Type 0
 IsMadeOf line [] = is_blank_line line ≡ true
 IsMadeOf line (word ∷ words) =
     (gap : List ℕ) × (rest : List ℕ) × (line ≡ gap ++ (word ++ rest)) × (is_blank_line gap ≡ true) × IsWord word × EndsWord rest × IsMadeOf rest words
+
+-- A list is the words of a line exactly where the line is made of it.
+abbrev pub AreMadeOfWords : Type 0
+AreMadeOfWords = (line : List ℕ) (words : List (List ℕ)) → (words_of line ≡ words) ↔ IsMadeOf line words

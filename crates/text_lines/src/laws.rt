@@ -1,7 +1,7 @@
 // What lines, words and numbers mean, each law for every text.
-ghost use Rattle.std.specs.Prelude.{◌≡◌, ◌↔◌, ℕ, List, []};
+ghost use Rattle.std.specs.Prelude.{◌≡◌, []};
 ghost use Rattle.text_lines.specs.Lines.{AreCutAtLineFeeds, EndAtFeeds, EndWithText, lines_of};
-ghost use Rattle.text_lines.specs.Words.{IsMadeOf, words_of};
+ghost use Rattle.text_lines.specs.Words.{AreMadeOfWords};
 ghost use Rattle.text_lines.specs.Numbers.{AreNumbers, AreRead};
 
 /// The lines of a text are what its line feeds cut it into, none lost and none made.
@@ -18,7 +18,7 @@ pub fn lines_follow()
 
 /// The words of a line are those that it is made of with blanks, and no others.
 pub fn words_make_the_line()
-    ensures { (line : List ℕ) (words : List (List ℕ)) → (words_of line ≡ words) ↔ IsMadeOf line words }
+    ensures { AreMadeOfWords }
 {}
 
 /// A number is a plus, a minus or no sign, one digit or more, and perhaps a point with nothing but zeros after it.

@@ -6,7 +6,7 @@ ghost use Rattle.std.specs.Int.RustNames.{unsigned_abs};
 ghost use Rattle.std.specs.Option.{SomeIff, option_map};
 ghost use Rattle.std.specs.Str.Parse.{digits_value, starts_with_minus, without_leading_sign};
 ghost use Rattle.text_lines.specs.Fronts.{BeginsWithNumber};
-ghost use Rattle.text_lines.specs.Numbers.{below, digits_of, integer_of, is_digits, is_zero, is_zero_fraction, number_of, signed, whole_of, without_minus};
+ghost use Rattle.text_lines.specs.Numbers.{IsFittingValue, below, digits_of, integer_of, is_digits, is_zero, is_zero_fraction, number_of, signed, whole_of, without_minus};
 
 use crate::word_iter::ends_word;
 use std::marker::Model;
@@ -24,16 +24,15 @@ pub struct Number<'a> {
 }
 
 impl<'a> Model for Number<'a> {
-    ghost use Rattle.std.specs.Prelude.{◌<◌, ◌^◌, ℤ};
-    ghost use Rattle.std.specs.Option.{SomeIff};
+    ghost use Rattle.std.specs.Prelude.{ℤ};
     ghost use Rattle.std.specs.Str.Parse.{digits_value};
-    ghost use Rattle.text_lines.specs.Numbers.{signed};
+    ghost use Rattle.text_lines.specs.Numbers.{IsFittingValue, signed};
 
     ghost Value = { ℤ };
 
     ghost view = { λ number. signed number.negative (digits_value 10 number.digits.now) };
 
-    ghost invariant = { λ number. SomeIff number.value (digits_value 10 number.digits.now < 2 ^ 64) (digits_value 10 number.digits.now) };
+    ghost invariant = { λ number. IsFittingValue number.digits.now number.value };
 }
 
 impl<'a> Number<'a> {
@@ -105,7 +104,9 @@ impl<'a> Number<'a> {
     /// The number, if a `u64` can hold it.
     #[inline]
     pub fn to_u64(&self) -> Option<u64>
-        ensures { SomeIff result ((pos 0 ≤ℤ self.now) × (self.now <ℤ pos (2 ^ 64))) (unsigned_abs self.now) }
+        ensures { SomeIff result
+            ((pos 0 ≤ℤ self.now) × (self.now <ℤ pos (2 ^ 64)))
+            (unsigned_abs self.now) }
     {
         let value = self.value?;
         if self.negative && value > 0 {
@@ -148,7 +149,7 @@ fn signed_value(negative: bool, magnitude: u32) -> i64
 // The value of a word of digits, and in it `None` where a `u64` can't hold it.
 fn word_value(word: &[u8]) -> Option<Option<u64>>
     ensures digits { is_some result ≡ is_digits word.now }
-    ensures value { IfSome result (λ value. SomeIff value (digits_value 10 word.now < 2 ^ 64) (digits_value 10 word.now)) }
+    ensures value { IfSome result (IsFittingValue word.now) }
 {
     let (len, value) = front_digits(word);
     if len == 0 {
@@ -163,7 +164,7 @@ fn word_value(word: &[u8]) -> Option<Option<u64>>
 // How many digits stand at the front, and their value, if a `u64` can hold it.
 fn front_digits(text: &[u8]) -> (usize, Option<u64>)
     ensures len { result.0 ≡ prefix_len is_ascii_digit text.now }
-    ensures value { let front = take (prefix_len is_ascii_digit text.now) text.now in SomeIff result.1 (digits_value 10 front < 2 ^ 64) (digits_value 10 front) }
+    ensures value { IsFittingValue (take (prefix_len is_ascii_digit text.now) text.now) result.1 }
 {
     if text.len() <= LONGEST_FITTING {
         let (len, value) = short_front_digits(text);
@@ -177,7 +178,8 @@ fn front_digits(text: &[u8]) -> (usize, Option<u64>)
 fn short_front_digits(text: &[u8]) -> (usize, u64)
     requires { length text.now ≤ 19 }
     ensures len { result.0 ≡ prefix_len is_ascii_digit text.now }
-    ensures value { result.1 ≡ digits_value 10 (take (prefix_len is_ascii_digit text.now) text.now) }
+    ensures value { result.1
+        ≡ digits_value 10 (take (prefix_len is_ascii_digit text.now) text.now) }
 {
     let mut value = 0;
     for (i, byte) in text.iter().enumerate() {
@@ -199,22 +201,20 @@ fn first_digits(text: &[u8]) -> (usize, u64)
     short_front_digits(&text[..text.len().min(LONGEST_FITTING)])
 }
 
-// How many digits stand at the front.
-fn digits_len(text: &[u8]) -> usize
-    ensures { result ≡ prefix_len is_ascii_digit text.now }
+/// How many digits stand at the front.
+pub fn digits_len(text: &[u8]) -> usize
+    ensures value { result ≡ prefix_len is_ascii_digit text.now }
+    ensures bound { result ≤ length text.now }
 {
-    for (i, byte) in text.iter().enumerate() {
-        if !byte.is_ascii_digit() {
-            return i;
-        }
-    }
-    text.len()
+    text.iter()
+        .position(|byte| !byte.is_ascii_digit())
+        .unwrap_or(text.len())
 }
 
 // The digits of a number without its sign, and their value, if a `u64` can hold it.
 fn whole_digits(body: &[u8]) -> Option<(&[u8], Option<u64>)>
     ensures whole { whole_of body.now ≡ option_map (λ found. digits_value 10 found.0.now) result }
-    ensures value { IfSome result (λ found. SomeIff found.1 (digits_value 10 found.0.now < 2 ^ 64) (digits_value 10 found.0.now)) }
+    ensures value { IfSome result (λ found. IsFittingValue found.0.now found.1) }
 {
     let (len, value) = front_digits(body);
     let (digits, rest) = body.split_at(len);
@@ -246,7 +246,7 @@ fn is_zero_fraction_text(text: &[u8]) -> bool
 // The value of digits, if a `u64` can hold it.
 fn value_of(digits: &[u8]) -> Option<u64>
     requires { list_all is_ascii_digit digits.now ≡ true }
-    ensures { SomeIff result (digits_value 10 digits.now < 2 ^ 64) (digits_value 10 digits.now) }
+    ensures { IsFittingValue digits.now result }
 {
     let mut value = 0;
     for digit in digits {
@@ -257,7 +257,9 @@ fn value_of(digits: &[u8]) -> Option<u64>
 
 fn with_digit(value: u64, digit: u8) -> Option<u64>
     requires { is_ascii_digit digit ≡ true }
-    ensures { SomeIff result (value * 10 + digit_value digit < 2 ^ 64) (value * 10 + digit_value digit) }
+    ensures { SomeIff result
+        (value * 10 + digit_value digit < 2 ^ 64)
+        (value * 10 + digit_value digit) }
 {
     value.checked_mul(10)?.checked_add(u64::from(digit - b'0'))
 }

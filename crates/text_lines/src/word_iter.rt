@@ -87,12 +87,9 @@ fn is_blank_byte(byte: u8) -> bool
 fn word_len(text: &[u8]) -> usize
     ensures { result ≡ position_or_len is_blank text.now }
 {
-    for (i, byte) in text.iter().enumerate() {
-        if is_blank_byte(*byte) {
-            return i;
-        }
-    }
-    text.len()
+    text.iter()
+        .position(|byte| is_blank_byte(*byte))
+        .unwrap_or(text.len())
 }
 
 /// What follows the blanks and tabs at the front.
@@ -110,12 +107,11 @@ pub fn trim_blanks_start(text: &[u8]) -> &[u8]
 fn without_blanks(text: &[u8]) -> &[u8]
     ensures { result.now ≡ drop (prefix_len is_blank text.now) text.now }
 {
-    for (i, byte) in text.iter().enumerate() {
-        if !is_blank_byte(*byte) {
-            return &text[i..];
-        }
-    }
-    &text[text.len()..]
+    let blanks = text
+        .iter()
+        .position(|byte| !is_blank_byte(*byte))
+        .unwrap_or(text.len());
+    &text[blanks..]
 }
 
 /// Whether a line has nothing but blanks and tabs.

@@ -1,4 +1,4 @@
-use Rattle.move_ops.proofs.Best.{best_is_least}
+use Rattle.move_ops.proofs.BestLemmas.{best_is_least}
 use Rattle.move_ops.proofs.laws.best_insertions_are_least.Goals as goal
 
 pub returns : goal.returns

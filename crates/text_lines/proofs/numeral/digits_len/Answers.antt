@@ -1,12 +1,13 @@
-use Rattle.std.proofs.Common.{length, arith, ◌∙◌, sym}
-use Rattle.std.proofs.lemmas.List.Sums.{prefix_len_is}
+use Rattle.std.proofs.Common.{not, ◌∙◌, rules, tests}
+use Rattle.std.proofs.lemmas.Iterator.{YieldsList-from_slice}
+use Rattle.std.proofs.lemmas.Iterator.Search.{position_from_yields_List}
 use Rattle.std.specs.Char.{is_ascii_digit}
+use Rattle.text_lines.proofs.PlaceLemmas.{front_or_len}
 use Rattle.text_lines.proofs.numeral.digits_len.Goals as goal
 
-pub returns-then-not-is_ascii_digit : goal.returns-then-not-is_ascii_digit
-returns-then-not-is_ascii_digit c =
-    sym (prefix_len_is is_ascii_digit c.args.text.now c.loop-i.i 0 (omega arith) c.loop-i.invariant (λ h. sym c.is_ascii_digit.ensures.value ∙ c.if-not-is_ascii_digit.true))
-
-pub returns : goal.returns
-returns c =
-    sym (prefix_len_is is_ascii_digit c.args.text.now (length c.args.text.now) 0 (omega arith) (λ k h. c.loop-i.invariant k (omega arith)) (λ h. absurd (omega arith)))
+pub returns-clause-value : goal.returns-clause-value
+returns-clause-value c =
+    let text = c.args.text.now in
+    c.unwrap_or.ensures
+    ∙ front_or_len is_ascii_digit text c.position.result
+    (position_from_yields_List (λ b. not (is_ascii_digit b)) _ _ c.position.result c.position.ensures.ran (YieldsList-from_slice text cc) (λ x b q k. search (rules, tests)))

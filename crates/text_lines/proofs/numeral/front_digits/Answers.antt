@@ -7,4 +7,4 @@ use Rattle.text_lines.proofs.numeral.front_digits.Goals as goal
 pub value_of-requires : goal.value_of-requires
 value_of-requires c =
     let text = c.args.text.now in
-    subst (λ n. list_all is_ascii_digit (take n text) ≡ true) (sym c.digits_len-len.ensures) (front_passes is_ascii_digit text)
+    subst (λ n. list_all is_ascii_digit (take n text) ≡ true) (sym c.digits_len-len.ensures.value) (front_passes is_ascii_digit text)

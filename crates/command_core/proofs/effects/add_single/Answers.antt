@@ -1,0 +1,17 @@
+use Rattle.std.proofs.Common.{rules, ◌≡◌, subst}
+use Rattle.plan_types.specs.declared.requests.Request.{Request}
+use Rattle.plan_types.specs.declared.requests.Request.TheVariants.{Single}
+use Rattle.command_core.specs.Job.{JobValue, IsJob}
+use Rattle.command_core.specs.Effects.{added}
+use Rattle.command_core.specs.Wishes.{single_at}
+use Rattle.command_core.specs.declared.states.State.TheVariants.{Loaded}
+use Rattle.command_core.specs.declared.commands.Command.TheVariants.{Add1}
+use Rattle.command_core.proofs.effects.add_single.Goals as goal
+
+pub added-requires : goal.added-requires
+added-requires c =
+    let j = c.args.job.now in
+    let is : IsJob j = subst (λ (i : JobValue). IsJob i) c.job.view_is c.job.invariant in
+    let new : IsJob (added j (single_at j.problem.next_number c.args.demand c.args.spot.now)) = c.effects_keep_facts.ensures.one (Loaded j) (Add1 c.args.demand c.args.spot.now) is tt c.requires in
+    let same : single_at j.problem.next_number c.args.demand c.args.spot.now ≡ Single c.stop_on.result = search rules in
+    subst (λ (r : Request). IsJob (added j r)) same new

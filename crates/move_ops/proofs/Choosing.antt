@@ -1,0 +1,446 @@
+-- The best insertion over the first vehicles, and over one more.
+use Rattle.std.proofs.Common.{◌≡◌, ℕ, zero, suc, ◌+◌, ◌-◌, ◌*◌, ◌<◌, ◌≤◌, ◌⊎◌, ℤ, pos, ◌+ℤ◌, ◌-ℤ◌, ◌<ℤ◌, ◌≤ℤ◌, eqb, ltb, leb, cond, ◌&&◌, ◌||◌, Bool, true, false, not, List, [], ◌∷◌, ◌++◌, length, length-append, take, drop, get_or, slice_get, Option, Some, None, refl, sym, ap, subst, ◌∙◌, inl, inr, arith, nat_eq}
+use Rattle.std.specs.List.{AllByRecursion, Contains, insert}
+use Rattle.std.specs.Map.{lookup}
+use Rattle.std.specs.Prelude.{MatchOption, unwrap_or}
+use Rattle.std.specs.Option.{option_map, option_map_or, option_or}
+use Rattle.std.proofs.lemmas.Bool.{cases_lt, cases_Bool, and_from, and_parts, eq-eqb, eqb-true, ltb-true, lt-ltb, leb-true, le-leb}
+use Rattle.std.proofs.lemmas.Bool.Decides.{eqb_tells}
+use Rattle.std.proofs.lemmas.Int.{ints, by_lt_z}
+use Rattle.std.proofs.lemmas.List.{take-append-drop}
+use Rattle.std.proofs.lemmas.Option.{slice_get-get_or}
+use Rattle.plan_types.specs.Cost.{BelowTells, AtMostTells, CostsAreTotal, CostsAreTransitive, BelowThenAtMost, AtMostThenBelow, BelowIsAtMost}
+use Rattle.plan_types.specs.Instance.{Instance, IsInstance}
+use Rattle.plan_types.specs.Laws.{NamedAreFound, RequestsStandByName}
+use Rattle.plan_types.specs.Request.{request_name}
+use Rattle.plan_types.specs.declared.requests.Request.{Request}
+use Rattle.plan_types.specs.declared.requests.Request.TheVariants.{Single, Pair}
+use Rattle.route_sched.specs.Cost.{is_planned}
+use Rattle.route_sched.specs.Schedule.{route_length}
+use Rattle.plan_audit.specs.Alone.{IsFeasibleAlone}
+use Rattle.plan_audit.specs.Locality.{PassesAreLocal, TestsSayFeasible}
+use Rattle.plan_audit.specs.Passes.{feasible_alone, passes}
+use Rattle.plan_audit.specs.Rules.{item_at}
+use Rattle.slack_tables.specs.Best.{Adds, ComesFirst, IsBestAddition}
+use Rattle.slack_tables.specs.Insertion.{KeepsLimits, ArePlaces, IsAdded, inserted}
+use Rattle.slack_tables.specs.declared.scan.Addition.{Addition}
+use Rattle.move_ops.specs.Insertion.{Place, of_vehicle, with_request_at, are_places, is_place_of, insertions_of, insertions, best_insertion, cost_with, is_no_later, is_no_worse}
+use Rattle.move_ops.specs.Laws.{IsBest, BestInsertionsAreLeast, BestInsertionsAreUnique}
+use Rattle.move_ops.specs.Choosing.{opens, place_found, found_at, IsBestAmong, IsBestUpTo, HasIdle, bound_of, IsBetterBelow, IsBetter}
+use Rattle.move_ops.specs.declared.tables.Found.{Found}
+use Rattle.move_ops.proofs.Times.{none_some, some_same, times}
+use Rattle.move_ops.proofs.Inserting.{numbers_of, nowhere, passes_where_feasible}
+use Rattle.move_ops.proofs.BestLemmas.{said_later, both_transitive}
+use Rattle.move_ops.proofs.Replacing.{parts, all_at, times_in_vehicle, within_list, in_vehicle}
+use Rattle.move_ops.proofs.Places.{contained, within, listed, to_list}
+use Rattle.move_ops.proofs.Fitting.{fits, some_new, limits_alone}
+use Rattle.move_ops.proofs.Costs.{new_route, IsPriced, Ahead, no_worse}
+use Rattle.move_ops.proofs.Bounds.{route_small}
+
+-- a request stands under its name
+pub name_of : (es : List (ℕ × Request)) (name : ℕ) (r : Request) → AllByRecursion (λ e. e.0 ≡ request_name e.1) es → lookup (nat_eq name) es ≡ Some r → request_name r ≡ name
+name_of [] name r named at = absurd (none_some r at)
+name_of (e ∷ es) name r named at = elim (eqb_tells name e.0) [
+  | inl t ↦ (let same = some_same e.1 r (rw t.0 at at) in ap request_name (sym same) ∙ (sym named.0 ∙ sym t.1))
+  | inr t ↦ name_of es name r named.1 (rw t.0 at at)
+]
+
+-- ---- places
+to_places : (q : Request) (kept n i j : ℕ) → are_places q kept n i j ≡ true → ArePlaces q n i j × (kept < i)
+to_places (Single s) kept n i j t =
+    let a = and_parts (ltb kept i) (leb i (n + 1) && eqb i j) t in
+    let b = and_parts (leb i (n + 1)) (eqb i j) a.1 in
+    let above = ltb-true kept i a.0 in
+    let high = leb-true i (n + 1) b.0 in
+    let same = eqb-true i j b.1 in
+    ((omega arith, high, sym same), above)
+to_places (Pair c d) kept n i j t =
+    let a = and_parts (ltb kept i) (ltb i j && leb j (n + 2)) t in
+    let b = and_parts (ltb i j) (leb j (n + 2)) a.1 in
+    let above = ltb-true kept i a.0 in
+    ((omega arith, ltb-true i j b.0, leb-true j (n + 2) b.1), above)
+
+from_places : (q : Request) (kept n i j : ℕ) → ArePlaces q n i j → kept < i → are_places q kept n i j ≡ true
+from_places (Single s) kept n i j places above =
+    and_from (ltb kept i) (leb i (n + 1) && eqb i j) (lt-ltb kept i above) (and_from (leb i (n + 1)) (eqb i j) (le-leb i (n + 1) places.1) (eq-eqb i j (sym places.2)))
+from_places (Pair c d) kept n i j places above =
+    and_from (ltb kept i) (ltb i j && leb j (n + 2)) (lt-ltb kept i above) (and_from (ltb i j) (leb j (n + 2)) (lt-ltb i j places.1) (le-leb j (n + 2) places.2))
+
+from_one : (q : Request) (n i j : ℕ) → ArePlaces q n i j → (1 ≤ i) × (i ≤ j) × (j ≤ n + 2)
+from_one (Single s) n i j places = let low = places.0 in let high = places.1 in let same = places.2 in (low, omega arith, omega arith)
+from_one (Pair c d) n i j places = let low = places.0 in let order = places.1 in let high = places.2 in (low, omega arith, high)
+
+-- ---- insertions by vehicle
+module _ (law : NamedAreFound) (stand : RequestsStandByName) (local : PassesAreLocal) (says : TestsSayFeasible) (p : Instance) (pins routes : List (List ℕ)) (valid : IsInstance p)
+    (good : passes p pins routes ≡ true) (name : ℕ) (r : Request) (named : lookup (nat_eq name) p.requests ≡ Some r) (free : is_planned routes r ≡ false) where
+  -- the request fits into the vehicle's route at places behind its pin
+  pub record Fits (x : Place) : Type 0 where
+    pub from : 1 ≤ x.0
+    pub within : x.0 ≤ length routes
+    pub places : ArePlaces r (length (of_vehicle routes x.0)) x.1 x.2
+    pub behind : length (of_vehicle pins x.0) < x.1
+    pub keeps : KeepsLimits p (inserted r x.1 x.2 (of_vehicle routes x.0))
+
+  away : (v : ℕ) → 1 ≤ v → v ≤ length routes → (n : ℕ) → 1 ≤ times n (numbers_of r) → times n (of_vehicle routes v) ≡ 0
+  away v from high n some = let e = nowhere routes r free n some in let f = times_in_vehicle n routes v from high in omega arith
+
+  feasible_at : (v : ℕ) → 1 ≤ v → v ≤ length routes → feasible_alone p (of_vehicle routes v) ≡ true
+  feasible_at v from high = (says p (of_vehicle routes v)).1 (all_at (IsFeasibleAlone p) routes v from high ((parts local p pins routes good).feasible))
+
+  some_at : (x : Place) → 1 ≤ x.0 → x.0 ≤ length routes → ArePlaces r (length (of_vehicle routes x.0)) x.1 x.2 → length (inserted r x.1 x.2 (of_vehicle routes x.0)) ≡ 0 → ⊥
+  some_at x from high places = some_new law stand p valid name r named (of_vehicle routes x.0) (away x.0 from high) x.1 x.2 places (feasible_at x.0 from high)
+
+  pub insertion_fits : (x : Place) → Contains (insertions_of p pins routes r) x → Fits x
+  insertion_fits x c =
+      let t = listed p pins routes r x (within (insertions_of p pins routes r) x c) in
+      let a = and_parts (leb 1 x.0) (leb x.0 (length routes) && are_places r (length (of_vehicle pins x.0)) (length (of_vehicle routes x.0)) x.1 x.2) t.1 in
+      let b = and_parts (leb x.0 (length routes)) (are_places r (length (of_vehicle pins x.0)) (length (of_vehicle routes x.0)) x.1 x.2) a.1 in
+      let low = leb-true 1 x.0 a.0 in
+      let high = leb-true x.0 (length routes) b.0 in
+      let at = to_places r (length (of_vehicle pins x.0)) (length (of_vehicle routes x.0)) x.1 x.2 b.1 in
+      let feasible : feasible_alone p (inserted r x.1 x.2 (of_vehicle routes x.0)) ≡ true =
+      sym (passes_where_feasible law local says p pins routes valid good name r named free x t.1 (feasible_alone p (inserted r x.1 x.2 (of_vehicle routes x.0))) refl) ∙ t.2 in
+      record {
+        from = low;
+        within = high;
+        places = at.0;
+        behind = at.1;
+        keeps = limits_alone p (inserted r x.1 x.2 (of_vehicle routes x.0)) (some_at x low high at.0) feasible;
+      }
+
+  pub fits_insertion : (x : Place) → Fits x → Contains (insertions_of p pins routes r) x
+  fits_insertion x f =
+      let place : is_place_of pins routes r x ≡ true =
+      and_from (leb 1 x.0) (leb x.0 (length routes) && are_places r (length (of_vehicle pins x.0)) (length (of_vehicle routes x.0)) x.1 x.2) (le-leb 1 x.0 (f.from))
+      (and_from (leb x.0 (length routes)) (are_places r (length (of_vehicle pins x.0)) (length (of_vehicle routes x.0)) x.1 x.2) (le-leb x.0 (length routes) (f.within))
+      (from_places r (length (of_vehicle pins x.0)) (length (of_vehicle routes x.0)) x.1 x.2 (f.places) (f.behind))) in
+      let feasible : feasible_alone p (inserted r x.1 x.2 (of_vehicle routes x.0)) ≡ true =
+      fits law stand p valid name r named (of_vehicle routes x.0) (away x.0 (f.from) (f.within)) x.1 x.2 (f.places) (feasible_at x.0 (f.from) (f.within)) (f.keeps) in
+      contained (insertions_of p pins routes r) x
+      (to_list p pins routes r x free place (passes_where_feasible law local says p pins routes valid good name r named free x place true (sym feasible)))
+
+  -- the distance that is added
+  abbrev pub gain : Place → ℤ
+  gain x = pos (route_length p (inserted r x.1 x.2 (of_vehicle routes x.0))) -ℤ pos (route_length p (of_vehicle routes x.0))
+
+  gain_is : (a b : ℕ) → pos a ≡ pos b +ℤ (pos a -ℤ pos b)
+  gain_is a b = omega (arith, ints)
+
+  pub priced : (x : Place) → Fits x → IsPriced p routes r x (opens p.kind (of_vehicle routes x.0)) (gain x)
+  priced x f = record {
+    from = f.from;
+    within = f.within;
+    some = some_at x (f.from) (f.within) (f.places);
+    opens = refl;
+    added = gain_is (route_length p (inserted r x.1 x.2 (of_vehicle routes x.0))) (route_length p (of_vehicle routes x.0));
+  }
+
+  -- in a route of not too many stops the distance added is far below the greatest number
+  pub gain_small : (x : Place) → length (inserted r x.1 x.2 (of_vehicle routes x.0)) ≤ 40003 → gain x <ℤ pos 9223372036854775807
+  gain_small x few =
+      let h = route_small p valid (inserted r x.1 x.2 (of_vehicle routes x.0)) in
+      by (route_length p (inserted r x.1 x.2 (of_vehicle routes x.0))) (route_length p (of_vehicle routes x.0)) (omega arith)
+    where
+      by : (a b : ℕ) → a ≤ 320032000000040004 → (pos a -ℤ pos b) <ℤ pos 9223372036854775807
+      by a b le = omega (arith, ints)
+
+-- ---- lengths
+insert_long : (xs : List ℕ) (k m : ℕ) → length (insert xs k m) ≡ length xs + 1
+insert_long xs k m = let e = length-append (take k xs) (m ∷ drop k xs) in let f = length-append (take k xs) (drop k xs) in let g = ap length (take-append-drop k xs) in let h : length (m ∷ drop k xs) ≡ length (drop k xs) + 1 = omega arith in omega arith
+
+few_more : (q : Request) (i j : ℕ) (route : List ℕ) → length (inserted q i j route) ≤ length route + 2
+few_more (Single s) i j route = let e = insert_long route (i - 1) s.number in omega arith
+few_more (Pair a b) i j route = let e = insert_long route (i - 1) a.number in let f = insert_long (insert route (i - 1) a.number) (j - 1) b.number in omega arith
+
+module _ (local : PassesAreLocal) (p : Instance) (pins routes : List (List ℕ)) (good : passes p pins routes ≡ true) where
+  -- a pin is no longer than its route
+  pub pin_within : (v : ℕ) → length (of_vehicle pins v) ≤ length (of_vehicle routes v)
+  pin_within v = by (item_at pins v) refl
+    where
+      along : (pin : List ℕ) → item_at pins v ≡ Some pin → (k : ℕ) → length pin ≡ suc k → suc k ≤ length (of_vehicle routes v)
+      along pin at k long =
+          let here : slice_get pin k ≡ Some (get_or pin k 0) = slice_get-get_or pin k 0 (omega arith) in
+          within_list (of_vehicle routes v) (suc k) (get_or pin k 0) (in_vehicle routes v (suc k) (get_or pin k 0) ((parts local p pins routes good).pinned v (suc k) (get_or pin k 0) (pin, at, here)))
+
+      of_pin : (pin : List ℕ) → item_at pins v ≡ Some pin → (n : ℕ) → length pin ≡ n → length pin ≤ length (of_vehicle routes v)
+      of_pin pin at zero long = omega arith
+      of_pin pin at (suc k) long = let h = along pin at k long in omega arith
+
+      by : (o : Option (List ℕ)) → item_at pins v ≡ o → length (unwrap_or o []) ≤ length (of_vehicle routes v)
+      by None at = omega arith
+      by (Some pin) at = of_pin pin at (length pin) refl
+
+no_stops : (xs ys : List ℕ) → length xs ≡ 0 → length ys ≡ 0 → xs ≡ ys
+no_stops [] [] none also = refl
+no_stops [] (y ∷ ys) none some = absurd (omega arith)
+no_stops (x ∷ xs) ys some none = absurd (omega arith)
+
+-- ---- one vehicle more
+module _ (law : NamedAreFound) (stand : RequestsStandByName) (local : PassesAreLocal) (says : TestsSayFeasible) (below_tells : BelowTells) (at_most_tells : AtMostTells)
+    (costs_total : CostsAreTotal) (costs_transitive : CostsAreTransitive) (below_at_most : BelowThenAtMost) (at_most_below : AtMostThenBelow) (weaken : BelowIsAtMost)
+    (p : Instance) (pins routes : List (List ℕ)) (valid : IsInstance p)
+    (good : passes p pins routes ≡ true) (name : ℕ) (r : Request) (named : lookup (nat_eq name) p.requests ≡ Some r) (free : is_planned routes r ≡ false) where
+  abbrev IsFit : Place → Type 0
+  IsFit x = Fits law stand local says p pins routes valid good name r named free x
+
+  abbrev adds : Place → ℤ
+  adds x = gain law stand local says p pins routes valid good name r named free x
+
+  fit : (x : Place) → Contains (insertions_of p pins routes r) x → IsFit x
+  fit x c = insertion_fits law stand local says p pins routes valid good name r named free x c
+
+  listed_fit : (x : Place) → IsFit x → Contains (insertions_of p pins routes r) x
+  listed_fit x f = fits_insertion law stand local says p pins routes valid good name r named free x f
+
+  price : (x : Place) → IsFit x → IsPriced p routes r x (opens p.kind (of_vehicle routes x.0)) (adds x)
+  price x f = priced law stand local says p pins routes valid good name r named free x f
+
+  no_worse_than : (x y : Place) (a b : Bool) (d e : ℤ) → IsPriced p routes r x a d → IsPriced p routes r y b e → Ahead p routes r x a d y b e → is_no_worse p routes r x y ≡ true
+  no_worse_than x y a b d e one two ahead = no_worse p routes r below_tells at_most_tells x y a b d e one two ahead
+
+  follow : (x y z : Place) → is_no_worse p routes r x y ≡ true → is_no_worse p routes r y z ≡ true → is_no_worse p routes r x z ≡ true
+  follow x y z h k =
+      both_transitive costs_total costs_transitive below_at_most at_most_below weaken (cost_with p routes r x) (cost_with p routes r y) (cost_with p routes r z) x y z h k
+
+  price_found : (k : ℕ) (f : Found) → IsBestAmong p pins routes r k f → IsPriced p routes r (place_found f) f.opens f.addition.distance
+  price_found k f best =
+      let at = fit (place_found f) (best.among) in
+      let plain = price (place_found f) at in
+      record { from = at.from; within = at.within; some = plain.some; opens = best.opens; added = (best.added).1 }
+
+  -- the first of two additions to one route is ahead
+  first_ahead : (v : ℕ) (o : Bool) (a b : Addition) → ComesFirst a b → Ahead p routes r (v, a.pickup, a.delivery) o a.distance (v, b.pickup, b.delivery) o b.distance
+  first_ahead v o a b first = by_lt_z {P = Ahead p routes r (v, a.pickup, a.delivery) o a.distance (v, b.pickup, b.delivery) o b.distance} a.distance b.distance
+      (λ less. inr (refl, inl less))
+      (λ more. (
+      let le = first.distance in
+      let same : a.distance ≡ b.distance = omega (arith, ints) in
+      let pickup = first.pickup same in
+      inr (
+        refl,
+        inr (
+          same,
+          said_later (v, a.pickup, a.delivery) (v, b.pickup, b.delivery) (inr (
+            refl,
+            elim (cases_lt a.pickup b.pickup) [
+              | inl before ↦ inl before
+              | inr not_before ↦ (let one : a.pickup ≡ b.pickup = omega arith in inr (one, first.delivery same one))
+            ],
+          )),
+        ),
+      )))
+
+  module _ (k v : ℕ) (next : v ≡ k + 1) (high : v ≤ length routes) where
+    abbrev old_route : List ℕ
+    old_route = of_vehicle routes v
+
+    abbrev pinned : ℕ
+    pinned = length (of_vehicle pins v)
+
+    -- an insertion at this vehicle, as an addition to its route
+    here : (y : Place) (below : ℤ) → IsFit y → y.0 ≡ v → adds y <ℤ below → Adds p old_route r pinned below (record { distance = adds y; pickup = y.1; delivery = y.2 })
+    here y below f same less =
+        subst (λ u. Adds p (of_vehicle routes u) r (length (of_vehicle pins u)) below (record { distance = adds y; pickup = y.1; delivery = y.2 })) same
+        (record { places = f.places; behind = f.behind; added = (f.keeps, (price y f).added); cheaper = less })
+
+    fit_of : (a : Addition) (below : ℤ) → Adds p old_route r pinned below a → IsFit (v, a.pickup, a.delivery)
+    fit_of a below is = record { from = omega arith; within = high; places = is.places; behind = is.behind; keeps = (is.added).0 }
+
+    price_of : (a : Addition) (below : ℤ) (o : Bool) → opens p.kind old_route ≡ o → Adds p old_route r pinned below a → IsPriced p routes r (v, a.pickup, a.delivery) o a.distance
+    price_of a below o is_open is =
+        let at = fit_of a below is in
+        let plain = price (v, a.pickup, a.delivery) at in
+        record { from = at.from; within = at.within; some = plain.some; opens = is_open; added = (is.added).1 }
+
+    price_at : (y : Place) (o : Bool) → opens p.kind old_route ≡ o → IsFit y → y.0 ≡ v → IsPriced p routes r y o (adds y)
+    price_at y o is_open f same =
+        let plain = price y f in
+        record { from = f.from; within = f.within; some = plain.some; opens = ap (λ u. opens p.kind (of_vehicle routes u)) same ∙ is_open; added = plain.added }
+
+    -- with a bound that tells what is better than the best so far
+    module _ (few : length old_route ≤ 40001) (o : Bool) (is_open : opens p.kind old_route ≡ o) (best : Option Found) (old : IsBestUpTo p pins routes r k best) (below : ℤ)
+        (beats : (f : Found) → best ≡ Some f → (d : ℤ) → d <ℤ below → (x y : Place) → Ahead p routes r x o d y f.opens f.addition.distance)
+        (keeps_up : (f : Found) → best ≡ Some f → (y : Place) → f.vehicle < y.0 → adds y <ℤ pos 9223372036854775807 → below ≤ℤ adds y → Ahead p routes r (place_found f) f.opens f.addition.distance y o (adds y))
+        (all_below : best ≡ None → (y : Place) → adds y <ℤ pos 9223372036854775807 → adds y <ℤ below) where
+      small : (y : Place) → IsFit y → y.0 ≡ v → adds y <ℤ pos 9223372036854775807
+      small y f same =
+          let e = few_more r y.1 y.2 (of_vehicle routes y.0) in
+          let g = ap (λ u. length (of_vehicle routes u)) same in
+          gain_small law stand local says p pins routes valid good name r named free y (omega arith)
+
+      -- nothing below the bound here
+      stays : (b : Option Found) → best ≡ b → IsBestUpTo p pins routes r k b → ((a : Addition) → Adds p old_route r pinned below a → ⊥) → IsBestUpTo p pins routes r (k + 1) b
+      stays None is none empty = λ y c le. elim (cases_lt k y.0) [
+        | inl more ↦ (let same : y.0 ≡ v = omega arith in let f = fit y c in empty (record { distance = adds y; pickup = y.1; delivery = y.2 }) (here y below f same (all_below is y (small y f same))))
+        | inr less ↦ none y c less
+      ]
+      stays (Some g) is was empty = record {
+        among = was.among;
+        seen = (let h = was.seen in omega arith);
+        opens = was.opens;
+        added = was.added;
+        least = λ y c le. elim (cases_lt k y.0) [
+          | inl more ↦ (
+              let same : y.0 ≡ v = omega arith in
+              let f = fit y c in
+              let seen = was.seen in
+              by_lt_z {P = is_no_worse p routes r (place_found g) y ≡ true} (adds y) below
+              (λ cheap. absurd (empty (record { distance = adds y; pickup = y.1; delivery = y.2 }) (here y below f same cheap)))
+              (λ dear. no_worse_than (place_found g) y g.opens o g.addition.distance (adds y) (price_found k g was) (price_at y o is_open f same) (keeps_up g is y (omega arith) (small y f same) dear)))
+          | inr less ↦ was.least y c less
+        ];
+      }
+
+      -- the first below the bound here
+      changes : (b : Option Found) → best ≡ b → IsBestUpTo p pins routes r k b → (a : Addition) → Adds p old_route r pinned below a
+          → ((e : Addition) → Adds p old_route r pinned below e → ComesFirst a e) → IsBestUpTo p pins routes r (k + 1) (Some (found_at v o a))
+      changes b is was a adds_a first = record {
+        among = listed_fit (v, a.pickup, a.delivery) (fit_of a below adds_a);
+        seen = omega arith;
+        opens = is_open;
+        added = adds_a.added;
+        least = λ y c le. elim (cases_lt k y.0) [
+          | inl more ↦ (
+              let same : y.0 ≡ v = omega arith in
+              let f = fit y c in
+              no_worse_than (v, a.pickup, a.delivery) y o o a.distance (adds y) (price_of a below o is_open adds_a) (price_at y o is_open f same)
+              (by_lt_z {P = Ahead p routes r (v, a.pickup, a.delivery) o a.distance y o (adds y)} (adds y) below
+              (λ cheap. subst (λ u. Ahead p routes r (v, a.pickup, a.delivery) o a.distance (u, y.1, y.2) o (adds y)) (sym same) (first_ahead v o a (record { distance = adds y; pickup = y.1; delivery = y.2 }) (first (record { distance = adds y; pickup = y.1; delivery = y.2 }) (here y below f same cheap))))
+              (λ dear. (let less = adds_a.cheaper in inr (refl, inl (omega (arith, ints)))))))
+          | inr less ↦ before b is was y c less
+        ];
+      }
+        where
+          before : (b : Option Found) → best ≡ b → IsBestUpTo p pins routes r k b → (y : Place) → Contains (insertions_of p pins routes r) y → y.0 ≤ k → is_no_worse p routes r (v, a.pickup, a.delivery) y ≡ true
+          before None is none y c less = absurd (none y c less)
+          before (Some g) is was y c less =
+              follow (v, a.pickup, a.delivery) (place_found g) y
+              (no_worse_than (v, a.pickup, a.delivery) (place_found g) o g.opens a.distance g.addition.distance (price_of a below o is_open adds_a) (price_found k g was) (beats g is a.distance (adds_a.cheaper) (v, a.pickup, a.delivery) (place_found g)))
+              (was.least y c less)
+
+      pub chosen : (answer : Option Addition) → IsBestAddition p old_route r pinned below answer → IsBestUpTo p pins routes r (k + 1) (option_or (option_map (found_at v o) answer) best)
+      chosen None empty = stays best refl old empty
+      chosen (Some a) first = changes best refl old a first.0 first.1
+
+    module _ (few : length old_route ≤ 40001) where
+      -- among the first vehicles and this one
+      pub bettered : (best result : Option Found) → IsBestUpTo p pins routes r k best → IsBetter p old_route r pinned v best result → IsBestUpTo p pins routes r (k + 1) result
+      bettered None result old better =
+          subst (IsBestUpTo p pins routes r (k + 1)) (sym better.2)
+          (chosen few (opens p.kind old_route) refl None old (pos 9223372036854775807) (λ f is. absurd (none_some f is)) (λ f is. absurd (none_some f is)) (λ is y small. small) better.0 better.1)
+      bettered (Some f) result old better = by f.opens (opens p.kind old_route) refl refl better
+        where
+          ahead_of : (g : Found) → Some f ≡ Some g → g.opens ≡ f.opens
+          ahead_of g is = ap (λ (h : Found). h.opens) (sym (some_same f g is))
+
+          below_found : (o : Bool) → f.opens ≡ o → (g : Found) → Some f ≡ Some g → (d : ℤ) → d <ℤ f.addition.distance → (x y : Place) → Ahead p routes r x o d y g.opens g.addition.distance
+          below_found o same g is d less x y = subst (λ (h : Found). Ahead p routes r x o d y h.opens h.addition.distance) (some_same f g is) (inr (sym same, inl less))
+
+          no_less : (o : Bool) → f.opens ≡ o → (g : Found) → Some f ≡ Some g → (y : Place) → g.vehicle < y.0 → adds y <ℤ pos 9223372036854775807 → f.addition.distance ≤ℤ adds y → Ahead p routes r (place_found g) g.opens g.addition.distance y o (adds y)
+          no_less o same g is y before little le =
+              subst (λ (h : Found). Ahead p routes r (place_found h) h.opens h.addition.distance y o (adds y)) (some_same f g is)
+              (by_lt_z {P = Ahead p routes r (place_found f) f.opens f.addition.distance y o (adds y)} f.addition.distance (adds y) (λ less. inr (same, inl less))
+              (λ more. inr (same, inr (omega (arith, ints), said_later (place_found f) y (inl (subst (λ (h : Found). h.vehicle < y.0) (sym (some_same f g is)) before))))))
+
+          by : (c o : Bool) → f.opens ≡ c → opens p.kind old_route ≡ o
+              → IsBetterBelow p old_route r pinned v o (Some f) result (cond (c && not o) (Some (pos 9223372036854775807)) (cond (o && not c) None (Some f.addition.distance))) → IsBestUpTo p pins routes r (k + 1) result
+          by true true is_c is_o better =
+              subst (IsBestUpTo p pins routes r (k + 1)) (sym better.2)
+              (chosen few true is_o (Some f) old f.addition.distance (below_found true is_c) (no_less true is_c) (λ is. absurd (none_some f (sym is))) better.0 better.1)
+          by false false is_c is_o better =
+              subst (IsBestUpTo p pins routes r (k + 1)) (sym better.2)
+              (chosen few false is_o (Some f) old f.addition.distance (below_found false is_c) (no_less false is_c) (λ is. absurd (none_some f (sym is))) better.0 better.1)
+          by true false is_c is_o better =
+              subst (IsBestUpTo p pins routes r (k + 1)) (sym better.2)
+              (chosen few false is_o (Some f) old (pos 9223372036854775807) (λ g is d less x y. inl (refl, ahead_of g is ∙ is_c)) (λ g is y before little much. absurd (omega (arith, ints)))
+              (λ is. absurd (none_some f (sym is))) better.0 better.1)
+          by false true is_c is_o better =
+              subst (IsBestUpTo p pins routes r (k + 1)) (sym better)
+              (record {
+                among = old.among;
+                seen = (let h = old.seen in omega arith);
+                opens = old.opens;
+                added = old.added;
+                least = λ y c le. elim (cases_lt k y.0) [
+                  | inl more ↦ (
+                      let same : y.0 ≡ v = omega arith in
+                      let g = fit y c in
+                      no_worse_than (place_found f) y f.opens true f.addition.distance (adds y) (price_found k f old) (price_at y true is_o g same) (inl (is_c, refl)))
+                  | inr less ↦ old.least y c less
+                ];
+              })
+
+    -- an empty vehicle, where one was looked at before
+    pub skipped : length old_route ≡ 0 → HasIdle routes k → (best : Option Found) → IsBestUpTo p pins routes r k best → IsBestUpTo p pins routes r (k + 1) best
+    skipped none idle best old = by best old
+      where
+        alike : of_vehicle routes idle.0 ≡ old_route
+        alike = no_stops (of_vehicle routes idle.0) old_route idle.4 none
+
+        -- the same places at the earlier vehicle
+        other : (y : Place) → IsFit y → y.0 ≡ v → IsFit (idle.0, y.1, y.2)
+        other y f same =
+            let one : of_vehicle routes y.0 ≡ of_vehicle routes idle.0 = ap (of_vehicle routes) same ∙ sym alike in
+            let pin = pin_within local p pins routes good idle.0 in
+            let empty = idle.4 in
+            let low = from_one r (length (of_vehicle routes y.0)) y.1 y.2 (f.places) in
+            let from = low.0 in
+            record {
+              from = idle.1;
+              within = idle.3;
+              places = subst (λ (l : List ℕ). ArePlaces r (length l) y.1 y.2) one (f.places);
+              behind = omega arith;
+              keeps = subst (λ (l : List ℕ). KeepsLimits p (inserted r y.1 y.2 l)) one (f.keeps);
+            }
+
+        -- are no worse
+        before : (y : Place) (f : IsFit y) (same : y.0 ≡ v) → is_no_worse p routes r (idle.0, y.1, y.2) y ≡ true
+        before y f same =
+            let one : of_vehicle routes idle.0 ≡ of_vehicle routes y.0 = alike ∙ ap (of_vehicle routes) (sym same) in
+            let seen = idle.2 in
+            no_worse_than (idle.0, y.1, y.2) y (opens p.kind (of_vehicle routes idle.0)) (opens p.kind (of_vehicle routes y.0)) (adds (idle.0, y.1, y.2)) (adds y) (price (idle.0, y.1, y.2) (other y f same)) (price y f)
+            (inr (ap (opens p.kind) one, inr (ap (λ (l : List ℕ). pos (route_length p (inserted r y.1 y.2 l)) -ℤ pos (route_length p l)) one, said_later (idle.0, y.1, y.2) y (inl (omega arith)))))
+
+        by : (b : Option Found) → IsBestUpTo p pins routes r k b → IsBestUpTo p pins routes r (k + 1) b
+        by None empty = λ y c le. elim (cases_lt k y.0) [
+          | inl more ↦ (let same : y.0 ≡ v = omega arith in let f = fit y c in empty (idle.0, y.1, y.2) (listed_fit (idle.0, y.1, y.2) (other y f same)) idle.2)
+          | inr less ↦ empty y c less
+        ]
+        by (Some g) was = record {
+          among = was.among;
+          seen = (let h = was.seen in omega arith);
+          opens = was.opens;
+          added = was.added;
+          least = λ y c le. elim (cases_lt k y.0) [
+            | inl more ↦ (
+                let same : y.0 ≡ v = omega arith in
+                let f = fit y c in
+                follow (place_found g) (idle.0, y.1, y.2) y (was.least (idle.0, y.1, y.2) (listed_fit (idle.0, y.1, y.2) (other y f same)) idle.2) (before y f same))
+            | inr less ↦ was.least y c less
+          ];
+        }
+
+  -- at no vehicle there is none
+  pub none_first : (k : ℕ) → k ≡ 0 → IsBestUpTo p pins routes r k None
+  none_first k zero_vehicles = λ y c le. (let f = fit y c in let low = f.from in omega arith)
+
+  -- among all vehicles
+  pub answer_is : BestInsertionsAreLeast → BestInsertionsAreUnique → (k : ℕ) → k ≡ length routes → (answer : Option Found) → IsBestUpTo p pins routes r k answer → option_map place_found answer ≡ best_insertion p pins routes name
+  answer_is least unique k all answer up = by_best (best_insertion p pins routes name) refl (least p pins routes name r named)
+    where
+      all_seen : (x : Place) → Contains (insertions_of p pins routes r) x → x.0 ≤ k
+      all_seen x c = let f = fit x c in let high = f.within in omega arith
+
+      nothing : insertions p pins routes name ≡ [] → (x : Place) → Contains (insertions_of p pins routes r) x → ⊥
+      nothing none x c =
+          let same : insertions p pins routes name ≡ insertions_of p pins routes r = ap (λ (o : Option Request). option_map_or (insertions_of p pins routes) o []) named in
+          within [] x (subst (λ (l : List Place). Contains l x) (sym same ∙ none) c)
+
+      by : (a : Option Found) (o : Option Place) → IsBestUpTo p pins routes r k a → best_insertion p pins routes name ≡ o → MatchOption o (insertions p pins routes name ≡ []) (IsBest p pins routes r) → option_map place_found a ≡ o
+      by None None up is best = refl
+      by None (Some x) up is best = absurd (up x (best.among) (all_seen x (best.among)))
+      by (Some f) None up is none = absurd (nothing none (place_found f) (up.among))
+      by (Some f) (Some x) up is best = ap Some (unique p pins routes r (place_found f) x (record { among = up.among; least = λ y c. up.least y c (all_seen y c) }) best)
+
+      by_best : (o : Option Place) → best_insertion p pins routes name ≡ o → MatchOption o (insertions p pins routes name ≡ []) (IsBest p pins routes r) → option_map place_found answer ≡ best_insertion p pins routes name
+      by_best o is best = by answer o up is best ∙ sym is

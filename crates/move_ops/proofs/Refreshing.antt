@@ -1,0 +1,161 @@
+-- Tables of which some were built anew.
+use Rattle.std.proofs.Common.{◌≡◌, ℕ, zero, suc, ◌+◌, ◌-◌, ◌<◌, ◌≤◌, ◌⊎◌, ◌||◌, eqb, cond, Bool, true, false, List, [], ◌∷◌, All, length, map, set, get_or, Option, Some, None, IsSome, nat_eq, refl, sym, ap, subst, ◌∙◌, inl, inr, arith}
+use Rattle.std.specs.Prelude.{unwrap_or}
+use Rattle.std.specs.List.{AllByRecursion, concat}
+use Rattle.std.proofs.Math.ListN.{get_or-map, length-map}
+use Rattle.std.proofs.lemmas.Bool.Decides.{eqb_tells}
+use Rattle.std.proofs.lemmas.List.{length-set, same_lists, get_or-set_other}
+use Rattle.std.proofs.lemmas.Grind.{get_or-set_at}
+use Rattle.std.proofs.lemmas.List.Elements.{recursion_from_All, All-get_or}
+use Rattle.std.proofs.lemmas.Option.{get_or_from_slice_get}
+use Rattle.plan_types.specs.Instance.{Instance, IsInstance, first_some, stop_at}
+use Rattle.plan_types.specs.Request.{stop_in}
+use Rattle.plan_types.specs.declared.requests.Stop.{Stop}
+use Rattle.plan_types.specs.declared.requests.Request.{Request}
+use Rattle.plan_types.specs.declared.requests.Request.TheVariants.{Single, Pair}
+use Rattle.route_sched.specs.Route.{IsLive, AreLiveOnce, stop_numbered}
+use Rattle.plan_audit.specs.Locality.{PassesAreLocal, PlansAreLocal}
+use Rattle.plan_audit.specs.Passes.{has, passes}
+use Rattle.slack_tables.specs.Course.{Course, course_of, route_of, IsCourseIn}
+use Rattle.move_ops.specs.Insertion.{of_vehicle}
+use Rattle.move_ops.specs.Tables.{plan_of, tables_of, AreTablesIn, AreVehicles, DifferOnlyAt}
+use Rattle.move_ops.specs.Refreshing.{fresh_of, replaced, AreWithin}
+use Rattle.move_ops.proofs.Times.{none_some, some_same}
+use Rattle.move_ops.proofs.Replacing.{at_vehicle, parts}
+
+-- ---- the numbers of a course's stops
+number_in : (n : ℕ) (r : Request) (s : Stop) → stop_in n r ≡ Some s → s.number ≡ n
+number_in n (Single a) s is = elim (eqb_tells a.number n) [
+  | inl t ↦ (let e : Some a ≡ Some s = rw t.0 at is in ap (λ (x : Stop). x.number) (sym (some_same a s e)) ∙ t.1)
+  | inr t ↦ absurd (let e : None ≡ Some s = rw t.0 at is in none_some s e)
+]
+number_in n (Pair a b) s is = elim (eqb_tells a.number n) [
+  | inl t ↦ (let e : Some a ≡ Some s = rw t.0 at is in ap (λ (x : Stop). x.number) (sym (some_same a s e)) ∙ t.1)
+  | inr t ↦ elim (eqb_tells b.number n) [
+    | inl u ↦ (let e : Some b ≡ Some s = rw (t.0, u.0) at is in ap (λ (x : Stop). x.number) (sym (some_same b s e)) ∙ u.1)
+    | inr u ↦ absurd (let e : None ≡ Some s = rw (t.0, u.0) at is in none_some s e)
+  ]
+]
+
+number_among : (n : ℕ) (es : List (ℕ × Request)) (s : Stop) → first_some (stop_in n) es ≡ Some s → s.number ≡ n
+number_among n [] s is = absurd (none_some s is)
+number_among n (e ∷ es) s is = by (stop_in n e.1) refl (λ there. number_among n es s there)
+  where
+    by : (o : Option Stop) → stop_in n e.1 ≡ o → (first_some (stop_in n) es ≡ Some s → s.number ≡ n) → s.number ≡ n
+    by (Some t) at later = number_in n e.1 s (at ∙ (let h : Some t ≡ Some s = rw at at is in h))
+    by None at later = later (rw at at is)
+
+module _ (p : Instance) (valid : IsInstance p) where
+  number_kept : (n : ℕ) → IsLive p n → (stop_numbered p n).number ≡ n
+  number_kept n live = elim (eqb_tells n 0) [
+    | inl t ↦ (let e : stop_numbered p n ≡ p.depot = rw t.0 refl in ap (λ (s : Stop). s.number) e ∙ (valid.depot.number ∙ sym t.1))
+    | inr t ↦ by (stop_at p n) refl t.0
+  ]
+    where
+      by : (o : Option Stop) → stop_at p n ≡ o → eqb n 0 ≡ false → (stop_numbered p n).number ≡ n
+      by None at apart = absurd (let h : IsSome {T = Stop} None = subst (λ (o : Option Stop). IsSome o) at live in let k : false ≡ true = h in cc)
+      by (Some s) at apart = rw (apart, at) (number_among n p.requests s at)
+
+  numbers_kept : (ns : List ℕ) → AllByRecursion (IsLive p) ns → route_of (course_of p ns) ≡ ns
+  numbers_kept [] live = refl
+  numbers_kept (n ∷ ns) live = ap (λ (m : ℕ). m ∷ route_of (course_of p ns)) (number_kept n live.0) ∙ ap (λ (l : List ℕ). n ∷ l) (numbers_kept ns live.1)
+
+  routes_kept : (routes : List (List ℕ)) → AllByRecursion (AreLiveOnce p) routes → plan_of (tables_of p routes) ≡ routes
+  routes_kept [] once = refl
+  routes_kept (r ∷ routes) once =
+      ap (λ (l : List ℕ). l ∷ plan_of (tables_of p routes)) (numbers_kept r (recursion_from_All (IsLive p) r (once.0.live))) ∙ ap (λ (l : List (List ℕ)). r ∷ l) (routes_kept routes once.1)
+
+  pub plan_kept : PassesAreLocal → PlansAreLocal → (pins routes : List (List ℕ)) → passes p pins routes ≡ true → plan_of (tables_of p routes) ≡ routes
+  plan_kept local plans pins routes good = routes_kept routes (recursion_from_All (AreLiveOnce p) routes ((plans p routes).0 ((parts local p pins routes good).plan)).0)
+
+-- ---- tables that take the place of others
+any_default : (xs : List Course) (i : ℕ) (d e : Course) → i < length xs → get_or xs i d ≡ get_or xs i e
+any_default [] i d e below = absurd (omega arith)
+any_default (x ∷ xs) zero d e below = refl
+any_default (x ∷ xs) (suc i) d e below = any_default xs i d e (omega arith)
+
+at_index : (routes : List (List ℕ)) (i : ℕ) → i < length routes → get_or routes i [] ≡ of_vehicle routes (i + 1)
+at_index routes i below =
+    let at : i + 1 - 1 ≡ i = omega arith in
+    ap (λ (k : ℕ). get_or routes k []) (sym at) ∙ get_or_from_slice_get routes (i + 1 - 1) (of_vehicle routes (i + 1)) [] (at_vehicle routes (i + 1) (omega arith) (omega arith))
+
+-- a vehicle's route, by its index
+pub vehicle_at : (routes : List (List ℕ)) (v : ℕ) (route : List ℕ) → 1 ≤ v → v ≤ length routes → route ≡ of_vehicle routes v → route ≡ get_or routes (v - 1) route
+vehicle_at routes v route low high is = is ∙ sym (get_or_from_slice_get routes (v - 1) (of_vehicle routes v) route (at_vehicle routes v low high))
+
+pub fleet_of : PassesAreLocal → (p : Instance) (pins routes : List (List ℕ)) → passes p pins routes ≡ true → length routes ≡ p.fleet
+fleet_of local p pins routes good = (parts local p pins routes good).fleet
+
+pub vehicles_within : (p : Instance) (routes : List (List ℕ)) (n : ℕ) (vehicles : List ℕ) → n ≡ p.fleet → AllByRecursion (λ v. (1 ≤ v) × (v ≤ p.fleet)) vehicles → AreWithin n (map (fresh_of p routes) vehicles)
+vehicles_within p routes n [] same each = tt
+vehicles_within p routes n (v ∷ vs) same each = ((each.0.0, (let h = each.0.1 in omega arith)), vehicles_within p routes n vs same each.1)
+
+replaced_long : (tables : List Course) (fresh : List (ℕ × Course)) → length (replaced tables fresh) ≡ length tables
+replaced_long tables [] = refl
+replaced_long tables (f ∷ rest) = replaced_long (set tables (f.0 - 1) f.1) rest ∙ length-set tables (f.0 - 1) f.1
+
+module _ (p : Instance) (routes : List (List ℕ)) where
+  -- each table is the route's, or stands at a vehicle that is still to come
+  abbrev IsDue : List ℕ → List Course → Type 0
+  IsDue vehicles tables = (i : ℕ) (d : Course) → i < length routes → (has vehicles (i + 1) ≡ true) ⊎ (get_or tables i d ≡ course_of p (get_or routes i []))
+
+  replaced_at : (vs : List ℕ) (tables : List Course) → length tables ≡ length routes → AllByRecursion (λ v. (1 ≤ v) × (v ≤ length routes)) vs → IsDue vs tables
+      → (i : ℕ) (d : Course) → i < length routes → get_or (replaced tables (map (fresh_of p routes) vs)) i d ≡ course_of p (get_or routes i [])
+  replaced_at [] tables long within due i d below = elim (due i d below) [
+    | inl none ↦ absurd (let h : false ≡ true = none in cc)
+    | inr done ↦ done
+  ]
+  replaced_at (v ∷ vs) tables long within due i d below =
+      replaced_at vs (set tables (v - 1) (course_of p (of_vehicle routes v))) (length-set tables (v - 1) (course_of p (of_vehicle routes v)) ∙ long) within.1 still i d below
+    where
+      still : IsDue vs (set tables (v - 1) (course_of p (of_vehicle routes v)))
+      still i d below = elim (eqb_tells (i + 1) v) [
+        | inl t ↦ (
+            let low = within.0.0 in
+            let high = within.0.1 in
+            let same = t.1 in
+            let at : i ≡ v - 1 = omega arith in
+            let route : get_or routes i [] ≡ of_vehicle routes v = ap (λ (k : ℕ). get_or routes k []) at ∙ get_or_from_slice_get routes (v - 1) (of_vehicle routes v) [] (at_vehicle routes v low high) in
+            inr (get_or-set_at tables (v - 1) i (course_of p (of_vehicle routes v)) d at (omega arith) ∙ ap (course_of p) (sym route)))
+        | inr t ↦ (
+            let low = within.0.0 in
+            let apart = t.1 in
+            elim (due i d below) [
+              | inl had ↦ inl (let h : has vs (i + 1) ≡ true = rw t.0 at had in h)
+              | inr done ↦ inr (get_or-set_other tables (v - 1) i (course_of p (of_vehicle routes v)) d (omega arith) ∙ done)
+            ])
+      ]
+
+  -- the new tables are those of the plan
+  pub refreshed : (vehicles : List ℕ) (tables : List Course) → AreTablesIn p tables → length routes ≡ p.fleet → AreVehicles p vehicles → DifferOnlyAt vehicles (plan_of tables) routes
+      → replaced tables (map (fresh_of p routes) vehicles) ≡ tables_of p routes
+  refreshed vehicles tables are fleet within differ = same_lists (replaced tables (map (fresh_of p routes) vehicles)) (tables_of p routes)
+      (let e = replaced_long tables (map (fresh_of p routes) vehicles) in let f = length-map routes (course_of p) in let g = long in omega arith)
+      (λ i d below. (
+      let e = replaced_long tables (map (fresh_of p routes) vehicles) in
+      let g = long in
+      replaced_at vehicles tables long in_range due i d (omega arith) ∙ there i d (omega arith)))
+    where
+      long : length tables ≡ length routes
+      long = let e = differ.long in let f = length-map tables route_of in omega arith
+
+      in_range : AllByRecursion (λ v. (1 ≤ v) × (v ≤ length routes)) vehicles
+      in_range = subst (λ (n : ℕ). AllByRecursion (λ v. (1 ≤ v) × (v ≤ n)) vehicles) (sym fleet) (recursion_from_All (λ v. (1 ≤ v) × (v ≤ p.fleet)) vehicles within)
+
+      there : (i : ℕ) (d : Course) → i < length routes → course_of p (get_or routes i []) ≡ get_or (tables_of p routes) i d
+      there i d below = sym (get_or-map (course_of p) routes i []) ∙ any_default (tables_of p routes) i (course_of p []) d (let f = length-map routes (course_of p) in omega arith)
+
+      due : IsDue vehicles tables
+      due i d below = by (has vehicles (i + 1)) refl
+        where
+          same : has vehicles (i + 1) ≡ false → get_or tables i d ≡ course_of p (get_or routes i [])
+          same none =
+              let old : of_vehicle (plan_of tables) (i + 1) ≡ of_vehicle routes (i + 1) = differ.others (i + 1) none in
+              let route : get_or routes i [] ≡ of_vehicle routes (i + 1) = at_index routes i below in
+              let other : get_or (plan_of tables) i [] ≡ of_vehicle (plan_of tables) (i + 1) = at_index (plan_of tables) i (let e = differ.long in omega arith) in
+              let listed : get_or (tables_of p (plan_of tables)) i (course_of p []) ≡ course_of p (get_or (plan_of tables) i []) = get_or-map (course_of p) (plan_of tables) i [] in
+              any_default tables i d (course_of p []) (let g = long in omega arith) ∙ (ap (λ (l : List Course). get_or l i (course_of p [])) (sym are) ∙ (listed ∙ ap (course_of p) (other ∙ (old ∙ sym route))))
+
+          by : (b : Bool) → has vehicles (i + 1) ≡ b → (has vehicles (i + 1) ≡ true) ⊎ (get_or tables i d ≡ course_of p (get_or routes i []))
+          by true had = inl had
+          by false none = inr (same none)

@@ -1,0 +1,40 @@
+use Rattle.std.proofs.Common.{rules, ◌≡◌, ◌≤◌, ℕ, List, [], map, length, true, sym, subst, arith, ap, ◌∙◌}
+use Rattle.std.proofs.Math.ListN.{length-map}
+use Rattle.std.proofs.lemmas.List.Elements.{recursion_from_All}
+use Rattle.plan_types.specs.Instance.{IsInstance}
+use Rattle.plan_audit.specs.Passes.{passes}
+use Rattle.slack_tables.specs.Course.{route_of}
+use Rattle.move_ops.specs.Tables.{plan_of, tables_of}
+use Rattle.move_ops.specs.Refreshing.{fresh_of, replaced, AreWithin}
+use Rattle.move_ops.proofs.Refreshing.{fleet_of, vehicles_within, refreshed, plan_kept}
+use Rattle.move_ops.proofs.tables.Tables.refresh.Goals as goal
+
+pub replace-requires : goal.replace-requires
+replace-requires c =
+    let p = c.args.problem.now in
+    let fleet = fleet_of c.passes_are_local.ensures p [] c.args.plan.now.routes c.requires.pass in
+    let e = c.requires.others.long in
+    let f = length-map c.args.self.now route_of in
+    let n : length c.args.self.now ≡ p.fleet = omega arith in
+    let made : c.in_ok-fresh.fresh.items ≡ map (fresh_of p c.args.plan.now.routes) c.args.vehicles.now = search rules in
+    subst (AreWithin (length c.args.self.now)) (sym made) (vehicles_within p c.args.plan.now.routes (length c.args.self.now) c.args.vehicles.now n (recursion_from_All (λ v. (1 ≤ v) × (v ≤ p.fleet)) c.args.vehicles.now c.requires.vehicles))
+
+pub returns-clause-tables : goal.returns-clause-tables
+returns-clause-tables c =
+    let p = c.args.problem.now in
+    let routes = c.args.plan.now.routes in
+    let fleet = fleet_of c.passes_are_local.ensures p [] routes c.requires.pass in
+    let made : c.in_ok-fresh.fresh.items ≡ map (fresh_of p routes) c.args.vehicles.now = search rules in
+    let new : c.replace.new.self ≡ replaced c.args.self.now c.in_ok-fresh.fresh.items = search rules in
+    new ∙ (ap (replaced c.args.self.now) made ∙ refreshed p routes c.args.vehicles.now c.args.self.now c.requires.tables fleet c.requires.vehicles c.requires.others)
+
+pub returns-clause-plan : goal.returns-clause-plan
+returns-clause-plan c =
+    let p = c.args.problem.now in
+    let routes = c.args.plan.now.routes in
+    let valid : IsInstance p = subst (λ q. IsInstance q) c.problem.view_is c.problem.invariant.valid in
+    let fleet = fleet_of c.passes_are_local.ensures p [] routes c.requires.pass in
+    let made : c.in_ok-fresh.fresh.items ≡ map (fresh_of p routes) c.args.vehicles.now = search rules in
+    let new : c.replace.new.self ≡ replaced c.args.self.now c.in_ok-fresh.fresh.items = search rules in
+    ap plan_of (new ∙ (ap (replaced c.args.self.now) made ∙ refreshed p routes c.args.vehicles.now c.args.self.now c.requires.tables fleet c.requires.vehicles c.requires.others))
+    ∙ plan_kept p valid c.passes_are_local.ensures c.plans_are_local.ensures [] routes c.requires.pass

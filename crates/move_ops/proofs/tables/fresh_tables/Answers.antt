@@ -1,0 +1,31 @@
+use Rattle.std.proofs.Common.{rules, ◌≡◌, ◌≤◌, ◌-◌, ◌<◌, ℕ, List, [], true, sym, subst, arith, get_or, ◌∙◌, ap, length}
+use Rattle.std.proofs.lemmas.List.Elements.{All-get_or}
+use Rattle.plan_types.specs.Instance.{IsInstance}
+use Rattle.move_ops.proofs.Asked.{route_once, route_keeps}
+use Rattle.move_ops.proofs.Refreshing.{vehicle_at, fleet_of}
+use Rattle.move_ops.proofs.tables.fresh_tables.Goals as goal
+
+pub build-requires-clause-route : goal.build-requires-clause-route
+build-requires-clause-route c =
+    let p = c.args.problem.now in
+    let v = c.from.result in
+    let here : v ≡ get_or c.args.vehicles.now c.loop-vehicle.vehicle-index 0 = search rules in
+    let within : (1 ≤ v) × (v ≤ p.fleet) = subst (λ (n : ℕ). (1 ≤ n) × (n ≤ p.fleet)) (sym here) (All-get_or (λ (n : ℕ). (1 ≤ n) × (n ≤ p.fleet)) c.args.vehicles.now c.loop-vehicle.vehicle-index 0 (omega arith) c.requires.vehicles) in
+    let low = within.0 in
+    let high = within.1 in
+    let fleet = fleet_of c.passes_are_local.ensures p [] c.args.routes.now c.requires.pass in
+    route_once c.passes_are_local.ensures c.plans_are_local.ensures c.tests_say_feasible.ensures p [] c.args.routes.now c.requires.pass (v - 1) c.of_vehicle-route.result.now
+    (vehicle_at c.args.routes.now v c.of_vehicle-route.result.now low (omega arith) c.of_vehicle-route.ensures) (omega arith)
+
+pub build-requires-clause-limits : goal.build-requires-clause-limits
+build-requires-clause-limits c =
+    let p = c.args.problem.now in
+    let valid : IsInstance p = subst (λ q. IsInstance q) c.problem.view_is c.problem.invariant.valid in
+    let v = c.from.result in
+    let here : v ≡ get_or c.args.vehicles.now c.loop-vehicle.vehicle-index 0 = search rules in
+    let within : (1 ≤ v) × (v ≤ p.fleet) = subst (λ (n : ℕ). (1 ≤ n) × (n ≤ p.fleet)) (sym here) (All-get_or (λ (n : ℕ). (1 ≤ n) × (n ≤ p.fleet)) c.args.vehicles.now c.loop-vehicle.vehicle-index 0 (omega arith) c.requires.vehicles) in
+    let low = within.0 in
+    let high = within.1 in
+    let fleet = fleet_of c.passes_are_local.ensures p [] c.args.routes.now c.requires.pass in
+    route_keeps c.passes_are_local.ensures c.plans_are_local.ensures c.tests_say_feasible.ensures p [] c.args.routes.now c.requires.pass (v - 1) c.of_vehicle-route.result.now
+    (vehicle_at c.args.routes.now v c.of_vehicle-route.result.now low (omega arith) c.of_vehicle-route.ensures) (omega arith) valid

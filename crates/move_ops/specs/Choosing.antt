@@ -1,0 +1,69 @@
+-- The best insertion so far, on the way over the vehicles.
+use Rattle.std.specs.Prelude.{◌≡◌, ℕ, ◌≤◌, ℤ, pos, ◌==◌, Bool, true, false, not, ◌&&◌, List, length, Option, Some, None, nat_eq, MatchOption, if◌then◌else◌}
+use Rattle.std.specs.List.{Contains}
+use Rattle.std.specs.Map.{lookup}
+use Rattle.std.specs.Option.{option_map, option_or}
+use Rattle.plan_types.specs.Instance.{Instance, IsInstance}
+use Rattle.plan_types.specs.Request.{request_name}
+use Rattle.plan_types.specs.declared.requests.Request.{Request}
+use Rattle.plan_types.specs.declared.requests.Kind.{Kind}
+use Rattle.plan_types.specs.declared.requests.Kind.TheVariants.{LiLim, Vrp}
+use Rattle.route_sched.specs.Cost.{is_planned}
+use Rattle.plan_audit.specs.Passes.{passes}
+use Rattle.slack_tables.specs.Best.{IsBestAddition}
+use Rattle.slack_tables.specs.Course.{Course}
+use Rattle.slack_tables.specs.Insertion.{inserted, IsAdded}
+use Rattle.slack_tables.specs.declared.scan.Addition.{Addition}
+use Rattle.move_ops.specs.Insertion.{Place, of_vehicle, insertions_of, is_no_worse}
+use Rattle.move_ops.specs.Tables.{plan_of, AreTablesIn}
+use Rattle.move_ops.specs.declared.tables.Found.{Found}
+
+-- a request put into this route uses one vehicle more, where vehicles count
+abbrev pub opens : Kind → List ℕ → Bool
+opens LiLim route = length route == 0
+opens Vrp route = false
+
+abbrev pub place_found : Found → Place
+place_found f = (f.vehicle, f.addition.pickup, f.addition.delivery)
+
+abbrev pub found_at : ℕ → Bool → Addition → Found
+found_at v o a = record { vehicle = v; opens = o; addition = a }
+
+-- the tables are of a plan that passes, and the request is live and unplanned
+pub record IsAsked (p : Instance) (pins : List (List ℕ)) (courses : List Course) (r : Request) : Type 0 where
+  pub valid : IsInstance p
+  pub tables : AreTablesIn p courses
+  pub good : passes p pins (plan_of courses) ≡ true
+  pub named : lookup (nat_eq (request_name r)) p.requests ≡ Some r
+  pub free : is_planned (plan_of courses) r ≡ false
+
+-- what was found is an insertion at one of the first k vehicles, and no worse than any other there
+pub record IsBestAmong (p : Instance) (pins routes : List (List ℕ)) (r : Request) (k : ℕ) (f : Found) : Type 0 where
+  pub among : Contains (insertions_of p pins routes r) (place_found f)
+  pub seen : f.vehicle ≤ k
+  pub opens : opens p.kind (of_vehicle routes f.vehicle) ≡ f.opens
+  pub added : IsAdded p (of_vehicle routes f.vehicle) (inserted r f.addition.pickup f.addition.delivery (of_vehicle routes f.vehicle)) (Some f.addition.distance)
+  pub least : (y : Place) → Contains (insertions_of p pins routes r) y → y.0 ≤ k → is_no_worse p routes r (place_found f) y ≡ true
+
+-- or nothing is found, where these vehicles have no insertion
+abbrev pub IsBestUpTo : Instance → List (List ℕ) → List (List ℕ) → Request → ℕ → Option Found → Type 0
+IsBestUpTo p pins routes r k answer = MatchOption answer ((y : Place) → Contains (insertions_of p pins routes r) y → y.0 ≤ k → ⊥) (IsBestAmong p pins routes r k)
+
+-- one of the first k vehicles has no stops
+abbrev pub HasIdle : List (List ℕ) → ℕ → Type 0
+HasIdle routes k = (u : ℕ) × (1 ≤ u) × (u ≤ k) × (u ≤ length routes) × (length (of_vehicle routes u) ≡ 0)
+
+-- what an insertion must add less than, where it opens a vehicle or not, to be better than the best so far; nothing where none is
+abbrev pub bound_of : Bool → Option Found → Option ℤ
+bound_of o None = Some (pos 9223372036854775807)
+bound_of o (Some f) = if f.opens && not o then Some (pos 9223372036854775807) else if o && not f.opens then None else Some f.addition.distance
+
+-- the best places below this bound, or what was found before
+abbrev pub IsBetterBelow : Instance → List ℕ → Request → ℕ → ℕ → Bool → Option Found → Option Found → Option ℤ → Type 0
+IsBetterBelow p route r kept v o best result None = result ≡ best
+IsBetterBelow p route r kept v o best result (Some below) =
+    (answer : Option Addition) × IsBestAddition p route r kept below answer × (result ≡ option_or (option_map (found_at v o) answer) best)
+
+-- a vehicle more is looked at
+abbrev pub IsBetter : Instance → List ℕ → Request → ℕ → ℕ → Option Found → Option Found → Type 0
+IsBetter p route r kept v best result = IsBetterBelow p route r kept v (opens p.kind route) best result (bound_of (opens p.kind route) best)

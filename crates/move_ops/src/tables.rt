@@ -1,0 +1,250 @@
+//! Where a request is put into a plan best, by a table for each vehicle.
+ghost use Rattle.std.specs.Prelude.{◌≡◌, ◌≤◌, true, false, [], map, Some, IfOk, IsSome, length};
+ghost use Rattle.std.specs.Option.{option_map};
+ghost use Rattle.plan_types.specs.Instance.{IsInstance};
+ghost use Rattle.plan_types.specs.Request.{request_name, IsRequest};
+ghost use Rattle.slack_tables.specs.Course.{route_of, IsCourseIn};
+ghost use Rattle.move_ops.specs.Insertion.{request_named, best_insertion};
+ghost use Rattle.plan_audit.specs.Passes.{passes};
+ghost use Rattle.move_ops.specs.Refreshing.{fresh_of};
+ghost use Rattle.move_ops.specs.Tables.{plan_of, AreVehicles};
+ghost use Rattle.move_ops.specs.Choosing.{opens, bound_of, place_found, IsAsked, IsBetter};
+
+use crate::laws::{best_insertions_are_least, best_insertions_are_unique};
+use crate::lists::of_vehicle;
+use plan_audit::{passes_are_local, plans_are_local, tests_say_feasible};
+use plan_types::{
+    Kind, OutOfMemory, Pins, Plan, Problem, Request, Route, costs_are_in_order,
+    costs_compare_part_by_part, requests_are_found_by_stop, requests_stand_by_name,
+};
+use slack_tables::{Addition, RouteTable};
+use std::alloc::Global;
+use std::marker::Model;
+
+/// The tables of a plan's routes, one for each vehicle.
+#[derive(Debug, Drop)]
+pub struct Tables {
+    tables: Vec<RouteTable>,
+}
+
+impl Model for Tables {
+    ghost use Rattle.std.specs.Prelude.{List};
+    ghost use Rattle.slack_tables.specs.Course.{Course};
+
+    ghost Value = { List Course };
+
+    ghost view = { λ t. t.tables.items };
+}
+
+// The best insertion so far, and whether it uses one vehicle more.
+#[derive(Clone, Copy, Debug)]
+struct Found {
+    vehicle: u64,
+    opens: bool,
+    addition: Addition,
+}
+
+impl Tables {
+    ghost use Rattle.std.specs.Prelude.{OnOk, OnErr};
+    ghost use Rattle.std.specs.Option.{IsSomeAnd};
+    ghost use Rattle.route_sched.specs.Cost.{is_planned};
+    ghost use Rattle.move_ops.specs.Refreshing.{replaced, AreWithin};
+    ghost use Rattle.move_ops.specs.Tables.{tables_of, AreTablesIn, DifferOnlyAt};
+
+    /// The tables of a plan that passes.
+    pub fn build(alloc: Global, problem: &Problem, plan: &Plan) -> Result<Tables, OutOfMemory>
+        requires { passes problem.now [] plan.now.routes ≡ true }
+        ensures tables { IfOk result (λ tables. tables ≡ tables_of problem.now plan.now.routes) }
+        ensures plan { IfOk result (λ tables. plan_of tables ≡ plan.now.routes) }
+    {
+        passes_are_local();
+        plans_are_local();
+        tests_say_feasible();
+        let mut tables = Vec::with_capacity(alloc, problem.fleet as usize)?;
+        for route in plan.routes.as_slice() {
+            tables.push(RouteTable::build(alloc, problem, route.as_slice())?)?;
+        }
+        Ok(Tables { tables })
+    }
+
+    /// The best insertion of a live and unplanned request into the plan of the tables, as `best_insertion` has it. Takes no memory.
+    pub fn best(&self, problem: &Problem, pins: &Pins, name: u32) -> Option<(u64, u64, u64)>
+        requires tables { AreTablesIn problem.now self.now }
+        requires pass { passes problem.now pins.now.routes (plan_of self.now) ≡ true }
+        requires free { IsSomeAnd (request_named problem.now name) (λ r. is_planned (plan_of self.now) r ≡ false) }
+        ensures { result ≡ best_insertion problem.now pins.now.routes (plan_of self.now) name }
+    {
+        let request = live_request(problem, name);
+        let tables = self.tables.as_slice();
+        match best_of(problem, pins.routes.as_slice(), tables, request) {
+            Some(found) => Some((
+                found.vehicle,
+                found.addition.pickup,
+                found.addition.delivery,
+            )),
+            None => None,
+        }
+    }
+
+    /// Builds the tables of these vehicles anew, for a plan whose other routes are those of the tables. Vehicles count from 1; the list
+    /// may be empty, or name one twice. All new tables are built before one takes the place of an old one, so that after a refusal the
+    /// old ones stand.
+    pub fn refresh(
+        &mut self,
+        problem: &Problem,
+        plan: &Plan,
+        vehicles: &[u32],
+    ) -> Result<(), OutOfMemory>
+        requires tables { AreTablesIn problem.now self.old }
+        requires pass { passes problem.now [] plan.now.routes ≡ true }
+        requires vehicles { AreVehicles problem.now vehicles.now }
+        requires others { DifferOnlyAt vehicles.now (plan_of self.old) plan.now.routes }
+        ensures tables { OnOk result (self.new ≡ tables_of problem.now plan.now.routes) }
+        ensures plan { OnOk result (plan_of self.new ≡ plan.now.routes) }
+        ensures err { OnErr result (self.new ≡ self.old) }
+    {
+        passes_are_local();
+        plans_are_local();
+        let _fleet = problem.fleet;
+        let alloc = *self.tables.allocator();
+        let fresh = fresh_tables(alloc, problem, plan.routes.as_slice(), vehicles)?;
+        self.replace(fresh);
+        Ok(())
+    }
+
+    // Lets each table take the place of its vehicle's.
+    fn replace(&mut self, fresh: Vec<(u32, RouteTable)>)
+        requires { AreWithin (length self.old) fresh.items }
+        ensures { self.new ≡ replaced self.old fresh.items }
+    {
+        for (vehicle, table) in fresh {
+            self.tables[(vehicle - 1) as usize] = table;
+        }
+    }
+}
+
+// The vehicles, each with the table of its route.
+fn fresh_tables(
+    alloc: Global,
+    problem: &Problem,
+    routes: &[Route],
+    vehicles: &[u32],
+) -> Result<Vec<(u32, RouteTable)>, OutOfMemory>
+    requires pass { passes problem.now [] routes.now ≡ true }
+    requires vehicles { AreVehicles problem.now vehicles.now }
+    ensures { IfOk result (λ fresh. fresh.items ≡ map (fresh_of problem.now routes.now) vehicles.now) }
+{
+    passes_are_local();
+    plans_are_local();
+    tests_say_feasible();
+    let _fleet = problem.fleet;
+    let mut fresh = Vec::with_capacity(alloc, vehicles.len())?;
+    for vehicle in vehicles {
+        let route = of_vehicle(routes, u64::from(*vehicle));
+        fresh.push((*vehicle, RouteTable::build(alloc, problem, route)?))?;
+    }
+    Ok(fresh)
+}
+
+// The request of a live name.
+fn live_request(problem: &Problem, name: u32) -> &Request
+    requires { IsSome (request_named problem.now name) }
+    ensures found { request_named problem.now name ≡ Some result.now }
+    ensures name { request_name result.now ≡ name }
+    ensures problem { IsInstance problem.now }
+{
+    problem.requests.get(&name).unwrap()
+}
+
+// The best insertion over all vehicles. Empty ones are alike, so the first of them stands for all.
+fn best_of(
+    problem: &Problem,
+    pins: &[Route],
+    tables: &[RouteTable],
+    request: &Request,
+) -> Option<Found>
+    requires { IsAsked problem.now pins.now tables.now request.now }
+    ensures { option_map place_found result ≡ best_insertion problem.now pins.now (plan_of tables.now) (request_name request.now) }
+{
+    best_insertions_are_least();
+    best_insertions_are_unique();
+    requests_are_found_by_stop();
+    requests_stand_by_name();
+    passes_are_local();
+    tests_say_feasible();
+    costs_compare_part_by_part();
+    costs_are_in_order();
+    let mut best = None;
+    let mut has_idle = false;
+    for k in 0..tables.len() {
+        let table = &tables[k];
+        let vehicle = k as u64 + 1;
+        if table.stop_count() == 0 {
+            if has_idle {
+                continue;
+            }
+            has_idle = true;
+        }
+        let kept = of_vehicle(pins, vehicle).len() as u64;
+        best = better_at(problem, request, table, kept, vehicle, best);
+    }
+    best
+}
+
+// The best insertion so far, or a better one at this vehicle.
+fn better_at(
+    problem: &Problem,
+    request: &Request,
+    table: &RouteTable,
+    kept: u64,
+    vehicle: u64,
+    best: Option<Found>,
+) -> Option<Found>
+    requires problem { IsInstance problem.now }
+    requires course { IsCourseIn problem.now table.now }
+    requires request { request_named problem.now (request_name request.now) ≡ Some request.now }
+    requires valid { IsRequest request.now }
+    requires kept { kept ≤ length table.now.stops }
+    ensures { IsBetter problem.now (route_of table.now) request.now kept vehicle best result }
+{
+    let opens = opens(problem.kind, table);
+    let Some(below) = bound(opens, &best) else {
+        return best;
+    };
+    match table.best_places(request, kept, below) {
+        Some(addition) => Some(Found {
+            vehicle,
+            opens,
+            addition,
+        }),
+        None => best,
+    }
+}
+
+// Whether a request put into this route uses one vehicle more.
+fn opens(kind: Kind, table: &RouteTable) -> bool
+    ensures { result ≡ opens kind (route_of table.now) }
+{
+    match kind {
+        Kind::LiLim => table.stop_count() == 0,
+        Kind::Vrp => false,
+    }
+}
+
+// What an insertion must add less than to be better than the best so far.
+fn bound(opens: bool, best: &Option<Found>) -> Option<i64>
+    ensures { result ≡ bound_of opens best.now }
+{
+    match best {
+        None => Some(i64::MAX),
+        Some(best) => {
+            if best.opens && !opens {
+                return Some(i64::MAX);
+            }
+            if opens && !best.opens {
+                return None;
+            }
+            Some(best.addition.distance)
+        }
+    }
+}

@@ -1,0 +1,20 @@
+use Rattle.std.proofs.Common.{rules, ◌≡◌, ◌++◌, ◌∷◌, [], ◌&&◌, not, Some, None, sym, ◌∙◌}
+use Rattle.std.specs.Option.{option_and_then}
+use Rattle.seeded_search.specs.Marks.{is_marked, names_where}
+use Rattle.seeded_search.proofs.NameLemmas.{name_pushed, name_passed}
+use Rattle.seeded_search.proofs.lists.marked_names.Goals as goal
+use Rattle.seeded_search.proofs.lists.marked_names.Goals.{in-Some+in_ok-push, in_default}
+
+pub loop-index-preserved : goal.loop-index-preserved
+loop-index-preserved c = elim c.match-marked_name.branch [
+  | in-Some+in_ok-push w ↦ (
+      let made : c.match-marked_name.names.items ≡ c.loop-index.names.items ++ w.in-Some.name ∷ [] = search rules in
+      let found : c.marked_name.result ≡ Some w.in-Some.name = search rules in
+      name_pushed (λ r. is_marked c.args.planned.now r && not (is_marked c.args.pinned.now r)) c.loop-index.names.items c.match-marked_name.names.items c.args.problem.now.requests c.loop-index.index w.in-Some.name
+      (names_where (λ r. is_marked c.args.planned.now r && not (is_marked c.args.pinned.now r)) c.args.problem.now.requests) c.loop-index.invariant (sym c.marked_name.ensures ∙ found) made)
+  | in_default w ↦ (
+      let made : c.match-marked_name.names.items ≡ c.loop-index.names.items = search rules in
+      let none : c.marked_name.result ≡ None = search rules in
+      name_passed (λ r. is_marked c.args.planned.now r && not (is_marked c.args.pinned.now r)) c.loop-index.names.items c.match-marked_name.names.items c.args.problem.now.requests c.loop-index.index
+      (names_where (λ r. is_marked c.args.planned.now r && not (is_marked c.args.pinned.now r)) c.args.problem.now.requests) c.loop-index.invariant (sym c.marked_name.ensures ∙ none) made)
+]

@@ -1,0 +1,13 @@
+use Rattle.std.proofs.Common.{rules, ◌≡◌, ℕ, ◌<◌, false, sym, subst, ◌∙◌}
+use Rattle.std.proofs.lemmas.Result.{IfOk-weaker}
+use Rattle.plan_types.specs.Instance.{IsInstance}
+use Rattle.seeded_search.proofs.NameLemmas.{AreMarks, movable_marked}
+use Rattle.seeded_search.proofs.lists.movable_names.Goals as goal
+
+pub returns : goal.returns
+returns c =
+    let p = c.args.problem.now in
+    let valid : IsInstance p = subst (λ q. IsInstance q) c.problem.view_is c.problem.invariant.valid in
+    let pinned : AreMarks c.args.pins.now p.next_number c.deref.result.now = search rules in
+    let planned : AreMarks c.args.routes.now p.next_number c.deref-2.result.now = search rules in
+    IfOk-weaker c.marked_names.result _ _ (λ names h. h ∙ movable_marked c.numbers_are_below_the_next.ensures.requests p valid c.args.pins.now c.args.routes.now c.deref.result.now c.deref-2.result.now pinned planned) c.marked_names.ensures

@@ -1,0 +1,111 @@
+-- What a scan finds among the places of a table is the best that the definitions allow.
+use Rattle.std.proofs.Common.{◌≡◌, ℕ, ◌+◌, ◌-◌, ℤ, List, [], ◌∷◌, get_or, length, Option, Some, None, refl, ap, arith, subst}
+use Rattle.std.proofs.lemmas.Int.{ints}
+use Rattle.plan_types.specs.Instance.{Instance, IsInstance}
+use Rattle.plan_types.specs.Laws.{NamedAreFound}
+use Rattle.plan_types.specs.declared.requests.Stop.{Stop}
+use Rattle.plan_types.specs.declared.requests.Request.TheVariants.{Single, Pair}
+use Rattle.nint_dist.specs.Distance.{distance}
+use Rattle.slack_tables.specs.Best.{IsFirstOf, Adds, IsBestAddition}
+use Rattle.slack_tables.specs.Along.{stop_on}
+use Rattle.slack_tables.specs.Course.{Course, route_of, IsCourseIn}
+use Rattle.slack_tables.specs.Driven.{with_between, with_pair}
+use Rattle.slack_tables.specs.Inside.{AreKnown}
+use Rattle.slack_tables.specs.Insertion.{request_named, inserted, ArePlaces, IsAdded}
+use Rattle.slack_tables.specs.Legs.{AreLinked}
+use Rattle.slack_tables.specs.Scan.{AddsSingle, AddsPair}
+use Rattle.slack_tables.specs.declared.progress.Place.{Place}
+use Rattle.slack_tables.specs.declared.scan.Addition.{Addition}
+use Rattle.slack_tables.proofs.AlongLemmas.{length-next}
+use Rattle.slack_tables.proofs.CourseLemmas.{long-on}
+use Rattle.slack_tables.proofs.InsertLemmas.{limits_of, single-added, pair-added}
+
+first-same : (C D : Addition → Type 0) → ((a : Addition) → C a → D a) → ((a : Addition) → D a → C a) → (o : Option Addition) → IsFirstOf C o → IsFirstOf D o
+first-same C D to from None never = λ a is. never a (from a is)
+first-same C D to from (Some b) first = (to b first.0, λ a is. first.1 a (from a is))
+
+-- a route gets longer by one number
+added-once : (p : Instance) (old new : List ℕ) (o : Option ℤ) (x : ℤ) → IsAdded p old new o → IsAdded p old new (Some x) → o ≡ Some x
+added-once p old new None x never is = absurd (never is.0)
+added-once p old new (Some y) x is it =
+    let one = is.1 in
+    let two = it.1 in
+    let same : y ≡ x = omega (arith, ints) in
+    ap (λ z. Some z) same
+
+module _ (p : Instance) (c : Course) (places : List Place) (table : AreKnown c places) (valid : IsInstance p) (is : IsCourseIn p c) (law : NamedAreFound) (name : ℕ) (kept : ℕ) (below : ℤ) (d : Place) where
+  long : length places ≡ length (route_of c) + 2
+  long = let places_long = table.long in omega (arith, long-on p (route_of c) c is)
+
+  pub single-best : (s : Stop) (o : Option Addition) → request_named p name ≡ Some (Single s) → IsFirstOf (AddsSingle (limits_of c) places s kept below d) o → IsBestAddition p (route_of c) (Single s) kept below o
+  single-best s o named first = first-same _ _ to from o first
+    where
+      answer : (i j : ℕ) → ArePlaces (Single s) (length (route_of c)) i j → IsAdded p (route_of c) (inserted (Single s) i j (route_of c)) (with_between (limits_of c) places (i - 1) (s ∷ []) i d)
+      answer i j are = single-added p c places table valid is law name i j s d _ named are refl
+
+      are-places : (a : Addition) → AddsSingle (limits_of c) places s kept below d a → ArePlaces (Single s) (length (route_of c)) a.pickup a.delivery
+      are-places a adds = let behind = adds.0.behind in let within = adds.0.within in let count = long in (omega arith, omega arith, adds.0.one)
+
+      to : (a : Addition) → AddsSingle (limits_of c) places s kept below d a → Adds p (route_of c) (Single s) kept below a
+      to a adds = record {
+        places = are-places a adds;
+        behind = adds.0.behind;
+        added = subst (λ o. IsAdded p (route_of c) (inserted (Single s) a.pickup a.delivery (route_of c)) o) adds.0.added (answer a.pickup a.delivery (are-places a adds));
+        cheaper = adds.1;
+      }
+
+      from : (a : Addition) → Adds p (route_of c) (Single s) kept below a → AddsSingle (limits_of c) places s kept below d a
+      from a adds =
+          let are = adds.places in
+          let most = are.1 in
+          let count = long in (
+            record {
+              behind = adds.behind;
+              within = omega arith;
+              one = are.2;
+              added = added-once p (route_of c) (inserted (Single s) a.pickup a.delivery (route_of c)) _ a.distance (answer a.pickup a.delivery are) adds.added;
+            },
+            adds.cheaper,
+          )
+
+  pub pair-best : (s t : Stop) (o : Option Addition) → request_named p name ≡ Some (Pair s t) → IsFirstOf (AddsPair (limits_of c) places s t kept below d) o → IsBestAddition p (route_of c) (Pair s t) kept below o
+  pair-best s t o named first = first-same _ _ to from o first
+    where
+      answer : (i j : ℕ) → ArePlaces (Pair s t) (length (route_of c)) i j → IsAdded p (route_of c) (inserted (Pair s t) i j (route_of c)) (with_pair (limits_of c) places s t i j d)
+      answer i j are = pair-added p c places table valid is law name i j s t d _ named are refl
+
+      are-places : (a : Addition) → AddsPair (limits_of c) places s t kept below d a → ArePlaces (Pair s t) (length (route_of c)) a.pickup a.delivery
+      are-places a adds = let behind = adds.0.behind in let within = adds.0.within in let count = long in (omega arith, adds.0.order, omega arith)
+
+      to : (a : Addition) → AddsPair (limits_of c) places s t kept below d a → Adds p (route_of c) (Pair s t) kept below a
+      to a adds = record {
+        places = are-places a adds;
+        behind = adds.0.behind;
+        added = subst (λ o. IsAdded p (route_of c) (inserted (Pair s t) a.pickup a.delivery (route_of c)) o) adds.0.added (answer a.pickup a.delivery (are-places a adds));
+        cheaper = adds.1;
+      }
+
+      from : (a : Addition) → Adds p (route_of c) (Pair s t) kept below a → AddsPair (limits_of c) places s t kept below d a
+      from a adds =
+          let are = adds.places in
+          let most = are.2 in
+          let count = long in (
+            record {
+              behind = adds.behind;
+              order = are.1;
+              within = omega arith;
+              added = added-once p (route_of c) (inserted (Pair s t) a.pickup a.delivery (route_of c)) _ a.distance (answer a.pickup a.delivery are) adds.added;
+            },
+            adds.cheaper,
+          )
+
+-- each place of a table tells how far the next one is
+pub linked : (c : Course) (places : List Place) → AreKnown c places → AreLinked places
+linked c places table = λ k d h.
+    let long = table.long in
+    let here = (table.known k d (omega arith)).at in
+    let next = (table.known (k + 1) d h).at in
+    let far = here.distance in
+    let further = next.distance in
+    let way : distance (get_or places k d).at.stop (get_or places (k + 1) d).at.stop ≡ distance (stop_on c k) (stop_on c (k + 1)) = rw (here.stop, next.stop) refl in
+    omega (arith, length-next (stop_on c) k)

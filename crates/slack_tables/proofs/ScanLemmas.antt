@@ -1,0 +1,147 @@
+-- The loops over the places of a table: one place after another.
+use Rattle.std.proofs.Common.{◌≡◌, ℕ, ◌+◌, ◌-◌, ◌<◌, ◌≤◌, ℤ, ◌≤ℤ◌, ◌<ℤ◌, int_lt, Bool, true, false, cond, T, w64, to_z, of_z, List, [], ◌∷◌, length, Option, Some, None, refl, sym, ◌∙◌, arith, subst}
+use mir.Val.{SFits}
+use Rattle.std.proofs.lemmas.Int.{ints, to_z-of_z}
+use Rattle.plan_types.specs.declared.requests.Stop.{Stop}
+use Rattle.slack_tables.specs.Best.{ComesFirst, IsFirstOf}
+use Rattle.slack_tables.specs.Driven.{with_between, with_pair}
+use Rattle.slack_tables.specs.Scan.{PutsSingle, AddsSingle, PutsPair, AddsPair, PutsDelivery, AddsDelivery, none_below, offered, accepted}
+use Rattle.slack_tables.specs.declared.progress.Limits.{Limits}
+use Rattle.slack_tables.specs.declared.progress.Place.{Place}
+use Rattle.slack_tables.specs.declared.scan.Addition.{Addition}
+use Rattle.slack_tables.specs.declared.scan.Best.{Best}
+use Rattle.slack_tables.proofs.FirstLemmas.{SoFar, first-pickup, first-delivery, none-yet, none-here, better-here, all-seen, rest-dear}
+
+abbrev pub by_pickup : Addition → ℕ
+by_pickup a = a.pickup
+
+abbrev pub by_delivery : Addition → ℕ
+by_delivery a = a.delivery
+
+same-sum : (o : Option ℤ) (a b : ℤ) → o ≡ Some a → o ≡ Some b → a ≡ b
+same-sum o a b p q = let e : Some a ≡ Some b = sym p ∙ q in cc
+
+pub never-sum : (o : Option ℤ) (a : ℤ) → o ≡ None → o ≡ Some a → ⊥
+never-sum o a p q = absurd (let e : None ≡ Some a = sym p ∙ q in cc)
+
+int_lt-true : (x y : ℤ) → int_lt x y ≡ true → x <ℤ y
+int_lt-true x y h = record { lt = subst T (sym h) tt }
+
+int_lt-false : (x y : ℤ) → int_lt x y ≡ false → x <ℤ y → ⊥
+int_lt-false x y h less = subst T h (less.lt)
+
+-- a bound that was passed on
+pub bits-below : (x y : ℤ) → SFits w64 x → to_z w64 (of_z w64 x) ≤ℤ y → x ≤ℤ y
+bits-below x y fits le = subst (λ z. z ≤ℤ y) (to_z-of_z w64 x fits) le
+
+-- ---- a single
+module _ (limits : Limits) (places : List Place) (s : Stop) (kept : ℕ) (d : Place) where
+  pub order : (a b : Addition) → PutsSingle limits places s kept d a → PutsSingle limits places s kept d b → a.distance ≤ℤ b.distance → a.pickup < b.pickup → ComesFirst a b
+  order a b _ _ le lt = first-pickup a b le lt
+
+  abbrev pub SinglesSoFar : ℤ → ℕ → Best → Type 0
+  SinglesSoFar below n best = SoFar (PutsSingle limits places s kept d) by_pickup order below n best.bound best.found
+
+  pub singles-begin : (below : ℤ) (best : Best) → best ≡ none_below below → SinglesSoFar below (kept + 1) best
+  singles-begin below best made = subst (SinglesSoFar below (kept + 1)) (sym made) (none-yet (PutsSingle limits places s kept d) by_pickup order below (kept + 1) (λ a is lt. let behind = is.behind in omega arith))
+
+  module _ (below : ℤ) (i : ℕ) (best : Best) (so : SinglesSoFar below i best) where
+    single-none : with_between limits places (i - 1) (s ∷ []) i d ≡ None → SinglesSoFar below (i + 1) best
+    single-none none = none-here (PutsSingle limits places s kept d) by_pickup order below best.bound i best.found so (λ a is here under. never-sum _ a.distance none (subst (λ k. with_between limits places (k - 1) (s ∷ []) k d ≡ Some a.distance) here is.added))
+
+    single-dear : (x : ℤ) → with_between limits places (i - 1) (s ∷ []) i d ≡ Some x → (x <ℤ best.bound → ⊥) → SinglesSoFar below (i + 1) best
+    single-dear x some dear = none-here (PutsSingle limits places s kept d) by_pickup order below best.bound i best.found so (λ a is here under. dear (subst (λ y. y <ℤ best.bound) (same-sum _ a.distance x (subst (λ k. with_between limits places (k - 1) (s ∷ []) k d ≡ Some a.distance) here is.added) some) under))
+
+    single-better : (x : ℤ) → kept < i → i < length places → with_between limits places (i - 1) (s ∷ []) i d ≡ Some x → x <ℤ best.bound → SinglesSoFar below (i + 1) (record { bound = x; found = Some (record { distance = x; pickup = i; delivery = i }) })
+    single-better x behind within some less =
+        better-here (PutsSingle limits places s kept d) by_pickup order below best.bound i best.found (record { distance = x; pickup = i; delivery = i }) so (record { behind = behind; within = within; one = refl; added = some }) refl less
+        (λ a is here under.
+        (let same = same-sum _ x a.distance some (subst (λ k. with_between limits places (k - 1) (s ∷ []) k d ≡ Some a.distance) here is.added) in
+        let one = is.one in
+        first-delivery (record { distance = x; pickup = i; delivery = i }) a (omega (arith, ints)) (sym here) (omega arith)))
+
+    pub single-more : (o : Option ℤ) (next : Best) → kept < i → i < length places → o ≡ with_between limits places (i - 1) (s ∷ []) i d → next ≡ offered best o i i → SinglesSoFar below (i + 1) next
+    single-more None next behind within is made = subst (SinglesSoFar below (i + 1)) (sym made) (single-none (sym is))
+    single-more (Some x) next behind within is made = subst (SinglesSoFar below (i + 1)) (sym made) (by (int_lt x best.bound) refl)
+      where
+        by : (b : Bool) → int_lt x best.bound ≡ b → SinglesSoFar below (i + 1) (cond b (record { bound = x; found = Some (record { distance = x; pickup = i; delivery = i }) }) best)
+        by true h = single-better x behind within (sym is) (int_lt-true x best.bound h)
+        by false h = single-dear x (sym is) (int_lt-false x best.bound h)
+
+  pub singles-end : (below : ℤ) (i : ℕ) (best : Best) → SinglesSoFar below i best → length places ≤ i → IsFirstOf (AddsSingle limits places s kept below d) best.found
+  singles-end below i best so end = all-seen (PutsSingle limits places s kept d) by_pickup order below best.bound i best.found so (λ a is. let within = is.within in omega arith)
+
+-- ---- the delivery of a pair
+module _ (limits : Limits) (places : List Place) (p q : Stop) (i : ℕ) (d : Place) where
+  pub order_here : (a b : Addition) → PutsDelivery limits places p q i d a → PutsDelivery limits places p q i d b → a.distance ≤ℤ b.distance → a.delivery < b.delivery → ComesFirst a b
+  order_here a b is it le lt = first-delivery a b le (is.here ∙ sym (it.here)) (omega arith)
+
+  abbrev pub DeliveriesSoFar : ℤ → ℕ → Best → Type 0
+  DeliveriesSoFar below n best = SoFar (PutsDelivery limits places p q i d) by_delivery order_here below n best.bound best.found
+
+  pub deliveries-begin : (below : ℤ) (best : Best) → best ≡ none_below below → DeliveriesSoFar below (i + 1) best
+  deliveries-begin below best made = subst (DeliveriesSoFar below (i + 1)) (sym made) (none-yet (PutsDelivery limits places p q i d) by_delivery order_here below (i + 1) (λ a is lt. let behind = is.order in omega arith))
+
+  module _ (below : ℤ) (j : ℕ) (best : Best) (so : DeliveriesSoFar below j best) where
+    delivery-none : with_pair limits places p q i j d ≡ None → DeliveriesSoFar below (j + 1) best
+    delivery-none none = none-here (PutsDelivery limits places p q i d) by_delivery order_here below best.bound j best.found so (λ a is here under. never-sum _ a.distance none (subst (λ k. with_pair limits places p q i k d ≡ Some a.distance) here is.added))
+
+    delivery-dear : (x : ℤ) → with_pair limits places p q i j d ≡ Some x → (x <ℤ best.bound → ⊥) → DeliveriesSoFar below (j + 1) best
+    delivery-dear x some dear = none-here (PutsDelivery limits places p q i d) by_delivery order_here below best.bound j best.found so (λ a is here under. dear (subst (λ y. y <ℤ best.bound) (same-sum _ a.distance x (subst (λ k. with_pair limits places p q i k d ≡ Some a.distance) here is.added) some) under))
+
+    delivery-better : (x : ℤ) → i < j → j ≤ length places → with_pair limits places p q i j d ≡ Some x → x <ℤ best.bound → DeliveriesSoFar below (j + 1) (record { bound = x; found = Some (record { distance = x; pickup = i; delivery = j }) })
+    delivery-better x order within some less =
+        better-here (PutsDelivery limits places p q i d) by_delivery order_here below best.bound j best.found (record { distance = x; pickup = i; delivery = j }) so (record { here = refl; order = order; within = within; added = some }) refl less
+        (λ a is here under.
+        (let same = same-sum _ x a.distance some (subst (λ k. with_pair limits places p q i k d ≡ Some a.distance) here is.added) in
+        first-delivery (record { distance = x; pickup = i; delivery = j }) a (omega (arith, ints)) (sym (is.here)) (omega arith)))
+
+    pub delivery-more : (o : Option ℤ) (next : Best) → i < j → j ≤ length places → o ≡ with_pair limits places p q i j d → next ≡ offered best o i j → DeliveriesSoFar below (j + 1) next
+    delivery-more None next order within is made = subst (DeliveriesSoFar below (j + 1)) (sym made) (delivery-none (sym is))
+    delivery-more (Some x) next order within is made = subst (DeliveriesSoFar below (j + 1)) (sym made) (by (int_lt x best.bound) refl)
+      where
+        by : (b : Bool) → int_lt x best.bound ≡ b → DeliveriesSoFar below (j + 1) (cond b (record { bound = x; found = Some (record { distance = x; pickup = i; delivery = j }) }) best)
+        by true h = delivery-better x order within (sym is) (int_lt-true x best.bound h)
+        by false h = delivery-dear x (sym is) (int_lt-false x best.bound h)
+
+  pub deliveries-end : (below : ℤ) (j : ℕ) (best : Best) → DeliveriesSoFar below j best → length places < j → IsFirstOf (AddsDelivery limits places p q i below d) best.found
+  deliveries-end below j best so end = all-seen (PutsDelivery limits places p q i d) by_delivery order_here below best.bound j best.found so (λ a is. let within = is.within in omega arith)
+
+  -- or where none of the rest adds less
+  pub deliveries-stop : (below : ℤ) (j : ℕ) (best : Best) → DeliveriesSoFar below j best → ((k : ℕ) (x : ℤ) → j ≤ k → k ≤ length places → with_pair limits places p q i k d ≡ Some x → best.bound ≤ℤ x) → IsFirstOf (AddsDelivery limits places p q i below d) best.found
+  deliveries-stop below j best so dear = rest-dear (PutsDelivery limits places p q i d) by_delivery order_here below best.bound j best.found so (λ a is behind less. let le = dear a.delivery a.distance behind is.within is.added in absurd (omega (arith, ints)))
+
+  -- or where all of them do not
+  pub deliveries-none : (below : ℤ) → ((k : ℕ) (x : ℤ) → i + 1 ≤ k → k ≤ length places → with_pair limits places p q i k d ≡ Some x → below ≤ℤ x) → IsFirstOf (AddsDelivery limits places p q i below d) None
+  deliveries-none below dear = λ a is. (let le = dear a.delivery a.distance (let order = is.0.order in omega arith) is.0.within is.0.added in let less = is.1 in absurd (omega (arith, ints)))
+
+-- ---- a pair
+module _ (limits : Limits) (places : List Place) (p q : Stop) (kept : ℕ) (d : Place) where
+  pub order_pair : (a b : Addition) → PutsPair limits places p q kept d a → PutsPair limits places p q kept d b → a.distance ≤ℤ b.distance → a.pickup < b.pickup → ComesFirst a b
+  order_pair a b _ _ le lt = first-pickup a b le lt
+
+  abbrev pub PairsSoFar : ℤ → ℕ → Best → Type 0
+  PairsSoFar below n best = SoFar (PutsPair limits places p q kept d) by_pickup order_pair below n best.bound best.found
+
+  pub pairs-begin : (below : ℤ) (best : Best) → best ≡ none_below below → PairsSoFar below (kept + 1) best
+  pairs-begin below best made = subst (PairsSoFar below (kept + 1)) (sym made) (none-yet (PutsPair limits places p q kept d) by_pickup order_pair below (kept + 1) (λ a is lt. let behind = is.behind in omega arith))
+
+  at-pickup : (a : Addition) (i : ℕ) → PutsPair limits places p q kept d a → a.pickup ≡ i → PutsDelivery limits places p q i d a
+  at-pickup a i is here = record { here = here; order = subst (λ k. k < a.delivery) here is.order; within = is.within; added = subst (λ k. with_pair limits places p q k a.delivery d ≡ Some a.distance) here is.added }
+
+  of-pickup : (a : Addition) (i : ℕ) → kept < i → PutsDelivery limits places p q i d a → PutsPair limits places p q kept d a
+  of-pickup a i behind is =
+      let here : i ≡ a.pickup = sym (is.here) in
+      record { behind = subst (λ k. kept < k) here behind; order = subst (λ k. k < a.delivery) here is.order; within = is.within; added = subst (λ k. with_pair limits places p q k a.delivery d ≡ Some a.distance) here is.added }
+
+  module _ (below : ℤ) (i : ℕ) (best : Best) (so : PairsSoFar below i best) where
+    pub pair-more : (o : Option Addition) (next : Best) → kept < i → IsFirstOf (AddsDelivery limits places p q i best.bound d) o → next ≡ accepted best o → PairsSoFar below (i + 1) next
+    pair-more None next behind never made =
+        subst (PairsSoFar below (i + 1)) (sym made)
+        (none-here (PutsPair limits places p q kept d) by_pickup order_pair below best.bound i best.found so (λ a is here under. never a (at-pickup a i is here, under)))
+    pair-more (Some found) next behind is made =
+        subst (PairsSoFar below (i + 1)) (sym made)
+        (better-here (PutsPair limits places p q kept d) by_pickup order_pair below best.bound i best.found found so (of-pickup found i behind is.0.0) (is.0.0.here) is.0.1 (λ a it here under. is.1 a (at-pickup a i it here, under)))
+
+  pub pairs-end : (below : ℤ) (i : ℕ) (best : Best) → PairsSoFar below i best → length places ≤ i → IsFirstOf (AddsPair limits places p q kept below d) best.found
+  pairs-end below i best so end = all-seen (PutsPair limits places p q kept d) by_pickup order_pair below best.bound i best.found so (λ a is. let within = is.within in let order = is.order in omega arith)

@@ -1,0 +1,34 @@
+use Rattle.std.proofs.Common.{◌∙◌, w64, refl, subst, sym, ap}
+use mir.Val.{SFits}
+use Rattle.std.proofs.lemmas.Int.{to_z-of_z}
+use Rattle.nint_dist.specs.Distance.{distance}
+use Rattle.slack_tables.specs.Best.{IsFirstOf}
+use Rattle.slack_tables.specs.Scan.{AddsDelivery}
+use Rattle.slack_tables.specs.declared.progress.Place.{Place}
+use Rattle.slack_tables.proofs.DetourLemmas.{all-dear}
+use Rattle.slack_tables.proofs.ScanLemmas.{deliveries-none, never-sum, bits-below}
+use Rattle.slack_tables.proofs.WalkLemmas.{underway-begin, near-begin, not-begun}
+use Rattle.slack_tables.proofs.scan.best_at.Goals as goal
+
+pub best_delivery-requires-clause-underway : goal.best_delivery-requires-clause-underway
+best_delivery-requires-clause-underway c = λ d. underway-begin c.args.trip.now.limits c.args.places.now c.args.trip.now.pickup c.args.trip.now.delivery c.args.i d c.args.trip.now c.small_place-before.result.now c.leg_at-to.result c.leg_at-onward.result refl refl (c.small_place-before.ensures.place d) (c.leg_at-to.ensures.value d ∙ ap (λ (e : Place). distance e.at.stop c.args.trip.now.pickup) (sym (c.small_place-before.ensures.place d))) c.in-Some.first refl c.requires.trip.across (c.leg_at-onward.ensures.value d) (sym c.in-Some.is ∙ c.pick_up.ensures.value)
+
+pub best_delivery-requires-clause-near : goal.best_delivery-requires-clause-near
+best_delivery-requires-clause-near c = λ d. near-begin c.args.trip.now.limits c.args.places.now c.args.trip.now.pickup c.args.trip.now.delivery c.args.i d c.in-Some.first c.in-Some.ensures.near
+
+pub returns-then-is_dear : goal.returns-then-is_dear
+returns-then-is_dear c = λ d.
+    (let below : SFits w64 c.args.below = record { sfits = c.ranges.below.sfits } in
+    let near = bits-below c.args.below _ below (c.is_dear.ensures.near c.if-is_dear.true) in
+    let apart = bits-below c.args.below _ below (c.is_dear.ensures.apart c.if-is_dear.true) in
+    deliveries-none c.args.trip.now.limits c.args.places.now c.args.trip.now.pickup c.args.trip.now.delivery c.args.i d c.args.below (all-dear c.args.trip.now.limits c.args.places.now c.args.trip.now.pickup c.args.trip.now.delivery c.args.i d c.requires.ways c.args.least.now c.requires.least c.args.below c.small_place-before.result.now c.small_place-next.result.now c.leg_at-to.result c.args.trip.now.across c.leg_at-from.result c.leg_at-onward.result (c.is_dear.ensures.within c.if-is_dear.true) (c.small_place-before.ensures.place d) (c.small_place-next.ensures.place d) (c.leg_at-to.ensures.value d) c.requires.trip.across (c.leg_at-from.ensures.value d) (c.leg_at-onward.ensures.value d) near apart))
+
+pub returns-in_default : goal.returns-in_default
+returns-in_default c = λ d. deliveries-none c.args.trip.now.limits c.args.places.now c.args.trip.now.pickup c.args.trip.now.delivery c.args.i d c.args.below (λ j x behind last some.
+    (let never = not-begun c.args.trip.now.limits c.args.places.now c.args.trip.now.pickup c.args.trip.now.delivery c.args.i d c.args.trip.now c.small_place-before.result.now c.leg_at-to.result c.leg_at-onward.result refl refl (c.small_place-before.ensures.place d) (c.leg_at-to.ensures.value d ∙ ap (λ (e : Place). distance e.at.stop c.args.trip.now.pickup) (sym (c.small_place-before.ensures.place d))) (sym c.in_default.is ∙ c.pick_up.ensures.value) j behind last in
+    absurd (never-sum _ x never some)))
+
+pub returns : goal.returns
+returns c = λ d.
+    (let below : SFits w64 c.args.below = record { sfits = c.ranges.below.sfits } in
+    subst (λ x. IsFirstOf (AddsDelivery c.args.trip.now.limits c.args.places.now c.args.trip.now.pickup c.args.trip.now.delivery c.args.i x d) c.best_delivery.result) (to_z-of_z w64 c.args.below below) (c.best_delivery.ensures d))

@@ -1,0 +1,14 @@
+use Rattle.std.proofs.Common.{◌<◌, ◌≤◌, length}
+use Rattle.slack_tables.specs.declared.progress.Place.{Place}
+use Rattle.slack_tables.proofs.ScanLemmas.{DeliveriesSoFar}
+use Rattle.slack_tables.specs.Walk.{IsUnderway, IsNearWay}
+use Rattle.slack_tables.proofs.scan.best_delivery.Given as goal
+
+abbrev pub invariant-loop-j : goal.invariant-loop-j
+invariant-loop-j l = record {
+  order : l.fn.i < l.j;
+  within : l.j ≤ length l.places;
+  best : (d : Place) → DeliveriesSoFar l.trip.limits l.places l.trip.pickup l.trip.delivery l.i d l.fn.below l.j l.best;
+  underway : (d : Place) → IsUnderway l.trip.limits l.places l.trip.pickup l.trip.delivery l.i l.j d l.on;
+  near : (d : Place) → IsNearWay l.places l.j d l.on;
+}

@@ -1,0 +1,22 @@
+-- The ways between the places of a table and a stop.
+use Rattle.std.specs.Prelude.{◌≡◌, ℕ, ◌+◌, ◌^◌, ◌<◌, ◌≤◌, ℤ, pos, ◌-ℤ◌, ◌≤ℤ◌, unsigned_abs, List, length, slice_index_or}
+use Rattle.plan_types.specs.declared.requests.Stop.{Stop}
+use Rattle.nint_dist.specs.Distance.{distance}
+use Rattle.slack_tables.specs.declared.progress.Place.{Place}
+
+-- each place tells how far the next one is
+abbrev pub AreLinked : List Place → Type 0
+AreLinked places = (k : ℕ) (d : Place) → k + 1 < length places → (slice_index_or places (k + 1) d).at.distance ≡ (slice_index_or places k d).at.distance + distance (slice_index_or places k d).at.stop (slice_index_or places (k + 1) d).at.stop
+
+-- the ways between the places, as far as they are listed, and the stop
+abbrev pub AreLegs : List ℕ → List Place → Stop → Type 0
+AreLegs legs places s = (k : ℕ) (d : Place) → k < length legs → k < length places → slice_index_or legs k 0 ≡ distance (slice_index_or places k d).at.stop s
+
+-- by how much the way from place m to the next gets longer over the stop
+abbrev pub detour_of : List Place → Stop → ℕ → Place → ℤ
+detour_of places s m d = pos ((slice_index_or places m d).at.distance + distance (slice_index_or places m d).at.stop s + distance (slice_index_or places (m + 1) d).at.stop s) -ℤ pos (slice_index_or places (m + 1) d).at.distance
+
+-- no detour from place k on is less
+pub record AreLeast (least : List ℤ) (places : List Place) (s : Stop) : Type 0 where
+  pub lower : (k m : ℕ) (d : Place) → k < length least → k ≤ m → m + 1 < length places → slice_index_or least k (pos 0) ≤ℤ detour_of places s m d
+  pub small : (k : ℕ) → k < length least → unsigned_abs (slice_index_or least k (pos 0)) ≤ 2 ^ 60

@@ -1,0 +1,79 @@
+-- What a scan over the places of a table looks for.
+use Rattle.std.specs.Prelude.{◌^◌, nat_lt, slice_index_or, ◌≡◌, ℕ, ◌-◌, ◌<◌, ◌≤◌, ℤ, ◌<ℤ◌, List, [], ◌∷◌, length, Option, Some, None, int_lt, if◌then◌else◌}
+use Rattle.std.specs.Option.{option_map}
+use Rattle.plan_types.specs.declared.requests.Stop.{Stop}
+use Rattle.slack_tables.specs.Driven.{with_between, with_pair}
+use Rattle.slack_tables.specs.Ride.{ride_of, ridden, IsSmallRide}
+use Rattle.slack_tables.specs.declared.progress.Limits.{Limits}
+use Rattle.slack_tables.specs.declared.progress.Progress.{Progress}
+use Rattle.slack_tables.specs.declared.progress.Place.{Place}
+use Rattle.slack_tables.specs.declared.scan.Addition.{Addition}
+use Rattle.slack_tables.specs.declared.scan.Best.{Best}
+use Rattle.slack_tables.specs.declared.scan.Trip.{Trip}
+use Rattle.slack_tables.specs.declared.scan.Underway.{Underway}
+
+-- a single put in at this place
+pub record PutsSingle (limits : Limits) (places : List Place) (s : Stop) (kept : ℕ) (d : Place) (a : Addition) : Type 0 where
+  pub behind : kept < a.pickup
+  pub within : a.pickup < length places
+  pub one : a.delivery ≡ a.pickup
+  pub added : with_between limits places (a.pickup - 1) (s ∷ []) a.pickup d ≡ Some a.distance
+
+-- and it adds less than the bound
+abbrev pub Under : (Addition → Type 0) → ℤ → Addition → Type 0
+Under Is below a = Is a × (a.distance <ℤ below)
+
+abbrev pub AddsSingle : Limits → List Place → Stop → ℕ → ℤ → Place → Addition → Type 0
+AddsSingle limits places s kept below d a = Under (PutsSingle limits places s kept d) below a
+
+-- a pair put in at these places
+pub record PutsPair (limits : Limits) (places : List Place) (p q : Stop) (kept : ℕ) (d : Place) (a : Addition) : Type 0 where
+  pub behind : kept < a.pickup
+  pub order : a.pickup < a.delivery
+  pub within : a.delivery ≤ length places
+  pub added : with_pair limits places p q a.pickup a.delivery d ≡ Some a.distance
+
+abbrev pub AddsPair : Limits → List Place → Stop → Stop → ℕ → ℤ → Place → Addition → Type 0
+AddsPair limits places p q kept below d a = Under (PutsPair limits places p q kept d) below a
+
+-- the same of one place of the pickup
+pub record PutsDelivery (limits : Limits) (places : List Place) (p q : Stop) (i : ℕ) (d : Place) (a : Addition) : Type 0 where
+  pub here : a.pickup ≡ i
+  pub order : i < a.delivery
+  pub within : a.delivery ≤ length places
+  pub added : with_pair limits places p q i a.delivery d ≡ Some a.distance
+
+abbrev pub AddsDelivery : Limits → List Place → Stop → Stop → ℕ → ℤ → Place → Addition → Type 0
+AddsDelivery limits places p q i below d a = Under (PutsDelivery limits places p q i d) below a
+
+-- nothing found yet
+abbrev pub none_below : ℤ → Best
+none_below bound = record { bound = bound; found = None }
+
+-- the distance added at two places, where it is less than all before
+abbrev pub offered : Best → Option ℤ → ℕ → ℕ → Best
+offered best None i j = best
+offered best (Some x) i j = if int_lt x best.bound then record { bound = x; found = Some (record { distance = x; pickup = i; delivery = j }) } else best
+
+-- what was found below the bound
+abbrev pub accepted : Best → Option Addition → Best
+accepted best None = best
+accepted best (Some a) = record { bound = a.distance; found = Some a }
+
+-- at the pickup, if it keeps the limits
+abbrev pub picked_up : Trip → Progress → ℕ → ℕ → Option Underway
+picked_up t before to onward =
+    option_map (λ r. record { ride = r; service = t.pickup.service; to_delivery = t.across; onward = onward })
+    (ridden t.limits (ride_of before) before.stop.service to t.pickup)
+
+pub record IsNearUnderway (on : Underway) : Type 0 where
+  pub ride : IsSmallRide (2 ^ 51) on.ride
+  pub to_delivery : on.to_delivery ≤ 2 ^ 32
+  pub onward : on.onward ≤ 2 ^ 32
+
+-- at the next place of the table, if it keeps the limits and is not the last
+abbrev pub gone_on : Limits → Underway → List Place → ℕ → ℕ → Place → Option Underway
+gone_on limits on places j to d =
+    if nat_lt j (length places)
+    then option_map (λ r. record { ride = r; service = (slice_index_or places (j - 1) d).at.stop.service; to_delivery = to; onward = (slice_index_or places j d).at.distance - (slice_index_or places (j - 1) d).at.distance }) (ridden limits on.ride on.service on.onward (slice_index_or places (j - 1) d).at.stop)
+    else None

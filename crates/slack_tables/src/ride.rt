@@ -1,0 +1,153 @@
+//! How a vehicle goes on along places whose ways are known, so that no distance is computed.
+
+ghost use Rattle.std.specs.Prelude.{◌≡◌, ◌≤◌, ◌+◌, ◌^◌, unsigned_abs, IfSome};
+ghost use Rattle.slack_tables.specs.Driven.{IsSmallPlace};
+ghost use Rattle.slack_tables.specs.Ride.{ride_of, driven, is_kept, ridden, is_borne, goes_on, is_served, price, served_below, IsSmallRide, IsNearRide};
+
+use crate::progress::{Limits, Place, Progress, difference, is_in_time, load_behind, moved_load};
+use plan_types::Stop;
+
+/// When and with what a vehicle is somewhere, and how far it has come.
+#[derive(Clone, Copy, Debug, PartialEq, Eq)]
+pub(crate) struct Ride {
+    pub start: u64,
+    pub load: i64,
+    pub distance: u64,
+}
+
+pub(crate) fn ride_of(at: &Progress) -> Ride
+    ensures { result ≡ ride_of at.now }
+{
+    Ride {
+        start: at.start,
+        load: at.load,
+        distance: at.distance,
+    }
+}
+
+/// After the service and the way to another stop: who arrives early waits.
+pub(crate) fn drive(from: &Ride, service: u32, leg: u64, to: &Stop) -> Ride
+    requires from { IsSmallRide (2 ^ 58) from.now }
+    requires leg { leg ≤ 2 ^ 58 }
+    ensures value { result ≡ driven from.now service leg to.now }
+    ensures start { result.start ≤ from.now.start + service + leg + 2 ^ 32 }
+    ensures load { unsigned_abs result.load ≤ unsigned_abs from.now.load + 2 ^ 31 }
+{
+    let arrival = from.start + u64::from(service) + leg;
+    Ride {
+        start: arrival.max(u64::from(to.earliest)),
+        load: load_behind(from.load, to.demand),
+        distance: from.distance + leg,
+    }
+}
+
+/// Whether the load and the start keep their limits at this stop.
+fn is_kept(limits: Limits, ride: &Ride, stop: &Stop) -> bool
+    ensures { result ≡ is_kept limits ride.now stop.now }
+{
+    ride.load <= i64::from(limits.capacity)
+        && is_in_time(limits.kind, ride.start, u64::from(stop.latest))
+}
+
+/// The stop behind, if it keeps the limits.
+pub(crate) fn ride_on(
+    limits: Limits,
+    from: &Ride,
+    service: u32,
+    leg: u64,
+    to: &Stop,
+) -> Option<Ride>
+    requires from { IsSmallRide (2 ^ 58) from.now }
+    requires leg { leg ≤ 2 ^ 58 }
+    ensures value { result ≡ ridden limits from.now service leg to.now }
+    ensures near { IfSome result (λ ride. IsNearRide from.now leg ride) }
+{
+    let ride = drive(from, service, leg, to);
+    if is_kept(limits, &ride, to) {
+        Some(ride)
+    } else {
+        None
+    }
+}
+
+/// Whether all behind this place of another route keeps the limits, where the vehicle comes to it so.
+fn is_borne(limits: Limits, ride: &Ride, tail: &Place) -> bool
+    requires ride { IsSmallRide (2 ^ 60) ride.now }
+    requires tail { IsSmallPlace tail.now }
+    ensures { result ≡ is_borne limits ride.now tail.now }
+{
+    moved_load(tail.most_load, tail.at.load, ride.load) <= i64::from(limits.capacity)
+        && is_in_time(limits.kind, ride.start, tail.latest_start)
+}
+
+/// Whether the place and all behind it keep the limits.
+fn goes_on(limits: Limits, from: &Ride, service: u32, leg: u64, tail: &Place) -> bool
+    requires from { IsSmallRide (2 ^ 58) from.now }
+    requires leg { leg ≤ 2 ^ 58 }
+    requires tail { IsSmallPlace tail.now }
+    ensures { result ≡ goes_on limits from.now service leg tail.now }
+{
+    let ride = drive(from, service, leg, &tail.at.stop);
+    is_kept(limits, &ride, &tail.at.stop) && is_borne(limits, &ride, tail)
+}
+
+/// The way to a stop between two places, and from it.
+#[derive(Clone, Copy, Debug, PartialEq, Eq)]
+pub(crate) struct Detour {
+    pub to: u64,
+    pub from: u64,
+}
+
+/// Whether the stop keeps the limits, and then the place and all behind it.
+fn is_served(
+    limits: Limits,
+    at: &Ride,
+    service: u32,
+    detour: Detour,
+    stop: &Stop,
+    tail: &Place,
+) -> bool
+    requires at { IsSmallRide (2 ^ 56) at.now }
+    requires to { detour.to ≤ 2 ^ 56 }
+    requires from { detour.from ≤ 2 ^ 56 }
+    requires tail { IsSmallPlace tail.now }
+    ensures { result ≡ is_served limits at.now service detour.to stop.now detour.from tail.now }
+{
+    let ride = drive(at, service, detour.to, stop);
+    is_kept(limits, &ride, stop) && goes_on(limits, &ride, stop.service, detour.from, tail)
+}
+
+/// The distance that a stop before a place adds, where it is less than `below` and all limits are
+/// kept. The price is compared first, since it costs less to know.
+pub(crate) fn serve_below(
+    below: i64,
+    limits: Limits,
+    at: &Ride,
+    service: u32,
+    detour: Detour,
+    stop: &Stop,
+    tail: &Place,
+) -> Option<i64>
+    requires at { IsSmallRide (2 ^ 56) at.now }
+    requires to { detour.to ≤ 2 ^ 56 }
+    requires from { detour.from ≤ 2 ^ 56 }
+    requires tail { IsSmallPlace tail.now }
+    ensures { result ≡ served_below below limits at.now service detour.to stop.now detour.from tail.now }
+{
+    let price = price(at, detour, tail);
+    if price < below && is_served(limits, at, service, detour, stop, tail) {
+        Some(price)
+    } else {
+        None
+    }
+}
+
+fn price(at: &Ride, detour: Detour, tail: &Place) -> i64
+    requires at { at.now.distance ≤ 2 ^ 58 }
+    requires to { detour.to ≤ 2 ^ 58 }
+    requires from { detour.from ≤ 2 ^ 58 }
+    requires tail { tail.now.at.distance ≤ 2 ^ 60 }
+    ensures { result ≡ price at.now detour.to detour.from tail.now }
+{
+    difference(at.distance + detour.to + detour.from, tail.at.distance)
+}

@@ -1,0 +1,359 @@
+//! The places of a route at which a request adds the least distance.
+
+ghost use Rattle.std.specs.Prelude.{◌≡◌, ◌+◌, ◌^◌, ◌≤◌, ◌<◌, ℕ, pos, ◌+ℤ◌, ◌-ℤ◌, ◌≤ℤ◌, All, IfSome, IsTrue, length, slice_index_or, unsigned_abs};
+ghost use Rattle.plan_types.specs.Limits.{IsVisit};
+ghost use Rattle.slack_tables.specs.declared.progress.Place.{Place};
+ghost use Rattle.slack_tables.specs.Best.{IsFirstOf};
+ghost use Rattle.slack_tables.specs.Driven.{IsSmall, IsSmallPlace};
+ghost use Rattle.slack_tables.specs.Legs.{AreLegs, AreLeast, AreLinked};
+ghost use Rattle.slack_tables.specs.Walk.{IsTrip, IsUnderway, IsNearWay};
+ghost use Rattle.slack_tables.specs.Ride.{IsSmallRide, IsNearRide};
+ghost use Rattle.slack_tables.specs.Scan.{AddsSingle, AddsPair, AddsDelivery, IsNearUnderway, picked_up, gone_on, none_below, offered, accepted};
+
+use crate::legs::{ROOM, fill_least, fill_legs, is_hopeless, leg_at, small_place};
+use crate::progress::{Limits, Place, Progress, difference};
+use crate::ride::{Detour, Ride, ride_of, ride_on, serve_below};
+use nint_dist::dist;
+use plan_types::Stop;
+
+/// Where a request is put into a route, and by how much the route gets longer.
+///
+/// In the new route the pickup stands at place `pickup` and the delivery at place `delivery`, which
+/// is the same of a single. Places count from 1.
+#[derive(Clone, Copy, Debug, PartialEq, Eq)]
+pub struct Addition {
+    pub distance: i64,
+    pub pickup: u64,
+    pub delivery: u64,
+}
+
+/// The first of the additions seen so far, and the distance that the next one has to be below.
+#[derive(Clone, Copy, Debug, PartialEq, Eq)]
+struct Best {
+    bound: i64,
+    found: Option<Addition>,
+}
+
+impl Best {
+    fn none_below(bound: i64) -> Best
+        ensures { result ≡ none_below bound }
+    {
+        Best { bound, found: None }
+    }
+
+    /// Takes the distance added at two places where it is less than all before.
+    fn offer(&mut self, distance: Option<i64>, pickup: usize, delivery: usize)
+        ensures { self.new ≡ offered self.old distance pickup delivery }
+    {
+        match distance {
+            Some(distance) if distance < self.bound => {
+                self.bound = distance;
+                self.found = Some(Addition {
+                    distance,
+                    pickup: pickup as u64,
+                    delivery: delivery as u64,
+                });
+            }
+            _ => {}
+        }
+    }
+
+    /// Takes what was found below the bound.
+    fn accept(&mut self, found: Option<Addition>)
+        ensures { self.new ≡ accepted self.old found }
+    {
+        if let Some(addition) = found {
+            self.bound = addition.distance;
+            self.found = found;
+        }
+    }
+}
+
+/// The best place of a single behind the first `kept` stops.
+pub(crate) fn best_single(
+    limits: Limits,
+    places: &[Place],
+    stop: &Stop,
+    kept: usize,
+    below: i64,
+) -> Option<Addition>
+    requires places { All IsSmallPlace places.now }
+    requires stop { IsVisit stop.now }
+    requires kept { kept + 2 ≤ length places.now }
+    ensures { (d : Place) → IsFirstOf (AddsSingle limits places.now stop.now kept below d) result }
+{
+    let mut best = Best::none_below(below);
+    let first = small_place(places, kept);
+    let mut to = u64::from(dist(&first.at.stop, stop));
+    for i in kept + 1..places.len() {
+        let before = small_place(places, i - 1);
+        let tail = small_place(places, i);
+        let from = u64::from(dist(&tail.at.stop, stop));
+        let detour = Detour { to, from };
+        let ride = ride_of(&before.at);
+        let bound = best.bound;
+        let service = before.at.stop.service;
+        let distance = serve_below(bound, limits, &ride, service, detour, stop, tail);
+        best.offer(distance, i, i);
+        to = from;
+    }
+    best.found
+}
+
+/// The best places of a pair, its pickup behind the first `kept` stops.
+pub(crate) fn best_pair(
+    limits: Limits,
+    places: &[Place],
+    pickup: &Stop,
+    delivery: &Stop,
+    kept: usize,
+    below: i64,
+) -> Option<Addition>
+    requires places { All IsSmallPlace places.now }
+    requires ways { AreLinked places.now }
+    requires few { length places.now ≤ 40003 }
+    requires pickup { IsVisit pickup.now }
+    requires delivery { IsVisit delivery.now }
+    requires kept { kept + 2 ≤ length places.now }
+    ensures { (d : Place) → IsFirstOf (AddsPair limits places.now pickup.now delivery.now kept below d) result }
+{
+    let trip = Trip {
+        limits,
+        pickup: *pickup,
+        delivery: *delivery,
+        across: u64::from(dist(pickup, delivery)),
+    };
+    if places.len() > ROOM {
+        return best_pickup(&trip, places, &[], &[], &[], kept, below);
+    }
+    let mut pickup_legs = [0; ROOM];
+    let mut delivery_legs = [0; ROOM];
+    let mut least = [0; ROOM];
+    fill_legs(&mut pickup_legs[..places.len()], places, pickup);
+    fill_legs(&mut delivery_legs[..places.len()], places, delivery);
+    fill_least(
+        &mut least[..places.len()],
+        places,
+        &delivery_legs[..places.len()],
+        delivery,
+    );
+    best_pickup(
+        &trip,
+        places,
+        &pickup_legs[..places.len()],
+        &delivery_legs[..places.len()],
+        &least[..places.len()],
+        kept,
+        below,
+    )
+}
+
+/// A pair, the way from its pickup to its delivery, and what a vehicle must keep.
+#[derive(Clone, Copy, Debug, PartialEq, Eq)]
+struct Trip {
+    limits: Limits,
+    pickup: Stop,
+    delivery: Stop,
+    across: u64,
+}
+
+/// The best places of a pair, its pickup behind the first `kept` stops.
+fn best_pickup(
+    trip: &Trip,
+    places: &[Place],
+    pickup_legs: &[u32],
+    delivery_legs: &[u32],
+    least: &[i64],
+    kept: usize,
+    below: i64,
+) -> Option<Addition>
+    requires trip { IsTrip trip.now }
+    requires places { All IsSmallPlace places.now }
+    requires ways { AreLinked places.now }
+    requires few { length places.now ≤ 40003 }
+    requires pickup_legs { AreLegs pickup_legs.now places.now trip.now.pickup }
+    requires delivery_legs { AreLegs delivery_legs.now places.now trip.now.delivery }
+    requires least { AreLeast least.now places.now trip.now.delivery }
+    requires kept { kept + 2 ≤ length places.now }
+    ensures { (d : Place) → IsFirstOf (AddsPair trip.now.limits places.now trip.now.pickup trip.now.delivery kept below d) result }
+{
+    let mut best = Best::none_below(below);
+    for i in kept + 1..places.len() {
+        let bound = best.bound;
+        best.accept(best_at(trip, places, pickup_legs, delivery_legs, least, i, bound));
+    }
+    best.found
+}
+
+/// The best place of the delivery, where the pickup stands at place `i`. Where prices alone show
+/// that there is none below the bound, nothing is driven.
+fn best_at(
+    trip: &Trip,
+    places: &[Place],
+    pickup_legs: &[u32],
+    delivery_legs: &[u32],
+    least: &[i64],
+    i: usize,
+    below: i64,
+) -> Option<Addition>
+    requires trip { IsTrip trip.now }
+    requires places { All IsSmallPlace places.now }
+    requires ways { AreLinked places.now }
+    requires few { length places.now ≤ 40003 }
+    requires pickup_legs { AreLegs pickup_legs.now places.now trip.now.pickup }
+    requires delivery_legs { AreLegs delivery_legs.now places.now trip.now.delivery }
+    requires least { AreLeast least.now places.now trip.now.delivery }
+    requires from_one { 1 ≤ i }
+    requires within { i < length places.now }
+    ensures { (d : Place) → IsFirstOf (AddsDelivery trip.now.limits places.now trip.now.pickup trip.now.delivery i below d) result }
+{
+    let before = small_place(places, i - 1);
+    let next = small_place(places, i);
+    let to = leg_at(pickup_legs, places, i - 1, &trip.pickup);
+    let onward = leg_at(pickup_legs, places, i, &trip.pickup);
+    let from = leg_at(delivery_legs, places, i, &trip.delivery);
+    let reach = before.at.distance + to;
+    let near = reach + trip.across + from;
+    if is_dear(least, i, near, reach + onward, next.at.distance, below) {
+        return None;
+    }
+    let Some(first) = pick_up(trip, &before.at, to, onward) else {
+        return None;
+    };
+    best_delivery(trip, places, delivery_legs, least, i, first, below)
+}
+
+/// Whether neither the delivery right behind the pickup at place `i` nor one further on adds less
+/// than `below`, by the way to place `i` over both stops and over the pickup alone.
+fn is_dear(least: &[i64], i: usize, near: u64, apart: u64, base: u64, below: i64) -> bool
+    requires near { near ≤ 2 ^ 59 }
+    requires apart { apart ≤ 2 ^ 59 }
+    requires base { base ≤ 2 ^ 59 }
+    requires least { (k : ℕ) → k < length least.now → unsigned_abs (slice_index_or least.now k (pos 0)) ≤ 2 ^ 60 }
+    ensures near { IsTrue result → below ≤ℤ (pos near -ℤ pos base) }
+    ensures within { IsTrue result → i < length least.now }
+    ensures apart { IsTrue result → below ≤ℤ ((pos apart -ℤ pos base) +ℤ slice_index_or least.now i (pos 0)) }
+{
+    difference(near, base) >= below && is_hopeless(least, i, apart, base, below)
+}
+
+/// A vehicle on its way with the pickup on board.
+#[derive(Clone, Copy, Debug, PartialEq, Eq)]
+struct Underway {
+    ride: Ride,
+    /// The service at the stop where it is.
+    service: u32,
+    /// The way from there to the delivery.
+    to_delivery: u64,
+    /// The way from there to the next place of the table.
+    onward: u64,
+}
+
+/// At the pickup, if it keeps the limits, with the ways to it and on to the next place of the table.
+fn pick_up(trip: &Trip, before: &Progress, to: u64, onward: u64) -> Option<Underway>
+    requires trip { IsTrip trip.now }
+    requires before { IsSmall (2 ^ 50) before.now }
+    requires to { to ≤ 2 ^ 32 }
+    requires onward { onward ≤ 2 ^ 32 }
+    ensures value { result ≡ picked_up trip.now before.now to onward }
+    ensures near { IfSome result (λ on. IsNearUnderway on) }
+{
+    let from = ride_of(before);
+    let Some(ride) = ride_on(trip.limits, &from, before.stop.service, to, &trip.pickup) else {
+        return None;
+    };
+    Some(Underway {
+        ride,
+        service: trip.pickup.service,
+        to_delivery: trip.across,
+        onward,
+    })
+}
+
+/// At the next place of the table, which is place `j - 1` there and from which the delivery is as
+/// far as `to_delivery`; `None` where it exceeds a limit or is the last.
+fn go_on(
+    limits: Limits,
+    on: &Underway,
+    places: &[Place],
+    j: usize,
+    to_delivery: u64,
+) -> Option<Underway>
+    requires ride { IsSmallRide (2 ^ 58) on.now.ride }
+    requires onward { on.now.onward ≤ 2 ^ 58 }
+    requires from_two { 2 ≤ j }
+    requires within { j ≤ length places.now }
+    requires ways { AreLinked places.now }
+    ensures value { (d : Place) → result ≡ gone_on limits on.now places.now j to_delivery d }
+    ensures near { IfSome result (λ next. IsNearRide on.now.ride on.now.onward next.ride) }
+{
+    if j == places.len() {
+        return None;
+    }
+    let here = &places[j - 1];
+    let Some(ride) = ride_on(limits, &on.ride, on.service, on.onward, &here.at.stop) else {
+        return None;
+    };
+    Some(Underway {
+        ride,
+        service: here.at.stop.service,
+        to_delivery,
+        onward: places[j].at.distance - here.at.distance,
+    })
+}
+
+/// The best place of the delivery, where the pickup stands at place `i` and the vehicle is there.
+fn best_delivery(
+    trip: &Trip,
+    places: &[Place],
+    legs: &[u32],
+    least: &[i64],
+    i: usize,
+    first: Underway,
+    below: i64,
+) -> Option<Addition>
+    requires trip { IsTrip trip.now }
+    requires places { All IsSmallPlace places.now }
+    requires ways { AreLinked places.now }
+    requires few { length places.now ≤ 40003 }
+    requires legs { AreLegs legs.now places.now trip.now.delivery }
+    requires least { AreLeast least.now places.now trip.now.delivery }
+    requires from_one { 1 ≤ i }
+    requires within { i < length places.now }
+    requires underway { (d : Place) → IsUnderway trip.now.limits places.now trip.now.pickup trip.now.delivery i (i + 1) d first }
+    requires near { (d : Place) → IsNearWay places.now (i + 1) d first }
+    ensures { (d : Place) → IsFirstOf (AddsDelivery trip.now.limits places.now trip.now.pickup trip.now.delivery i below d) result }
+{
+    let next = small_place(places, i);
+    let base = next.at.distance;
+    let reach = first.ride.distance + first.onward;
+    let mut on = first;
+    let mut best = Best::none_below(below);
+    for j in i + 1..places.len() + 1 {
+        let tail = small_place(places, j - 1);
+        let detour = Detour {
+            to: on.to_delivery,
+            from: leg_at(legs, places, j - 1, &trip.delivery),
+        };
+        let bound = best.bound;
+        let distance = serve_below(
+            bound,
+            trip.limits,
+            &on.ride,
+            on.service,
+            detour,
+            &trip.delivery,
+            tail,
+        );
+        best.offer(distance, i, j);
+        let bound = best.bound;
+        if is_hopeless(least, j - 1, reach, base, bound) {
+            return best.found;
+        }
+        let Some(next) = go_on(trip.limits, &on, places, j, detour.from) else {
+            return best.found;
+        };
+        on = next;
+    }
+    best.found
+}

@@ -1,7 +1,0 @@
-use Rattle.std.proofs.Common.{◌≡◌, ℕ, ◌<◌, true, get_or}
-use Rattle.std.specs.Char.{is_ascii_digit}
-use Rattle.sol_text.proofs.lines.digits_len.Given as goal
-
--- the bytes so far are digits
-abbrev pub invariant-loop-i : goal.invariant-loop-i
-invariant-loop-i l = (k : ℕ) → k < l.i → is_ascii_digit (get_or l.text k 0) ≡ true
