@@ -1,5 +1,5 @@
 -- What one command after another promises is what a run promises.
-use Rattle.std.proofs.Common.{◌≡◌, ◌⊎◌, inl, inr, ⊎_elim, ℕ, zero, suc, ◌+◌, ◌<◌, ◌≤◌, Bool, true, false, ◌&&◌, cond, List, [], ◌∷◌, length, take, refl, sym, ◌∙◌, ap, subst, arith}
+use Rattle.std.proofs.Common.{◌≡◌, ◌⊎◌, inl, inr, ⊎_elim, ℕ, zero, suc, ◌+◌, ◌<◌, ◌≤◌, Bool, true, false, ◌&&◌, cond, List, [], ◌∷◌, ◌++◌, length, take, refl, sym, ◌∙◌, ap, subst, arith}
 use Rattle.std.specs.Prelude.{Result, Ok, Err, Option, Some, None, is_ok, nat_le, count_by, if◌then◌else◌}
 use Rattle.std.proofs.lemmas.Bool.{le-leb, lt-leb}
 use Rattle.std.proofs.lemmas.List.{take-append-le}
@@ -69,6 +69,14 @@ module _ {D : Type 0} (len calls faults : D → ℕ) (honest : D → Type 0) (cl
 
   abbrev All : D → D → (ℕ → List ℕ → Type 0) → Type 0
   All old new P = Throughout clock since old new P
+
+  -- one more command, after a run
+  pub run_more : (commands : List Command) (replies : List Reply) (old mid new : SessionValue D) (command : Command) (reply : Reply) → Run old commands replies mid → Applied mid command reply new
+      → Run old (commands ++ command ∷ []) (replies ++ reply ∷ []) new
+  run_more [] [] old mid new command reply run applied = (new, subst (λ (s : SessionValue D). Applied s command reply new) run applied, refl)
+  run_more (c ∷ commands) (r ∷ replies) old mid new command reply run applied = (run.0, run.1, run_more commands replies run.0 mid new command reply run.2 applied)
+  run_more [] (r ∷ replies) old mid new command reply run applied = elim run [ ]
+  run_more (c ∷ commands) [] old mid new command reply run applied = elim run [ ]
 
   both : (old new : D) (P Q : ℕ → List ℕ → Type 0) → All old new P → All old new Q → All old new (λ m image. P m image × Q m image)
   both old new P Q p q = record {
@@ -160,8 +168,8 @@ module _ {D : Type 0} (len calls faults : D → ℕ) (honest : D → Type 0) (cl
     refused command commands replies old mid new answer n bad same_kept same whole stands rest =
         let reply : Reply = record { answer = answer; calls = n } in
         let here : All old.device new.device (RunLeaves old.state commands replies) =
-            subst (λ (s : SessionValue D). All s.device new.device (RunLeaves s.state commands replies)) same
-            (rest (ap (λ (s : SessionValue D). s.is_broken) same ∙ whole) (subst (λ (s : SessionValue D). Stands s) (sym same) stands)) in
+        subst (λ (s : SessionValue D). All s.device new.device (RunLeaves s.state commands replies)) same
+        (rest (ap (λ (s : SessionValue D). s.is_broken) same ∙ whole) (subst (λ (s : SessionValue D). Stands s) (sym same) stands)) in
         through.weakened clock since old.device new.device (RunLeaves old.state commands replies) (RunLeaves old.state (command ∷ commands) (reply ∷ replies))
         (λ m image some. subst (λ (l : List Command). StandsForSome old.state l (acked m (reply ∷ replies)) image) (sym same_kept)
         (subst (λ (k : ℕ). StandsForSome old.state (kept commands replies) k image) (sym (unacked m reply replies (ap (λ (b : Bool). b && nat_le n m) bad))) some)) here

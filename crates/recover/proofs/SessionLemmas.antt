@@ -77,20 +77,23 @@ pub place_fits : (place : Place) (command : Command) → spent place command ≡
     → (1 ≤ (place_after place command).sequence) × ((place_after place command).sequence ≤ 2 ^ 60) × ((place_after place command).used ≤ 256)
 place_fits place command unspent first last used = from (is_snapshot_due place command) refl
   where
-    from : (due : Bool) → is_snapshot_due place command ≡ due
-        → (1 ≤ (if due then record { sequence = place.sequence + 1; used = 0 } else record { sequence = place.sequence; used = place.used + 1 }).sequence)
-        × ((if due then record { sequence = place.sequence + 1; used = 0 } else record { sequence = place.sequence; used = place.used + 1 }).sequence ≤ 2 ^ 60)
-        × ((if due then record { sequence = place.sequence + 1; used = 0 } else record { sequence = place.sequence; used = place.used + 1 }).used ≤ 256)
-    from true e = (omega arith, omega (arith, sequence_left place command e unspent last), omega arith)
-    from false e = (omega (arith, first), omega (arith, last), ⊎_elim
-        (λ (full : ((place.used == 256) ≡ true) × (place.used ≡ 256)). absurd (due (is_recorded command) (place.used == 256) full.0 e))
-        (λ room. omega (arith, used, room.1))
-        (eqb_tells place.used 256))
+    full : (a b : Bool) → b ≡ true → (not a || b) ≡ false → ⊥
+    full true true x e = cc e
+    full false true x e = cc e
+    full a false x e = cc x
 
-    due : (a b : Bool) → b ≡ true → (not a || b) ≡ false → ⊥
-    due true true x e = cc e
-    due false true x e = cc e
-    due a false x e = cc x
+    from : (due : Bool) → is_snapshot_due place command ≡ due
+        → (let next : Place = if due then record { sequence = place.sequence + 1; used = 0 } else record { sequence = place.sequence; used = place.used + 1 } in
+        (1 ≤ next.sequence) × (next.sequence ≤ 2 ^ 60) × (next.used ≤ 256))
+    from true e = (omega arith, omega (arith, sequence_left place command e unspent last), omega arith)
+    from false e = (
+      omega (arith, first),
+      omega (arith, last),
+      ⊎_elim
+          (λ (all_used : ((place.used == 256) ≡ true) × (place.used ≡ 256)). absurd (full (is_recorded command) (place.used == 256) all_used.0 e))
+          (λ room. omega (arith, used, room.1))
+          (eqb_tells place.used 256),
+    )
 
 -- moments of a command that was carried out, and of one within which the device failed
 module _ (state : State) (command : Command) (accepted : AreAccepted state (command ∷ [])) (next : State) (same : next ≡ effect state command) (calls steps n m : ℕ) (image : List ℕ) (step : IsInStep state next calls steps m image) where

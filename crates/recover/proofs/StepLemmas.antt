@@ -15,7 +15,7 @@ use Rattle.recover.specs.Sessions.{AllHold}
 use Rattle.checkpoint.specs.declared.faults.StoreFault.{StoreFault}
 use Rattle.checkpoint.specs.declared.faults.StoreFault.TheVariants.{NotFormatted, BadVersion, Codec, Spent, OutOfMemory, DeviceFault}
 use Rattle.recover.specs.Committing.{IsInStep, LeavesDevice, cause, faults_of_commit}
-use Rattle.recover.specs.Lower.{KeepsDevice, faults_of_store}
+use Rattle.checkpoint.specs.Refused.{IsKeptByCommit, faults_of_store}
 
 pub on_ok : {T E : Type 0} (result : Result T E) (A B : Type 0) → (A → B) → OnOk result A → OnOk result B
 on_ok (Ok x) A B so h = so h
@@ -78,13 +78,13 @@ module _ (images : List ℕ → Type 0) (state : State) (place : Place) (all : A
 
 -- the cause of a refusal leaves what the refusal does
 module _ {D : Type 0} (old new : D) where
-  pub left : (fault : StoreFault) → KeepsDevice fault old new → LeavesDevice (cause fault) old new
+  pub left : (fault : StoreFault) → IsKeptByCommit fault old new → LeavesDevice (cause fault) old new
   left Spent h = h
   left OutOfMemory h = h
   left DeviceFault h = h
-  left NotFormatted h = elim h [ ]
-  left BadVersion h = elim h [ ]
-  left (Codec fault) h = elim h [ ]
+  left NotFormatted h = h
+  left BadVersion h = h
+  left (Codec fault) h = h
 
 pub same_faults : (fault : StoreFault) (faults : ℕ) → faults_of_store fault faults ≡ faults_of_commit (cause fault) faults
 same_faults Spent faults = refl

@@ -9,4 +9,3 @@ pub mod Applying
 pub mod Headline
 -- of private functions alone
 pub mod Committing
-pub mod Lower

@@ -19,3 +19,13 @@ GivesUnlessFailed P (Err Spent) = ⊥
 -- What opening a device promises of the image that its reads give: if it stands for a state, then that one is given.
 abbrev pub Opens : List ℕ → Result State StoreFault → Type 0
 Opens image outcome = (state : State) → StandsFor image state → GivesUnlessFailed (λ given. given ≡ state) outcome
+
+-- of what opening answers: the state, or why there is none
+abbrev pub outcome : {T D : Type 0} → (T → State) → Result T (StoreFault × D) → Result State StoreFault
+outcome state_of (Ok opened) = Ok (state_of opened)
+outcome state_of (Err refused) = Err refused.0
+
+-- and the device, which a refusal hands back
+abbrev pub device_after : {T D : Type 0} → (T → D) → Result T (StoreFault × D) → D
+device_after device_of (Ok opened) = device_of opened
+device_after device_of (Err refused) = refused.1

@@ -6,13 +6,11 @@ ghost use Rattle.command_core.specs.declared.states.State.{State};
 ghost use Rattle.sector_disk.specs.Sectors.{Throughout};
 ghost use Rattle.state_codec.specs.Limits.{IsRecorded};
 ghost use Rattle.state_codec.specs.declared.version.Version.TheVariants.{Two};
-ghost use Rattle.checkpoint.specs.Holds.{KeepsFacts};
 ghost use Rattle.recover.specs.Sessions.{AllHold};
 ghost use Rattle.recover.specs.Applying.{is_snapshot_due, calls_of, place_after, spent};
 ghost use Rattle.recover.specs.Committing.{IsInStep, LeavesDevice, cause, faults_after_commit};
 
-use crate::lower::commit_snapshot;
-use checkpoint::{Place, StoreFault, commit_record};
+use checkpoint::{Place, StoreFault, commit_record, commit_snapshot};
 use command_core::{Command, State};
 use sector_disk::Sectors;
 use std::alloc::Global;
@@ -107,7 +105,6 @@ fn as_snapshot<D: Sectors>(
     place: Place,
     next: &State,
 ) -> Result<Place, CommitFault>
-    requires facts { KeepsFacts next.now }
     requires room { 8450 ≤ D.len device.old }
     requires first { 1 ≤ place.sequence }
     requires last { place.sequence < 2 ^ 60 }
@@ -137,7 +134,6 @@ pub(crate) fn commit<D: Sectors>(
     command: &Command,
     next: &State,
 ) -> Result<Place, CommitFault>
-    requires facts { KeepsFacts next.now }
     requires fits { is_recorded command.now ≡ true → fits_record command.now ≡ true }
     requires unspent { spent place command.now ≡ None }
     requires room { 8450 ≤ D.len device.old }

@@ -3,9 +3,10 @@
 
 mod commits;
 mod denials;
+mod effects;
 mod laws;
-mod lower;
 mod replies;
+mod runs;
 mod sessions;
 
 pub use denials::Denial;

@@ -8,7 +8,7 @@ ghost use Rattle.recover.specs.Applying.{denial, calls_of, IsAnswer, Makes, IsBe
 
 use crate::commits::{CommitFault, commit, is_snapshot_due};
 use crate::denials::Denial;
-use crate::lower::apply;
+use crate::effects::state_after;
 use crate::replies::Reply;
 use checkpoint::Place;
 use command_core::{Command, State, accepted_commands_fit_records, check};
@@ -80,6 +80,7 @@ impl<D: Sectors> Session<D> {
         ensures counts { D.honest self.new.device → Throughout D.clock D.possible_since self.old.device self.new.device
             (IsBetween (D.calls self.old.device) (D.calls self.old.device + calls_of self.old.place command.now)) }
     {
+        self.images_stand_for_the_state();
         match self.denial(command) {
             Some(denial) => Err(denial),
             None => self.carry_out(alloc, command),
@@ -117,7 +118,7 @@ impl<D: Sectors> Session<D> {
             (IsBetween (D.calls self.old.device) (D.calls self.old.device + calls_of self.old.place command.now)) }
     {
         accepted_commands_fit_records();
-        let Ok(next) = apply(alloc, &self.state, command) else {
+        let Ok(next) = state_after(alloc, &self.state, command) else {
             return Err(Denial::OutOfMemory);
         };
         match commit(alloc, &mut self.device, self.place, command, &next) {
@@ -132,6 +133,13 @@ impl<D: Sectors> Session<D> {
                 Err(Denial::DeviceFault)
             }
         }
+    }
+
+    /// Unless the session is broken and while its device is honest, each image that a stop may leave stands for the state.
+    pub fn images_stand_for_the_state(&self)
+        ensures { self.now.is_broken ≡ false → D.honest self.now.device → (image : List ℕ) → D.possible self.now.device image → StandsFor image self.now.state }
+    {
+        let _device = &self.device;
     }
 
     /// The state after every acknowledged command.
