@@ -101,7 +101,7 @@ module _ {D : Type 0} (len calls faults : D → ℕ) (honest : D → Type 0) (cl
   broken_stays [] (reply ∷ replies) old new broken run = elim run [ ]
   broken_stays (command ∷ commands) [] old new broken run = elim run [ ]
 
-  honest_back : (commands : List Command) (replies : List Reply) (old new : SessionValue D) → Run old commands replies new → honest new.device → honest old.device
+  pub honest_back : (commands : List Command) (replies : List Reply) (old new : SessionValue D) → Run old commands replies new → honest new.device → honest old.device
   honest_back [] [] old new run h = subst (λ (s : SessionValue D). honest s.device) run h
   honest_back (command ∷ commands) (reply ∷ replies) old new run h =
       let applied : Applied old command reply run.0 = run.1 in applied.honest_before (honest_back commands replies run.0 new run.2 h)
