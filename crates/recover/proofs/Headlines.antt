@@ -1,10 +1,8 @@
 -- Recovery gives what the image stands for, and that is the state after a first part of the commands.
-use Rattle.std.proofs.Common.{◌≡◌, ℕ, ◌≤◌, List, length, take, sym, subst, ap, arith, length-take}
+use Rattle.std.proofs.Common.{◌≡◌, ℕ, ◌≤◌, List, take, sym, subst}
 use Rattle.std.specs.Prelude.{Result, Ok, Err}
 use Rattle.std.proofs.lemmas.List.{take-take, length-take-le}
-use Rattle.sector_disk.specs.Sectors.{Throughout}
-use Rattle.command_core.specs.Job.{IsJob}
-use Rattle.command_core.specs.Runs.{IsState, after, AreAccepted, last_change}
+use Rattle.command_core.specs.Runs.{IsState, after, last_change}
 use Rattle.command_core.specs.RunLaws.{RunsKeepFacts, PlansNeverCostMore, IsNoWorse}
 use Rattle.command_core.specs.declared.states.State.{State}
 use Rattle.command_core.specs.declared.states.State.TheVariants.{Empty, Loaded}

@@ -1,6 +1,6 @@
 -- What a command makes of a session, by what its commit did.
-use Rattle.std.proofs.Common.{◌≡◌, ◌⊎◌, inl, inr, ⊎_elim, ℕ, zero, suc, ◌+◌, ◌<◌, ◌≤◌, Bool, true, false, ◌&&◌, ◌||◌, not, cond, List, [], ◌∷◌, length, take, refl, sym, ◌∙◌, ap, subst, arith}
-use Rattle.std.specs.Prelude.{◌^◌, ◌==◌, Result, Ok, Err, Option, Some, None, is_ok, nat_le, if◌then◌else◌}
+use Rattle.std.proofs.Common.{◌≡◌, ⊎_elim, ℕ, ◌+◌, ◌<◌, ◌≤◌, Bool, true, false, ◌&&◌, ◌||◌, not, List, [], ◌∷◌, refl, subst, arith}
+use Rattle.std.specs.Prelude.{◌^◌, ◌==◌, Ok, Err, Option, Some, None, if◌then◌else◌}
 use Rattle.std.specs.Option.{option_map, option_or}
 use Rattle.std.proofs.lemmas.Bool.{le-leb, lt-leb, cases_lt}
 use Rattle.std.proofs.lemmas.Bool.Decides.{eqb_tells}
@@ -8,7 +8,7 @@ use Rattle.sector_disk.specs.Sectors.{Throughout}
 use Rattle.sector_disk.specs.Throughout as through
 use Rattle.command_core.specs.Effects.{effect}
 use Rattle.command_core.specs.Refusing.{refusal}
-use Rattle.command_core.specs.Runs.{IsState, after, AreAccepted, is_recorded}
+use Rattle.command_core.specs.Runs.{IsState, AreAccepted, is_recorded}
 use Rattle.command_core.specs.declared.refusals.Refusal.{Refusal}
 use Rattle.command_core.specs.declared.states.State.{State}
 use Rattle.command_core.specs.declared.states.State.TheVariants.{Empty, Loaded}
@@ -16,13 +16,13 @@ use Rattle.command_core.specs.declared.commands.Command.{Command}
 use Rattle.checkpoint.specs.declared.places.Place.{Place}
 use Rattle.checkpoint.specs.Holds.{KeepsFacts}
 use Rattle.recover.specs.declared.denials.Denial.{Denial}
-use Rattle.recover.specs.declared.denials.Denial.TheVariants.{Broken, Core, Spent, OutOfMemory, DeviceFault}
+use Rattle.recover.specs.declared.denials.Denial.TheVariants.{Broken, Core, Spent, DeviceFault}
 use Rattle.recover.specs.declared.replies.Reply.{Reply}
 use Rattle.recover.specs.StandsFor.{StandsFor}
-use Rattle.recover.specs.Replies.{kept, acked, is_acknowledged}
+use Rattle.recover.specs.Replies.{acked}
 use Rattle.recover.specs.Moments.{StandsForSome, RunLeaves}
-use Rattle.recover.specs.Sessions.{SessionValue, AllHold, IsSession}
-use Rattle.recover.specs.Applying.{is_snapshot_due, calls_of, place_after, spent, denial, IsBetween}
+use Rattle.recover.specs.Sessions.{SessionValue, AllHold}
+use Rattle.recover.specs.Applying.{is_snapshot_due, place_after, spent, denial, IsBetween}
 use Rattle.recover.specs.Committing.{IsInStep}
 use Rattle.recover.proofs.RunLemmas.{unacked, one_acked}
 use Rattle.recover.proofs.StepLemmas.{held}

@@ -1,6 +1,5 @@
 -- What opening a device gives.
 use Rattle.std.specs.Prelude.{◌≡◌, ℕ, List, Result, Ok, Err, ⊤}
-use Rattle.state_codec.specs.declared.fault.CodecFault.{CodecFault}
 use Rattle.command_core.specs.declared.states.State.{State}
 use Rattle.checkpoint.specs.declared.faults.StoreFault.{StoreFault}
 use Rattle.checkpoint.specs.declared.faults.StoreFault.TheVariants.{NotFormatted, BadVersion, Codec, Spent, OutOfMemory, DeviceFault}

@@ -1,6 +1,5 @@
 -- A session, as its callers see it, and what every session keeps.
 use Rattle.std.specs.Prelude.{◌≡◌, ℕ, ◌^◌, ◌≤◌, Bool, false, List}
-use Rattle.sector_disk.specs.declared.sectors.Sectors as sectors
 use Rattle.command_core.specs.Runs.{IsState, after, AreAccepted}
 use Rattle.command_core.specs.declared.states.State.{State}
 use Rattle.command_core.specs.declared.commands.Command.{Command}

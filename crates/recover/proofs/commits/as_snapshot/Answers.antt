@@ -1,4 +1,4 @@
-use Rattle.std.proofs.Common.{List, [], ◌∷◌, ◌+◌}
+use Rattle.std.proofs.Common.{◌+◌}
 use Rattle.sector_disk.specs.Throughout.{weakened}
 use Rattle.recover.proofs.StepLemmas.{in_commit, all_new}
 use Rattle.recover.proofs.commits.as_snapshot.Goals as goal

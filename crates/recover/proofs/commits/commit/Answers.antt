@@ -1,6 +1,6 @@
-use Rattle.std.proofs.Common.{rules, ◌≡◌, ℕ, List, Bool, sym, ◌∙◌, ap, subst}
+use Rattle.std.proofs.Common.{rules, ◌≡◌, ℕ, sym, subst}
 use Rattle.sector_disk.specs.Sectors.{Throughout}
-use Rattle.recover.specs.Applying.{is_snapshot_due, calls_of}
+use Rattle.recover.specs.Applying.{calls_of}
 use Rattle.recover.specs.Committing.{IsInStep}
 use Rattle.recover.proofs.commits.commit.Goals as goal
 

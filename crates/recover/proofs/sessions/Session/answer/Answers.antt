@@ -1,7 +1,7 @@
-use Rattle.std.proofs.Common.{◌≡◌, ℕ, ◌+◌, List, [], ◌∷◌, refl, sym}
+use Rattle.std.proofs.Common.{◌≡◌, refl, sym}
 use Rattle.std.specs.Prelude.{Err}
 use Rattle.recover.specs.Applying.{Makes, calls_of, faults_after_answer}
-use Rattle.recover.proofs.SessionLemmas.{denied, stands_of, still, still_between}
+use Rattle.recover.proofs.SessionLemmas.{denied, still, still_between}
 use Rattle.recover.proofs.sessions.Session.answer.Goals as goal
 
 pub returns-in-Some-clause-makes : goal.returns-in-Some-clause-makes

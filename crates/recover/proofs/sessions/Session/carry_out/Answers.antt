@@ -1,4 +1,4 @@
-use Rattle.std.proofs.Common.{◌≡◌, ℕ, ◌+◌, ◌≤◌, List, [], ◌∷◌, sym, ap, subst, arith}
+use Rattle.std.proofs.Common.{◌≡◌, ℕ, ◌+◌, ◌≤◌, [], ◌∷◌, sym, subst}
 use Rattle.std.specs.Prelude.{None, Ok, Err}
 use Rattle.sector_disk.specs.Sectors.{Throughout}
 use Rattle.sector_disk.specs.Throughout.{weakened}
