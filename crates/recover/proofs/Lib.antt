@@ -1,0 +1,4 @@
+mod Headlines
+mod RunLemmas
+mod StepLemmas
+mod SessionLemmas

@@ -1,0 +1,230 @@
+-- What one command after another promises is what a run promises.
+use Rattle.std.proofs.Common.{◌≡◌, inl, inr, ⊎_elim, ℕ, suc, ◌+◌, ◌≤◌, Bool, true, false, ◌&&◌, cond, List, [], ◌∷◌, ◌++◌, take, refl, sym, ◌∙◌, ap, subst, arith}
+use Rattle.std.specs.Prelude.{Result, Ok, Err, Option, Some, is_ok, nat_le, if◌then◌else◌}
+use Rattle.std.proofs.lemmas.Bool.{le-leb, lt-leb}
+use Rattle.std.proofs.lemmas.List.{take-append-le}
+use Rattle.std.proofs.lemmas.List.Sums.{sum_by-cons}
+use Rattle.sector_disk.specs.Sectors.{Throughout}
+use Rattle.sector_disk.specs.Throughout as through
+use Rattle.command_core.specs.Effects.{effect}
+use Rattle.command_core.specs.Runs.{after, AreAccepted}
+use Rattle.command_core.specs.declared.states.State.{State}
+use Rattle.command_core.specs.declared.commands.Command.{Command}
+use Rattle.checkpoint.specs.declared.places.Place.{Place}
+use Rattle.recover.specs.declared.denials.Denial.{Denial}
+use Rattle.recover.specs.declared.denials.Denial.TheVariants.{Broken, Core, Spent, OutOfMemory, DeviceFault}
+use Rattle.recover.specs.declared.replies.Reply.{Reply}
+use Rattle.recover.specs.StandsFor.{StandsFor}
+use Rattle.recover.specs.Replies.{kept, acked, is_acknowledged}
+use Rattle.recover.specs.Moments.{StandsForSome, RunLeaves}
+use Rattle.recover.specs.Sessions.{SessionValue}
+use Rattle.recover.specs.Applying.{IsBetween, IsAnswer, Makes, denial, calls_of, is_snapshot_due, IsApplied, IsRun}
+
+-- the first reply and the others
+acked-cons : (m : ℕ) (reply : Reply) (replies : List Reply) → acked m (reply ∷ replies) ≡ cond (is_acknowledged m reply) 1 0 + acked m replies
+acked-cons m reply replies = sum_by-cons (λ r. cond (is_acknowledged m r) 1 0) reply replies
+
+pub unacked : (m : ℕ) (reply : Reply) (replies : List Reply) → is_acknowledged m reply ≡ false → acked m (reply ∷ replies) ≡ acked m replies
+unacked m reply replies not_yet =
+    let same : 0 + acked m replies ≡ acked m replies = omega arith in acked-cons m reply replies ∙ ap (λ (b : Bool). cond b 1 0 + acked m replies) not_yet ∙ same
+
+pub one_acked : (m : ℕ) (reply : Reply) (replies : List Reply) → is_acknowledged m reply ≡ true → acked m (reply ∷ replies) ≡ 1 + acked m replies
+one_acked m reply replies is = acked-cons m reply replies ∙ ap (λ (b : Bool). cond b 1 0 + acked m replies) is
+
+some_calls : (place : Place) (command : Command) → 1 ≤ calls_of place command
+some_calls place command = elim (is_snapshot_due place command) as (λ b. 1 ≤ (if b then 4 else 2)) [ true ↦ omega arith | false ↦ omega arith ]
+
+-- a first part of the first command alone is one of all
+early : (begun : State) (command : Command) (more : List Command) (few all : ℕ) (image : List ℕ) → all ≡ few
+    → StandsForSome begun (command ∷ []) few image → StandsForSome begun (command ∷ more) all image
+early begun command more few all image same some =
+    let front : take some.count (command ∷ more) ≡ take some.count (command ∷ []) = take-append-le some.count (command ∷ []) more some.within in
+    let within : some.count ≤ 1 = some.within in record {
+      count = some.count;
+      all_acknowledged = omega (arith, same, some.all_acknowledged);
+      one_more = omega (arith, same, some.one_more);
+      within = omega (arith, within);
+      accepted = subst (λ (l : List Command). AreAccepted begun l) (sym front) some.accepted;
+      stands = subst (λ (l : List Command). StandsFor image (after begun l)) (sym front) some.stands;
+    }
+
+-- a first part of those behind it, and it
+late : (begun : State) (command : Command) (more : List Command) (few all : ℕ) (image : List ℕ) → all ≡ 1 + few → AreAccepted begun (command ∷ [])
+    → StandsForSome (effect begun command) more few image → StandsForSome begun (command ∷ more) all image
+late begun command more few all image same accepted some = record {
+  count = suc some.count;
+  all_acknowledged = omega (arith, same, some.all_acknowledged);
+  one_more = omega (arith, same, some.one_more);
+  within = omega (arith, some.within);
+  accepted = (accepted.0, accepted.1, some.accepted);
+  stands = some.stands;
+}
+
+module _ {D : Type 0} (len calls faults : D → ℕ) (honest : D → Type 0) (clock : D → ℕ) (since : D → ℕ → ℕ → List ℕ → Type 0) (possible : D → List ℕ → Type 0) where
+  abbrev Applied : SessionValue D → Command → Reply → SessionValue D → Type 0
+  Applied old command reply new = IsApplied len calls faults honest clock since possible old command reply new
+
+  abbrev Run : SessionValue D → List Command → List Reply → SessionValue D → Type 0
+  Run old commands replies new = IsRun len calls faults honest clock since possible old commands replies new
+
+  abbrev All : D → D → (ℕ → List ℕ → Type 0) → Type 0
+  All old new P = Throughout clock since old new P
+
+  -- one more command, after a run
+  pub run_more : (commands : List Command) (replies : List Reply) (old mid new : SessionValue D) (command : Command) (reply : Reply) → Run old commands replies mid → Applied mid command reply new
+      → Run old (commands ++ command ∷ []) (replies ++ reply ∷ []) new
+  run_more [] [] old mid new command reply run applied = (new, subst (λ (s : SessionValue D). Applied s command reply new) run applied, refl)
+  run_more (c ∷ commands) (r ∷ replies) old mid new command reply run applied = (run.0, run.1, run_more commands replies run.0 mid new command reply run.2 applied)
+  run_more [] (r ∷ replies) old mid new command reply run applied = elim run [ ]
+  run_more (c ∷ commands) [] old mid new command reply run applied = elim run [ ]
+
+  both : (old new : D) (P Q : ℕ → List ℕ → Type 0) → All old new P → All old new Q → All old new (λ m image. P m image × Q m image)
+  both old new P Q p q = record {
+    later = p.later;
+    each = λ m image left. (p.each m image left, q.each m image left);
+    before = λ t m image le left. ⊎_elim (λ past. inl past) (λ x. ⊎_elim (λ past. inl past) (λ y. inr (x, y)) (q.before t m image le left)) (p.before t m image le left);
+  }
+
+  -- a broken session answers nothing but that it is
+  broken_stays : (commands : List Command) (replies : List Reply) (old new : SessionValue D) → old.is_broken ≡ true → Run old commands replies new → (new ≡ old) × ((m : ℕ) → acked m replies ≡ 0)
+  broken_stays [] [] old new broken run = (run, λ m. refl)
+  broken_stays (command ∷ commands) (reply ∷ replies) old new broken run =
+      let mid = run.0 in
+      let applied : Applied old command reply mid = run.1 in
+      let why : denial old command ≡ Some Broken = rw broken refl in
+      let told : reply.answer ≡ Err Broken = subst (λ (o : Option Denial). IsAnswer o reply.answer) why applied.answer in
+      let same : mid ≡ old = subst (λ (a : Result (Unit {0}) Denial). Makes a old command mid) told applied.makes in
+      let rest = broken_stays commands replies mid new (ap (λ (s : SessionValue D). s.is_broken) same ∙ broken) run.2 in (
+        rest.0 ∙ same,
+        λ m. unacked m reply replies (ap (λ (a : Result (Unit {0}) Denial). is_ok a && nat_le reply.calls m) told) ∙ rest.1 m,
+      )
+  broken_stays [] (reply ∷ replies) old new broken run = elim run [ ]
+  broken_stays (command ∷ commands) [] old new broken run = elim run [ ]
+
+  pub honest_back : (commands : List Command) (replies : List Reply) (old new : SessionValue D) → Run old commands replies new → honest new.device → honest old.device
+  honest_back [] [] old new run h = subst (λ (s : SessionValue D). honest s.device) run h
+  honest_back (command ∷ commands) (reply ∷ replies) old new run h =
+      let applied : Applied old command reply run.0 = run.1 in applied.honest_before (honest_back commands replies run.0 new run.2 h)
+  honest_back [] (reply ∷ replies) old new run h = elim run [ ]
+  honest_back (command ∷ commands) [] old new run h = elim run [ ]
+
+  -- when no more calls have finished than before a run, none of its commands is acknowledged
+  none_yet : (commands : List Command) (replies : List Reply) (old new : SessionValue D) → Run old commands replies new → (m : ℕ) → m ≤ calls old.device → acked m replies ≡ 0
+  none_yet [] [] old new run m le = refl
+  none_yet (command ∷ commands) (reply ∷ replies) old new run m le = first reply.answer reply.calls run.1 (λ later. none_yet commands replies run.0 new run.2 m later)
+    where
+      first : (answer : Result (Unit {0}) Denial) (n : ℕ) → Applied old command (record { answer = answer; calls = n }) run.0 → (m ≤ calls run.0.device → acked m replies ≡ 0)
+          → acked m (record { answer = answer; calls = n } ∷ replies) ≡ 0
+      first (Ok done) n applied again =
+          let later : calls run.0.device ≡ calls old.device + calls_of old.place command = applied.finished in
+          let some = some_calls old.place command in
+          let below : nat_le n m ≡ false = lt-leb n m (omega (arith, le, later, some, applied.count)) in
+          unacked m (record { answer = Ok done; calls = n }) replies below ∙ again (omega (arith, le, later))
+      first (Err DeviceFault) n applied again = unacked m (record { answer = Err DeviceFault; calls = n }) replies refl ∙ (broken_stays commands replies run.0 new applied.makes.is_broken run.2).1 m
+      first (Err Broken) n applied again = unacked m (record { answer = Err Broken; calls = n }) replies refl ∙ again (subst (λ (s : SessionValue D). m ≤ calls s.device) (sym applied.makes) le)
+      first (Err (Core r)) n applied again = unacked m (record { answer = Err (Core r); calls = n }) replies refl ∙ again (subst (λ (s : SessionValue D). m ≤ calls s.device) (sym applied.makes) le)
+      first (Err Spent) n applied again = unacked m (record { answer = Err Spent; calls = n }) replies refl ∙ again (subst (λ (s : SessionValue D). m ≤ calls s.device) (sym applied.makes) le)
+      first (Err OutOfMemory) n applied again = unacked m (record { answer = Err OutOfMemory; calls = n }) replies refl ∙ again (subst (λ (s : SessionValue D). m ≤ calls s.device) (sym applied.makes) le)
+  none_yet [] (reply ∷ replies) old new run m le = elim run [ ]
+  none_yet (command ∷ commands) [] old new run m le = elim run [ ]
+
+  module _ (only_now : (d : D) (m : ℕ) (image : List ℕ) → honest d → since d (clock d) m image → (m ≡ calls d) × possible d image) where
+    -- no fewer calls than this session's device has finished
+    abbrev from : SessionValue D → ℕ → List ℕ → Type 0
+    from s m image = calls s.device ≤ m
+
+    -- within a run no moment has fewer finished calls than its beginning
+    counted_from : (commands : List Command) (replies : List Reply) (old new : SessionValue D) → Run old commands replies new → honest new.device → All old.device new.device (λ m image. calls old.device ≤ m)
+    counted_from [] [] old new run h =
+        subst (λ (s : SessionValue D). All old.device s.device (λ m image. calls old.device ≤ m)) (sym run)
+        (through.started clock since old.device (λ m image. calls old.device ≤ m) (λ m image left. omega (arith, (only_now old.device m image (subst (λ (s : SessionValue D). honest s.device) run h) left).0)))
+    counted_from (command ∷ commands) (reply ∷ replies) old new run h = first reply.answer reply.calls run.1 (counted_from commands replies run.0 new run.2 h)
+      where
+        first : (answer : Result (Unit {0}) Denial) (n : ℕ) → Applied old command (record { answer = answer; calls = n }) run.0 → All run.0.device new.device (from run.0) → All old.device new.device (from old)
+        first (Ok done) n applied rest =
+            let later : calls run.0.device ≡ calls old.device + calls_of old.place command = applied.finished in
+            through.joined clock since old.device run.0.device new.device (from old)
+            (through.weakened clock since old.device run.0.device (IsBetween (calls old.device) (calls old.device + calls_of old.place command)) (from old) (λ m image between. between.0) (applied.counts (honest_back commands replies run.0 new run.2 h)))
+            (through.weakened clock since run.0.device new.device (from run.0) (from old) (λ m image le. omega (arith, le, later)) rest)
+        first (Err DeviceFault) n applied rest =
+            subst (λ (s : SessionValue D). All old.device s.device (from old)) (sym (broken_stays commands replies run.0 new applied.makes.is_broken run.2).0)
+            (through.weakened clock since old.device run.0.device (IsBetween (calls old.device) (calls old.device + calls_of old.place command)) (from old) (λ m image between. between.0) (applied.counts (honest_back commands replies run.0 new run.2 h)))
+        first (Err Broken) n applied rest = subst (λ (s : SessionValue D). All s.device new.device (from s)) applied.makes rest
+        first (Err (Core r)) n applied rest = subst (λ (s : SessionValue D). All s.device new.device (from s)) applied.makes rest
+        first (Err Spent) n applied rest = subst (λ (s : SessionValue D). All s.device new.device (from s)) applied.makes rest
+        first (Err OutOfMemory) n applied rest = subst (λ (s : SessionValue D). All s.device new.device (from s)) applied.makes rest
+    counted_from [] (reply ∷ replies) old new run h = elim run [ ]
+    counted_from (command ∷ commands) [] old new run h = elim run [ ]
+
+    -- what each image of a session stands for
+    abbrev Stands : SessionValue D → Type 0
+    Stands s = (image : List ℕ) → possible s.device image → StandsFor image s.state
+
+    -- a command that was refused leaves what those behind it do
+    refused : (command : Command) (commands : List Command) (replies : List Reply) (old mid new : SessionValue D) (answer : Result (Unit {0}) Denial) (n : ℕ)
+        → is_ok answer ≡ false → kept (command ∷ commands) (record { answer = answer; calls = n } ∷ replies) ≡ kept commands replies → mid ≡ old → old.is_broken ≡ false → Stands old
+        → (mid.is_broken ≡ false → Stands mid → All mid.device new.device (RunLeaves mid.state commands replies))
+        → All old.device new.device (RunLeaves old.state (command ∷ commands) (record { answer = answer; calls = n } ∷ replies))
+    refused command commands replies old mid new answer n bad same_kept same whole stands rest =
+        let reply : Reply = record { answer = answer; calls = n } in
+        let here : All old.device new.device (RunLeaves old.state commands replies) =
+        subst (λ (s : SessionValue D). All s.device new.device (RunLeaves s.state commands replies)) same
+        (rest (ap (λ (s : SessionValue D). s.is_broken) same ∙ whole) (subst (λ (s : SessionValue D). Stands s) (sym same) stands)) in
+        through.weakened clock since old.device new.device (RunLeaves old.state commands replies) (RunLeaves old.state (command ∷ commands) (reply ∷ replies))
+        (λ m image some. subst (λ (l : List Command). StandsForSome old.state l (acked m (reply ∷ replies)) image) (sym same_kept)
+        (subst (λ (k : ℕ). StandsForSome old.state (kept commands replies) k image) (sym (unacked m reply replies (ap (λ (b : Bool). b && nat_le n m) bad))) some)) here
+
+    -- At each moment of a run each image stands for the state after a first part of the commands that were kept, with all acknowledged ones.
+    pub run_leaves : (commands : List Command) (replies : List Reply) (old new : SessionValue D) → Run old commands replies new → old.is_broken ≡ false → Stands old → honest new.device
+        → All old.device new.device (RunLeaves old.state commands replies)
+    run_leaves [] [] old new run whole stands h =
+        subst (λ (s : SessionValue D). All old.device s.device (RunLeaves old.state [] [])) (sym run)
+        (through.started clock since old.device (RunLeaves old.state [] []) (λ m image left. record {
+          count = 0;
+          all_acknowledged = omega arith;
+          one_more = omega arith;
+          within = omega arith;
+          accepted = tt;
+          stands = stands image (only_now old.device m image (subst (λ (s : SessionValue D). honest s.device) run h) left).1;
+        }))
+    run_leaves (command ∷ commands) (reply ∷ replies) old new run whole stands h =
+        first reply.answer reply.calls run.1 (λ mid_whole mid_stands. run_leaves commands replies run.0 new run.2 mid_whole mid_stands h)
+      where
+        mid_honest : honest run.0.device
+        mid_honest = honest_back commands replies run.0 new run.2 h
+
+        first : (answer : Result (Unit {0}) Denial) (n : ℕ) → Applied old command (record { answer = answer; calls = n }) run.0
+            → (run.0.is_broken ≡ false → Stands run.0 → All run.0.device new.device (RunLeaves run.0.state commands replies))
+            → All old.device new.device (RunLeaves old.state (command ∷ commands) (record { answer = answer; calls = n } ∷ replies))
+        first (Ok done) n applied rest =
+            let reply : Reply = record { answer = Ok done; calls = n } in
+            let done_so = applied.makes in
+            let counted : calls run.0.device ≡ calls old.device + calls_of old.place command = applied.finished in
+            let own = both old.device run.0.device (RunLeaves old.state (command ∷ []) (reply ∷ [])) (IsBetween (calls old.device) (calls old.device + calls_of old.place command)) (applied.moments whole mid_honest) (applied.counts mid_honest) in
+            let behind = both run.0.device new.device (RunLeaves run.0.state commands replies) (λ m image. calls run.0.device ≤ m) (rest done_so.is_broken (applied.stands done_so.is_broken mid_honest)) (counted_from commands replies run.0 new run.2 h) in
+            through.joined clock since old.device run.0.device new.device (RunLeaves old.state (command ∷ commands) (reply ∷ replies))
+            (through.weakened clock since old.device run.0.device (λ m image. RunLeaves old.state (command ∷ []) (reply ∷ []) m image × IsBetween (calls old.device) (calls old.device + calls_of old.place command) m image)
+            (RunLeaves old.state (command ∷ commands) (reply ∷ replies))
+            (λ m image all. early old.state command (kept commands replies) (acked m (reply ∷ [])) (acked m (reply ∷ replies)) image
+            (acked-cons m reply replies ∙ ap (λ (k : ℕ). cond (is_acknowledged m reply) 1 0 + k) (none_yet commands replies run.0 new run.2 m (omega (arith, all.1.1, counted))) ∙ sym (acked-cons m reply []))
+            all.0) own)
+            (through.weakened clock since run.0.device new.device (λ m image. RunLeaves run.0.state commands replies m image × (calls run.0.device ≤ m))
+            (RunLeaves old.state (command ∷ commands) (reply ∷ replies))
+            (λ m image all. late old.state command (kept commands replies) (acked m replies) (acked m (reply ∷ replies)) image
+            (one_acked m reply replies (le-leb n m (omega (arith, applied.count, all.1))))
+            done_so.accepted
+            (subst (λ (s : State). StandsForSome s (kept commands replies) (acked m replies) image) done_so.state all.0)) behind)
+        first (Err DeviceFault) n applied rest =
+            let reply : Reply = record { answer = Err DeviceFault; calls = n } in
+            let stays = broken_stays commands replies run.0 new applied.makes.is_broken run.2 in
+            subst (λ (s : SessionValue D). All old.device s.device (RunLeaves old.state (command ∷ commands) (reply ∷ replies))) (sym stays.0)
+            (through.weakened clock since old.device run.0.device (RunLeaves old.state (command ∷ []) (reply ∷ [])) (RunLeaves old.state (command ∷ commands) (reply ∷ replies))
+            (λ m image all. early old.state command [] (acked m (reply ∷ [])) (acked m (reply ∷ replies)) image
+            (unacked m reply replies refl ∙ stays.1 m ∙ sym (unacked m reply [] refl)) all)
+            (applied.moments whole mid_honest))
+        first (Err Broken) n applied rest = refused command commands replies old run.0 new (Err Broken) n refl refl applied.makes whole stands rest
+        first (Err (Core r)) n applied rest = refused command commands replies old run.0 new (Err (Core r)) n refl refl applied.makes whole stands rest
+        first (Err Spent) n applied rest = refused command commands replies old run.0 new (Err Spent) n refl refl applied.makes whole stands rest
+        first (Err OutOfMemory) n applied rest = refused command commands replies old run.0 new (Err OutOfMemory) n refl refl applied.makes whole stands rest
+    run_leaves [] (reply ∷ replies) old new run whole stands h = elim run [ ]
+    run_leaves (command ∷ commands) [] old new run whole stands h = elim run [ ]

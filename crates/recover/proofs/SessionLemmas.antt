@@ -1,0 +1,148 @@
+-- What a command makes of a session, by what its commit did.
+use Rattle.std.proofs.Common.{◌≡◌, ⊎_elim, ℕ, ◌+◌, ◌<◌, ◌≤◌, Bool, true, false, ◌&&◌, ◌||◌, not, List, [], ◌∷◌, refl, subst, arith}
+use Rattle.std.specs.Prelude.{◌^◌, ◌==◌, Ok, Err, Option, Some, None, if◌then◌else◌}
+use Rattle.std.specs.Option.{option_map, option_or}
+use Rattle.std.proofs.lemmas.Bool.{le-leb, lt-leb, cases_lt}
+use Rattle.std.proofs.lemmas.Bool.Decides.{eqb_tells}
+use Rattle.sector_disk.specs.Sectors.{Throughout}
+use Rattle.sector_disk.specs.Throughout as through
+use Rattle.command_core.specs.Effects.{effect}
+use Rattle.command_core.specs.Refusing.{refusal}
+use Rattle.command_core.specs.Runs.{IsState, AreAccepted, is_recorded}
+use Rattle.command_core.specs.declared.refusals.Refusal.{Refusal}
+use Rattle.command_core.specs.declared.states.State.{State}
+use Rattle.command_core.specs.declared.states.State.TheVariants.{Empty, Loaded}
+use Rattle.command_core.specs.declared.commands.Command.{Command}
+use Rattle.checkpoint.specs.declared.places.Place.{Place}
+use Rattle.checkpoint.specs.Holds.{KeepsFacts}
+use Rattle.recover.specs.declared.denials.Denial.{Denial}
+use Rattle.recover.specs.declared.denials.Denial.TheVariants.{Broken, Core, Spent, DeviceFault}
+use Rattle.recover.specs.declared.replies.Reply.{Reply}
+use Rattle.recover.specs.StandsFor.{StandsFor}
+use Rattle.recover.specs.Replies.{acked}
+use Rattle.recover.specs.Moments.{StandsForSome, RunLeaves}
+use Rattle.recover.specs.Sessions.{SessionValue, AllHold}
+use Rattle.recover.specs.Applying.{is_snapshot_due, place_after, spent, denial, IsBetween}
+use Rattle.recover.specs.Committing.{IsInStep}
+use Rattle.recover.proofs.RunLemmas.{unacked, one_acked}
+use Rattle.recover.proofs.StepLemmas.{held}
+
+pub facts_of : (state : State) → IsState state → KeepsFacts state
+facts_of Empty h = tt
+facts_of (Loaded job) h = h
+
+-- images that hold a state and commands stand for the state after these
+pub stands_of : (images : List ℕ → Type 0) (state : State) (place : Place) → AllHold images state place → (image : List ℕ) → images image → StandsFor image state
+stands_of images state place all image left = held images state place all image (all.each image left)
+
+-- why there is no denial
+module _ {D : Type 0} (s : SessionValue D) (command : Command) where
+  pub is_whole : denial s command ≡ None → s.is_broken ≡ false
+  is_whole none = from s.is_broken none
+    where
+      from : (b : Bool) → (if b then Some Broken else option_or (option_map Core (refusal s.state command)) (spent s.place command)) ≡ None → b ≡ false
+      from false e = refl
+      from true e = cc e
+
+  pub is_unrefused : denial s command ≡ None → refusal s.state command ≡ None
+  is_unrefused none = from s.is_broken (refusal s.state command) none
+    where
+      from : (b : Bool) (r : Option Refusal) → (if b then Some Broken else option_or (option_map Core r) (spent s.place command)) ≡ None → r ≡ None
+      from false None e = refl
+      from false (Some x) e = cc e
+      from true r e = cc e
+
+  pub is_unspent : denial s command ≡ None → spent s.place command ≡ None
+  is_unspent none = from s.is_broken (refusal s.state command) none
+    where
+      from : (b : Bool) (r : Option Refusal) → (if b then Some Broken else option_or (option_map Core r) (spent s.place command)) ≡ None → spent s.place command ≡ None
+      from false None e = e
+      from false (Some x) e = cc e
+      from true r e = cc e
+
+-- where a snapshot is due, and a sequence is left, there is one more
+pub sequence_left : (place : Place) (command : Command) → is_snapshot_due place command ≡ true → spent place command ≡ None → place.sequence ≤ 2 ^ 60 → place.sequence < 2 ^ 60
+sequence_left place command due unspent last = ⊎_elim
+    (λ (same : ((place.sequence == 2 ^ 60) ≡ true) × (place.sequence ≡ 2 ^ 60)). absurd (there (is_snapshot_due place command) (place.sequence == 2 ^ 60) due same.0 unspent))
+    (λ other. omega (arith, last, other.1))
+    (eqb_tells place.sequence (2 ^ 60))
+  where
+    there : (a b : Bool) → a ≡ true → b ≡ true → (if a && b then Some Spent else None) ≡ None → ⊥
+    there true true x y e = cc e
+    there false b x y e = cc x
+    there true false x y e = cc y
+
+-- the place after a command is one that a session may have
+pub place_fits : (place : Place) (command : Command) → spent place command ≡ None → 1 ≤ place.sequence → place.sequence ≤ 2 ^ 60 → place.used ≤ 256
+    → (1 ≤ (place_after place command).sequence) × ((place_after place command).sequence ≤ 2 ^ 60) × ((place_after place command).used ≤ 256)
+place_fits place command unspent first last used = from (is_snapshot_due place command) refl
+  where
+    full : (a b : Bool) → b ≡ true → (not a || b) ≡ false → ⊥
+    full true true x e = cc e
+    full false true x e = cc e
+    full a false x e = cc x
+
+    from : (due : Bool) → is_snapshot_due place command ≡ due
+        → (let next : Place = if due then record { sequence = place.sequence + 1; used = 0 } else record { sequence = place.sequence; used = place.used + 1 } in
+        (1 ≤ next.sequence) × (next.sequence ≤ 2 ^ 60) × (next.used ≤ 256))
+    from true e = (omega arith, omega (arith, sequence_left place command e unspent last), omega arith)
+    from false e = (
+      omega (arith, first),
+      omega (arith, last),
+      ⊎_elim
+          (λ (all_used : ((place.used == 256) ≡ true) × (place.used ≡ 256)). absurd (full (is_recorded command) (place.used == 256) all_used.0 e))
+          (λ room. omega (arith, used, room.1))
+          (eqb_tells place.used 256),
+    )
+
+-- moments of a command that was carried out, and of one within which the device failed
+module _ (state : State) (command : Command) (accepted : AreAccepted state (command ∷ [])) (next : State) (same : next ≡ effect state command) (calls steps n m : ℕ) (image : List ℕ) (step : IsInStep state next calls steps m image) where
+  none : (all : ℕ) → all ≡ 0 → StandsFor image state → StandsForSome state (command ∷ []) all image
+  none all e stands = record { count = 0; all_acknowledged = omega (arith, e); one_more = omega arith; within = omega arith; accepted = tt; stands = stands }
+
+  one : (all : ℕ) → all ≤ 1 → StandsFor image next → StandsForSome state (command ∷ []) all image
+  one all le stands = record { count = 1; all_acknowledged = omega (arith, le); one_more = omega arith; within = omega arith; accepted = accepted; stands = subst (λ (s : State). StandsFor image s) same stands }
+
+  pub leaves_ok : (done : Unit {0}) → n ≡ calls + steps → RunLeaves state (command ∷ []) (record { answer = Ok done; calls = n } ∷ []) m image
+  leaves_ok done counted =
+      let reply : Reply = record { answer = Ok done; calls = n } in ⊎_elim
+      (λ (before : m < n). let not_yet : acked m (reply ∷ []) ≡ 0 = unacked m reply [] (lt-leb n m before) in
+      ⊎_elim (none (acked m (reply ∷ [])) not_yet) (one (acked m (reply ∷ [])) (omega (arith, not_yet))) step.either)
+      (λ (last : n ≤ m). let is : acked m (reply ∷ []) ≡ 1 + 0 = one_acked m reply [] (le-leb n m last) in
+      one (acked m (reply ∷ [])) (omega (arith, is)) (step.done (omega (arith, step.to, counted, last))))
+      (cases_lt m n)
+
+  pub leaves_fault : RunLeaves state (command ∷ []) (record { answer = Err DeviceFault; calls = n } ∷ []) m image
+  leaves_fault =
+      let reply : Reply = record { answer = Err DeviceFault; calls = n } in
+      let not_yet : acked m (reply ∷ []) ≡ 0 = unacked m reply [] refl in
+      ⊎_elim (none (acked m (reply ∷ [])) not_yet) (one (acked m (reply ∷ [])) (omega (arith, not_yet))) step.either
+
+-- a call that does nothing
+module _ {D : Type 0} (calls : D → ℕ) (honest : D → Type 0) (clock : D → ℕ) (since : D → ℕ → ℕ → List ℕ → Type 0) (possible : D → List ℕ → Type 0)
+    (only_now : (d : D) (m : ℕ) (image : List ℕ) → honest d → since d (clock d) m image → (m ≡ calls d) × possible d image) (d : D) (h : honest d) where
+  pub still : (state : State) → ((image : List ℕ) → possible d image → StandsFor image state) → (command : Command) (why : Denial) (n : ℕ)
+      → Throughout clock since d d (RunLeaves state (command ∷ []) (record { answer = Err why; calls = n } ∷ []))
+  still state stands command why n = through.started clock since d (RunLeaves state (command ∷ []) (record { answer = Err why; calls = n } ∷ [])) (λ m image left.
+      let not_yet : acked m (record { answer = Err why; calls = n } ∷ []) ≡ 0 = unacked m (record { answer = Err why; calls = n }) [] refl in record {
+        count = 0;
+        all_acknowledged = omega (arith, not_yet);
+        one_more = omega arith;
+        within = omega arith;
+        accepted = tt;
+        stands = stands image (only_now d m image h left).1;
+      })
+
+  pub still_between : (k : ℕ) → Throughout clock since d d (IsBetween (calls d) (calls d + k))
+  still_between k = through.started clock since d (IsBetween (calls d) (calls d + k)) (λ m image left.
+      let now : m ≡ calls d = (only_now d m image h left).0 in (omega (arith, now), omega (arith, now)))
+
+-- what holds of the three denials that come before memory is asked for and the device is called
+pub denied : {D : Type 0} (s : SessionValue D) (command : Command) (d : Denial) → denial s command ≡ Some d → (P : Denial → Type 0) → P Broken → ((r : Refusal) → P (Core r)) → P Spent → P d
+denied s command d is P broken core no_sequence = from s.is_broken (refusal s.state command) (is_snapshot_due s.place command && (s.place.sequence == 2 ^ 60)) is
+  where
+    from : (b : Bool) (r : Option Refusal) (e : Bool) → (if b then Some Broken else option_or (option_map Core r) (if e then Some Spent else None)) ≡ Some d → P d
+    from true r e same = let it : Broken ≡ d = cc same in subst P it broken
+    from false (Some r) e same = let it : Core r ≡ d = cc same in subst P it (core r)
+    from false None true same = let it : Spent ≡ d = cc same in subst P it no_sequence
+    from false None false same = cc same

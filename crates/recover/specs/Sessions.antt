@@ -1,0 +1,35 @@
+-- A session, as its callers see it, and what every session keeps.
+use Rattle.std.specs.Prelude.{◌≡◌, ℕ, ◌^◌, ◌≤◌, Bool, false, List}
+use Rattle.command_core.specs.Runs.{IsState, after, AreAccepted}
+use Rattle.command_core.specs.declared.states.State.{State}
+use Rattle.command_core.specs.declared.commands.Command.{Command}
+use Rattle.state_codec.specs.declared.version.Version.TheVariants.{Two}
+use Rattle.checkpoint.specs.declared.places.Place.{Place}
+use Rattle.checkpoint.specs.Holds.{Holds}
+
+pub record SessionValue (D : Type 0) : Type 0 where
+  pub device : D
+  -- the state after every acknowledged command
+  pub state : State
+  -- where the journal goes on
+  pub place : Place
+  -- whether the device has failed in a command
+  pub is_broken : Bool
+
+-- Each of these images holds one state and commands, at this place, and stands for this state.
+pub record AllHold (images : List ℕ → Type 0) (state : State) (place : Place) : Type 0 where
+  pub snapshot : State
+  pub commands : List Command
+  pub accepted : AreAccepted snapshot commands
+  pub leads : after snapshot commands ≡ state
+  pub each : (image : List ℕ) → images image → Holds Two image snapshot commands place
+
+-- The state keeps the facts of states, and the device has room for a store and the store a place for what comes. While the session is not
+-- broken and the device is honest, each image that a stop may leave stands for the state.
+pub record IsSession {D : Type 0} (len : D → ℕ) (honest : D → Type 0) (possible : D → List ℕ → Type 0) (s : SessionValue D) : Type 0 where
+  pub state : IsState s.state
+  pub room : 8450 ≤ len s.device
+  pub first : 1 ≤ s.place.sequence
+  pub last : s.place.sequence ≤ 2 ^ 60
+  pub used : s.place.used ≤ 256
+  pub durable : s.is_broken ≡ false → honest s.device → AllHold (possible s.device) s.state s.place

@@ -1,0 +1,32 @@
+// Lists of commands.
+ghost use Rattle.std.specs.Prelude.{◌≡◌, false, OnErr, IfOk};
+ghost use Rattle.sector_disk.specs.Sectors.{Throughout};
+ghost use Rattle.recover.specs.Moments.{RunLeaves};
+ghost use Rattle.recover.specs.Applying.{IsRun};
+
+use crate::replies::Run;
+use crate::sessions::Session;
+use command_core::Command;
+use sector_disk::{OutOfMemory, Sectors};
+use std::alloc::Global;
+
+impl<D: Sectors> Session<D> {
+    /// Carries commands out, one after another, and answers each as `apply` does. Want of memory for the answers is met before the first
+    /// command.
+    ///
+    /// A stop at any moment leaves the state after a first part of the commands that were kept: all those that were acknowledged by then,
+    /// and at most one more.
+    pub fn run(&mut self, alloc: Global, commands: Vec<Command>) -> Result<Run, OutOfMemory>
+        ensures refused { OnErr result (self.new ≡ self.old) }
+        ensures replies { IfOk result (λ run. IsRun D.len D.calls D.faults D.honest D.clock D.possible_since D.possible self.old commands.items run.replies.items self.new) }
+        ensures moments { IfOk result (λ run. self.old.is_broken ≡ false → D.honest self.new.device
+            → Throughout D.clock D.possible_since self.old.device self.new.device (RunLeaves self.old.state commands.items run.replies.items)) }
+    {
+        self.images_stand_for_the_state();
+        let mut replies = Vec::with_capacity(alloc, commands.len())?;
+        for command in commands {
+            replies.push(self.apply(alloc, command)).unwrap();
+        }
+        Ok(Run { replies })
+    }
+}

@@ -1,0 +1,168 @@
+// Sessions over a device.
+ghost use Rattle.std.specs.Prelude.{◌≡◌, ◌+◌, false, true, List, [], ◌∷◌, ℕ, None, OnOk};
+ghost use Rattle.command_core.specs.Runs.{IsState};
+ghost use Rattle.sector_disk.specs.Sectors.{Throughout};
+ghost use Rattle.recover.specs.StandsFor.{StandsFor};
+ghost use Rattle.recover.specs.Moments.{RunLeaves};
+ghost use Rattle.recover.specs.Applying.{denial, calls_of, IsAnswer, Makes, IsBetween, faults_after_answer};
+
+use crate::commits::{CommitFault, commit, is_snapshot_due};
+use crate::denials::Denial;
+use crate::effects::state_after;
+use crate::replies::Reply;
+use checkpoint::Place;
+use command_core::{Command, State, accepted_commands_fit_records, check};
+use sector_disk::Sectors;
+use std::alloc::Global;
+use std::marker::Model;
+
+/// The greatest sequence of a store.
+const LAST_SEQUENCE: u64 = 1 << 60;
+
+/// A store that takes commands. Unless it is broken and while its device is honest, each image that a stop may leave stands for its state.
+#[derive(Drop)]
+pub struct Session<D: Sectors> {
+    device: D,
+    state: State,
+    place: Place,
+    is_broken: bool,
+}
+
+impl<D: Sectors> Model for Session<D> {
+    ghost use Rattle.recover.specs.Sessions.{SessionValue};
+
+    ghost Value = { SessionValue D };
+
+    ghost use Rattle.recover.specs.Sessions.{IsSession};
+
+    ghost view = { λ s. record { device = s.device; state = s.state; place = s.place; is_broken = s.is_broken } };
+
+    ghost invariant = { λ s. IsSession D.len D.honest D.possible (record { device = s.device; state = s.state; place = s.place; is_broken = s.is_broken }) };
+}
+
+impl<D: Sectors> Session<D> {
+    /// Carries a command out and makes it durable. `Ok` comes after the last sync; from then on no stop loses the command.
+    ///
+    /// `Load` and `Checkpoint` write a snapshot, with four calls of the device. Any other command writes a record, with two, or a snapshot
+    /// where 256 records stand. Every denial but `DeviceFault` leaves all as it was. After `DeviceFault` the session is broken: each image
+    /// that a stop may leave stands for the state before the command or for the one after it, and opening the device tells which.
+    pub fn apply(&mut self, alloc: Global, command: Command) -> Reply
+        ensures answer { IsAnswer (denial self.old command) result.answer }
+        ensures makes { Makes result.answer self.old command self.new }
+        ensures count { result.calls ≡ D.calls self.new.device }
+        ensures finished { OnOk result.answer (D.calls self.new.device ≡ D.calls self.old.device + calls_of self.old.place command) }
+        ensures fault { D.faults self.new.device ≡ faults_after_answer result.answer (D.faults self.old.device) }
+        ensures same_len { D.len self.new.device ≡ D.len self.old.device }
+        ensures honest { D.honest self.new.device → D.honest self.old.device }
+        ensures moments { self.old.is_broken ≡ false → D.honest self.new.device
+            → Throughout D.clock D.possible_since self.old.device self.new.device (RunLeaves self.old.state (command ∷ []) (result ∷ [])) }
+        ensures counts { D.honest self.new.device → Throughout D.clock D.possible_since self.old.device self.new.device
+            (IsBetween (D.calls self.old.device) (D.calls self.old.device + calls_of self.old.place command)) }
+        ensures stands { self.new.is_broken ≡ false → D.honest self.new.device → (image : List ℕ) → D.possible self.new.device image → StandsFor image self.new.state }
+    {
+        let answer = self.answer(alloc, &command);
+        Reply {
+            answer,
+            calls: self.device.calls(),
+        }
+    }
+
+    // What the command is answered.
+    fn answer(&mut self, alloc: Global, command: &Command) -> Result<(), Denial>
+        ensures answer { IsAnswer (denial self.old command.now) result }
+        ensures makes { Makes result self.old command.now self.new }
+        ensures finished { OnOk result (D.calls self.new.device ≡ D.calls self.old.device + calls_of self.old.place command.now) }
+        ensures fault { D.faults self.new.device ≡ faults_after_answer result (D.faults self.old.device) }
+        ensures same_len { D.len self.new.device ≡ D.len self.old.device }
+        ensures honest { D.honest self.new.device → D.honest self.old.device }
+        ensures moments { self.old.is_broken ≡ false → D.honest self.new.device → Throughout D.clock D.possible_since self.old.device self.new.device
+            (RunLeaves self.old.state (command.now ∷ []) (record { answer = result; calls = D.calls self.new.device } ∷ [])) }
+        ensures counts { D.honest self.new.device → Throughout D.clock D.possible_since self.old.device self.new.device
+            (IsBetween (D.calls self.old.device) (D.calls self.old.device + calls_of self.old.place command.now)) }
+    {
+        self.images_stand_for_the_state();
+        match self.denial(command) {
+            Some(denial) => Err(denial),
+            None => self.carry_out(alloc, command),
+        }
+    }
+
+    // Why the command is denied, before memory is asked for and the device is called.
+    fn denial(&self, command: &Command) -> Option<Denial>
+        ensures { result ≡ denial self.now command.now }
+    {
+        if self.is_broken {
+            return Some(Denial::Broken);
+        }
+        if let Err(refusal) = check(&self.state, command) {
+            return Some(Denial::Core(refusal));
+        }
+        if is_snapshot_due(self.place, command) && self.place.sequence == LAST_SEQUENCE {
+            return Some(Denial::Spent);
+        }
+        None
+    }
+
+    // Carries out a command that is not denied: first the state after it, for which there may be no memory, and then the commit.
+    fn carry_out(&mut self, alloc: Global, command: &Command) -> Result<(), Denial>
+        requires { denial self.old command.now ≡ None }
+        ensures answer { IsAnswer None result }
+        ensures makes { Makes result self.old command.now self.new }
+        ensures finished { OnOk result (D.calls self.new.device ≡ D.calls self.old.device + calls_of self.old.place command.now) }
+        ensures fault { D.faults self.new.device ≡ faults_after_answer result (D.faults self.old.device) }
+        ensures same_len { D.len self.new.device ≡ D.len self.old.device }
+        ensures honest { D.honest self.new.device → D.honest self.old.device }
+        ensures moments { D.honest self.new.device → Throughout D.clock D.possible_since self.old.device self.new.device
+            (RunLeaves self.old.state (command.now ∷ []) (record { answer = result; calls = D.calls self.new.device } ∷ [])) }
+        ensures counts { D.honest self.new.device → Throughout D.clock D.possible_since self.old.device self.new.device
+            (IsBetween (D.calls self.old.device) (D.calls self.old.device + calls_of self.old.place command.now)) }
+    {
+        accepted_commands_fit_records();
+        let Ok(next) = state_after(alloc, &self.state, command) else {
+            return Err(Denial::OutOfMemory);
+        };
+        match commit(alloc, &mut self.device, self.place, command, &next) {
+            Ok(place) => {
+                self.state = next;
+                self.place = place;
+                Ok(())
+            }
+            Err(CommitFault::OutOfMemory) => Err(Denial::OutOfMemory),
+            Err(CommitFault::DeviceFault) => {
+                self.is_broken = true;
+                Err(Denial::DeviceFault)
+            }
+        }
+    }
+
+    /// Unless the session is broken and while its device is honest, each image that a stop may leave stands for the state.
+    pub fn images_stand_for_the_state(&self)
+        ensures { self.now.is_broken ≡ false → D.honest self.now.device → (image : List ℕ) → D.possible self.now.device image → StandsFor image self.now.state }
+    {
+        let _device = &self.device;
+    }
+
+    /// The state after every acknowledged command.
+    pub fn state(&self) -> &State
+        ensures state { result.now ≡ self.now.state }
+        ensures facts { IsState self.now.state }
+    {
+        &self.state
+    }
+
+    /// Whether the device has failed in a command. Then each command is answered `Broken`, until the device is opened again.
+    pub fn is_broken(&self) -> bool
+        ensures broken { result ≡ self.now.is_broken }
+        ensures stands { result ≡ false → D.honest self.now.device → (image : List ℕ) → D.possible self.now.device image → StandsFor image self.now.state }
+    {
+        self.is_broken
+    }
+
+    /// Gives the device back.
+    pub fn close(self) -> D
+        ensures device { result ≡ self.device }
+        ensures stands { self.is_broken ≡ false → D.honest result → (image : List ℕ) → D.possible result image → StandsFor image self.state }
+    {
+        self.device
+    }
+}
