@@ -10,6 +10,10 @@ if ! command -v strace >/dev/null; then
     echo "device_calls: skipped, since strace is not there"
     exit 0
 fi
+if ! strace -o /dev/null true 2>/dev/null; then
+    echo "device_calls: skipped, since strace may not trace here"
+    exit 0
+fi
 if [ ! -x "$program" ]; then
     echo "device_calls: skipped, since $program is not built (rt ci builds it)"
     exit 0
