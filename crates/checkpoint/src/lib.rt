@@ -13,8 +13,6 @@ mod making;
 mod places;
 mod puts;
 mod reads;
-#[cfg(test)]
-mod tests;
 mod zeros;
 
 pub use changes::{commit_record, commit_snapshot};
