@@ -103,7 +103,7 @@ fn exchanges_customers(rt: HostRuntime) -> Result<(), Fail> {
 fn exchanges_pairs(rt: HostRuntime) -> Result<(), Fail> {
     let alloc = rt.alloc();
     let mut problem = pairs(alloc)?;
-    let Request::Pair(pickup, delivery) = problem.requests.get(&1).unwrap() else {
+    let Some(Request::Pair(pickup, delivery)) = problem.requests.get(&1) else {
         return Ok(());
     };
     let first = plan_types::Stop {
