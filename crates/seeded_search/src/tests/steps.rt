@@ -68,6 +68,13 @@ fn is_passing(alloc: Global, problem: &Problem, pins: &Pins, plan: &Plan) -> Res
     }
 }
 
+// The stops of an incumbent and of a working plan.
+#[derive(Drop)]
+struct Stops {
+    best: Vec<u32>,
+    work: Vec<u32>,
+}
+
 // What steps find from one plan as incumbent and working plan: the stops of both. A lone 9 where the plan given does not pass.
 fn found(
     alloc: Global,
@@ -76,7 +83,7 @@ fn found(
     plan: &[u32],
     deviation: u32,
     steps: (u64, u64),
-) -> Result<[Vec<u32>; 2], Fail> {
+) -> Result<Stops, Fail> {
     let pins = Pins {
         routes: lists_of(alloc, pins)?,
     };
@@ -88,9 +95,15 @@ fn found(
         let Found { plan, work } = search_steps(
             alloc, problem, &pins, &plan, &plan, deviation, 0, step, count,
         )?;
-        return Ok([stops_of(alloc, &plan)?, stops_of(alloc, &work)?]);
+        return Ok(Stops {
+            best: stops_of(alloc, &plan)?,
+            work: stops_of(alloc, &work)?,
+        });
     }
-    Ok([vec![in alloc; 9]?, vec![in alloc; 9]?])
+    Ok(Stops {
+        best: vec![in alloc; 9]?,
+        work: vec![in alloc; 9]?,
+    })
 }
 
 #[test]
@@ -109,9 +122,9 @@ fn one_step(rt: HostRuntime) -> Result<(), Fail> {
     assert_eq!(rt; stops_of(alloc, &after.plan)?.as_slice(), better.as_slice());
     assert_eq!(rt; stops_of(alloc, &after.work)?.as_slice(), better.as_slice());
     // With two routes the same words pick the second twice.
-    let [plan, work] = found(alloc, &problem, &[], &better, 0, (0, 1))?;
-    assert_eq!(rt; plan.as_slice(), better.as_slice());
-    assert_eq!(rt; work.as_slice(), better.as_slice());
+    let again = found(alloc, &problem, &[], &better, 0, (0, 1))?;
+    assert_eq!(rt; again.best.as_slice(), better.as_slice());
+    assert_eq!(rt; again.work.as_slice(), better.as_slice());
     Ok(())
 }
 
@@ -122,9 +135,9 @@ fn a_worse_plan_is_walked_on_from(rt: HostRuntime) -> Result<(), Fail> {
     let plan = [1, 0, 2, 0, 3, 0];
     let worse = [1, 0, 0, 3, 2, 0];
     for (deviation, walked) in [(0, plan), (1, worse)] {
-        let [best, work] = found(alloc, &problem, &[], &plan, deviation, (0, 1))?;
-        assert_eq!(rt; best.as_slice(), plan.as_slice());
-        assert_eq!(rt; work.as_slice(), walked.as_slice());
+        let after = found(alloc, &problem, &[], &plan, deviation, (0, 1))?;
+        assert_eq!(rt; after.best.as_slice(), plan.as_slice());
+        assert_eq!(rt; after.work.as_slice(), walked.as_slice());
     }
     Ok(())
 }
@@ -134,13 +147,13 @@ fn steps_go_on_where_others_end(rt: HostRuntime) -> Result<(), Fail> {
     let alloc = rt.alloc();
     let problem = customers(alloc, 4, &[(0, 10), (6, 8), (6, 0), (3, 4)])?;
     let plan = [1, 0, 2, 3, 0, 4, 0, 0];
-    let [once, _] = found(alloc, &problem, &[], &plan, 0, (0, 1))?;
+    let once = found(alloc, &problem, &[], &plan, 0, (0, 1))?;
     for first in [0, (1 << 32) - 1, (1 << 60) - 2] {
-        let [begun, _] = found(alloc, &problem, &[], &once, 0, (first, 1))?;
-        let [after, _] = found(alloc, &problem, &[], &begun, 0, (first + 1, 1))?;
-        let [both, work] = found(alloc, &problem, &[], &once, 0, (first, 2))?;
-        assert_eq!(rt; both.as_slice(), after.as_slice());
-        assert_eq!(rt; work.as_slice(), after.as_slice());
+        let begun = found(alloc, &problem, &[], &once.best, 0, (first, 1))?;
+        let after = found(alloc, &problem, &[], &begun.best, 0, (first + 1, 1))?;
+        let both = found(alloc, &problem, &[], &once.best, 0, (first, 2))?;
+        assert_eq!(rt; both.best.as_slice(), after.best.as_slice());
+        assert_eq!(rt; both.work.as_slice(), after.best.as_slice());
     }
     Ok(())
 }
@@ -151,9 +164,9 @@ fn pinned_plans_stay(rt: HostRuntime) -> Result<(), Fail> {
     let alloc = rt.alloc();
     let problem = customers(alloc, 2, &[(0, 10), (6, 8), (6, 0)])?;
     let plan = [1, 3, 0, 2, 0];
-    let [best, work] = found(alloc, &problem, &plan, &plan, 100, (0, 20))?;
-    assert_eq!(rt; best.as_slice(), plan.as_slice());
-    assert_eq!(rt; work.as_slice(), plan.as_slice());
+    let after = found(alloc, &problem, &plan, &plan, 100, (0, 20))?;
+    assert_eq!(rt; after.best.as_slice(), plan.as_slice());
+    assert_eq!(rt; after.work.as_slice(), plan.as_slice());
     Ok(())
 }
 
@@ -162,10 +175,10 @@ fn pinned_plans_stay(rt: HostRuntime) -> Result<(), Fail> {
 fn empty_plans_stay(rt: HostRuntime) -> Result<(), Fail> {
     let alloc = rt.alloc();
     let problem = customers(alloc, 1, &[(0, 10)])?;
-    let [best, work] = found(alloc, &problem, &[], &[0], 0, (0, 20))?;
-    assert_eq!(rt; best.as_slice(), [0].as_slice());
-    assert_eq!(rt; work.as_slice(), [0].as_slice());
-    let [best, _] = found(alloc, &problem, &[], &[1, 0], 0, (0, 20))?;
-    assert_eq!(rt; best.as_slice(), [1, 0].as_slice());
+    let after = found(alloc, &problem, &[], &[0], 0, (0, 20))?;
+    assert_eq!(rt; after.best.as_slice(), [0].as_slice());
+    assert_eq!(rt; after.work.as_slice(), [0].as_slice());
+    let after = found(alloc, &problem, &[], &[1, 0], 0, (0, 20))?;
+    assert_eq!(rt; after.best.as_slice(), [1, 0].as_slice());
     Ok(())
 }
