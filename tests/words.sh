@@ -37,14 +37,14 @@ expect 0 'pass 0 1 20' ''
 expect 0 'pass 0 10 829' '' audit lilim lc101.txt "$top/examples/lc101.sol"
 expect 1 'broken 5 route 1 place 1 stop 2' '' audit lilim one-pair.txt one-pair-reversed.sol
 expect 2 'instance FieldCount 1' '' audit lilim one-pair.sol one-pair.sol
-expect 3 'cannot read nowhere' '' audit lilim one-pair.txt nowhere
+expect 3 'cannot read nowhere' 'planner: nowhere: No such file or directory (os error 2)' audit lilim one-pair.txt nowhere
 expect 0 'Says whether a solution keeps the rules, and the first rule that it breaks' '' audit --help
 
 expect 64 '' 'error: the following required arguments were not provided:' audit
 expect 64 '' "error: unexpected argument 'more' found" audit lilim one-pair.txt one-pair.sol more
 expect 64 '' "error: invalid value 'LILIM' for '<KIND>'" audit LILIM one-pair.txt one-pair.sol
 expect 64 '' "error: unrecognized subcommand 'check'" check one-pair.txt one-pair.sol
-expect 64 '' "error: unexpected argument '--version' found" --version
+expect 0 'planner 0.1.0' '' --version
 
 # A path is taken only as UTF-8.
 latin=$(printf 'caf\351.sol')

@@ -178,7 +178,8 @@ fn is_rising(problem: &Problem, route: &[u32]) -> bool
 }
 
 fn all_fit(carried: &[i64], capacity: u32) -> bool
-    ensures { IsTrue result → (k : ℕ) → k < length carried.now → slice_index_or carried.now k (pos 0) ≤ℤ pos capacity }
+    ensures { IsTrue result → (k : ℕ) → k < length carried.now
+        → slice_index_or carried.now k (pos 0) ≤ℤ pos capacity }
 {
     for load in carried {
         if *load > i64::from(capacity) {

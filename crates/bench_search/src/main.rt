@@ -141,7 +141,8 @@ fn cost(
     pins: &Pins,
     plan: &Plan,
 ) -> Result<Option<Cost>, OutOfMemory>
-    ensures { IfOk result (λ o. IfSome o (λ _. passes problem.now pins.now.routes plan.now.routes ≡ true)) }
+    ensures { IfOk result (λ o. IfSome o
+        (λ _. passes problem.now pins.now.routes plan.now.routes ≡ true)) }
 {
     tests_say_pass();
     match audit(alloc, problem, pins, plan)? {

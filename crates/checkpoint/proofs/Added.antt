@@ -1,12 +1,11 @@
 -- A record that is written behind the others is one of them.
-use Rattle.std.proofs.Common.{◌≡◌, ◌⊎◌, inl, inr, ⊎_elim, ℕ, zero, suc, ◌+◌, ◌-◌, ◌*◌, ◌%◌, ◌^◌, ◌<◌, ◌≤◌, List, [], ◌∷◌, ◌++◌, length, take, drop, refl, sym, ◌∙◌, ap, subst, arith, length-append}
+use Rattle.std.proofs.Common.{◌≡◌, ◌⊎◌, inl, inr, ⊎_elim, ℕ, suc, ◌+◌, ◌*◌, ◌%◌, ◌<◌, ◌≤◌, List, [], ◌∷◌, ◌++◌, length, sym, ◌∙◌, ap, subst, arith, length-append}
 use Rattle.std.proofs.lemmas.Bool.{cases_lt}
 use Rattle.sector_disk.specs.Image.{sector, written}
 use Rattle.sector_disk.specs.ImageLaws.{length-written}
 use Rattle.checkpoint.specs.declared.layouts.Layout.{Layout}
-use Rattle.checkpoint.specs.declared.headers.Header.{Header}
-use Rattle.checkpoint.specs.Layouts.{sectors_in, half_at}
-use Rattle.checkpoint.specs.Stores.{IsValid, Counts, Stores, snapshot_in, record_sectors, begins_with}
+use Rattle.checkpoint.specs.Layouts.{half_at}
+use Rattle.checkpoint.specs.Stores.{Stores, record_sectors, begins_with}
 use Rattle.checkpoint.proofs.Runs.{same_run, same_records, record_sectors-more, sector_written, written_outside}
 use Rattle.checkpoint.proofs.Carried.{half_inside, same_valid}
 

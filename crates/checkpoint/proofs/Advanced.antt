@@ -1,5 +1,5 @@
 -- A header that is written makes the snapshot in its half count.
-use Rattle.std.proofs.Common.{◌≡◌, ◌⊎◌, inl, inr, ⊎_elim, ℕ, zero, suc, ◌+◌, ◌-◌, ◌*◌, ◌%◌, ◌^◌, ◌<◌, ◌≤◌, List, [], ◌∷◌, ◌++◌, length, take, drop, refl, sym, ◌∙◌, ap, subst, arith}
+use Rattle.std.proofs.Common.{◌≡◌, inr, ⊎_elim, ℕ, ◌+◌, ◌*◌, ◌%◌, ◌^◌, ◌<◌, ◌≤◌, List, [], length, refl, sym, ◌∙◌, ap, subst, arith}
 use Rattle.std.proofs.lemmas.Bool.{cases_lt}
 use Rattle.sector_disk.specs.Image.{sector, written}
 use Rattle.sector_disk.specs.ImageLaws.{length-written, sector-written_cases}
@@ -7,10 +7,10 @@ use Rattle.checkpoint.specs.declared.layouts.Layout.{Layout}
 use Rattle.checkpoint.specs.declared.headers.Header.{Header}
 use Rattle.checkpoint.specs.Layouts.{sectors_in, half_at}
 use Rattle.checkpoint.specs.Headers.{header_bytes}
-use Rattle.checkpoint.specs.Stores.{IsValid, Counts, Stores, snapshot_in, record_sectors, begins_with}
+use Rattle.checkpoint.specs.Stores.{IsValid, Stores, snapshot_in, begins_with}
 use Rattle.checkpoint.proofs.Runs.{same_run, sector_written, written_outside}
 use Rattle.checkpoint.proofs.Carried.{half_inside}
-use Rattle.checkpoint.proofs.HeaderBytes.{length-header_bytes, same_sequence}
+use Rattle.checkpoint.proofs.HeaderBytes.{same_sequence}
 
 -- no valid header and no record goes beyond this sequence
 pub record Below (layout : Layout) (sequence : ℕ) (image : List ℕ) : Type 0 where

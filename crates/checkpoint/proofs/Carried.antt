@@ -1,13 +1,10 @@
 -- What an image stores rests on its headers, its records and one half. So whatever leaves these alone leaves it.
-use Rattle.std.proofs.Common.{◌≡◌, ◌⊎◌, inl, inr, ⊎_elim, ℕ, zero, suc, ◌+◌, ◌-◌, ◌*◌, ◌%◌, ◌<◌, ◌≤◌, List, [], ◌∷◌, ◌++◌, length, take, drop, refl, sym, ◌∙◌, ap, subst, arith}
-use Rattle.sector_disk.specs.Image.{sector, written, Mixes}
-use Rattle.sector_disk.specs.ImageLaws.{mixes_outside}
-use Rattle.sector_disk.specs.Sectors.{Reached}
+use Rattle.std.proofs.Common.{◌≡◌, ◌⊎◌, inl, inr, ⊎_elim, ℕ, zero, suc, ◌+◌, ◌%◌, ◌<◌, ◌≤◌, List, length, refl, sym, ◌∙◌, ap, subst, arith}
+use Rattle.sector_disk.specs.Image.{sector}
 use Rattle.checkpoint.specs.declared.layouts.Layout.{Layout}
 use Rattle.checkpoint.specs.declared.headers.Header.{Header}
 use Rattle.checkpoint.specs.Layouts.{sectors_in, half_at}
-use Rattle.checkpoint.specs.Headers.{header_bytes}
-use Rattle.checkpoint.specs.Stores.{IsValid, Counts, Stores, snapshot_in, record_sectors, begins_with}
+use Rattle.checkpoint.specs.Stores.{IsValid, Stores, begins_with}
 use Rattle.checkpoint.proofs.Runs.{same_run, same_records}
 
 -- even or odd

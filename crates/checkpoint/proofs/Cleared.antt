@@ -1,5 +1,5 @@
 -- Zeros in the headers and the records are no store.
-use Rattle.std.proofs.Common.{◌≡◌, ◌⊎◌, inl, inr, ⊎_elim, ℕ, zero, suc, ◌+◌, ◌-◌, ◌*◌, ◌%◌, ◌^◌, ◌<◌, ◌≤◌, List, [], ◌∷◌, ◌++◌, length, take, drop, replicate, refl, sym, ◌∙◌, ap, subst, arith}
+use Rattle.std.proofs.Common.{◌≡◌, ⊎_elim, ℕ, ◌+◌, ◌-◌, ◌*◌, ◌%◌, ◌<◌, ◌≤◌, List, length, take, replicate, sym, ◌∙◌, ap, arith}
 use Rattle.std.proofs.lemmas.List.{drop-replicate, take-replicate}
 use Rattle.sector_disk.specs.Image.{sector, written}
 use Rattle.sector_disk.specs.ImageLaws.{length-written, sector-written_inside}
@@ -7,7 +7,7 @@ use Rattle.checkpoint.specs.Puts.{IsZeros}
 use Rattle.checkpoint.specs.declared.layouts.Layout.{Layout}
 use Rattle.checkpoint.specs.declared.headers.Header.{Header}
 use Rattle.checkpoint.specs.Headers.{header_bytes, HasOtherVersion, magic}
-use Rattle.checkpoint.specs.Stores.{IsValid, IsOfOtherVersion, IsUnformatted, begins_with}
+use Rattle.checkpoint.specs.Stores.{IsValid, IsUnformatted, begins_with}
 use Rattle.checkpoint.proofs.Advanced.{Below}
 
 -- the headers and the records are zeros

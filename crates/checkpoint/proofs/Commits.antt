@@ -1,16 +1,15 @@
 -- What the calls that write a snapshot leave, where each image stores something before.
-use Rattle.std.proofs.Common.{◌≡◌, ◌⊎◌, inl, inr, ⊎_elim, ℕ, zero, suc, ◌+◌, ◌-◌, ◌*◌, ◌/◌, ◌%◌, ◌^◌, ◌<◌, ◌≤◌, List, [], ◌∷◌, ◌++◌, length, take, drop, refl, sym, ◌∙◌, ap, subst, arith, length-take}
-use Rattle.std.proofs.lemmas.Bool.{cases_lt}
+use Rattle.std.proofs.Common.{◌≡◌, ◌⊎◌, inl, inr, ⊎_elim, ℕ, ◌+◌, ◌*◌, ◌/◌, ◌%◌, ◌^◌, ◌<◌, ◌≤◌, List, [], length, take, drop, refl, sym, ◌∙◌, ap, subst, arith, length-take}
 use Rattle.sector_disk.specs.Image.{sector, written, Mixes}
 use Rattle.sector_disk.specs.ImageLaws.{length-written, mixes_outside}
 use Rattle.sector_disk.specs.Sectors.{Reached}
 use Rattle.checkpoint.specs.declared.headers.Header.{Header}
 use Rattle.checkpoint.specs.Headers.{header_bytes}
-use Rattle.checkpoint.specs.Layouts.{sectors_in, half_at, version_2}
-use Rattle.checkpoint.specs.Stores.{IsValid, Stores, snapshot_in, begins_with}
+use Rattle.checkpoint.specs.Layouts.{half_at, version_2}
+use Rattle.checkpoint.specs.Stores.{Stores, snapshot_in, begins_with}
 use Rattle.checkpoint.specs.Moments.{IsInCommit}
 use Rattle.checkpoint.specs.Puts.{IsInSnapshot, half_of, with_snapshot, with_both}
-use Rattle.checkpoint.proofs.Runs.{read_written, take_front}
+use Rattle.checkpoint.proofs.Runs.{read_written}
 use Rattle.checkpoint.proofs.Carried.{parity, carried}
 use Rattle.checkpoint.proofs.Advanced.{Below, stored_below, advanced}
 

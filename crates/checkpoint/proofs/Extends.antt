@@ -1,6 +1,6 @@
 -- What the calls that write a record leave, where each image stores something before.
-use Rattle.std.proofs.Common.{◌≡◌, ◌⊎◌, inl, inr, ⊎_elim, ℕ, ◌+◌, ◌*◌, ◌<◌, ◌≤◌, List, [], ◌∷◌, ◌++◌, length, refl, sym, ◌∙◌, ap, subst, arith}
-use Rattle.sector_disk.specs.Image.{written, Mixes}
+use Rattle.std.proofs.Common.{◌≡◌, inl, inr, ⊎_elim, ℕ, ◌+◌, ◌*◌, ◌<◌, List, [], ◌∷◌, ◌++◌, length, sym, subst, arith}
+use Rattle.sector_disk.specs.Image.{written}
 use Rattle.sector_disk.specs.ImageLaws.{mixes_one}
 use Rattle.checkpoint.specs.Layouts.{version_2}
 use Rattle.checkpoint.specs.Stores.{Stores, begins_with}

@@ -1,6 +1,7 @@
 -- A snapshot without records, from what an image stores to what it holds.
-use Rattle.std.proofs.Common.{◌≡◌, ◌⊎◌, ⊎_elim, inl, inr, ℕ, zero, suc, ◌+◌, ◌≤◌, ◌<◌, List, [], Result, Ok, Err, OnOk, IsOk, length, take, refl, subst, arith}
+use Rattle.std.proofs.Common.{◌≡◌, ⊎_elim, inl, inr, ℕ, ◌+◌, ◌≤◌, List, [], Result, Ok, Err, OnOk, refl, subst, arith}
 use Rattle.sector_disk.specs.Sectors.{Throughout}
+use Rattle.command_core.specs.Runs.{IsState}
 use Rattle.command_core.specs.declared.states.State.{State}
 use Rattle.command_core.specs.declared.states.State.TheVariants.{Empty, Loaded}
 use Rattle.state_codec.specs.declared.version.Version.TheVariants.{Two}
@@ -12,7 +13,7 @@ use Rattle.checkpoint.specs.declared.places.Place.{Place}
 use Rattle.checkpoint.specs.Layouts.{version_2}
 use Rattle.checkpoint.specs.Stores.{Stores, IsUnformatted}
 use Rattle.command_core.specs.declared.commands.Command.{Command}
-use Rattle.checkpoint.specs.Holds.{Holds, KeepsFacts, layout_of, journal}
+use Rattle.checkpoint.specs.Holds.{Holds, layout_of, journal}
 use Rattle.checkpoint.specs.Moments.{IsInFormat, IsInCommit}
 use Rattle.checkpoint.specs.Refused.{OnCalls}
 use Rattle.checkpoint.proofs.Journals.{holds_still}
@@ -21,16 +22,17 @@ told : (state : State) → IsStateOf Two state
 told Empty = tt
 told (Loaded job) = tt
 
-pub new_holds : (image : List ℕ) (state : State) (sequence : ℕ) (bytes : List ℕ) → bytes ≡ state_bytes Two state → KeepsFacts state → Stores version_2 image sequence bytes [] → Holds Two image state [] (record { sequence = sequence; used = 0 })
+pub new_holds : (image : List ℕ) (state : State) (sequence : ℕ) (bytes : List ℕ) → bytes ≡ state_bytes Two state → IsState state → Stores version_2 image sequence bytes [] → Holds Two image state [] (record { sequence = sequence; used = 0 })
 new_holds image state sequence bytes is facts stored = record {
   stored = subst (λ (b : List ℕ). Stores version_2 image sequence b []) is stored;
   used = refl;
   facts = facts;
   told = told state;
   recorded = λ k d below. absurd (omega (arith, below));
+  numbers = tt;
 }
 
-module _ (state : State) (bytes : List ℕ) (is : bytes ≡ state_bytes Two state) (facts : KeepsFacts state) where
+module _ (state : State) (bytes : List ℕ) (is : bytes ≡ state_bytes Two state) (facts : IsState state) where
   pub in_held : (calls m : ℕ) (image : List ℕ) → IsInFormat (IsUnformatted version_2) (λ i. Stores version_2 i 1 bytes []) calls m image
       → IsInFormat (IsUnformatted version_2) (λ i. Holds Two i state [] (record { sequence = 1; used = 0 })) calls m image
   in_held calls m image within = record {
@@ -56,7 +58,7 @@ at_end (Ok x) clock since old new possible unformatted P calls_old calls_new cou
 at_end (Err fault) clock since old new possible unformatted P calls_old calls_new counts finished all = finished
 
 -- from what each image stores at each moment of a commit to what it holds
-module _ (place : Place) (state : State) (bytes : List ℕ) (is : bytes ≡ state_bytes Two state) (facts : KeepsFacts state)
+module _ (place : Place) (state : State) (bytes : List ℕ) (is : bytes ≡ state_bytes Two state) (facts : IsState state)
     (possible : List ℕ → Type 0) (seen : List ℕ) (here : possible seen) (old : State) (commands : List Command) (held : (image : List ℕ) → possible image → Holds Two image old commands place) where
   pub in_saved : (calls m : ℕ) (image : List ℕ)
       → IsInCommit (λ i. Stores (layout_of Two) i place.sequence (state_bytes Two old) (journal Two place.sequence 0 commands)) (λ i. Stores version_2 i (place.sequence + 1) bytes []) calls m image

@@ -1,14 +1,13 @@
 -- The headers of an image by its front.
-use Rattle.std.proofs.Common.{◌≡◌, ◌⊎◌, ⊎_elim, inl, inr, ℕ, zero, suc, ◌+◌, ◌*◌, ◌%◌, ◌^◌, ◌<◌, ◌≤◌, List, Option, Some, None, length, take, drop, refl, sym, ◌∙◌, ap, subst, arith}
+use Rattle.std.proofs.Common.{◌≡◌, ◌⊎◌, ⊎_elim, inl, inr, ℕ, ◌%◌, ◌^◌, ◌<◌, ◌≤◌, List, Some, None, sym, ◌∙◌, ap, subst, arith}
 use Rattle.sector_disk.specs.Image.{sector}
 use Rattle.checkpoint.specs.declared.layouts.Layout.{Layout}
 use Rattle.checkpoint.specs.declared.headers.Header.{Header}
 use Rattle.checkpoint.specs.declared.faults.StoreFault.TheVariants as store
-use Rattle.checkpoint.specs.Layouts.{sectors_in}
 use Rattle.checkpoint.specs.Headers.{header_bytes, HasOtherVersion}
-use Rattle.checkpoint.specs.Stores.{IsValid, IsOfOtherVersion, IsUnformatted, Counts}
+use Rattle.checkpoint.specs.Stores.{IsValid, Counts}
 use Rattle.checkpoint.specs.Reads.{IsFront, IsAllowed, IsOfParity}
-use Rattle.checkpoint.specs.Holdless.{IsForeign, HasNoHeader}
+use Rattle.checkpoint.specs.Holdless.{HasNoHeader}
 use Rattle.checkpoint.proofs.Runs.{sector_front}
 use Rattle.checkpoint.proofs.Carried.{parity}
 use Rattle.checkpoint.proofs.HeaderBytes.{same_sequence}

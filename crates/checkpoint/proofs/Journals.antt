@@ -1,5 +1,5 @@
 -- Records of commands.
-use Rattle.std.proofs.Common.{◌≡◌, ◌⊎◌, ⊎_elim, inl, inr, ℕ, zero, suc, ◌+◌, ◌*◌, ◌-◌, ◌^◌, ◌<◌, ◌≤◌, List, [], ◌∷◌, ◌++◌, length, replicate, All, refl, sym, ◌∙◌, ap, subst, arith, append_assoc, length-append, get_or}
+use Rattle.std.proofs.Common.{◌≡◌, ⊎_elim, inl, inr, ℕ, zero, suc, ◌+◌, ◌-◌, ◌^◌, ◌<◌, ◌≤◌, List, [], ◌∷◌, ◌++◌, length, replicate, refl, sym, ◌∙◌, ap, subst, arith, append_assoc, length-append, get_or}
 use Rattle.std.proofs.Math.Nat.{mod-eq_of_lt}
 use Rattle.std.proofs.lemmas.List.Elements.{All-append}
 use Rattle.byteorder.specs.Endian.{big_bytes}
@@ -7,7 +7,7 @@ use Rattle.byteorder.specs.Numbers.{big_from-bytes}
 use Rattle.command_core.specs.declared.states.State.{State}
 use Rattle.command_core.specs.declared.commands.Command.{Command}
 use Rattle.state_codec.specs.declared.version.Version.{Version}
-use Rattle.state_codec.specs.declared.version.Version.TheVariants.{One, Two}
+use Rattle.state_codec.specs.declared.version.Version.TheVariants.{Two}
 use Rattle.state_codec.specs.Bytes.{number_bytes, state_bytes, command_bytes, fields_bytes, record_bytes}
 use Rattle.state_codec.specs.Limits.{IsRecorded}
 use Rattle.checkpoint.specs.declared.places.Place.{Place}
@@ -47,11 +47,12 @@ holds_more image state commands command place known held recorded stored =
       facts = held.facts;
       told = held.told;
       recorded = All-append (IsRecorded Two) commands (command ∷ []) held.recorded (λ k d below. elim k as (λ k. k < 1 → IsRecorded Two (get_or (command ∷ []) k d)) [ zero ↦ λ h. recorded | suc k ↦ λ h. absurd (omega (arith, h)) ] below);
+      numbers = tt;
     }
 
 pub holds_still : (image : List ℕ) (state : State) (commands : List Command) (place : Place) (known : List ℕ) → Holds Two known state commands place
     → Stores (layout_of Two) image place.sequence (state_bytes Two state) (journal Two place.sequence 0 commands) → Holds Two image state commands place
-holds_still image state commands place known held stored = record { stored = stored; used = held.used; facts = held.facts; told = held.told; recorded = held.recorded }
+holds_still image state commands place known held stored = record { stored = stored; used = held.used; facts = held.facts; told = held.told; recorded = held.recorded; numbers = held.numbers }
 
 -- From what each image stores at each moment to what it holds.
 module _ (place : Place) (command : Command) (bytes : List ℕ) (is : bytes ≡ record_bytes Two place.sequence place.used command) (recorded : IsRecorded Two command) (last : place.sequence ≤ 2 ^ 60)

@@ -16,3 +16,5 @@ mod Led
 mod FaultKinds
 mod Loading
 mod Snapshots
+mod OneThing
+mod Decided

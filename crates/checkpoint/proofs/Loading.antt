@@ -1,19 +1,19 @@
 -- What the parts that are read make of an image.
-use Rattle.std.proofs.Common.{◌≡◌, ◌⊎◌, ⊎_elim, inl, inr, ℕ, zero, suc, ◌+◌, ◌*◌, ◌<◌, ◌≤◌, ◌^◌, List, [], ◌∷◌, ◌++◌, length, take, drop, get_or, All, Result, Ok, Err, IfErr, MatchResult, refl, sym, ◌∙◌, ap, subst, arith, length-take, length-drop}
+use Rattle.std.proofs.Common.{◌≡◌, inl, inr, ℕ, zero, suc, ◌+◌, ◌*◌, ◌<◌, ◌≤◌, ◌^◌, List, [], ◌∷◌, length, drop, Result, Ok, Err, IfErr, MatchResult, refl, sym, ◌∙◌, ap, subst, arith, length-take, length-drop}
 use Rattle.sector_disk.specs.Image.{sector}
+use Rattle.command_core.specs.Runs.{IsState}
 use Rattle.command_core.specs.declared.states.State.{State}
 use Rattle.command_core.specs.declared.commands.Command.{Command}
 use Rattle.state_codec.specs.declared.version.Version.{Version}
 use Rattle.state_codec.specs.Bytes.{state_bytes, record_bytes}
-use Rattle.state_codec.specs.Limits.{IsStateOf, IsRecorded}
-use Rattle.checkpoint.specs.declared.layouts.Layout.{Layout}
+use Rattle.state_codec.specs.Limits.{IsStateOf}
 use Rattle.checkpoint.specs.declared.headers.Header.{Header}
-use Rattle.checkpoint.specs.declared.places.Place.{Place}
-use Rattle.checkpoint.specs.Layouts.{sectors_in, half_at}
-use Rattle.checkpoint.specs.Stores.{Counts, Stores, snapshot_in, record_sectors, begins_with}
-use Rattle.checkpoint.specs.Holds.{Holds, KeepsFacts, layout_of, journal}
-use Rattle.checkpoint.specs.Reads.{IsFront, IsLed, HasRecords, IsClearFrom, HasStrayFrom}
-use Rattle.checkpoint.specs.Holdless.{HasStray, IsAstray, HoldsNothing, UnlessUnread, IsOfJournal, IsOfBytes, told_of}
+use Rattle.checkpoint.specs.Numbers.{HaveNumbers}
+use Rattle.checkpoint.specs.Layouts.{half_at}
+use Rattle.checkpoint.specs.Stores.{Counts, snapshot_in, record_sectors, begins_with}
+use Rattle.checkpoint.specs.Holds.{Holds, layout_of, journal}
+use Rattle.checkpoint.specs.Reads.{IsFront, HasRecords, IsClearFrom, HasStrayFrom}
+use Rattle.checkpoint.specs.Holdless.{HasBadJournal, IsAstray, HoldsNothing, UnlessUnread, IsOfJournal, IsOfBytes, told_of}
 use Rattle.checkpoint.specs.declared.faults.StoreFault.{StoreFault}
 use Rattle.checkpoint.specs.declared.faults.StoreFault.TheVariants as store
 use Rattle.state_codec.specs.declared.fault.CodecFault.{CodecFault}
@@ -35,29 +35,12 @@ marked version image sequence index (command ∷ commands) fits same (suc i) bel
     let rest : record_sectors (suc index) (length commands) image ≡ journal version sequence (suc index) commands = cc in
     ap (λ (k : ℕ). begins_with (sector (2 + k) image)) (let e : index + suc i ≡ suc index + i = omega arith in e) ∙ marked version image sequence (suc index) commands fits rest i (omega (arith, below))
 
-module _ (version : Version) (sectors : ℕ) (front image : List ℕ) (whole : IsFront sectors front image) (header : Header) (counts : Counts (layout_of version) image header) where
-  same : (i : ℕ) → i < 256 → sector (2 + i) image ≡ sector (2 + i) front
-  same i below = sym (in_front sectors front image whole (2 + i) (omega (arith, below)))
-
-  records_there : (commands : List Command) → HasRecords version front header.sequence commands → HasRecords version image header.sequence commands
-  records_there commands has = record {
-    led = record { records = same_records 0 (length commands) front image (λ j from to. same j (omega (arith, to, has.count))) ∙ has.led.records; recorded = has.led.recorded };
-    count = has.count;
-    ends = λ inside command recorded is. has.ends inside command recorded (sym (same (length commands) inside) ∙ is);
-  }
-
-  pub stray_there : (commands : List Command) → HasRecords version front header.sequence commands → HasStrayFrom (length commands) front header.sequence → HasStray version image header.sequence
-  stray_there commands has stray = record {
-    commands = commands;
-    records = records_there commands has;
-    stray = (stray.0, stray.1, stray.2, subst (λ (s : List ℕ). header.sequence ≤ begins_with s) (sym (same stray.0 stray.2)) stray.3);
-  }
-
-  pub holds_there : (state : State) (commands : List Command) (used : ℕ) → snapshot_in (layout_of version) image header.sequence header.length ≡ state_bytes version state → IsStateOf version state → KeepsFacts state
-      → HasRecords version front header.sequence commands → IsClearFrom (length commands) front header.sequence → used ≡ length commands
+-- what an image holds, by its parts
+module _ (version : Version) (image : List ℕ) (header : Header) (counts : Counts (layout_of version) image header) where
+  pub holds_here : (state : State) (commands : List Command) (used : ℕ) → snapshot_in (layout_of version) image header.sequence header.length ≡ state_bytes version state → IsStateOf version state → IsState state
+      → HasRecords version image header.sequence commands → IsClearFrom (length commands) image header.sequence → HaveNumbers version state commands → used ≡ length commands
       → Holds version image state commands (record { sequence = header.sequence; used = used })
-  holds_there state commands used snapshot told facts has clear is_used =
-      let there = records_there commands has in
+  holds_here state commands used snapshot told facts has clear numbers is_used =
       let valid = counts.valid in
       let room : header.length ≤ length (drop (512 * half_at (layout_of version) header.sequence) image) = simp length-drop (omega (arith, valid.fits, valid.room, half_inside (layout_of version) header.sequence)) in
       let counted : length (snapshot_in (layout_of version) image header.sequence header.length) ≡ header.length = simp length-take (omega (arith, room)) in
@@ -69,29 +52,58 @@ module _ (version : Version) (sectors : ℕ) (front image : List ℕ) (whole : I
           header = subst (λ (n : ℕ). Counts (layout_of version) image (record { sequence = header.sequence; length = n })) size counts;
           snapshot = ap (λ (n : ℕ). snapshot_in (layout_of version) image header.sequence n) (sym size) ∙ snapshot;
           count = omega (arith, long, has.count);
-          records = ap (λ (n : ℕ). record_sectors 0 n image) long ∙ there.led.records;
-          marked = λ i below. ap (λ (k : ℕ). begins_with (sector (2 + k) image)) (let e : i ≡ 0 + i = omega arith in e) ∙ marked version image header.sequence 0 commands fits there.led.records i (omega (arith, below, long));
-          rest = λ i from to. subst (λ (s : List ℕ). begins_with s < header.sequence) (sym (same i to)) (clear i (omega (arith, from, long)) to);
+          records = ap (λ (n : ℕ). record_sectors 0 n image) long ∙ has.led.records;
+          marked = λ i below. ap (λ (k : ℕ). begins_with (sector (2 + k) image)) (let e : i ≡ 0 + i = omega arith in e) ∙ marked version image header.sequence 0 commands fits has.led.records i (omega (arith, below, long));
+          rest = λ i from to. clear i (omega (arith, from, long)) to;
         };
         used = is_used;
         facts = facts;
         told = told;
         recorded = has.led.recorded;
+        numbers = numbers;
       }
 
+module _ (version : Version) (sectors : ℕ) (front image : List ℕ) (whole : IsFront sectors front image) (header : Header) (counts : Counts (layout_of version) image header) where
+  same : (i : ℕ) → i < 256 → sector (2 + i) image ≡ sector (2 + i) front
+  same i below = sym (in_front sectors front image whole (2 + i) (omega (arith, below)))
+
+  records_there : (commands : List Command) → HasRecords version front header.sequence commands → HasRecords version image header.sequence commands
+  records_there commands has = record {
+    led = record { records = same_records 0 (length commands) front image (λ j from to. same j (omega (arith, to, has.count))) ∙ has.led.records; recorded = has.led.recorded };
+    count = has.count;
+    ends = λ inside command recorded is. has.ends inside command recorded (sym (same (length commands) inside) ∙ is);
+  }
+
+  pub stray_there : (state : State) (commands : List Command) → HasRecords version front header.sequence commands → HasStrayFrom (length commands) front header.sequence → HasBadJournal version image header.sequence state
+  stray_there state commands has stray = record {
+    commands = commands;
+    records = records_there commands has;
+    why = inl (stray.0, stray.1, stray.2, subst (λ (s : List ℕ). header.sequence ≤ begins_with s) (sym (same stray.0 stray.2)) stray.3);
+  }
+
+  pub past_there : (state : State) (commands : List Command) → HasRecords version front header.sequence commands → ¬ HaveNumbers version state commands → HasBadJournal version image header.sequence state
+  past_there state commands has past = record { commands = commands; records = records_there commands has; why = inr past }
+
+  pub holds_there : (state : State) (commands : List Command) (used : ℕ) → snapshot_in (layout_of version) image header.sequence header.length ≡ state_bytes version state → IsStateOf version state → IsState state
+      → HasRecords version front header.sequence commands → IsClearFrom (length commands) front header.sequence → HaveNumbers version state commands → used ≡ length commands
+      → Holds version image state commands (record { sequence = header.sequence; used = used })
+  holds_there state commands used snapshot told facts has clear numbers is_used =
+      holds_here version image header counts state commands used snapshot told facts (records_there commands has)
+      (λ i from to. subst (λ (s : List ℕ). begins_with s < header.sequence) (sym (same i to)) (clear i from to)) numbers is_used
+
 -- what the journal refuses, of an image whose header counts
-pub journal_refused : {T : Type 0} (P : T → Type 0) (version : Version) (image : List ℕ) (header : Header) → Counts (layout_of version) image header → (HasStray version image header.sequence → IsAstray version image header)
-    → (result : Result T StoreFault) → IfErr result IsOfJournal → MatchResult result P (UnlessUnread (λ fault. HasStray version image header.sequence)) → MatchResult result P (UnlessUnread (HoldsNothing version image))
-journal_refused P version image header counts astray (Ok x) kind told = told
-journal_refused P version image header counts astray (Err store.OutOfMemory) kind told = tt
-journal_refused P version image header counts astray (Err (store.Codec codec.BadField)) kind told = (header, counts, inr (refl, astray told))
-journal_refused P version image header counts astray (Err (store.Codec codec.Truncated)) kind told = absurd kind
-journal_refused P version image header counts astray (Err (store.Codec (codec.PlanRefused rule))) kind told = absurd kind
-journal_refused P version image header counts astray (Err (store.Codec codec.OutOfMemory)) kind told = absurd kind
-journal_refused P version image header counts astray (Err store.NotFormatted) kind told = absurd kind
-journal_refused P version image header counts astray (Err store.BadVersion) kind told = absurd kind
-journal_refused P version image header counts astray (Err store.Spent) kind told = absurd kind
-journal_refused P version image header counts astray (Err store.DeviceFault) kind told = absurd kind
+pub journal_refused : {T : Type 0} (P : T → Type 0) (version : Version) (image : List ℕ) (header : Header) (state : State) → Counts (layout_of version) image header → (HasBadJournal version image header.sequence state → IsAstray version image header)
+    → (result : Result T StoreFault) → IfErr result IsOfJournal → MatchResult result P (UnlessUnread (λ fault. HasBadJournal version image header.sequence state)) → MatchResult result P (UnlessUnread (HoldsNothing version image))
+journal_refused P version image header state counts astray (Ok x) kind told = told
+journal_refused P version image header state counts astray (Err store.OutOfMemory) kind told = tt
+journal_refused P version image header state counts astray (Err (store.Codec codec.BadField)) kind told = (header, counts, inr (refl, astray told))
+journal_refused P version image header state counts astray (Err (store.Codec codec.Truncated)) kind told = absurd kind
+journal_refused P version image header state counts astray (Err (store.Codec (codec.PlanRefused rule))) kind told = absurd kind
+journal_refused P version image header state counts astray (Err (store.Codec codec.OutOfMemory)) kind told = absurd kind
+journal_refused P version image header state counts astray (Err store.NotFormatted) kind told = absurd kind
+journal_refused P version image header state counts astray (Err store.BadVersion) kind told = absurd kind
+journal_refused P version image header state counts astray (Err store.Spent) kind told = absurd kind
+journal_refused P version image header state counts astray (Err store.DeviceFault) kind told = absurd kind
 
 -- what the codec refuses
 pub codec_refused : (version : Version) (image : List ℕ) (header : Header) (bytes : List ℕ) → Counts (layout_of version) image header → bytes ≡ snapshot_in (layout_of version) image header.sequence header.length

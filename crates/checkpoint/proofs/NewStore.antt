@@ -1,5 +1,5 @@
 -- What the calls that make a new store leave.
-use Rattle.std.proofs.Common.{◌≡◌, ◌⊎◌, inl, inr, ⊎_elim, ℕ, ◌+◌, ◌*◌, ◌%◌, ◌^◌, ◌<◌, ◌≤◌, List, [], length, take, refl, sym, ◌∙◌, ap, subst, arith}
+use Rattle.std.proofs.Common.{◌≡◌, inl, inr, ⊎_elim, ℕ, ◌+◌, ◌*◌, ◌%◌, ◌≤◌, List, [], length, take, refl, sym, ◌∙◌, ap, subst, arith}
 use Rattle.sector_disk.specs.Image.{written}
 use Rattle.sector_disk.specs.Sectors.{Reached, Only}
 use Rattle.checkpoint.specs.declared.headers.Header.{Header}

@@ -1,7 +1,6 @@
 -- The calls of a put, one after the other: what a stop may leave within the write, between the calls and behind the sync.
-use Rattle.std.proofs.Common.{◌≡◌, ◌⊎◌, ◌+◌, ◌^◌, ◌≤◌, ℕ, List, Result, Ok, Err, OnOk, OnErr, length, inl, inr, refl, sym, ◌∙◌, ap, subst, arith}
+use Rattle.std.proofs.Common.{◌≡◌, ◌+◌, ◌≤◌, ℕ, List, Result, Ok, Err, OnOk, OnErr, inl, refl, sym, ◌∙◌, subst, arith}
 use Rattle.sector_disk.specs.Image.{written, Mixes}
-use Rattle.sector_disk.specs.ImageLaws.{length-written}
 use Rattle.sector_disk.specs.Sectors.{Reached, Elapses, Throughout, SameImages, Only, calls_after}
 use Rattle.sector_disk.specs.Throughout.{started, goes_on}
 use Rattle.checkpoint.specs.Puts.{IsInPut}

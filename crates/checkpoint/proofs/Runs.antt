@@ -1,7 +1,7 @@
 -- Runs of sectors in images.
-use Rattle.std.proofs.Common.{◌≡◌, ◌⊎◌, inl, inr, ⊎_elim, ℕ, zero, suc, ◌+◌, ◌-◌, ◌*◌, ◌<◌, ◌≤◌, List, [], ◌∷◌, ◌++◌, length, take, drop, replicate, refl, sym, ◌∙◌, ap, subst, arith, length-append, length-take, length-drop, take-append-drop, append_assoc}
+use Rattle.std.proofs.Common.{◌≡◌, ◌⊎◌, inr, ℕ, zero, suc, ◌+◌, ◌*◌, ◌<◌, ◌≤◌, List, [], ◌∷◌, ◌++◌, length, take, drop, refl, sym, ◌∙◌, ap, arith, length-take, length-drop, take-append-drop, append_assoc}
 use Rattle.std.proofs.lemmas.List.{take-append-le, take_all, drop_at}
-use Rattle.sector_disk.specs.Image.{sector, written, Mixes}
+use Rattle.sector_disk.specs.Image.{sector, written}
 use Rattle.sector_disk.specs.ImageLaws.{sector_left, sector_drop, length-written, same_sectors, sector-written_inside, mixes_outside}
 use Rattle.checkpoint.specs.Stores.{record_sectors}
 

@@ -1,14 +1,14 @@
 -- A state as a snapshot.
 use Rattle.std.specs.Prelude.{◌≡◌, ℕ, ◌*◌, ◌%◌, ◌≤◌, List, length, take}
+use Rattle.command_core.specs.Runs.{IsState}
 use Rattle.command_core.specs.declared.states.State.{State}
 use Rattle.state_codec.specs.declared.version.Version.TheVariants.{Two}
 use Rattle.state_codec.specs.Bytes.{state_bytes}
-use Rattle.checkpoint.specs.Holds.{KeepsFacts}
 
 -- whole sectors that begin with the state's bytes and have room in a half
 pub record IsSnapshot (state : State) (size : ℕ) (bytes : List ℕ) : Type 0 where
   pub is : take size bytes ≡ state_bytes Two state
-  pub facts : KeepsFacts state
+  pub facts : IsState state
   pub some : 1 ≤ size
   pub long : size ≤ length bytes
   pub whole : length bytes % 512 ≡ 0

@@ -1,5 +1,6 @@
 -- Why an image holds nothing.
 use Rattle.std.specs.Prelude.{◌≡◌, ◌⊎◌, ℕ, List, length, Err}
+use Rattle.command_core.specs.Runs.{IsState}
 use Rattle.command_core.specs.declared.commands.Command.{Command}
 use Rattle.command_core.specs.declared.states.State.{State}
 use Rattle.state_codec.specs.Bytes.{state_bytes}
@@ -12,8 +13,9 @@ use Rattle.checkpoint.specs.declared.layouts.Layout.{Layout}
 use Rattle.checkpoint.specs.declared.headers.Header.{Header}
 use Rattle.checkpoint.specs.declared.faults.StoreFault.{StoreFault}
 use Rattle.checkpoint.specs.declared.faults.StoreFault.TheVariants as store
+use Rattle.checkpoint.specs.Numbers.{HaveNumbers}
 use Rattle.checkpoint.specs.Stores.{IsValid, IsOfOtherVersion, IsUnformatted, Counts, snapshot_in}
-use Rattle.checkpoint.specs.Holds.{KeepsFacts, layout_of}
+use Rattle.checkpoint.specs.Holds.{layout_of}
 use Rattle.checkpoint.specs.Reads.{HasRecords, HasStrayFrom}
 
 -- no header is valid, and some header sector is of another version
@@ -21,7 +23,7 @@ pub record IsForeign (layout : Layout) (image : List ℕ) : Type 0 where
   pub none : (header : Header) → ¬ IsValid layout image header
   pub other : IsOfOtherVersion layout image
 
--- what is told where no header counts
+-- Why no header counts: some header sector is of another version, or none is.
 abbrev pub HasNoHeader : Layout → List ℕ → StoreFault → Type 0
 HasNoHeader layout image store.NotFormatted = IsUnformatted layout image
 HasNoHeader layout image store.BadVersion = IsForeign layout image
@@ -30,11 +32,12 @@ HasNoHeader layout image store.Spent = ⊥
 HasNoHeader layout image store.OutOfMemory = ⊥
 HasNoHeader layout image store.DeviceFault = ⊥
 
--- A record sector behind the records of a sequence begins with this sequence or a greater one.
-pub record HasStray (version : Version) (image : List ℕ) (sequence : ℕ) : Type 0 where
+-- The journal of a sequence is not one of this state: a record sector behind its records begins with this sequence or a greater one, or its
+-- records add a stop past the last number of the version.
+pub record HasBadJournal (version : Version) (image : List ℕ) (sequence : ℕ) (state : State) : Type 0 where
   pub commands : List Command
   pub records : HasRecords version image sequence commands
-  pub stray : HasStrayFrom (length commands) image sequence
+  pub why : HasStrayFrom (length commands) image sequence ⊎ (¬ HaveNumbers version state commands)
 
 -- These bytes are refused as a state's for this fault, which is never want of memory.
 abbrev pub IsRefusedFor : Version → List ℕ → CodecFault → Type 0
@@ -43,13 +46,13 @@ IsRefusedFor version bytes codec.BadField = Decodes version bytes (Err codec.Bad
 IsRefusedFor version bytes (codec.PlanRefused rule) = Decodes version bytes (Err (codec.PlanRefused rule))
 IsRefusedFor version bytes codec.OutOfMemory = ⊥
 
--- A header counts and its snapshot is a state's, but a record sector behind the records begins with this sequence or a greater one.
+-- A header counts and its snapshot is a state's, but the journal is not one of this state.
 pub record IsAstray (version : Version) (image : List ℕ) (header : Header) : Type 0 where
   pub state : State
   pub snapshot : snapshot_in (layout_of version) image header.sequence header.length ≡ state_bytes version state
-  pub facts : KeepsFacts state
+  pub facts : IsState state
   pub told : IsStateOf version state
-  pub stray : HasStray version image header.sequence
+  pub journal : HasBadJournal version image header.sequence state
 
 -- what is told where a header counts
 abbrev pub IsBroken : Version → List ℕ → Header → CodecFault → Type 0
@@ -57,12 +60,8 @@ IsBroken version image header fault = IsRefusedFor version (snapshot_in (layout_
 
 -- The image holds nothing, and this is why: the first cause of the headers, the snapshot, the journal.
 abbrev pub HoldsNothing : Version → List ℕ → StoreFault → Type 0
-HoldsNothing version image store.NotFormatted = IsUnformatted (layout_of version) image
-HoldsNothing version image store.BadVersion = IsForeign (layout_of version) image
 HoldsNothing version image (store.Codec fault) = (header : Header) × Counts (layout_of version) image header × IsBroken version image header fault
-HoldsNothing version image store.Spent = ⊥
-HoldsNothing version image store.OutOfMemory = ⊥
-HoldsNothing version image store.DeviceFault = ⊥
+HoldsNothing version image fault = HasNoHeader (layout_of version) image fault
 
 -- what holds of the fault, where it tells of the image
 abbrev pub UnlessUnread : (StoreFault → Type 0) → StoreFault → Type 0

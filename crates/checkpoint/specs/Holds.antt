@@ -1,8 +1,7 @@
 -- What an image holds: a state, the commands since, and where the journal goes on.
 use Rattle.std.specs.Prelude.{◌≡◌, ℕ, suc, List, [], ◌∷◌, length, All}
-use Rattle.command_core.specs.Job.{IsJob}
+use Rattle.command_core.specs.Runs.{IsState}
 use Rattle.command_core.specs.declared.states.State.{State}
-use Rattle.command_core.specs.declared.states.State.TheVariants.{Empty, Loaded}
 use Rattle.command_core.specs.declared.commands.Command.{Command}
 use Rattle.state_codec.specs.declared.version.Version.{Version}
 use Rattle.state_codec.specs.declared.version.Version.TheVariants.{One, Two}
@@ -12,6 +11,7 @@ use Rattle.checkpoint.specs.declared.layouts.Layout.{Layout}
 use Rattle.checkpoint.specs.declared.places.Place.{Place}
 use Rattle.checkpoint.specs.Layouts.{version_1, version_2}
 use Rattle.checkpoint.specs.Stores.{Stores}
+use Rattle.checkpoint.specs.Numbers.{HaveNumbers}
 
 abbrev pub layout_of : Version → Layout
 layout_of One = version_1
@@ -19,8 +19,7 @@ layout_of Two = version_2
 
 -- the facts that a state keeps
 abbrev pub KeepsFacts : State → Type 0
-KeepsFacts Empty = Unit {0}
-KeepsFacts (Loaded job) = IsJob job
+KeepsFacts = IsState
 
 -- the sectors of these commands, as the records of a sequence from this index on
 abbrev pub journal : Version → ℕ → ℕ → List Command → List (List ℕ)
@@ -28,10 +27,11 @@ journal version sequence index [] = []
 journal version sequence index (command ∷ commands) = record_bytes version sequence index command ∷ journal version sequence (suc index) commands
 
 -- The image stores, under the place's sequence, the bytes of this state and the records of these commands. The state keeps its facts, and is one that the
--- version's bytes can tell; each command is one that has a record.
+-- version's bytes can tell; each command is one that has a record, and the stops that they add have numbers of the version.
 pub record Holds (version : Version) (image : List ℕ) (state : State) (commands : List Command) (place : Place) : Type 0 where
   pub stored : Stores (layout_of version) image place.sequence (state_bytes version state) (journal version place.sequence 0 commands)
   pub used : place.used ≡ length commands
-  pub facts : KeepsFacts state
+  pub facts : IsState state
   pub told : IsStateOf version state
   pub recorded : All (IsRecorded version) commands
+  pub numbers : HaveNumbers version state commands

@@ -2,12 +2,14 @@
 pub mod Layouts
 pub mod Headers
 pub mod Stores
+pub mod Numbers
 pub mod Holds
 pub mod Moments
 pub mod Reads
 pub mod Holdless
 pub mod Refused
 pub mod Names
+pub mod Laws
 -- of private functions alone
 pub mod Puts
 pub mod Encoding

@@ -2,12 +2,15 @@
 use Rattle.std.specs.Prelude.{◌≡◌, ◌≢◌, ℕ, ◌+◌, ◌*◌, ◌%◌, ◌^◌, ◌<◌, ◌≤◌, List, Option, Some, None, length, take, All}
 use Rattle.sector_disk.specs.Image.{sector}
 use Rattle.sector_disk.specs.Sectors.{SameImages, Throughout}
+use Rattle.command_core.specs.Runs.{IsState}
+use Rattle.command_core.specs.declared.states.State.{State}
 use Rattle.command_core.specs.declared.commands.Command.{Command}
 use Rattle.state_codec.specs.declared.version.Version.{Version}
 use Rattle.state_codec.specs.Bytes.{record_bytes}
 use Rattle.state_codec.specs.Limits.{IsRecorded}
 use Rattle.checkpoint.specs.declared.layouts.Layout.{Layout}
 use Rattle.checkpoint.specs.declared.headers.Header.{Header}
+use Rattle.checkpoint.specs.declared.places.Place.{Place}
 use Rattle.checkpoint.specs.Layouts.{sectors_in}
 use Rattle.checkpoint.specs.Stores.{IsValid, Counts, snapshot_in, record_sectors, begins_with}
 use Rattle.checkpoint.specs.Holds.{layout_of, journal}
@@ -18,15 +21,26 @@ pub record IsUnchanged {D : Type 0} (clock : D → ℕ) (since : D → ℕ → �
   pub images : SameImages (possible old) (possible new)
   pub moments : Throughout clock since old new (λ m image. (m ≡ calls old) × possible old image)
 
+-- What is read of any device, whether or not it answers as the model says: it has the sectors of a store, at least so many, the place is one
+-- that a store can stand at, and the state keeps its facts.
+pub record IsStanding (least sectors : ℕ) (state : State) (place : Place) : Type 0 where
+  pub room : least ≤ sectors
+  pub first : 1 ≤ place.sequence
+  pub last : place.sequence ≤ 2 ^ 60
+  pub used : place.used ≤ 256
+  pub facts : IsState state
+
 -- the headers and the records of an image of so many sectors
 pub record IsFront (sectors : ℕ) (front image : List ℕ) : Type 0 where
   pub size : length image ≡ 512 * sectors
   pub room : 258 ≤ sectors
   pub is : take (512 * 258) image ≡ front
 
--- a header whose snapshot has room in its half, on a device that has room for the layout
+-- a header of a store: its snapshot has room in its half, and a device of so many sectors for the layout
 pub record FitsLayout (layout : Layout) (sectors : ℕ) (header : Header) : Type 0 where
   pub room : sectors_in layout ≤ sectors
+  pub first : 1 ≤ header.sequence
+  pub last : header.sequence ≤ 2 ^ 60
   pub some : 1 ≤ header.length
   pub fits : header.length ≤ 512 * layout.half
 

@@ -1,12 +1,13 @@
 // Commits of records and of snapshots.
 ghost use Rattle.std.specs.Prelude.{◌≡◌, ◌+◌, ◌*◌, ◌%◌, ◌<◌, ◌≤◌, ◌^◌, ℕ, List, [], ◌∷◌, ◌++◌, length, take, OnOk, IfOk, IfErr, IsErrOf};
+ghost use Rattle.command_core.specs.Runs.{IsState};
 ghost use Rattle.command_core.specs.declared.states.State.{State};
 ghost use Rattle.command_core.specs.declared.commands.Command.{Command};
 ghost use Rattle.sector_disk.specs.Sectors.{Throughout, faults_after};
 ghost use Rattle.state_codec.specs.declared.version.Version.TheVariants.{Two};
 ghost use Rattle.state_codec.specs.Limits.{IsRecorded};
 ghost use Rattle.state_codec.specs.Bytes.{state_bytes};
-ghost use Rattle.checkpoint.specs.Holds.{Holds, KeepsFacts};
+ghost use Rattle.checkpoint.specs.Holds.{Holds};
 ghost use Rattle.checkpoint.specs.Refused.{IsOfCommit, IsKeptByCommit, faults_after_reading};
 ghost use Rattle.checkpoint.specs.Moments.{IsInCommit, IsInRecord};
 
@@ -37,15 +38,18 @@ pub fn commit_record<D: Sectors>(
     requires last { place.sequence ≤ 2 ^ 60 }
 
     ensures fails { IfErr result (λ fault. fault ≡ StoreFault.DeviceFault) }
-    ensures place { IfOk result (λ next. next ≡ record { sequence = place.sequence; used = place.used + 1 }) }
+    ensures place { IfOk result (λ next. next
+        ≡ record { sequence = place.sequence; used = place.used + 1 }) }
     ensures same_len { D.len device.new ≡ D.len device.old }
     ensures finished { OnOk result (D.calls device.new ≡ D.calls device.old + 2) }
     ensures fault { D.faults device.new ≡ faults_after result (D.faults device.old) }
     ensures honest { D.honest device.new → D.honest device.old }
-    ensures moments { D.honest device.new → (state : State) (commands : List Command) → ((image : List ℕ) → D.possible device.old image → Holds Two image state commands place)
+    ensures moments { D.honest device.new → (state : State) (commands : List Command)
+        → ((image : List ℕ) → D.possible device.old image → Holds Two image state commands place)
         → Throughout D.clock D.possible_since device.old device.new (IsInRecord (λ image. Holds Two image state commands place)
         (λ image. Holds Two image state (commands ++ command.now ∷ []) (record { sequence = place.sequence; used = place.used + 1 })) (D.calls device.old)) }
-    ensures after { D.honest device.new → (state : State) (commands : List Command) → ((image : List ℕ) → D.possible device.old image → Holds Two image state commands place)
+    ensures after { D.honest device.new → (state : State) (commands : List Command)
+        → ((image : List ℕ) → D.possible device.old image → Holds Two image state commands place)
         → OnOk result ((image : List ℕ) → D.possible device.new image → Holds Two image state (commands ++ command.now ∷ []) (record { sequence = place.sequence; used = place.used + 1 })) }
 {
     let bytes = encode_record(place.sequence, place.used, command);
@@ -67,7 +71,7 @@ fn save<D: Sectors>(
     bytes: &[u8],
 ) -> Result<Place, StoreFault>
     requires is { take size bytes.now ≡ state_bytes Two state.now }
-    requires facts { KeepsFacts state.now }
+    requires facts { IsState state.now }
     requires some { 1 ≤ size }
     requires long { size ≤ length bytes.now }
     requires whole { length bytes.now % 512 ≡ 0 }
@@ -77,15 +81,18 @@ fn save<D: Sectors>(
     requires next { place.sequence < 2 ^ 60 }
 
     ensures fails { IfErr result (λ fault. fault ≡ StoreFault.DeviceFault) }
-    ensures place { IfOk result (λ next. next ≡ record { sequence = place.sequence + 1; used = 0 }) }
+    ensures place { IfOk result (λ next. next
+        ≡ record { sequence = place.sequence + 1; used = 0 }) }
     ensures same_len { D.len device.new ≡ D.len device.old }
     ensures finished { OnOk result (D.calls device.new ≡ D.calls device.old + 4) }
     ensures fault { D.faults device.new ≡ faults_after result (D.faults device.old) }
     ensures honest { D.honest device.new → D.honest device.old }
-    ensures moments { D.honest device.new → (old : State) (commands : List Command) → ((image : List ℕ) → D.possible device.old image → Holds Two image old commands place)
+    ensures moments { D.honest device.new → (old : State) (commands : List Command)
+        → ((image : List ℕ) → D.possible device.old image → Holds Two image old commands place)
         → Throughout D.clock D.possible_since device.old device.new (IsInCommit (λ image. Holds Two image old commands place)
         (λ image. Holds Two image state.now [] (record { sequence = place.sequence + 1; used = 0 })) (D.calls device.old)) }
-    ensures after { D.honest device.new → (old : State) (commands : List Command) → ((image : List ℕ) → D.possible device.old image → Holds Two image old commands place)
+    ensures after { D.honest device.new → (old : State) (commands : List Command)
+        → ((image : List ℕ) → D.possible device.old image → Holds Two image old commands place)
         → OnOk result ((image : List ℕ) → D.possible device.new image → Holds Two image state.now [] (record { sequence = place.sequence + 1; used = 0 })) }
 {
     let sequence = place.sequence + 1;
@@ -124,15 +131,18 @@ pub fn commit_snapshot<D: Sectors>(
     ensures spent { place.sequence ≡ 2 ^ 60 → IsErrOf result StoreFault.Spent }
     ensures not_spent { place.sequence < 2 ^ 60 → ¬ IsErrOf result StoreFault.Spent }
     ensures kept { IfErr result (λ fault. IsKeptByCommit fault device.old device.new) }
-    ensures place { IfOk result (λ next. next ≡ record { sequence = place.sequence + 1; used = 0 }) }
+    ensures place { IfOk result (λ next. next
+        ≡ record { sequence = place.sequence + 1; used = 0 }) }
     ensures same_len { D.len device.new ≡ D.len device.old }
     ensures finished { OnOk result (D.calls device.new ≡ D.calls device.old + 4) }
     ensures fault { D.faults device.new ≡ faults_after_reading result (D.faults device.old) }
     ensures honest { D.honest device.new → D.honest device.old }
-    ensures moments { D.honest device.new → (old : State) (commands : List Command) → ((image : List ℕ) → D.possible device.old image → Holds Two image old commands place)
+    ensures moments { D.honest device.new → (old : State) (commands : List Command)
+        → ((image : List ℕ) → D.possible device.old image → Holds Two image old commands place)
         → Throughout D.clock D.possible_since device.old device.new (IsInCommit (λ image. Holds Two image old commands place)
         (λ image. Holds Two image state.now [] (record { sequence = place.sequence + 1; used = 0 })) (D.calls device.old)) }
-    ensures after { D.honest device.new → (old : State) (commands : List Command) → ((image : List ℕ) → D.possible device.old image → Holds Two image old commands place)
+    ensures after { D.honest device.new → (old : State) (commands : List Command)
+        → ((image : List ℕ) → D.possible device.old image → Holds Two image old commands place)
         → OnOk result ((image : List ℕ) → D.possible device.new image → Holds Two image state.now [] (record { sequence = place.sequence + 1; used = 0 })) }
 {
     if LAST_SEQUENCE <= place.sequence {

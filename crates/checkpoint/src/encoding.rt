@@ -1,11 +1,11 @@
 // States as snapshots.
 ghost use Rattle.std.specs.Prelude.{IfOk};
+ghost use Rattle.command_core.specs.Runs.{IsState};
 ghost use Rattle.checkpoint.specs.Encoding.{IsSnapshot};
-ghost use Rattle.checkpoint.specs.Holds.{KeepsFacts};
 
 use crate::zeros::filled;
 use command_core::State;
-use state_codec::{encode_state, states_are_short};
+use state_codec::{encode_state, encodings_fit};
 use std::alloc::{AllocError, Global};
 
 /// The bytes of a snapshot, to a whole sector.
@@ -17,8 +17,8 @@ pub struct Snapshot {
 }
 
 /// A state keeps its facts.
-pub fn keeps_facts(state: &State)
-    ensures { KeepsFacts state.now }
+pub(crate) fn keeps_facts(state: &State)
+    ensures { IsState state.now }
 {
     match state {
         State::Empty => {}
@@ -29,10 +29,10 @@ pub fn keeps_facts(state: &State)
 }
 
 /// The snapshot of a state.
-pub fn snapshot_of(alloc: Global, state: &State) -> Result<Snapshot, AllocError>
+pub(crate) fn snapshot_of(alloc: Global, state: &State) -> Result<Snapshot, AllocError>
     ensures { IfOk result (λ snapshot. IsSnapshot state.now snapshot.size snapshot.bytes.items) }
 {
-    states_are_short();
+    encodings_fit();
     keeps_facts(state);
     let bytes = encode_state(alloc, state)?;
     let size = bytes.len() as u64;

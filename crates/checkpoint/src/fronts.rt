@@ -1,7 +1,6 @@
 // What the headers and the records of a device tell.
 ghost use Rattle.std.specs.Prelude.{◌≡◌, ◌≢◌, ◌+◌, ◌*◌, ◌%◌, ◌<◌, ◌≤◌, ◌^◌, ◌↔◌, ℕ, List, length, take, OnOk, OnErr, IfOk, IfErr, IfSome, IsTrue, MatchOption, MatchResult, Some, None};
 ghost use Rattle.sector_disk.specs.Image.{sector};
-ghost use Rattle.checkpoint.specs.Layouts.{sectors_in};
 ghost use Rattle.checkpoint.specs.Headers.{HasOtherVersion};
 ghost use Rattle.checkpoint.specs.Stores.{IsValid, Counts, begins_with};
 ghost use Rattle.checkpoint.specs.Reads.{IsFront, FitsLayout, IsAllowed, IsOfParity, HasRecords, IsClearFrom, HasStrayFrom};
@@ -13,7 +12,7 @@ ghost use Rattle.checkpoint.specs.declared.headers.Header.{Header};
 
 use crate::faults::StoreFault;
 use crate::headers::{Header, MAGIC, begins_with, header_in};
-use crate::layouts::Layout;
+use crate::layouts::{Layout, sectors_in};
 use command_core::Command;
 use sector_disk::SECTOR_SIZE;
 use state_codec::version::Version;
@@ -28,13 +27,6 @@ fn sector_at(front: &[u8], i: usize) -> [u8; SECTOR_SIZE]
     let mut sector = [0; SECTOR_SIZE];
     sector.copy_from_slice(&front[i * SECTOR_SIZE..(i + 1) * SECTOR_SIZE]);
     sector
-}
-
-/// How many sectors a store has.
-fn sectors_in(layout: Layout) -> u64
-    ensures { result ≡ sectors_in layout }
-{
-    258 + 2 * u64::from(layout.half)
 }
 
 /// Whether a header may stand in this sector of a device of so many sectors.
@@ -55,7 +47,8 @@ fn valid_header(layout: Layout, sectors: u64, front: &[u8], index: usize) -> Opt
     requires front { length front.now ≡ 512 * 258 }
     requires index { index < 2 }
     ensures fits { IfSome result (FitsLayout layout sectors) }
-    ensures valid { (image : List ℕ) → IsFront sectors front.now image → IsOfParity layout image index result }
+    ensures valid { (image : List ℕ) → IsFront sectors front.now image
+        → IsOfParity layout image index result }
 {
     match header_in(layout.version, &sector_at(front, index)) {
         Some(header) => {
@@ -80,7 +73,8 @@ fn is_of_other_version(version: u32, sector: &[u8; SECTOR_SIZE]) -> bool
 fn no_header(layout: Layout, front: &[u8]) -> StoreFault
     requires front { length front.now ≡ 512 * 258 }
     ensures kind { IsOfHeaders result }
-    ensures told { (sectors : ℕ) (image : List ℕ) → 802 ≤ sectors → IsFront sectors front.now image → ((header : Header) → ¬ IsValid layout image header) → HasNoHeader layout image result }
+    ensures told { (sectors : ℕ) (image : List ℕ) → 802 ≤ sectors → IsFront sectors front.now image
+        → ((header : Header) → ¬ IsValid layout image header) → HasNoHeader layout image result }
 {
     if is_of_other_version(layout.version, &sector_at(front, 0)) {
         return StoreFault::BadVersion;
@@ -92,12 +86,18 @@ fn no_header(layout: Layout, front: &[u8]) -> StoreFault
 }
 
 /// The header that counts, on a device of so many sectors.
-pub fn current_header(layout: Layout, sectors: u64, front: &[u8]) -> Result<Header, StoreFault>
+pub(crate) fn current_header(
+    layout: Layout,
+    sectors: u64,
+    front: &[u8],
+) -> Result<Header, StoreFault>
     requires front { length front.now ≡ 512 * 258 }
     requires room { 802 ≤ sectors }
     ensures kind { IfErr result IsOfHeaders }
     ensures fits { IfOk result (FitsLayout layout sectors) }
-    ensures found { (image : List ℕ) → IsFront sectors front.now image → MatchResult result (λ header. Counts layout image header) (λ fault. HasNoHeader layout image fault) }
+    ensures found { (image : List ℕ) → IsFront sectors front.now image
+        → MatchResult result (λ header. Counts layout image header)
+        (λ fault. HasNoHeader layout image fault) }
 {
     let first = valid_header(layout, sectors, front, 0);
     let second = valid_header(layout, sectors, front, 1);
@@ -126,7 +126,8 @@ fn command_in(
     sequence: u64,
     index: u32,
 ) -> Option<Command>
-    ensures { MatchOption result ((command : Command) → IsRecorded version command → sector.now ≢ record_bytes version sequence index command)
+    ensures { MatchOption result ((command : Command) → IsRecorded version command
+        → sector.now ≢ record_bytes version sequence index command)
         (λ command. IsRecorded version command × (sector.now ≡ record_bytes version sequence index command)) }
 {
     match version {
@@ -136,7 +137,7 @@ fn command_in(
 }
 
 /// The commands of the records of a sequence, up to the first sector that is none.
-pub fn leading_commands(
+pub(crate) fn leading_commands(
     alloc: Global,
     version: Version,
     front: &[u8],
@@ -161,10 +162,11 @@ pub fn leading_commands(
 }
 
 /// The first record sector from this index on that begins with this sequence or a greater one.
-pub fn stray_from(front: &[u8], used: usize, sequence: u64) -> Option<usize>
+pub(crate) fn stray_from(front: &[u8], used: usize, sequence: u64) -> Option<usize>
     requires front { length front.now ≡ 512 * 258 }
     requires used { used ≤ 256 }
-    ensures { MatchOption result (IsClearFrom used front.now sequence) (λ i. HasStrayFrom used front.now sequence) }
+    ensures { MatchOption result (IsClearFrom used front.now sequence)
+        (λ i. HasStrayFrom used front.now sequence) }
 {
     for i in used..256 {
         if sequence <= begins_with(&sector_at(front, 2 + i)) {

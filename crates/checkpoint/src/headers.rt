@@ -7,7 +7,7 @@ ghost use Rattle.checkpoint.specs.declared.headers.Header.{Header};
 use byteorder::{BigEndian, ByteOrder};
 use sector_disk::SECTOR_SIZE;
 
-pub const MAGIC: [u8; 8] = *b"PDRSTORE";
+pub(crate) const MAGIC: [u8; 8] = *b"PDRSTORE";
 
 /// What a header says of the store.
 #[derive(Clone, Copy, Debug, PartialEq, Eq)]
@@ -19,7 +19,7 @@ pub struct Header {
 }
 
 /// A header's sector.
-pub fn header_sector(version: u32, header: Header) -> [u8; SECTOR_SIZE]
+pub(crate) fn header_sector(version: u32, header: Header) -> [u8; SECTOR_SIZE]
     ensures { result ≡ header_bytes version header }
 {
     let mut sector = [0; SECTOR_SIZE];
@@ -31,7 +31,7 @@ pub fn header_sector(version: u32, header: Header) -> [u8; SECTOR_SIZE]
 }
 
 /// The number in the first eight bytes, the highest first.
-pub fn begins_with(bytes: &[u8]) -> u64
+pub(crate) fn begins_with(bytes: &[u8]) -> u64
     requires { 8 ≤ length bytes.now }
     ensures { result ≡ begins_with bytes.now }
 {
@@ -42,10 +42,11 @@ pub fn begins_with(bytes: &[u8]) -> u64
 }
 
 /// The header that a sector of a store of this version holds.
-pub fn header_in(version: u32, sector: &[u8]) -> Option<Header>
+pub(crate) fn header_in(version: u32, sector: &[u8]) -> Option<Header>
     requires { length sector.now ≡ 512 }
     ensures only { IfSome result (λ header. sector.now ≡ header_bytes version header) }
-    ensures all { (header : Header) → header.sequence < 2 ^ 64 → header.length < 2 ^ 64 → sector.now ≡ header_bytes version header → result ≡ Some header }
+    ensures all { (header : Header) → header.sequence < 2 ^ 64 → header.length < 2 ^ 64
+        → sector.now ≡ header_bytes version header → result ≡ Some header }
 {
     let header = Header {
         sequence: begins_with(&sector[12..]),

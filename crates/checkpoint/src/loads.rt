@@ -1,28 +1,30 @@
 // Reading a store.
 ghost use Rattle.std.specs.Prelude.{◌≡◌, ◌+◌, ◌*◌, ◌/◌, ◌%◌, ◌<◌, ◌≤◌, ℕ, List, length, take, drop, OnOk, IfOk, IfErr, IsErrOf, MatchResult};
-ghost use Rattle.checkpoint.specs.Layouts.{sectors_in, half_at};
+ghost use Rattle.command_core.specs.Runs.{IsState};
+ghost use Rattle.checkpoint.specs.Layouts.{sectors_in};
 ghost use Rattle.checkpoint.specs.Stores.{Counts, snapshot_in};
-ghost use Rattle.checkpoint.specs.Reads.{IsFront, IsUnchanged, FitsLayout, HasParts};
+ghost use Rattle.checkpoint.specs.Reads.{IsFront, IsUnchanged, IsStanding, FitsLayout, HasParts};
 ghost use Rattle.state_codec.specs.Bytes.{state_bytes};
-ghost use Rattle.state_codec.specs.declared.version.Version.TheVariants.{Two};
+ghost use Rattle.state_codec.specs.declared.version.Version.TheVariants.{One, Two};
 ghost use Rattle.state_codec.specs.Limits.{IsStateOf};
 ghost use Rattle.state_codec.specs.Refused.{Decodes};
-ghost use Rattle.checkpoint.specs.Holds.{Holds, KeepsFacts, layout_of};
-ghost use Rattle.checkpoint.specs.Holdless.{HasNoHeader, IsOfLoad, HasStray, HoldsNothing, IsOfBytes, told_of, IsOfHeadersOrUnread, IsOfJournal, UnlessUnread};
+ghost use Rattle.checkpoint.specs.Holds.{Holds, layout_of};
+ghost use Rattle.checkpoint.specs.Holdless.{HasNoHeader, IsOfLoad, HasBadJournal, HoldsNothing, IsOfBytes, told_of, IsOfHeadersOrUnread, IsOfJournal, UnlessUnread};
 ghost use Rattle.checkpoint.specs.Refused.{IsOfReading, faults_after_reading};
 
 use crate::encoding::keeps_facts;
 use crate::faults::StoreFault;
 use crate::fronts::{current_header, leading_commands, stray_from};
 use crate::headers::Header;
-use crate::layouts::Layout;
+use crate::layouts::{Layout, half_start, layout_of};
 use crate::making::FRONT;
+use crate::numbers::have_numbers;
 use crate::places::Place;
 use crate::reads::read_run;
 use command_core::{Command, State};
 use sector_disk::{SECTOR_SIZE, Sectors};
 use state_codec::version::Version;
-use state_codec::{CodecFault, decode_state};
+use state_codec::{CodecFault, decode_state, decode_state_v1};
 use std::alloc::Global;
 
 /// The sectors of the smallest store of any version.
@@ -36,7 +38,7 @@ pub struct Opened {
 }
 
 /// Reads the headers and the records. One device call.
-pub fn read_front<D: Sectors>(
+pub(crate) fn read_front<D: Sectors>(
     alloc: Global,
     device: &mut D,
     layout: Layout,
@@ -46,13 +48,17 @@ pub fn read_front<D: Sectors>(
     ensures fails { IfErr result IsOfHeadersOrUnread }
     ensures long { IfOk result (λ opened. length opened.front.items ≡ 512 * 258) }
     ensures fits { IfOk result (λ opened. FitsLayout layout (D.len device.old) opened.header) }
-    ensures found { D.honest device.new → MatchResult result (λ opened. IsFront (D.len device.old) opened.front.items (D.seen device.old) × Counts layout (D.seen device.old) opened.header)
+    ensures found { D.honest device.new
+        → MatchResult result (λ opened.
+        IsFront (D.len device.old) opened.front.items (D.seen device.old)
+        × Counts layout (D.seen device.old) opened.header)
         (UnlessUnread (HasNoHeader layout (D.seen device.old))) }
     ensures same_len { D.len device.new ≡ D.len device.old }
     ensures same_calls { D.calls device.new ≡ D.calls device.old }
     ensures fault { D.faults device.new ≡ faults_after_reading result (D.faults device.old) }
     ensures honest { D.honest device.new → D.honest device.old }
-    ensures kept { D.honest device.new → IsUnchanged D.clock D.possible_since D.possible D.seen D.calls device.old device.new }
+    ensures kept { D.honest device.new
+        → IsUnchanged D.clock D.possible_since D.possible D.seen D.calls device.old device.new }
 {
     let sectors = device.len();
     let front = match read_run(alloc, device, 0, FRONT) {
@@ -65,15 +71,8 @@ pub fn read_front<D: Sectors>(
     }
 }
 
-/// The first sector of the half of a sequence.
-fn half_start(layout: Layout, sequence: u64) -> u64
-    ensures { result ≡ half_at layout sequence }
-{
-    258 + u64::from(layout.half) * (sequence % 2)
-}
-
 /// Reads the snapshot of a header, which is no longer than the device's half has room for. One device call.
-pub fn read_snapshot<D: Sectors>(
+pub(crate) fn read_snapshot<D: Sectors>(
     alloc: Global,
     device: &mut D,
     layout: Layout,
@@ -82,12 +81,15 @@ pub fn read_snapshot<D: Sectors>(
     requires { FitsLayout layout (D.len device.old) header }
 
     ensures fails { IfErr result IsOfReading }
-    ensures bytes { D.honest device.new → IfOk result (λ bytes. bytes.items ≡ snapshot_in layout (D.seen device.old) header.sequence header.length) }
+    ensures bytes { D.honest device.new
+        → IfOk result (λ bytes. bytes.items
+        ≡ snapshot_in layout (D.seen device.old) header.sequence header.length) }
     ensures same_len { D.len device.new ≡ D.len device.old }
     ensures same_calls { D.calls device.new ≡ D.calls device.old }
     ensures fault { D.faults device.new ≡ faults_after_reading result (D.faults device.old) }
     ensures honest { D.honest device.new → D.honest device.old }
-    ensures kept { D.honest device.new → IsUnchanged D.clock D.possible_since D.possible D.seen D.calls device.old device.new }
+    ensures kept { D.honest device.new
+        → IsUnchanged D.clock D.possible_since D.possible D.seen D.calls device.old device.new }
 {
     let size = (header.length as usize).div_ceil(SECTOR_SIZE) * SECTOR_SIZE;
     match read_run(alloc, device, half_start(layout, header.sequence), size) {
@@ -110,24 +112,8 @@ pub struct Loaded {
     pub place: Place,
 }
 
-/// Where the parts of a store of this version lie.
-pub fn layout_of(version: Version) -> Layout
-    ensures { result ≡ layout_of version }
-{
-    match version {
-        Version::One => Layout {
-            version: 1,
-            half: 272,
-        },
-        Version::Two => Layout {
-            version: 2,
-            half: 4096,
-        },
-    }
-}
-
 /// Reads the journal behind a snapshot that was decoded.
-pub fn with_journal(
+pub(crate) fn with_journal(
     alloc: Global,
     version: Version,
     header: Header,
@@ -136,11 +122,15 @@ pub fn with_journal(
 ) -> Result<Loaded, StoreFault>
     requires { length front.now ≡ 512 * 258 }
 
-    ensures facts { KeepsFacts state }
+    ensures facts { IsState state }
     ensures fails { IfErr result IsOfJournal }
-    ensures found { (sectors : ℕ) (image : List ℕ) → IsFront sectors front.now image → Counts (layout_of version) image header
+    ensures standing { (sectors : ℕ) → FitsLayout (layout_of version) sectors header
+        → IfOk result (λ loaded. IsStanding
+        (sectors_in (layout_of version)) sectors loaded.state loaded.place) }
+    ensures found { (sectors : ℕ) (image : List ℕ) → IsFront sectors front.now image
+        → Counts (layout_of version) image header
         → snapshot_in (layout_of version) image header.sequence header.length ≡ state_bytes version state → IsStateOf version state
-        → MatchResult result (λ loaded. Holds version image loaded.state loaded.commands.items loaded.place) (UnlessUnread (λ fault. HasStray version image header.sequence)) }
+        → MatchResult result (λ loaded. Holds version image loaded.state loaded.commands.items loaded.place) (UnlessUnread (λ fault. HasBadJournal version image header.sequence state)) }
 {
     keeps_facts(&state);
     let commands = match leading_commands(alloc, version, front, header.sequence) {
@@ -149,14 +139,20 @@ pub fn with_journal(
     };
     match stray_from(front, commands.len(), header.sequence) {
         Some(_) => Err(StoreFault::Codec(CodecFault::BadField)),
-        None => Ok(Loaded {
-            place: Place {
-                sequence: header.sequence,
-                used: commands.len() as u32,
-            },
-            state,
-            commands,
-        }),
+        None => {
+            if have_numbers(version, &state, &commands) {
+                Ok(Loaded {
+                    place: Place {
+                        sequence: header.sequence,
+                        used: commands.len() as u32,
+                    },
+                    state,
+                    commands,
+                })
+            } else {
+                Err(StoreFault::Codec(CodecFault::BadField))
+            }
+        }
     }
 }
 
@@ -169,7 +165,7 @@ pub struct Parts {
 }
 
 /// Reads the front of a store, and its snapshot. Two device calls, and none on a device that is smaller than any store.
-pub fn read_parts<D: Sectors>(
+pub(crate) fn read_parts<D: Sectors>(
     alloc: Global,
     device: &mut D,
     version: Version,
@@ -178,13 +174,19 @@ pub fn read_parts<D: Sectors>(
     ensures told { D.len device.old < 802 → IsErrOf result StoreFault.NotFormatted }
     ensures fails { IfErr result IsOfHeadersOrUnread }
     ensures long { IfOk result (λ parts. length parts.opened.front.items ≡ 512 * 258) }
-    ensures found { D.honest device.new → MatchResult result (λ parts. HasParts version (D.len device.old) (D.seen device.old) parts.opened.header parts.opened.front.items parts.bytes.items)
+    ensures fits { IfOk result (λ parts.
+        FitsLayout (layout_of version) (D.len device.old) parts.opened.header) }
+    ensures found { D.honest device.new
+        → MatchResult result (λ parts.
+        HasParts version (D.len device.old)
+        (D.seen device.old) parts.opened.header parts.opened.front.items parts.bytes.items)
         (UnlessUnread (HasNoHeader (layout_of version) (D.seen device.old))) }
     ensures same_len { D.len device.new ≡ D.len device.old }
     ensures same_calls { D.calls device.new ≡ D.calls device.old }
     ensures fault { D.faults device.new ≡ faults_after_reading result (D.faults device.old) }
     ensures honest { D.honest device.new → D.honest device.old }
-    ensures kept { D.honest device.new → IsUnchanged D.clock D.possible_since D.possible D.seen D.calls device.old device.new }
+    ensures kept { D.honest device.new
+        → IsUnchanged D.clock D.possible_since D.possible D.seen D.calls device.old device.new }
 {
     if device.len() < LEAST_SECTORS {
         return Err(StoreFault::NotFormatted);
@@ -213,7 +215,7 @@ fn told_of(fault: CodecFault) -> StoreFault
 }
 
 /// What a store holds, by its parts and by what its snapshot decodes to.
-pub fn interpreted(
+pub(crate) fn interpreted(
     alloc: Global,
     version: Version,
     opened: &Opened,
@@ -224,7 +226,11 @@ pub fn interpreted(
     requires decodes { Decodes version bytes.now decoded }
 
     ensures fails { IfErr result IsOfBytes }
-    ensures found { (sectors : ℕ) (image : List ℕ) → HasParts version sectors image opened.now.header opened.now.front.items bytes.now
+    ensures standing { (sectors : ℕ) → FitsLayout (layout_of version) sectors opened.now.header
+        → IfOk result (λ loaded. IsStanding
+        (sectors_in (layout_of version)) sectors loaded.state loaded.place) }
+    ensures found { (sectors : ℕ) (image : List ℕ)
+        → HasParts version sectors image opened.now.header opened.now.front.items bytes.now
         → MatchResult result (λ loaded. Holds version image loaded.state loaded.commands.items loaded.place) (UnlessUnread (HoldsNothing version image)) }
 {
     match decoded {
@@ -237,16 +243,24 @@ pub fn interpreted(
 ///
 /// Else the first cause, in this order, why it holds nothing: `NotFormatted` or `BadVersion` by the headers, `Codec` by the snapshot, and then by the
 /// journal. A device of fewer than 802 sectors is `NotFormatted`, and is not called.
+///
+/// Whatever the device answers, what is given keeps the facts of a store and of a state.
 pub fn load_latest<D: Sectors>(alloc: Global, device: &mut D) -> Result<Loaded, StoreFault>
     ensures small { D.len device.old < 802 → device.new ≡ device.old }
     ensures told { D.len device.old < 802 → IsErrOf result StoreFault.NotFormatted }
     ensures fails { IfErr result IsOfLoad }
-    ensures found { D.honest device.new → MatchResult result (λ loaded. Holds Two (D.seen device.old) loaded.state loaded.commands.items loaded.place) (UnlessUnread (HoldsNothing Two (D.seen device.old))) }
+    ensures standing { IfOk result
+        (λ loaded. IsStanding 8450 (D.len device.old) loaded.state loaded.place) }
+    ensures found { D.honest device.new
+        → MatchResult result (λ loaded.
+        Holds Two (D.seen device.old) loaded.state loaded.commands.items loaded.place)
+        (UnlessUnread (HoldsNothing Two (D.seen device.old))) }
     ensures same_len { D.len device.new ≡ D.len device.old }
     ensures same_calls { D.calls device.new ≡ D.calls device.old }
     ensures fault { D.faults device.new ≡ faults_after_reading result (D.faults device.old) }
     ensures honest { D.honest device.new → D.honest device.old }
-    ensures kept { D.honest device.new → IsUnchanged D.clock D.possible_since D.possible D.seen D.calls device.old device.new }
+    ensures kept { D.honest device.new
+        → IsUnchanged D.clock D.possible_since D.possible D.seen D.calls device.old device.new }
 {
     let parts = match read_parts(alloc, device, Version::Two) {
         Ok(parts) => parts,
@@ -254,4 +268,31 @@ pub fn load_latest<D: Sectors>(alloc: Global, device: &mut D) -> Result<Loaded, 
     };
     let decoded = decode_state(alloc, &parts.bytes);
     interpreted(alloc, Version::Two, &parts.opened, &parts.bytes, decoded)
+}
+
+/// The same for a store of version 1, by its layout, bytes and limits. Records that add a stop past number 4,000 are `Codec(BadField)`: the numbers
+/// go on from the next one of the snapshot, record by record.
+pub fn load_latest_v1<D: Sectors>(alloc: Global, device: &mut D) -> Result<Loaded, StoreFault>
+    ensures small { D.len device.old < 802 → device.new ≡ device.old }
+    ensures told { D.len device.old < 802 → IsErrOf result StoreFault.NotFormatted }
+    ensures fails { IfErr result IsOfLoad }
+    ensures standing { IfOk result
+        (λ loaded. IsStanding 802 (D.len device.old) loaded.state loaded.place) }
+    ensures found { D.honest device.new
+        → MatchResult result (λ loaded.
+        Holds One (D.seen device.old) loaded.state loaded.commands.items loaded.place)
+        (UnlessUnread (HoldsNothing One (D.seen device.old))) }
+    ensures same_len { D.len device.new ≡ D.len device.old }
+    ensures same_calls { D.calls device.new ≡ D.calls device.old }
+    ensures fault { D.faults device.new ≡ faults_after_reading result (D.faults device.old) }
+    ensures honest { D.honest device.new → D.honest device.old }
+    ensures kept { D.honest device.new
+        → IsUnchanged D.clock D.possible_since D.possible D.seen D.calls device.old device.new }
+{
+    let parts = match read_parts(alloc, device, Version::One) {
+        Ok(parts) => parts,
+        Err(fault) => return Err(fault),
+    };
+    let decoded = decode_state_v1(alloc, &parts.bytes);
+    interpreted(alloc, Version::One, &parts.opened, &parts.bytes, decoded)
 }

@@ -14,14 +14,17 @@ use crate::encoding::snapshot_of;
 use crate::faults::FormatFault;
 use crate::headers::Header;
 use crate::places::Place;
-use crate::puts::{SECTORS, put, put_snapshot};
+use crate::puts::{put, put_snapshot};
 use crate::zeros::zeros;
 use command_core::State;
 use sector_disk::{DeviceFault, SECTOR_SIZE, Sectors};
 use std::alloc::Global;
 
+/// How many sectors a store has.
+const SECTORS: u64 = 8450;
+
 /// The bytes of the headers and of the records.
-pub const FRONT: usize = 258 * 512;
+pub(crate) const FRONT: usize = 258 * 512;
 
 /// Writes zeros over the headers and the records, and then the first snapshot with its header. Its bytes are the first of `bytes`. Six calls.
 fn put_all<D: Sectors>(
@@ -41,7 +44,8 @@ fn put_all<D: Sectors>(
     ensures finished { OnOk result (D.calls device.new ≡ D.calls device.old + 6) }
     ensures fault { D.faults device.new ≡ faults_after result (D.faults device.old) }
     ensures honest { D.honest device.new → D.honest device.old }
-    ensures moments { D.honest device.new → Throughout D.clock D.possible_since device.old device.new
+    ensures moments { D.honest device.new
+        → Throughout D.clock D.possible_since device.old device.new
         (IsInFormat (IsUnformatted version_2) (λ image. Stores version_2 image 1 (take size bytes.now) []) (D.calls device.old)) }
 {
     put(device, 0, zeros)?;
@@ -56,7 +60,7 @@ fn put_all<D: Sectors>(
 }
 
 /// Makes a store of the snapshot that the first `size` of these bytes are.
-pub fn make<D: Sectors>(
+pub(crate) fn make<D: Sectors>(
     alloc: Global,
     device: &mut D,
     size: u64,
@@ -74,7 +78,8 @@ pub fn make<D: Sectors>(
     ensures finished { OnOk result (D.calls device.new ≡ D.calls device.old + 6) }
     ensures fault { D.faults device.new ≡ faults_after_format result (D.faults device.old) }
     ensures honest { D.honest device.new → D.honest device.old }
-    ensures moments { D.honest device.new → OnCalls result (Throughout D.clock D.possible_since device.old device.new
+    ensures moments { D.honest device.new
+        → OnCalls result (Throughout D.clock D.possible_since device.old device.new
         (IsInFormat (IsUnformatted version_2) (λ image. Stores version_2 image 1 (take size bytes.now) []) (D.calls device.old))) }
 {
     if device.len() < SECTORS {
@@ -104,9 +109,12 @@ pub fn format<D: Sectors>(alloc: Global, device: &mut D) -> Result<Place, Format
     ensures finished { OnOk result (D.calls device.new ≡ D.calls device.old + 6) }
     ensures fault { D.faults device.new ≡ faults_after_format result (D.faults device.old) }
     ensures honest { D.honest device.new → D.honest device.old }
-    ensures moments { D.honest device.new → OnCalls result (Throughout D.clock D.possible_since device.old device.new
+    ensures moments { D.honest device.new
+        → OnCalls result (Throughout D.clock D.possible_since device.old device.new
         (IsInFormat (IsUnformatted version_2) (λ image. Holds Two image Empty [] (record { sequence = 1; used = 0 })) (D.calls device.old))) }
-    ensures after { D.honest device.new → OnOk result ((image : List ℕ) → D.possible device.new image → Holds Two image Empty [] (record { sequence = 1; used = 0 })) }
+    ensures after { D.honest device.new
+        → OnOk result ((image : List ℕ) → D.possible device.new image
+        → Holds Two image Empty [] (record { sequence = 1; used = 0 })) }
 {
     make(alloc, device, 1, &[0; SECTOR_SIZE])
 }
@@ -124,9 +132,12 @@ pub fn format_with<D: Sectors>(
     ensures finished { OnOk result (D.calls device.new ≡ D.calls device.old + 6) }
     ensures fault { D.faults device.new ≡ faults_after_format result (D.faults device.old) }
     ensures honest { D.honest device.new → D.honest device.old }
-    ensures moments { D.honest device.new → OnCalls result (Throughout D.clock D.possible_since device.old device.new
+    ensures moments { D.honest device.new
+        → OnCalls result (Throughout D.clock D.possible_since device.old device.new
         (IsInFormat (IsUnformatted version_2) (λ image. Holds Two image state.now [] (record { sequence = 1; used = 0 })) (D.calls device.old))) }
-    ensures after { D.honest device.new → OnOk result ((image : List ℕ) → D.possible device.new image → Holds Two image state.now [] (record { sequence = 1; used = 0 })) }
+    ensures after { D.honest device.new
+        → OnOk result ((image : List ℕ) → D.possible device.new image
+        → Holds Two image state.now [] (record { sequence = 1; used = 0 })) }
 {
     if device.len() < SECTORS {
         return Err(FormatFault::TooSmall);

@@ -9,7 +9,7 @@ use sector_disk::{DeviceFault, Sectors};
 use std::alloc::Global;
 
 /// The bytes of a run of whole sectors.
-pub fn read_run<D: Sectors>(
+pub(crate) fn read_run<D: Sectors>(
     alloc: Global,
     device: &mut D,
     first: u64,
@@ -21,12 +21,14 @@ pub fn read_run<D: Sectors>(
 
     ensures fails { IfErr result IsOfReading }
     ensures long { IfOk result (λ bytes. length bytes.items ≡ size) }
-    ensures bytes { D.honest device.new → IfOk result (λ bytes. bytes.items ≡ take size (drop (512 * first) (D.seen device.old))) }
+    ensures bytes { D.honest device.new
+        → IfOk result (λ bytes. bytes.items ≡ take size (drop (512 * first) (D.seen device.old))) }
     ensures same_len { D.len device.new ≡ D.len device.old }
     ensures same_calls { D.calls device.new ≡ D.calls device.old }
     ensures fault { D.faults device.new ≡ faults_after_reading result (D.faults device.old) }
     ensures honest { D.honest device.new → D.honest device.old }
-    ensures kept { D.honest device.new → IsUnchanged D.clock D.possible_since D.possible D.seen D.calls device.old device.new }
+    ensures kept { D.honest device.new
+        → IsUnchanged D.clock D.possible_since D.possible D.seen D.calls device.old device.new }
 {
     let mut bytes = zeros(alloc, size)?;
     match device.read(first, &mut bytes) {

@@ -5,14 +5,14 @@ use sector_disk::SECTOR_SIZE;
 use std::alloc::{AllocError, Global};
 
 /// So many zeros.
-pub fn zeros(alloc: Global, n: usize) -> Result<Vec<u8>, AllocError>
+pub(crate) fn zeros(alloc: Global, n: usize) -> Result<Vec<u8>, AllocError>
     ensures { IfOk result (λ zeros. IsZeros n zeros.items) }
 {
     vec![in alloc; 0; n]
 }
 
 /// These bytes with zeros behind them, to a whole sector.
-pub fn filled(mut bytes: Vec<u8>) -> Result<Vec<u8>, AllocError>
+pub(crate) fn filled(mut bytes: Vec<u8>) -> Result<Vec<u8>, AllocError>
     ensures { IfOk result (λ filled. IsFilled bytes.items filled.items) }
 {
     let gap = (SECTOR_SIZE - bytes.len() % SECTOR_SIZE) % SECTOR_SIZE;

@@ -97,7 +97,7 @@ module _ (p : Instance) (pins routes : List (List ℕ)) (r : Request) (x : Place
           by true e = absurd (let h : is_planned new s ≡ false = not-true (is_planned new s) none in let g : true ≡ false = sym (planned_kept s e) ∙ h in cc)
 
 -- a chain of tests and look-ups gives the plan
-put_in_gives : (p : Instance) (pins routes : List (List ℕ)) (name : ℕ) (x : Place) (y : List (List ℕ)) → put_in p pins routes name x ≡ Some y
+pub put_in_gives : (p : Instance) (pins routes : List (List ℕ)) (name : ℕ) (x : Place) (y : List (List ℕ)) → put_in p pins routes name x ≡ Some y
     → (r : Request) × (request_named p name ≡ Some r) × (is_planned routes r ≡ false) × (is_place_of pins routes r x ≡ true) × (passes p pins y ≡ true) × (y ≡ with_request_at routes r x)
 put_in_gives p pins routes name x y is =
     let t = and_then_some _ (request_named p name) y is in

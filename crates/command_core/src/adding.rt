@@ -14,7 +14,8 @@ use plan_types::{Request, Stop};
 /// One more request, of two stops with the next two numbers, unplanned.
 pub(crate) fn add(job: &Job, demand: u32, pickup: &Spot, delivery: &Spot) -> Result<Job, Refusal>
     requires { job_refusal job.now (Command.Add demand pickup.now delivery.now) ≡ None }
-    ensures ok { IfOk result (λ new. new ≡ added job.now (pair_at job.now.problem.next_number demand pickup.now delivery.now)) }
+    ensures ok { IfOk result (λ new. new
+        ≡ added job.now (pair_at job.now.problem.next_number demand pickup.now delivery.now)) }
     ensures err { IfErr result (λ r. r ≡ Refusal.OutOfMemory) }
 {
     effects_keep_facts();
@@ -28,7 +29,8 @@ pub(crate) fn add(job: &Job, demand: u32, pickup: &Spot, delivery: &Spot) -> Res
 /// One more request, of one stop with the next number, unplanned.
 pub(crate) fn add_single(job: &Job, demand: u32, spot: &Spot) -> Result<Job, Refusal>
     requires { job_refusal job.now (Command.Add1 demand spot.now) ≡ None }
-    ensures ok { IfOk result (λ new. new ≡ added job.now (single_at job.now.problem.next_number demand spot.now)) }
+    ensures ok { IfOk result (λ new. new
+        ≡ added job.now (single_at job.now.problem.next_number demand spot.now)) }
     ensures err { IfErr result (λ r. r ≡ Refusal.OutOfMemory) }
 {
     effects_keep_facts();

@@ -17,8 +17,10 @@ use std::alloc::Global;
 /// What the command makes of the state: a new state, beside the old one, which stays. A refusal other than `OutOfMemory` is told before
 /// memory is asked for.
 pub fn apply(alloc: Global, state: &State, command: &Command) -> Result<State, Refusal>
-    ensures ok { IfOk result (λ new. (new ≡ effect state.now command.now) × (refusal state.now command.now ≡ None)) }
-    ensures err { IfErr result (λ r. (refusal state.now command.now ≡ Some r) ⊎ ((refusal state.now command.now ≡ None) × (r ≡ Refusal.OutOfMemory))) }
+    ensures ok { IfOk result (λ new. (new ≡ effect state.now command.now)
+        × (refusal state.now command.now ≡ None)) }
+    ensures err { IfErr result (λ r. (refusal state.now command.now ≡ Some r)
+        ⊎ ((refusal state.now command.now ≡ None) × (r ≡ Refusal.OutOfMemory))) }
 {
     check(state, command)?;
     match (state, command) {

@@ -13,7 +13,8 @@ use plan_types::limits::MAX_STOP_NUMBER;
 
 /// Whether the state accepts the command: if not, the first refusal, as they are declared, that has a cause. Takes no memory.
 pub fn check(state: &State, command: &Command) -> Result<(), Refusal>
-    ensures { MatchResult result (λ _. refusal state.now command.now ≡ None) (λ r. refusal state.now command.now ≡ Some r) }
+    ensures { MatchResult result (λ _. refusal state.now command.now ≡ None)
+        (λ r. refusal state.now command.now ≡ Some r) }
 {
     match state_refusal(state, command) {
         Some(refusal) => Err(refusal),

@@ -11,6 +11,7 @@ mod lists;
 mod loading;
 mod marks;
 mod pinning;
+mod placing;
 mod planning;
 mod refusals;
 mod states;
@@ -26,3 +27,6 @@ pub use laws::{
 pub use limits::{MAX_COUNT, MAX_DEVIATION, MAX_STEPS};
 pub use refusals::Refusal;
 pub use states::{Job, State};
+
+#[cfg(test)]
+mod tests;

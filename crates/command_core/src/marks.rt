@@ -28,7 +28,8 @@ fn unmarked_names(
     problem: &Problem,
     planned: &[bool],
 ) -> Result<Vec<u32>, OutOfMemory>
-    ensures { IfOk result (λ names. names.items ≡ names_where (λ r. not (is_marked planned.now r)) problem.now.requests) }
+    ensures { IfOk result (λ names. names.items ≡ names_where
+        (λ r. not (is_marked planned.now r)) problem.now.requests) }
 {
     let mut names = Vec::new(alloc);
     for index in 0..problem.requests.len() {
@@ -40,7 +41,8 @@ fn unmarked_names(
 }
 
 fn unmarked_name(problem: &Problem, planned: &[bool], index: usize) -> Option<u32>
-    ensures { result ≡ option_and_then (name_where (λ r. not (is_marked planned.now r))) (slice_get problem.now.requests index) }
+    ensures { result ≡ option_and_then (name_where (λ r. not (is_marked planned.now r)))
+        (slice_get problem.now.requests index) }
 {
     let (name, request) = problem.requests.get_index(index)?;
     if is_marked(planned, request) {
@@ -69,7 +71,8 @@ fn mark(marks: &[bool], stop: u32) -> bool
 
 // For each number below `len` whether it is a stop of one of the routes.
 fn marks(alloc: Global, routes: &[Route], len: usize) -> Result<Vec<bool>, OutOfMemory>
-    ensures { IfOk result (λ marks. (n : ℕ) → n < len → slice_index_or marks.items n false ≡ has_stop routes.now n) }
+    ensures { IfOk result (λ marks. (n : ℕ) → n < len
+        → slice_index_or marks.items n false ≡ has_stop routes.now n) }
 {
     let mut marks = vec![in alloc; false; len]?;
     for route in routes {
@@ -79,7 +82,8 @@ fn marks(alloc: Global, routes: &[Route], len: usize) -> Result<Vec<bool>, OutOf
 }
 
 fn mark_stops(marks: &mut [bool], stops: &[u32])
-    ensures { (n : ℕ) → n < length marks.old → slice_index_or marks.new n false ≡ (slice_index_or marks.old n false || has stops.now n) }
+    ensures { (n : ℕ) → n < length marks.old
+        → slice_index_or marks.new n false ≡ (slice_index_or marks.old n false || has stops.now n) }
 {
     for stop in stops {
         let stop = *stop as usize;

@@ -1,17 +1,14 @@
 //! What is made of a job's plan: requests that are put in, steps of the search, and how far it walks from the incumbent.
-ghost use Rattle.std.specs.Prelude.{◌≡◌, None, true, IfOk, IfErr};
-ghost use Rattle.plan_audit.specs.Passes.{passes};
-ghost use Rattle.seeded_search.specs.Steps.{placed, placed_all};
+ghost use Rattle.std.specs.Prelude.{◌≡◌, None, IfOk, IfErr};
 ghost use Rattle.command_core.specs.Effects.{built, searched, with_deviation};
 ghost use Rattle.command_core.specs.Refusing.{job_refusal};
 
 use crate::commands::Command;
 use crate::laws::effects_keep_facts;
 use crate::marks::unplanned_names;
+use crate::placing::placed_all;
 use crate::refusals::Refusal;
 use crate::states::Job;
-use move_ops::{best_insertion, insert_at};
-use plan_types::{OutOfMemory, Pins, Plan, Problem};
 use seeded_search::{Found, search_steps};
 use std::alloc::Global;
 
@@ -39,44 +36,6 @@ pub(crate) fn build(alloc: Global, job: &Job) -> Result<Job, Refusal>
         seed: job.seed,
         steps: job.steps,
     })
-}
-
-// The plan with these requests put in, one after another.
-fn placed_all(
-    alloc: Global,
-    problem: &Problem,
-    pins: &Pins,
-    plan: Plan,
-    names: &[u32],
-) -> Result<Plan, OutOfMemory>
-    requires { passes problem.now pins.now.routes plan.routes ≡ true }
-    ensures { IfOk result (λ new. new.routes ≡ placed_all problem.now pins.now.routes plan.routes names.now) }
-{
-    let mut plan = plan;
-    for name in names {
-        plan = placed(alloc, problem, pins, plan, *name)?;
-    }
-    Ok(plan)
-}
-
-// The plan with the request at its best insertion, or as it is where it has none.
-fn placed(
-    alloc: Global,
-    problem: &Problem,
-    pins: &Pins,
-    plan: Plan,
-    name: u32,
-) -> Result<Plan, OutOfMemory>
-    requires { passes problem.now pins.now.routes plan.routes ≡ true }
-    ensures { IfOk result (λ new. new.routes ≡ placed problem.now pins.now.routes plan.routes name) }
-{
-    let Some(insertion) = best_insertion(alloc, problem, pins, &plan, name)? else {
-        return Ok(plan);
-    };
-    match insert_at(alloc, problem, pins, &plan, name, insertion)? {
-        Some(new) => Ok(new),
-        None => Ok(plan),
-    }
 }
 
 /// So many steps of the search. Copies the plans once.

@@ -44,8 +44,26 @@ impl Job {
         seed: u64,
         steps: u64,
     ) -> Job
-        requires { IsJob (record { problem = problem; pins = pins.routes; plan = plan.routes; work = work.routes; deviation = deviation; seed = seed; steps = steps }) }
-        ensures { result ≡ record { problem = problem; pins = pins.routes; plan = plan.routes; work = work.routes; deviation = deviation; seed = seed; steps = steps } }
+        requires { IsJob (record {
+          problem = problem;
+          pins = pins.routes;
+          plan = plan.routes;
+          work =
+              work.routes;
+          deviation = deviation;
+          seed = seed;
+          steps = steps;
+        }) }
+        ensures { result ≡ record {
+          problem = problem;
+          pins = pins.routes;
+          plan = plan.routes;
+          work
+              = work.routes;
+          deviation = deviation;
+          seed = seed;
+          steps = steps;
+        } }
     {
         Job {
             problem,

@@ -52,7 +52,8 @@ fn routes_left(
     name: u32,
 ) -> Result<Routes, OutOfMemory>
     requires { without.now ≡ without_request job.now.problem name }
-    ensures { IfOk result (λ new. new ≡ routes_left job.now.problem name job.now.pins job.now.plan) }
+    ensures { IfOk result (λ new. new
+        ≡ routes_left job.now.problem name job.now.pins job.now.plan) }
 {
     passes_are_local();
     plans_are_local();

@@ -42,7 +42,7 @@ module _ (local : PassesAreLocal) (says : TestsSayFeasible) (p : Instance) (pins
   feasible_said : (others : List (List ℕ)) → list_all (feasible_alone p) others ≡ true → All (IsFeasibleAlone p) others
   feasible_said others t = All-from_recursion (IsFeasibleAlone p) others (all_said (feasible_alone p) (IsFeasibleAlone p) (λ x h. (says p x).0 h) others t)
 
-  said_feasible : (others : List (List ℕ)) → All (IsFeasibleAlone p) others → list_all (feasible_alone p) others ≡ true
+  pub said_feasible : (others : List (List ℕ)) → All (IsFeasibleAlone p) others → list_all (feasible_alone p) others ≡ true
   said_feasible others all = said_all (feasible_alone p) (IsFeasibleAlone p) (λ x h. (says p x).1 h) others (recursion_from_All (IsFeasibleAlone p) others all)
 
   -- a plan of as many routes that keeps the pins passes exactly where all its routes are feasible

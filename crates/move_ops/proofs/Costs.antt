@@ -24,7 +24,7 @@ use Rattle.move_ops.proofs.Inserting.{numbers_of, times_inserted}
 use Rattle.move_ops.proofs.Replacing.{at_vehicle, times_with}
 
 -- ---- requests left out: as many, wherever the request is put
-any_same : (n : ℕ) (xs ys : List ℕ) → times n xs ≡ times n ys → list_any (nat_eq n) xs ≡ list_any (nat_eq n) ys
+pub any_same : (n : ℕ) (xs ys : List ℕ) → times n xs ≡ times n ys → list_any (nat_eq n) xs ≡ list_any (nat_eq n) ys
 any_same n xs ys same = by (list_any (nat_eq n) xs) (list_any (nat_eq n) ys) refl refl
   where
     by : (a b : Bool) → list_any (nat_eq n) xs ≡ a → list_any (nat_eq n) ys ≡ b → list_any (nat_eq n) xs ≡ list_any (nat_eq n) ys
@@ -40,12 +40,12 @@ module _ (xs ys : List (List ℕ)) (same : (n : ℕ) → times n (concat xs) ≡
       ap (λ h. h || (has_stop xs b.number || false)) (any_same a.number (concat xs) (concat ys) (same a.number))
       ∙ ap (λ h. has_stop ys a.number || (h || false)) (any_same b.number (concat xs) (concat ys) (same b.number))
 
-  unplanned_same : (p : Instance) → unplanned_count p xs ≡ unplanned_count p ys
+  pub unplanned_same : (p : Instance) → unplanned_count p xs ≡ unplanned_count p ys
   unplanned_same p = let each : (λ (q : Request). is_planned xs q) ≡ (λ (q : Request). is_planned ys q) = λ i q. planned_same q i in ap (λ (f : Request → Bool). count_by (λ e. not (f e.1)) p.requests) each
 
 module _ (p : Instance) (routes : List (List ℕ)) (r : Request) where
   -- the plan with the request has each number as often, wherever it is put
-  often_with : (x : Place) → 1 ≤ x.0 → x.0 ≤ length routes → (n : ℕ) → times n (concat (with_request_at routes r x)) ≡ times n (concat routes) + times n (numbers_of r)
+  pub often_with : (x : Place) → 1 ≤ x.0 → x.0 ≤ length routes → (n : ℕ) → times n (concat (with_request_at routes r x)) ≡ times n (concat routes) + times n (numbers_of r)
   often_with x from within n =
       let e = times_with n routes x.0 (inserted r x.1 x.2 (of_vehicle routes x.0)) from within in
       let f = times_inserted n r x.1 x.2 (of_vehicle routes x.0) in

@@ -1,15 +1,15 @@
 -- Two routes of a plan that passes exchange their ends.
-use Rattle.std.proofs.Common.{◌≡◌, ℕ, zero, suc, ◌+◌, ◌-◌, ◌<◌, ◌≤◌, ◌&&◌, Bool, true, false, cond, eqb, leb, List, [], ◌∷◌, ◌++◌, All, length, take, drop, set, Option, Some, None, slice_get, refl, sym, ap, subst, ◌∙◌, inl, inr, arith}
+use Rattle.std.proofs.Common.{◌≡◌, ℕ, zero, suc, ◌+◌, ◌-◌, ◌≤◌, ◌&&◌, Bool, true, false, cond, eqb, leb, List, length, take, drop, Some, None, refl, sym, ap, subst, ◌∙◌, inl, inr, arith}
 use Rattle.std.specs.List.{concat}
 use Rattle.std.proofs.lemmas.Bool.{cases_Bool, and_parts, and_from, eq-eqb, leb-true}
 use Rattle.std.proofs.lemmas.Bool.Decides.{eqb_tells}
 use Rattle.std.proofs.lemmas.List.{length-set}
 use Rattle.std.proofs.lemmas.List.Elements.{All-set}
 use Rattle.plan_types.specs.Instance.{Instance}
-use Rattle.route_sched.specs.Route.{IsLive, AreLiveOnce, IsPlan}
+use Rattle.route_sched.specs.Route.{AreLiveOnce, IsPlan}
 use Rattle.plan_audit.specs.Alone.{IsFeasibleAlone}
 use Rattle.plan_audit.specs.Laws.{KeepsPins}
-use Rattle.plan_audit.specs.Locality.{IsPassing, PassesAreLocal, TestsSayFeasible}
+use Rattle.plan_audit.specs.Locality.{PassesAreLocal, TestsSayFeasible}
 use Rattle.plan_audit.specs.Passes.{feasible_alone, passes}
 use Rattle.plan_audit.specs.Rules.{item_at}
 use Rattle.move_ops.specs.Insertion.{of_vehicle, with_route}
@@ -55,7 +55,7 @@ module _ (local : PassesAreLocal) (p : Instance) (pins routes : List (List ℕ))
   b_in_half = let e = as_many in omega arith
 
   -- each stop stands as often as before
-  same_times : (n : ℕ) → times n (concat others) ≡ times n (concat routes)
+  pub same_times : (n : ℕ) → times n (concat others) ≡ times n (concat routes)
   same_times n =
       let e = times_with n routes a x a_from a_within in
       let f = times_with n half b y b_from b_in_half in

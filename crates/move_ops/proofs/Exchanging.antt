@@ -190,10 +190,10 @@ module _ (found : NamedAreFound) (p : Instance) (valid : IsInstance p) (a b : �
     abbrev others : List (List ℕ)
     others = map (map (counterpart r s)) routes
 
-    others_plan : IsPlan p others
+    pub others_plan : IsPlan p others
     others_plan = mapped_plan (counterpart r s) back p routes ((parts local p pins routes good).plan) stays_live
 
-    others_pinned : KeepsPins others pins
+    pub others_pinned : KeepsPins others pins
     others_pinned =
         mapped_pinned (counterpart r s) routes pins ((parts local p pins routes good).pinned)
         (λ n pinned. counterpart_other r s n (unpinned pins routes r both_movable.0 n pinned) (unpinned pins routes s both_movable.1 n pinned))

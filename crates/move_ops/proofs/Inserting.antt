@@ -1,12 +1,11 @@
 -- A request put into a route of a plan that passes.
-use Rattle.std.proofs.Common.{◌≡◌, ℕ, zero, suc, ◌+◌, ◌-◌, ◌<◌, ◌≤◌, ◌||◌, Bool, true, false, cond, eqb, ltb, leb, ◌&&◌, List, [], ◌∷◌, ◌++◌, All, length, take, drop, set, Option, Some, None, IsSome, slice_get, refl, sym, ap, subst, ◌∙◌, inl, inr, arith, rules, nat_eq}
+use Rattle.std.proofs.Common.{◌≡◌, ℕ, zero, suc, ◌+◌, ◌-◌, ◌<◌, ◌≤◌, ◌||◌, Bool, true, false, cond, eqb, ltb, leb, ◌&&◌, List, [], ◌∷◌, ◌++◌, length, take, drop, Some, None, IsSome, slice_get, refl, sym, ap, subst, ◌∙◌, inl, inr, arith, rules, nat_eq}
 use Rattle.std.specs.List.{concat, AllByRecursion}
 use Rattle.std.specs.Map.{lookup}
 use Rattle.std.proofs.lemmas.Bool.{cases_lt, cases_Bool, and_parts, eq-eqb, eqb-true, ltb-true, leb-true}
 use Rattle.std.proofs.lemmas.Bool.Decides.{eqb_tells}
 use Rattle.std.proofs.lemmas.List.{length-set}
 use Rattle.std.proofs.lemmas.List.Elements.{All-set}
-use Rattle.std.proofs.lemmas.Map.Entries.{place_from_lookup}
 use Rattle.plan_types.specs.Instance.{Instance, IsInstance}
 use Rattle.plan_types.specs.Laws.{NamedAreFound}
 use Rattle.plan_types.specs.Request.{IsRequest, stop_in}
@@ -15,8 +14,7 @@ use Rattle.plan_types.specs.declared.requests.Request.TheVariants.{Single, Pair}
 use Rattle.route_sched.specs.Route.{IsLive, AreLiveOnce, IsPlan}
 use Rattle.route_sched.specs.Cost.{has_stop, is_planned}
 use Rattle.plan_audit.specs.Alone.{IsFeasibleAlone}
-use Rattle.plan_audit.specs.Laws.{KeepsPins}
-use Rattle.plan_audit.specs.Locality.{IsPassing, PassesAreLocal, TestsSayFeasible}
+use Rattle.plan_audit.specs.Locality.{PassesAreLocal, TestsSayFeasible}
 use Rattle.plan_audit.specs.Passes.{feasible_alone, passes}
 use Rattle.plan_audit.specs.Rules.{item_at}
 use Rattle.move_ops.specs.Insertion.{Place, put_at, inserted, of_vehicle, with_route, with_request_at, are_places, is_place_of, put_in}
@@ -77,7 +75,7 @@ in_numbers n (Pair a b) some = elim (eqb_tells a.number n) [
   ]
 ]
 
-few_numbers : (n : ℕ) (r : Request) → IsRequest r → times n (numbers_of r) ≤ 1
+pub few_numbers : (n : ℕ) (r : Request) → IsRequest r → times n (numbers_of r) ≤ 1
 few_numbers n (Single s) valid = elim (eqb_tells n s.number) [
   | inl t ↦ (let e = one_here n s.number t.1 in omega arith)
   | inr t ↦ (let e = none_here n s.number t.0 in omega arith)

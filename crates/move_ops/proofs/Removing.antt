@@ -115,13 +115,13 @@ module _ (by_name : RequestsStandByName) (p : Instance) (pins routes : List (Lis
 
 module _ (by_name : RequestsStandByName) (local : PassesAreLocal) (plans : PlansAreLocal) (says : TestsSayFeasible) (p : Instance) (pins routes : List (List ℕ)) (valid : IsInstance p)
     (good : passes p pins routes ≡ true) (names : List ℕ) (movable : list_all (is_movable_name p pins routes) names ≡ true) where
-  left_plan : IsPlan p (without_named p names routes)
+  pub left_plan : IsPlan p (without_named p names routes)
   left_plan =
       once_from p (concat (without_named p names routes))
       (λ n. let e = times_left n (λ m. not (is_of_named p names m)) routes in let f = once_few p (concat routes) ((parts local p pins routes good).plan) n in omega arith)
       (λ n some. let e = times_left n (λ m. not (is_of_named p names m)) routes in once_live p (concat routes) ((parts local p pins routes good).plan) n (omega arith))
 
-  left_pinned : KeepsPins (without_named p names routes) pins
+  pub left_pinned : KeepsPins (without_named p names routes) pins
   left_pinned =
       pins_map (filter (λ m. not (is_of_named p names m))) routes pins ((parts local p pins routes good).pinned)
       (λ pin route same stand. front_kept (λ m. not (is_of_named p names m)) pin route same (λ k n at. pinned_kept by_name p pins routes valid names movable n (stand k n at)))

@@ -1,13 +1,12 @@
 -- A plan with another route for a vehicle.
-use Rattle.std.proofs.Common.{◌≡◌, ℕ, zero, suc, ◌+◌, ◌-◌, ◌<◌, ◌≤◌, Bool, true, false, List, [], ◌∷◌, ◌++◌, All, length, take, drop, set, get_or, Option, Some, None, slice_get, refl, sym, ap, subst, ◌∙◌, inl, inr, arith}
+use Rattle.std.proofs.Common.{◌≡◌, ℕ, zero, suc, ◌+◌, ◌-◌, ◌<◌, ◌≤◌, true, List, [], ◌∷◌, All, length, set, Option, Some, slice_get, refl, sym, ap, subst, ◌∙◌, inl, inr, arith}
 use Rattle.std.specs.Prelude.{unwrap_or}
 use Rattle.std.specs.List.{concat}
 use Rattle.std.proofs.lemmas.Bool.Decides.{eqb_tells}
-use Rattle.std.proofs.lemmas.List.{length-set}
-use Rattle.std.proofs.lemmas.List.Elements.{All-set, All-get_or}
+use Rattle.std.proofs.lemmas.List.Elements.{All-get_or}
 use Rattle.std.proofs.lemmas.Option.{slice_get-get_or, unwrap_or-slice_get, slice_get_within, get_or_from_slice_get}
 use Rattle.plan_types.specs.Instance.{Instance}
-use Rattle.route_sched.specs.Route.{AreLiveOnce, IsPlan}
+use Rattle.route_sched.specs.Route.{IsPlan}
 use Rattle.plan_audit.specs.Alone.{IsFeasibleAlone}
 use Rattle.plan_audit.specs.Laws.{KeepsPins}
 use Rattle.plan_audit.specs.Locality.{IsPassing, PassesAreLocal}
@@ -16,12 +15,12 @@ use Rattle.plan_audit.specs.Rules.{item_at, Stands}
 use Rattle.move_ops.specs.Insertion.{of_vehicle, with_route}
 use Rattle.move_ops.proofs.Times.{none_some, some_same, times, times-append, times_replaced}
 
-get_set : {X : Type 0} (xs : List X) (k : ℕ) (y : X) → k < length xs → slice_get (set xs k y) k ≡ Some y
+pub get_set : {X : Type 0} (xs : List X) (k : ℕ) (y : X) → k < length xs → slice_get (set xs k y) k ≡ Some y
 get_set [] k y within = absurd (omega arith)
 get_set (x ∷ xs) zero y within = refl
 get_set (x ∷ xs) (suc k) y within = get_set xs k y (omega arith)
 
-get_set_other : {X : Type 0} (xs : List X) (k j : ℕ) (y : X) → (j ≡ k → ⊥) → slice_get (set xs k y) j ≡ slice_get xs j
+pub get_set_other : {X : Type 0} (xs : List X) (k j : ℕ) (y : X) → (j ≡ k → ⊥) → slice_get (set xs k y) j ≡ slice_get xs j
 get_set_other [] k j y apart = refl
 get_set_other (x ∷ xs) zero zero y apart = absurd (apart refl)
 get_set_other (x ∷ xs) zero (suc j) y apart = refl

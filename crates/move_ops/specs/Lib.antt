@@ -1,8 +1,11 @@
 -- what public contracts say
+pub mod Drafts
 pub mod Insertion
 pub mod Laws
 pub mod Moves
 pub mod Tables
 -- what those of private functions say
+pub mod Changes
 pub mod Choosing
+pub mod Kept
 pub mod Refreshing

@@ -20,7 +20,8 @@ pub fn best_insertion(
     name: u32,
 ) -> Result<Option<(u64, u64, u64)>, OutOfMemory>
     requires { passes problem.now pins.now.routes plan.now.routes ≡ true }
-    ensures { IfOk result (λ o. o ≡ best_insertion problem.now pins.now.routes plan.now.routes name) }
+    ensures { IfOk result (λ o. o
+        ≡ best_insertion problem.now pins.now.routes plan.now.routes name) }
 {
     plans_pass_without_pins();
     let Some(request) = problem.requests.get(&name) else {

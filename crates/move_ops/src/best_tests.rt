@@ -54,7 +54,8 @@ fn best_by_tables(
 
 // Whether the name is of a live and unplanned request.
 fn is_free(problem: &Problem, plan: &Plan, name: u32) -> bool
-    ensures { IsTrue result → IsSomeAnd (request_named problem.now name) (λ r. is_planned plan.now.routes r ≡ false) }
+    ensures { IsTrue result → IsSomeAnd (request_named problem.now name)
+        (λ r. is_planned plan.now.routes r ≡ false) }
 {
     match problem.requests.get(&name) {
         Some(request) => !is_planned(plan.routes.as_slice(), request),

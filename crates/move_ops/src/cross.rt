@@ -24,7 +24,8 @@ pub fn two_opt_star(
     b_cut: u64,
 ) -> Result<Option<Plan>, OutOfMemory>
     requires { passes problem.now pins.now.routes plan.now.routes ≡ true }
-    ensures { IfOk result (λ o. option_map (λ new. new.routes) o ≡ crossed problem.now pins.now.routes plan.now.routes a a_cut b b_cut) }
+    ensures { IfOk result (λ o. option_map (λ new. new.routes) o
+        ≡ crossed problem.now pins.now.routes plan.now.routes a a_cut b b_cut) }
 {
     passes_are_local();
     tests_say_feasible();
@@ -77,7 +78,7 @@ fn is_cut(pins: &[Route], routes: &[Route], vehicle: u64, cut: u64) -> bool
 }
 
 // The first stops of one route, and then the other from behind its first ones on.
-fn joined(
+pub(crate) fn joined(
     alloc: Global,
     front: &[u32],
     front_cut: u64,

@@ -21,7 +21,8 @@ pub fn insert_at(
     insertion: (u64, u64, u64),
 ) -> Result<Option<Plan>, OutOfMemory>
     requires { passes problem.now pins.now.routes plan.now.routes ≡ true }
-    ensures { IfOk result (λ o. option_map (λ new. new.routes) o ≡ put_in problem.now pins.now.routes plan.now.routes name insertion) }
+    ensures { IfOk result (λ o. option_map (λ new. new.routes) o
+        ≡ put_in problem.now pins.now.routes plan.now.routes name insertion) }
 {
     passes_are_local();
     tests_say_feasible();
@@ -79,7 +80,7 @@ fn are_places(request: &Request, kept: u64, stops: u64, pickup: u64, delivery: u
 }
 
 // The route with the request put in.
-fn inserted(
+pub(crate) fn inserted(
     alloc: Global,
     request: &Request,
     pickup: u64,

@@ -3,16 +3,21 @@
 
 mod best;
 mod changed;
+mod changes;
 mod cross;
+mod draft;
 mod insert;
 mod laws;
 mod lists;
 mod removal;
+mod seats;
 mod swap;
 mod tables;
+mod tour;
 
 pub use best::best_insertion;
 pub use cross::two_opt_star;
+pub use draft::Draft;
 pub use insert::insert_at;
 pub use laws::{
     best_insertions_are_least, best_insertions_are_unique, insertions_can_be_put_in,

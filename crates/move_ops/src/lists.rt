@@ -42,7 +42,7 @@ pub(crate) fn is_movable(pins: &[Route], routes: &[Route], request: &Request) ->
 }
 
 #[tactic(auto, using(crate::proofs::Times::has_stop_more))]
-fn has_stop(lists: &[Route], number: u32) -> bool
+pub(crate) fn has_stop(lists: &[Route], number: u32) -> bool
     ensures { result ≡ has_stop lists.now number }
 {
     for list in lists {
@@ -53,7 +53,8 @@ fn has_stop(lists: &[Route], number: u32) -> bool
     false
 }
 
-fn is_in(list: &[u32], number: u32) -> bool
+/// Whether the list has the number.
+pub(crate) fn is_in(list: &[u32], number: u32) -> bool
     ensures { result ≡ has list.now number }
 {
     list.contains(&number)

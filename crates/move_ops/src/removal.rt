@@ -25,7 +25,8 @@ pub fn remove(
     names: &[u32],
 ) -> Result<Option<Plan>, OutOfMemory>
     requires { passes problem.now pins.now.routes plan.now.routes ≡ true }
-    ensures { IfOk result (λ o. option_map (λ new. new.routes) o ≡ removed problem.now pins.now.routes plan.now.routes names.now) }
+    ensures { IfOk result (λ o. option_map (λ new. new.routes) o
+        ≡ removed problem.now pins.now.routes plan.now.routes names.now) }
 {
     passes_are_local();
     plans_are_local();
@@ -49,7 +50,9 @@ fn are_movable(
     routes: &[Route],
     names: &[u32],
 ) -> bool
-    ensures { result ≡ list_all (λ name. option_map_or (is_movable pins.now routes.now) (lookup (nat_eq name) requests.now.entries) false) names.now }
+    ensures { result ≡ list_all (λ name.
+        option_map_or (is_movable pins.now routes.now)
+        (lookup (nat_eq name) requests.now.entries) false) names.now }
 {
     for name in names {
         if !is_movable_name(requests, pins, routes, *name) {
@@ -65,7 +68,8 @@ fn is_movable_name(
     routes: &[Route],
     name: u32,
 ) -> bool
-    ensures { result ≡ option_map_or (is_movable pins.now routes.now) (lookup (nat_eq name) requests.now.entries) false }
+    ensures { result ≡ option_map_or (is_movable pins.now routes.now)
+        (lookup (nat_eq name) requests.now.entries) false }
 {
     match requests.get(&name) {
         Some(request) => is_movable(pins, routes, request),
@@ -90,13 +94,14 @@ fn without_named(
 }
 
 // The stops of other requests.
-fn others(
+pub(crate) fn others(
     alloc: Global,
     problem: &Problem,
     route: &[u32],
     names: &[u32],
 ) -> Result<Route, OutOfMemory>
-    ensures { IfOk result (λ new. new ≡ filter (λ n. not (is_of_named problem.now names.now n)) route.now) }
+    ensures { IfOk result (λ new. new ≡ filter
+        (λ n. not (is_of_named problem.now names.now n)) route.now) }
 {
     let mut new = Route::with_capacity(alloc, route.len())?;
     for stop in route {
@@ -107,7 +112,7 @@ fn others(
     Ok(new)
 }
 
-fn is_of_named(problem: &Problem, names: &[u32], stop: u32) -> bool
+pub(crate) fn is_of_named(problem: &Problem, names: &[u32], stop: u32) -> bool
     ensures { result ≡ is_of_named problem.now names.now stop }
 {
     match problem.name_of(stop) {

@@ -24,7 +24,8 @@ pub fn exchange(
     b: u32,
 ) -> Result<Option<Plan>, OutOfMemory>
     requires { passes problem.now pins.now.routes plan.now.routes ≡ true }
-    ensures { IfOk result (λ o. option_map (λ new. new.routes) o ≡ exchanged problem.now pins.now.routes plan.now.routes a b) }
+    ensures { IfOk result (λ o. option_map (λ new. new.routes) o
+        ≡ exchanged problem.now pins.now.routes plan.now.routes a b) }
 {
     passes_are_local();
     plans_are_local();
@@ -60,7 +61,7 @@ fn are_exchangeable(pins: &[Route], routes: &[Route], first: &Request, second: &
         && have_same_form(first, second)
 }
 
-fn have_same_form(first: &Request, second: &Request) -> bool
+pub(crate) fn have_same_form(first: &Request, second: &Request) -> bool
     ensures { result ≡ have_same_form first.now second.now }
 {
     match (first, second) {
@@ -87,7 +88,7 @@ fn exchanged(
     Ok(new)
 }
 
-fn counterparts(
+pub(crate) fn counterparts(
     alloc: Global,
     route: &[u32],
     first: &Request,
@@ -103,7 +104,7 @@ fn counterparts(
 }
 
 // The stop that stands in this one's place.
-fn counterpart(first: &Request, second: &Request, stop: u32) -> u32
+pub(crate) fn counterpart(first: &Request, second: &Request, stop: u32) -> u32
     ensures { result ≡ counterpart first.now second.now stop }
 {
     match (first, second) {

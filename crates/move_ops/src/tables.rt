@@ -12,19 +12,20 @@ ghost use Rattle.move_ops.specs.Choosing.{opens, bound_of, place_found, IsAsked,
 
 use crate::laws::{best_insertions_are_least, best_insertions_are_unique};
 use crate::lists::of_vehicle;
+use crate::tour::Tour;
 use plan_audit::{passes_are_local, plans_are_local, tests_say_feasible};
 use plan_types::{
     Kind, OutOfMemory, Pins, Plan, Problem, Request, Route, costs_are_in_order,
     costs_compare_part_by_part, requests_are_found_by_stop, requests_stand_by_name,
 };
-use slack_tables::{Addition, RouteTable};
+use slack_tables::Addition;
 use std::alloc::Global;
 use std::marker::Model;
 
 /// The tables of a plan's routes, one for each vehicle.
 #[derive(Debug, Drop)]
 pub struct Tables {
-    tables: Vec<RouteTable>,
+    tables: Vec<Tour>,
 }
 
 impl Model for Tables {
@@ -38,10 +39,19 @@ impl Model for Tables {
 
 // The best insertion so far, and whether it uses one vehicle more.
 #[derive(Clone, Copy)]
-struct Found {
-    vehicle: u64,
-    opens: bool,
-    addition: Addition,
+pub(crate) struct Found {
+    pub(crate) vehicle: u64,
+    pub(crate) opens: bool,
+    pub(crate) addition: Addition,
+}
+
+impl Found {
+    /// The vehicle, the place of the pickup and that of the delivery.
+    pub(crate) fn place(&self) -> (u64, u64, u64)
+        ensures { result ≡ place_found self.now }
+    {
+        (self.vehicle, self.addition.pickup, self.addition.delivery)
+    }
 }
 
 impl Tables {
@@ -62,7 +72,7 @@ impl Tables {
         tests_say_feasible();
         let mut tables = Vec::with_capacity(alloc, problem.fleet as usize)?;
         for route in plan.routes.as_slice() {
-            tables.push(RouteTable::build(alloc, problem, route.as_slice())?)?;
+            tables.push(Tour::build(alloc, problem, route.as_slice())?)?;
         }
         Ok(Tables { tables })
     }
@@ -71,17 +81,14 @@ impl Tables {
     pub fn best(&self, problem: &Problem, pins: &Pins, name: u32) -> Option<(u64, u64, u64)>
         requires tables { AreTablesIn problem.now self.now }
         requires pass { passes problem.now pins.now.routes (plan_of self.now) ≡ true }
-        requires free { IsSomeAnd (request_named problem.now name) (λ r. is_planned (plan_of self.now) r ≡ false) }
+        requires free { IsSomeAnd (request_named problem.now name)
+            (λ r. is_planned (plan_of self.now) r ≡ false) }
         ensures { result ≡ best_insertion problem.now pins.now.routes (plan_of self.now) name }
     {
         let request = live_request(problem, name);
         let tables = self.tables.as_slice();
         match best_of(problem, pins.routes.as_slice(), tables, request) {
-            Some(found) => Some((
-                found.vehicle,
-                found.addition.pickup,
-                found.addition.delivery,
-            )),
+            Some(found) => Some(found.place()),
             None => None,
         }
     }
@@ -114,7 +121,7 @@ impl Tables {
     }
 
     // Lets each table take the place of its vehicle's.
-    fn replace(&mut self, fresh: Vec<(u32, RouteTable)>)
+    fn replace(&mut self, fresh: Vec<(u32, Tour)>)
         requires { AreWithin (length self.old) fresh.items }
         ensures { self.new ≡ replaced self.old fresh.items }
     {
@@ -130,10 +137,11 @@ fn fresh_tables(
     problem: &Problem,
     routes: &[Route],
     vehicles: &[u32],
-) -> Result<Vec<(u32, RouteTable)>, OutOfMemory>
+) -> Result<Vec<(u32, Tour)>, OutOfMemory>
     requires pass { passes problem.now [] routes.now ≡ true }
     requires vehicles { AreVehicles problem.now vehicles.now }
-    ensures { IfOk result (λ fresh. fresh.items ≡ map (fresh_of problem.now routes.now) vehicles.now) }
+    ensures { IfOk result (λ fresh. fresh.items
+        ≡ map (fresh_of problem.now routes.now) vehicles.now) }
 {
     passes_are_local();
     plans_are_local();
@@ -143,7 +151,7 @@ fn fresh_tables(
     let mut fresh = Vec::with_capacity(alloc, vehicles.len())?;
     for vehicle in vehicles {
         let route = of_vehicle(routes, u64::from(*vehicle));
-        fresh.push((*vehicle, RouteTable::build(alloc, problem, route)?))?;
+        fresh.push((*vehicle, Tour::build(alloc, problem, route)?))?;
     }
     Ok(fresh)
 }
@@ -159,14 +167,15 @@ fn live_request(problem: &Problem, name: u32) -> &Request
 }
 
 // The best insertion over all vehicles. Empty ones are alike, so the first of them stands for all.
-fn best_of(
+pub(crate) fn best_of(
     problem: &Problem,
     pins: &[Route],
-    tables: &[RouteTable],
+    tables: &[Tour],
     request: &Request,
 ) -> Option<Found>
     requires { IsAsked problem.now pins.now tables.now request.now }
-    ensures { option_map place_found result ≡ best_insertion problem.now pins.now (plan_of tables.now) (request_name request.now) }
+    ensures { option_map place_found result
+        ≡ best_insertion problem.now pins.now (plan_of tables.now) (request_name request.now) }
 {
     best_insertions_are_least();
     best_insertions_are_unique();
@@ -197,7 +206,7 @@ fn best_of(
 fn better_at(
     problem: &Problem,
     request: &Request,
-    table: &RouteTable,
+    table: &Tour,
     kept: u64,
     vehicle: u64,
     best: Option<Found>,
@@ -213,7 +222,7 @@ fn better_at(
     let Some(below) = bound(opens, &best) else {
         return best;
     };
-    match table.best_places(request, kept, below) {
+    match table.table().best_places(request, kept, below) {
         Some(addition) => Some(Found {
             vehicle,
             opens,
@@ -224,7 +233,7 @@ fn better_at(
 }
 
 // Whether a request put into this route uses one vehicle more.
-fn opens(kind: Kind, table: &RouteTable) -> bool
+fn opens(kind: Kind, table: &Tour) -> bool
     ensures { result ≡ opens kind (route_of table.now) }
 {
     match kind {

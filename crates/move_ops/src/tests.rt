@@ -87,7 +87,8 @@ pub(crate) fn is_passing(
     pins: &Pins,
     plan: &Plan,
 ) -> Result<bool, Fail>
-    ensures { IfOk result (λ b. IsTrue b → passes problem.now pins.now.routes plan.now.routes ≡ true) }
+    ensures { IfOk result (λ b. IsTrue b
+        → passes problem.now pins.now.routes plan.now.routes ≡ true) }
 {
     tests_say_pass();
     match audit(alloc, problem, pins, plan)? {

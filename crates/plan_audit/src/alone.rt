@@ -15,7 +15,8 @@ use plan_types::{Kind, Problem};
 /// and distinct. Takes no memory, and so looks through the list for the other stop of each pair.
 pub fn route_fault(problem: &Problem, route: &[u32]) -> Option<u32>
     requires { AreLiveOnce problem.now route.now }
-    ensures { MatchOption result (IsFeasibleAlone problem.now route.now) (IsFaultAlone problem.now route.now) }
+    ensures { MatchOption result (IsFeasibleAlone problem.now route.now)
+        (IsFaultAlone problem.now route.now) }
 {
     match broken_alone(problem, route) {
         Some(rule) => Some(rule.number()),
@@ -26,7 +27,8 @@ pub fn route_fault(problem: &Problem, route: &[u32]) -> Option<u32>
 // The first rule that the list breaks as the only route. No pair is split there.
 fn broken_alone(problem: &Problem, route: &[u32]) -> Option<Rule>
     requires { AreLiveOnce problem.now route.now }
-    ensures { MatchOption result (IsFeasibleAlone problem.now route.now) (IsLeastAlone problem.now route.now) }
+    ensures { MatchOption result (IsFeasibleAlone problem.now route.now)
+        (IsLeastAlone problem.now route.now) }
 {
     if missing_alone(problem, route).is_some() {
         return Some(Rule::Missing);

@@ -77,7 +77,10 @@ pub fn audit_solution(
 // The least broken one of the rules on stops. A request that must be served and is not is passed in.
 fn broken_stop(scan: &Scan, unserved: Option<u32>) -> Option<Verdict>
     requires { IsInstance scan.now.problem.now }
-    ensures least { (s : Subject) → routes_of s ≡ scan.now.routes.now → unserved ≡ unserved_of scan.now.problem.now s → MatchOption result (KeepsRules 1 8 scan.now.problem.now s) (IsBrokenOver 1 8 scan.now.problem.now s) }
+    ensures least { (s : Subject) → routes_of s ≡ scan.now.routes.now
+        → unserved ≡ unserved_of scan.now.problem.now s
+        → MatchOption result (KeepsRules 1 8 scan.now.problem.now s)
+        (IsBrokenOver 1 8 scan.now.problem.now s) }
 {
     if let Some(broken) = misplaced(scan, unserved) {
         return Some(broken);
@@ -88,7 +91,10 @@ fn broken_stop(scan: &Scan, unserved: Option<u32>) -> Option<Verdict>
 // The least broken one of the rules on where stops stand.
 fn misplaced(scan: &Scan, unserved: Option<u32>) -> Option<Verdict>
     requires { IsInstance scan.now.problem.now }
-    ensures least { (s : Subject) → routes_of s ≡ scan.now.routes.now → unserved ≡ unserved_of scan.now.problem.now s → MatchOption result (KeepsRules 1 5 scan.now.problem.now s) (IsBrokenOver 1 5 scan.now.problem.now s) }
+    ensures least { (s : Subject) → routes_of s ≡ scan.now.routes.now
+        → unserved ≡ unserved_of scan.now.problem.now s
+        → MatchOption result (KeepsRules 1 5 scan.now.problem.now s)
+        (IsBrokenOver 1 5 scan.now.problem.now s) }
     ensures live { IfNone result (All (AreLiveOnce scan.now.problem.now) scan.now.routes.now) }
 {
     if let Some(fault) = scan.first_unknown() {
@@ -115,7 +121,8 @@ fn misplaced(scan: &Scan, unserved: Option<u32>) -> Option<Verdict>
 // The least broken one of the rules on loads and times.
 fn mistimed(problem: &Problem, routes: &[Route]) -> Option<Verdict>
     requires { All (AreLiveOnce problem.now) routes.now }
-    ensures least { (s : Subject) → routes_of s ≡ routes.now → MatchOption result (KeepsRules 6 8 problem.now s) (IsBrokenOver 6 8 problem.now s) }
+    ensures least { (s : Subject) → routes_of s ≡ routes.now
+        → MatchOption result (KeepsRules 6 8 problem.now s) (IsBrokenOver 6 8 problem.now s) }
 {
     if let Some(fault) = first_overload(problem, routes) {
         return Some(Rule::Load.broken_at(fault));

@@ -24,7 +24,9 @@ pub(crate) struct Fault {
 /// What the test answers first: it is given each place with its stop.
 pub(crate) fn first_place<F: Fn(usize, u32) -> Option<u32>>(route: &[u32], test: F) -> Option<Told>
     requires { F.IsAlwaysCallable test }
-    ensures told { (tells : ℕ → ℕ → Option ℕ) → ((i n : ℕ) (o : Option ℕ) → Contains route.now n → F.post test i n o → o ≡ tells i n) → result ≡ first_place tells 0 route.now }
+    ensures told { (tells : ℕ → ℕ → Option ℕ)
+        → ((i n : ℕ) (o : Option ℕ) → Contains route.now n → F.post test i n o → o ≡ tells i n)
+        → result ≡ first_place tells 0 route.now }
     ensures fits { IfSome result (λ t. t.place + 1 < 2 ^ 64) }
 {
     for (place, stop) in route.iter().enumerate() {
@@ -41,9 +43,13 @@ pub(crate) fn first_fault<F: Fn(usize, &[u32]) -> Option<Told>>(
     test: F,
 ) -> Option<Fault>
     requires { (k : ℕ) (route : Bor (List ℕ)) → Contains routes.now route.now → F.pre test k route }
-    ensures told { (tells : ℕ → List ℕ → Option Told) → ((k : ℕ) (route : Bor (List ℕ)) (o : Option Told) → Contains routes.now route.now → F.post test k route o → o ≡ tells k route.now) → result ≡ first_route tells 0 routes.now }
+    ensures told { (tells : ℕ → List ℕ → Option Told)
+        → ((k : ℕ) (route : Bor (List ℕ)) (o : Option Told) → Contains routes.now route.now
+        → F.post test k route o → o ≡ tells k route.now)
+        → result ≡ first_route tells 0 routes.now }
     ensures route { IfSome result (λ f. f.route + 1 < 2 ^ 64) }
-    ensures place { ((k : ℕ) (route : Bor (List ℕ)) (o : Option Told) → F.post test k route o → IfSome o (λ t. t.place + 1 < 2 ^ 64)) → IfSome result (λ f. f.place + 1 < 2 ^ 64) }
+    ensures place { ((k : ℕ) (route : Bor (List ℕ)) (o : Option Told) → F.post test k route o
+        → IfSome o (λ t. t.place + 1 < 2 ^ 64)) → IfSome result (λ f. f.place + 1 < 2 ^ 64) }
 {
     for (number, route) in routes.iter().enumerate() {
         if let Some(told) = test(number, route.as_slice()) {

@@ -13,7 +13,9 @@ pub(crate) fn missing_partner<F: Fn(u32) -> Option<Seat>>(
     seat: F,
 ) -> Option<u32>
     requires { F.IsAlwaysCallable seat }
-    ensures { (routes : List (List ℕ)) → ((n : ℕ) (o : Option Seat) → n < problem.now.next_number → F.post seat n o → o ≡ seat_of routes n) → result ≡ missing_at problem.now routes stop }
+    ensures { (routes : List (List ℕ))
+        → ((n : ℕ) (o : Option Seat) → n < problem.now.next_number → F.post seat n o
+        → o ≡ seat_of routes n) → result ≡ missing_at problem.now routes stop }
 {
     let partner = problem.partner_of(stop)?;
     match seat(partner) {
@@ -30,7 +32,9 @@ pub(crate) fn early_delivery<F: Fn(u32) -> Option<Seat>>(
     seat: F,
 ) -> Option<u32>
     requires { F.IsAlwaysCallable seat }
-    ensures { (routes : List (List ℕ)) → ((n : ℕ) (o : Option Seat) → n < problem.now.next_number → F.post seat n o → o ≡ seat_of routes n) → result ≡ delivered_at problem.now routes place stop }
+    ensures { (routes : List (List ℕ))
+        → ((n : ℕ) (o : Option Seat) → n < problem.now.next_number → F.post seat n o
+        → o ≡ seat_of routes n) → result ≡ delivered_at problem.now routes place stop }
 {
     let seat = seat(problem.pickup_of(stop)?)?;
     if place < seat.place { Some(stop) } else { None }

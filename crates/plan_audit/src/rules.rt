@@ -59,7 +59,8 @@ impl Rule {
     pub(crate) fn broken_at(self, fault: Fault) -> Verdict
         requires route { fault.route + 1 < 2 ^ 64 }
         requires place { fault.place + 1 < 2 ^ 64 }
-        ensures { result ≡ Verdict.Broken (rule_number self) (fault.route + 1) (fault.place + 1) fault.stop }
+        ensures { result ≡ Verdict.Broken (rule_number self) (fault.route + 1)
+            (fault.place + 1) fault.stop }
     {
         Verdict::Broken {
             rule: self.number(),

@@ -23,14 +23,17 @@ pub(crate) struct Scan<'a> {
 impl Scan<'_> {
     // The first seat of a stop number of the problem.
     fn seat(&self, stop: u32) -> Option<Seat>
-        ensures { stop < self.now.problem.now.next_number → result ≡ seat_of self.now.routes.now stop }
+        ensures { stop < self.now.problem.now.next_number
+            → result ≡ seat_of self.now.routes.now stop }
     {
         self.seats.get(stop as usize).copied().flatten()
     }
 
     /// The first stop of the plan that is of no request.
     pub(crate) fn first_unknown(&self) -> Option<Fault>
-        ensures told { result ≡ first_route (told_by (λ _ _ _ n. unknown_at self.now.problem.now self.now.routes.now n)) 0 self.now.routes.now }
+        ensures told { result ≡ first_route
+            (told_by (λ _ _ _ n. unknown_at self.now.problem.now self.now.routes.now n)) 0
+            self.now.routes.now }
         ensures route { IfSome result (λ f. f.route + 1 < 2 ^ 64) }
         ensures place { IfSome result (λ f. f.place + 1 < 2 ^ 64) }
     {
@@ -39,8 +42,11 @@ impl Scan<'_> {
 
     /// The first stop of the plan that stands at an earlier place too.
     pub(crate) fn first_repeated(&self) -> Option<Fault>
-        requires { All (λ route. All (λ n. n < self.now.problem.now.next_number) route) self.now.routes.now }
-        ensures told { result ≡ first_route (told_by (λ r _ i n. repeated_at self.now.problem.now self.now.routes.now r i n)) 0 self.now.routes.now }
+        requires { All (λ route. All (λ n. n < self.now.problem.now.next_number) route)
+            self.now.routes.now }
+        ensures told { result ≡ first_route
+            (told_by (λ r _ i n. repeated_at self.now.problem.now self.now.routes.now r i n)) 0
+            self.now.routes.now }
         ensures route { IfSome result (λ f. f.route + 1 < 2 ^ 64) }
         ensures place { IfSome result (λ f. f.place + 1 < 2 ^ 64) }
     {
@@ -49,7 +55,9 @@ impl Scan<'_> {
 
     /// The first stop of the plan whose partner is in no route; the partner is told.
     pub(crate) fn first_missing(&self) -> Option<Fault>
-        ensures told { result ≡ first_route (told_by (λ _ _ _ n. missing_at self.now.problem.now self.now.routes.now n)) 0 self.now.routes.now }
+        ensures told { result ≡ first_route
+            (told_by (λ _ _ _ n. missing_at self.now.problem.now self.now.routes.now n)) 0
+            self.now.routes.now }
         ensures route { IfSome result (λ f. f.route + 1 < 2 ^ 64) }
         ensures place { IfSome result (λ f. f.place + 1 < 2 ^ 64) }
     {
@@ -58,7 +66,9 @@ impl Scan<'_> {
 
     /// The first stop of the plan whose partner is in another route.
     pub(crate) fn first_split(&self) -> Option<Fault>
-        ensures told { result ≡ first_route (told_by (λ r _ _ n. split_at self.now.problem.now self.now.routes.now r n)) 0 self.now.routes.now }
+        ensures told { result ≡ first_route
+            (told_by (λ r _ _ n. split_at self.now.problem.now self.now.routes.now r n)) 0
+            self.now.routes.now }
         ensures route { IfSome result (λ f. f.route + 1 < 2 ^ 64) }
         ensures place { IfSome result (λ f. f.place + 1 < 2 ^ 64) }
     {
@@ -67,7 +77,9 @@ impl Scan<'_> {
 
     /// The first delivery of the plan whose pickup stands later in its route.
     pub(crate) fn first_delivered(&self) -> Option<Fault>
-        ensures told { result ≡ first_route (told_by (λ _ _ i n. delivered_at self.now.problem.now self.now.routes.now i n)) 0 self.now.routes.now }
+        ensures told { result ≡ first_route
+            (told_by (λ _ _ i n. delivered_at self.now.problem.now self.now.routes.now i n)) 0
+            self.now.routes.now }
         ensures route { IfSome result (λ f. f.route + 1 < 2 ^ 64) }
         ensures place { IfSome result (λ f. f.place + 1 < 2 ^ 64) }
     {
@@ -103,7 +115,8 @@ impl Scan<'_> {
 
     // The name of the request at this index, where it is not planned.
     fn unserved_at(&self, index: usize) -> Option<u32>
-        ensures { result ≡ option_and_then (unserved_in self.now.routes.now) (slice_get self.now.problem.now.requests index) }
+        ensures { result ≡ option_and_then (unserved_in self.now.routes.now)
+            (slice_get self.now.problem.now.requests index) }
     {
         numbers_are_below_the_next();
         let problem = self.problem;
@@ -116,7 +129,8 @@ impl Scan<'_> {
     }
 
     fn is_planned(&self, request: &Request) -> bool
-        ensures { IsBelowNext self.now.problem.now request.now → result ≡ is_planned self.now.routes.now request.now }
+        ensures { IsBelowNext self.now.problem.now request.now
+            → result ≡ is_planned self.now.routes.now request.now }
     {
         match request {
             Request::Single(stop) => self.has_stop(stop.number),
@@ -128,14 +142,16 @@ impl Scan<'_> {
 
     // Whether a route has the stop.
     fn has_stop(&self, stop: u32) -> bool
-        ensures { stop < self.now.problem.now.next_number → result ≡ has_stop self.now.routes.now stop }
+        ensures { stop < self.now.problem.now.next_number
+            → result ≡ has_stop self.now.routes.now stop }
     {
         self.seat(stop).is_some()
     }
 
     // The first stop of a route that is of no request.
     fn unknown(&self, route: &[u32]) -> Option<Told>
-        ensures told { result ≡ first_place (λ _ n. unknown_at self.now.problem.now self.now.routes.now n) 0 route.now }
+        ensures told { result ≡ first_place
+            (λ _ n. unknown_at self.now.problem.now self.now.routes.now n) 0 route.now }
         ensures fits { IfSome result (λ t. t.place + 1 < 2 ^ 64) }
     {
         first_place(route, |_, stop| match self.problem.stop(stop) {
@@ -147,14 +163,16 @@ impl Scan<'_> {
     // The first stop of a route that stands at an earlier place too.
     fn repeated(&self, number: usize, route: &[u32]) -> Option<Told>
         requires { All (λ n. n < self.now.problem.now.next_number) route.now }
-        ensures told { result ≡ first_place (repeated_at self.now.problem.now self.now.routes.now number) 0 route.now }
+        ensures told { result ≡ first_place
+            (repeated_at self.now.problem.now self.now.routes.now number) 0 route.now }
         ensures fits { IfSome result (λ t. t.place + 1 < 2 ^ 64) }
     {
         first_place(route, |place, stop| self.repeated_stop(number, place, stop))
     }
 
     fn repeated_stop(&self, number: usize, place: usize, stop: u32) -> Option<u32>
-        ensures { stop < self.now.problem.now.next_number → result ≡ repeated_at self.now.problem.now self.now.routes.now number place stop }
+        ensures { stop < self.now.problem.now.next_number
+            → result ≡ repeated_at self.now.problem.now self.now.routes.now number place stop }
     {
         let seat = self.seat(stop)?;
         if seat.route == number && seat.place == place {
@@ -166,7 +184,8 @@ impl Scan<'_> {
 
     // The first stop of a route whose partner is in no route.
     fn missing(&self, route: &[u32]) -> Option<Told>
-        ensures told { result ≡ first_place (λ _ n. missing_at self.now.problem.now self.now.routes.now n) 0 route.now }
+        ensures told { result ≡ first_place
+            (λ _ n. missing_at self.now.problem.now self.now.routes.now n) 0 route.now }
         ensures fits { IfSome result (λ t. t.place + 1 < 2 ^ 64) }
     {
         first_place(route, |_, stop| self.missing_stop(stop))
@@ -180,7 +199,8 @@ impl Scan<'_> {
 
     // The first stop of a route whose partner is in another one.
     fn split(&self, number: usize, route: &[u32]) -> Option<Told>
-        ensures told { result ≡ first_place (λ _ n. split_at self.now.problem.now self.now.routes.now number n) 0 route.now }
+        ensures told { result ≡ first_place
+            (λ _ n. split_at self.now.problem.now self.now.routes.now number n) 0 route.now }
         ensures fits { IfSome result (λ t. t.place + 1 < 2 ^ 64) }
     {
         first_place(route, |_, stop| self.split_stop(number, stop))
@@ -199,7 +219,8 @@ impl Scan<'_> {
 
     // The first delivery of a route whose pickup stands later.
     fn delivered(&self, route: &[u32]) -> Option<Told>
-        ensures told { result ≡ first_place (delivered_at self.now.problem.now self.now.routes.now) 0 route.now }
+        ensures told { result ≡ first_place
+            (delivered_at self.now.problem.now self.now.routes.now) 0 route.now }
         ensures fits { IfSome result (λ t. t.place + 1 < 2 ^ 64) }
     {
         first_place(route, |place, stop| self.delivered_stop(place, stop))

@@ -20,7 +20,8 @@ pub(crate) fn seats(
     routes: &[Route],
 ) -> Result<Vec<Option<Seat>>, OutOfMemory>
     ensures len { IfOk result (λ seats. vec_len seats ≡ len) }
-    ensures first { IfOk result (λ seats. (n : ℕ) → n < len → slice_index_or seats.items n None ≡ seat_of routes.now n) }
+    ensures first { IfOk result (λ seats. (n : ℕ) → n < len
+        → slice_index_or seats.items n None ≡ seat_of routes.now n) }
 {
     let mut seats = vec![in alloc; None; len]?;
     for (number, route) in routes.iter().enumerate() {
@@ -31,7 +32,9 @@ pub(crate) fn seats(
 
 // Enters the stops of one route that have no seat yet.
 fn take_seats(seats: &mut [Option<Seat>], route: usize, stops: &[u32])
-    ensures { (n : ℕ) → n < length seats.old → slice_index_or seats.new n None ≡ option_or (slice_index_or seats.old n None) (seat_in n route stops.now) }
+    ensures { (n : ℕ) → n < length seats.old
+        → slice_index_or seats.new n None
+        ≡ option_or (slice_index_or seats.old n None) (seat_in n route stops.now) }
 {
     for (place, stop) in stops.iter().enumerate() {
         let stop = *stop as usize;

@@ -12,7 +12,9 @@ use route_sched::{Visit, Visits};
 /// The first stop of the plan after which a vehicle carries more than it can.
 pub(crate) fn first_overload(problem: &Problem, routes: &[Route]) -> Option<Fault>
     requires { All (AreLiveOnce problem.now) routes.now }
-    ensures told { result ≡ first_route (told_by (λ _ route i n. visit_told problem.now (is_overloaded problem.now) route i n)) 0 routes.now }
+    ensures told { result ≡ first_route
+        (told_by (λ _ route i n. visit_told problem.now (is_overloaded problem.now) route i n)) 0
+        routes.now }
     ensures route { IfSome result (λ f. f.route + 1 < 2 ^ 64) }
     ensures place { IfSome result (λ f. f.place + 1 < 2 ^ 64) }
 {
@@ -22,7 +24,8 @@ pub(crate) fn first_overload(problem: &Problem, routes: &[Route]) -> Option<Faul
 /// The first stop of the plan whose service starts too late.
 pub(crate) fn first_late(problem: &Problem, routes: &[Route]) -> Option<Fault>
     requires { All (AreLiveOnce problem.now) routes.now }
-    ensures told { result ≡ first_route (told_by (λ _ route i n. visit_told problem.now is_late route i n)) 0 routes.now }
+    ensures told { result ≡ first_route
+        (told_by (λ _ route i n. visit_told problem.now is_late route i n)) 0 routes.now }
     ensures route { IfSome result (λ f. f.route + 1 < 2 ^ 64) }
     ensures place { IfSome result (λ f. f.place + 1 < 2 ^ 64) }
 {
@@ -57,7 +60,8 @@ pub(crate) fn late_return(problem: &Problem, route: &[u32]) -> Option<Told>
 /// The first stop after which the vehicle carries more than it can.
 pub(crate) fn overload(problem: &Problem, route: &[u32]) -> Option<Told>
     requires { AreLiveOnce problem.now route.now }
-    ensures told { result ≡ first_place (visit_told problem.now (is_overloaded problem.now) route.now) 0 route.now }
+    ensures told { result ≡ first_place
+        (visit_told problem.now (is_overloaded problem.now) route.now) 0 route.now }
     ensures fits { IfSome result (λ t. t.place + 1 < 2 ^ 64) }
 {
     let capacity = problem.capacity;
@@ -85,7 +89,8 @@ pub(crate) fn late_stop(problem: &Problem, route: &[u32]) -> Option<Told>
 fn first_visit<F: Fn(Visit) -> bool>(problem: &Problem, route: &[u32], fails: F) -> Option<Told>
     requires once { AreLiveOnce problem.now route.now }
     requires callable { F.IsAlwaysCallable fails }
-    ensures told { (test : Visit → Bool) → ((v : Visit) (b : Bool) → F.post fails v b → b ≡ test v) → result ≡ first_place (visit_told problem.now test route.now) 0 route.now }
+    ensures told { (test : Visit → Bool) → ((v : Visit) (b : Bool) → F.post fails v b → b ≡ test v)
+        → result ≡ first_place (visit_told problem.now test route.now) 0 route.now }
     ensures fits { IfSome result (λ t. t.place + 1 < 2 ^ 64) }
 {
     let mut visits = Visits::new(problem, route);
@@ -103,7 +108,8 @@ fn first_visit<F: Fn(Visit) -> bool>(problem: &Problem, route: &[u32], fails: F)
 // Whether the vehicle is back after the depot's latest time.
 fn returns_late(problem: &Problem, route: &[u32]) -> bool
     requires { AreLiveOnce problem.now route.now }
-    ensures { IsTrue result ↔ (problem.now.depot.latest < start problem.now route.now (length route.now + 1)) }
+    ensures { IsTrue result ↔ (problem.now.depot.latest
+        < start problem.now route.now (length route.now + 1)) }
 {
     u64::from(problem.depot.latest) < time_back(problem, route)
 }

@@ -43,8 +43,10 @@ pub fn take_removes_one_request()
 
 /// Costs are compared part by part.
 pub fn costs_compare_part_by_part()
-    ensures less { (a : Cost) → (b : Cost) → partial_lt ⟦<Cost as PartialOrd>⟧.partial_cmp a b ≡ cost_below a b }
-    ensures at_most { (a : Cost) → (b : Cost) → partial_le ⟦<Cost as PartialOrd>⟧.partial_cmp a b ≡ cost_at_most a b }
+    ensures less { (a : Cost) → (b : Cost)
+        → partial_lt ⟦<Cost as PartialOrd>⟧.partial_cmp a b ≡ cost_below a b }
+    ensures at_most { (a : Cost) → (b : Cost)
+        → partial_le ⟦<Cost as PartialOrd>⟧.partial_cmp a b ≡ cost_at_most a b }
     ensures order { (a : Cost) → (b : Cost) → is_lt (⟦<Cost as Ord>⟧.cmp a b) ≡ cost_below a b }
     ensures below_tells { BelowTells }
     ensures at_most_tells { AtMostTells }

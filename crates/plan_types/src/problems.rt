@@ -87,8 +87,10 @@ impl Problem {
         capacity: u32,
         fleet: u32,
     ) -> Result<Problem, PutFault>
-        ensures ok { IfOk result (λ p. (p ≡ new_instance kind depot capacity fleet) × IsInstance p) }
-        ensures err { IfErr result (λ e. (e ≡ PutFault.Range) × ¬ (IsDepot depot × IsCapacity capacity × IsFleet fleet)) }
+        ensures ok { IfOk result (λ p. (p ≡ new_instance kind depot capacity fleet)
+            × IsInstance p) }
+        ensures err { IfErr result (λ e. (e ≡ PutFault.Range)
+            × ¬ (IsDepot depot × IsCapacity capacity × IsFleet fleet)) }
     {
         if !depot.is_depot() || capacity > MAX_CAPACITY || fleet == 0 || fleet > MAX_FLEET {
             return Err(PutFault::Range);
@@ -107,7 +109,8 @@ impl Problem {
     /// The stop with this number.
     pub fn stop(&self, number: u32) -> Option<&Stop>
         ensures found { option_copied result ≡ stop_at self.now number }
-        ensures stop { IfSome result (λ s. (s.now.number ≡ number) × IsStop s.now × (number < self.now.next_number)) }
+        ensures stop { IfSome result
+            (λ s. (s.now.number ≡ number) × IsStop s.now × (number < self.now.next_number)) }
         ensures valid { IsInstance self.now }
     {
         match self.located(number) {
@@ -119,7 +122,8 @@ impl Problem {
     /// The name of the request that has the stop with this number.
     pub fn name_of(&self, number: u32) -> Option<u32>
         ensures found { result ≡ name_at self.now number }
-        ensures request { IfSome result (λ name. lookup (nat_eq name) self.now.requests ≡ request_with self.now number) }
+        ensures request { IfSome result
+            (λ name. lookup (nat_eq name) self.now.requests ≡ request_with self.now number) }
         ensures valid { IsInstance self.now }
     {
         match self.located(number) {
@@ -156,9 +160,11 @@ impl Problem {
     // Inlined as far as the map, so that a request's fields need not pass through memory one by one.
     #[inline(always)]
     pub fn put(&mut self, request: Request) -> Result<(), PutFault>
-        ensures ok { OnOk result ((self.new ≡ with_request self.old request) × IsRequest request × ¬ IsTaken self.old request) }
+        ensures ok { OnOk result ((self.new ≡ with_request self.old request) × IsRequest request
+            × ¬ IsTaken self.old request) }
         ensures range { IsErrOf result PutFault.Range ↔ ¬ IsRequest request }
-        ensures taken { IsErrOf result PutFault.Taken ↔ (IsRequest request × IsTaken self.old request) }
+        ensures taken { IsErrOf result PutFault.Taken ↔ (IsRequest request
+            × IsTaken self.old request) }
         ensures err { OnErr result (self.new ≡ self.old) }
     {
         if !request.is_request() {
@@ -310,7 +316,8 @@ fn place_of(requests: &IndexMap<u32, Request>, name: u32) -> usize
 // Enters the stops of a request into the table, which has room for them.
 fn locate(located: &mut [Option<Located>], request: &Request)
     requires { number_after request.now ≤ length located.old }
-    ensures { (n : ℕ) → located_at located.new n ≡ option_or (located_in n request.now) (located_at located.old n) }
+    ensures { (n : ℕ) → located_at located.new n
+        ≡ option_or (located_in n request.now) (located_at located.old n) }
 {
     let name = request.name();
     match request {
@@ -325,7 +332,10 @@ fn locate(located: &mut [Option<Located>], request: &Request)
 
 fn enter(located: &mut [Option<Located>], name: u32, partner: Option<u32>, stop: &Stop)
     requires { stop.now.number < length located.old }
-    ensures { (n : ℕ) → located_at located.new n ≡ (if stop.now.number == n then Some (record { name = name; partner = partner; stop = stop.now }) else located_at located.old n) }
+    ensures { (n : ℕ) → located_at located.new n
+        ≡ (if stop.now.number == n then Some
+        (record { name = name; partner = partner; stop = stop.now })
+        else located_at located.old n) }
 {
     located[stop.number as usize] = Some(Located {
         name,
@@ -337,7 +347,8 @@ fn enter(located: &mut [Option<Located>], name: u32, partner: Option<u32>, stop:
 // Takes the stops of a request out of the table.
 fn vacate(located: &mut [Option<Located>], request: &Request)
     requires { number_after request.now ≤ length located.old }
-    ensures { (n : ℕ) → located_at located.new n ≡ (if is_some (stop_in n request.now) then None else located_at located.old n) }
+    ensures { (n : ℕ) → located_at located.new n
+        ≡ (if is_some (stop_in n request.now) then None else located_at located.old n) }
 {
     match request {
         Request::Single(stop) => clear(located, stop.number),
@@ -350,7 +361,8 @@ fn vacate(located: &mut [Option<Located>], request: &Request)
 
 fn clear(located: &mut [Option<Located>], number: u32)
     requires { number < length located.old }
-    ensures { (n : ℕ) → located_at located.new n ≡ (if number == n then None else located_at located.old n) }
+    ensures { (n : ℕ) → located_at located.new n
+        ≡ (if number == n then None else located_at located.old n) }
 {
     located[number as usize] = None;
 }

@@ -2,6 +2,7 @@
 #![tactic(auto)]
 
 use planner_cli::{run_words, status};
+use sector_disk::Unknown;
 use std::env;
 use std::env::Env;
 use std::io::ErrorKind;
@@ -9,7 +10,7 @@ use std::process::ExitCode;
 
 fn main(rt: HostRuntime) -> ExitCode {
     let status = match words_of(&rt) {
-        Ok(words) => run_words(&rt, words.as_slice()),
+        Ok(words) => run_words(&rt, Unknown, words.as_slice()),
         Err(status) => status,
     };
     ExitCode::from(status)

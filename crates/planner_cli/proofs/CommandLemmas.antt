@@ -1,13 +1,15 @@
 -- What the program's command makes of words that do not begin with a hyphen.
 use Rattle.std.proofs.Common.{◌≡◌, ◌∙◌, ◌⊎◌, ◌==◌, ◌&&◌, ◌||◌, Result, Ok, Err, IsErrAnd, option_map, subst, ℕ, Bool, true, false, not, refl, sym, ap, List, [], ◌∷◌, ◌++◌, Option, Some, None, codes, Bor, inl, inr, true≢false, append_assoc, append-nil}
 use Rattle.std.specs.Prelude.{drop, fold}
-use Rattle.clap.specs.Words.{App, Kinds, Row, Rule, Shape, Text, HasKind, HasMatchesOf, app_of, fault_of, first_of, first_value, is_simple, is_simple_and_free, kind_of, rows_of, subcommand_of, subcommand_rows_of, IsAmong}
+use Rattle.clap.specs.Words.{App, Kinds, Row, Rule, Shape, Text, HasKind, HasMatchesOf, app_of, fault_of, first_of, first_value, is_simple, is_simple_and_free, kind_of, found_of, rows_of, subcommand_name_of, subcommand_of, subcommand_rows_of, IsAmong}
 use Rattle.clap.specs.declared.parser.ArgMatches.{ArgMatches}
 use Rattle.clap.specs.declared.builder.Command.{Command}
 use Rattle.clap.specs.declared.error.Error.{Error}
 use Rattle.clap.specs.declared.parser.matches.Found.{Found}
+use Rattle.clap.specs.declared.parser.matches.ArgMatches.TheViews.{out-ArgMatches, out-SubCommand}
+use Rattle.std.specs.Box.{box_value}
 use Rattle.clap.specs.Walk.{Held, Names, Walk, idle, value, arg_by_index, nothing_held, subcommand_or_other, stop_after, subcommand_met, to_positional, walk_from, walked}
-use Rattle.clap.specs.Simple.{built, entered, names_of, new_shape, rows_at}
+use Rattle.clap.specs.Simple.{built, built_leaf, entered, names_of, new_shape, rows_at}
 use Rattle.clap.specs.Faults.{built_fault, defaults_fault, level_fault, other_fault, settle_fault, step_fault, turn_fault, walk_fault}
 use Rattle.clap.specs.declared.error.kind.ErrorKind.TheVariants as kind
 use Rattle.clap.specs.declared.error.kind.ErrorKind.{ErrorKind}
@@ -21,8 +23,8 @@ use Rattle.std.proofs.lemmas.Slice.Eq.{bytes_eq-Decides}
 use Rattle.clap.proofs.WalkLemmas.{first_value-rows, list_any-map}
 use Rattle.clap.proofs.OnLiterals.{clap_on_literals}
 use Rattle.planner_cli.specs.declared.words.Invocation.{Invocation}
-use Rattle.planner_cli.specs.Asked.{IsRefusal, ArePositional, asked_in, Asked, Reads, asked_by, asked_from, audit, audit_asked, is_positional_word, kind_named, told_of, asks_help, usage_status_of}
-use Rattle.planner_cli.specs.CommandLine.{IsKindNames, IsPlannerCommand, planner_app}
+use Rattle.planner_cli.specs.Asked.{IsRefusal, ArePositional, asked_in, Asked, Reads, asked_by, asked_from, audit, audit_asked, format, is_positional_word, kind_named, run, store_asked, store_in, told_by, told_of, asks_help, usage_status_of}
+use Rattle.planner_cli.specs.CommandLine.{IsKindNames, IsPlannerCommand, planner_app, store_app}
 
 -- ---- a word that does not begin with a hyphen is a value
 
@@ -269,6 +271,70 @@ judged_audit Help names (k ∷ i ∷ s ∷ x ∷ rest) kinds p =
     let px = both_true (is_positional_word x) _ ps.1 in
     inr (inl (fault_first _ _ (subst IsFault (sym (four_values names k i s x rest pk.0 pi.0 ps.0 px.0)) (fault_then (kind_fault names k) (kind.UnknownArgument ∷ []) (kind_mistakes names k kinds) (refl, tt)))), refl)
 
+-- ---- the word of `format` and `run`
+
+-- such a command, as built
+abbrev store_shape : Text → Shape
+store_shape name = built_leaf (store_app name).top
+
+abbrev store_fault : Text → List Text → Kinds
+store_fault name words = level_fault (store_shape name) [] nothing_held words false []
+
+format_words_fault : (names : Bor (List (Bor Text))) (words : List Text) → built_fault (the_app names) nothing_held (codes "format" ∷ words) ≡ store_fault (codes "format") words
+unfolding clap_on_literals
+format_words_fault names words =
+    rw (
+      stopped_walk (the_app names).top.rules (names_of (the_app names)) (codes "format") [] words,
+      stopped_fault (the_app names).top (names_of (the_app names)) (codes "format") [] words,
+    ) (or_else-nil (store_fault (codes "format") words))
+
+run_words_fault : (names : Bor (List (Bor Text))) (words : List Text) → built_fault (the_app names) nothing_held (codes "run" ∷ words) ≡ store_fault (codes "run") words
+unfolding clap_on_literals
+run_words_fault names words =
+    rw (
+      stopped_walk (the_app names).top.rules (names_of (the_app names)) (codes "run") [] words,
+      stopped_fault (the_app names).top (names_of (the_app names)) (codes "run") [] words,
+    ) (or_else-nil (store_fault (codes "run") words))
+
+abbrev held_store : Text → Text → Held
+held_store name w = (after_value (store_shape name).rules nothing_held 1 w).held
+
+no_store : (name : Text) → store_fault name [] ≡ missing
+unfolding clap_on_literals
+no_store name = refl
+
+store_walked : (name w : Text) → is_positional_word w ≡ true → walked (store_shape name).rules [] (standing nothing_held 1) w ≡ standing (held_store name w) 2
+store_walked name w p = walked-value (store_shape name).rules nothing_held 1 w p
+
+store_turn : (name w : Text) → is_positional_word w ≡ true → turn_fault (store_shape name) [] (standing nothing_held 1) w ≡ []
+store_turn name w p = turn_fault-value (store_shape name) nothing_held 1 w p
+
+stray_store_turn : (name w x : Text) → is_positional_word x ≡ true → turn_fault (store_shape name) [] (standing (held_store name w) 2) x ≡ kind.UnknownArgument ∷ []
+stray_store_turn name w x p = turn_fault-value (store_shape name) (held_store name w) 2 x p
+
+one_store : (name w : Text) → is_positional_word w ≡ true → store_fault name (w ∷ []) ≡ []
+unfolding walk_fault defaults_fault
+one_store name w p = rw (store_walked name w p, store_turn name w p) refl
+
+two_stores : (name w x : Text) (rest : List Text) → is_positional_word w ≡ true → is_positional_word x ≡ true
+    → walk_fault (store_shape name) [] (walk_from nothing_held) (w ∷ x ∷ rest) ≡ kind.UnknownArgument ∷ []
+unfolding walk_fault
+two_stores name w x rest p q = rw (store_turn name w p, store_walked name w p, stray_store_turn name w x q) refl
+
+store_rows : (name w : Text) → is_positional_word w ≡ true → store_in (rows_at (store_shape name) (w ∷ [])).1 ≡ Some w
+store_rows name w p = rw (store_walked name w p) refl
+
+judged_store : (Help : Type 0) (does : Text → Asked) (name : Text) (words : List Text) → ArePositional words
+    → IsJudged Help (store_fault name words) (store_asked does words) (option_map does (store_in (rows_at (store_shape name) words).1))
+judged_store Help does name [] p = failed Help _ missing _ (no_store name) (refl, tt)
+judged_store Help does name (w ∷ []) p =
+    let pw = both_true (is_positional_word w) _ p in
+    inl (one_store name w pw.0, sym (ap (option_map does) (store_rows name w pw.0)))
+judged_store Help does name (w ∷ x ∷ rest) p =
+    let pw = both_true (is_positional_word w) _ p in
+    let px = both_true (is_positional_word x) _ pw.1 in
+    inr (inl (fault_first _ _ (subst IsFault (sym (two_stores name w x rest pw.0 px.0)) (refl, tt))), refl)
+
 -- the first word is a subcommand, `help`, or a word too many
 abbrev stop_in : Bor (List (Bor Text)) → List Text → Option (Text × List Row)
 stop_in names words = entered (the_app names) (stop_after (the_app names).top.rules (names_of (the_app names)) words)
@@ -277,50 +343,79 @@ audit_stop : (names : Bor (List (Bor Text))) (words : List Text) → told_of (st
 unfolding clap_on_literals
 audit_stop names words = ap (λ (w : Walk). told_of (entered (the_app names) w.stopped)) (stopped_walk (the_app names).top.rules (names_of (the_app names)) (codes "audit") [] words)
 
+format_stop : (names : Bor (List (Bor Text))) (words : List Text) → told_of (stop_in names (codes "format" ∷ words)) ≡ option_map format (store_in (rows_at (store_shape (codes "format")) words).1)
+unfolding clap_on_literals
+format_stop names words = ap (λ (w : Walk). told_of (entered (the_app names) w.stopped)) (stopped_walk (the_app names).top.rules (names_of (the_app names)) (codes "format") [] words)
+
+run_stop : (names : Bor (List (Bor Text))) (words : List Text) → told_of (stop_in names (codes "run" ∷ words)) ≡ option_map run (store_in (rows_at (store_shape (codes "run")) words).1)
+unfolding clap_on_literals
+run_stop names words = ap (λ (w : Walk). told_of (entered (the_app names) w.stopped)) (stopped_walk (the_app names).top.rules (names_of (the_app names)) (codes "run") [] words)
+
 help_fault : (names : Bor (List (Bor Text))) (words : List Text) → IsSomeKind (built_fault (the_app names) nothing_held (codes "help" ∷ words))
 unfolding clap_on_literals
 help_fault names words = tt
 
-abbrev two_names : Names
-two_names = (codes "audit", []) ∷ (codes "help", []) ∷ []
+abbrev four_names : Names
+four_names = (codes "audit", []) ∷ (codes "format", []) ∷ (codes "run", []) ∷ (codes "help", []) ∷ []
 
-no_subcommand : (w : Text) → bytes_eq (codes "audit") w ≡ false → bytes_eq (codes "help") w ≡ false → subcommand_met two_names idle w ≡ None
-no_subcommand w a h = rw (a, h) refl
+-- the word is no subcommand's name
+record IsOther (w : Text) : Type 0 where
+  positional : is_positional_word w ≡ true
+  no_audit : bytes_eq (codes "audit") w ≡ false
+  no_format : bytes_eq (codes "format") w ≡ false
+  no_run : bytes_eq (codes "run") w ≡ false
 
-turn_fault-stray : (s : Shape) (w : Text) → is_positional_word w ≡ true → bytes_eq (codes "audit") w ≡ false → bytes_eq (codes "help") w ≡ false
-    → turn_fault s two_names (standing nothing_held 1) w ≡ step_fault s 1 nothing_held value
-turn_fault-stray s w p a h = rw (no_subcommand w a h, word_passes s w nothing_held p, word_is_value s.rules 1 w nothing_held p) refl
+no_subcommand : (w : Text) → IsOther w → bytes_eq (codes "help") w ≡ false → subcommand_met four_names idle w ≡ None
+no_subcommand w o h = rw (o.no_audit, o.no_format, o.no_run, h) refl
 
-stray_first : (names : Bor (List (Bor Text))) (w : Text) (words : List Text) → is_positional_word w ≡ true → bytes_eq (codes "audit") w ≡ false → bytes_eq (codes "help") w ≡ false
-    → IsFault (walk_fault (the_app names).top two_names (walk_from nothing_held) (w ∷ words))
+turn_fault-stray : (s : Shape) (w : Text) → IsOther w → bytes_eq (codes "help") w ≡ false → turn_fault s four_names (standing nothing_held 1) w ≡ step_fault s 1 nothing_held value
+turn_fault-stray s w o h = rw (no_subcommand w o h, word_passes s w nothing_held o.positional, word_is_value s.rules 1 w nothing_held o.positional) refl
+
+stray_first : (names : Bor (List (Bor Text))) (w : Text) (words : List Text) → IsOther w → bytes_eq (codes "help") w ≡ false
+    → IsFault (walk_fault (the_app names).top four_names (walk_from nothing_held) (w ∷ words))
 unfolding walk_fault
-stray_first names w words p a h = fault_first _ _ (subst IsFault (sym (turn_fault-stray (the_app names).top w p a h)) (refl, (refl, tt)))
+stray_first names w words o h = fault_first _ _ (subst IsFault (sym (turn_fault-stray (the_app names).top w o h)) (refl, (refl, tt)))
 
-judged_other : (names : Bor (List (Bor Text))) (w : Text) (words : List Text) (is_help : Bool) → bytes_eq (codes "help") w ≡ is_help → is_positional_word w ≡ true → bytes_eq (codes "audit") w ≡ false
+judged_other : (names : Bor (List (Bor Text))) (w : Text) (words : List Text) (is_help : Bool) → bytes_eq (codes "help") w ≡ is_help → IsOther w
     → IsFault (built_fault (the_app names) nothing_held (w ∷ words)) ⊎ ((asks_help (w ∷ words) ≡ true) × IsSomeKind (built_fault (the_app names) nothing_held (w ∷ words)))
-judged_other names w words true h p a =
+judged_other names w words true h o =
     let is : codes "help" ≡ w = (bytes_eq-Decides (codes "help") w).0 h in
     inr (h, subst (λ (v : Text). IsSomeKind (built_fault (the_app names) nothing_held (v ∷ words))) is (help_fault names words))
-judged_other names w words false h p a = inl (fault_first _ _ (stray_first names w words p a h))
+judged_other names w words false h o = inl (fault_first _ _ (stray_first names w words o h))
 
-judged_first : (names : Bor (List (Bor Text))) (w : Text) (words : List Text) (is_audit : Bool) → bytes_eq (codes "audit") w ≡ is_audit → IsKindNames names → ArePositional (w ∷ words)
-    → IsJudged (asks_help (w ∷ words) ≡ true) (built_fault (the_app names) nothing_held (w ∷ words)) (if is_audit then audit_asked words else None) (told_of (stop_in names (w ∷ words)))
-judged_first names w words true a kinds p =
-    let is : codes "audit" ≡ w = (bytes_eq-Decides (codes "audit") w).0 a in
-    subst (λ (v : Text). IsJudged (asks_help (w ∷ words) ≡ true) (built_fault (the_app names) nothing_held (v ∷ words)) (audit_asked words) (told_of (stop_in names (v ∷ words)))) is
-    (subst (λ f. IsJudged (asks_help (w ∷ words) ≡ true) f (audit_asked words) (told_of (stop_in names (codes "audit" ∷ words)))) (sym (audit_words_fault names words))
-    (subst (λ t. IsJudged (asks_help (w ∷ words) ≡ true) (audit_fault names words) (audit_asked words) t) (sym (audit_stop names words)) (judged_audit _ names words kinds (both_true _ _ p).1)))
-judged_first names w words false a kinds p = inr (judged_other names w words (bytes_eq (codes "help") w) refl (both_true _ _ p).0 a, refl)
+-- the words that follow a subcommand's name are judged
+judged_named : (names : Bor (List (Bor Text))) (Help : Type 0) (name w : Text) (words : List Text) (fault : Kinds) (asked told : Option Asked) → name ≡ w
+    → built_fault (the_app names) nothing_held (name ∷ words) ≡ fault → told_of (stop_in names (name ∷ words)) ≡ told → IsJudged Help fault asked told
+    → IsJudged Help (built_fault (the_app names) nothing_held (w ∷ words)) asked (told_of (stop_in names (w ∷ words)))
+judged_named names Help name w words fault asked told is f t j =
+    subst (λ (v : Text). IsJudged Help (built_fault (the_app names) nothing_held (v ∷ words)) asked (told_of (stop_in names (v ∷ words)))) is
+    (subst (λ x. IsJudged Help x asked (told_of (stop_in names (name ∷ words)))) (sym f) (subst (λ x. IsJudged Help fault asked x) (sym t) j))
+
+judged_first : (names : Bor (List (Bor Text))) (w : Text) (words : List Text) (is_audit is_format is_run : Bool) → bytes_eq (codes "audit") w ≡ is_audit → bytes_eq (codes "format") w ≡ is_format
+    → bytes_eq (codes "run") w ≡ is_run → IsKindNames names → ArePositional (w ∷ words)
+    → IsJudged (asks_help (w ∷ words) ≡ true) (built_fault (the_app names) nothing_held (w ∷ words))
+    (if is_audit then audit_asked words else (if is_format then store_asked format words else (if is_run then store_asked run words else None))) (told_of (stop_in names (w ∷ words)))
+judged_first names w words true is_format is_run a f r kinds p =
+    judged_named names _ (codes "audit") w words _ _ _ ((bytes_eq-Decides (codes "audit") w).0 a) (audit_words_fault names words) (audit_stop names words)
+    (judged_audit _ names words kinds (both_true _ _ p).1)
+judged_first names w words false true is_run a f r kinds p =
+    judged_named names _ (codes "format") w words _ _ _ ((bytes_eq-Decides (codes "format") w).0 f) (format_words_fault names words) (format_stop names words)
+    (judged_store _ format (codes "format") words (both_true _ _ p).1)
+judged_first names w words false false true a f r kinds p =
+    judged_named names _ (codes "run") w words _ _ _ ((bytes_eq-Decides (codes "run") w).0 r) (run_words_fault names words) (run_stop names words)
+    (judged_store _ run (codes "run") words (both_true _ _ p).1)
+judged_first names w words false false false a f r kinds p =
+    inr (judged_other names w words (bytes_eq (codes "help") w) refl (record { positional = (both_true _ _ p).0; no_audit = a; no_format = f; no_run = r }), refl)
 
 -- the parse of words that do not begin with a hyphen
 pub judged_words : (names : Bor (List (Bor Text))) (words : List Text) → IsKindNames names → ArePositional words
     → IsJudged (asks_help words ≡ true) (built_fault (the_app names) nothing_held words) (asked_by words) (told_of (stop_in names words))
 judged_words names [] kinds p = inl (no_words names, refl)
-judged_words names (w ∷ words) kinds p = judged_first names w words (bytes_eq (codes "audit") w) refl kinds p
+judged_words names (w ∷ words) kinds p = judged_first names w words (bytes_eq (codes "audit") w) (bytes_eq (codes "format") w) (bytes_eq (codes "run") w) refl refl refl kinds p
 
 -- ---- the values of `audit`
 
-value_is : (f : Found) (id : Text) (o : Option Text) → o ≡ first_value f id → first_of id (rows_of f) ≡ o
+pub value_is : (f : Found) (id : Text) (o : Option Text) → o ≡ first_value f id → first_of id (rows_of f) ≡ o
 value_is f id o e = sym (e ∙ first_value-rows f id)
 
 unnamed_kind : (k : Text) (i s : Option Text) → kind_named k ≡ None → asked_from (Some k) i s ≡ None
@@ -410,3 +505,20 @@ parsed command texts m h p no_fault matches =
 pub passed_up : (words : List Text) (r : Result Invocation Error) (e : Error) → IsErrAnd r (λ y. y ≡ e) → IsRefusal words e → Reads words r
 passed_up words (Ok x) e is h = absurd is
 passed_up words (Err y) e is h = subst (λ (z : Error). IsRefusal words z) (sym is) h
+
+-- ---- the subcommand's name and its rows
+
+abbrev pair_with : {B : Type 0} → (B → Text) → (B → List Row) → Option B → Option (Text × List Row)
+pair_with f g o = option_map {U = Text × List Row} (λ b. (f b, g b)) o
+
+paired : {B : Type 0} (o : Option B) (f : B → Text) (g : B → List Row) (n : Text) (r : List Row) → Some n ≡ option_map f o → Some r ≡ option_map (λ (p : Text × List Row). p.1) (pair_with f g o)
+    → pair_with f g o ≡ Some (n, r)
+paired None f g n r en er = cc
+paired (Some b) f g n r en er =
+    let e : f b ≡ n = cc in
+    let e' : g b ≡ r = cc in
+    rw (e, e') refl
+
+pub told_name : (m : ArgMatches) (n : Text) (r : List Row) → Some n ≡ subcommand_name_of m → Some r ≡ option_map (λ (p : Text × List Row). p.1) (subcommand_rows_of m) → told_by n r ≡ told_of (subcommand_rows_of m)
+told_name m n r en er =
+    sym (ap told_of (paired (out-ArgMatches m).subcommand (λ b. (out-SubCommand (box_value b)).name.now) (λ b. rows_of (found_of (out-SubCommand (box_value b)).matches)) n r en er))

@@ -1,6 +1,8 @@
 -- What the program answers to an audit of two texts: a line and a status.
-use Rattle.std.specs.Prelude.{◌≡◌, ◌⊎◌, ℕ, List, codes}
-use Rattle.plan_types.specs.Instance.{Instance}
+use Rattle.std.specs.Prelude.{◌≡◌, ◌≤◌, ◌⊎◌, ◌↔◌, ℕ, List, codes}
+use Rattle.plan_audit.specs.Laws.{AreAllPlanned, IsSoundPlan}
+use Rattle.route_sched.specs.Cost.{total_length, used_count}
+use Rattle.plan_types.specs.Instance.{Instance, IsInstance}
 use Rattle.plan_types.specs.declared.requests.Kind.{Kind}
 use Rattle.plan_types.specs.declared.requests.Kind.TheVariants.{LiLim, Vrp}
 use Rattle.instance_read.specs.Faults.{Class, IsFirstFault}
@@ -66,6 +68,7 @@ pub record TellsVerdict (problem : Instance) (plan : Solution) (answer : AuditAn
 pub record Judges (kind : Kind) (instance solution : List ℕ) (answer : AuditAnswer) : Type 0 where
   pub problem : Instance
   pub problem_spelled : SpellsInstance kind instance problem
+  pub problem_kept : IsInstance problem
   pub plan : Solution
   pub plan_spelled : sol_faults.Spells solution plan
   pub verdict : TellsVerdict problem plan answer
@@ -78,3 +81,19 @@ IsAnswer kind instance solution answer = RefusesInstance kind instance answer �
 abbrev pub JudgesSpelled : Kind → List ℕ → List ℕ → AuditAnswer → Type 0
 JudgesSpelled kind instance solution answer =
     (problem : Instance) (plan : Solution) → SpellsInstance kind instance problem → sol_faults.Spells solution plan → TellsVerdict problem plan answer
+
+-- both texts spell values, and the solution is sound, serves each request, uses no more vehicles than there are, and prints the
+-- distance that it drives
+pub record AreSound (kind : Kind) (instance solution : List ℕ) : Type 0 where
+  pub problem : Instance
+  pub problem_spelled : SpellsInstance kind instance problem
+  pub plan : Solution
+  pub plan_spelled : sol_faults.Spells solution plan
+  pub sound : IsSoundPlan problem plan.routes
+  pub complete : AreAllPlanned problem plan.routes
+  pub fleet : used_count plan.routes ≤ problem.fleet
+  pub distance : plan.cost ≡ total_length problem plan.routes
+
+-- status 0 says just that
+abbrev pub SaysSound : Kind → List ℕ → List ℕ → AuditAnswer → Type 0
+SaysSound kind instance solution answer = (answer.status ≡ 0) ↔ AreSound kind instance solution

@@ -4,21 +4,25 @@ use Rattle.std.specs.List.{list_all}
 use Rattle.std.specs.Str.{bytes_eq}
 use Rattle.clap.specs.Words.{Row, Text, first_of, kind_of}
 use Rattle.clap.specs.declared.error.Error.{Error}
-use Rattle.clap.specs.declared.error.kind.ErrorKind.TheVariants.{DisplayHelp, OutOfMemory}
+use Rattle.clap.specs.declared.error.kind.ErrorKind.TheVariants.{DisplayHelp, DisplayVersion, OutOfMemory}
 use Rattle.clap.specs.declared.error.kind.ErrorKind.{ErrorKind}
 use Rattle.plan_types.specs.declared.requests.Kind.{Kind}
 use Rattle.plan_types.specs.declared.requests.Kind.TheVariants.{LiLim, Vrp}
 use Rattle.planner_cli.specs.declared.words.Invocation.{Invocation}
-use Rattle.planner_cli.specs.declared.words.Invocation.TheVariants.{Audit, BuiltIn}
+use Rattle.planner_cli.specs.declared.words.Invocation.TheVariants.{Audit, BuiltIn, Format, Run}
 
--- the audit of the two built-in texts, or of two files by their paths
+-- the audit of the two built-in texts, or of two files by their paths; a store made in a file, or commands over one
 pub data Asked : Type 0 where
   built_in : Asked
   audit : Kind → Text → Text → Asked
+  format : Text → Asked
+  run : Text → Asked
 
 abbrev pub asked_of : Invocation → Asked
 asked_of BuiltIn = built_in
 asked_of (Audit kind instance solution) = audit kind instance.now solution.now
+asked_of (Format store) = format store.now
+asked_of (Run store) = run store.now
 
 -- the kind of instance that a word names
 abbrev pub kind_named : Text → Option Kind
@@ -29,10 +33,17 @@ abbrev pub audit_asked : List Text → Option Asked
 audit_asked (kind ∷ instance ∷ solution ∷ []) = option_map (λ k. audit k instance solution) (kind_named kind)
 audit_asked _ = None
 
--- no words, or `audit` and its three
+-- `STORE`
+abbrev pub store_asked : (Text → Asked) → List Text → Option Asked
+store_asked does (store ∷ []) = Some (does store)
+store_asked does _ = None
+
+-- no words, `audit` and its three, or `format` or `run` and the one that names a store
 abbrev pub asked_by : List Text → Option Asked
 asked_by [] = Some built_in
-asked_by (command ∷ words) = if bytes_eq (codes "audit") command then audit_asked words else None
+asked_by (command ∷ words) = if bytes_eq (codes "audit") command then audit_asked words
+    else (if bytes_eq (codes "format") command then store_asked format words
+    else (if bytes_eq (codes "run") command then store_asked run words else None))
 
 -- what the values of `audit` ask for
 abbrev pub asked_from : Option Text → Option Text → Option Text → Option Asked
@@ -42,10 +53,19 @@ asked_from _ _ _ = None
 abbrev pub asked_in : List Row → Option Asked
 asked_in rows = asked_from (first_of (codes "KIND") rows) (first_of (codes "INSTANCE") rows) (first_of (codes "SOLUTION") rows)
 
+-- the value of `STORE`
+abbrev pub store_in : List Row → Option Text
+store_in rows = first_of (codes "STORE") rows
+
+-- what the subcommand of this name asks for; there is no other one than these three
+abbrev pub told_by : Text → List Row → Option Asked
+told_by name rows = if bytes_eq (codes "audit") name then asked_in rows
+    else (if bytes_eq (codes "format") name then option_map format (store_in rows) else option_map run (store_in rows))
+
 -- what the subcommand asks for
 abbrev pub told_of : Option (Text × List Row) → Option Asked
 told_of None = Some built_in
-told_of (Some audit_rows) = asked_in audit_rows.1
+told_of (Some found) = told_by found.0 found.1
 
 -- the word does not begin with a hyphen
 abbrev pub is_positional_word : Text → Bool
@@ -55,14 +75,15 @@ is_positional_word (b ∷ bs) = not (b == 45)
 abbrev pub ArePositional : List Text → Type 0
 ArePositional words = list_all is_positional_word words ≡ true
 
--- help is asked for
+-- help is asked for (the version only by a word that begins with a hyphen)
 abbrev pub asks_help : List Text → Bool
 asks_help [] = false
 asks_help (command ∷ words) = bytes_eq (codes "help") command
 
--- the status that tells an error of the words: none for help that was asked for, and one of its own for want of memory
+-- the status that tells an error of the words: none for help or the version that was asked for, and one of its own for want of memory
 abbrev pub usage_status_of : ErrorKind → ℕ
 usage_status_of DisplayHelp = 0
+usage_status_of DisplayVersion = 0
 usage_status_of OutOfMemory = 4
 usage_status_of _ = 64
 

@@ -1,4 +1,10 @@
+-- what public contracts reach
 pub mod Answer
 pub mod AnswerText
 pub mod Asked
+pub mod Served
+-- of private functions alone
 pub mod CommandLine
+pub mod Telling
+pub mod Input
+pub mod Serving

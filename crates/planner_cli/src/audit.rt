@@ -3,12 +3,12 @@ ghost use Rattle.std.specs.Prelude.{◌≡◌, ◌≢◌, ◌≤◌, IfErr, IfOk
 ghost use Rattle.instance_read.specs.Names as instance_names;
 ghost use Rattle.sol_text.specs.Names as solution_names;
 ghost use Rattle.instance_read.specs.Faults.{Tells};
-ghost use Rattle.planner_cli.specs.Answer.{InstanceFault, IsAnswer, JudgesSpelled, SpellsInstance, refused_answer, verdict_answer};
+ghost use Rattle.planner_cli.specs.Answer.{InstanceFault, IsAnswer, JudgesSpelled, SaysSound, SpellsInstance, refused_answer, verdict_answer};
 
 use crate::answer::{AuditAnswer, broken_line, fault_line, pass_line};
 use crate::status::{BROKEN, DONE, REFUSED};
 use instance_read::{ReadFault, ReadFaultKind, read_lilim, read_vrp};
-use plan_audit::{Verdict, audit_solution};
+use plan_audit::{Verdict, audit_solution, solutions_pass_where_they_are_sound};
 use plan_types::{Kind, OutOfMemory, Problem};
 use sol_text::{SolFault, SolFaultKind, read_sol};
 use std::alloc::{AllocError, Global};
@@ -17,7 +17,8 @@ use std::alloc::{AllocError, Global};
 ///
 /// The line is `pass UNPLANNED VEHICLES DISTANCE` with status 0, `broken RULE route R place P stop S` with
 /// status 1 for the least broken rule, or `instance NAME LINE` or `solution NAME LINE` with status 2 for a text
-/// that is refused, the instance first.
+/// that is refused, the instance first. So the status is 0 just where both texts spell values and the solution is sound,
+/// serves each request, keeps the fleet, and prints the distance that it drives.
 pub fn audit_text(
     alloc: Global,
     kind: Kind,
@@ -27,11 +28,13 @@ pub fn audit_text(
     ensures answer { IfOk result (IsAnswer kind instance.now solution.now) }
     ensures verdict { IfOk result (JudgesSpelled kind instance.now solution.now) }
     ensures status { IfOk result (λ answer. answer.status ≤ 2) }
+    ensures sound { IfOk result (SaysSound kind instance.now solution.now) }
 {
-    audit_read(alloc, kind, instance, solution)
+    solutions_pass_where_they_are_sound();
+    audit_both(alloc, kind, instance, solution)
 }
 
-fn audit_read(
+fn audit_both(
     alloc: Global,
     kind: Kind,
     instance: &[u8],

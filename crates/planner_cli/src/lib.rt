@@ -2,12 +2,18 @@
 #![tactic(auto)]
 
 mod answer;
+mod answering;
 mod audit;
+mod help;
+mod input;
 mod program;
 pub mod status;
+mod stores;
+mod telling;
 mod words;
 
 pub use answer::{AuditAnswer, Line};
+pub use answering::{ServeFault, serve};
 pub use audit::audit_text;
 pub use program::run_words;
 pub use words::{Invocation, read_words};

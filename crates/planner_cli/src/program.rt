@@ -2,16 +2,23 @@
 ghost use Rattle.std.specs.Prelude.{◌≡◌, ◌≤◌, IfOk, IsSome, MatchResult, false, drop, map};
 ghost use Rattle.clap.specs.Words.{kind_of};
 ghost use Rattle.planner_cli.specs.Asked.{ArePositional, IsUsageStatus, asked_by, asks_help, usage_status_of};
+ghost use Rattle.std.specs.IoError.{error_kind};
+ghost use Rattle.plan_types.specs.declared.requests.Kind.TheVariants.{LiLim};
+ghost use Rattle.planner_cli.specs.Telling.{TellsAudit, TellsUnread, example_instance, example_solution, is_usage_printed};
 
-use crate::answer::AuditAnswer;
 use crate::audit::audit_text;
-use crate::status::{DONE, FILE, OUT_OF_MEMORY, USAGE};
+use crate::status::{DONE, OUT_OF_MEMORY, USAGE};
+use crate::stores::{format_store, run_store};
+use crate::telling::{status_of, tell_audit, tell_unread};
 use crate::words::{Invocation, read_words};
 use clap::Error;
 use clap::error::ErrorKind;
-use plan_types::{Kind, OutOfMemory};
+use plan_types::Kind;
+use sector_disk::Start;
+use std::alloc::Global;
 use std::convert::AsStr;
-use std::io::Write;
+use std::fs::File;
+use std::io::{Input, Write};
 use std::rt::Files;
 use std::{fs, io};
 
@@ -22,110 +29,135 @@ const EXAMPLE_INSTANCE: &str =
 const EXAMPLE_SOLUTION: &str = "Route #1: 1 2\nCost 20\n";
 
 /// Does what the words of the command line ask for, the program's name first, and gives the status to end with.
-/// Where an answer cannot be printed, that is `FILE`.
-pub fn run_words<R: Files + Print + Eprint + AllocGlobal, S: AsStr>(rt: &R, words: &[S]) -> u8
-    ensures audits { let asked = drop 1 (map S.text words.now) in
+/// Where an answer cannot be printed, that is `FILE`. `start` stands for what the store's file is as it is opened.
+pub fn run_words<R, T: Start, S: AsStr>(rt: &R, start: T, words: &[S]) -> u8
+where
+    R: Files<File = File> + Input + Print + Eprint + AllocGlobal,
+    ensures does { let asked = drop 1 (map S.text words.now) in
         ArePositional asked → IsSome (asked_by asked) → result ≤ 4 }
     ensures refuses { let asked = drop 1 (map S.text words.now) in
         ArePositional asked → asked_by asked ≡ None → asks_help asked ≡ false
         → IsUsageStatus result }
 {
-    let told = match read_words(rt.alloc(), words) {
-        Ok(invocation) => do_asked(rt, invocation),
-        Err(error) => tell_usage(rt, &error),
-    };
-    told.unwrap_or(FILE)
+    match read_words(rt.alloc(), words) {
+        Ok(invocation) => do_asked(rt, start, invocation),
+        Err(error) => status_of(tell_usage(rt, &error)),
+    }
 }
 
-fn do_asked<R: Files + Print + AllocGlobal>(rt: &R, invocation: Invocation) -> io::Result<u8>
-    ensures { IfOk result (λ status. status ≤ 4) }
+fn do_asked<R, T: Start>(rt: &R, start: T, invocation: Invocation) -> u8
+where
+    R: Files<File = File> + Input + Print + Eprint + AllocGlobal,
+    ensures { result ≤ 4 }
 {
-    match invocation {
-        Invocation::BuiltIn => audit_example(rt),
+    let mut output = io::writer(rt);
+    status_of(match invocation {
+        Invocation::BuiltIn => audit_example(rt.alloc(), &mut output),
         Invocation::Audit {
             kind,
             instance,
             solution,
-        } => audit_files(rt, kind, instance, solution),
-    }
+        } => audit_files(rt, kind, instance, solution, &mut output),
+        Invocation::Format { store } => format_store(rt, start, store, &mut output),
+        Invocation::Run { store } => run_store(rt, start, store, &mut rt.reader(), &mut output),
+    })
 }
 
-/// Tells help that was asked for on standard output and a fault of the words on standard error, and gives the
-/// status. Of want of memory nothing is told.
+/// Tells help and the version, where they were asked for, on standard output, and a fault of the words on standard error, and
+/// gives the status. Of want of memory nothing is told.
 fn tell_usage<R: Print + Eprint>(rt: &R, error: &Error) -> io::Result<u8>
     ensures { IfOk result (λ status. status ≡ usage_status_of (kind_of error.now)) }
 {
-    let status = usage_status(error.kind());
-    if status != OUT_OF_MEMORY {
+    let kind = error.kind();
+    if is_printed(kind) {
         error.print(rt)?;
     }
-    Ok(status)
+    Ok(usage_status(kind))
+}
+
+/// Whether clap's text is printed.
+fn is_printed(kind: ErrorKind) -> bool
+    ensures { result ≡ is_usage_printed kind }
+{
+    match kind {
+        ErrorKind::OutOfMemory => false,
+        _ => true,
+    }
 }
 
 fn usage_status(kind: ErrorKind) -> u8
     ensures { result ≡ usage_status_of kind }
 {
     match kind {
-        ErrorKind::DisplayHelp => DONE,
+        ErrorKind::DisplayHelp | ErrorKind::DisplayVersion => DONE,
         ErrorKind::OutOfMemory => OUT_OF_MEMORY,
         _ => USAGE,
     }
 }
 
-fn audit_example<R: Print + AllocGlobal>(rt: &R) -> io::Result<u8>
-    ensures { IfOk result (λ status. status ≤ 4) }
+fn audit_example<W: Write>(alloc: Global, output: &mut W) -> io::Result<u8>
+    ensures status { IfOk result (λ status. status ≤ 4) }
+    ensures told { IfOk result (TellsAudit LiLim example_instance example_solution
+        (W.contents output.old) (W.contents output.new)) }
 {
     let instance = EXAMPLE_INSTANCE.as_bytes();
     let solution = EXAMPLE_SOLUTION.as_bytes();
-    tell_audit(rt, audit_text(rt.alloc(), Kind::LiLim, instance, solution))
+    let answer = audit_text(alloc, Kind::LiLim, instance, solution);
+    tell_audit(output, &answer)
 }
 
-/// Reads the whole of both files before it looks into either.
-fn audit_files<R: Files + Print + AllocGlobal>(
+/// Audits two files.
+fn audit_files<R, W: Write>(
     rt: &R,
     kind: Kind,
     instance: &str,
     solution: &str,
+    output: &mut W,
 ) -> io::Result<u8>
+where
+    R: Files + Eprint + AllocGlobal,
     ensures { IfOk result (λ status. status ≤ 4) }
 {
-    let instance = match fs::read(rt, instance) {
-        Ok(text) => text,
-        Err(error) => return tell_unread(rt, instance, &error),
-    };
-    let solution = match fs::read(rt, solution) {
-        Ok(text) => text,
-        Err(error) => return tell_unread(rt, solution, &error),
-    };
-    tell_audit(rt, audit_text(rt.alloc(), kind, &instance, &solution))
+    let read = |path: &str| read_file(rt, path);
+    audit_read(rt.alloc(), kind, instance, solution, read, output)
 }
 
-fn tell_unread<R: Print>(rt: &R, path: &str, error: &io::Error) -> io::Result<u8>
-    ensures { IfOk result (λ status. status ≤ 4) }
-{
-    if error.kind() == io::ErrorKind::OutOfMemory {
-        return tell_out_of_memory(rt);
+/// Reads a file. Why it can't be read is told on standard error, in the system's words.
+fn read_file<R: Files + Eprint + AllocGlobal>(rt: &R, path: &str) -> io::Result<Vec<u8>> {
+    let text = fs::read(rt, path);
+    if let Err(error) = &text {
+        let _ = eprintln!(rt; "planner: {path}: {error}");
     }
-    println!(rt; "cannot read {path}")?;
-    Ok(FILE)
+    text
 }
 
-fn tell_audit<R: Print>(rt: &R, answer: Result<AuditAnswer, OutOfMemory>) -> io::Result<u8>
-    ensures { IfOk result (λ status.
-        MatchResult answer (λ told. status ≡ told.status) (λ _. status ≡ 4)) }
+/// Reads the whole of both texts before it looks into either, and tells what comes of their audit.
+fn audit_read<F, W: Write>(
+    alloc: Global,
+    kind: Kind,
+    instance: &str,
+    solution: &str,
+    read: F,
+    output: &mut W,
+) -> io::Result<u8>
+where
+    F: Fn(&str) -> io::Result<Vec<u8>> + Drop,
+    requires { F.IsAlwaysCallable read }
+    ensures status { IfOk result (λ status. status ≤ 4) }
+    ensures told { let before = W.contents output.old in let after = W.contents output.new in
+        IfOk result (λ status. (first : _) × F.post read instance.entry first × MatchResult first
+        (λ x. (second : _) × F.post read solution.entry second × MatchResult second
+        (λ y. TellsAudit kind x.items y.items before after status)
+        (λ error. TellsUnread solution.entry.now (error_kind error) before after status))
+        (λ error. TellsUnread instance.entry.now (error_kind error) before after status)) }
 {
-    let Ok(answer) = answer else {
-        return tell_out_of_memory(rt);
+    let instance = match read(instance) {
+        Ok(text) => text,
+        Err(error) => return tell_unread(output, instance, error.kind()),
     };
-    let mut output = io::writer(rt);
-    output.write_all(answer.line.as_bytes())?;
-    output.write_all(b"\n")?;
-    Ok(answer.status)
-}
-
-fn tell_out_of_memory<R: Print>(rt: &R) -> io::Result<u8>
-    ensures { IfOk result (λ status. status ≡ 4) }
-{
-    println!(rt; "out of memory")?;
-    Ok(OUT_OF_MEMORY)
+    let solution = match read(solution) {
+        Ok(text) => text,
+        Err(error) => return tell_unread(output, solution, error.kind()),
+    };
+    tell_audit(output, &audit_text(alloc, kind, &instance, &solution))
 }

@@ -199,6 +199,17 @@ fn reads_words(rt: HostRuntime) -> Result<(), Fail> {
         return Err(Fail::from("not read as an audit"));
     };
     assert!(rt; kind == Kind::Vrp && instance == "a b.vrp" && solution == "c.sol");
+
+    let words = ["planner", "format", "a b.store"];
+    let Invocation::Format { store } = read_words(rt.alloc(), words.as_slice())? else {
+        return Err(Fail::from("not read as a format"));
+    };
+    assert_eq!(rt; store, "a b.store");
+    let words = ["planner", "run", "c.store"];
+    let Invocation::Run { store } = read_words(rt.alloc(), words.as_slice())? else {
+        return Err(Fail::from("not read as a run"));
+    };
+    assert_eq!(rt; store, "c.store");
     Ok(())
 }
 
@@ -228,6 +239,22 @@ fn refuses_words(rt: HostRuntime) -> Result<(), Fail> {
         (
             ["planner", "--kind", "vrp"].as_slice(),
             ErrorKind::UnknownArgument,
+        ),
+        (
+            ["planner", "run", "a", "b"].as_slice(),
+            ErrorKind::UnknownArgument,
+        ),
+        (
+            ["planner", "format"].as_slice(),
+            ErrorKind::MissingRequiredArgument,
+        ),
+        (
+            ["planner", "upgrade", "a", "b"].as_slice(),
+            ErrorKind::InvalidSubcommand,
+        ),
+        (
+            ["planner", "--version"].as_slice(),
+            ErrorKind::DisplayVersion,
         ),
         (["planner", "help"].as_slice(), ErrorKind::DisplayHelp),
         (

@@ -1,9 +1,12 @@
 //! The words of the command line.
 ghost use Rattle.std.specs.Prelude.{◌≡◌, IfOk, drop, map, option_map};
 ghost use Rattle.clap.specs.Words.{found_of, kind_of, rows_of, subcommand_rows_of};
-ghost use Rattle.planner_cli.specs.Asked.{ArePositional, Reads, asked_in, asked_of, kind_named, told_of};
-ghost use Rattle.planner_cli.specs.CommandLine.{IsAuditCommand, IsPlannerCommand};
+ghost use Rattle.planner_cli.specs.Asked.{ArePositional, Reads, asked_in, asked_of, kind_named, store_in, told_by, told_of};
+ghost use Rattle.planner_cli.specs.CommandLine.{IsAuditCommand, IsPlannerCommand, IsStoreCommand};
 
+use crate::help::{
+    ABOUT, AUDIT_ANSWERS, FORMAT_ABOUT, FORMAT_ANSWERS, RUN_ABOUT, RUN_ANSWERS, STATUSES, VERSION,
+};
 use clap::error::ErrorKind;
 use clap::{Arg, ArgMatches, Command, Error};
 use plan_types::{Kind, OutOfMemory};
@@ -20,6 +23,14 @@ pub enum Invocation<'a> {
         kind: Kind,
         instance: &'a str,
         solution: &'a str,
+    },
+    /// `format STORE`: an empty store in the file of this path.
+    Format {
+        store: &'a str,
+    },
+    /// `run STORE`: the commands of standard input, over the store in this file.
+    Run {
+        store: &'a str,
     },
 }
 
@@ -49,12 +60,33 @@ fn missing_word(alloc: Global) -> Result<Error, OutOfMemory>
 fn planner_command<'a>(alloc: Global) -> Result<Command<'a>, OutOfMemory>
     ensures { IfOk result IsPlannerCommand }
 {
+    let format = store_command(alloc, "format", FORMAT_ABOUT, FORMAT_ANSWERS)?;
+    let run = store_command(alloc, "run", RUN_ABOUT, RUN_ANSWERS)?;
     Command::new(alloc, "planner")
-        .about(
-            "Audits plans of pickup and delivery routing and of capacitated routing. \
-            Without words it audits a built-in example.",
-        )
-        .subcommand(audit_command(alloc)?)
+        .about(ABOUT)
+        .version(VERSION)
+        .after_help(STATUSES)
+        .subcommand(audit_command(alloc)?)?
+        .subcommand(format)?
+        .subcommand(run)
+}
+
+/// A command whose one word is the path of a store.
+fn store_command<'a>(
+    alloc: Global,
+    name: &'a str,
+    about: &'a str,
+    answers: &'a str,
+) -> Result<Command<'a>, OutOfMemory>
+    ensures { IfOk result (IsStoreCommand name.entry.now) }
+{
+    let store = Arg::new(alloc, "STORE")
+        .required(true)
+        .help("The file of the store");
+    Command::new(alloc, name)
+        .about(about)
+        .after_help(answers)
+        .arg(store)
 }
 
 fn audit_command<'a>(alloc: Global) -> Result<Command<'a>, OutOfMemory>
@@ -72,6 +104,7 @@ fn audit_command<'a>(alloc: Global) -> Result<Command<'a>, OutOfMemory>
         .help("The file of the solution");
     Command::new(alloc, "audit")
         .about("Says whether a solution keeps the rules, and the first rule that it breaks")
+        .after_help(AUDIT_ANSWERS)
         .arg(kind)?
         .arg(instance)?
         .arg(solution)
@@ -82,9 +115,31 @@ fn asked_words<'a>(matches: &ArgMatches<'a>) -> Option<Invocation<'a>>
     ensures { option_map asked_of result ≡ told_of (subcommand_rows_of matches.now) }
 {
     match matches.subcommand() {
-        Some((_, audit)) => audit_words(audit),
+        Some((name, words)) => command_words(name, words),
         None => Some(Invocation::BuiltIn),
     }
+}
+
+/// What the words behind a command's name ask for.
+fn command_words<'a>(name: &str, words: &ArgMatches<'a>) -> Option<Invocation<'a>>
+    ensures { option_map asked_of result ≡ told_by name.now (rows_of (found_of words.now)) }
+{
+    match name {
+        "audit" => audit_words(words),
+        "format" => Some(Invocation::Format {
+            store: store_word(words)?,
+        }),
+        _ => Some(Invocation::Run {
+            store: store_word(words)?,
+        }),
+    }
+}
+
+/// The path of the store, or `None` where it is missing.
+fn store_word<'a>(matches: &ArgMatches<'a>) -> Option<&'a str>
+    ensures { option_map (λ store. store.now) result ≡ store_in (rows_of (found_of matches.now)) }
+{
+    matches.get_str("STORE")
 }
 
 /// `None` where a word is missing or names no kind.

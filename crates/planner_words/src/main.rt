@@ -2,6 +2,7 @@
 #![tactic(auto)]
 
 use planner_cli::run_words;
+use sector_disk::Unknown;
 use std::alloc::{AllocError, Global};
 use std::io;
 
@@ -12,7 +13,7 @@ fn main(rt: HostRuntime) -> io::Result<()> {
         let line = line?;
         println!(rt; "> {}", line.as_str())?;
         let words = words_of(rt.alloc(), line.as_str())?;
-        let status = run_words(&rt, words.as_slice());
+        let status = run_words(&rt, Unknown, words.as_slice());
         println!(rt; "= {status}")?;
     }
     Ok(())

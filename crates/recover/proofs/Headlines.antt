@@ -9,16 +9,11 @@ use Rattle.command_core.specs.declared.states.State.TheVariants.{Empty, Loaded}
 use Rattle.command_core.specs.declared.commands.Command.{Command}
 use Rattle.checkpoint.specs.declared.faults.StoreFault.{StoreFault}
 use Rattle.checkpoint.specs.declared.faults.StoreFault.TheVariants.{NotFormatted, BadVersion, Codec, Spent, OutOfMemory, DeviceFault}
-use Rattle.checkpoint.specs.Holds.{KeepsFacts}
 use Rattle.recover.specs.StandsFor.{StandsFor}
 use Rattle.recover.specs.Replies.{kept, acked}
 use Rattle.recover.specs.Moments.{StandsForSome}
 use Rattle.recover.specs.Opening.{GivesUnlessFailed}
 use Rattle.recover.specs.Headline.{HasPassingPlan, IsRecovered, Headline}
-
-facts_of : (state : State) → KeepsFacts state → IsState state
-facts_of Empty h = tt
-facts_of (Loaded job) h = h
 
 passing : (state : State) → IsState state → HasPassingPlan state
 passing Empty h = tt
@@ -36,7 +31,7 @@ weaker P Q so (Err Spent) h = elim h [ ]
 module _ (keep : RunsKeepFacts) (never_more : PlansNeverCostMore) where
   -- what an image stands for keeps the facts of states
   pub stands_state : (image : List ℕ) (state : State) → StandsFor image state → IsState state
-  stands_state image state stands = subst IsState stands.leads (keep stands.snapshot stands.commands (facts_of stands.snapshot stands.holds.facts) stands.accepted)
+  stands_state image state stands = subst IsState stands.leads (keep stands.snapshot stands.commands stands.holds.facts stands.accepted)
 
   recovered : (begun : State) (commands : List Command) (acknowledged : ℕ) (image : List ℕ) → (stop : StandsForSome begun commands acknowledged image)
       → (given : State) → given ≡ after begun (take stop.count commands) → IsRecovered begun commands acknowledged given

@@ -2,3 +2,5 @@ mod Headlines
 mod RunLemmas
 mod StepLemmas
 mod SessionLemmas
+mod Replays
+mod Openings

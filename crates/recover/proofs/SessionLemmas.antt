@@ -8,13 +8,11 @@ use Rattle.sector_disk.specs.Sectors.{Throughout}
 use Rattle.sector_disk.specs.Throughout as through
 use Rattle.command_core.specs.Effects.{effect}
 use Rattle.command_core.specs.Refusing.{refusal}
-use Rattle.command_core.specs.Runs.{IsState, AreAccepted, is_recorded}
+use Rattle.command_core.specs.Runs.{AreAccepted, is_recorded}
 use Rattle.command_core.specs.declared.refusals.Refusal.{Refusal}
 use Rattle.command_core.specs.declared.states.State.{State}
-use Rattle.command_core.specs.declared.states.State.TheVariants.{Empty, Loaded}
 use Rattle.command_core.specs.declared.commands.Command.{Command}
 use Rattle.checkpoint.specs.declared.places.Place.{Place}
-use Rattle.checkpoint.specs.Holds.{KeepsFacts}
 use Rattle.recover.specs.declared.denials.Denial.{Denial}
 use Rattle.recover.specs.declared.denials.Denial.TheVariants.{Broken, Core, Spent, DeviceFault}
 use Rattle.recover.specs.declared.replies.Reply.{Reply}
@@ -26,10 +24,6 @@ use Rattle.recover.specs.Applying.{is_snapshot_due, place_after, spent, denial, 
 use Rattle.recover.specs.Committing.{IsInStep}
 use Rattle.recover.proofs.RunLemmas.{unacked, one_acked}
 use Rattle.recover.proofs.StepLemmas.{held}
-
-pub facts_of : (state : State) → IsState state → KeepsFacts state
-facts_of Empty h = tt
-facts_of (Loaded job) h = h
 
 -- images that hold a state and commands stand for the state after these
 pub stands_of : (images : List ℕ → Type 0) (state : State) (place : Place) → AllHold images state place → (image : List ℕ) → images image → StandsFor image state

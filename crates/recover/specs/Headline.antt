@@ -1,7 +1,7 @@
 -- The headline. Stopped at any moment of a run, with any choice that the device allows, recovery gives the state after a first part of the
 -- commands that holds every acknowledged one. Its plan passes the auditor, and costs no more than any incumbent since the last change of
 -- requests or pins.
-use Rattle.std.specs.Prelude.{◌≡◌, ℕ, ◌+◌, ◌≤◌, true, List, length, take, Result, ⊤}
+use Rattle.std.specs.Prelude.{◌≡◌, ℕ, ◌+◌, ◌≤◌, true, List, [], length, take, Result, ⊤}
 use Rattle.sector_disk.specs.Sectors.{Throughout}
 use Rattle.plan_audit.specs.Passes.{passes}
 use Rattle.command_core.specs.Runs.{after, last_change}
@@ -10,6 +10,10 @@ use Rattle.command_core.specs.declared.states.State.{State}
 use Rattle.command_core.specs.declared.states.State.TheVariants.{Empty, Loaded}
 use Rattle.command_core.specs.declared.commands.Command.{Command}
 use Rattle.checkpoint.specs.declared.faults.StoreFault.{StoreFault}
+use Rattle.checkpoint.specs.declared.places.Place.{Place}
+use Rattle.checkpoint.specs.Holds.{Holds}
+use Rattle.state_codec.specs.declared.version.Version.TheVariants.{Two}
+use Rattle.recover.specs.StandsFor.{StandsFor}
 use Rattle.recover.specs.declared.replies.Reply.{Reply}
 use Rattle.recover.specs.Replies.{kept, acked}
 use Rattle.recover.specs.Moments.{RunLeaves}
@@ -40,3 +44,19 @@ Headline {D} clock since = (old new : D) (begun : State) (commands : List Comman
     → since new (clock old) m image
     → Opens image outcome
     → GivesUnlessFailed (IsRecovered begun (kept commands replies) (acked m replies)) outcome
+
+-- Let each image that a stop may leave of a device stand for this state, as `close` promises of the session's. Opening the device gives it.
+abbrev pub Reopens : {D : Type 0} → (D → Type 0) → (D → List ℕ) → (D → List ℕ → Type 0) → Type 0
+Reopens {D} honest seen possible = (device : D) (state : State) (outcome : Result State StoreFault)
+    → honest device
+    → ((image : List ℕ) → possible device image → StandsFor image state)
+    → Opens (seen device) outcome
+    → GivesUnlessFailed (λ given. given ≡ state) outcome
+
+-- Let each image that a stop may leave of a device hold this state and no command, as `format` promises of the empty one. Opening it gives it.
+abbrev pub OpensNew : {D : Type 0} → (D → Type 0) → (D → List ℕ) → (D → List ℕ → Type 0) → Type 0
+OpensNew {D} honest seen possible = (device : D) (state : State) (place : Place) (outcome : Result State StoreFault)
+    → honest device
+    → ((image : List ℕ) → possible device image → Holds Two image state [] place)
+    → Opens (seen device) outcome
+    → GivesUnlessFailed (λ given. given ≡ state) outcome

@@ -9,3 +9,4 @@ pub mod Applying
 pub mod Headline
 -- of private functions alone
 pub mod Committing
+pub mod Repeating

@@ -82,14 +82,17 @@ fn as_record<D: Sectors>(
     requires last { place.sequence ≤ 2 ^ 60 }
 
     ensures left { IfErr result (λ fault. LeavesDevice fault device.old device.new) }
-    ensures place { IfOk result (λ next. next ≡ record { sequence = place.sequence; used = place.used + 1 }) }
+    ensures place { IfOk result (λ next. next
+        ≡ record { sequence = place.sequence; used = place.used + 1 }) }
     ensures same_len { D.len device.new ≡ D.len device.old }
     ensures finished { OnOk result (D.calls device.new ≡ D.calls device.old + 2) }
     ensures fault { D.faults device.new ≡ faults_after_commit result (D.faults device.old) }
     ensures honest { D.honest device.new → D.honest device.old }
-    ensures moments { D.honest device.new → (state : State) → AreAccepted state (command.now ∷ []) → AllHold (D.possible device.old) state place
+    ensures moments { D.honest device.new → (state : State) → AreAccepted state (command.now ∷ [])
+        → AllHold (D.possible device.old) state place
         → Throughout D.clock D.possible_since device.old device.new (IsInStep state (effect state command.now) (D.calls device.old) 2) }
-    ensures after { D.honest device.new → (state : State) → AreAccepted state (command.now ∷ []) → AllHold (D.possible device.old) state place
+    ensures after { D.honest device.new → (state : State) → AreAccepted state (command.now ∷ [])
+        → AllHold (D.possible device.old) state place
         → OnOk result (AllHold (D.possible device.new) (effect state command.now) (record { sequence = place.sequence; used = place.used + 1 })) }
 {
     match commit_record(device, place, command) {
@@ -110,14 +113,17 @@ fn as_snapshot<D: Sectors>(
     requires last { place.sequence < 2 ^ 60 }
 
     ensures left { IfErr result (λ fault. LeavesDevice fault device.old device.new) }
-    ensures place { IfOk result (λ next. next ≡ record { sequence = place.sequence + 1; used = 0 }) }
+    ensures place { IfOk result (λ next. next
+        ≡ record { sequence = place.sequence + 1; used = 0 }) }
     ensures same_len { D.len device.new ≡ D.len device.old }
     ensures finished { OnOk result (D.calls device.new ≡ D.calls device.old + 4) }
     ensures fault { D.faults device.new ≡ faults_after_commit result (D.faults device.old) }
     ensures honest { D.honest device.new → D.honest device.old }
-    ensures moments { D.honest device.new → (state : State) → AllHold (D.possible device.old) state place
+    ensures moments { D.honest device.new → (state : State)
+        → AllHold (D.possible device.old) state place
         → Throughout D.clock D.possible_since device.old device.new (IsInStep state next.now (D.calls device.old) 4) }
-    ensures after { D.honest device.new → (state : State) → AllHold (D.possible device.old) state place
+    ensures after { D.honest device.new → (state : State)
+        → AllHold (D.possible device.old) state place
         → OnOk result (AllHold (D.possible device.new) next.now (record { sequence = place.sequence + 1; used = 0 })) }
 {
     match commit_snapshot(alloc, device, place, next) {
@@ -144,12 +150,15 @@ pub(crate) fn commit<D: Sectors>(
     ensures left { IfErr result (λ fault. LeavesDevice fault device.old device.new) }
     ensures place { IfOk result (λ next. next ≡ place_after place command.now) }
     ensures same_len { D.len device.new ≡ D.len device.old }
-    ensures finished { OnOk result (D.calls device.new ≡ D.calls device.old + calls_of place command.now) }
+    ensures finished { OnOk result
+        (D.calls device.new ≡ D.calls device.old + calls_of place command.now) }
     ensures fault { D.faults device.new ≡ faults_after_commit result (D.faults device.old) }
     ensures honest { D.honest device.new → D.honest device.old }
-    ensures moments { D.honest device.new → (state : State) → AreAccepted state (command.now ∷ []) → next.now ≡ effect state command.now → AllHold (D.possible device.old) state place
+    ensures moments { D.honest device.new → (state : State) → AreAccepted state (command.now ∷ [])
+        → next.now ≡ effect state command.now → AllHold (D.possible device.old) state place
         → Throughout D.clock D.possible_since device.old device.new (IsInStep state next.now (D.calls device.old) (calls_of place command.now)) }
-    ensures after { D.honest device.new → (state : State) → AreAccepted state (command.now ∷ []) → next.now ≡ effect state command.now → AllHold (D.possible device.old) state place
+    ensures after { D.honest device.new → (state : State) → AreAccepted state (command.now ∷ [])
+        → next.now ≡ effect state command.now → AllHold (D.possible device.old) state place
         → OnOk result (AllHold (D.possible device.new) next.now (place_after place command.now)) }
 {
     if has_record(command) && place.used < RECORDS {

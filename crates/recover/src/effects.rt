@@ -23,7 +23,8 @@ pub(crate) fn state_after(alloc: Global, state: &State, command: &Command) -> Re
     ensures accepted { IfOk result (λ next. AreAccepted state.now (command.now ∷ [])) }
     ensures next { IfOk result (λ next. next ≡ effect state.now command.now) }
     ensures facts { IfOk result IsState }
-    ensures err { IfErr result (λ r. (refusal state.now command.now ≡ Some r) ⊎ ((refusal state.now command.now ≡ None) × (r ≡ Refusal.OutOfMemory))) }
+    ensures err { IfErr result (λ r. (refusal state.now command.now ≡ Some r)
+        ⊎ ((refusal state.now command.now ≡ None) × (r ≡ Refusal.OutOfMemory))) }
 {
     effects_keep_facts();
     know(command);

@@ -1,5 +1,5 @@
 // What is known of stops and recovery, from the promises of `run` and of `open` alone.
-ghost use Rattle.recover.specs.Headline.{Headline};
+ghost use Rattle.recover.specs.Headline.{Headline, Reopens, OpensNew};
 
 use command_core::{effects_keep_facts, plans_never_cost_more};
 use sector_disk::Sectors;
@@ -13,3 +13,13 @@ pub fn recovery_keeps_every_acknowledged_command<D: Sectors>()
     effects_keep_facts();
     plans_never_cost_more();
 }
+
+/// A session that is closed gives the same state when its device is opened again: each image that a stop may leave stands for it.
+pub fn a_closed_session_opens_the_same<D: Sectors>()
+    ensures { Reopens D.honest D.seen D.possible }
+{}
+
+/// A store that was just made opens with the state that it was made of: the empty one after `format`.
+pub fn a_new_store_opens_with_its_state<D: Sectors>()
+    ensures { OpensNew D.honest D.seen D.possible }
+{}

@@ -5,11 +5,20 @@ mod commits;
 mod denials;
 mod effects;
 mod laws;
+mod opening;
+mod repeating;
 mod replies;
 mod runs;
 mod sessions;
+mod stops;
+#[cfg(test)]
+mod tests;
 
 pub use denials::Denial;
-pub use laws::recovery_keeps_every_acknowledged_command;
+pub use laws::{
+    a_closed_session_opens_the_same, a_new_store_opens_with_its_state,
+    recovery_keeps_every_acknowledged_command,
+};
+pub use opening::Opened;
 pub use replies::{Reply, Run};
 pub use sessions::Session;

@@ -18,7 +18,9 @@ impl<D: Sectors> Session<D> {
     /// and at most one more.
     pub fn run(&mut self, alloc: Global, commands: Vec<Command>) -> Result<Run, OutOfMemory>
         ensures refused { OnErr result (self.new ≡ self.old) }
-        ensures replies { IfOk result (λ run. IsRun D.len D.calls D.faults D.honest D.clock D.possible_since D.possible self.old commands.items run.replies.items self.new) }
+        ensures replies { IfOk result
+            (λ run. IsRun D.len D.calls D.faults D.honest D.clock D.possible_since D.possible
+            self.old commands.items run.replies.items self.new) }
         ensures moments { IfOk result (λ run. self.old.is_broken ≡ false → D.honest self.new.device
             → Throughout D.clock D.possible_since self.old.device self.new.device (RunLeaves self.old.state commands.items run.replies.items)) }
     {

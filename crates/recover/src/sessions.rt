@@ -12,7 +12,7 @@ use crate::effects::state_after;
 use crate::replies::Reply;
 use checkpoint::Place;
 use command_core::{Command, State, accepted_commands_fit_records, check};
-use sector_disk::Sectors;
+use sector_disk::{MemDevice, Sectors};
 use std::alloc::Global;
 use std::marker::Model;
 
@@ -35,12 +35,41 @@ impl<D: Sectors> Model for Session<D> {
 
     ghost use Rattle.recover.specs.Sessions.{IsSession};
 
-    ghost view = { λ s. record { device = s.device; state = s.state; place = s.place; is_broken = s.is_broken } };
+    ghost view = { λ s. record {
+      device = s.device;
+      state = s.state;
+      place = s.place;
+      is_broken =
+          s.is_broken;
+    } };
 
-    ghost invariant = { λ s. IsSession D.len D.honest D.possible (record { device = s.device; state = s.state; place = s.place; is_broken = s.is_broken }) };
+    ghost invariant = { λ s. IsSession D.len D.honest D.possible
+        (record { device = s.device; state = s.state; place = s.place; is_broken = s.is_broken }) };
 }
 
 impl<D: Sectors> Session<D> {
+    ghost use Rattle.recover.specs.Sessions.{IsSession};
+
+    /// A session over a device each of whose images stands for this state.
+    pub(crate) fn over(device: D, state: State, place: Place) -> Session<D>
+        requires { IsSession D.len D.honest D.possible
+            (record { device = device; state = state; place = place; is_broken = false }) }
+        ensures { result ≡ record {
+          device = device;
+          state = state;
+          place = place;
+          is_broken =
+              false;
+        } }
+    {
+        Session {
+            device,
+            state,
+            place,
+            is_broken: false,
+        }
+    }
+
     /// Carries a command out and makes it durable. `Ok` comes after the last sync; from then on no stop loses the command.
     ///
     /// `Load` and `Checkpoint` write a snapshot, with four calls of the device. Any other command writes a record, with two, or a snapshot
@@ -50,15 +79,19 @@ impl<D: Sectors> Session<D> {
         ensures answer { IsAnswer (denial self.old command) result.answer }
         ensures makes { Makes result.answer self.old command self.new }
         ensures count { result.calls ≡ D.calls self.new.device }
-        ensures finished { OnOk result.answer (D.calls self.new.device ≡ D.calls self.old.device + calls_of self.old.place command) }
-        ensures fault { D.faults self.new.device ≡ faults_after_answer result.answer (D.faults self.old.device) }
+        ensures finished { OnOk result.answer
+            (D.calls self.new.device ≡ D.calls self.old.device + calls_of self.old.place command) }
+        ensures fault { D.faults self.new.device
+            ≡ faults_after_answer result.answer (D.faults self.old.device) }
         ensures same_len { D.len self.new.device ≡ D.len self.old.device }
         ensures honest { D.honest self.new.device → D.honest self.old.device }
         ensures moments { self.old.is_broken ≡ false → D.honest self.new.device
             → Throughout D.clock D.possible_since self.old.device self.new.device (RunLeaves self.old.state (command ∷ []) (result ∷ [])) }
-        ensures counts { D.honest self.new.device → Throughout D.clock D.possible_since self.old.device self.new.device
+        ensures counts { D.honest self.new.device
+            → Throughout D.clock D.possible_since self.old.device self.new.device
             (IsBetween (D.calls self.old.device) (D.calls self.old.device + calls_of self.old.place command)) }
-        ensures stands { self.new.is_broken ≡ false → D.honest self.new.device → (image : List ℕ) → D.possible self.new.device image → StandsFor image self.new.state }
+        ensures stands { self.new.is_broken ≡ false → D.honest self.new.device → (image : List ℕ)
+            → D.possible self.new.device image → StandsFor image self.new.state }
     {
         let answer = self.answer(alloc, &command);
         Reply {
@@ -71,13 +104,18 @@ impl<D: Sectors> Session<D> {
     fn answer(&mut self, alloc: Global, command: &Command) -> Result<(), Denial>
         ensures answer { IsAnswer (denial self.old command.now) result }
         ensures makes { Makes result self.old command.now self.new }
-        ensures finished { OnOk result (D.calls self.new.device ≡ D.calls self.old.device + calls_of self.old.place command.now) }
-        ensures fault { D.faults self.new.device ≡ faults_after_answer result (D.faults self.old.device) }
+        ensures finished { OnOk result
+            (D.calls self.new.device ≡ D.calls self.old.device + calls_of self.old.place
+            command.now) }
+        ensures fault { D.faults self.new.device
+            ≡ faults_after_answer result (D.faults self.old.device) }
         ensures same_len { D.len self.new.device ≡ D.len self.old.device }
         ensures honest { D.honest self.new.device → D.honest self.old.device }
-        ensures moments { self.old.is_broken ≡ false → D.honest self.new.device → Throughout D.clock D.possible_since self.old.device self.new.device
+        ensures moments { self.old.is_broken ≡ false → D.honest self.new.device
+            → Throughout D.clock D.possible_since self.old.device self.new.device
             (RunLeaves self.old.state (command.now ∷ []) (record { answer = result; calls = D.calls self.new.device } ∷ [])) }
-        ensures counts { D.honest self.new.device → Throughout D.clock D.possible_since self.old.device self.new.device
+        ensures counts { D.honest self.new.device
+            → Throughout D.clock D.possible_since self.old.device self.new.device
             (IsBetween (D.calls self.old.device) (D.calls self.old.device + calls_of self.old.place command.now)) }
     {
         self.images_stand_for_the_state();
@@ -108,13 +146,18 @@ impl<D: Sectors> Session<D> {
         requires { denial self.old command.now ≡ None }
         ensures answer { IsAnswer None result }
         ensures makes { Makes result self.old command.now self.new }
-        ensures finished { OnOk result (D.calls self.new.device ≡ D.calls self.old.device + calls_of self.old.place command.now) }
-        ensures fault { D.faults self.new.device ≡ faults_after_answer result (D.faults self.old.device) }
+        ensures finished { OnOk result
+            (D.calls self.new.device ≡ D.calls self.old.device + calls_of self.old.place
+            command.now) }
+        ensures fault { D.faults self.new.device
+            ≡ faults_after_answer result (D.faults self.old.device) }
         ensures same_len { D.len self.new.device ≡ D.len self.old.device }
         ensures honest { D.honest self.new.device → D.honest self.old.device }
-        ensures moments { D.honest self.new.device → Throughout D.clock D.possible_since self.old.device self.new.device
+        ensures moments { D.honest self.new.device
+            → Throughout D.clock D.possible_since self.old.device self.new.device
             (RunLeaves self.old.state (command.now ∷ []) (record { answer = result; calls = D.calls self.new.device } ∷ [])) }
-        ensures counts { D.honest self.new.device → Throughout D.clock D.possible_since self.old.device self.new.device
+        ensures counts { D.honest self.new.device
+            → Throughout D.clock D.possible_since self.old.device self.new.device
             (IsBetween (D.calls self.old.device) (D.calls self.old.device + calls_of self.old.place command.now)) }
     {
         accepted_commands_fit_records();
@@ -137,7 +180,8 @@ impl<D: Sectors> Session<D> {
 
     /// Unless the session is broken and while its device is honest, each image that a stop may leave stands for the state.
     pub fn images_stand_for_the_state(&self)
-        ensures { self.now.is_broken ≡ false → D.honest self.now.device → (image : List ℕ) → D.possible self.now.device image → StandsFor image self.now.state }
+        ensures { self.now.is_broken ≡ false → D.honest self.now.device → (image : List ℕ)
+            → D.possible self.now.device image → StandsFor image self.now.state }
     {
         let _device = &self.device;
     }
@@ -153,7 +197,8 @@ impl<D: Sectors> Session<D> {
     /// Whether the device has failed in a command. Then each command is answered `Broken`, until the device is opened again.
     pub fn is_broken(&self) -> bool
         ensures broken { result ≡ self.now.is_broken }
-        ensures stands { result ≡ false → D.honest self.now.device → (image : List ℕ) → D.possible self.now.device image → StandsFor image self.now.state }
+        ensures stands { result ≡ false → D.honest self.now.device → (image : List ℕ)
+            → D.possible self.now.device image → StandsFor image self.now.state }
     {
         self.is_broken
     }
@@ -161,8 +206,24 @@ impl<D: Sectors> Session<D> {
     /// Gives the device back.
     pub fn close(self) -> D
         ensures device { result ≡ self.device }
-        ensures stands { self.is_broken ≡ false → D.honest result → (image : List ℕ) → D.possible result image → StandsFor image self.state }
+        ensures stands { self.is_broken ≡ false → D.honest result → (image : List ℕ)
+            → D.possible result image → StandsFor image self.state }
     {
         self.device
+    }
+}
+
+impl Session<MemDevice> {
+    ghost use Rattle.sector_disk.specs.MemDevice.{memory};
+    ghost use Rattle.sector_disk.specs.Memory.{IsSameDevice};
+
+    /// After `k` more finished calls each call of the device fails.
+    pub(crate) fn fuse(&mut self, k: u64)
+        ensures device { IsSameDevice (memory self.old.device) (memory self.new.device) }
+        ensures state { self.new.state ≡ self.old.state }
+        ensures place { self.new.place ≡ self.old.place }
+        ensures broken { self.new.is_broken ≡ self.old.is_broken }
+    {
+        self.device.fuse(k);
     }
 }

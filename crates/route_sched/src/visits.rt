@@ -90,9 +90,13 @@ impl<'a> Iterator for Visits<'a> {
     }
 
     fn size_hint(&self) -> (usize, Option<usize>)
-        ensures lower { IsWithinCount result.0 (at_most (length (visits_from self.now.problem self.now.route self.now.place))) }
-        ensures upper { IfSome result.1 (UpTo (at_most (length (visits_from self.now.problem self.now.route self.now.place)))) }
-        ensures exact { let left = length (visits_from self.now.problem self.now.route self.now.place) in result ≡ (left, Some left) }
+        ensures lower { IsWithinCount result.0
+            (at_most (length (visits_from self.now.problem self.now.route self.now.place))) }
+        ensures upper { IfSome result.1
+            (UpTo (at_most (length (visits_from self.now.problem self.now.route self.now.place)))) }
+        ensures exact { let left = length
+            (visits_from self.now.problem self.now.route self.now.place)
+            in result ≡ (left, Some left) }
     {
         let left = self.route.len() + 1 - self.place;
         (left, Some(left))

@@ -23,7 +23,8 @@ pub trait FileCalls {
 
     fn write(&mut self, first: u64, bytes: &[u8]) -> io::Result<()>
         requires { 512 * first < 2 ^ 64 }
-        ensures { entries self.new ≡ write_entry (is_ok result) first bytes.now ∷ entries self.old };
+        ensures { entries self.new ≡ write_entry (is_ok result) first bytes.now
+            ∷ entries self.old };
 
     fn sync(&mut self) -> io::Result<()>
         ensures { entries self.new ≡ sync_entry (is_ok result) ∷ entries self.old };

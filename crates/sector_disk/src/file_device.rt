@@ -64,10 +64,12 @@ fn sectors_of(len: u64) -> Result<u64, FileFault>
 
 /// How many sectors a file has, if it is a plain file of whole sectors.
 fn sectors_in(metadata: &Metadata) -> Result<u64, FileFault>
-    ensures sectors { IfOk result (λ n. IsFile (file_type metadata.now) × (metadata_len metadata.now ≡ 512 * n)) }
+    ensures sectors { IfOk result
+        (λ n. IsFile (file_type metadata.now) × (metadata_len metadata.now ≡ 512 * n)) }
     ensures offsets { IfOk result (λ n. 512 * n < 2 ^ 64) }
     ensures no_file { IsErrOf result FileFault.NoFile → IsFile (file_type metadata.now) → ⊥ }
-    ensures other_length { IsErrOf result FileFault.BadLength → metadata_len metadata.now % 512 ≢ 0 }
+    ensures other_length { IsErrOf result FileFault.BadLength
+        → metadata_len metadata.now % 512 ≢ 0 }
 {
     if !metadata.is_file() {
         return Err(FileFault::NoFile);
@@ -179,15 +181,18 @@ impl<S: Start, F: FileCalls> Sectors for FileDevice<S, F> {
 
     ghost faults = { device_faults };
 
-    ghost honest = { λ d. AnswersAsModel d.sectors S.Start.disk S.Start.shown (F.FileCalls.entries d.file) };
+    ghost honest = { λ d. AnswersAsModel d.sectors S.Start.disk S.Start.shown
+        (F.FileCalls.entries d.file) };
 
     ghost seen = { λ d. seen_in (course_of S.Start.disk S.Start.shown F.FileCalls.entries d) };
 
-    ghost possible = { λ d. MayLeaveIn (course_of S.Start.disk S.Start.shown F.FileCalls.entries d) };
+    ghost possible = { λ d. MayLeaveIn
+        (course_of S.Start.disk S.Start.shown F.FileCalls.entries d) };
 
     ghost clock = { λ d. clock_in (course_of S.Start.disk S.Start.shown F.FileCalls.entries d) };
 
-    ghost possible_since = { λ d. MayHaveLeftIn (course_of S.Start.disk S.Start.shown F.FileCalls.entries d) };
+    ghost possible_since = { λ d.
+        MayHaveLeftIn (course_of S.Start.disk S.Start.shown F.FileCalls.entries d) };
 
     fn len(&self) -> u64 {
         self.sectors
@@ -233,15 +238,22 @@ impl<S: Start, F: FileCalls> Sectors for FileDevice<S, F> {
     ghost use Rattle.sector_disk.specs.CourseLaws.{course_counts_now, course_only_now, course_since_earlier};
     ghost use Rattle.sector_disk.specs.FileLaws.{file_reads_possible};
 
-    ghost reads_possible = { λ d honest. file_reads_possible d.sectors S.Start.disk S.Start.shown (F.FileCalls.entries d.file) honest d.inside };
+    ghost reads_possible = { λ d honest.
+        file_reads_possible d.sectors S.Start.disk S.Start.shown
+        (F.FileCalls.entries d.file) honest d.inside };
 
     ghost image_size = { λ d image _ is_image. is_image.size };
 
-    ghost counts_now = { λ d t image _ le is_image. course_counts_now (course_of S.Start.disk S.Start.shown F.FileCalls.entries d) t image le is_image };
+    ghost counts_now = { λ d t image _ le is_image.
+        course_counts_now (course_of S.Start.disk S.Start.shown F.FileCalls.entries d) t image le
+        is_image };
 
-    ghost only_now = { λ d m image _ left. course_only_now (course_of S.Start.disk S.Start.shown F.FileCalls.entries d) m image left };
+    ghost only_now = { λ d m image _ left.
+        course_only_now (course_of S.Start.disk S.Start.shown F.FileCalls.entries d) m image left };
 
-    ghost since_earlier = { λ d t u m image _ le left. course_since_earlier (course_of S.Start.disk S.Start.shown F.FileCalls.entries d) t u m image le left };
+    ghost since_earlier = { λ d t u m image _ le left.
+        course_since_earlier (course_of S.Start.disk S.Start.shown F.FileCalls.entries d) t u m
+        image le left };
 }
 
 #[cfg(test)]

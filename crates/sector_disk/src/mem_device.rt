@@ -105,7 +105,8 @@ fn keep_write(
 
 /// Lists a sync.
 fn keep_sync(history: &mut Vec<Call>) -> Result<(), AllocError>
-    ensures ok { OnOk result (map call_of history.new.items ≡ map call_of history.old.items ++ Synced ∷ []) }
+    ensures ok { OnOk result (map call_of history.new.items ≡ map call_of history.old.items
+        ++ Synced ∷ []) }
     ensures err { OnErr result (history.new.items ≡ history.old.items) }
 {
     history.push(Call::Sync)?;
@@ -123,8 +124,10 @@ impl MemDevice {
     pub fn new(alloc: Global, sectors: u64) -> Result<MemDevice, OutOfMemory>
         ensures fresh { IfOk result (λ device. memory device ≡ fresh sectors) }
         ensures len { IfOk result (λ device. len_of (memory device) ≡ sectors) }
-        ensures zeros { IfOk result (λ device. seen_of (memory device) ≡ replicate (512 * sectors) 0) }
-        ensures only { IfOk result (λ device. Only (seen_of (memory device)) (MayLeave (memory device))) }
+        ensures zeros { IfOk result (λ device. seen_of (memory device)
+            ≡ replicate (512 * sectors) 0) }
+        ensures only { IfOk result (λ device.
+            Only (seen_of (memory device)) (MayLeave (memory device))) }
     {
         let Some(len) = (sectors as usize).checked_mul(SECTOR_SIZE) else {
             return Err(AllocError);
@@ -163,8 +166,10 @@ impl MemDevice {
     /// Stops the device. Sector `i` takes its possible content number `choices[i]`, modulo their count: 0 is the synced
     /// one, and then come those written since, in order. Sectors past the list take 0. What was to fail is taken out.
     pub fn crash(&mut self, choices: &[u32])
-        ensures image { Crashes (λ i. slice_index choices.now i) (memory self.old) (memory self.new) }
-        ensures stop { Stops (len_of (memory self.old)) (disk_of (memory self.old)) (disk_of (memory self.new)) }
+        ensures image { Crashes (λ i. slice_index choices.now i) (memory self.old)
+            (memory self.new) }
+        ensures stop { Stops (len_of (memory self.old)) (disk_of (memory self.old))
+            (disk_of (memory self.new)) }
         ensures possible { MayLeave (memory self.old) (seen_of (memory self.new)) }
         ensures only { Only (seen_of (memory self.new)) (MayLeave (memory self.new)) }
         ensures same_len { len_of (memory self.new) ≡ len_of (memory self.old) }
@@ -204,7 +209,8 @@ impl MemDevice {
     pub fn try_read(&mut self, first: u64, into: &mut [u8]) -> Result<(), DeviceFault>
         requires { 512 * first + length into.old ≤ 512 * len_of (memory self.old) }
         ensures exact { Gives (read_of (memory self.old)) result (memory self.new) }
-        ensures bytes { OnOk result (into.new ≡ take (length into.old) (drop (512 * first) (seen_of (memory self.old)))) }
+        ensures bytes { OnOk result (into.new
+            ≡ take (length into.old) (drop (512 * first) (seen_of (memory self.old)))) }
     {
         if self.is_due() {
             return self.fail();
@@ -220,8 +226,10 @@ impl MemDevice {
         requires some { 0 < length bytes.now }
         requires whole { length bytes.now % 512 ≡ 0 }
         requires inside { 512 * first + length bytes.now ≤ 512 * len_of (memory self.old) }
-        ensures exact { GivesIfMemory (memory self.old) (write_of (memory self.old) first bytes.now) result (memory self.new) }
-        ensures refused { IsTrue (is_refused (memory self.old)) → tears (memory self.old) ≡ false → Gives (failed (memory self.old)) result (memory self.new) }
+        ensures exact { GivesIfMemory (memory self.old)
+            (write_of (memory self.old) first bytes.now) result (memory self.new) }
+        ensures refused { IsTrue (is_refused (memory self.old)) → tears (memory self.old) ≡ false
+            → Gives (failed (memory self.old)) result (memory self.new) }
     {
         let refused = self.is_refused();
         if refused && !self.tears() {
@@ -243,8 +251,10 @@ impl MemDevice {
 
     /// `sync` of `Sectors`, with all that a device in memory answers and leaves.
     pub fn try_sync(&mut self) -> Result<(), DeviceFault>
-        ensures exact { GivesIfMemory (memory self.old) (sync_of (memory self.old)) result (memory self.new) }
-        ensures refused { IsTrue (is_refused (memory self.old)) → Gives (failed (memory self.old)) result (memory self.new) }
+        ensures exact { GivesIfMemory (memory self.old) (sync_of (memory self.old)) result
+            (memory self.new) }
+        ensures refused { IsTrue (is_refused (memory self.old))
+            → Gives (failed (memory self.old)) result (memory self.new) }
     {
         if self.is_refused() {
             return self.fail();
@@ -294,7 +304,8 @@ fn synced_calls(calls: &[Call]) -> usize
 /// Writes into the image what the writes wrote that finished.
 fn replay(image: &mut [u8], calls: &[Call])
     requires { IsTrue (all_fit (length image.old) (map call_of calls.now)) }
-    ensures { image.new ≡ (run (settled image.old) (flat_map events_of (map call_of calls.now))).seen }
+    ensures { image.new ≡ (run (settled image.old)
+        (flat_map events_of (map call_of calls.now))).seen }
 {
     for call in calls {
         if let Call::Write { first, bytes } = call {
@@ -344,7 +355,8 @@ fn count_for(calls: &[Call], sector: u64) -> usize
 
 /// What the call writes to a sector that is the `number`th of those that write to it.
 fn nth_content(calls: &[Call], sector: u64, number: usize) -> Option<&[u8]>
-    ensures content { option_copied result ≡ slice_get (filter_map (content_of sector) (map call_of calls.now)) number }
+    ensures content { option_copied result
+        ≡ slice_get (filter_map (content_of sector) (map call_of calls.now)) number }
     ensures size { IfSome result (λ content. length content.now ≡ 512) }
 {
     let mut left = number;
@@ -362,7 +374,9 @@ fn nth_content(calls: &[Call], sector: u64, number: usize) -> Option<&[u8]>
 /// Puts into a sector of the image the content that was chosen for it.
 fn choose_sector(image: &mut [u8], unsynced: &[Call], index: u64, choice: u32)
     requires { 512 * index + 512 ≤ length image.old }
-    ensures chosen { sector index image.new ≡ chosen (sector index image.old) (filter_map (content_of index) (map call_of unsynced.now)) choice }
+    ensures chosen { sector index image.new
+        ≡ chosen (sector index image.old)
+        (filter_map (content_of index) (map call_of unsynced.now)) choice }
     ensures others { (i : ℕ) → i ≢ index → sector i image.new ≡ sector i image.old }
 {
     let number = choice as usize % (count_for(unsynced, index) + 1);
@@ -394,7 +408,9 @@ fn choose(image: &mut [u8], unsynced: &[Call], choices: &[u32])
 /// Leaves of the image at the start the one that was chosen of those that are possible after the calls.
 fn stop(image: &mut [u8], calls: &[Call], choices: &[u32])
     requires { IsTrue (all_fit (length image.old) (map call_of calls.now)) }
-    ensures { TakesChoices (length image.old / 512) (run (settled image.old) (flat_map events_of (map call_of calls.now))) (λ i. slice_index choices.now i) image.new }
+    ensures { TakesChoices (length image.old / 512)
+        (run (settled image.old) (flat_map events_of (map call_of calls.now)))
+        (λ i. slice_index choices.now i) image.new }
 {
     let synced = synced_calls(calls);
     replay(image, &calls[..synced]);
@@ -454,11 +470,13 @@ impl Sectors for MemDevice {
 
     ghost image_size = { λ d image _ is_image. is_image.size };
 
-    ghost counts_now = { λ d t image _ le is_image. course_counts_now (course_of (memory d)) t image le is_image };
+    ghost counts_now = { λ d t image _ le is_image.
+        course_counts_now (course_of (memory d)) t image le is_image };
 
     ghost only_now = { λ d m image _ left. course_only_now (course_of (memory d)) m image left };
 
-    ghost since_earlier = { λ d t u m image _ le left. course_since_earlier (course_of (memory d)) t u m image le left };
+    ghost since_earlier = { λ d t u m image _ le left.
+        course_since_earlier (course_of (memory d)) t u m image le left };
 }
 
 #[cfg(test)]

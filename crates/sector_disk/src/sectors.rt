@@ -69,10 +69,13 @@ pub trait Sectors {
         ensures fault { faults self.new ≡ faults_after result (faults self.old) }
         ensures honest { honest self.new → honest self.old }
 
-        ensures bytes { honest self.new → OnOk result (into.new ≡ take (length into.old) (drop (512 * first) (seen self.old))) }
+        ensures bytes { honest self.new
+            → OnOk result (into.new ≡ take (length into.old) (drop (512 * first) (seen self.old))) }
         ensures reads { honest self.new → seen self.new ≡ seen self.old }
         ensures contents { honest self.new → SameImages (possible self.old) (possible self.new) }
-        ensures moments { honest self.new → Elapses (clock self.old) (clock self.new) (possible_since self.old) (possible_since self.new)
+        ensures moments { honest self.new
+            → Elapses (clock self.old) (clock self.new) (possible_since self.old)
+            (possible_since self.new)
             (calls self.old) (calls self.new) (possible self.old) (possible self.new) };
 
     /// Writes a run of whole sectors, `first` the number of its first. Until a sync succeeds a stop may leave the old
@@ -88,12 +91,17 @@ pub trait Sectors {
         ensures last { calls self.old ≡ 2 ^ 64 - 1 → IsErr result }
         ensures honest { honest self.new → honest self.old }
 
-        ensures written { honest self.new → OnOk result (seen self.new ≡ written first bytes.now (seen self.old)) }
-        ensures contents { honest self.new → AddsContents result first bytes.now (possible self.old) (possible self.new) }
+        ensures written { honest self.new
+            → OnOk result (seen self.new ≡ written first bytes.now (seen self.old)) }
+        ensures contents { honest self.new
+            → AddsContents result first bytes.now (possible self.old) (possible self.new) }
         // Within the call each sector may have reached the device or not.
-        ensures within { honest self.new → OnOk result ((t : ℕ) (image : List ℕ) → t ≤ clock self.old →
+        ensures within { honest self.new
+            → OnOk result ((t : ℕ) (image : List ℕ) → t ≤ clock self.old →
             Reached first bytes.now (possible self.old) image → possible_since self.new t (calls self.old) image) }
-        ensures moments { honest self.new → Elapses (clock self.old) (clock self.new) (possible_since self.old) (possible_since self.new)
+        ensures moments { honest self.new
+            → Elapses (clock self.old) (clock self.new) (possible_since self.old)
+            (possible_since self.new)
             (calls self.old) (calls self.new) (Reached first bytes.now (possible self.old)) (possible self.new) };
 
     /// Makes durable what reads give. After a fault nothing more is durable, and reads give one of the possible images.
@@ -106,8 +114,11 @@ pub trait Sectors {
 
         ensures reads { honest self.new → OnOk result (seen self.new ≡ seen self.old) }
         ensures durable { honest self.new → OnOk result (Only (seen self.old) (possible self.new)) }
-        ensures contents { honest self.new → OnErr result (SameImages (possible self.old) (possible self.new)) }
-        ensures moments { honest self.new → Elapses (clock self.old) (clock self.new) (possible_since self.old) (possible_since self.new)
+        ensures contents { honest self.new
+            → OnErr result (SameImages (possible self.old) (possible self.new)) }
+        ensures moments { honest self.new
+            → Elapses (clock self.old) (clock self.new) (possible_since self.old)
+            (possible_since self.new)
             (calls self.old) (calls self.new) (possible self.old) (possible self.new) };
 
     /// What reads give is a possible image.

@@ -2,7 +2,7 @@ mod BlockLemmas
 mod Examples
 pub mod NameLemmas
 mod PickLemmas
-pub mod PlaceLemmas
+mod RouteLemmas
 mod StepExamples
 mod StepLemmas
 mod WalkLemmas

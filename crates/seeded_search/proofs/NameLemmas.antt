@@ -1,22 +1,17 @@
 -- The lists that a step draws from.
-use Rattle.std.proofs.Common.{◌≡◌, ℕ, zero, suc, ◌+◌, ◌-◌, ◌<◌, ◌==◌, ◌&&◌, ◌||◌, not, Bool, true, false, cond, List, [], ◌∷◌, ◌++◌, length, drop, filter, get_or, Option, Some, None, slice_get, refl, sym, ap, ◌∙◌, inl, inr, arith, add-one, nat_eq}
-use Rattle.std.specs.List.{AllByRecursion, concat, list_any, range_with_len}
+use Rattle.std.proofs.Common.{◌≡◌, ℕ, zero, suc, ◌+◌, ◌-◌, ◌<◌, ◌≤◌, ◌==◌, ◌&&◌, not, Bool, true, false, cond, List, [], ◌∷◌, ◌++◌, length, drop, filter, map, Some, None, slice_get, refl, sym, ap, ◌∙◌, inl, inr, arith}
+use Rattle.std.specs.List.{range_with_len}
 use Rattle.std.specs.Option.{option_and_then}
-use Rattle.std.specs.Prelude.{slice_index_or, unwrap_or}
 use Rattle.std.proofs.lemmas.Bool.{cases_Bool}
-use Rattle.std.proofs.lemmas.List.Folds.{list_any-append}
+use Rattle.std.proofs.lemmas.List.Sums.{length-filter}
 use Rattle.std.proofs.lemmas.List.{append-nil, append_assoc, drop_all, drop_more}
 use Rattle.std.proofs.lemmas.Option.{slice_get_cases}
-use Rattle.plan_types.specs.Instance.{Instance, IsInstance}
-use Rattle.plan_types.specs.Laws.{RequestsAreBelowNext}
-use Rattle.plan_types.specs.Request.{stops_of}
-use Rattle.plan_types.specs.declared.requests.Stop.{Stop}
+use Rattle.plan_types.specs.Instance.{Instance}
 use Rattle.plan_types.specs.declared.requests.Request.{Request}
-use Rattle.route_sched.specs.Cost.{has_stop, is_planned}
-use Rattle.plan_audit.specs.Passes.{has}
+use Rattle.route_sched.specs.Cost.{is_planned, unplanned_count}
 use Rattle.move_ops.specs.Insertion.{of_vehicle}
 use Rattle.move_ops.specs.Moves.{is_movable}
-use Rattle.seeded_search.specs.Marks.{is_marked, name_where, names_where}
+use Rattle.seeded_search.specs.Names.{name_where, names_where}
 use Rattle.seeded_search.specs.Steps.{drawn, movable_names, unplanned_names}
 
 none_some : {X : Type 0} (x : X) → None ≡ Some x → ⊥
@@ -85,6 +80,10 @@ module _ (test : Request → Bool) where
       → option_and_then (name_where test) (slice_get es k) ≡ None → new ≡ names → new ++ names_where test (drop (k + 1) es) ≡ all
   name_passed names new es k all so_far is made = ap (λ l. l ++ names_where test (drop (k + 1) es)) made ∙ (ap (λ l. names ++ l) (sym (name_later es k is)) ∙ so_far)
 
+  -- behind the last request there is no name
+  pub name_end : (names : List ℕ) (es : List (ℕ × Request)) (k : ℕ) (all : List ℕ) → names ++ names_where test (drop k es) ≡ all → length es ≤ k → names ≡ all
+  name_end names es k all so_far past = sym (append-nil names) ∙ (ap (λ l. names ++ names_where test l) (sym (drop_all k es past)) ∙ so_far)
+
 -- two tests that agree on all requests of a list
 names_same : (f g : Request → Bool) (es : List (ℕ × Request)) → ((k name : ℕ) (r : Request) → slice_get es k ≡ Some (name, r) → f r ≡ g r) → names_where f es ≡ names_where g es
 names_same f g [] same = refl
@@ -93,29 +92,44 @@ names_same f g (e ∷ es) same =
     ∙ (ap (λ b. cond b (e.0 ∷ names_where f es) (names_where f es)) (same zero e.0 e.1 refl)
     ∙ (ap (λ ns. cond (g e.1) (e.0 ∷ ns) ns) (names_same f g es (λ k. same (suc k))) ∙ sym (first_name g e es)))
 
-any_same : (f g : Stop → Bool) (P : Stop → Type 0) (xs : List Stop) → ((x : Stop) → P x → f x ≡ g x) → AllByRecursion P xs → list_any f xs ≡ list_any g xs
-any_same f g P [] same all = refl
-any_same f g P (x ∷ xs) same all = ap (λ b. b || list_any f xs) (same x all.0) ∙ ap (λ b. g x || b) (any_same f g P xs same all.1)
+not_false : (b : Bool) → not b ≡ false → b ≡ true
+not_false true h = refl
+not_false false h = absurd (let k : true ≡ false = h in cc)
 
--- the list has a mark at each number below `len` that is a stop of these routes
-abbrev pub AreMarks : List (List ℕ) → ℕ → List Bool → Type 0
-AreMarks routes len marks = (n : ℕ) → n < len → slice_index_or marks n false ≡ has_stop routes n
+cons_none : {X : Type 0} (x : X) (xs : List X) → x ∷ xs ≡ [] → ⊥
+cons_none x xs h = cc
 
-module _ (below : RequestsAreBelowNext) (p : Instance) (valid : IsInstance p) where
-  marked_is_planned : (routes : List (List ℕ)) (marks : List Bool) → AreMarks routes p.next_number marks → (k name : ℕ) (r : Request) → slice_get p.requests k ≡ Some (name, r) → is_marked marks r ≡ is_planned routes r
-  marked_is_planned routes marks are k name r at =
-      any_same (λ s. slice_index_or marks s.number false) (λ s. has_stop routes s.number) (λ s. s.number < p.next_number) (stops_of r) (λ s lt. are s.number lt) (below p k name r valid at)
+pub no_items : {X : Type 0} (xs : List X) → length xs ≡ 0 → xs ≡ []
+no_items [] h = refl
+no_items (x ∷ xs) h = absurd (omega arith)
 
-  pub movable_marked : (pins routes : List (List ℕ)) (pinned planned : List Bool) → AreMarks pins p.next_number pinned → AreMarks routes p.next_number planned
-      → names_where (λ r. is_marked planned r && not (is_marked pinned r)) p.requests ≡ movable_names p pins routes
-  movable_marked pins routes pinned planned fixed there =
-      names_same (λ r. is_marked planned r && not (is_marked pinned r)) (is_movable pins routes) p.requests
+-- where no request passes a test, each fails it
+none_named : (test : Request → Bool) (es : List (ℕ × Request)) → names_where test es ≡ [] → (k name : ℕ) (r : Request) → slice_get es k ≡ Some (name, r) → test r ≡ false
+none_named test [] none zero name r at = absurd (none_some (name, r) at)
+none_named test [] none (suc k) name r at = absurd (none_some (name, r) at)
+none_named test (e ∷ es) none k name r at = elim (cases_Bool (test e.1)) [
+  | inl t ↦ absurd (cons_none e.0 (names_where test es) (sym (first_name test e es ∙ ap (λ b. cond b (e.0 ∷ names_where test es) (names_where test es)) t) ∙ none))
+  | inr f ↦ here (none_named test es) k at (sym (first_name test e es ∙ ap (λ b. cond b (e.0 ∷ names_where test es) (names_where test es)) f) ∙ none) f
+]
+  where
+    here : (names_where test es ≡ [] → (k name : ℕ) (r : Request) → slice_get es k ≡ Some (name, r) → test r ≡ false)
+        → (k : ℕ) → slice_get (e ∷ es) k ≡ Some (name, r) → names_where test es ≡ [] → test e.1 ≡ false → test r ≡ false
+    here later zero at left f = ap test (sym (ap (λ t. t.1) (some_same e (name, r) at))) ∙ f
+    here later (suc k) at left f = later left k name r at
+
+module _ (p : Instance) where
+  pub none_unplanned : (routes : List (List ℕ)) → unplanned_count p routes ≡ 0 → unplanned_names p routes ≡ []
+  none_unplanned routes none =
+      ap (map (λ (e : ℕ × Request). e.0)) (no_items (filter (λ (e : ℕ × Request). not (is_planned routes e.1)) p.requests) (length-filter (λ (e : ℕ × Request). not (is_planned routes e.1)) p.requests ∙ none))
+
+  -- two plans without an unplanned request have the same list of movable ones
+  pub movable_stay : (pins old new : List (List ℕ)) → unplanned_names p old ≡ [] → unplanned_names p new ≡ [] → movable_names p pins old ≡ movable_names p pins new
+  movable_stay pins old new before after =
+      names_same (is_movable pins old) (is_movable pins new) p.requests
       (λ k name r at.
-      ap (λ b. b && not (is_marked pinned r)) (marked_is_planned routes planned there k name r at) ∙ ap (λ b. is_planned routes r && not b) (marked_is_planned pins pinned fixed k name r at))
-
-  pub unplanned_unmarked : (routes : List (List ℕ)) (planned : List Bool) → AreMarks routes p.next_number planned → names_where (λ r. not (is_marked planned r)) p.requests ≡ unplanned_names p routes
-  unplanned_unmarked routes planned there =
-      names_same (λ r. not (is_marked planned r)) (λ r. not (is_planned routes r)) p.requests (λ k name r at. ap not (marked_is_planned routes planned there k name r at))
+      ap (λ b. b && not (is_planned pins r))
+      (not_false (is_planned old r) (none_named (λ r. not (is_planned old r)) p.requests before k name r at)
+      ∙ sym (not_false (is_planned new r) (none_named (λ r. not (is_planned new r)) p.requests after k name r at))))
 
 -- the used vehicles from an index on
 abbrev is_used : List (List ℕ) → ℕ → Bool
@@ -124,30 +138,20 @@ is_used routes v = not (length (of_vehicle routes v) == 0)
 abbrev used_from : List (List ℕ) → ℕ → List ℕ
 used_from routes k = filter (λ v. not (length (of_vehicle routes v) == 0)) (range_with_len (k + 1) (length routes - k))
 
-vehicle_at : (routes : List (List ℕ)) (k : ℕ) (route : List ℕ) → slice_get routes k ≡ Some route → of_vehicle routes (k + 1) ≡ route
-vehicle_at routes k route at = rw (add-one k) (ap (λ (o : Option (List ℕ)). unwrap_or o []) at)
-
-used_more : (routes : List (List ℕ)) (k : ℕ) (route : List ℕ) → slice_get routes k ≡ Some route → k < length routes
-    → used_from routes k ≡ cond (not (length route == 0)) ((k + 1) ∷ used_from routes (k + 1)) (used_from routes (k + 1))
-used_more routes k route at within =
+used_more : (routes : List (List ℕ)) (k : ℕ) → k < length routes → used_from routes k ≡ cond (is_used routes (k + 1)) ((k + 1) ∷ used_from routes (k + 1)) (used_from routes (k + 1))
+used_more routes k within =
     let one : length routes - k ≡ suc (length routes - (k + 1)) = omega arith in
     ap (λ n. filter (is_used routes) (range_with_len (k + 1) n)) one
-    ∙ ap (λ l. cond (not (length l == 0)) ((k + 1) ∷ used_from routes (k + 1)) (used_from routes (k + 1))) (vehicle_at routes k route at)
 
-pub used_pushed : (routes : List (List ℕ)) (used new all : List ℕ) (k : ℕ) (route : List ℕ) → used ++ used_from routes k ≡ all → slice_get routes k ≡ Some route → k < length routes
-    → not (length route == 0) ≡ true → new ≡ used ++ (k + 1) ∷ [] → new ++ used_from routes (k + 1) ≡ all
-used_pushed routes used new all k route so_far at within is made =
+pub used_pushed : (routes : List (List ℕ)) (used new all : List ℕ) (k : ℕ) → used ++ used_from routes k ≡ all → k < length routes → is_used routes (k + 1) ≡ true → new ≡ used ++ (k + 1) ∷ []
+    → new ++ used_from routes (k + 1) ≡ all
+used_pushed routes used new all k so_far within is made =
     ap (λ l. l ++ used_from routes (k + 1)) made
     ∙ (append_assoc used ((k + 1) ∷ []) (used_from routes (k + 1))
-    ∙ (ap (λ l. used ++ l) (sym (used_more routes k route at within ∙ ap (λ b. cond b ((k + 1) ∷ used_from routes (k + 1)) (used_from routes (k + 1))) is)) ∙ so_far))
+    ∙ (ap (λ l. used ++ l) (sym (used_more routes k within ∙ ap (λ b. cond b ((k + 1) ∷ used_from routes (k + 1)) (used_from routes (k + 1))) is)) ∙ so_far))
 
-pub used_passed : (routes : List (List ℕ)) (used new all : List ℕ) (k : ℕ) (route : List ℕ) → used ++ used_from routes k ≡ all → slice_get routes k ≡ Some route → k < length routes
-    → not (length route == 0) ≡ false → new ≡ used → new ++ used_from routes (k + 1) ≡ all
-used_passed routes used new all k route so_far at within is made =
+pub used_passed : (routes : List (List ℕ)) (used new all : List ℕ) (k : ℕ) → used ++ used_from routes k ≡ all → k < length routes → is_used routes (k + 1) ≡ false → new ≡ used
+    → new ++ used_from routes (k + 1) ≡ all
+used_passed routes used new all k so_far within is made =
     ap (λ l. l ++ used_from routes (k + 1)) made
-    ∙ (ap (λ l. used ++ l) (sym (used_more routes k route at within ∙ ap (λ b. cond b ((k + 1) ∷ used_from routes (k + 1)) (used_from routes (k + 1))) is)) ∙ so_far)
-
--- the stop is in the next route, or in those behind it
-pub has_stop_more : (routes : List (List ℕ)) (k n : ℕ) → k < length routes → has_stop (drop k routes) n ≡ has (get_or routes k []) n || has_stop (drop (k + 1) routes) n
-has_stop_more routes k n within =
-    ap (λ ls. has_stop ls n) (drop_more routes k [] within) ∙ list_any-append (nat_eq n) (get_or routes k []) (concat (drop (k + 1) routes))
+    ∙ (ap (λ l. used ++ l) (sym (used_more routes k within ∙ ap (λ b. cond b ((k + 1) ∷ used_from routes (k + 1)) (used_from routes (k + 1))) is)) ∙ so_far)

@@ -10,7 +10,11 @@ use Rattle.plan_audit.specs.Passes.{passes}
 use Rattle.move_ops.specs.Insertion.{Place, request_named, passing, best_insertion, put_in}
 use Rattle.move_ops.specs.Moves.{removed, exchanged, crossed}
 use Rattle.seeded_search.specs.Words.{pick, step_words}
-use Rattle.seeded_search.specs.Steps.{picked, movable_names, unplanned_names, placed, placed_all, relocated, exchanged_by, used_vehicles, cut_by, crossed_by, ruined_names, recreated_by, candidate, Walked, has_less_pair, has_same_pair, is_near, moved_on, moved_on_by, step, steps}
+use Rattle.seeded_search.specs.Steps.{picked, movable_names, unplanned_names, placed, placed_all, relocated, exchanged_by, used_vehicles, cut_by, crossed_by, ruined_names, recreated_by, candidate, Walked, has_less_pair, has_same_pair, is_near, moved_on, moved_on_by, step, steps, walked}
+use Rattle.move_ops.specs.Drafts.{Drafted, draft_of, IsMade}
+use Rattle.seeded_search.specs.Working.{AreListsOf, IsWalk, HasTaken}
+use Rattle.seeded_search.specs.declared.walk.Walk.{Walk}
+use Rattle.plan_types.specs.declared.plans.Plan.{Plan}
 use Rattle.seeded_search.specs.StepLaws.{StepsAddUp, BothPass, StepsKeepPassing, IncumbentsNeverCostMore, WorksNear, WorkingStaysNear}
 
 none_some : {X : Type 0} (x : X) → None ≡ Some x → ⊥
@@ -264,3 +268,43 @@ steps_keep_passing p pins deviation seed n count s both = steps_pass p pins devi
 
 pub incumbents_never_cost_more : CostsAreTotal → CostsAreTransitive → IncumbentsNeverCostMore
 incumbents_never_cost_more total transitive p pins deviation seed n count s = steps_cost p pins deviation seed total transitive count n s
+
+-- what a step does of the three
+module _ (p : Instance) (deviation : ℕ) (s : Walked) (c : List (List ℕ)) where
+  pub best_moved : cost_at_most (cost_of p c) (cost_of p s.incumbent) ≡ true → walked c c ≡ moved_on p deviation s c
+  best_moved most = by (cost_at_most (cost_of p c) (cost_of p s.incumbent)) (is_near deviation (cost_of p c) (cost_of p s.incumbent)) most (at_most_is_near deviation (cost_of p c) (cost_of p s.incumbent) most)
+    where
+      by : (b t : Bool) → b ≡ true → t ≡ true → walked c c ≡ walked (cond b c s.incumbent) (cond t c s.working)
+      by b t e f = rw e (rw f refl)
+
+  pub near_moved : cost_at_most (cost_of p c) (cost_of p s.incumbent) ≡ false → is_near deviation (cost_of p c) (cost_of p s.incumbent) ≡ true → walked s.incumbent c ≡ moved_on p deviation s c
+  near_moved above near = by (cost_at_most (cost_of p c) (cost_of p s.incumbent)) (is_near deviation (cost_of p c) (cost_of p s.incumbent)) above near
+    where
+      by : (b t : Bool) → b ≡ false → t ≡ true → walked s.incumbent c ≡ walked (cond b c s.incumbent) (cond t c s.working)
+      by b t e f = rw e (rw f refl)
+
+  pub none_moved : cost_at_most (cost_of p c) (cost_of p s.incumbent) ≡ false → is_near deviation (cost_of p c) (cost_of p s.incumbent) ≡ false → s ≡ moved_on p deviation s c
+  none_moved above far = by (cost_at_most (cost_of p c) (cost_of p s.incumbent)) (is_near deviation (cost_of p c) (cost_of p s.incumbent)) above far
+    where
+      by : (b t : Bool) → b ≡ false → t ≡ false → s ≡ walked (cond b c s.incumbent) (cond t c s.working)
+      by b t e f = rw e (rw f refl)
+
+-- a walk goes on from its candidate
+pub taken_walk : (p : Instance) (pins : List (List ℕ)) (old new : Walk) → HasTaken p pins old new → passes p pins old.incumbent.routes ≡ true → old.best ≡ cost_of p old.incumbent.routes
+    → IsWalk p pins new
+taken_walk p pins old new h pass best =
+    let same : old.incumbent.routes ≡ new.incumbent.routes = ap (λ (plan : Plan). plan.routes) (sym h.incumbent) in
+    record {
+      keeps = record {
+        draft = h.draft;
+        incumbent = subst (λ routes. passes p pins routes ≡ true) same pass;
+        best = h.best ∙ (best ∙ ap (cost_of p) same);
+        lists = subst (λ routes. AreListsOf p pins routes new.lists) (sym h.base) h.lists;
+      };
+      settled = h.settled ∙ sym h.base;
+    }
+
+-- where a move has made a draft, it is the move's
+pub made_some : (answer : Option (List (List ℕ))) (made : Bool) (old new : Drafted) → IsMade answer made old new → made ≡ true → answer ≡ Some (draft_of new)
+made_some None made old new h is = absurd (both_ways made h.0 is)
+made_some (Some routes) made old new h is = ap (λ x. Some x) (sym h.1)

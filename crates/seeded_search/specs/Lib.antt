@@ -6,5 +6,5 @@ pub mod Steps
 pub mod StepLaws
 -- of private functions alone
 pub mod Generator
-pub mod Marks
+pub mod Names
 pub mod Working

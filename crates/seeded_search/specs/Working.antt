@@ -1,17 +1,39 @@
--- A plan on which a search works, with its tables.
-use Rattle.std.specs.Prelude.{◌≡◌, ℕ, Bool, false, not, List}
-use Rattle.std.specs.Option.{option_map_or}
+-- What a search keeps of its plans.
+use Rattle.std.specs.Prelude.{◌≡◌, ℕ, true, List}
 use Rattle.plan_types.specs.Instance.{Instance}
-use Rattle.route_sched.specs.Cost.{is_planned}
-use Rattle.slack_tables.specs.Course.{Course}
-use Rattle.move_ops.specs.Insertion.{request_named}
-use Rattle.move_ops.specs.Tables.{tables_of, plan_of}
+use Rattle.route_sched.specs.Cost.{cost_of}
+use Rattle.plan_audit.specs.Passes.{passes}
+use Rattle.move_ops.specs.Drafts.{base_of, draft_of, IsDraftOf}
+use Rattle.seeded_search.specs.Steps.{movable_names, unplanned_names, Walked, walked}
+use Rattle.seeded_search.specs.declared.lists.Lists.{Lists}
+use Rattle.seeded_search.specs.declared.walk.Walk.{Walk}
 
--- the tables are those of these routes
-pub record AreTablesOf (p : Instance) (routes : List (List ℕ)) (tables : List Course) : Type 0 where
-  pub built : tables ≡ tables_of p routes
-  pub plan : plan_of tables ≡ routes
+-- the lists that a step draws from are those of these routes
+pub record AreListsOf (p : Instance) (pins routes : List (List ℕ)) (lists : Lists) : Type 0 where
+  pub movable : lists.movable.items ≡ movable_names p pins routes
+  pub unplanned : lists.unplanned.items ≡ unplanned_names p routes
 
--- the name is of a live request without a stop in any route
-abbrev pub is_free : Instance → List (List ℕ) → ℕ → Bool
-is_free p routes name = option_map_or (λ r. not (is_planned routes r)) (request_named p name) false
+-- the plans of a walk
+abbrev pub walked_by : Walk → Walked
+walked_by w = walked w.incumbent.routes (base_of w.draft)
+
+-- what a walk keeps while a candidate stands
+pub record KeepsWalk (p : Instance) (pins : List (List ℕ)) (w : Walk) : Type 0 where
+  pub draft : IsDraftOf p pins w.draft
+  pub incumbent : passes p pins w.incumbent.routes ≡ true
+  pub best : w.best ≡ cost_of p w.incumbent.routes
+  pub lists : AreListsOf p pins (base_of w.draft) w.lists
+
+-- a walk between two steps, without a candidate
+pub record IsWalk (p : Instance) (pins : List (List ℕ)) (w : Walk) : Type 0 where
+  pub keeps : KeepsWalk p pins w
+  pub settled : draft_of w.draft ≡ base_of w.draft
+
+-- the candidate is now the working plan
+pub record HasTaken (p : Instance) (pins : List (List ℕ)) (old new : Walk) : Type 0 where
+  pub base : base_of new.draft ≡ draft_of old.draft
+  pub settled : draft_of new.draft ≡ draft_of old.draft
+  pub draft : IsDraftOf p pins new.draft
+  pub incumbent : new.incumbent ≡ old.incumbent
+  pub best : new.best ≡ old.best
+  pub lists : AreListsOf p pins (draft_of old.draft) new.lists

@@ -29,13 +29,11 @@ pub(crate) fn picked_vehicle(word: u32, vehicles: &[u64]) -> Option<u64>
 }
 
 /// What the words draw of these numbers, one after another and none twice; fewer where the numbers are fewer.
-pub(crate) fn drawn(
-    alloc: Global,
-    words: &[u32],
-    mut left: Vec<u32>,
-) -> Result<Vec<u32>, OutOfMemory>
-    ensures { IfOk result (λ names. names.items ≡ drawn words.now left.items) }
+pub(crate) fn drawn(alloc: Global, words: &[u32], numbers: &[u32]) -> Result<Vec<u32>, OutOfMemory>
+    ensures { IfOk result (λ names. names.items ≡ drawn words.now numbers.now) }
 {
+    let mut left = Vec::with_capacity(alloc, numbers.len())?;
+    left.extend_from_slice(numbers)?;
     let mut names = Vec::with_capacity(alloc, words.len())?;
     for word in words {
         if left.is_empty() {

@@ -5,12 +5,13 @@ ghost use Rattle.std.specs.Prelude.{◌≡◌, ◌<◌, ◌≤◌};
 ghost use Rattle.seeded_search.specs.Words.{pick};
 
 mod draws;
+mod incumbent;
 mod laws;
 mod lists;
 mod operators;
-mod placing;
 mod search;
 mod stream;
+mod walk;
 
 pub use laws::{
     incumbents_never_cost_more, picks_are_even, steps_add_up, steps_are_blocks, steps_keep_passing,

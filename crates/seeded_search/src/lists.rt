@@ -1,154 +1,142 @@
 //! The lists that a step draws from.
-ghost use Rattle.std.specs.Prelude.{◌≡◌, ℕ, ◌<◌, ◌||◌, ◌&&◌, false, not, IfOk, length, slice_get, slice_index_or};
+ghost use Rattle.std.specs.Prelude.{◌≡◌, ◌≤◌, not, IfOk, OnOk, length, slice_get};
 ghost use Rattle.std.specs.Option.{option_and_then};
-ghost use Rattle.plan_audit.specs.Passes.{has};
-ghost use Rattle.route_sched.specs.Cost.{has_stop};
+ghost use Rattle.route_sched.specs.Cost.{is_planned};
 ghost use Rattle.move_ops.specs.Insertion.{of_vehicle};
-ghost use Rattle.seeded_search.specs.Marks.{is_marked, name_where, names_where};
+ghost use Rattle.move_ops.specs.Moves.{is_movable};
+ghost use Rattle.move_ops.specs.Drafts.{draft_of, IsDraftOf};
+ghost use Rattle.seeded_search.specs.Names.{name_where};
 ghost use Rattle.seeded_search.specs.Steps.{movable_names, unplanned_names, used_vehicles};
+ghost use Rattle.seeded_search.specs.Working.{AreListsOf};
 
-use plan_types::{OutOfMemory, Problem, Request, Route, numbers_are_below_the_next};
+use move_ops::Draft;
+use plan_types::{OutOfMemory, Pins, Problem, Route};
 use std::alloc::Global;
 
-/// The names of the planned requests without a pinned stop, rising.
-pub(crate) fn movable_names(
-    alloc: Global,
-    problem: &Problem,
-    pins: &[Route],
-    routes: &[Route],
-) -> Result<Vec<u32>, OutOfMemory>
-    ensures { IfOk result (λ names. names.items ≡ movable_names problem.now pins.now routes.now) }
-{
-    numbers_are_below_the_next();
-    let pinned = marks(alloc, pins, problem.next_number as usize)?;
-    let planned = marks(alloc, routes, problem.next_number as usize)?;
-    marked_names(alloc, problem, &pinned, &planned)
+/// Names of requests, rising.
+#[derive(Debug, Drop)]
+pub(crate) struct Lists {
+    /// Those that are planned, and of which no stop is pinned.
+    pub(crate) movable: Vec<u32>,
+    pub(crate) unplanned: Vec<u32>,
 }
 
-/// The names of the requests without a stop in any route, rising.
-pub(crate) fn unplanned_names(
-    alloc: Global,
-    problem: &Problem,
-    routes: &[Route],
-) -> Result<Vec<u32>, OutOfMemory>
-    ensures { IfOk result (λ names. names.items ≡ unplanned_names problem.now routes.now) }
-{
-    numbers_are_below_the_next();
-    let planned = marks(alloc, routes, problem.next_number as usize)?;
-    unmarked_names(alloc, problem, &planned)
+impl Lists {
+    /// The lists of a plan.
+    pub(crate) fn build(
+        alloc: Global,
+        problem: &Problem,
+        pins: &Pins,
+        draft: &Draft,
+    ) -> Result<Lists, OutOfMemory>
+        requires { IsDraftOf problem.now pins.now.routes draft.now }
+        ensures { IfOk result (λ lists.
+            AreListsOf problem.now pins.now.routes (draft_of draft.now) lists) }
+    {
+        let mut lists = Lists {
+            movable: Vec::new(alloc),
+            unplanned: Vec::new(alloc),
+        };
+        lists.fill(problem, pins, draft)?;
+        Ok(lists)
+    }
+
+    /// Lets them become the lists of a plan.
+    pub(crate) fn fill(
+        &mut self,
+        problem: &Problem,
+        pins: &Pins,
+        draft: &Draft,
+    ) -> Result<(), OutOfMemory>
+        requires { IsDraftOf problem.now pins.now.routes draft.now }
+        ensures { OnOk result (AreListsOf problem.now pins.now.routes
+            (draft_of draft.now) self.new) }
+    {
+        list_movable(problem, pins, draft, &mut self.movable)?;
+        list_unplanned(problem, draft, &mut self.unplanned)
+    }
 }
 
-// The names of the requests that have a stop among the planned ones and none among the pinned ones.
-fn marked_names(
-    alloc: Global,
+// The planned requests without a pinned stop.
+fn list_movable(
     problem: &Problem,
-    pinned: &[bool],
-    planned: &[bool],
-) -> Result<Vec<u32>, OutOfMemory>
-    ensures { IfOk result (λ names. names.items ≡ names_where (λ r. is_marked planned.now r && not (is_marked pinned.now r)) problem.now.requests) }
+    pins: &Pins,
+    draft: &Draft,
+    names: &mut Vec<u32>,
+) -> Result<(), OutOfMemory>
+    requires { IsDraftOf problem.now pins.now.routes draft.now }
+    ensures { OnOk result (names.new.items
+        ≡ movable_names problem.now pins.now.routes (draft_of draft.now)) }
 {
-    let mut names = Vec::new(alloc);
+    names.clear();
     for index in 0..problem.requests.len() {
-        if let Some(name) = marked_name(problem, pinned, planned, index) {
+        if let Some(name) = movable_name(problem, pins, draft, index) {
             names.push(name)?;
         }
     }
-    Ok(names)
+    Ok(())
 }
 
 // The name of the request at this index, where it is one of those.
-fn marked_name(problem: &Problem, pinned: &[bool], planned: &[bool], index: usize) -> Option<u32>
-    ensures { result ≡ option_and_then (name_where (λ r. is_marked planned.now r && not (is_marked pinned.now r))) (slice_get problem.now.requests index) }
+fn movable_name(problem: &Problem, pins: &Pins, draft: &Draft, index: usize) -> Option<u32>
+    requires { IsDraftOf problem.now pins.now.routes draft.now }
+    ensures { result ≡ option_and_then
+        (name_where (is_movable pins.now.routes (draft_of draft.now)))
+        (slice_get problem.now.requests index) }
 {
     let (name, request) = problem.requests.get_index(index)?;
-    if is_marked(planned, request) && !is_marked(pinned, request) {
+    if draft.is_movable(problem, pins, request) {
         Some(*name)
     } else {
         None
     }
 }
 
-// The names of the requests that have no stop among the planned ones.
-fn unmarked_names(
-    alloc: Global,
-    problem: &Problem,
-    planned: &[bool],
-) -> Result<Vec<u32>, OutOfMemory>
-    ensures { IfOk result (λ names. names.items ≡ names_where (λ r. not (is_marked planned.now r)) problem.now.requests) }
+// The requests without a stop in any route.
+fn list_unplanned(problem: &Problem, draft: &Draft, names: &mut Vec<u32>) -> Result<(), OutOfMemory>
+    ensures { OnOk result (names.new.items ≡ unplanned_names problem.now (draft_of draft.now)) }
 {
-    let mut names = Vec::new(alloc);
+    names.clear();
     for index in 0..problem.requests.len() {
-        if let Some(name) = unmarked_name(problem, planned, index) {
+        if let Some(name) = unplanned_name(problem, draft, index) {
             names.push(name)?;
         }
     }
-    Ok(names)
+    Ok(())
 }
 
-fn unmarked_name(problem: &Problem, planned: &[bool], index: usize) -> Option<u32>
-    ensures { result ≡ option_and_then (name_where (λ r. not (is_marked planned.now r))) (slice_get problem.now.requests index) }
+fn unplanned_name(problem: &Problem, draft: &Draft, index: usize) -> Option<u32>
+    ensures { result ≡ option_and_then (name_where (λ r. not (is_planned (draft_of draft.now) r)))
+        (slice_get problem.now.requests index) }
 {
     let (name, request) = problem.requests.get_index(index)?;
-    if is_marked(planned, request) {
+    if draft.is_planned(request) {
         None
     } else {
         Some(*name)
     }
 }
 
-fn is_marked(marks: &[bool], request: &Request) -> bool
-    ensures { result ≡ is_marked marks.now request.now }
-{
-    match request {
-        Request::Single(stop) => mark(marks, stop.number),
-        Request::Pair(pickup, delivery) => {
-            mark(marks, pickup.number) || mark(marks, delivery.number)
-        }
-    }
-}
-
-fn mark(marks: &[bool], stop: u32) -> bool
-    ensures { result ≡ slice_index_or marks.now stop false }
-{
-    marks.get(stop as usize).copied().unwrap_or(false)
-}
-
-// For each number below `len` whether it is a stop of one of the routes.
-fn marks(alloc: Global, routes: &[Route], len: usize) -> Result<Vec<bool>, OutOfMemory>
-    ensures { IfOk result (λ marks. (n : ℕ) → n < len → slice_index_or marks.items n false ≡ has_stop routes.now n) }
-{
-    let mut marks = vec![in alloc; false; len]?;
-    for route in routes {
-        mark_stops(&mut marks, route.as_slice());
-    }
-    Ok(marks)
-}
-
-fn mark_stops(marks: &mut [bool], stops: &[u32])
-    ensures { (n : ℕ) → n < length marks.old → slice_index_or marks.new n false ≡ (slice_index_or marks.old n false || has stops.now n) }
-{
-    for stop in stops {
-        let stop = *stop as usize;
-        if stop < marks.len() {
-            marks[stop] = true;
-        }
-    }
-}
-
-/// The vehicles whose routes are not empty, in order. Vehicles count from 1.
-pub(crate) fn used_vehicles(alloc: Global, routes: &[Route]) -> Result<Vec<u64>, OutOfMemory>
-    ensures { IfOk result (λ used. used.items ≡ used_vehicles routes.now) }
+/// Those of so many vehicles whose routes are not empty, in order. Vehicles count from 1.
+pub(crate) fn used_vehicles(
+    alloc: Global,
+    draft: &Draft,
+    fleet: u32,
+) -> Result<Vec<u64>, OutOfMemory>
+    requires { length (draft_of draft.now) ≡ fleet }
+    ensures { IfOk result (λ used. used.items ≡ used_vehicles (draft_of draft.now)) }
 {
     let mut used = Vec::new(alloc);
-    for (index, route) in routes.iter().enumerate() {
-        if !route.as_slice().is_empty() {
-            used.push(index as u64 + 1)?;
+    for index in 0..fleet {
+        let vehicle = u64::from(index) + 1;
+        if !draft.route(vehicle).is_empty() {
+            used.push(vehicle)?;
         }
     }
     Ok(used)
 }
 
-/// What this vehicle has, its route or its pin; nothing where there is no such vehicle.
+/// What this vehicle has; nothing where there is no such vehicle.
 pub(crate) fn of_vehicle(lists: &[Route], vehicle: u64) -> &[u32]
     ensures { result.now ≡ of_vehicle lists.now vehicle }
 {

@@ -1,194 +1,189 @@
 //! The candidates that the words of a step make of a plan.
-ghost use Rattle.std.specs.Prelude.{◌≡◌, true, IfOk, unwrap_or};
-ghost use Rattle.std.specs.Option.{option_map};
-ghost use Rattle.plan_audit.specs.Passes.{passes};
-ghost use Rattle.seeded_search.specs.Working.{AreTablesOf};
-ghost use Rattle.seeded_search.specs.Steps.{candidate, relocated, exchanged_by, crossed_by, cut_by, recreated_by, ruined_names};
+ghost use Rattle.std.specs.Prelude.{◌≡◌, ◌+◌, IfOk, OnOk, take, drop, slice_index};
+ghost use Rattle.seeded_search.specs.Words.{pick};
+ghost use Rattle.move_ops.specs.Drafts.{base_of, draft_of, IsDraftOf, IsMade};
+ghost use Rattle.seeded_search.specs.Working.{AreListsOf};
+ghost use Rattle.seeded_search.specs.Steps.{candidate, drawn, movable_names, placed_all, relocated, exchanged_by, crossed_by, cut_by, recreated_by};
 
 use crate::draws::{drawn, picked, picked_vehicle, place};
-use crate::lists::{movable_names, of_vehicle, unplanned_names, used_vehicles};
+use crate::lists::{Lists, of_vehicle, used_vehicles};
 use crate::pick;
-use crate::placing::{follow, placed, placed_all};
-use move_ops::{Tables, exchange, plans_pass_without_pins, remove, two_opt_star};
-use plan_types::{OutOfMemory, Pins, Plan, Problem, Route};
+use move_ops::Draft;
+use plan_audit::passes_are_local;
+use plan_types::{OutOfMemory, Pins, Problem};
 use std::alloc::Global;
 
-/// The plan that the words of a step make of this one, if any: a request is relocated, two are exchanged, two routes exchange their
-/// ends, or up to eight requests are removed and put in again. The tables of the plan given are then those of the plan made.
+/// Makes of the draft what the words of a step make of it, if anything: a request is relocated, two are exchanged, two routes exchange
+/// their ends, or up to eight requests are removed and put in again.
 #[tactic(auto, unfolding(crate::specs::Steps::candidate))]
-pub(crate) fn candidate(
+pub(crate) fn make(
     alloc: Global,
     problem: &Problem,
     pins: &Pins,
-    tables: &mut Tables,
-    work: &Plan,
+    draft: &mut Draft,
+    lists: &Lists,
     words: &[u32; 16],
-) -> Result<Option<Plan>, OutOfMemory>
-    requires pass { passes problem.now pins.now.routes work.now.routes ≡ true }
-    requires tables { AreTablesOf problem.now work.now.routes tables.old }
-    ensures made { IfOk result (λ o. option_map (λ new. new.routes) o ≡ candidate problem.now pins.now.routes work.now.routes words.now) }
-    ensures tables { IfOk result (λ o. AreTablesOf problem.now (unwrap_or (option_map (λ new. new.routes) o) work.now.routes) tables.new) }
+) -> Result<bool, OutOfMemory>
+    requires draft { IsDraftOf problem.now pins.now.routes draft.old }
+    requires lists { AreListsOf problem.now pins.now.routes (draft_of draft.old) lists.now }
+    ensures is { OnOk result (IsDraftOf problem.now pins.now.routes draft.new) }
+    ensures base { OnOk result (base_of draft.new ≡ base_of draft.old) }
+    ensures made { IfOk result (λ made.
+        IsMade (candidate problem.now pins.now.routes (draft_of draft.old) words.now) made
+        draft.old draft.new) }
 {
     match pick(words[0], 4) {
-        0 => relocated(alloc, problem, pins, tables, work, words[1]),
-        1 => exchanged(alloc, problem, pins, tables, work, words[1], words[2]),
-        2 => crossed(alloc, problem, pins, tables, work, words),
-        _ => recreated(alloc, problem, pins, tables, work, words),
+        0 => relocate(problem, pins, draft, &lists.movable, words[1]),
+        1 => exchange(problem, pins, draft, &lists.movable, words[1], words[2]),
+        2 => cross(alloc, problem, pins, draft, words),
+        _ => recreate(alloc, problem, pins, draft, lists, words),
     }
 }
 
 // A request is removed, and put in again where it is best.
-fn relocated(
-    alloc: Global,
+fn relocate(
     problem: &Problem,
     pins: &Pins,
-    tables: &mut Tables,
-    work: &Plan,
+    draft: &mut Draft,
+    movable: &[u32],
     word: u32,
-) -> Result<Option<Plan>, OutOfMemory>
-    requires pass { passes problem.now pins.now.routes work.now.routes ≡ true }
-    requires tables { AreTablesOf problem.now work.now.routes tables.old }
-    ensures made { IfOk result (λ o. option_map (λ new. new.routes) o ≡ relocated problem.now pins.now.routes work.now.routes word) }
-    ensures tables { IfOk result (λ o. AreTablesOf problem.now (unwrap_or (option_map (λ new. new.routes) o) work.now.routes) tables.new) }
+) -> Result<bool, OutOfMemory>
+    requires draft { IsDraftOf problem.now pins.now.routes draft.old }
+    requires movable { movable.now
+        ≡ movable_names problem.now pins.now.routes (draft_of draft.old) }
+    ensures is { OnOk result (IsDraftOf problem.now pins.now.routes draft.new) }
+    ensures base { OnOk result (base_of draft.new ≡ base_of draft.old) }
+    ensures made { IfOk result (λ made.
+        IsMade (relocated problem.now pins.now.routes (draft_of draft.old) word) made draft.old
+        draft.new) }
 {
-    plans_pass_without_pins();
-    let names = movable_names(
-        alloc,
-        problem,
-        pins.routes.as_slice(),
-        work.routes.as_slice(),
-    )?;
-    let Some(name) = picked(word, &names) else {
-        return Ok(None);
+    let Some(name) = picked(word, movable) else {
+        return Ok(false);
     };
-    let Some(left) = remove(alloc, problem, pins, work, &[name])? else {
-        return Ok(None);
-    };
-    follow(alloc, problem, tables, work.routes.as_slice(), &left)?;
-    Ok(Some(placed(alloc, problem, pins, tables, left, name)?))
+    if !draft.remove(problem, pins, &[name])? {
+        return Ok(false);
+    }
+    draft.place(problem, pins, name)?;
+    Ok(true)
 }
 
 // Two requests take one another's places.
-fn exchanged(
-    alloc: Global,
+fn exchange(
     problem: &Problem,
     pins: &Pins,
-    tables: &mut Tables,
-    work: &Plan,
+    draft: &mut Draft,
+    movable: &[u32],
     first: u32,
     second: u32,
-) -> Result<Option<Plan>, OutOfMemory>
-    requires pass { passes problem.now pins.now.routes work.now.routes ≡ true }
-    requires tables { AreTablesOf problem.now work.now.routes tables.old }
-    ensures made { IfOk result (λ o. option_map (λ new. new.routes) o ≡ exchanged_by problem.now pins.now.routes work.now.routes first second) }
-    ensures tables { IfOk result (λ o. AreTablesOf problem.now (unwrap_or (option_map (λ new. new.routes) o) work.now.routes) tables.new) }
+) -> Result<bool, OutOfMemory>
+    requires draft { IsDraftOf problem.now pins.now.routes draft.old }
+    requires movable { movable.now
+        ≡ movable_names problem.now pins.now.routes (draft_of draft.old) }
+    ensures is { OnOk result (IsDraftOf problem.now pins.now.routes draft.new) }
+    ensures base { OnOk result (base_of draft.new ≡ base_of draft.old) }
+    ensures made { IfOk result (λ made.
+        IsMade (exchanged_by problem.now pins.now.routes (draft_of draft.old) first second) made
+        draft.old draft.new) }
 {
-    plans_pass_without_pins();
-    let names = movable_names(
-        alloc,
-        problem,
-        pins.routes.as_slice(),
-        work.routes.as_slice(),
-    )?;
-    let Some(a) = picked(first, &names) else {
-        return Ok(None);
+    let Some(a) = picked(first, movable) else {
+        return Ok(false);
     };
-    let Some(b) = picked(second, &names) else {
-        return Ok(None);
+    let Some(b) = picked(second, movable) else {
+        return Ok(false);
     };
-    let Some(new) = exchange(alloc, problem, pins, work, a, b)? else {
-        return Ok(None);
-    };
-    follow(alloc, problem, tables, work.routes.as_slice(), &new)?;
-    Ok(Some(new))
+    draft.exchange(problem, pins, a, b)
 }
 
 // Two routes exchange what stands behind their cuts.
-fn crossed(
+fn cross(
     alloc: Global,
     problem: &Problem,
     pins: &Pins,
-    tables: &mut Tables,
-    work: &Plan,
+    draft: &mut Draft,
     words: &[u32; 16],
-) -> Result<Option<Plan>, OutOfMemory>
-    requires pass { passes problem.now pins.now.routes work.now.routes ≡ true }
-    requires tables { AreTablesOf problem.now work.now.routes tables.old }
-    ensures made { IfOk result (λ o. option_map (λ new. new.routes) o ≡ crossed_by problem.now pins.now.routes work.now.routes words.now) }
-    ensures tables { IfOk result (λ o. AreTablesOf problem.now (unwrap_or (option_map (λ new. new.routes) o) work.now.routes) tables.new) }
+) -> Result<bool, OutOfMemory>
+    requires draft { IsDraftOf problem.now pins.now.routes draft.old }
+    ensures is { OnOk result (IsDraftOf problem.now pins.now.routes draft.new) }
+    ensures base { OnOk result (base_of draft.new ≡ base_of draft.old) }
+    ensures made { IfOk result (λ made.
+        IsMade (crossed_by problem.now pins.now.routes (draft_of draft.old) words.now) made
+        draft.old draft.new) }
 {
-    plans_pass_without_pins();
-    let kept = pins.routes.as_slice();
-    let routes = work.routes.as_slice();
-    let used = used_vehicles(alloc, routes)?;
+    passes_are_local();
+    let used = used_vehicles(alloc, draft, problem.fleet)?;
     let Some(a) = picked_vehicle(words[1], &used) else {
-        return Ok(None);
+        return Ok(false);
     };
     let Some(b) = picked_vehicle(words[2], &used) else {
-        return Ok(None);
+        return Ok(false);
     };
-    let a_cut = cut(kept, routes, a, words[3]);
-    let b_cut = cut(kept, routes, b, words[4]);
-    let Some(new) = two_opt_star(alloc, problem, pins, work, a, a_cut, b, b_cut)? else {
-        return Ok(None);
-    };
-    follow(alloc, problem, tables, work.routes.as_slice(), &new)?;
-    Ok(Some(new))
+    let a_cut = cut(pins, draft, a, words[3]);
+    let b_cut = cut(pins, draft, b, words[4]);
+    draft.cross(problem, pins, a, a_cut, b, b_cut)
 }
 
 // Behind how many stops the word cuts the route of a vehicle; never within its pin.
-fn cut(pins: &[Route], routes: &[Route], vehicle: u64, word: u32) -> u64
-    ensures { result ≡ cut_by pins.now routes.now vehicle word }
+fn cut(pins: &Pins, draft: &Draft, vehicle: u64, word: u32) -> u64
+    ensures { result ≡ cut_by pins.now.routes (draft_of draft.now) vehicle word }
 {
-    let kept = of_vehicle(pins, vehicle).len();
-    let free = of_vehicle(routes, vehicle).len().saturating_sub(kept);
+    let kept = of_vehicle(pins.routes.as_slice(), vehicle).len();
+    let free = draft.route(vehicle).len().saturating_sub(kept);
     (kept + place(word, free + 1)) as u64
 }
 
 // Requests are removed, and each of them, and then each that was unplanned before, is put in again where it is best.
-fn recreated(
+fn recreate(
     alloc: Global,
     problem: &Problem,
     pins: &Pins,
-    tables: &mut Tables,
-    work: &Plan,
+    draft: &mut Draft,
+    lists: &Lists,
     words: &[u32; 16],
-) -> Result<Option<Plan>, OutOfMemory>
-    requires pass { passes problem.now pins.now.routes work.now.routes ≡ true }
-    requires tables { AreTablesOf problem.now work.now.routes tables.old }
-    ensures made { IfOk result (λ o. option_map (λ new. new.routes) o ≡ recreated_by problem.now pins.now.routes work.now.routes words.now) }
-    ensures tables { IfOk result (λ o. AreTablesOf problem.now (unwrap_or (option_map (λ new. new.routes) o) work.now.routes) tables.new) }
+) -> Result<bool, OutOfMemory>
+    requires draft { IsDraftOf problem.now pins.now.routes draft.old }
+    requires lists { AreListsOf problem.now pins.now.routes (draft_of draft.old) lists.now }
+    ensures is { OnOk result (IsDraftOf problem.now pins.now.routes draft.new) }
+    ensures base { OnOk result (base_of draft.new ≡ base_of draft.old) }
+    ensures made { IfOk result (λ made.
+        IsMade (recreated_by problem.now pins.now.routes (draft_of draft.old) words.now) made
+        draft.old draft.new) }
 {
-    plans_pass_without_pins();
-    let mut names = ruined_names(alloc, problem, pins, work, words)?;
+    let mut names = ruined_names(alloc, &lists.movable, words)?;
     if names.is_empty() {
-        return Ok(None);
+        return Ok(false);
     }
-    let Some(left) = remove(alloc, problem, pins, work, &names)? else {
-        return Ok(None);
-    };
-    let unplanned = unplanned_names(alloc, problem, work.routes.as_slice())?;
-    names.extend_from_slice(&unplanned)?;
-    follow(alloc, problem, tables, work.routes.as_slice(), &left)?;
-    Ok(Some(placed_all(alloc, problem, pins, tables, left, &names)?))
+    if !draft.remove(problem, pins, &names)? {
+        return Ok(false);
+    }
+    names.extend_from_slice(&lists.unplanned)?;
+    place_all(problem, pins, draft, &names)?;
+    Ok(true)
 }
 
 // The requests that are removed, one to eight, in the order drawn.
-fn ruined_names(
-    alloc: Global,
+fn ruined_names(alloc: Global, movable: &[u32], words: &[u32; 16]) -> Result<Vec<u32>, OutOfMemory>
+    ensures { IfOk result (λ names. names.items
+        ≡ drawn (take (1 + pick (slice_index words.now 1) 8) (drop 2 words.now)) movable.now) }
+{
+    let count = 1 + pick(words[1], 8) as usize;
+    drawn(alloc, &words[2..2 + count], movable)
+}
+
+// Puts the requests in, one after another, each where it is best then; a request without a place stays unplanned.
+fn place_all(
     problem: &Problem,
     pins: &Pins,
-    work: &Plan,
-    words: &[u32; 16],
-) -> Result<Vec<u32>, OutOfMemory>
-    ensures { IfOk result (λ names. names.items ≡ ruined_names problem.now pins.now.routes work.now.routes words.now) }
+    draft: &mut Draft,
+    names: &[u32],
+) -> Result<(), OutOfMemory>
+    requires { IsDraftOf problem.now pins.now.routes draft.old }
+    ensures is { OnOk result (IsDraftOf problem.now pins.now.routes draft.new) }
+    ensures base { OnOk result (base_of draft.new ≡ base_of draft.old) }
+    ensures draft { OnOk result (draft_of draft.new
+        ≡ placed_all problem.now pins.now.routes (draft_of draft.old) names.now) }
 {
-    let names = movable_names(
-        alloc,
-        problem,
-        pins.routes.as_slice(),
-        work.routes.as_slice(),
-    )?;
-    let count = 1 + pick(words[1], 8) as usize;
-    drawn(alloc, &words[2..2 + count], names)
+    for name in names {
+        draft.place(problem, pins, *name)?;
+    }
+    Ok(())
 }

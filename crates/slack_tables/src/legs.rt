@@ -39,7 +39,8 @@ pub(crate) fn leg_at(legs: &[u32], places: &[Place], k: usize, stop: &Stop) -> u
     requires places { All IsSmallPlace places.now }
     requires stop { IsVisit stop.now }
     requires within { k < length places.now }
-    ensures value { (d : Place) → result ≡ distance (slice_index_or places.now k d).at.stop stop.now }
+    ensures value { (d : Place) → result
+        ≡ distance (slice_index_or places.now k d).at.stop stop.now }
     ensures bound { result ≤ 2 ^ 32 }
 {
     if k < legs.len() {
@@ -92,9 +93,11 @@ fn lesser(a: i64, b: i64) -> i64
 pub(crate) fn is_hopeless(least: &[i64], k: usize, reach: u64, base: u64, bound: i64) -> bool
     requires reach { reach ≤ 2 ^ 59 }
     requires base { base ≤ 2 ^ 59 }
-    requires least { (k : ℕ) → k < length least.now → unsigned_abs (slice_index_or least.now k (pos 0)) ≤ 2 ^ 60 }
+    requires least { (k : ℕ) → k < length least.now
+        → unsigned_abs (slice_index_or least.now k (pos 0)) ≤ 2 ^ 60 }
     ensures within { IsTrue result → k < length least.now }
-    ensures dear { IsTrue result → bound ≤ℤ ((pos reach -ℤ pos base) +ℤ slice_index_or least.now k (pos 0)) }
+    ensures dear { IsTrue result → bound ≤ℤ
+        ((pos reach -ℤ pos base) +ℤ slice_index_or least.now k (pos 0)) }
 {
     k < least.len() && difference(reach, base) + least[k] >= bound
 }

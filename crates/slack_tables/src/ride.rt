@@ -132,7 +132,8 @@ pub(crate) fn serve_below(
     requires to { detour.to ≤ 2 ^ 56 }
     requires from { detour.from ≤ 2 ^ 56 }
     requires tail { IsSmallPlace tail.now }
-    ensures { result ≡ served_below below limits at.now service detour.to stop.now detour.from tail.now }
+    ensures { result ≡ served_below below limits at.now service detour.to stop.now detour.from
+        tail.now }
 {
     let price = price(at, detour, tail);
     if price < below && is_served(limits, at, service, detour, stop, tail) {

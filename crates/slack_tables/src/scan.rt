@@ -122,7 +122,8 @@ pub(crate) fn best_pair(
     requires pickup { IsVisit pickup.now }
     requires delivery { IsVisit delivery.now }
     requires kept { kept + 2 ≤ length places.now }
-    ensures { (d : Place) → IsFirstOf (AddsPair limits places.now pickup.now delivery.now kept below d) result }
+    ensures { (d : Place) → IsFirstOf
+        (AddsPair limits places.now pickup.now delivery.now kept below d) result }
 {
     let trip = Trip {
         limits,
@@ -184,7 +185,9 @@ fn best_pickup(
     requires delivery_legs { AreLegs delivery_legs.now places.now trip.now.delivery }
     requires least { AreLeast least.now places.now trip.now.delivery }
     requires kept { kept + 2 ≤ length places.now }
-    ensures { (d : Place) → IsFirstOf (AddsPair trip.now.limits places.now trip.now.pickup trip.now.delivery kept below d) result }
+    ensures { (d : Place) → IsFirstOf
+        (AddsPair trip.now.limits places.now trip.now.pickup trip.now.delivery kept below d)
+        result }
 {
     let mut best = Best::none_below(below);
     for i in kept + 1..places.len() {
@@ -219,7 +222,9 @@ fn best_at(
     requires least { AreLeast least.now places.now trip.now.delivery }
     requires from_one { 1 ≤ i }
     requires within { i < length places.now }
-    ensures { (d : Place) → IsFirstOf (AddsDelivery trip.now.limits places.now trip.now.pickup trip.now.delivery i below d) result }
+    ensures { (d : Place) → IsFirstOf
+        (AddsDelivery trip.now.limits places.now trip.now.pickup trip.now.delivery i below d)
+        result }
 {
     let before = small_place(places, i - 1);
     let next = small_place(places, i);
@@ -243,10 +248,12 @@ fn is_dear(least: &[i64], i: usize, near: u64, apart: u64, base: u64, below: i64
     requires near { near ≤ 2 ^ 59 }
     requires apart { apart ≤ 2 ^ 59 }
     requires base { base ≤ 2 ^ 59 }
-    requires least { (k : ℕ) → k < length least.now → unsigned_abs (slice_index_or least.now k (pos 0)) ≤ 2 ^ 60 }
+    requires least { (k : ℕ) → k < length least.now
+        → unsigned_abs (slice_index_or least.now k (pos 0)) ≤ 2 ^ 60 }
     ensures near { IsTrue result → below ≤ℤ (pos near -ℤ pos base) }
     ensures within { IsTrue result → i < length least.now }
-    ensures apart { IsTrue result → below ≤ℤ ((pos apart -ℤ pos base) +ℤ slice_index_or least.now i (pos 0)) }
+    ensures apart { IsTrue result
+        → below ≤ℤ ((pos apart -ℤ pos base) +ℤ slice_index_or least.now i (pos 0)) }
 {
     difference(near, base) >= below && is_hopeless(least, i, apart, base, below)
 }
@@ -334,9 +341,13 @@ fn best_delivery(
     requires least { AreLeast least.now places.now trip.now.delivery }
     requires from_one { 1 ≤ i }
     requires within { i < length places.now }
-    requires underway { (d : Place) → IsUnderway trip.now.limits places.now trip.now.pickup trip.now.delivery i (i + 1) d first }
+    requires underway { (d : Place)
+        → IsUnderway trip.now.limits places.now trip.now.pickup trip.now.delivery i
+        (i + 1) d first }
     requires near { (d : Place) → IsNearWay places.now (i + 1) d first }
-    ensures { (d : Place) → IsFirstOf (AddsDelivery trip.now.limits places.now trip.now.pickup trip.now.delivery i below d) result }
+    ensures { (d : Place) → IsFirstOf
+        (AddsDelivery trip.now.limits places.now trip.now.pickup trip.now.delivery i below d)
+        result }
 {
     let next = small_place(places, i);
     let base = next.at.distance;

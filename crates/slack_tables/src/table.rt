@@ -101,7 +101,8 @@ impl RouteTable {
     /// When service starts at a place. Place 0 is the depot, that behind the last stop the return.
     pub fn start(&self, place: usize) -> u64
         requires { place ≤ length self.now.stops + 1 }
-        ensures { (p : Instance) (route : List ℕ) → course_of p route ≡ self.now → result ≡ start p route place }
+        ensures { (p : Instance) (route : List ℕ) → course_of p route ≡ self.now
+            → result ≡ start p route place }
     {
         let places = self.places.as_slice();
         place_at(places, place).at.start
@@ -112,7 +113,8 @@ impl RouteTable {
     /// problem of kind `Vrp`.
     pub fn latest_start(&self, place: usize) -> Option<u64>
         requires { place ≤ length self.now.stops + 1 }
-        ensures { (p : Instance) (route : List ℕ) → course_of p route ≡ self.now → IsLimitOfStarts p route place result }
+        ensures { (p : Instance) (route : List ℕ) → course_of p route ≡ self.now
+            → IsLimitOfStarts p route place result }
     {
         let places = self.places.as_slice();
         if place + 1 == places.len() {
@@ -127,7 +129,8 @@ impl RouteTable {
     /// What the vehicle carries after a place.
     pub fn load(&self, place: usize) -> i64
         requires { place ≤ length self.now.stops + 1 }
-        ensures { (p : Instance) (route : List ℕ) → course_of p route ≡ self.now → result ≡ load p route place }
+        ensures { (p : Instance) (route : List ℕ) → course_of p route ≡ self.now
+            → result ≡ load p route place }
     {
         let places = self.places.as_slice();
         load_at(place_at(places, place))
@@ -135,7 +138,8 @@ impl RouteTable {
 
     /// How far the vehicle drives, back to the depot.
     pub fn distance(&self) -> u64
-        ensures { (p : Instance) (route : List ℕ) → course_of p route ≡ self.now → result ≡ route_length p route }
+        ensures { (p : Instance) (route : List ℕ) → course_of p route ≡ self.now
+            → result ≡ route_length p route }
     {
         let places = self.places.as_slice();
         place_at(places, places.len() - 1).at.distance
@@ -148,8 +152,11 @@ impl RouteTable {
     /// The distance added can be negative, since rounded distances break the triangle inequality.
     pub fn try_insert(&self, problem: &Problem, name: u32, i: u64, j: u64) -> Option<i64>
         requires course { IsCourseIn problem.now self.now }
-        requires places { IsSomeAnd (request_named problem.now name) (λ r. ArePlaces r (length (route_of self.now)) i j) }
-        ensures { IfSome (request_named problem.now name) (λ r. IsAdded problem.now (route_of self.now) (inserted r i j (route_of self.now)) result) }
+        requires places { IsSomeAnd (request_named problem.now name)
+            (λ r. ArePlaces r (length (route_of self.now)) i j) }
+        ensures { IfSome (request_named problem.now name)
+            (λ r. IsAdded problem.now (route_of self.now)
+            (inserted r i j (route_of self.now)) result) }
     {
         requests_are_found_by_stop();
         let places = self.places.as_slice();
@@ -177,7 +184,9 @@ impl RouteTable {
     pub fn best_places(&self, request: &Request, kept: u64, below: i64) -> Option<Addition>
         requires request { IsRequest request.now }
         requires kept { kept ≤ length self.now.stops }
-        ensures { (p : Instance) (name : ℕ) → IsInstance p → IsCourseIn p self.now → request_named p name ≡ Some request.now → IsBestAddition p (route_of self.now) request.now kept below result }
+        ensures { (p : Instance) (name : ℕ) → IsInstance p → IsCourseIn p self.now
+            → request_named p name ≡ Some request.now
+            → IsBestAddition p (route_of self.now) request.now kept below result }
     {
         requests_are_found_by_stop();
         let places = self.places.as_slice();

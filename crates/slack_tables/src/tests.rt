@@ -55,7 +55,8 @@ fn keeps_limits(alloc: Global, problem: &Problem, route: &[u32]) -> Result<bool,
 }
 
 fn all_keep(limits: Limits, places: &[Place]) -> bool
-    ensures { IsTrue result → (k : ℕ) (d : Place) → k < length places.now → keeps limits (slice_index_or places.now k d).at ≡ true }
+    ensures { IsTrue result → (k : ℕ) (d : Place) → k < length places.now
+        → keeps limits (slice_index_or places.now k d).at ≡ true }
 {
     for place in places {
         if keeps(limits, &place.at) {

@@ -1,8 +1,6 @@
 -- The bytes of a state that keeps its facts are read as this state.
-use Rattle.std.proofs.Common.{◌≡◌, ◌≢◌, ◌⊎◌, ℕ, zero, suc, ◌+◌, ◌^◌, ◌<◌, ◌≤◌, ℤ, pos, Bool, true, false, cond, eqb, List, [], ◌∷◌, ◌++◌, length, Option, Some, None, Result, Ok, Err, refl, sym, ap, subst, ◌∙◌, append_assoc, arith, nat_lt}
-use Rattle.std.specs.Prelude.{negsuc, ◌≤ℤ◌, neg_ℤ, nat_le, nat_eq, not, is_some, ◌&&◌, ◌==◌}
-use Rattle.std.specs.Int.{w32}
-use mir.Val.{SFits}
+use Rattle.std.proofs.Common.{◌≡◌, ◌≢◌, ℕ, ◌+◌, ◌^◌, ◌<◌, ◌≤◌, Bool, true, false, cond, eqb, List, [], ◌∷◌, ◌++◌, length, Option, Some, None, Ok, refl, sym, ap, subst, ◌∙◌, append_assoc, arith, nat_lt}
+use Rattle.std.specs.Prelude.{neg_ℤ, nat_eq, not, is_some, ◌==◌}
 use Rattle.std.specs.List.{list_all, AllByRecursion, IsDistinct, concat}
 use Rattle.std.specs.List.Sorted.{IsStrictlySortedBy}
 use Rattle.std.specs.Ordering.{nat_cmp}
@@ -14,7 +12,7 @@ use Rattle.std.proofs.lemmas.List.{append-nil}
 use Rattle.std.proofs.lemmas.List.Folds.{list_all-append}
 use Rattle.plan_types.specs.Laws.{StopsAreBelowNext}
 use Rattle.plan_types.specs.Limits.{IsStop, IsDemand}
-use Rattle.plan_types.specs.Request.{IsRequest, request_name, stops_of, stop_in}
+use Rattle.plan_types.specs.Request.{IsRequest, request_name, stop_in}
 use Rattle.plan_types.specs.Instance.{Instance, IsInstance, first_some, numbers_among}
 use Rattle.plan_types.specs.declared.requests.Stop.{Stop}
 use Rattle.plan_types.specs.declared.requests.Request.{Request}
@@ -23,17 +21,16 @@ use Rattle.command_core.specs.Job.{JobValue, IsJob}
 use Rattle.state_codec.specs.declared.head.Head.{Head}
 use Rattle.state_codec.specs.declared.version.Version.{Version}
 use Rattle.state_codec.specs.declared.version.Version.TheVariants.{One, Two}
-use Rattle.state_codec.specs.Bytes.{number_bytes, count_bytes, visit_bytes, stop_bytes, request_bytes, requests_bytes, stops_bytes, vehicles_bytes, routes_bytes, work_bytes, head_bytes, job_bytes, width}
+use Rattle.state_codec.specs.Bytes.{count_bytes, visit_bytes, stop_bytes, request_bytes, requests_bytes, vehicles_bytes, routes_bytes, work_bytes, head_bytes, job_bytes, width}
 use Rattle.state_codec.specs.Limits.{most, IsJobOf}
-use Rattle.state_codec.specs.Fields.{◌>>=◌, Field, only, byte_at, number_at}
-use Rattle.state_codec.specs.Reading.{is_free, is_name, is_delivery, is_wanted, visit_at, first_at, delivery_at, single_at, pair_at, request_at, times, next_request, next_route, next_vehicle, work_at, head_at, problem_at, job_at, state_at, whole_at}
-use Rattle.state_codec.specs.Parts.{IsHead}
+use Rattle.state_codec.specs.Fields.{byte_at, number_at}
+use Rattle.state_codec.specs.Reading.{is_free, is_name, is_delivery, is_wanted, first_at, delivery_at, single_at, pair_at, request_at, times, next_request, next_route, next_vehicle, work_at, problem_at, job_at, state_at, whole_at}
 use Rattle.state_codec.proofs.FieldLaws.{number_again, only_again, small}
 use Rattle.state_codec.proofs.RequestLaws.{visit_again, parts_and, is_le, is_demand-holds, int_eq-same, IsNew}
 use Rattle.state_codec.proofs.TimesLaws.{AreNext, times_again, added_behind}
-use Rattle.state_codec.proofs.RouteLaws.{IsWritable, HaveRoom, routes_again, more_vehicles, AreFronts}
+use Rattle.state_codec.proofs.RouteLaws.{IsWritable, HaveRoom, routes_again, more_vehicles}
 use Rattle.state_codec.proofs.HeadLaws.{head_text, head_again, IsHeadOf, IsAllowance}
-use Rattle.state_codec.proofs.SizeLemmas.{Sizes, sizes, AreBelow, few_requests, requests_below, short_routes}
+use Rattle.state_codec.proofs.SizeLemmas.{sizes, AreBelow, requests_below, short_routes}
 
 -- ---- one request
 

@@ -1,30 +1,33 @@
 -- What decoding answers, by what was read and how it was judged.
-use Rattle.std.proofs.Common.{◌≡◌, ◌⊎◌, ℕ, List, [], ◌∷◌, Option, Some, None, Result, Ok, Err, refl, sym, ap, subst, ◌∙◌, true, inl, inr}
+use Rattle.std.proofs.Common.{◌≡◌, ◌⊎◌, ℕ, ◌<◌, ◌≤◌, arith, List, [], ◌∷◌, ◌++◌, Option, Some, None, Result, Ok, Err, refl, sym, ap, subst, ◌∙◌, true, inl, inr}
 use Rattle.std.specs.List.{list_all}
 use Rattle.plan_types.specs.Instance.{Instance}
 use Rattle.plan_types.specs.Laws.{StopsAreBelowNext}
 use Rattle.route_sched.specs.Cost.{cost_of}
+use Rattle.plan_audit.specs.Alone.{IsFeasibleAlone, IsFaultAlone}
 use Rattle.plan_audit.specs.Passes.{feasible_alone, passes}
-use Rattle.plan_audit.specs.Verdict.{planned}
+use Rattle.plan_audit.specs.Verdict.{planned, rule_number}
 use Rattle.plan_audit.specs.Locality.{VerdictsAreUnique, TestsSayPass, TestsSayFeasible}
 use Rattle.plan_audit.specs.declared.rules.Verdict.TheVariants.{Pass, Broken}
 use Rattle.command_core.specs.Job.{JobValue, IsJob}
+use Rattle.command_core.specs.Runs.{IsState}
 use Rattle.command_core.specs.declared.states.State.{State}
 use Rattle.command_core.specs.declared.states.State.TheVariants.{Empty, Loaded}
 use Rattle.state_codec.specs.declared.version.Version.{Version}
 use Rattle.state_codec.specs.declared.fault.CodecFault.{CodecFault}
 use Rattle.state_codec.specs.declared.fault.CodecFault.TheVariants.{Truncated, BadField, PlanRefused, OutOfMemory}
-use Rattle.state_codec.specs.Bytes.{job_bytes, state_bytes}
-use Rattle.state_codec.specs.Limits.{IsJobOf, IsStateOf}
+use Rattle.state_codec.specs.Bytes.{state_bytes}
+use Rattle.state_codec.specs.Limits.{IsStateOf}
 use Rattle.state_codec.specs.Fields.{Fails}
 use Rattle.state_codec.specs.Parts.{IsWithin}
 use Rattle.state_codec.specs.Reading.{whole_at}
-use Rattle.state_codec.specs.Refused.{Decodes, IsDecoded, option_of, IsSound, IsUnlessMemory, IsRefused, IsPlanRefused, IsPinRefused, Tells}
+use Rattle.state_codec.specs.Laws.{StatesDiffer, StatesHaveNoFault, FaultsAreOne, IsOfWhole, BadFieldsStay, BytesBehindAreBad, FrontsAreTruncated}
+use Rattle.state_codec.specs.Refused.{Decodes, IsDecoded, option_of, IsUnlessMemory, IsRefused, IsPlanRefused, IsPinRefused, Tells}
 use Rattle.state_codec.proofs.FieldLaws.{IsBytes}
 use Rattle.state_codec.proofs.RequestLaws.{and_parts}
 use Rattle.state_codec.proofs.AgainLaws.{whole_again, empty_again}
-use Rattle.state_codec.proofs.JobLaws.{whole_takes, IsReadJob}
-use Rattle.state_codec.proofs.PlainLaws.{whole_is_plain}
+use Rattle.state_codec.proofs.JobLaws.{whole_takes}
+use Rattle.state_codec.proofs.GrowLaws.{whole_is_plain, whole_stays, whole_and_more, front_is_cut}
 
 pub by_fault : (v : Version) (bytes : List ℕ) (e : CodecFault) → Fails e (whole_at v bytes) → IsDecoded v bytes (Err e)
 by_fault v bytes Truncated h = h
@@ -54,6 +57,50 @@ decodes v bytes fits (Err BadField) h = h
 decodes v bytes fits (Err (PlanRefused rule)) h = let k = whole_takes v bytes fits (Some h.0) h.1 in (h.0, h.1, k.0, k.1.of, h.2)
 decodes v bytes fits (Err OutOfMemory) h = tt
 
+-- ---- two least ones
+
+first_no_later : {A : Type 0} {m n : ℕ} → (m < n) ⊎ ((m ≡ n) × A) → m ≤ n
+first_no_later (inl lt) = omega (arith, lt)
+first_no_later (inr e) = omega (arith, e.0)
+
+least_same : (m n : ℕ) → m ≤ n → n ≤ m → m ≡ n
+least_same m n a b = omega (arith, a, b)
+
+-- ---- states by what is read
+
+pub same_state : (s t : State) → option_of s ≡ option_of t → s ≡ t
+same_state Empty Empty e = refl
+same_state Empty (Loaded k) e = absurd cc
+same_state (Loaded j) Empty e = absurd cc
+same_state (Loaded j) (Loaded k) e = cc
+
+pub reads : StopsAreBelowNext → (v : Version) (bytes : List ℕ) (s : State) → IsState s → IsStateOf v s → bytes ≡ state_bytes v s → whole_at v bytes ≡ Ok (option_of s)
+reads law v bytes Empty is of e = ap (whole_at v) e ∙ empty_again v
+reads law v bytes (Loaded j) is of e = ap (whole_at v) e ∙ whole_again law v j is of
+
+pub states_differ : StopsAreBelowNext → StatesDiffer
+states_differ law v s t is-s is-t of-s of-t e =
+    let both = sym (reads law v (state_bytes v s) s is-s of-s refl) ∙ reads law v (state_bytes v s) t is-t of-t e in
+    same_state s t cc
+
+-- ---- bytes with more behind them, or less
+
+pub bad_stays : BadFieldsStay
+bad_stays v bytes more h = whole_stays v bytes more h
+
+read_whole : StopsAreBelowNext → (v : Version) (bytes : List ℕ) (r : Result State CodecFault) → IsOfWhole r → Decodes v bytes r → (o : Option JobValue) × (whole_at v bytes ≡ Ok o)
+read_whole law v bytes (Ok s) is h = (option_of s, reads law v bytes s is h.1 h.0)
+read_whole law v bytes (Err (PlanRefused rule)) is h = (Some h.0, h.1)
+read_whole law v bytes (Err Truncated) is h = absurd is
+read_whole law v bytes (Err BadField) is h = absurd is
+read_whole law v bytes (Err OutOfMemory) is h = absurd is
+
+pub behind_is_bad : StopsAreBelowNext → BytesBehindAreBad
+behind_is_bad law v bytes b more r is h = let w = read_whole law v bytes r is h in whole_and_more v bytes b more w.0 w.1
+
+pub fronts_are_cut : StopsAreBelowNext → FrontsAreTruncated
+fronts_are_cut law v front b rest r is h = let w = read_whole law v (front ++ b ∷ rest) r is h in front_is_cut v front b rest w.0 w.1
+
 -- ---- a state that keeps its facts is not refused
 
 module _ (unique : VerdictsAreUnique) (pass : TestsSayPass) (feasible : TestsSayFeasible) where
@@ -62,12 +109,16 @@ module _ (unique : VerdictsAreUnique) (pass : TestsSayPass) (feasible : TestsSay
       let same = unique p (planned routes pins) (Pass (cost_of p routes)) (Broken rule r.0 r.1 r.2) ((pass p pins routes).0 h) r.3 in
       absurd cc
 
+  fault_kept : (p : Instance) (pin : List ℕ) (rule : ℕ) → IsFeasibleAlone p pin → IsFaultAlone p pin rule → ⊥
+  fault_kept p pin rule kept f =
+      let least = f.2.3 in
+      kept f.0 f.2.0 f.2.1 f.2.2 least.from least.to least.broken
+
   pins_kept : (p : Instance) (pins : List (List ℕ)) (rule : ℕ) → list_all (feasible_alone p) pins ≡ true → IsPinRefused p pins rule → ⊥
   pins_kept p [] rule h r = absurd r
   pins_kept p (pin ∷ pins) rule h (inl f) =
       let q = and_parts (feasible_alone p pin) (list_all (feasible_alone p) pins) h in
-      let least = f.2.3 in
-      (feasible p pin).0 q.0 f.0 f.2.0 f.2.1 f.2.2 least.from least.to least.broken
+      fault_kept p pin rule ((feasible p pin).0 q.0) f
   pins_kept p (pin ∷ pins) rule h (inr g) =
       let q = and_parts (feasible_alone p pin) (list_all (feasible_alone p) pins) h in
       pins_kept p pins rule q.1 g.1
@@ -77,24 +128,71 @@ module _ (unique : VerdictsAreUnique) (pass : TestsSayPass) (feasible : TestsSay
   not_refused j rule is (inr (inl f)) = pins_kept j.problem j.pins rule is.pins f.1
   not_refused j rule is (inr (inr f)) = plan_kept j.problem j.pins j.work rule is.work f.2
 
+  some_job : (s : State) (j : JobValue) (rule : ℕ) → IsState s → option_of s ≡ Some j → IsRefused j rule → ⊥
+  some_job Empty j rule is e r = absurd cc
+  some_job (Loaded k) j rule is e r = let same : k ≡ j = cc in not_refused j rule (subst IsJob same is) r
+
   module _ (law : StopsAreBelowNext) (v : Version) (bytes : List ℕ) where
-    reads : (s : State) → IsSound s → IsStateOf v s → bytes ≡ state_bytes v s → whole_at v bytes ≡ Ok (option_of s)
-    reads Empty is of e = ap (whole_at v) e ∙ empty_again v
-    reads (Loaded j) is of e = ap (whole_at v) e ∙ whole_again law v j is of
-
-    same_state : (s t : State) → option_of s ≡ option_of t → s ≡ t
-    same_state Empty Empty e = refl
-    same_state Empty (Loaded k) e = absurd cc
-    same_state (Loaded j) Empty e = absurd cc
-    same_state (Loaded j) (Loaded k) e = cc
-
-    some_job : (s : State) (j : JobValue) (rule : ℕ) → IsSound s → option_of s ≡ Some j → IsRefused j rule → ⊥
-    some_job Empty j rule is e r = absurd cc
-    some_job (Loaded k) j rule is e r = let same : k ≡ j = cc in not_refused j rule (subst IsJob same is) r
-
-    pub only_this : (r : Result State CodecFault) → IsDecoded v bytes r → (s : State) → IsSound s → IsStateOf v s → bytes ≡ state_bytes v s → IsUnlessMemory s r
-    only_this (Ok t) h s is of e = let both = sym h ∙ reads s is of e in same_state t s cc
-    only_this (Err Truncated) h s is of e = let both = sym h ∙ reads s is of e in absurd cc
-    only_this (Err BadField) h s is of e = let both = sym h ∙ reads s is of e in absurd cc
-    only_this (Err (PlanRefused rule)) h s is of e = let both = sym (reads s is of e) ∙ h.1 in let is-job : option_of s ≡ Some h.0 = cc in absurd (some_job s h.0 rule is is-job h.2)
+    pub only_this : (r : Result State CodecFault) → IsDecoded v bytes r → (s : State) → IsState s → IsStateOf v s → bytes ≡ state_bytes v s → IsUnlessMemory s r
+    only_this (Ok t) h s is of e = let both = sym h ∙ reads law v bytes s is of e in same_state t s cc
+    only_this (Err Truncated) h s is of e = let both = sym h ∙ reads law v bytes s is of e in absurd cc
+    only_this (Err BadField) h s is of e = let both = sym h ∙ reads law v bytes s is of e in absurd cc
+    only_this (Err (PlanRefused rule)) h s is of e = let both = sym (reads law v bytes s is of e) ∙ h.1 in let is-job : option_of s ≡ Some h.0 = cc in absurd (some_job s h.0 rule is is-job h.2)
     only_this (Err OutOfMemory) h s is of e = refl
+
+  -- an answer by the bytes is one by what was read
+  is_decoded : (v : Version) (bytes : List ℕ) (f : CodecFault) → Decodes v bytes (Err f) → IsDecoded v bytes (Err f)
+  is_decoded v bytes Truncated h = h
+  is_decoded v bytes BadField h = h
+  is_decoded v bytes (PlanRefused rule) h = (h.0, h.1, h.4)
+  is_decoded v bytes OutOfMemory h = tt
+
+  pub no_fault : StopsAreBelowNext → StatesHaveNoFault
+  no_fault law v s fault is of h = only_this law v (state_bytes v s) (Err fault) (is_decoded v (state_bytes v s) fault h) s is of refl
+
+  -- ---- one rule is told at most
+
+  one_plan : (p : Instance) (pins routes : List (List ℕ)) (a b : ℕ) → IsPlanRefused p pins routes a → IsPlanRefused p pins routes b → a ≡ b
+  one_plan p pins routes a b x y =
+      let same = unique p (planned routes pins) (Broken a x.0 x.1 x.2) (Broken b y.0 y.1 y.2) x.3 y.3 in
+      cc
+
+  one_alone : (p : Instance) (pin : List ℕ) (a b : ℕ) → IsFaultAlone p pin a → IsFaultAlone p pin b → a ≡ b
+  one_alone p pin a b x y =
+      let m = x.2.3 in
+      let n = y.2.3 in
+      x.1 ∙ least_same (rule_number x.0) (rule_number y.0) (first_no_later (m.least y.0 y.2.0 y.2.1 y.2.2 n.from n.to n.broken)) (first_no_later (n.least x.0 x.2.0 x.2.1 x.2.2 m.from m.to m.broken)) ∙ sym y.1
+
+  one_pin : (p : Instance) (pins : List (List ℕ)) (a b : ℕ) → IsPinRefused p pins a → IsPinRefused p pins b → a ≡ b
+  one_pin p [] a b x y = absurd x
+  one_pin p (pin ∷ pins) a b (inl x) (inl y) = one_alone p pin a b x y
+  one_pin p (pin ∷ pins) a b (inl x) (inr y) = absurd (fault_kept p pin a y.0 x)
+  one_pin p (pin ∷ pins) a b (inr x) (inl y) = absurd (fault_kept p pin b x.0 y)
+  one_pin p (pin ∷ pins) a b (inr x) (inr y) = one_pin p pins a b x.1 y.1
+
+  one_rule : (j : JobValue) (a b : ℕ) → IsRefused j a → IsRefused j b → a ≡ b
+  one_rule j a b (inl x) (inl y) = one_plan j.problem j.pins j.plan a b x y
+  one_rule j a b (inl x) (inr (inl y)) = absurd (plan_kept j.problem j.pins j.plan a y.0 x)
+  one_rule j a b (inl x) (inr (inr y)) = absurd (plan_kept j.problem j.pins j.plan a y.0 x)
+  one_rule j a b (inr (inl x)) (inl y) = absurd (plan_kept j.problem j.pins j.plan b x.0 y)
+  one_rule j a b (inr (inl x)) (inr (inl y)) = one_pin j.problem j.pins a b x.1 y.1
+  one_rule j a b (inr (inl x)) (inr (inr y)) = absurd (pins_kept j.problem j.pins a y.1 x.1)
+  one_rule j a b (inr (inr x)) (inl y) = absurd (plan_kept j.problem j.pins j.plan b x.0 y)
+  one_rule j a b (inr (inr x)) (inr (inl y)) = absurd (pins_kept j.problem j.pins b x.1 y.1)
+  one_rule j a b (inr (inr x)) (inr (inr y)) = one_plan j.problem j.pins j.work a b x.2 y.2
+
+  pub one_fault : FaultsAreOne
+  one_fault v bytes Truncated Truncated le lf h g = refl
+  one_fault v bytes Truncated BadField le lf h g = let both = sym h ∙ g in absurd cc
+  one_fault v bytes Truncated (PlanRefused b) le lf h g = let both = sym h ∙ g.1 in absurd cc
+  one_fault v bytes BadField Truncated le lf h g = let both = sym h ∙ g in absurd cc
+  one_fault v bytes BadField BadField le lf h g = refl
+  one_fault v bytes BadField (PlanRefused b) le lf h g = let both = sym h ∙ g.1 in absurd cc
+  one_fault v bytes (PlanRefused a) Truncated le lf h g = let both = sym h.1 ∙ g in absurd cc
+  one_fault v bytes (PlanRefused a) BadField le lf h g = let both = sym h.1 ∙ g in absurd cc
+  one_fault v bytes (PlanRefused a) (PlanRefused b) le lf h g =
+      let both = sym h.1 ∙ g.1 in
+      let same : h.0 ≡ g.0 = cc in
+      ap (λ r. PlanRefused r) (one_rule g.0 a b (subst (λ j. IsRefused j a) same h.4) g.4)
+  one_fault v bytes OutOfMemory f le lf h g = absurd (le refl)
+  one_fault v bytes e OutOfMemory le lf h g = absurd (lf refl)

@@ -1,11 +1,11 @@
 -- The worked examples compute.
-use Rattle.std.proofs.Common.{◌≡◌, ℕ, refl, List, [], ◌∷◌, ◌++◌, pos}
+use Rattle.std.proofs.Common.{◌≡◌, ℕ, refl, List, [], ◌∷◌, pos}
 use Rattle.std.specs.Prelude.{replicate}
 use Rattle.plan_types.specs.declared.requests.Stop.{Stop}
-use Rattle.plan_types.specs.declared.requests.Kind.TheVariants.{LiLim, Vrp}
-use Rattle.plan_types.specs.declared.requests.Request.TheVariants.{Single, Pair}
+use Rattle.plan_types.specs.declared.requests.Kind.TheVariants.{Vrp}
+use Rattle.plan_types.specs.declared.requests.Request.TheVariants.{Single}
 use Rattle.command_core.specs.Job.{JobValue}
-use Rattle.command_core.specs.declared.states.State.TheVariants.{Empty, Loaded}
+use Rattle.command_core.specs.declared.states.State.TheVariants.{Loaded}
 use Rattle.command_core.specs.declared.commands.Command.TheVariants.{Search}
 use Rattle.state_codec.specs.declared.version.Version.TheVariants.{One, Two}
 use Rattle.state_codec.specs.Bytes.{number_bytes, signed_bytes, state_bytes, record_bytes}

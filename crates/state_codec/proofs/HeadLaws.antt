@@ -1,8 +1,8 @@
 -- What stands before the requests is read as it was written.
-use Rattle.std.proofs.Common.{◌≡◌, ℕ, ◌+◌, ◌^◌, ◌<◌, ◌≤◌, ℤ, pos, Bool, true, false, cond, List, [], ◌∷◌, ◌++◌, Result, Ok, Err, refl, sym, ap, subst, ◌∙◌, append_assoc, arith}
+use Rattle.std.proofs.Common.{◌≡◌, ℕ, ◌+◌, ◌^◌, ◌<◌, ◌≤◌, ℤ, pos, Bool, true, false, cond, List, [], ◌∷◌, ◌++◌, Ok, Err, refl, sym, ap, subst, ◌∙◌, append_assoc, arith}
 use Rattle.std.specs.Prelude.{nat_le, ◌&&◌, ◌==◌}
 use Rattle.std.proofs.lemmas.Bool.{eqb-true}
-use Rattle.plan_types.specs.Limits.{IsCoordinate, IsVisit, IsDepot, IsCapacity, IsFleet}
+use Rattle.plan_types.specs.Limits.{IsCoordinate, IsVisit, IsDepot}
 use Rattle.plan_types.specs.declared.requests.Stop.{Stop}
 use Rattle.plan_types.specs.declared.requests.Kind.{Kind}
 use Rattle.plan_types.specs.declared.requests.Kind.TheVariants.{LiLim, Vrp}
@@ -12,10 +12,10 @@ use Rattle.state_codec.specs.declared.version.Version.TheVariants.{One, Two}
 use Rattle.state_codec.specs.declared.fault.CodecFault.TheVariants.{BadField}
 use Rattle.state_codec.specs.Bytes.{number_bytes, signed_bytes, count_bytes, kind_code, depot_bytes, deviation_bytes, width}
 use Rattle.state_codec.specs.Limits.{most}
-use Rattle.state_codec.specs.Fields.{◌>>=◌, Field, only, byte_at, number_at, signed_at, is_coordinate, is_time}
+use Rattle.state_codec.specs.Fields.{only, byte_at, number_at, signed_at, is_coordinate, is_time}
 use Rattle.state_codec.specs.Reading.{kind_at, is_steps, is_capacity, is_fleet, is_next, is_deviation, depot_at, allowance_at, head_at}
 use Rattle.state_codec.specs.Parts.{IsHead}
-use Rattle.state_codec.proofs.FieldLaws.{IsBytes, Takes, takes_then, step, bind_ok, ok_is, number_takes, number_again, signed_again, small, of_4, of_8, of_width, only_again}
+use Rattle.state_codec.proofs.FieldLaws.{IsBytes, Takes, takes_then, step, ok_is, number_takes, number_again, signed_again, small, of_4, of_8, of_width, only_again}
 use Rattle.state_codec.proofs.RequestLaws.{and_parts, parts_and, le_is, is_le, number_only, coordinate_takes, is_coordinate-holds, byte_takes}
 
 -- ---- the kind

@@ -1,5 +1,5 @@
 -- A state that is read is the one that was written.
-use Rattle.std.proofs.Common.{◌≡◌, ℕ, zero, suc, ◌+◌, ◌^◌, ◌<◌, ◌≤◌, Bool, true, false, cond, eqb, List, [], ◌∷◌, ◌++◌, length, Option, Some, None, Result, Ok, Err, refl, sym, ap, subst, ◌∙◌, append_assoc, arith, length-append}
+use Rattle.std.proofs.Common.{◌≡◌, ℕ, ◌^◌, ◌<◌, ◌≤◌, Bool, true, false, cond, List, [], ◌∷◌, ◌++◌, length, Option, Some, None, Ok, Err, refl, sym, ap, subst, ◌∙◌, append_assoc, arith, length-append}
 use Rattle.std.specs.Prelude.{◌==◌}
 use Rattle.std.proofs.lemmas.Bool.{eqb-true}
 use Rattle.std.proofs.lemmas.List.{append-nil, nil_from_length}
@@ -11,10 +11,10 @@ use Rattle.state_codec.specs.declared.head.Head.{Head}
 use Rattle.state_codec.specs.declared.version.Version.{Version}
 use Rattle.state_codec.specs.declared.version.Version.TheVariants.{One, Two}
 use Rattle.state_codec.specs.declared.fault.CodecFault.TheVariants.{BadField}
-use Rattle.state_codec.specs.Bytes.{number_bytes, count_bytes, kind_code, depot_bytes, deviation_bytes, width, request_bytes, requests_bytes, vehicles_bytes, routes_bytes, work_bytes, head_bytes, job_bytes}
-use Rattle.state_codec.specs.Limits.{most, IsJobOf}
-use Rattle.state_codec.specs.Fields.{◌>>=◌, Field, byte_at, number_at}
-use Rattle.state_codec.specs.Reading.{times, request_at, next_request, next_vehicle, next_route, work_at, head_at, problem_from, problem_at, job_at, state_at, whole_at}
+use Rattle.state_codec.specs.Bytes.{number_bytes, count_bytes, kind_code, depot_bytes, deviation_bytes, width, request_bytes, requests_bytes, vehicles_bytes, work_bytes, job_bytes}
+use Rattle.state_codec.specs.Limits.{IsJobOf}
+use Rattle.state_codec.specs.Fields.{◌>>=◌, byte_at, number_at}
+use Rattle.state_codec.specs.Reading.{times, request_at, next_request, next_vehicle, work_at, head_at, problem_from, problem_at, job_at, state_at, whole_at}
 use Rattle.state_codec.proofs.FieldLaws.{IsBytes, Takes, takes_then, step, bind_ok, ok_is, number_takes, of_width}
 use Rattle.state_codec.proofs.RequestLaws.{request_takes, byte_takes}
 use Rattle.state_codec.proofs.TimesLaws.{Adds, times_take, flat_map_one}

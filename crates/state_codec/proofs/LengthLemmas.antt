@@ -1,19 +1,16 @@
 -- The lengths of encodings.
-use Rattle.std.proofs.Common.{◌≡◌, ℕ, ◌+◌, ◌*◌, ◌<◌, ◌≤◌, List, [], ◌∷◌, ◌++◌, length, refl, sym, ap, ◌∙◌, arith, length-append}
+use Rattle.std.proofs.Common.{◌≡◌, ℕ, ◌+◌, ◌*◌, List, [], ◌∷◌, ◌++◌, length, refl, arith, length-append}
 use Rattle.std.specs.List.{concat}
 use Rattle.plan_types.specs.Laws.{StopsAreBelowNext}
 use Rattle.plan_types.specs.Instance.{numbers_among}
 use Rattle.plan_types.specs.declared.requests.Stop.{Stop}
-use Rattle.plan_types.specs.declared.requests.Kind.{Kind}
 use Rattle.plan_types.specs.declared.requests.Request.{Request}
 use Rattle.plan_types.specs.declared.requests.Request.TheVariants.{Single, Pair}
-use Rattle.command_core.specs.Job.{JobValue, IsJob}
-use Rattle.command_core.specs.declared.states.State.{State}
+use Rattle.command_core.specs.Job.{JobValue}
 use Rattle.command_core.specs.declared.states.State.TheVariants.{Empty, Loaded}
 use Rattle.state_codec.specs.declared.version.Version.TheVariants.{Two}
-use Rattle.state_codec.specs.Bytes.{number_bytes, signed_bytes, stop_bytes, requests_bytes, stops_bytes, vehicles_bytes, routes_bytes, head_bytes, job_bytes, state_bytes}
-use Rattle.state_codec.specs.Sizes.{StatesAreShort}
-use Rattle.state_codec.specs.Lengths.{state_len, EncodingsFit}
+use Rattle.state_codec.specs.Bytes.{number_bytes, signed_bytes, stop_bytes, requests_bytes, stops_bytes, vehicles_bytes, routes_bytes, head_bytes}
+use Rattle.state_codec.specs.Lengths.{EncodingsFit}
 use Rattle.state_codec.proofs.SizeLemmas.{sizes, few_numbers, requests_below}
 
 len_stop : (s : Stop) → length (stop_bytes Two s) ≡ 28
@@ -66,7 +63,3 @@ encodings_fit law (Loaded j) is =
       omega (arith, len_head j, len_count (length j.problem.requests), len_requests j.problem.requests, len_vehicles j.pins j.plan s.same, len_routes j.work, length-append (head_bytes Two j) (count ++ (requests ++ (vehicles ++ routes))), length-append count (requests ++ (vehicles ++ routes)), length-append requests (vehicles ++ routes), length-append vehicles routes),
       omega (arith, few_numbers j.problem is.problem, requests_below j.problem is.problem, s.plan.total, s.work.total, s.plan.fleet, s.work.fleet, is.problem.fleet.1, is.problem.next_to_most),
     )
-
--- the bound alone, of a job
-pub short : StopsAreBelowNext → StatesAreShort
-short law j is = let h = encodings_fit law (Loaded j) is in omega (arith, h.0, h.1)

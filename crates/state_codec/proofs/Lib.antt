@@ -13,7 +13,10 @@ pub mod SizeLemmas
 pub mod HeadLaws
 pub mod JobLaws
 pub mod PinLemmas
-pub mod PlainLaws
+pub mod GrowLaws
 pub mod DecodeLemmas
 pub mod AgainLaws
 pub mod LengthLemmas
+pub mod ChoiceLemmas
+pub mod ProblemLaws
+pub mod AnswerLaws

@@ -1,5 +1,5 @@
 -- The first pin that is refused.
-use Rattle.std.proofs.Common.{◌≡◌, ◌⊎◌, ℕ, zero, suc, ◌+◌, ◌<◌, Bool, true, List, [], ◌∷◌, length, get_or, take, drop, refl, sym, ap, subst, ◌∙◌, arith, inl, inr}
+use Rattle.std.proofs.Common.{◌≡◌, ℕ, zero, suc, ◌+◌, ◌<◌, true, List, [], ◌∷◌, length, get_or, take, drop, refl, subst, ◌∙◌, arith, inl, inr}
 use Rattle.std.specs.List.{list_all}
 use Rattle.std.proofs.lemmas.List.Folds.{list_all_more}
 use Rattle.plan_types.specs.Instance.{Instance}

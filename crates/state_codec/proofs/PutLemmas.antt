@@ -1,12 +1,11 @@
 -- A request that was read goes behind those before it.
-use Rattle.std.proofs.Common.{◌≡◌, ℕ, ◌+◌, ◌<◌, ◌≤◌, Bool, true, false, List, [], ◌∷◌, ◌++◌, Option, Some, None, refl, sym, ap, subst, ◌∙◌, arith, nat_lt, filter, cond, inl, inr, ◌⊎◌}
-use Rattle.std.specs.Prelude.{IsSome, not, is_some, ◌&&◌}
-use Rattle.std.specs.List.{list_all, AllByRecursion, flat_map}
-use Rattle.plan_types.specs.Request.{request_name, stops_of, stop_in}
-use Rattle.plan_types.specs.Instance.{Instance, IsTaken, stop_at, first_some, lesser_names, greater_names, with_entry, with_request, numbers_among, stops_among}
+use Rattle.std.proofs.Common.{◌≡◌, ℕ, ◌<◌, true, false, List, [], ◌∷◌, ◌++◌, Option, Some, None, refl, sym, ap, subst, arith, nat_lt, inl, inr}
+use Rattle.std.specs.Prelude.{IsSome, not, is_some}
+use Rattle.std.specs.List.{list_all, AllByRecursion}
+use Rattle.plan_types.specs.Request.{request_name, stops_of}
+use Rattle.plan_types.specs.Instance.{Instance, IsTaken, stop_at, lesser_names, greater_names, with_entry, with_request, numbers_among}
 use Rattle.plan_types.specs.declared.requests.Request.{Request}
 use Rattle.plan_types.specs.declared.requests.Request.TheVariants.{Single, Pair}
-use Rattle.state_codec.specs.Reading.{is_free}
 use Rattle.state_codec.specs.Filled.{IsFilled}
 use Rattle.state_codec.proofs.RequestLaws.{IsNew, and_parts}
 

@@ -1,16 +1,15 @@
 -- The pins and routes that are read are those that were written.
-use Rattle.std.proofs.Common.{true, ◌≡◌, ℕ, zero, suc, ◌+◌, ◌^◌, ◌<◌, ◌≤◌, List, [], ◌∷◌, ◌++◌, length, take, Result, Ok, Err, refl, sym, ap, subst, ◌∙◌, append_assoc, arith, length-append, length-take}
+use Rattle.std.proofs.Common.{true, ◌≡◌, ℕ, zero, suc, ◌+◌, ◌^◌, ◌<◌, ◌≤◌, List, [], ◌∷◌, ◌++◌, length, take, Ok, refl, sym, ap, subst, ◌∙◌, append_assoc, arith, length-append, length-take}
 use Rattle.std.specs.Prelude.{nat_le}
-use Rattle.std.specs.List.{flat_map, AllByRecursion}
+use Rattle.std.specs.List.{AllByRecursion}
 use Rattle.std.proofs.lemmas.List.{append-nil}
 use Rattle.state_codec.specs.declared.version.Version.{Version}
-use Rattle.state_codec.specs.declared.version.Version.TheVariants.{One, Two}
-use Rattle.state_codec.specs.Bytes.{number_bytes, count_bytes, width, stops_bytes, vehicles_bytes, routes_bytes}
-use Rattle.state_codec.specs.Fields.{◌>>=◌, Field, only, number_at}
+use Rattle.state_codec.specs.Bytes.{count_bytes, width, stops_bytes, vehicles_bytes, routes_bytes}
+use Rattle.state_codec.specs.Fields.{only, number_at}
 use Rattle.state_codec.specs.Reading.{times, next_stop, vehicle_at, next_vehicle, route_at, next_route}
 use Rattle.state_codec.proofs.FieldLaws.{IsBytes, Takes, takes_then, step, bind_ok, ok_is, number_takes, number_again, of_width, only_again, only_ok}
 use Rattle.state_codec.proofs.RequestLaws.{number_only, le_is, is_le}
-use Rattle.state_codec.proofs.TimesLaws.{Adds, times_take, AreNext, times_again, added, added_behind, flat_map_one}
+use Rattle.state_codec.proofs.TimesLaws.{Adds, times_take, AreNext, times_again, added_behind, flat_map_one}
 
 -- ---- stops
 

@@ -1,11 +1,11 @@
 -- How long the lists of a state can be.
-use Rattle.std.proofs.Common.{◌≡◌, ℕ, zero, suc, ◌+◌, ◌*◌, ◌<◌, ◌≤◌, Bool, true, false, List, [], ◌∷◌, ◌++◌, length, take, All, Option, Some, None, refl, sym, ap, subst, ◌∙◌, arith, eqb, cond, length-append, length-take}
+use Rattle.std.proofs.Common.{◌≡◌, ℕ, zero, suc, ◌<◌, ◌≤◌, Bool, true, false, List, [], ◌∷◌, ◌++◌, length, take, All, Option, Some, None, refl, sym, ap, subst, ◌∙◌, arith, eqb, length-append, length-take}
 use Rattle.std.specs.Prelude.{IsSome, not, is_some, ◌&&◌, ◌||◌, ◌==◌, ◌^◌}
-use Rattle.std.specs.List.{list_all, list_any, AllByRecursion, IsDistinct, concat, starts_with, flat_map}
+use Rattle.std.specs.List.{list_all, list_any, AllByRecursion, IsDistinct, concat, starts_with}
 use Rattle.std.proofs.lemmas.List.Elements.{All-from_recursion}
 use Rattle.std.proofs.lemmas.Map.Steps.{length-le_from_distinct_below}
 use Rattle.std.proofs.lemmas.Bool.{eqb-true}
-use Rattle.plan_types.specs.Request.{IsRequest, stop_in, stops_of}
+use Rattle.plan_types.specs.Request.{IsRequest, stop_in}
 use Rattle.plan_types.specs.Instance.{Instance, IsInstance, stop_at, first_some, numbers_among}
 use Rattle.plan_types.specs.Laws.{StopsAreBelowNext}
 use Rattle.plan_types.specs.declared.requests.Request.{Request}

@@ -1,8 +1,8 @@
 -- What is read so many times.
-use Rattle.std.proofs.Common.{◌≡◌, ℕ, zero, suc, ◌+◌, ◌<◌, ◌≤◌, List, [], ◌∷◌, ◌++◌, length, Result, Ok, Err, refl, sym, ap, subst, ◌∙◌, append_assoc, arith}
+use Rattle.std.proofs.Common.{◌≡◌, ℕ, zero, suc, ◌+◌, List, [], ◌∷◌, ◌++◌, length, Ok, refl, sym, ap, subst, ◌∙◌, append_assoc, arith}
 use Rattle.std.specs.List.{flat_map}
 use Rattle.std.proofs.lemmas.List.{append-nil}
-use Rattle.state_codec.specs.Fields.{◌>>=◌, Field}
+use Rattle.state_codec.specs.Fields.{Field}
 use Rattle.state_codec.specs.Reading.{times}
 use Rattle.state_codec.proofs.FieldLaws.{IsBytes, Takes, takes_then, bind_ok, ok_is}
 

@@ -1,5 +1,5 @@
 -- The bytes of a state and of a record, field by field. Numbers are big endian, signed ones in two's complement.
-use Rattle.std.specs.Prelude.{ℕ, ◌-◌, ◌-ℤ◌, pos, ℤ, List, [], ◌∷◌, ◌++◌, length, replicate}
+use Rattle.std.specs.Prelude.{ℕ, ◌-◌, ℤ, List, [], ◌∷◌, ◌++◌, length, replicate}
 use Rattle.std.specs.List.{flat_map}
 use Rattle.std.specs.Int.{w32, cast_unsigned}
 use Rattle.byteorder.specs.Endian.{big_bytes}

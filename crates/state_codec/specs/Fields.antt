@@ -1,6 +1,6 @@
 -- Reading a field from the front of bytes: its value and the bytes behind it, or the fault. Bytes that end before or inside the
 -- field are `Truncated`; a value that the field's rule refuses is `BadField`.
-use Rattle.std.specs.Prelude.{◌≡◌, ℕ, zero, suc, ℤ, pos, negsuc, Bool, ◌&&◌, nat_lt, nat_le, int_lt, int_le, List, [], ◌∷◌, ◌++◌, length, drop, Result, Ok, Err, if◌then◌else◌}
+use Rattle.std.specs.Prelude.{◌≡◌, ℕ, ℤ, pos, negsuc, Bool, ◌&&◌, nat_lt, nat_le, int_le, List, [], ◌∷◌, length, drop, Result, Ok, Err, if◌then◌else◌}
 use Rattle.std.specs.Int.{w32, cast_signed}
 use Rattle.byteorder.specs.Endian.{big_number}
 use Rattle.state_codec.specs.declared.fault.CodecFault.{CodecFault}

@@ -1,7 +1,7 @@
 -- A problem that requests are put into.
 use Rattle.std.specs.Prelude.{◌≡◌, ℕ, ◌<◌}
 use Rattle.std.specs.List.{AllByRecursion}
-use Rattle.plan_types.specs.Instance.{Instance, IsInstance, numbers_among}
+use Rattle.plan_types.specs.Instance.{Instance, numbers_among}
 
 -- all but its requests and `next_number` is as before, and each number is below `next`
 pub record IsFilled (before : Instance) (next : ℕ) (after : Instance) : Type 0 where

@@ -1,10 +1,10 @@
 -- what public contracts reach
 pub mod Bytes
 pub mod Fields
+pub mod Laws
 pub mod Lengths
 pub mod Limits
 pub mod Reading
-pub mod Sizes
 pub mod Refused
 -- of private functions alone
 pub mod Filled

@@ -1,5 +1,5 @@
 -- What has bytes in each version.
-use Rattle.std.specs.Prelude.{◌≡◌, ℕ, ◌<◌, ◌≤◌, ◌^◌, ◌*◌, ◌+◌}
+use Rattle.std.specs.Prelude.{◌≡◌, ℕ, ◌<◌, ◌≤◌, ◌^◌, ◌+◌}
 use Rattle.plan_types.specs.Limits.{IsCoordinate}
 use Rattle.command_core.specs.Job.{JobValue}
 use Rattle.command_core.specs.declared.states.State.{State}

@@ -1,6 +1,5 @@
 -- The parts of a state that were read and not judged yet.
-use Rattle.std.specs.Prelude.{◌≡◌, ℕ, ◌<◌, ◌≤◌, ◌^◌, List, length, Option}
-use Rattle.std.specs.Option.{option_map}
+use Rattle.std.specs.Prelude.{◌≡◌, ◌<◌, ◌≤◌, ◌^◌, length}
 use Rattle.plan_types.specs.Limits.{IsDepot, IsCapacity, IsFleet}
 use Rattle.command_core.specs.Job.{JobValue}
 use Rattle.state_codec.specs.declared.head.Head.{Head}

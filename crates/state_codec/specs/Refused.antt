@@ -6,7 +6,7 @@ use Rattle.plan_audit.specs.Alone.{IsFeasibleAlone, IsFaultAlone}
 use Rattle.plan_audit.specs.Passes.{feasible_alone, passes}
 use Rattle.plan_audit.specs.Verdict.{planned, IsVerdict}
 use Rattle.plan_audit.specs.declared.rules.Verdict.TheVariants.{Broken}
-use Rattle.command_core.specs.Job.{JobValue, IsJob}
+use Rattle.command_core.specs.Job.{JobValue}
 use Rattle.command_core.specs.declared.states.State.{State}
 use Rattle.command_core.specs.declared.states.State.TheVariants.{Empty, Loaded}
 use Rattle.state_codec.specs.declared.version.Version.{Version}
@@ -32,11 +32,6 @@ IsRefused j rule =
     IsPlanRefused j.problem j.pins j.plan rule
     ⊎ (((passes j.problem j.pins j.plan ≡ true) × IsPinRefused j.problem j.pins rule)
     ⊎ ((passes j.problem j.pins j.plan ≡ true) × (list_all (feasible_alone j.problem) j.pins ≡ true) × IsPlanRefused j.problem j.pins j.work rule))
-
--- a state that keeps its facts
-abbrev pub IsSound : State → Type 0
-IsSound Empty = Unit {0}
-IsSound (Loaded j) = IsJob j
 
 -- What is decoded is encoded by these bytes. A fault of the bytes is the first in reading order; a rule is told of bytes that were read
 -- whole, and that are those of a state but for the rule.

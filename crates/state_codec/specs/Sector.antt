@@ -1,5 +1,5 @@
 -- What is written of a sector.
-use Rattle.std.specs.Prelude.{◌≡◌, ◌≤◌, ℕ, List, take, length}
+use Rattle.std.specs.Prelude.{◌≡◌, ◌≤◌, ℕ, List, take}
 use Rattle.state_codec.specs.Bytes.{padded}
 use Rattle.state_codec.specs.declared.sector.Sector.TheInside.{Inside}
 

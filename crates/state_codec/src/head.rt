@@ -70,7 +70,8 @@ fn capacity_at(bytes: &[u8]) -> Result<(u32, &[u8]), CodecFault>
 }
 
 fn fleet_at(version: Version, bytes: &[u8]) -> Result<(u32, &[u8]), CodecFault>
-    ensures { Reads (λ x. (x.0, x.1.now)) result (only (is_fleet version) (number_at (width version) bytes.now)) }
+    ensures { Reads (λ x. (x.0, x.1.now)) result
+        (only (is_fleet version) (number_at (width version) bytes.now)) }
 {
     let (fleet, rest) = number_at(version, bytes)?;
     if fleet < 1 || most(version) < fleet {
@@ -80,7 +81,8 @@ fn fleet_at(version: Version, bytes: &[u8]) -> Result<(u32, &[u8]), CodecFault>
 }
 
 fn next_number_at(version: Version, bytes: &[u8]) -> Result<(u32, &[u8]), CodecFault>
-    ensures { Reads (λ x. (x.0, x.1.now)) result (only (is_next version) (number_at (width version) bytes.now)) }
+    ensures { Reads (λ x. (x.0, x.1.now)) result
+        (only (is_next version) (number_at (width version) bytes.now)) }
 {
     let (next, rest) = number_at(version, bytes)?;
     if next < 1 || most(version) + 1 < next {

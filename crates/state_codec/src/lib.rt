@@ -11,15 +11,15 @@ mod records;
 mod requests;
 mod routes;
 mod sector;
-mod sizes;
 mod states;
 pub mod version;
 mod writing;
 
 pub use fault::CodecFault;
-pub use laws::encodings_fit;
+pub use laws::{
+    bytes_have_one_answer, encodings_fit, encodings_tell_values_apart, faults_go_by_encodings,
+};
 pub use records::{decode_record, decode_record_v1, encode_record};
-pub use sizes::states_are_short;
 pub use states::{decode_state, decode_state_v1};
 pub use writing::encode_state;
 

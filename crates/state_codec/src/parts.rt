@@ -28,7 +28,8 @@ pub(crate) struct Parts {
 
 fn empty_problem(alloc: Global, head: &Head) -> Result<Problem, CodecFault>
     requires { IsHead head.now }
-    ensures ok { IfOk result (λ p. p ≡ new_instance head.now.kind head.now.depot head.now.capacity head.now.fleet) }
+    ensures ok { IfOk result (λ p. p
+        ≡ new_instance head.now.kind head.now.depot head.now.capacity head.now.fleet) }
     ensures is_ok { IsOk result }
 {
     match Problem::new(alloc, head.kind, head.depot, head.capacity, head.fleet) {

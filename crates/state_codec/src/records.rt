@@ -29,21 +29,27 @@ pub fn encode_record(sequence: u64, index: u32, command: &Command) -> [u8; 512]
 
 /// The command whose record of this sequence and index the sector is, if it is one. Takes no memory.
 pub fn decode_record(sector: &[u8; 512], sequence: u64, index: u32) -> Option<Command>
-    ensures { MatchOption result ((c : Command) → IsRecorded Two c → sector.now ≢ record_bytes Two sequence index c) (λ c. IsRecorded Two c × (sector.now ≡ record_bytes Two sequence index c)) }
+    ensures { MatchOption result ((c : Command) → IsRecorded Two c
+        → sector.now ≢ record_bytes Two sequence index c)
+        (λ c. IsRecorded Two c × (sector.now ≡ record_bytes Two sequence index c)) }
 {
     decode(Version::Two, sector, sequence, index)
 }
 
 /// The same for the records of version 1, which have no deviation and shorter numbers. Takes no memory.
 pub fn decode_record_v1(sector: &[u8; 512], sequence: u64, index: u32) -> Option<Command>
-    ensures { MatchOption result ((c : Command) → IsRecorded One c → sector.now ≢ record_bytes One sequence index c) (λ c. IsRecorded One c × (sector.now ≡ record_bytes One sequence index c)) }
+    ensures { MatchOption result ((c : Command) → IsRecorded One c
+        → sector.now ≢ record_bytes One sequence index c)
+        (λ c. IsRecorded One c × (sector.now ≡ record_bytes One sequence index c)) }
 {
     decode(Version::One, sector, sequence, index)
 }
 
 // What is read from the sector is its command where its record is the sector.
 fn decode(version: Version, sector: &[u8; 512], sequence: u64, index: u32) -> Option<Command>
-    ensures { MatchOption result ((c : Command) → IsRecorded version c → sector.now ≢ record_bytes version sequence index c) (λ c. IsRecorded version c × (sector.now ≡ record_bytes version sequence index c)) }
+    ensures { MatchOption result ((c : Command) → IsRecorded version c
+        → sector.now ≢ record_bytes version sequence index c)
+        (λ c. IsRecorded version c × (sector.now ≡ record_bytes version sequence index c)) }
 {
     let (command, _rest) = match command_at(version, &sector[12..]) {
         Ok(read) => read,

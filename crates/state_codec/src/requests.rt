@@ -65,7 +65,8 @@ fn demand_at(wanted: Option<i32>, bytes: &[u8]) -> Result<(i32, &[u8]), CodecFau
 
 /// When a window that began then ends.
 pub(crate) fn end_at(earliest: u32, bytes: &[u8]) -> Result<(u32, &[u8]), CodecFault>
-    ensures { Reads (λ x. (x.0, x.1.now)) result (only (λ t. nat_le earliest t && is_time t) (number_at 4 bytes.now)) }
+    ensures { Reads (λ x. (x.0, x.1.now)) result
+        (only (λ t. nat_le earliest t && is_time t) (number_at 4 bytes.now)) }
 {
     let (latest, rest) = u32_at(bytes)?;
     if latest < earliest || MAX_TIME < latest {
@@ -133,7 +134,8 @@ fn name_at<'a>(
     next: u32,
     bytes: &'a [u8],
 ) -> Result<(u32, &'a [u8]), CodecFault>
-    ensures { Reads (λ x. (x.0, x.1.now)) result (only (is_name next problem.now.requests) (number_at (width version) bytes.now)) }
+    ensures { Reads (λ x. (x.0, x.1.now)) result
+        (only (is_name next problem.now.requests) (number_at (width version) bytes.now)) }
 {
     let (number, rest) = number_at(version, bytes)?;
     if !is_name(problem, next, number) {
@@ -149,7 +151,8 @@ fn first_at<'a>(
     next: u32,
     bytes: &'a [u8],
 ) -> Result<(Stop, &'a [u8]), CodecFault>
-    ensures { Reads (λ x. (x.0, x.1.now)) result (first_at version next problem.now.requests bytes.now) }
+    ensures { Reads (λ x. (x.0, x.1.now)) result
+        (first_at version next problem.now.requests bytes.now) }
 {
     let (number, rest) = name_at(version, problem, next, bytes)?;
     visit_at(number, None, rest)
@@ -162,7 +165,9 @@ fn delivered_at<'a>(
     pickup: u32,
     bytes: &'a [u8],
 ) -> Result<(u32, &'a [u8]), CodecFault>
-    ensures { Reads (λ x. (x.0, x.1.now)) result (only (is_delivery next problem.now.requests pickup) (number_at (width version) bytes.now)) }
+    ensures { Reads (λ x. (x.0, x.1.now)) result
+        (only (is_delivery next problem.now.requests pickup)
+        (number_at (width version) bytes.now)) }
 {
     let (number, rest) = number_at(version, bytes)?;
     if !is_delivery(problem, next, pickup, number) {
@@ -180,7 +185,8 @@ fn delivery_at<'a>(
     bytes: &'a [u8],
 ) -> Result<(Stop, &'a [u8]), CodecFault>
     requires { IsDemand pickup.now.demand }
-    ensures { Reads (λ x. (x.0, x.1.now)) result (delivery_at version next problem.now.requests pickup.now bytes.now) }
+    ensures { Reads (λ x. (x.0, x.1.now)) result
+        (delivery_at version next problem.now.requests pickup.now bytes.now) }
 {
     let (number, rest) = delivered_at(version, problem, next, pickup.number, bytes)?;
     visit_at(number, Some(-pickup.demand), rest)
@@ -193,7 +199,8 @@ fn single_at<'a>(
     next: u32,
     bytes: &'a [u8],
 ) -> Result<(Request, &'a [u8]), CodecFault>
-    ensures { Reads (λ x. (x.0, x.1.now)) result (single_at version next problem.now.requests bytes.now) }
+    ensures { Reads (λ x. (x.0, x.1.now)) result
+        (single_at version next problem.now.requests bytes.now) }
 {
     let (stop, rest) = first_at(version, problem, next, bytes)?;
     Ok((Request::Single(stop), rest))
@@ -206,7 +213,8 @@ fn pair_at<'a>(
     next: u32,
     bytes: &'a [u8],
 ) -> Result<(Request, &'a [u8]), CodecFault>
-    ensures { Reads (λ x. (x.0, x.1.now)) result (pair_at version next problem.now.requests bytes.now) }
+    ensures { Reads (λ x. (x.0, x.1.now)) result
+        (pair_at version next problem.now.requests bytes.now) }
 {
     let (pickup, rest) = first_at(version, problem, next, bytes)?;
     let (delivery, rest) = delivery_at(version, problem, next, &pickup, rest)?;
@@ -220,7 +228,8 @@ fn request_at<'a>(
     next: u32,
     bytes: &'a [u8],
 ) -> Result<(Request, &'a [u8]), CodecFault>
-    ensures { Reads (λ x. (x.0, x.1.now)) result (request_at version next problem.now.requests bytes.now) }
+    ensures { Reads (λ x. (x.0, x.1.now)) result
+        (request_at version next problem.now.requests bytes.now) }
 {
     let (form, rest) = u8_at(bytes)?;
     match form {
@@ -255,7 +264,8 @@ pub(crate) fn requests_at<'a>(
 ) -> Result<(Problem, &'a [u8]), CodecFault>
     requires empty { problem.requests ≡ [] }
     requires next { next ≤ 40001 }
-    ensures read { Gives (λ x. (x.0.requests, x.1.now)) result (times (next_request version next) count [] bytes.now) }
+    ensures read { Gives (λ x. (x.0.requests, x.1.now)) result
+        (times (next_request version next) count [] bytes.now) }
     ensures problem { IfOk result (λ x. IsFilled problem next x.0) }
 {
     let mut problem = problem;

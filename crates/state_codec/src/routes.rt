@@ -17,7 +17,8 @@ fn stops_at(
     count: u32,
     bytes: &[u8],
 ) -> Result<(Vec<u32>, &[u8]), CodecFault>
-    ensures { Gives (λ x. (x.0.items, x.1.now)) result (times (next_stop version) count [] bytes.now) }
+    ensures { Gives (λ x. (x.0.items, x.1.now)) result
+        (times (next_stop version) count [] bytes.now) }
 {
     let mut stops = Vec::new(alloc);
     let mut rest = bytes;
@@ -31,7 +32,8 @@ fn stops_at(
 
 // A length that is no less than that of the pin.
 fn route_len_at(version: Version, pin: u32, bytes: &[u8]) -> Result<(u32, &[u8]), CodecFault>
-    ensures { Reads (λ x. (x.0, x.1.now)) result (only (nat_le pin) (number_at (width version) bytes.now)) }
+    ensures { Reads (λ x. (x.0, x.1.now)) result
+        (only (nat_le pin) (number_at (width version) bytes.now)) }
 {
     let (len, rest) = number_at(version, bytes)?;
     if len < pin {
@@ -80,7 +82,8 @@ pub(crate) fn vehicles_at(
     count: u32,
     bytes: &[u8],
 ) -> Result<((Vec<Route>, Vec<Route>), &[u8]), CodecFault>
-    ensures { Gives (λ x. ((x.0.0.items, x.0.1.items), x.1.now)) result (times (next_vehicle version) count ([], []) bytes.now) }
+    ensures { Gives (λ x. ((x.0.0.items, x.0.1.items), x.1.now)) result
+        (times (next_vehicle version) count ([], []) bytes.now) }
 {
     let mut pins = Vec::new(alloc);
     let mut routes = Vec::new(alloc);
@@ -101,7 +104,8 @@ pub(crate) fn routes_at(
     count: u32,
     bytes: &[u8],
 ) -> Result<(Vec<Route>, &[u8]), CodecFault>
-    ensures { Gives (λ x. (x.0.items, x.1.now)) result (times (next_route version) count [] bytes.now) }
+    ensures { Gives (λ x. (x.0.items, x.1.now)) result
+        (times (next_route version) count [] bytes.now) }
 {
     let mut routes = Vec::new(alloc);
     let mut rest = bytes;

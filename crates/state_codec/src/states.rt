@@ -1,9 +1,10 @@
 //! States from bytes.
 ghost use Rattle.std.specs.Prelude.{◌≡◌, IfOk, IfErr};
+ghost use Rattle.command_core.specs.Runs.{IsState};
 ghost use Rattle.command_core.specs.declared.states.State.{State};
 ghost use Rattle.state_codec.specs.declared.version.Version.TheVariants.{One, Two};
 ghost use Rattle.state_codec.specs.Parts.{job_in, IsWithin};
-ghost use Rattle.state_codec.specs.Refused.{Decodes, IsDecoded, IsRefused, IsSound, IsUnlessMemory, Tells};
+ghost use Rattle.state_codec.specs.Refused.{Decodes, IsDecoded, IsRefused, IsUnlessMemory, Tells};
 ghost use Rattle.state_codec.specs.Bytes.{state_bytes};
 ghost use Rattle.state_codec.specs.Limits.{IsStateOf};
 
@@ -43,7 +44,8 @@ fn judged(alloc: Global, parts: Parts) -> Result<Job, CodecFault>
 /// `PlanRefused` with the rule that the plan breaks, or the first pin alone, or the working plan. `OutOfMemory` at any time.
 pub fn decode_state(alloc: Global, bytes: &[u8]) -> Result<State, CodecFault>
     ensures decodes { Decodes Two bytes.now result }
-    ensures only { (state : State) → IsSound state → IsStateOf Two state → bytes.now ≡ state_bytes Two state → IsUnlessMemory state result }
+    ensures only { (state : State) → IsState state → IsStateOf Two state
+        → bytes.now ≡ state_bytes Two state → IsUnlessMemory state result }
 {
     numbers_are_below_the_next();
     verdicts_are_unique();
@@ -56,7 +58,8 @@ pub fn decode_state(alloc: Global, bytes: &[u8]) -> Result<State, CodecFault>
 /// working plan.
 pub fn decode_state_v1(alloc: Global, bytes: &[u8]) -> Result<State, CodecFault>
     ensures decodes { Decodes One bytes.now result }
-    ensures only { (state : State) → IsSound state → IsStateOf One state → bytes.now ≡ state_bytes One state → IsUnlessMemory state result }
+    ensures only { (state : State) → IsState state → IsStateOf One state
+        → bytes.now ≡ state_bytes One state → IsUnlessMemory state result }
 {
     numbers_are_below_the_next();
     verdicts_are_unique();

@@ -19,6 +19,15 @@ const LOADED_V1: [u8; 75] = [
     0, 0, 5, 245, 225, 0, 0, 0, 0, 0, 0, 0, 0, 0,
 ];
 
+// A pair of the same goods, planned, with the pickup pinned.
+const PINNED: [u8; 139] = [
+    1, 2, 0, 0, 0, 0, 0, 0, 0, 0, 0, 0, 0, 0, 0, 0, 0, 0, 0, 0, 0, 10, 0, 0, 0, 1, 0, 0, 0, 3, 0,
+    0, 0, 0, 0, 0, 0, 0, 0, 0, 0, 0, 5, 245, 225, 0, 0, 0, 0, 0, 0, 0, 0, 1, 2, 0, 0, 0, 1, 0, 0,
+    0, 3, 0, 0, 0, 4, 0, 0, 0, 6, 0, 0, 0, 0, 5, 245, 225, 0, 0, 0, 0, 0, 0, 0, 0, 2, 0, 0, 0, 0,
+    0, 0, 0, 4, 255, 255, 255, 250, 0, 0, 0, 0, 5, 245, 225, 0, 0, 0, 0, 0, 0, 0, 0, 1, 0, 0, 0, 2,
+    0, 0, 0, 1, 0, 0, 0, 2, 0, 0, 0, 2, 0, 0, 0, 1, 0, 0, 0, 2,
+];
+
 #[test]
 fn a_loaded_state_decodes_and_encodes(rt: HostRuntime) {
     let state = decode_state(rt.alloc(), &LOADED).expect(&rt, "decodes");
@@ -76,14 +85,75 @@ fn with_end(rt: &HostRuntime, demand: u8, end: &[u8]) -> Result<State, CodecFaul
 
 #[test]
 fn plans_are_judged(rt: HostRuntime) {
-    // pin and route, then the working route: none and `[1]`, or `[1, 1]`
+    // pin and route, then the working route, the same
     let planned = [0, 0, 0, 0, 0, 0, 0, 1, 0, 0, 0, 1, 0, 0, 0, 1, 0, 0, 0, 1];
     assert!(rt; matches!(with_end(&rt, 6, &planned), Ok(State::Loaded(_))));
     assert!(rt; matches!(with_end(&rt, 11, &planned), Err(CodecFault::PlanRefused(6))));
-    let twice = [0, 0, 0, 0, 0, 0, 0, 2, 0, 0, 0, 1, 0, 0, 0, 1, 0, 0, 0, 0];
+    let twice = [
+        0, 0, 0, 0, 0, 0, 0, 2, 0, 0, 0, 1, 0, 0, 0, 1, 0, 0, 0, 2, 0, 0, 0, 1, 0, 0, 0, 1,
+    ];
     assert!(rt; matches!(with_end(&rt, 6, &twice), Err(CodecFault::PlanRefused(2))));
     let work = [0, 0, 0, 0, 0, 0, 0, 0, 0, 0, 0, 2, 0, 0, 0, 1, 0, 0, 0, 1];
     assert!(rt; matches!(with_end(&rt, 6, &work), Err(CodecFault::PlanRefused(2))));
+}
+
+#[test]
+fn a_pin_is_judged_alone(rt: HostRuntime) {
+    // The pickup alone leaves its delivery out, though the plan serves both.
+    assert!(rt;
+        matches!(
+            decode_state(rt.alloc(), &PINNED),
+            Err(CodecFault::PlanRefused(3))
+        )
+    );
+    let mut whole = PINNED;
+    whole[114] = 2;
+    assert!(rt; matches!(decode_state(rt.alloc(), &whole), Ok(State::Loaded(_))));
+}
+
+// The same of version 1, with these bytes of the vehicle in place of the last four.
+fn with_end_v1(rt: &HostRuntime, demand: u8, end: &[u8]) -> Result<State, CodecFault> {
+    let mut front = LOADED_V1;
+    front[58] = demand;
+    let mut bytes = Vec::new(rt.alloc());
+    bytes.extend_from_slice(&front[..71])?;
+    bytes.extend_from_slice(end)?;
+    decode_state_v1(rt.alloc(), bytes.as_slice())
+}
+
+#[test]
+fn states_of_version_1_are_judged_alike(rt: HostRuntime) {
+    // pin, route and its stops; a byte behind an empty one; a pin over an empty route
+    assert!(rt;
+        matches!(
+            with_end_v1(&rt, 6, &[0, 0, 0, 1, 0, 1]),
+            Ok(State::Loaded(_))
+        )
+    );
+    assert!(rt;
+        matches!(
+            with_end_v1(&rt, 11, &[0, 0, 0, 1, 0, 1]),
+            Err(CodecFault::PlanRefused(6))
+        )
+    );
+    assert!(rt;
+        matches!(
+            with_end_v1(&rt, 6, &[0, 0, 0, 2, 0, 1, 0, 1]),
+            Err(CodecFault::PlanRefused(2))
+        )
+    );
+    assert!(rt;
+        matches!(
+            with_end_v1(&rt, 6, &[0, 0, 0, 0, 0]),
+            Err(CodecFault::BadField)
+        )
+    );
+    assert!(rt;
+        matches!(
+            with_end_v1(&rt, 6, &[0, 1, 0, 0]),
+            Err(CodecFault::BadField)
+        )
+    );
 }
 
 #[test]

@@ -37,7 +37,8 @@ fn put_i32(out: &mut Vec<u8>, n: i32) -> Result<(), OutOfMemory>
 }
 
 fn put_point(out: &mut Vec<u8>, stop: &Stop) -> Result<(), OutOfMemory>
-    ensures { OnOk result (out.new.items ≡ out.old.items ++ (signed_bytes stop.now.x ++ signed_bytes stop.now.y)) }
+    ensures { OnOk result (out.new.items ≡ out.old.items
+        ++ (signed_bytes stop.now.x ++ signed_bytes stop.now.y)) }
 {
     put_i32(out, stop.x)?;
     put_i32(out, stop.y)
@@ -51,7 +52,9 @@ fn put_demand(out: &mut Vec<u8>, stop: &Stop) -> Result<(), OutOfMemory>
 
 // When and how long it is served.
 fn put_times(out: &mut Vec<u8>, stop: &Stop) -> Result<(), OutOfMemory>
-    ensures { OnOk result (out.new.items ≡ out.old.items ++ (number_bytes 4 stop.now.earliest ++ (number_bytes 4 stop.now.latest ++ number_bytes 4 stop.now.service))) }
+    ensures { OnOk result (out.new.items ≡ out.old.items
+        ++ (number_bytes 4 stop.now.earliest
+        ++ (number_bytes 4 stop.now.latest ++ number_bytes 4 stop.now.service))) }
 {
     put_u32(out, stop.earliest)?;
     put_u32(out, stop.latest)?;
@@ -85,7 +88,8 @@ fn put_request(out: &mut Vec<u8>, request: &Request) -> Result<(), OutOfMemory>
 }
 
 fn put_requests(out: &mut Vec<u8>, requests: &IndexMap<u32, Request>) -> Result<(), OutOfMemory>
-    ensures { OnOk result (out.new.items ≡ out.old.items ++ requests_bytes Two requests.now.entries) }
+    ensures { OnOk result (out.new.items ≡ out.old.items
+        ++ requests_bytes Two requests.now.entries) }
 {
     for (_name, request) in requests {
         put_request(out, request)?;
@@ -105,7 +109,9 @@ fn put_stops(out: &mut Vec<u8>, stops: &[u32]) -> Result<(), OutOfMemory>
 fn put_vehicle(out: &mut Vec<u8>, pin: &Route, route: &Route) -> Result<(), OutOfMemory>
     requires pin { length pin.now < 2 ^ 32 }
     requires route { length route.now < 2 ^ 32 }
-    ensures { OnOk result (out.new.items ≡ out.old.items ++ (number_bytes 4 (length pin.now) ++ (number_bytes 4 (length route.now) ++ stops_bytes Two route.now))) }
+    ensures { OnOk result (out.new.items ≡ out.old.items
+        ++ (number_bytes 4 (length pin.now)
+        ++ (number_bytes 4 (length route.now) ++ stops_bytes Two route.now))) }
 {
     put_u32(out, pin.as_slice().len() as u32)?;
     put_u32(out, route.as_slice().len() as u32)?;
@@ -114,7 +120,8 @@ fn put_vehicle(out: &mut Vec<u8>, pin: &Route, route: &Route) -> Result<(), OutO
 
 fn put_route(out: &mut Vec<u8>, route: &Route) -> Result<(), OutOfMemory>
     requires { length route.now < 2 ^ 32 }
-    ensures { OnOk result (out.new.items ≡ out.old.items ++ (number_bytes 4 (length route.now) ++ stops_bytes Two route.now)) }
+    ensures { OnOk result (out.new.items ≡ out.old.items
+        ++ (number_bytes 4 (length route.now) ++ stops_bytes Two route.now)) }
 {
     put_u32(out, route.as_slice().len() as u32)?;
     put_stops(out, route.as_slice())
@@ -124,7 +131,8 @@ fn put_vehicles(out: &mut Vec<u8>, pins: &[Route], routes: &[Route]) -> Result<(
     requires same { length pins.now ≡ length routes.now }
     requires pins { All (λ pin. length pin < 2 ^ 32) pins.now }
     requires routes { All (λ route. length route < 2 ^ 32) routes.now }
-    ensures { OnOk result (out.new.items ≡ out.old.items ++ vehicles_bytes Two pins.now routes.now) }
+    ensures { OnOk result (out.new.items ≡ out.old.items
+        ++ vehicles_bytes Two pins.now routes.now) }
 {
     for index in 0..pins.len() {
         put_vehicle(out, &pins[index], &routes[index])?;
@@ -162,14 +170,17 @@ fn put_kind(out: &mut Vec<u8>, kind: Kind) -> Result<(), OutOfMemory>
 }
 
 fn put_seeds(out: &mut Vec<u8>, job: &Job) -> Result<(), OutOfMemory>
-    ensures { OnOk result (out.new.items ≡ out.old.items ++ (number_bytes 8 job.now.seed ++ number_bytes 8 job.now.steps)) }
+    ensures { OnOk result (out.new.items ≡ out.old.items
+        ++ (number_bytes 8 job.now.seed ++ number_bytes 8 job.now.steps)) }
 {
     put_u64(out, job.seed)?;
     put_u64(out, job.steps)
 }
 
 fn put_limits(out: &mut Vec<u8>, problem: &Problem) -> Result<(), OutOfMemory>
-    ensures { OnOk result (out.new.items ≡ out.old.items ++ (number_bytes 4 problem.now.capacity ++ (number_bytes 4 problem.now.fleet ++ number_bytes 4 problem.now.next_number))) }
+    ensures { OnOk result (out.new.items ≡ out.old.items
+        ++ (number_bytes 4 problem.now.capacity
+        ++ (number_bytes 4 problem.now.fleet ++ number_bytes 4 problem.now.next_number))) }
 {
     put_u32(out, problem.capacity)?;
     put_u32(out, problem.fleet)?;

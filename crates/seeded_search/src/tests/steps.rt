@@ -59,7 +59,8 @@ fn stops_of(alloc: Global, plan: &Plan) -> Result<Vec<u32>, Fail> {
 }
 
 fn is_passing(alloc: Global, problem: &Problem, pins: &Pins, plan: &Plan) -> Result<bool, Fail>
-    ensures { IfOk result (λ b. IsTrue b → passes problem.now pins.now.routes plan.now.routes ≡ true) }
+    ensures { IfOk result (λ b. IsTrue b
+        → passes problem.now pins.now.routes plan.now.routes ≡ true) }
 {
     tests_say_pass();
     match audit(alloc, problem, pins, plan)? {

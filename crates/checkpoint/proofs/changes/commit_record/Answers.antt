@@ -1,5 +1,4 @@
 -- What each image stores is led to what it holds.
-use Rattle.std.proofs.Common.{ℕ}
 use Rattle.sector_disk.specs.Throughout.{weakened}
 use Rattle.state_codec.specs.Bytes.{state_bytes}
 use Rattle.state_codec.specs.declared.version.Version.TheVariants.{Two}

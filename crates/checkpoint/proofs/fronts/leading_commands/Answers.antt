@@ -1,4 +1,4 @@
-use Rattle.std.proofs.Common.{◌≡◌, ◌+◌, ◌<◌, ◌≤◌, length, sym, ◌∙◌, subst, arith}
+use Rattle.std.proofs.Common.{sym, ◌∙◌, subst, arith}
 use Rattle.checkpoint.specs.Reads.{IsLed}
 use Rattle.checkpoint.proofs.Led.{more_led, led_full}
 use Rattle.checkpoint.proofs.fronts.leading_commands.Goals as goal

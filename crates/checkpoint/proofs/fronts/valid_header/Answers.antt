@@ -1,4 +1,4 @@
-use Rattle.std.proofs.Common.{◌<◌, ◌^◌, ℕ, List, arith}
+use Rattle.std.proofs.Common.{arith}
 use Rattle.checkpoint.proofs.Heads.{valid_there, none_there, not_there}
 use Rattle.checkpoint.proofs.fronts.valid_header.Goals as goal
 

@@ -1,4 +1,4 @@
-use Rattle.std.proofs.Common.{◌≡◌, ℕ, List, Ok, Err, sym, ◌∙◌, subst}
+use Rattle.std.proofs.Common.{◌≡◌, ℕ, List, Ok, sym, ◌∙◌, subst}
 use Rattle.state_codec.specs.Bytes.{state_bytes}
 use Rattle.state_codec.specs.Refused.{Decodes}
 use Rattle.checkpoint.specs.Stores.{snapshot_in}
@@ -14,13 +14,14 @@ returns-in-Ok-clause-found c sectors image parts =
     let decoded : Decodes c.args.version c.args.bytes.now (Ok c.in-Ok.state) = subst (Decodes c.args.version c.args.bytes.now) c.in-Ok.is c.requires.decodes in
     let whole : IsFront sectors c.deref.result.now image = subst (λ (f : List ℕ). IsFront sectors f image) (sym c.deref.ensures.value) parts.whole in
     let snapshot : snapshot_in (layout_of c.args.version) image header.sequence header.length ≡ state_bytes c.args.version c.in-Ok.state = sym parts.snapshot ∙ decoded.0 in
-    journal_refused (λ loaded. Holds c.args.version image loaded.state loaded.commands.items loaded.place) c.args.version image header parts.counts
-    (λ stray. record { state = c.in-Ok.state; snapshot = snapshot; facts = c.with_journal.ensures.facts; told = decoded.1; stray = stray })
+    journal_refused (λ loaded. Holds c.args.version image loaded.state loaded.commands.items loaded.place) c.args.version image header c.in-Ok.state parts.counts
+    (λ journal. record { state = c.in-Ok.state; snapshot = snapshot; facts = c.with_journal.ensures.facts; told = decoded.1; journal = journal })
     c.with_journal.result c.with_journal.ensures.fails (c.with_journal.ensures.found sectors image whole parts.counts snapshot decoded.1)
 
 pub returns-in-Err : goal.returns-in-Err
 returns-in-Err c = record {
   fails = subst IsOfBytes (sym c.told_of.ensures) (of_bytes c.in-Err.fault);
+  standing = λ sectors fits. tt;
   found = λ sectors image parts. subst (UnlessUnread (HoldsNothing c.args.version image)) (sym c.told_of.ensures)
       (codec_refused c.args.version image c.args.opened.now.header c.args.bytes.now parts.counts parts.snapshot c.in-Err.fault (subst (Decodes c.args.version c.args.bytes.now) c.in-Err.is c.requires.decodes));
 }

@@ -1,4 +1,4 @@
-use Rattle.std.proofs.Common.{ℕ, List, ◌≤◌, sym, ◌∙◌, subst, arith}
+use Rattle.std.proofs.Common.{ℕ, List, sym, ◌∙◌, subst, arith}
 use Rattle.checkpoint.specs.Reads.{IsFront}
 use Rattle.checkpoint.proofs.FaultKinds.{no_fault_more}
 use Rattle.checkpoint.proofs.loads.read_front.Goals as goal

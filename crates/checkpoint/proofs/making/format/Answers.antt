@@ -1,5 +1,5 @@
 -- The empty state's byte is the first of the zeros.
-use Rattle.std.proofs.Common.{ℕ, List, [], ◌∷◌, refl}
+use Rattle.std.proofs.Common.{[], ◌∷◌, refl}
 use Rattle.sector_disk.specs.Throughout.{weakened}
 use Rattle.command_core.specs.declared.states.State.TheVariants.{Empty}
 use Rattle.state_codec.specs.declared.version.Version.TheVariants.{Two}

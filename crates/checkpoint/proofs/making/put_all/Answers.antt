@@ -1,7 +1,7 @@
 -- What a stop may leave within the zeros' put and within the snapshot's.
-use Rattle.std.proofs.Common.{◌≡◌, ◌*◌, ◌+◌, ◌≤◌, ℕ, List, length, refl, sym, ◌∙◌, subst, arith}
+use Rattle.std.proofs.Common.{refl, arith}
 use Rattle.sector_disk.specs.Throughout.{joined, weakened}
-use Rattle.checkpoint.specs.Puts.{IsInPut, IsInSnapshot, IsZeros}
+use Rattle.checkpoint.specs.Puts.{IsInPut, IsInSnapshot}
 use Rattle.checkpoint.proofs.Cleared.{clears, length_cleared}
 use Rattle.checkpoint.proofs.NewStore.{IsMaking, first_header, in_zeros, in_snapshot}
 use Rattle.checkpoint.proofs.making.put_all.Goals as goal

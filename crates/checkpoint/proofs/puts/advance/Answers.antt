@@ -1,8 +1,4 @@
-use Rattle.std.proofs.Common.{ℕ}
 use Rattle.sector_disk.specs.Throughout.{weakened}
-use Rattle.checkpoint.specs.Layouts.{version_2}
-use Rattle.checkpoint.specs.Stores.{Stores}
-use Rattle.checkpoint.specs.Moments.{IsInCommit}
 use Rattle.checkpoint.specs.Puts.{IsInSnapshot}
 use Rattle.checkpoint.proofs.Commits.{in_commit}
 use Rattle.checkpoint.proofs.puts.advance.Goals as goal

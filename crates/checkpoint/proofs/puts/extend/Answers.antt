@@ -1,4 +1,4 @@
-use Rattle.std.proofs.Common.{◌+◌, ◌<◌, ◌∙◌, arith}
+use Rattle.std.proofs.Common.{◌+◌, ◌∙◌, arith}
 use Rattle.sector_disk.specs.Throughout.{weakened}
 use Rattle.checkpoint.specs.Puts.{IsInPut}
 use Rattle.checkpoint.proofs.Extends.{in_record}

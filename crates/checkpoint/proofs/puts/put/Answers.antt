@@ -1,5 +1,5 @@
 -- What a stop may leave within the write, between the calls and behind the sync.
-use Rattle.std.proofs.Common.{ℕ, ◌≤◌, ◌+◌, ◌∙◌, ap, arith}
+use Rattle.std.proofs.Common.{ℕ, ◌∙◌, ap, arith}
 use Rattle.sector_disk.specs.Sectors.{calls_after}
 use Rattle.checkpoint.proofs.PutCalls.{in_write, in_sync, behind_sync}
 use Rattle.checkpoint.proofs.puts.put.Goals as goal

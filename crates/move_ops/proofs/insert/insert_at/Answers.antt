@@ -1,6 +1,6 @@
-use Rattle.std.proofs.Common.{rules, ◌≡◌, ℕ, List, Bool, true, false, Option, Some, None, nat_eq, sym, ap, subst, ◌∙◌, refl}
+use Rattle.std.proofs.Common.{rules, ◌≡◌, ℕ, List, true, false, Some, nat_eq, sym, ap, subst, ◌∙◌}
 use Rattle.std.specs.Map.{lookup}
-use Rattle.plan_types.specs.Instance.{Instance, IsInstance}
+use Rattle.plan_types.specs.Instance.{IsInstance}
 use Rattle.route_sched.specs.Route.{AreLiveOnce}
 use Rattle.plan_audit.specs.Passes.{feasible_alone}
 use Rattle.move_ops.specs.Insertion.{with_route}

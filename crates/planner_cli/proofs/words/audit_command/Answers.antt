@@ -21,8 +21,10 @@ returns c =
     let with_parser : rule_of c.value_parser.result ≡ kind_rule names =
     ap rule_of c.value_parser.ensures.others ∙ ap₂ (λ (r : Rule) (p : Option ValueParser). record r { parser = p }) required_is parser_is in
     let kind_is : rule_of c.help-kind.result ≡ kind_rule names = ap rule_of c.help-kind.ensures ∙ with_parser in
-    let none_is : app_of c.about.result ≡ new_app (codes "audit") = ap app_of_fields c.about.ensures ∙ c.new-4.ensures.app in
-    let none_global : (out-Command c.about.result).has_globals ≡ false = ap (λ f. f.has_globals) c.about.ensures ∙ c.new-4.ensures.local in
+    let none_is : app_of c.after_help.result ≡ new_app (codes "audit") =
+    ap app_of_fields c.after_help.ensures ∙ (ap app_of_fields c.about.ensures ∙ c.new-4.ensures.app) in
+    let none_global : (out-Command c.after_help.result).has_globals ≡ false =
+    ap (λ f. f.has_globals) c.after_help.ensures ∙ (ap (λ f. f.has_globals) c.about.ensures ∙ c.new-4.ensures.local) in
     let kind_global : c.help-kind.result.global ≡ false = search rules in
     let instance_global : c.help-instance.result.global ≡ false = search rules in
     let solution_global : c.help-solution.result.global ≡ false = search rules in

@@ -4,4 +4,4 @@ use Rattle.seeded_search.proofs.draws.drawn.Given as goal
 
 -- what is drawn so far, and what the words left draw of what is left
 abbrev pub invariant-loop-word : goal.invariant-loop-word
-invariant-loop-word l = l.names.items ++ drawn (drop l.word-index l.words) l.left.items ≡ drawn l.words l.fn.left.items
+invariant-loop-word l = l.names.items ++ drawn (drop l.word-index l.words) l.left.items ≡ drawn l.words l.numbers

@@ -1,8 +1,6 @@
 use Rattle.std.proofs.Common.{◌≡◌, ◌+◌, ◌-◌}
-use Rattle.route_sched.specs.Cost.{cost_of}
 use Rattle.seeded_search.specs.Steps.{walked, steps}
-use Rattle.seeded_search.specs.StepLaws.{BothPass}
-use Rattle.seeded_search.specs.Working.{AreTablesOf}
+use Rattle.seeded_search.specs.Working.{IsWalk, walked_by}
 use Rattle.seeded_search.proofs.search.search_steps.Given as goal
 
 -- the steps left, from what is found so far, find what all steps find
@@ -10,9 +8,7 @@ abbrev pub invariant-loop-done : goal.invariant-loop-done
 invariant-loop-done l = record {
   seed : l.words.seed ≡ l.seed;
   step : l.words.step ≡ l.step + l.done;
-  best : l.best ≡ cost_of l.problem l.found.plan.routes;
-  tables : AreTablesOf l.problem l.found.work.routes l.tables;
-  passing : BothPass l.problem l.pins.routes (walked l.found.plan.routes l.found.work.routes);
-  left : steps l.problem l.pins.routes l.deviation l.seed (l.step + l.done) (l.count - l.done) (walked l.found.plan.routes l.found.work.routes)
+  walk : IsWalk l.problem l.pins.routes l.walk;
+  left : steps l.problem l.pins.routes l.deviation l.seed (l.step + l.done) (l.count - l.done) (walked_by l.walk)
       ≡ steps l.problem l.pins.routes l.deviation l.seed l.step l.count (walked l.fn.plan.routes l.fn.work.routes);
 }

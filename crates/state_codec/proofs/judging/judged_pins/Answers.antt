@@ -1,4 +1,4 @@
-use Rattle.std.proofs.Common.{◌≡◌, [], get_or, sym, subst, ◌∙◌, List, ℕ}
+use Rattle.std.proofs.Common.{◌≡◌, [], get_or, subst, ◌∙◌, List, ℕ}
 use Rattle.std.proofs.lemmas.List.{get_or_read}
 use Rattle.plan_audit.specs.Alone.{IsFeasibleAlone, IsFaultAlone}
 use Rattle.state_codec.proofs.PinLemmas.{refused_here, refused_later, one_more_feasible}

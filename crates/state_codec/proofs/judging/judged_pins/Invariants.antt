@@ -1,4 +1,4 @@
-use Rattle.std.proofs.Common.{◌≡◌, ◌++◌, true, take, drop, ℕ}
+use Rattle.std.proofs.Common.{◌≡◌, true, take, drop, ℕ}
 use Rattle.std.specs.List.{list_all}
 use Rattle.plan_audit.specs.Passes.{feasible_alone}
 use Rattle.state_codec.specs.Refused.{IsPinRefused}

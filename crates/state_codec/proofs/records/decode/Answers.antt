@@ -1,4 +1,4 @@
-use Rattle.std.proofs.Common.{◌≡◌, ◌∙◌, sym, refl, ap, Bool, true, false, eqb, List, [], ◌∷◌, ℕ, length, take, drop, arith, length-drop, Result, Ok, Err, not, ◌&&◌}
+use Rattle.std.proofs.Common.{◌≡◌, ◌∙◌, sym, ap, true, List, ℕ, length, take, drop, arith, length-drop, Ok, Err, not}
 use Rattle.std.specs.Str.{bytes_eq}
 use Rattle.std.proofs.lemmas.Slice.Eq.{bytes_eq-Decides}
 use Rattle.std.proofs.lemmas.List.{take_all}
@@ -7,7 +7,6 @@ use Rattle.state_codec.specs.declared.version.Version.{Version}
 use Rattle.state_codec.specs.declared.fault.CodecFault.{CodecFault}
 use Rattle.state_codec.specs.Bytes.{record_bytes}
 use Rattle.state_codec.specs.Limits.{IsRecorded}
-use Rattle.state_codec.specs.Fields.{Field}
 use Rattle.state_codec.specs.Records.{command_at}
 use Rattle.state_codec.proofs.RecordLaws.{record_again}
 use Rattle.state_codec.proofs.records.decode.Goals as goal

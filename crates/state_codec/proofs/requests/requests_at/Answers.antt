@@ -5,7 +5,7 @@ use Rattle.plan_types.specs.Instance.{Instance, with_request, numbers_among}
 use Rattle.std.specs.List.{AllByRecursion}
 use Rattle.state_codec.specs.Reading.{times, request_at, next_request}
 use Rattle.state_codec.proofs.Loop.{goes_on, ends, is_done, fails, fails_on}
-use Rattle.state_codec.proofs.RequestLaws.{request_takes, IsNew}
+use Rattle.state_codec.proofs.RequestLaws.{request_takes}
 use Rattle.state_codec.proofs.PutLemmas.{goes_last, not_taken, filled_more}
 use Rattle.state_codec.proofs.requests.requests_at.Goals as goal
 

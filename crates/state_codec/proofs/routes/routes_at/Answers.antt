@@ -1,4 +1,4 @@
-use Rattle.std.proofs.Common.{◌≡◌, ◌++◌, ◌∷◌, [], Ok, refl}
+use Rattle.std.proofs.Common.{◌++◌, ◌∷◌, [], Ok, refl}
 use Rattle.std.proofs.lemmas.Result.{err_from_is_err_and}
 use Rattle.state_codec.specs.Reading.{times, route_at, next_route}
 use Rattle.state_codec.proofs.Loop.{goes_on, ends, is_done, fails_on}

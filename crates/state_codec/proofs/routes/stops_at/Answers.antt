@@ -1,4 +1,4 @@
-use Rattle.std.proofs.Common.{◌≡◌, ◌++◌, ◌∷◌, [], refl}
+use Rattle.std.proofs.Common.{◌++◌, ◌∷◌, [], refl}
 use Rattle.std.proofs.lemmas.Result.{err_from_is_err_and}
 use Rattle.state_codec.specs.Reading.{times, next_stop}
 use Rattle.state_codec.proofs.Loop.{goes_on, ends, is_done, fails}

@@ -1,4 +1,4 @@
-use Rattle.std.proofs.Common.{◌≡◌, sym, ap, ◌∙◌, subst, ◌≤◌, length}
+use Rattle.std.proofs.Common.{◌≡◌}
 use Rattle.state_codec.proofs.RouteLaws.{pin_fits}
 use Rattle.state_codec.proofs.routes.vehicle_at.Goals as goal
 

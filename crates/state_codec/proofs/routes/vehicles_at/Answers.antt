@@ -1,4 +1,4 @@
-use Rattle.std.proofs.Common.{List, ℕ, ◌≡◌, ◌++◌, ◌∷◌, [], Ok, refl}
+use Rattle.std.proofs.Common.{List, ℕ, ◌++◌, ◌∷◌, [], Ok, refl}
 use Rattle.std.proofs.lemmas.Result.{err_from_is_err_and}
 use Rattle.state_codec.specs.Reading.{times, vehicle_at, next_vehicle}
 use Rattle.state_codec.proofs.Loop.{goes_on, ends, is_done, fails_on}

@@ -1,8 +1,7 @@
-use Rattle.std.proofs.Common.{◌≡◌, ◌∙◌, Ok, Err, Some, None, ap, arith}
+use Rattle.std.proofs.Common.{◌∙◌, Ok, ap, arith}
 use Rattle.std.specs.Option.{option_map}
 use Rattle.std.proofs.lemmas.Result.{err_from_is_err_and}
 use Rattle.state_codec.specs.Parts.{job_in}
-use Rattle.state_codec.specs.Reading.{whole_at}
 use Rattle.state_codec.proofs.DecodeLemmas.{within, by_fault, by_job, by_rule}
 use Rattle.state_codec.proofs.states.decode.Goals as goal
 

@@ -1,4 +1,4 @@
-use Rattle.std.proofs.Common.{[], length, arith}
+use Rattle.std.proofs.Common.{[], arith}
 use Rattle.std.proofs.lemmas.List.{get_or_read}
 use Rattle.state_codec.proofs.WritingLemmas.{one_written}
 use Rattle.state_codec.proofs.writing.put_vehicles.Goals as goal

@@ -1,0 +1,75 @@
+#!/usr/bin/env python3
+"""How many search steps a second the program makes through a store on this disk, and the same search in memory.
+
+OTHER is a program that writes an instance: `gen KIND STOPS SEED`. Through the store each 256 steps are a command that is synced before its line is
+told. The time of opening, loading and building is taken off: it is measured by a session without the search. In memory the same steps are
+made by `bench_search`, which is built by `rt run` in its folder, and the program by `./planner`.
+
+    bench/store_search.py OTHER [STEPS]
+"""
+
+import pathlib
+import re
+import subprocess
+import sys
+import tempfile
+import time
+
+TOP = pathlib.Path(__file__).resolve().parent.parent
+PROGRAM = TOP / "crates" / "planner" / "out" / "planner"
+IN_MEMORY = TOP / "crates" / "bench_search" / "out" / "bench_search"
+SIZES = [400, 1000, 4000]
+SEED = 5
+STEPS = 100_000
+
+
+def session(folder, instance, lines):
+    """Seconds that a session on a new store takes, and what it prints."""
+    store = folder / "bench.store"
+    subprocess.run([PROGRAM, "format", store], check=True, capture_output=True)
+    text = instance.read_bytes()
+    head = f"load lilim {SEED} {len(text)}\n".encode()
+    began = time.monotonic()
+    got = subprocess.run([PROGRAM, "run", store], input=head + text + lines, check=True, capture_output=True)
+    return time.monotonic() - began, got.stdout.decode()
+
+
+def opened(folder):
+    """Seconds that opening the store again takes, and how many steps are repeated."""
+    began = time.monotonic()
+    got = subprocess.run([PROGRAM, "run", folder / "bench.store"], input=b"", check=True, capture_output=True)
+    return time.monotonic() - began, int(got.stdout.split()[1])
+
+
+def report(folder, name, instance, steps):
+    without, _ = session(folder, instance, b"build\n")
+    whole, text = session(folder, instance, b"build\nsearch %d\n" % steps)
+    last = text.strip().split("\n")[-2]
+    again, repeated = opened(folder)
+    output = subprocess.run([IN_MEMORY, "lilim", instance, str(steps), str(SEED), "0"], check=True, capture_output=True, text=True).stdout
+    nanos = int(re.search(r"steps, (\d+) ns each", output).group(1))
+    stored = steps / max(whole - without, 1e-9)
+    print(
+        f"{name}: {stored:,.0f} steps a second through the store, {1e9 / nanos:,.0f} in memory; "
+        f"{last}; opening repeats {repeated} steps in {again:.2f} s",
+        flush=True,
+    )
+
+
+def main(words):
+    if not words:
+        print(__doc__, file=sys.stderr)
+        return 64
+    steps = int(words[1]) if len(words) > 1 else STEPS
+    with tempfile.TemporaryDirectory(dir=TOP) as name:
+        folder = pathlib.Path(name)
+        report(folder, "lc101", TOP / "examples" / "lc101.txt", steps)
+        for stops in SIZES:
+            instance = folder / f"{stops}.txt"
+            instance.write_bytes(subprocess.run([words[0], "gen", "lilim", str(stops), str(SEED)], check=True, capture_output=True).stdout)
+            report(folder, f"{stops} stops", instance, max(steps // (stops // 100), 256))
+    return 0
+
+
+if __name__ == "__main__":
+    sys.exit(main(sys.argv[1:]))

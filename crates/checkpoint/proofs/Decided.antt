@@ -1,0 +1,215 @@
+-- Each image holds something, or has a cause to hold nothing: every question of the definition has an answer.
+use Rattle.std.proofs.Common.{◌-◌, ◌≡◌, ◌≢◌, ◌⊎◌, ⊎_elim, inl, inr, ℕ, zero, suc, ◌+◌, ◌*◌, ◌%◌, ◌^◌, ◌<◌, ◌≤◌, List, [], ◌∷◌, ◌++◌, length, take, drop, All, Option, Some, None, Err, refl, sym, ◌∙◌, ap, subst, arith, length-append}
+use Rattle.std.proofs.lemmas.Bool.{cases_lt}
+use Rattle.std.proofs.lemmas.List.Elements.{All-take, All-drop}
+use Rattle.byteorder.specs.Endian.{big_bytes, big_number}
+use Rattle.sector_disk.specs.Image.{sector}
+use Rattle.command_core.specs.Runs.{IsState}
+use Rattle.command_core.specs.declared.states.State.{State}
+use Rattle.command_core.specs.declared.commands.Command.{Command}
+use Rattle.state_codec.specs.declared.version.Version.{Version}
+use Rattle.state_codec.specs.declared.version.Version.TheVariants.{One, Two}
+use Rattle.state_codec.specs.declared.fault.CodecFault.{CodecFault}
+use Rattle.state_codec.specs.declared.fault.CodecFault.TheVariants as codec
+use Rattle.state_codec.specs.Bytes.{state_bytes}
+use Rattle.state_codec.specs.Limits.{IsStateOf}
+use Rattle.state_codec.specs.Laws.{BytesAreDecided, RecordsAreDecided}
+use Rattle.state_codec.specs.Refused.{Decodes}
+use Rattle.checkpoint.specs.declared.layouts.Layout.{Layout}
+use Rattle.checkpoint.specs.declared.headers.Header.{Header}
+use Rattle.checkpoint.specs.declared.places.Place.{Place}
+use Rattle.checkpoint.specs.declared.faults.StoreFault.{StoreFault}
+use Rattle.checkpoint.specs.declared.faults.StoreFault.TheVariants as store
+use Rattle.checkpoint.specs.Layouts.{sectors_in, half_at}
+use Rattle.checkpoint.specs.Headers.{magic, header_bytes, HasOtherVersion}
+use Rattle.checkpoint.specs.Numbers.{HaveNumbers, next_number_of, all_added}
+use Rattle.checkpoint.specs.Stores.{IsValid, IsOfOtherVersion, Counts, snapshot_in, begins_with}
+use Rattle.checkpoint.specs.Holds.{Holds, layout_of}
+use Rattle.checkpoint.specs.Reads.{IsOfParity, IsLed, HasRecords, IsClearFrom, HasStrayFrom}
+use Rattle.checkpoint.specs.Holdless.{HoldsNothing}
+use Rattle.checkpoint.proofs.HeaderBytes.{sequence_of, length_of}
+use Rattle.checkpoint.proofs.Heads.{counts_first, counts_second, counts_zeroth, counts_next, none_valid}
+use Rattle.checkpoint.proofs.Led.{none_led, more_led, led_to, led_full}
+use Rattle.checkpoint.proofs.Loading.{holds_here}
+
+-- ---- numbers and bytes
+
+same_number : (a b : ℕ) → (a ≡ b) ⊎ (a ≢ b)
+same_number a b = ⊎_elim
+    (λ (less : a < b). inr (λ (e : a ≡ b). absurd (omega (arith, less, e))))
+    (λ (more : b ≤ a). ⊎_elim (λ (great : b < a). inr (λ (e : a ≡ b). absurd (omega (arith, great, e)))) (λ (least : a ≤ b). inl (omega (arith, more, least))) (cases_lt b a)) (cases_lt a b)
+
+same_bytes : (xs ys : List ℕ) → (xs ≡ ys) ⊎ (xs ≢ ys)
+same_bytes [] [] = inl refl
+same_bytes [] (y ∷ ys) = inr (λ e. absurd cc)
+same_bytes (x ∷ xs) [] = inr (λ e. absurd cc)
+same_bytes (x ∷ xs) (y ∷ ys) = ⊎_elim
+    (λ (first : x ≡ y). ⊎_elim (λ (rest : xs ≡ ys). inl cc) (λ (not : xs ≢ ys). inr (λ (e : x ∷ xs ≡ y ∷ ys). let rest : xs ≡ ys = cc in not rest)) (same_bytes xs ys))
+    (λ (not : x ≢ y). inr (λ (e : x ∷ xs ≡ y ∷ ys). let first : x ≡ y = cc in not first)) (same_number x y)
+
+-- ---- headers
+
+abbrev read_of : List ℕ → Header
+read_of bytes = record { sequence = big_number 8 (drop 12 bytes); length = big_number 8 (drop 20 bytes) }
+
+abbrev header_of : ℕ → ℕ → Header
+header_of sequence length = record { sequence = sequence; length = length }
+
+module _ (layout : Layout) (image : List ℕ) (half : layout.half < 2 ^ 32) where
+  -- a valid header is what its sector reads as
+  is_read : (index : ℕ) (header : Header) → header.sequence % 2 ≡ index → IsValid layout image header → header ≡ read_of (sector index image)
+  is_read index header parity valid =
+      let bytes : sector index image ≡ header_bytes layout.version header = ap (λ (i : ℕ). sector i image) (sym parity) ∙ valid.bytes in
+      let sequence : header.sequence ≡ big_number 8 (drop 12 (sector index image)) = sym (ap (λ (b : List ℕ). big_number 8 (drop 12 b)) bytes ∙ sequence_of layout.version header (omega (arith, valid.last))) in
+      let size : header.length ≡ big_number 8 (drop 20 (sector index image)) = sym (ap (λ (b : List ℕ). big_number 8 (drop 20 b)) bytes ∙ length_of layout.version header (omega (arith, valid.fits, half))) in
+      ap (λ (n : ℕ). header_of n header.length) sequence ∙ ap (header_of (big_number 8 (drop 12 (sector index image)))) size
+
+  abbrev IsIn : ℕ → Header → Type 0
+  IsIn index header = (header.sequence % 2 ≡ index) × IsValid layout image header
+
+  -- whether a header stands in this sector and is valid
+  is_in : (index : ℕ) (header : Header) → IsIn index header ⊎ (¬ IsIn index header)
+  is_in index header = ⊎_elim (λ (parity : header.sequence % 2 ≡ index).
+      ⊎_elim (λ (small : length image < 512 * sectors_in layout). inr (λ (h : IsIn index header). absurd (omega (arith, small, h.1.room)))) (λ (room : 512 * sectors_in layout ≤ length image).
+      ⊎_elim (λ (bytes : sector (header.sequence % 2) image ≡ header_bytes layout.version header).
+      ⊎_elim (λ (none : header.sequence < 1). inr (λ (h : IsIn index header). absurd (omega (arith, none, h.1.first)))) (λ (first : 1 ≤ header.sequence).
+      ⊎_elim (λ (past : 2 ^ 60 < header.sequence). inr (λ (h : IsIn index header). absurd (omega (arith, past, h.1.last)))) (λ (last : header.sequence ≤ 2 ^ 60).
+      ⊎_elim (λ (empty : header.length < 1). inr (λ (h : IsIn index header). absurd (omega (arith, empty, h.1.some)))) (λ (some : 1 ≤ header.length).
+      ⊎_elim (λ (long : 512 * layout.half < header.length). inr (λ (h : IsIn index header). absurd (omega (arith, long, h.1.fits)))) (λ (fits : header.length ≤ 512 * layout.half).
+      inl (parity, record { room = room; bytes = bytes; first = first; last = last; some = some; fits = fits }))
+      (cases_lt (512 * layout.half) header.length)) (cases_lt header.length 1)) (cases_lt (2 ^ 60) header.sequence)) (cases_lt header.sequence 1))
+      (λ (other : sector (header.sequence % 2) image ≢ header_bytes layout.version header). inr (λ (h : IsIn index header). other h.1.bytes))
+      (same_bytes (sector (header.sequence % 2) image) (header_bytes layout.version header)))
+      (cases_lt (length image) (512 * sectors_in layout)))
+      (λ (odd : header.sequence % 2 ≢ index). inr (λ (h : IsIn index header). odd h.0))
+      (same_number (header.sequence % 2) index)
+
+  in_sector : (index : ℕ) → (o : Option Header) × IsOfParity layout image index o
+  in_sector index = ⊎_elim
+      (λ (yes : IsIn index (read_of (sector index image))). (Some (read_of (sector index image)), yes))
+      (λ (no : ¬ IsIn index (read_of (sector index image))). (None, λ header parity valid. no (subst (IsIn index) (is_read index header parity valid) (parity, valid))))
+      (is_in index (read_of (sector index image)))
+
+  abbrev IsCounted : Type 0
+  IsCounted = ((header : Header) × Counts layout image header) ⊎ ((header : Header) → ¬ IsValid layout image header)
+
+  of_both : (first second : Option Header) → IsOfParity layout image 0 first → IsOfParity layout image 1 second → IsCounted
+  of_both None None zeroth next = inr (none_valid layout image zeroth next)
+  of_both (Some first) None zeroth next = inl (first, counts_zeroth layout image first zeroth next)
+  of_both None (Some second) zeroth next = inl (second, counts_next layout image second zeroth next)
+  of_both (Some first) (Some second) zeroth next = ⊎_elim
+      (λ (less : first.sequence < second.sequence). inl (second, counts_second layout image first second zeroth next less))
+      (λ (more : second.sequence ≤ first.sequence). inl (first, counts_first layout image first second zeroth next more))
+      (cases_lt first.sequence second.sequence)
+
+  counted : IsCounted
+  counted = let first = in_sector 0 in let second = in_sector 1 in of_both first.0 second.0 first.1 second.1
+
+-- whether a sector is of another version
+of_other : (version : ℕ) (bytes : List ℕ) → HasOtherVersion version bytes ⊎ (¬ HasOtherVersion version bytes)
+of_other version bytes = ⊎_elim
+    (λ (is : take 8 bytes ≡ magic). ⊎_elim (λ (same : take 4 (drop 8 bytes) ≡ big_bytes 4 version). inr (λ (h : HasOtherVersion version bytes). h.1 same)) (λ (other : take 4 (drop 8 bytes) ≢ big_bytes 4 version). inl (is, other))
+    (same_bytes (take 4 (drop 8 bytes)) (big_bytes 4 version)))
+    (λ (not : take 8 bytes ≢ magic). inr (λ (h : HasOtherVersion version bytes). not h.0)) (same_bytes (take 8 bytes) magic)
+
+is_other : (layout : Layout) (image : List ℕ) → IsOfOtherVersion layout image ⊎ (¬ IsOfOtherVersion layout image)
+is_other layout image = ⊎_elim
+    (λ (small : length image < 512 * 802). inr (λ (h : IsOfOtherVersion layout image). absurd (omega (arith, small, h.room))))
+    (λ (room : 512 * 802 ≤ length image). ⊎_elim
+    (λ (first : HasOtherVersion layout.version (sector 0 image)). inl (record { room = room; other = inl first }))
+    (λ (no : ¬ HasOtherVersion layout.version (sector 0 image)). ⊎_elim
+    (λ (second : HasOtherVersion layout.version (sector 1 image)). inl (record { room = room; other = inr second }))
+    (λ (none : ¬ HasOtherVersion layout.version (sector 1 image)). inr (λ (h : IsOfOtherVersion layout image). ⊎_elim no none h.other))
+    (of_other layout.version (sector 1 image))) (of_other layout.version (sector 0 image)))
+    (cases_lt (length image) (512 * 802))
+
+-- ---- the journal
+
+-- from an index on, some sector is a stray one, or none is
+strays : (image : List ℕ) (sequence used : ℕ) (left index : ℕ) → index + left ≡ 256 → used ≤ index → ((k : ℕ) → used ≤ k → k < index → begins_with (sector (2 + k) image) < sequence)
+    → IsClearFrom used image sequence ⊎ HasStrayFrom used image sequence
+strays image sequence used zero index whole from clear = inl (λ k low high. clear k low (omega (arith, high, whole)))
+strays image sequence used (suc left) index whole from clear = ⊎_elim
+    (λ (less : begins_with (sector (2 + index) image) < sequence). strays image sequence used left (suc index) (omega (arith, whole)) (omega (arith, from))
+    (λ k low high. ⊎_elim (λ (before : k < index). clear k low before)
+    (λ (at : index ≤ k). let here : index ≡ k = omega (arith, at, high) in subst (λ (i : ℕ). begins_with (sector (2 + i) image) < sequence) here less) (cases_lt k index)))
+    (λ (more : sequence ≤ begins_with (sector (2 + index) image)). inr (index, from, omega (arith, whole), more))
+    (cases_lt (begins_with (sector (2 + index) image)) sequence)
+
+numbered : (version : Version) (state : State) (commands : List Command) → HaveNumbers version state commands ⊎ (¬ HaveNumbers version state commands)
+numbered One state commands = ⊎_elim
+    (λ (past : 4001 < next_number_of state + all_added commands). inr (λ (h : HaveNumbers One state commands). absurd (omega (arith, past, h))))
+    (λ (fits : next_number_of state + all_added commands ≤ 4001). inl fits) (cases_lt 4001 (next_number_of state + all_added commands))
+numbered Two state commands = inl tt
+
+module _ (bytes : BytesAreDecided) (records : RecordsAreDecided) where
+  -- the first sectors that are records
+  leading : (version : Version) (image : List ℕ) (sequence left index : ℕ) (commands : List Command) → length commands ≡ index → index + left ≡ 256 → IsLed version image sequence commands
+      → (all : List Command) × HasRecords version image sequence all
+  leading version image sequence zero index commands count whole led = (commands, led_full version image sequence commands index count (omega (arith, whole)) led)
+  leading version image sequence (suc left) index commands count whole led = ⊎_elim
+      (λ found. leading version image sequence left (suc index) (commands ++ found.0 ∷ []) (omega (arith, count, length-append commands (found.0 ∷ []))) (omega (arith, whole))
+      (more_led version image sequence commands found.0 index count led found.1 found.2))
+      (λ none. (commands, led_to version image sequence commands index count (omega (arith, whole)) led none))
+      (records version (sector (2 + index) image) sequence index)
+
+  abbrev IsDecided : Version → List ℕ → Type 0
+  IsDecided version image = ((state : State) × (commands : List Command) × (place : Place) × Holds version image state commands place) ⊎ ((fault : StoreFault) × HoldsNothing version image fault)
+
+  module _ (version : Version) (image : List ℕ) (header : Header) (counts : Counts (layout_of version) image header) where
+    bad : (state : State) → snapshot_in (layout_of version) image header.sequence header.length ≡ state_bytes version state → IsStateOf version state → IsState state → (commands : List Command)
+        → HasRecords version image header.sequence commands → HasStrayFrom (length commands) image header.sequence ⊎ (¬ HaveNumbers version state commands) → IsDecided version image
+    bad state is told facts commands has why = inr (
+      store.Codec codec.BadField,
+      (
+        header,
+        counts,
+        inr (
+          refl,
+          record {
+            state = state;
+            snapshot = is;
+            facts = facts;
+            told = told;
+            journal = record { commands = commands; records = has; why = why };
+          },
+        ),
+      ),
+    )
+
+    of_state : (state : State) → IsState state → IsStateOf version state → snapshot_in (layout_of version) image header.sequence header.length ≡ state_bytes version state → IsDecided version image
+    of_state state facts told is =
+        let led = leading version image header.sequence 256 0 [] refl (omega arith) (none_led version image header.sequence) in
+        let commands = led.0 in
+        let has = led.1 in
+        ⊎_elim
+        (λ (clear : IsClearFrom (length commands) image header.sequence). ⊎_elim
+        (λ (numbers : HaveNumbers version state commands). inl (state, commands, record { sequence = header.sequence; used = length commands }, holds_here version image header counts state commands (length commands) is told facts has clear numbers refl))
+        (λ (past : ¬ HaveNumbers version state commands). bad state is told facts commands has (inr past)) (numbered version state commands))
+        (λ (stray : HasStrayFrom (length commands) image header.sequence). bad state is told facts commands has (inl stray))
+        (strays image header.sequence (length commands) (256 - length commands) (length commands) (omega (arith, has.count)) (omega arith) (λ k low high. absurd (omega (arith, low, high))))
+
+    of_fault : (fault : CodecFault) → fault ≢ codec.OutOfMemory → Decodes version (snapshot_in (layout_of version) image header.sequence header.length) (Err fault) → IsDecided version image
+    of_fault codec.Truncated not h = inr (store.Codec codec.Truncated, (header, counts, inl h))
+    of_fault codec.BadField not h = inr (store.Codec codec.BadField, (header, counts, inl h))
+    of_fault (codec.PlanRefused rule) not h = inr (store.Codec (codec.PlanRefused rule), (header, counts, inl h))
+    of_fault codec.OutOfMemory not h = absurd (not refl)
+
+    of_header : All (λ b. b < 256) image → IsDecided version image
+    of_header are = ⊎_elim
+        (λ known. of_state known.0 known.1 known.2 known.3)
+        (λ fault. of_fault fault.0 fault.1 fault.2)
+        (bytes version (snapshot_in (layout_of version) image header.sequence header.length)
+        (All-take (λ b. b < 256) header.length (drop (512 * half_at (layout_of version) header.sequence) image) (All-drop (λ b. b < 256) (512 * half_at (layout_of version) header.sequence) image are)))
+
+  small_half : (version : Version) → (layout_of version).half < 2 ^ 32
+  small_half One = omega arith
+  small_half Two = omega arith
+
+  pub decided : (version : Version) (image : List ℕ) → All (λ b. b < 256) image → IsDecided version image
+  decided version image are = ⊎_elim
+      (λ found. of_header version image found.0 found.1 are)
+      (λ none. ⊎_elim
+      (λ (other : IsOfOtherVersion (layout_of version) image). inr (store.BadVersion, record { none = none; other = other }))
+      (λ (no : ¬ IsOfOtherVersion (layout_of version) image). inr (store.NotFormatted, record { none = none; no_other = no })) (is_other (layout_of version) image))
+      (counted (layout_of version) image (small_half version))

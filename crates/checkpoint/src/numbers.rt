@@ -1,0 +1,63 @@
+// The numbers of the stops that a journal adds.
+ghost use Rattle.std.specs.Prelude.{◌≡◌, ◌≤◌, ◌*◌, ◌↔◌, length, IsTrue};
+ghost use Rattle.checkpoint.specs.Numbers.{stops_added, all_added, next_number_of, HaveNumbers};
+
+use command_core::{Command, State};
+use state_codec::version::Version;
+
+/// The last stop number of version 1.
+const LAST_NUMBER: u32 = 4000;
+
+/// How many stops a command adds.
+fn stops_added(command: &Command) -> u32
+    ensures added { result ≡ stops_added command.now }
+    ensures few { result ≤ 2 }
+{
+    match command {
+        Command::Add { .. } => 2,
+        Command::Add1 { .. } => 1,
+        Command::Load(..)
+        | Command::Withdraw(_)
+        | Command::Pin(..)
+        | Command::Unpin(_)
+        | Command::Build
+        | Command::Search(_)
+        | Command::Checkpoint
+        | Command::Deviation(_) => 0,
+    }
+}
+
+/// How many stops the commands of a journal add.
+fn all_added(commands: &[Command]) -> u32
+    requires { length commands.now ≤ 256 }
+    ensures added { result ≡ all_added commands.now }
+    ensures few { result ≤ 512 }
+{
+    let mut added = 0;
+    for command in commands {
+        added += stops_added(command);
+    }
+    added
+}
+
+/// The number of the next stop that is added to a state.
+fn next_number_of(state: &State) -> u32
+    ensures next { result ≡ next_number_of state.now }
+    ensures low { result ≤ 40001 }
+{
+    match state {
+        State::Empty => 1,
+        State::Loaded(job) => job.problem.next_number,
+    }
+}
+
+/// Whether the stops that the commands of a journal add to a state have numbers of the version.
+pub(crate) fn have_numbers(version: Version, state: &State, commands: &[Command]) -> bool
+    requires { length commands.now ≤ 256 }
+    ensures { IsTrue result ↔ HaveNumbers version state.now commands.now }
+{
+    match version {
+        Version::One => next_number_of(state) + all_added(commands) <= LAST_NUMBER + 1,
+        Version::Two => true,
+    }
+}

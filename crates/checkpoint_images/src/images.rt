@@ -1,0 +1,97 @@
+//! What an image holds, found sector by sector as the format's table has it.
+
+use checkpoint::{Loaded, Place, StoreFault};
+use command_core::Command;
+use state_codec::{CodecFault, decode_record, decode_state};
+use std::alloc::Global;
+
+/// A sector of an image; zeros where it has none.
+fn sector_of(image: &[u8], i: u32) -> [u8; 512] {
+    let mut sector = [0; 512];
+    let bytes = image.iter().skip(512 * i as usize);
+    for (to, from) in sector.iter_mut().zip(bytes) {
+        *to = *from;
+    }
+    sector
+}
+
+/// The number in these bytes, the highest first.
+fn number_in(bytes: &[u8]) -> u64 {
+    let mut number: u64 = 0;
+    for byte in bytes {
+        number = number << 8 | u64::from(*byte);
+    }
+    number
+}
+
+/// What one of the header sectors says, where it is valid.
+fn header_of(image: &[u8], i: u32) -> Option<(u64, u64)> {
+    let sector = sector_of(image, i);
+    let (sequence, length) = (number_in(&sector[12..20]), number_in(&sector[20..28]));
+    let is_header = sector.starts_with(b"PDRSTORE\x00\x00\x00\x02")
+        && sector[28..].iter().all(|byte| *byte == 0);
+    let is_valid = image.len() >= 4_326_400
+        && sequence % 2 == u64::from(i)
+        && (1..=1 << 60).contains(&sequence)
+        && (1..=2_097_152).contains(&length);
+    if is_header && is_valid {
+        Some((sequence, length))
+    } else {
+        None
+    }
+}
+
+fn has_other_version(image: &[u8], i: u32) -> bool {
+    let sector = sector_of(image, i);
+    sector.starts_with(b"PDRSTORE") && !sector.starts_with(b"PDRSTORE\x00\x00\x00\x02")
+}
+
+/// The commands of the records of a sequence, with the sectors behind them looked through.
+fn journal_of(alloc: Global, image: &[u8], sequence: u64) -> Result<Vec<Command>, StoreFault> {
+    let mut commands = Vec::new(alloc);
+    let mut is_led = true;
+    for index in 0..256 {
+        let sector = sector_of(image, 2 + index);
+        match decode_record(&sector, sequence, index) {
+            Some(command) if is_led => commands.push(command)?,
+            _ => {
+                is_led = false;
+                if number_in(&sector[..8]) >= sequence {
+                    return Err(StoreFault::Codec(CodecFault::BadField));
+                }
+            }
+        }
+    }
+    Ok(commands)
+}
+
+/// What the image holds, or why it holds nothing.
+pub(crate) fn held(alloc: Global, image: &[u8]) -> Result<Loaded, StoreFault> {
+    let (sequence, length) = match (header_of(image, 0), header_of(image, 1)) {
+        (Some(even), Some(odd)) => even.max(odd),
+        (Some(header), None) | (None, Some(header)) => header,
+        (None, None) => {
+            if has_other_version(image, 0) || has_other_version(image, 1) {
+                return Err(StoreFault::BadVersion);
+            }
+            return Err(StoreFault::NotFormatted);
+        }
+    };
+    let first = if sequence % 2 == 0 { 258 } else { 4354 };
+    let mut snapshot = Vec::new(alloc);
+    for byte in image.iter().skip(512 * first).take(length as usize) {
+        snapshot.push(*byte)?;
+    }
+    let state = match decode_state(alloc, &snapshot) {
+        Ok(state) => state,
+        Err(CodecFault::OutOfMemory) => return Err(StoreFault::OutOfMemory),
+        Err(fault) => return Err(StoreFault::Codec(fault)),
+    };
+    let commands = journal_of(alloc, image, sequence)?;
+    let used = u32::try_from(commands.len()).unwrap_or(u32::MAX);
+    Ok(Loaded {
+        state,
+        commands,
+        place: Place { sequence, used },
+    })
+}

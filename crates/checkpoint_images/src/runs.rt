@@ -1,0 +1,78 @@
+//! Stores that are stopped, and what both readings say of them.
+
+use crate::images::held;
+use checkpoint::{Place, StoreFault, commit_record, commit_snapshot, format, load_latest};
+use command_core::{Command, Refusal, Spot, State, apply};
+use plan_types::{Kind, Problem, Stop};
+use sector_disk::{MemDevice, Sectors};
+use std::alloc::Global;
+use std::process::Abort;
+
+pub(crate) const SECTORS: usize = 8450;
+
+/// A device of zeros.
+pub(crate) fn device_of(rt: &impl Abort, alloc: Global) -> MemDevice {
+    MemDevice::new(alloc, SECTORS as u64).expect(rt, "memory")
+}
+
+/// The bytes that reads give.
+fn image_of(rt: &impl Abort, alloc: Global, device: &mut MemDevice) -> Vec<u8> {
+    let mut image = vec![in alloc; 0; 512 * SECTORS].expect(rt, "memory");
+    assert!(rt; device.len() == SECTORS as u64);
+    assert!(rt; device.read(0, &mut image).is_ok());
+    image
+}
+
+/// Where the store stands by both readings, which say the same; `(0, 0)` where it holds nothing.
+pub(crate) fn agreed(rt: &impl Abort, alloc: Global, device: &mut MemDevice) -> (u64, u32) {
+    let image = image_of(rt, alloc, device);
+    let slow = held(alloc, &image);
+    let fast = load_latest(alloc, device);
+    let first = format!(in alloc; "{slow:?}").expect(rt, "memory");
+    let second = format!(in alloc; "{fast:?}").expect(rt, "memory");
+    assert!(rt; first.as_str() == second.as_str());
+    match fast {
+        Ok(loaded) => (loaded.place.sequence, loaded.place.used),
+        Err(StoreFault::NotFormatted) => (0, 0),
+        Err(_) => (0, 1),
+    }
+}
+
+/// A format, two records, a snapshot of the empty state and one more record: 16 device calls.
+pub(crate) fn small_run(alloc: Global, device: &mut MemDevice) -> Result<Place, StoreFault> {
+    let Ok(place) = format(alloc, device) else {
+        return Err(StoreFault::DeviceFault);
+    };
+    let place = commit_record(device, place, &Command::Search(3))?;
+    let place = commit_record(device, place, &Command::Pin(1, 2))?;
+    let place = commit_snapshot(alloc, device, place, &State::Empty)?;
+    commit_record(device, place, &Command::Build)
+}
+
+/// A state with 40 requests of one stop: 1,238 bytes.
+pub(crate) fn larger_state(alloc: Global) -> Result<State, Refusal> {
+    let depot = Stop {
+        number: 0,
+        x: 0,
+        y: 0,
+        demand: 0,
+        earliest: 0,
+        latest: 100,
+        service: 0,
+    };
+    let Ok(problem) = Problem::new(alloc, Kind::LiLim, depot, 10, 1) else {
+        return Err(Refusal::OutOfMemory);
+    };
+    let mut state = apply(alloc, &State::Empty, &Command::Load(problem, 0))?;
+    for x in 0..40 {
+        let spot = Spot {
+            x,
+            y: 0,
+            earliest: 0,
+            latest: 100,
+            service: 0,
+        };
+        state = apply(alloc, &state, &Command::Add1 { demand: 1, spot })?;
+    }
+    Ok(state)
+}

@@ -1,0 +1,7 @@
+pub mod CutLemmas
+pub mod FieldLemmas
+pub mod NameLemmas
+pub mod ReadLemmas
+pub mod ScanLemmas
+pub mod StateLemmas
+pub mod StepLemmas

@@ -1,0 +1,88 @@
+-- A text spells one problem at most, and none where it has a fault; it has one first fault.
+use Rattle.std.proofs.Common.{◌≡◌, ◌∙◌, inl, inr, ℕ, List, ◌∷◌, Result, Ok, Err, sym, ap, refl, arith, IfOk, IfErr, ◌==◌, if◌then◌else◌}
+use Rattle.plan_types.specs.Instance.{Instance}
+use Rattle.plan_types.specs.declared.requests.Kind.{Kind}
+use Rattle.plan_types.specs.declared.requests.Kind.TheVariants.{LiLim, Vrp}
+use Rattle.instance_read.specs.Faults.{Class, IsFirstFault, IsNoLater, IsNoLaterPlace, HasNone, Tells, rank}
+use Rattle.instance_read.specs.Faults.Class.{OfLine, OfText}
+use Rattle.instance_read.specs.Lilim.{problem_of}
+use Rattle.instance_read.specs.declared.faults.ReadFault.{ReadFault}
+use Rattle.instance_read.specs.declared.faults.ReadFaultKind.{ReadFaultKind}
+use Rattle.instance_read.specs.declared.faults.ReadFaultKind.TheVariants.{BadNumber, Range, FieldCount, TaskOrder, PairMismatch, EmptyWindow, TooManyStops, MissingKey, Unsupported, DepotNotFirst, NodeRepeated, Truncated, OutOfMemory}
+use Rattle.command_text.specs.Readings.{InstanceFault, IsFound, IsUnlessMemory, SpellsInstance}
+
+problem_once : (kind : Kind) (text : List ℕ) (p q : Instance) → SpellsInstance kind text p → SpellsInstance kind text q → p ≡ q
+problem_once Vrp text p q a b = a.1 ∙ sym b.1
+problem_once LiLim text p q a b =
+    let rows : a.1 ∷ a.2 ∷ a.3 ≡ b.1 ∷ b.2 ∷ b.3 = sym a.4 ∙ b.4 in
+    let header : a.1 ≡ b.1 = cc in
+    let depot : a.2 ≡ b.2 = cc in
+    let customers : a.3 ≡ b.3 = cc in
+    a.5 ∙ (ap (λ h. problem_of h a.2 a.3) header ∙ (ap (λ d. problem_of b.1 d a.3) depot ∙ ap (λ c. problem_of b.1 b.2 c) customers)) ∙ sym b.5
+
+no_fault : (kind : Kind) (text : List ℕ) (p : Instance) → SpellsInstance kind text p → HasNone (InstanceFault kind text)
+no_fault LiLim text p spelled = spelled.0
+no_fault Vrp text p spelled = spelled.0
+
+-- the kind with this rank
+kind_at : ℕ → ReadFaultKind
+kind_at n =
+    if n == 1 then FieldCount else
+    if n == 2 then BadNumber else
+    if n == 3 then TooManyStops else
+    if n == 4 then Range else
+    if n == 5 then TaskOrder else
+    if n == 6 then EmptyWindow else
+    if n == 7 then Unsupported else
+    if n == 8 then MissingKey else
+    if n == 9 then NodeRepeated else
+    if n == 10 then DepotNotFirst else
+    if n == 11 then PairMismatch else
+    if n == 12 then Truncated else
+    OutOfMemory
+
+kind_at-rank : (kind : ReadFaultKind) → kind_at (rank kind) ≡ kind
+unfolding kind_at
+kind_at-rank FieldCount = refl
+kind_at-rank BadNumber = refl
+kind_at-rank TooManyStops = refl
+kind_at-rank Range = refl
+kind_at-rank TaskOrder = refl
+kind_at-rank EmptyWindow = refl
+kind_at-rank Unsupported = refl
+kind_at-rank MissingKey = refl
+kind_at-rank NodeRepeated = refl
+kind_at-rank DepotNotFirst = refl
+kind_at-rank PairMismatch = refl
+kind_at-rank Truncated = refl
+kind_at-rank OutOfMemory = refl
+
+same_rank : (a b : ReadFaultKind) → rank a ≡ rank b → a ≡ b
+same_rank a b is = sym (kind_at-rank a) ∙ ap kind_at is ∙ kind_at-rank b
+
+same_fault : (f g : ReadFault) → f.line ≡ g.line → f.kind ≡ g.kind → f ≡ g
+same_fault f g line kind = ap (λ l. record { line = l; kind = f.kind }) line ∙ ap (λ k. record { line = g.line; kind = k }) kind
+
+same_place : (f g : ReadFault) → IsNoLaterPlace f.line f.kind g.line g.kind → IsNoLaterPlace g.line g.kind f.line f.kind → f ≡ g
+same_place f g (inl a) (inl b) = absurd (omega (arith, a, b))
+same_place f g (inl a) (inr b) = absurd (omega (arith, a, b.0))
+same_place f g (inr a) (inl b) = absurd (omega (arith, a.0, b))
+same_place f g (inr a) (inr b) = same_fault f g a.0 (same_rank f.kind g.kind (omega (arith, a.1, b.1)))
+
+both_first : (c d : Class) (f g : ReadFault) → IsNoLater c f.line f.kind d g.line g.kind → IsNoLater d g.line g.kind c f.line f.kind → f ≡ g
+both_first OfLine OfLine f g a b = same_place f g a b
+both_first OfLine OfText f g a b = absurd b
+both_first OfText OfLine f g a b = absurd a
+both_first OfText OfText f g a b = same_place f g a b
+
+fault_once : (Fault : Class → ℕ → ReadFaultKind → Type 0) (f g : ReadFault) → IsFirstFault Fault f → IsFirstFault Fault g → f ≡ g
+fault_once Fault f g a b = both_first a.0 b.0 f g (a.2 b.0 g.line g.kind b.1) (b.2 a.0 f.line f.kind a.1)
+
+-- what a reader gave is what the text spells
+pub read_once : (kind : Kind) (text : List ℕ) (result found : Result Instance ReadFault) → IfOk result (SpellsInstance kind text) → IfErr result (Tells (InstanceFault kind text)) → IsFound kind text found
+    → IsUnlessMemory result found
+read_once kind text (Ok p) (Ok q) spells tells is = inl (ap Ok (problem_once kind text p q spells is))
+read_once kind text (Ok p) (Err g) spells tells is = absurd (no_fault kind text p spells is.0 g.line g.kind is.1)
+read_once kind text (Err f) found spells (inl none) is = inr (ap Err none)
+read_once kind text (Err f) (Ok q) spells (inr first) is = absurd (no_fault kind text q is first.0 f.line f.kind first.1)
+read_once kind text (Err f) (Err g) spells (inr first) is = inl (ap Err (fault_once (InstanceFault kind text) f g first is))

@@ -1,0 +1,179 @@
+-- The first word of a line, byte by byte.
+use Rattle.std.proofs.Common.{◌≡◌, ◌∙◌, inl, inr, ℕ, ◌-◌, ◌&&◌, ◌==◌, Bool, true, false, if◌then◌else◌, List, [], ◌∷◌, ◌++◌, length, take, slice_index, codes, bytes_eq, refl, sym, ap, subst, arith, length-append}
+use Rattle.std.specs.List.{AllByRecursion}
+use Rattle.std.specs.Str.Lines.{strip_carriage_return}
+use Rattle.std.proofs.lemmas.Bool.{cases_Bool, eq-eqb, eqb-true, eqb-false, ne_eqb, both_ways}
+use Rattle.std.proofs.lemmas.List.{get_or_at}
+use Rattle.std.proofs.Math.Seq.{take-append_seam}
+use Rattle.text_lines.specs.Words.{AreMadeOfWords, EndsWord, IsMadeOf, IsWord, is_blank, is_blank_line, words_of}
+use Rattle.command_text.specs.Asking.{begins_load}
+use Rattle.command_text.specs.Scanning.{next_letter, says_load, scanned, scanned_on, scanned_byte}
+use Rattle.command_text.specs.declared.first_word.FirstWord.{FirstWord}
+use Rattle.command_text.specs.declared.first_word.FirstWord.TheVariants.{Nothing, L, Lo, Loa, Load, LoadAndReturn, LoadOver, Other}
+
+pub scanned_append : (w : FirstWord) (xs ys : List ℕ) → scanned_on w (xs ++ ys) ≡ scanned_on (scanned_on w xs) ys
+scanned_append w [] ys = refl
+scanned_append w (x ∷ xs) ys = scanned_append (scanned_byte w x) xs ys
+
+-- the word is `load`, where not_so carriage return is dropped
+abbrev is_load : FirstWord → Bool
+is_load Load = true
+is_load LoadOver = true
+is_load _ = false
+
+other : (bytes : List ℕ) → is_load (scanned_on Other bytes) ≡ false
+other [] = refl
+other (b ∷ bs) = other bs
+
+over : (bytes : List ℕ) → is_load (scanned_on LoadOver bytes) ≡ true
+over [] = refl
+over (b ∷ bs) = over bs
+
+returned : (bytes : List ℕ) → is_load (scanned_on LoadAndReturn bytes) ≡ false
+returned [] = refl
+returned (b ∷ bs) = other bs
+
+abbrev NoBlank : List ℕ → Type 0
+NoBlank word = AllByRecursion (λ b. is_blank b ≡ false) word
+
+-- from this state on, the rest of the word are these letters
+abbrev Tells : FirstWord → List ℕ → Type 0
+Tells state letters = (word rest : List ℕ) → NoBlank word → EndsWord rest → is_load (scanned_on state (word ++ rest)) ≡ bytes_eq letters word
+
+return_is_no_blank : (b : ℕ) → is_blank b ≡ true → b ≡ 13 → ⊥
+return_is_no_blank b blank is = let not_so : is_blank b ≡ false = ap is_blank is in both_ways (is_blank b) not_so blank
+
+-- behind `load`
+behind_blank : (b : ℕ) (bs : List ℕ) → is_blank b ≡ true → is_load (scanned_on (scanned_byte Load b) bs) ≡ true
+behind_blank b bs blank = elim (cases_Bool (b == 13)) [
+  | inl t ↦ absurd (return_is_no_blank b blank (eqb-true b 13 t))
+  | inr f ↦ rw (f, blank) (over bs)
+]
+
+behind_letter : (b : ℕ) (bs : List ℕ) → is_blank b ≡ false → is_load (scanned_on (scanned_byte Load b) bs) ≡ false
+behind_letter b bs letter = elim (cases_Bool (b == 13)) [
+  | inl t ↦ rw t (returned bs)
+  | inr f ↦ rw (f, letter) (other bs)
+]
+
+all_letters : Tells Load []
+all_letters [] [] not_so ends = refl
+all_letters [] (b ∷ rest) not_so ends = behind_blank b rest ends
+all_letters (a ∷ word) rest not_so ends = behind_letter a (word ++ rest) not_so.0
+
+module _ (state longer : FirstWord) (letter : ℕ) (letters : List ℕ) (step : (b : ℕ) → scanned_byte state b ≡ next_letter letter b longer) (is_letter : is_blank letter ≡ false) (too_short : is_load state ≡ false) (more : Tells longer letters) where
+  wrong : (b : ℕ) (bs : List ℕ) → (b == letter) ≡ false → is_load (scanned_on (scanned_byte state b) bs) ≡ false
+  wrong b bs not_so = ap (λ w. is_load (scanned_on w bs)) (step b ∙ ap (λ t. if t then longer else Other) not_so) ∙ other bs
+
+  right : (b : ℕ) (bs : List ℕ) → (b == letter) ≡ true → is_load (scanned_on (scanned_byte state b) bs) ≡ is_load (scanned_on longer bs)
+  right b bs is_so = ap (λ w. is_load (scanned_on w bs)) (step b ∙ ap (λ t. if t then longer else Other) is_so)
+
+  no_letter : (b : ℕ) → is_blank b ≡ true → (b == letter) ≡ false
+  no_letter b blank = ne_eqb b letter (λ is. both_ways (is_blank b) (ap is_blank is ∙ is_letter) blank)
+
+  one_letter : Tells state (letter ∷ letters)
+  one_letter [] [] not_so ends = too_short
+  one_letter [] (b ∷ rest) not_so ends = wrong b rest (no_letter b ends)
+  one_letter (a ∷ word) rest not_so ends = elim (cases_Bool (a == letter)) [
+    | inl t ↦ right a (word ++ rest) t ∙ more word rest not_so.1 ends ∙ sym (ap (λ t. t && bytes_eq letters word) (eq-eqb letter a (sym (eqb-true a letter t))))
+    | inr f ↦ wrong a (word ++ rest) f ∙ sym (ap (λ t. t && bytes_eq letters word) (ne_eqb letter a (λ is. eqb-false a letter f (sym is))))
+  ]
+
+behind_loa : Tells Loa (100 ∷ [])
+behind_loa = one_letter Loa Load 100 [] (λ b. refl) refl refl all_letters
+
+behind_lo : Tells Lo (97 ∷ 100 ∷ [])
+behind_lo = one_letter Lo Loa 97 (100 ∷ []) (λ b. refl) refl refl behind_loa
+
+behind_l : Tells L (111 ∷ 97 ∷ 100 ∷ [])
+behind_l = one_letter L Lo 111 (97 ∷ 100 ∷ []) (λ b. refl) refl refl behind_lo
+
+first_letter : (b : ℕ) → is_blank b ≡ false → scanned_byte Nothing b ≡ next_letter 108 b L
+first_letter b not_so = ap (λ t. if t then Nothing else next_letter 108 b L) not_so
+
+whole_word : (word rest : List ℕ) → IsWord word → EndsWord rest → is_load (scanned_on Nothing (word ++ rest)) ≡ bytes_eq (codes "load") word
+whole_word [] rest is ends = absurd (omega (arith, is.0))
+whole_word (a ∷ word) rest is ends = elim (cases_Bool (a == 108)) [
+  | inl t ↦ (
+      ap (λ w. is_load (scanned_on w (word ++ rest))) (first_letter a is.1.0 ∙ ap (λ t. if t then L else Other) t) ∙ behind_l word rest is.1.1 ends
+      ∙ sym (ap (λ t. t && bytes_eq (111 ∷ 97 ∷ 100 ∷ []) word) (eq-eqb 108 a (sym (eqb-true a 108 t)))))
+  | inr f ↦ (
+      ap (λ w. is_load (scanned_on w (word ++ rest))) (first_letter a is.1.0 ∙ ap (λ t. if t then L else Other) f) ∙ other (word ++ rest)
+      ∙ sym (ap (λ t. t && bytes_eq (111 ∷ 97 ∷ 100 ∷ []) word) (ne_eqb 108 a (λ is. eqb-false a 108 f (sym is)))))
+]
+
+blanks : (gap : List ℕ) → is_blank_line gap ≡ true → scanned gap ≡ Nothing
+blanks [] all = refl
+blanks (b ∷ bs) all = elim (cases_Bool (is_blank b)) [
+  | inl t ↦ rw t (blanks bs (rw t at all))
+  | inr f ↦ absurd (both_ways (is_blank_line (b ∷ bs)) (ap (λ t. t && is_blank_line bs) f) all)
+]
+
+made : (line : List ℕ) (words : List (List ℕ)) → IsMadeOf line words → is_load (scanned line) ≡ begins_load words
+made line [] is = ap is_load (blanks line is)
+made line (word ∷ words) is =
+    ap (λ l. is_load (scanned l)) is.2 ∙ ap is_load (scanned_append Nothing is.0 (word ++ is.1)) ∙ ap (λ w. is_load (scanned_on w (word ++ is.1))) (blanks is.0 is.3)
+    ∙ whole_word word is.1 is.4 is.5
+
+-- ---- the carriage return at the end
+one_of : (b : Bool) (x y : FirstWord) → says_load x ≡ is_load x → says_load y ≡ is_load y → says_load (if b then x else y) ≡ is_load (if b then x else y)
+one_of true x y sx sy = sx
+one_of false x y sx sy = sy
+
+no_return : (w : FirstWord) (b : ℕ) → (b == 13) ≡ false → says_load (scanned_byte w b) ≡ is_load (scanned_byte w b)
+no_return Nothing b not_so = one_of (is_blank b) Nothing (next_letter 108 b L) refl (one_of (b == 108) L Other refl refl)
+no_return L b not_so = one_of (b == 111) Lo Other refl refl
+no_return Lo b not_so = one_of (b == 97) Loa Other refl refl
+no_return Loa b not_so = one_of (b == 100) Load Other refl refl
+no_return Load b not_so = rw not_so (one_of (is_blank b) LoadOver Other refl refl)
+no_return LoadAndReturn b not_so = refl
+no_return LoadOver b not_so = refl
+no_return Other b not_so = refl
+
+with_return : (w : FirstWord) → says_load (scanned_byte w 13) ≡ is_load w
+with_return Nothing = refl
+with_return L = refl
+with_return Lo = refl
+with_return Loa = refl
+with_return Load = refl
+with_return LoadAndReturn = refl
+with_return LoadOver = refl
+with_return Other = refl
+
+record Ending (line : List ℕ) : Type 0 where
+  front : List ℕ
+  byte : ℕ
+  whole : line ≡ front ++ byte ∷ []
+
+ending : (b : ℕ) (bs : List ℕ) → Ending (b ∷ bs)
+ending b [] = record { front = []; byte = b; whole = refl }
+ending b (c ∷ cs) = let e = ending c cs in record { front = b ∷ e.front; byte = e.byte; whole = ap (λ l. b ∷ l) e.whole }
+
+len_before : (front : List ℕ) (b : ℕ) → length (front ++ b ∷ []) - 1 ≡ length front
+len_before front b = omega (arith, length-append front (b ∷ []))
+
+stripped : (front : List ℕ) (b : ℕ) → strip_carriage_return (front ++ b ∷ []) ≡ (if b == 13 then front else front ++ b ∷ [])
+stripped front b =
+    let line = front ++ b ∷ [] in
+    ap (λ n. if slice_index line n == 13 then take n line else line) (len_before front b)
+    ∙ ap (λ x. if x == 13 then take (length front) line else line) (get_or_at front b [] 0 (length front) refl)
+    ∙ ap (λ f. if b == 13 then f else line) (take-append_seam front (b ∷ []))
+
+at_end : (front : List ℕ) (b : ℕ) → says_load (scanned (front ++ b ∷ [])) ≡ is_load (scanned (strip_carriage_return (front ++ b ∷ [])))
+at_end front b = elim (cases_Bool (b == 13)) [
+  | inl t ↦ (
+      ap says_load (scanned_append Nothing front (b ∷ [])) ∙ ap (λ c. says_load (scanned_byte (scanned front) c)) (eqb-true b 13 t) ∙ with_return (scanned front)
+      ∙ sym (ap (λ l. is_load (scanned l)) (stripped front b ∙ ap (λ t. if t then front else front ++ b ∷ []) t)))
+  | inr f ↦ (
+      ap says_load (scanned_append Nothing front (b ∷ [])) ∙ no_return (scanned front) b f ∙ sym (ap is_load (scanned_append Nothing front (b ∷ [])))
+      ∙ sym (ap (λ l. is_load (scanned l)) (stripped front b ∙ ap (λ t. if t then front else front ++ b ∷ []) f)))
+]
+
+without_return : (piece : List ℕ) → says_load (scanned piece) ≡ is_load (scanned (strip_carriage_return piece))
+without_return [] = refl
+without_return (b ∷ bs) = let e = ending b bs in subst (λ l. says_load (scanned l) ≡ is_load (scanned (strip_carriage_return l))) (sym e.whole) (at_end e.front e.byte)
+
+pub says_first_word : AreMadeOfWords → (piece : List ℕ) → says_load (scanned piece) ≡ begins_load (words_of (strip_carriage_return piece))
+says_first_word made_of piece =
+    let line = strip_carriage_return piece in
+    without_return piece ∙ made line (words_of line) ((made_of line (words_of line)).0 refl)

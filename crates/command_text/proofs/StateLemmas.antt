@@ -1,0 +1,114 @@
+-- The state that a session is left with.
+use Rattle.std.proofs.Common.{◌≡◌, ◌∙◌, ℕ, Bool, true, false, if◌then◌else◌, List, [], ◌∷◌, ◌++◌, Option, Some, None, Result, Ok, Err, refl, sym, ap, ◌==◌}
+use Rattle.plan_types.specs.Instance.{Instance}
+use Rattle.route_sched.specs.Cost.{unplanned_count}
+use Rattle.instance_read.specs.declared.faults.ReadFault.{ReadFault}
+use Rattle.command_core.specs.Effects.{effect}
+use Rattle.command_core.specs.Refusing.{refusal}
+use Rattle.command_core.specs.Runs.{after}
+use Rattle.command_core.specs.declared.states.State.{State}
+use Rattle.command_core.specs.declared.states.State.TheVariants.{Empty, Loaded}
+use Rattle.command_core.specs.declared.commands.Command.{Command}
+use Rattle.command_core.specs.declared.commands.Command.TheVariants as command
+use Rattle.command_core.specs.declared.refusals.Refusal.{Refusal}
+use Rattle.command_text.specs.Answering.{Fate, Done, NoMemory, Spent, Failed, Serving, Reply, answered, by_fate, carried, counts_of, load, loaded, next_fate, asked_reply, printed, reach_steps, refused, reply, search_steps, searched, searched_or, served, shown, told, tried, unless_broken, unless_refused, with_text, at_line}
+use Rattle.command_text.specs.Cutting.{Piece, is_short}
+use Rattle.command_text.specs.Laws.{StatesFollow}
+use Rattle.command_text.specs.Readings.{Reading}
+use Rattle.command_text.specs.Showing.{print_text, show_text}
+use Rattle.command_text.specs.declared.answers.Answer.TheVariants as answer
+use Rattle.command_text.specs.declared.asked.Asked.{Asked}
+use Rattle.command_text.specs.declared.asked.Asked.TheVariants.{Nothing, BadLine, BadLoad, LoadRange, Load, Plain, Refused, Search, Reach, Print, Show}
+
+abbrev Follows : Serving → Reply → Type 0
+Follows s r = r.left.state ≡ after s.state r.commands
+
+one_of : (b : Bool) (s : Serving) (x y : Reply) → Follows s x → Follows s y → Follows s (if b then x else y)
+one_of true s x y fx fy = fx
+one_of false s x y fx fy = fy
+
+with_fate : (fate : Fate) (s : Serving) (c : Command) (done : Serving → Reply) → ((t : Serving) → Follows t (done t)) → Follows s (by_fate fate s c done)
+with_fate Done s c done follows = follows (record s { state = effect s.state c })
+with_fate NoMemory s c done follows = refl
+with_fate Spent s c done follows = refl
+with_fate Failed s c done follows = refl
+
+unless : (r : Option Refusal) (s : Serving) (c : Command) (done : Serving → Reply) → ((t : Serving) → Follows t (done t)) → Follows s (unless_refused r s c done)
+unless (Some r) s c done follows = refl
+unless None s c done follows = with_fate (next_fate s.fates) (tried s) c done follows
+
+carries : (s : Serving) (c : Command) (done : Serving → Reply) → ((t : Serving) → Follows t (done t)) → Follows s (carried s c done)
+unfolding carried
+carries s c done follows = one_of s.is_broken s (answered s answer.Broken) (unless_refused (refusal s.state c) s c done) refl (unless (refusal s.state c) s c done follows)
+
+searches : (s : Serving) (ns : List ℕ) → Follows s (searched s ns)
+unfolding searched
+searches s [] = refl
+searches s (n ∷ ns) = carries s (command.Search n) (λ t. with_text (at_line t.state) (searched t ns)) (λ t. searches t ns)
+
+searches_or : (s : Serving) (n : Result ℕ Refusal) → Follows s (searched_or s n)
+searches_or s (Ok n) = searches s (counts_of n)
+searches_or s (Err r) = refl
+
+tells : (fate : Fate) (s : Serving) (text : List ℕ) → Follows s (told fate s text)
+tells Done s text = refl
+tells NoMemory s text = refl
+tells Spent s text = refl
+tells Failed s text = refl
+
+shows : (s : Serving) (state : State) → Follows s (shown s state)
+shows s Empty = refl
+shows s (Loaded j) = tells (next_fate s.fates) (tried s) (show_text j)
+
+prints : (s : Serving) (state : State) → Follows s (printed s state)
+prints s Empty = refl
+prints s (Loaded j) =
+    one_of (unplanned_count j.problem j.plan == 0) s (told (next_fate s.fates) (tried s) (print_text j)) (answered s answer.Unplanned) (tells (next_fate s.fates) (tried s) (print_text j)) refl
+
+refuses : (s : Serving) (state : State) (r : Refusal) → Follows s (refused s state r)
+refuses s Empty r = refl
+refuses s (Loaded j) r = refl
+
+is_loaded : (s : Serving) (seed : ℕ) (found : Result Instance ReadFault) → Follows s (loaded s seed found)
+is_loaded s seed (Ok p) = with_fate (next_fate s.fates) (tried s) (command.Load p seed) (λ t. answered t answer.Ok) (λ t. refl)
+is_loaded s seed (Err fault) = refl
+
+loads : (fate : Fate) (s : Serving) (seed : ℕ) (found : Result Instance ReadFault) → Follows s (load fate s seed found)
+loads Done s seed found = is_loaded s seed found
+loads NoMemory s seed found = refl
+loads Spent s seed found = is_loaded s seed found
+loads Failed s seed found = is_loaded s seed found
+
+unbroken : (s : Serving) (r : Reply) → Follows s r → Follows s (unless_broken s r)
+unbroken s r follows = one_of s.is_broken s (answered s answer.Broken) r refl follows
+
+answers : (reading : Reading) (s : Serving) (a : Asked) (text : List ℕ) (short : Bool) → Follows s (asked_reply reading s a text short)
+answers reading s Nothing text short = refl
+answers reading s BadLine text short = refl
+answers reading s BadLoad text short = refl
+answers reading s LoadRange text short = refl
+answers reading s (Load kind seed len) text short =
+    one_of short s (answered s answer.Truncated) (unless_broken s (load (next_fate s.fates) s seed (reading kind text))) refl
+    (unbroken s (load (next_fate s.fates) s seed (reading kind text)) (loads (next_fate s.fates) s seed (reading kind text)))
+answers reading s (Plain c) text short = carries s c (λ t. answered t answer.Ok) (λ t. refl)
+answers reading s (Refused r) text short = unbroken s (refused s s.state r) (refuses s s.state r)
+answers reading s (Search n) text short = unbroken s (searched_or s (search_steps s.state n)) (searches_or s (search_steps s.state n))
+answers reading s (Reach n) text short = unbroken s (searched_or s (reach_steps s.state n)) (searches_or s (reach_steps s.state n))
+answers reading s Print text short = unbroken s (printed s s.state) (prints s s.state)
+answers reading s Show text short = unbroken s (shown s s.state) (shows s s.state)
+
+replies : (reading : Reading) (s : Serving) (p : Piece) → Follows s (reply reading s p)
+unfolding reply
+replies reading s p = answers reading s p.asked p.text (is_short p)
+
+after_both : (s : State) (cs ds : List Command) → after s (cs ++ ds) ≡ after (after s cs) ds
+after_both s [] ds = refl
+after_both s (c ∷ cs) ds = after_both (effect s c) cs ds
+
+pub follow : StatesFollow
+unfolding served
+follow reading s [] = refl
+follow reading s (p ∷ ps) =
+    let r = reply reading s p in
+    let q = served reading r.left ps in
+    follow reading r.left ps ∙ ap (λ t. after t q.commands) (replies reading s p) ∙ sym (after_both s.state r.commands q.commands)

@@ -1,0 +1,183 @@
+-- What a session answers to an input, and which commands it carries out.
+use Rattle.std.specs.Prelude.{ℕ, ◌+◌, ◌-◌, ◌/◌, ◌%◌, ◌^◌, ◌==◌, nat_le, Bool, true, false, if◌then◌else◌, List, [], ◌∷◌, ◌++◌, replicate, Option, Some, None, Result, Ok, Err}
+use Rattle.plan_types.specs.Instance.{Instance}
+use Rattle.route_sched.specs.Cost.{unplanned_count}
+use Rattle.instance_read.specs.declared.faults.ReadFault.{ReadFault}
+use Rattle.command_core.specs.Effects.{effect}
+use Rattle.command_core.specs.Refusing.{refusal}
+use Rattle.command_core.specs.declared.states.State.{State}
+use Rattle.command_core.specs.declared.states.State.TheVariants.{Empty, Loaded}
+use Rattle.command_core.specs.declared.commands.Command.{Command}
+use Rattle.command_core.specs.declared.commands.Command.TheVariants as command
+use Rattle.command_core.specs.declared.refusals.Refusal.{Refusal}
+use Rattle.command_core.specs.declared.refusals.Refusal.TheVariants.{NoInstance, Range, StepsSpent, OutOfMemory}
+use Rattle.command_text.specs.Answers.{answer_text, at_text, line}
+use Rattle.command_text.specs.Cutting.{Piece, is_short, pieces_of}
+use Rattle.command_text.specs.Readings.{Reading}
+use Rattle.command_text.specs.Showing.{print_text, show_text}
+use Rattle.command_text.specs.declared.answers.Answer.{Answer}
+use Rattle.command_text.specs.declared.answers.Answer.TheVariants as answer
+use Rattle.command_text.specs.declared.asked.Asked.{Asked}
+use Rattle.command_text.specs.declared.asked.Asked.TheVariants.{Nothing, BadLine, BadLoad, LoadRange, Load, Plain, Refused, Search, Reach, Print, Show}
+
+-- What became of a try: it was done; memory was refused; there is no room left in the store; the device failed. A try is a command that session
+-- and state accept, the text of a `load`, or a `show` or `print` that has something to tell.
+pub data Fate : Type 0 where
+  Done : Fate
+  NoMemory : Fate
+  Spent : Fate
+  Failed : Fate
+
+-- what became of the next try, and of those behind it; behind the end of the list all are done
+abbrev pub next_fate : List Fate → Fate
+next_fate [] = Done
+next_fate (fate ∷ fates) = fate
+
+abbrev pub later_fates : List Fate → List Fate
+later_fates [] = []
+later_fates (fate ∷ fates) = fates
+
+-- a session as it answers, and what becomes of its tries
+pub record Serving : Type 0 where
+  pub state : State
+  pub is_broken : Bool
+  pub fates : List Fate
+
+-- what is written, the commands that are carried out, and what the session is then
+pub record Reply : Type 0 where
+  pub text : List ℕ
+  pub commands : List Command
+  pub left : Serving
+
+-- this answer alone
+abbrev pub answered : Serving → Answer → Reply
+answered s a = record { text = line (answer_text a); commands = []; left = s }
+
+-- the session behind a try
+abbrev pub tried : Serving → Serving
+tried s = record s { fates = later_fates s.fates }
+
+-- a text before what is written, a command before those that are carried out
+abbrev pub with_text : List ℕ → Reply → Reply
+with_text text r = record r { text = text ++ r.text }
+
+abbrev pub with_command : Command → Reply → Reply
+with_command c r = record r { commands = c ∷ r.commands }
+
+-- two replies, one after the other
+abbrev pub joined : Reply → Reply → Reply
+joined r q = record { text = r.text ++ q.text; commands = r.commands ++ q.commands; left = q.left }
+
+-- a command that is accepted, by what becomes of it; `done` is what is answered once it is carried out
+abbrev pub by_fate : Fate → Serving → Command → (Serving → Reply) → Reply
+by_fate Done s c done = with_command c (done (record s { state = effect s.state c }))
+by_fate NoMemory s c done = answered s (answer.Refused OutOfMemory)
+by_fate Spent s c done = answered s answer.Spent
+by_fate Failed s c done = answered (record s { is_broken = true }) answer.DeviceFault
+
+abbrev pub unless_refused : Option Refusal → Serving → Command → (Serving → Reply) → Reply
+unless_refused (Some r) s c done = answered s (answer.Refused r)
+unless_refused None s c done = by_fate (next_fate s.fates) (tried s) c done
+
+-- a command: Broken, or why the state refuses it, or what becomes of it
+unfoldable pub carried : Serving → Command → (Serving → Reply) → Reply
+carried s c done = if s.is_broken then answered s answer.Broken else unless_refused (refusal s.state c) s c done
+
+abbrev pub plain : Serving → Command → Reply
+plain s c = carried s c (λ t. answered t answer.Ok)
+
+-- `at STEPS UNPLANNED VEHICLES DISTANCE`
+abbrev pub at_line : State → List ℕ
+at_line Empty = []
+at_line (Loaded j) = line (at_text j)
+
+-- a search in pieces of so many steps: each is a command, and its line tells how far the search is
+unfoldable pub searched : Serving → List ℕ → Reply
+searched s [] = answered s answer.Ok
+searched s (n ∷ ns) = carried s (command.Search n) (λ t. with_text (at_line t.state) (searched t ns))
+
+-- pieces of 256 and a shorter last one
+unfoldable pub counts_of : ℕ → List ℕ
+counts_of n = replicate (n / 256) 256 ++ (if n % 256 == 0 then [] else n % 256 ∷ [])
+
+-- how many steps are made, or why the line is refused
+abbrev pub searched_or : Serving → Result ℕ Refusal → Reply
+searched_or s (Ok n) = searched s (counts_of n)
+searched_or s (Err r) = answered s (answer.Refused r)
+
+-- `search N`
+abbrev pub search_steps : State → ℕ → Result ℕ Refusal
+search_steps Empty n = Err NoInstance
+search_steps (Loaded j) n = if nat_le (j.steps + n) (2 ^ 60) then Ok n else Err StepsSpent
+
+-- `reach N`: the steps that are left, at most 1,000,000,000
+abbrev pub reach_steps : State → ℕ → Result ℕ Refusal
+reach_steps Empty n = Err NoInstance
+reach_steps (Loaded j) n = if nat_le n (j.steps + 1000000000) then Ok (n - j.steps) else Err Range
+
+-- a number that no field holds
+abbrev pub refused : Serving → State → Refusal → Reply
+refused s Empty r = answered s (answer.Refused NoInstance)
+refused s (Loaded j) r = answered s (answer.Refused r)
+
+-- a text that is made, then `ok`
+abbrev pub told : Fate → Serving → List ℕ → Reply
+told NoMemory s text = answered s (answer.Refused OutOfMemory)
+told _ s text = with_text text (answered s answer.Ok)
+
+abbrev pub shown : Serving → State → Reply
+shown s Empty = answered s (answer.Refused NoInstance)
+shown s (Loaded j) = told (next_fate s.fates) (tried s) (show_text j)
+
+abbrev pub printed : Serving → State → Reply
+printed s Empty = answered s (answer.Refused NoInstance)
+printed s (Loaded j) =
+    if unplanned_count j.problem j.plan == 0 then told (next_fate s.fates) (tried s) (print_text j) else answered s answer.Unplanned
+
+-- the text of a load, by what it spells
+abbrev pub loaded : Serving → ℕ → Result Instance ReadFault → Reply
+loaded s seed (Ok p) = by_fate (next_fate s.fates) (tried s) (command.Load p seed) (λ t. answered t answer.Ok)
+loaded s seed (Err fault) = answered (tried s) (answer.Read fault)
+
+-- want of memory comes before a fault of the text
+abbrev pub load : Fate → Serving → ℕ → Result Instance ReadFault → Reply
+load NoMemory s seed found = answered (tried s) (answer.Refused OutOfMemory)
+load _ s seed found = loaded s seed found
+
+-- the answer of a session, unless it is broken
+abbrev pub unless_broken : Serving → Reply → Reply
+unless_broken s r = if s.is_broken then answered s answer.Broken else r
+
+-- the answer to a piece of the input
+abbrev pub asked_reply : Reading → Serving → Asked → List ℕ → Bool → Reply
+asked_reply reading s Nothing text short = record { text = []; commands = []; left = s }
+asked_reply reading s BadLine text short = answered s answer.BadLine
+asked_reply reading s BadLoad text short = answered s answer.BadLine
+asked_reply reading s LoadRange text short = answered s (answer.Refused Range)
+asked_reply reading s (Load kind seed len) text short =
+    if short then answered s answer.Truncated else unless_broken s (load (next_fate s.fates) s seed (reading kind text))
+asked_reply reading s (Plain c) text short = plain s c
+asked_reply reading s (Refused r) text short = unless_broken s (refused s s.state r)
+asked_reply reading s (Search n) text short = unless_broken s (searched_or s (search_steps s.state n))
+asked_reply reading s (Reach n) text short = unless_broken s (searched_or s (reach_steps s.state n))
+asked_reply reading s Print text short = unless_broken s (printed s s.state)
+asked_reply reading s Show text short = unless_broken s (shown s s.state)
+
+unfoldable pub reply : Reading → Serving → Piece → Reply
+reply reading s piece = asked_reply reading s piece.asked piece.text (is_short piece)
+
+-- the answers to all pieces, one after another
+unfoldable pub served : Reading → Serving → List Piece → Reply
+served reading s [] = record { text = []; commands = []; left = s }
+served reading s (piece ∷ pieces) = let r = reply reading s piece in joined r (served reading r.left pieces)
+
+-- a session that is not broken
+abbrev pub begun : State → List Fate → Serving
+begun state fates = record { state = state; is_broken = false; fates = fates }
+
+-- what is written to an input, and which commands are carried out, by what becomes of the tries
+abbrev pub texts : Reading → State → List ℕ → List Fate → List ℕ
+texts reading state input fates = (served reading (begun state fates) (pieces_of input)).text
+
+abbrev pub commands : Reading → State → List ℕ → List Fate → List Command
+commands reading state input fates = (served reading (begun state fates) (pieces_of input)).commands

@@ -1,0 +1,44 @@
+-- The lines that answer, byte by byte. Numbers are in decimal.
+use Rattle.std.specs.Prelude.{ℕ, List, ◌++◌, [], ◌∷◌, codes, decimal}
+use Rattle.plan_types.specs.declared.plans.Cost.{Cost}
+use Rattle.route_sched.specs.Cost.{cost_of}
+use Rattle.command_core.specs.Job.{JobValue}
+use Rattle.command_core.specs.Names.{refusal_name}
+use Rattle.instance_read.specs.Names.{kind_name}
+use Rattle.instance_read.specs.declared.faults.ReadFaultKind.{ReadFaultKind}
+use Rattle.instance_read.specs.declared.faults.ReadFaultKind.TheVariants.{OutOfMemory}
+use Rattle.command_text.specs.declared.answers.Answer.{Answer}
+use Rattle.command_text.specs.declared.answers.Answer.TheVariants.{Ok, BadLine, Truncated, Broken, Refused, Read, Unplanned, Spent, DeviceFault}
+
+-- with its line feed
+abbrev pub line : List ℕ → List ℕ
+line text = text ++ 10 ∷ []
+
+-- `no NAME`
+abbrev pub no_text : List ℕ → List ℕ
+no_text name = codes "no " ++ name
+
+-- a fault of an instance's text: `no NAME LINE`; want of memory is in no line
+abbrev pub read_text : ReadFaultKind → ℕ → List ℕ
+read_text OutOfMemory number = no_text (codes "OutOfMemory")
+read_text kind number = no_text (kind_name kind) ++ codes " " ++ decimal number
+
+-- the line that ends the answer to a command, without its line feed
+abbrev pub answer_text : Answer → List ℕ
+answer_text Ok = codes "ok"
+answer_text BadLine = no_text (codes "BadLine")
+answer_text Truncated = no_text (codes "Truncated")
+answer_text Broken = no_text (codes "Broken")
+answer_text (Refused refusal) = no_text (refusal_name refusal)
+answer_text (Read fault) = read_text fault.kind fault.line
+answer_text Unplanned = no_text (codes "Unplanned")
+answer_text Spent = no_text (codes "Spent")
+answer_text DeviceFault = codes "fault device"
+
+-- `U V D`
+abbrev pub cost_text : Cost → List ℕ
+cost_text cost = decimal cost.unplanned ++ codes " " ++ decimal cost.vehicles ++ codes " " ++ decimal cost.distance
+
+-- how far a search is: `at STEPS UNPLANNED VEHICLES DISTANCE`
+abbrev pub at_text : JobValue → List ℕ
+at_text j = codes "at " ++ decimal j.steps ++ codes " " ++ cost_text (cost_of j.problem j.plan)

@@ -1,0 +1,165 @@
+-- What a line of the command text asks for. A line has neither its line feed nor the one carriage return before it.
+use Rattle.std.specs.Prelude.{ℕ, ◌^◌, ◌&&◌, Bool, false, nat_le, int_le, int_lt, if◌then◌else◌, List, [], ◌∷◌, length, codes, bytes_eq, ℤ, pos, negsuc, Option, Some, None}
+use Rattle.std.specs.Int.RustNames.{unsigned_abs}
+use Rattle.std.specs.Option.{option_and_then, option_map, option_map_or}
+use Rattle.text_lines.specs.Words.{words_of}
+use Rattle.text_lines.specs.Numbers.{integer_of, below}
+use Rattle.plan_types.specs.declared.requests.Kind.{Kind}
+use Rattle.plan_types.specs.declared.requests.Kind.TheVariants.{LiLim, Vrp}
+use Rattle.command_core.specs.declared.commands.Spot.{Spot}
+use Rattle.command_core.specs.declared.commands.Command.{Command}
+use Rattle.command_core.specs.declared.commands.Command.TheVariants as command
+use Rattle.command_core.specs.declared.refusals.Refusal.{Refusal}
+use Rattle.command_core.specs.declared.refusals.Refusal.TheVariants.{Range, NoSuchRequest, NoSuchPlace}
+use Rattle.command_text.specs.declared.fields.Field.{Field}
+use Rattle.command_text.specs.declared.verbs.Verb.{Verb}
+use Rattle.command_text.specs.declared.verbs.Verb.TheVariants as verb
+use Rattle.command_text.specs.declared.asked.Asked.{Asked}
+use Rattle.command_text.specs.declared.asked.Asked.TheVariants.{Nothing, BadLine, BadLoad, LoadRange, Load, Plain, Refused, Search, Reach, Print, Show}
+
+-- An integer as a field may hold it: as an `i32` does, and as a `u64` does.
+abbrev pub field_of : ℤ → Field
+field_of z = record {
+  signed = if int_le (negsuc 2147483647) z && int_le z (pos 2147483647) then Some z else None;
+  unsigned = if int_le (pos 0) z && int_lt z (pos (2 ^ 64)) then Some (unsigned_abs z) else None;
+}
+
+-- the integer that a word is, and those that words are, if each is one
+abbrev pub field_in : List ℕ → Option Field
+field_in word = option_map field_of (integer_of word)
+
+unfoldable pub fields_of : List (List ℕ) → Option (List Field)
+fields_of [] = Some []
+fields_of (w ∷ ws) = option_and_then (λ f. option_map (λ fs. f ∷ fs) (fields_of ws)) (field_in w)
+
+-- as a `u32` holds it
+abbrev pub as_u32 : Field → Option ℕ
+as_u32 f = below (2 ^ 32) f.unsigned
+
+-- a command whose numbers have room in their fields; what is told where they have not
+abbrev pub plain_or : Refusal → Option Command → Asked
+plain_or refusal None = Refused refusal
+plain_or refusal (Some c) = Plain c
+
+-- X Y E L S
+abbrev pub spot_of : Field → Field → Field → Field → Field → Option Spot
+spot_of x y e l s =
+    option_and_then (λ x. option_and_then (λ y. option_and_then (λ e. option_and_then (λ l. option_map (λ s.
+    record { x = x; y = y; earliest = e; latest = l; service = s })
+    (as_u32 s)) (as_u32 l)) (as_u32 e)) y.signed) x.signed
+
+abbrev pub add_of : Field → Option Spot → Option Spot → Option Command
+add_of q a b = option_and_then (λ q. option_and_then (λ a. option_map (λ b. command.Add q a b) b) a) (as_u32 q)
+
+abbrev pub add1_of : Field → Option Spot → Option Command
+add1_of q a = option_and_then (λ q. option_map (λ a. command.Add1 q a) a) (as_u32 q)
+
+abbrev pub pin_of : Field → Field → Option Command
+pin_of v k = option_and_then (λ v. option_map (λ k. command.Pin v k) (as_u32 k)) (as_u32 v)
+
+-- N in 1..1,000,000,000
+abbrev pub search_of : Option ℕ → Asked
+search_of None = Refused Range
+search_of (Some n) = if nat_le 1 n && nat_le n 1000000000 then Search n else Refused Range
+
+-- N in 0..2^60
+abbrev pub reach_of : Option ℕ → Asked
+reach_of None = Refused Range
+reach_of (Some n) = if nat_le n (2 ^ 60) then Reach n else Refused Range
+
+-- a command with no number
+abbrev pub bare_asked : Verb → Asked
+bare_asked verb.Build = Plain command.Build
+bare_asked verb.Checkpoint = Plain command.Checkpoint
+bare_asked verb.Print = Print
+bare_asked verb.Show = Show
+bare_asked _ = BadLine
+
+-- with one: R, V, N or D
+abbrev pub single_asked : Verb → Field → Asked
+single_asked verb.Withdraw r = plain_or NoSuchRequest (option_map command.Withdraw (as_u32 r))
+single_asked verb.Unpin v = plain_or NoSuchPlace (option_map command.Unpin (as_u32 v))
+single_asked verb.Search n = search_of n.unsigned
+single_asked verb.Reach n = reach_of n.unsigned
+single_asked verb.Deviation d = plain_or Range (option_map command.Deviation (as_u32 d))
+single_asked _ n = BadLine
+
+-- with two: V K
+abbrev pub double_asked : Verb → Field → Field → Asked
+double_asked verb.Pin v k = plain_or NoSuchPlace (pin_of v k)
+double_asked _ v k = BadLine
+
+-- with a demand and one spot: Q X Y E L S
+abbrev pub spot_asked : Verb → Field → Option Spot → Asked
+spot_asked verb.Add1 q a = plain_or Range (add1_of q a)
+spot_asked _ q a = BadLine
+
+-- with a demand and two spots: Q X Y E L S X Y E L S
+abbrev pub spots_asked : Verb → Field → Option Spot → Option Spot → Asked
+spots_asked verb.Add q a b = plain_or Range (add_of q a b)
+spots_asked _ q a b = BadLine
+
+-- what a command's name and its numbers ask for
+unfoldable pub numbers_asked : Verb → List Field → Asked
+numbers_asked v [] = bare_asked v
+numbers_asked v (n ∷ []) = single_asked v n
+numbers_asked v (n ∷ k ∷ []) = double_asked v n k
+numbers_asked v (q ∷ x ∷ y ∷ e ∷ l ∷ s ∷ []) = spot_asked v q (spot_of x y e l s)
+numbers_asked v (q ∷ x ∷ y ∷ e ∷ l ∷ s ∷ x' ∷ y' ∷ e' ∷ l' ∷ s' ∷ []) = spots_asked v q (spot_of x y e l s) (spot_of x' y' e' l' s')
+numbers_asked v _ = BadLine
+
+-- the kind of instance that a word names
+abbrev pub kind_named : List ℕ → Option Kind
+kind_named word = if bytes_eq (codes "lilim") word then Some LiLim else if bytes_eq (codes "vrp") word then Some Vrp else None
+
+-- SEED in 0..2^64 - 1, LEN in 0..16,777,216
+abbrev pub load_within : Kind → Option ℕ → Option ℕ → Asked
+load_within kind (Some seed) (Some len) = Load kind seed len
+load_within kind None len = LoadRange
+load_within kind (Some seed) None = LoadRange
+
+abbrev pub load_of : Option Kind → Option (List Field) → Asked
+load_of (Some kind) (Some (seed ∷ len ∷ [])) = load_within kind seed.unsigned (below 16777217 len.unsigned)
+load_of _ _ = BadLoad
+
+-- the words behind `load`: KIND SEED LEN
+abbrev pub load_asked : List (List ℕ) → Asked
+load_asked [] = BadLoad
+load_asked (kind ∷ words) = load_of (kind_named kind) (fields_of words)
+
+-- the command that a word names
+unfoldable pub verb_named : List ℕ → Option Verb
+verb_named word =
+    if bytes_eq (codes "load") word then Some verb.Load else
+    if bytes_eq (codes "add") word then Some verb.Add else
+    if bytes_eq (codes "add1") word then Some verb.Add1 else
+    if bytes_eq (codes "withdraw") word then Some verb.Withdraw else
+    if bytes_eq (codes "pin") word then Some verb.Pin else
+    if bytes_eq (codes "unpin") word then Some verb.Unpin else
+    if bytes_eq (codes "build") word then Some verb.Build else
+    if bytes_eq (codes "checkpoint") word then Some verb.Checkpoint else
+    if bytes_eq (codes "search") word then Some verb.Search else
+    if bytes_eq (codes "reach") word then Some verb.Reach else
+    if bytes_eq (codes "deviation") word then Some verb.Deviation else
+    if bytes_eq (codes "print") word then Some verb.Print else
+    if bytes_eq (codes "show") word then Some verb.Show else None
+
+-- what the words behind a command's name make of it
+abbrev pub verb_asked : Option Verb → List (List ℕ) → Asked
+verb_asked None words = BadLine
+verb_asked (Some verb.Load) words = load_asked words
+verb_asked (Some v) words = option_map_or (numbers_asked v) (fields_of words) BadLine
+
+abbrev pub words_asked : List (List ℕ) → Asked
+words_asked [] = Nothing
+words_asked (word ∷ words) = verb_asked (verb_named word) words
+
+-- the first word is `load`
+abbrev pub begins_load : List (List ℕ) → Bool
+begins_load [] = false
+begins_load (word ∷ words) = bytes_eq (codes "load") word
+
+-- A line of more than 1,024 bytes is a bad one, whatever stands in it.
+unfoldable pub asked : List ℕ → Asked
+asked line =
+    if nat_le (length line) 1024 then words_asked (words_of line) else if begins_load (words_of line) then BadLoad else BadLine

@@ -1,0 +1,13 @@
+-- what public contracts say
+pub mod Answering
+pub mod Answers
+pub mod Asking
+pub mod Cutting
+pub mod Laws
+pub mod Readings
+pub mod Scanning
+pub mod Showing
+-- of private functions alone
+pub mod Lines
+pub mod Marks
+pub mod Numbers

@@ -1,0 +1,10 @@
+-- A line in a place of a fixed size.
+use Rattle.std.specs.Prelude.{ℕ, ◌≤◌, List, take}
+use Rattle.command_text.specs.declared.answers.Line.TheInside.{Inside}
+
+-- what contracts see
+abbrev pub written : Inside → List ℕ
+written l = take l.used l.bytes
+
+abbrev pub IsWithin : Inside → Type 0
+IsWithin l = l.used ≤ 128

@@ -1,0 +1,177 @@
+//! The lines that answer.
+ghost use Rattle.std.specs.Prelude.{◌≡◌, ◌≤◌, ◌+◌, ◌++◌, [], codes, decimal, length};
+ghost use Rattle.instance_read.specs.Names.{kind_name};
+ghost use Rattle.route_sched.specs.Cost.{cost_of};
+ghost use Rattle.command_text.specs.Answers.{at_text, cost_text, no_text, read_text};
+
+use command_core::{Job, Refusal};
+use instance_read::{ReadFault, ReadFaultKind};
+use itoa::Buffer;
+use plan_audit::passes_are_local;
+use plan_types::Cost;
+use route_sched::plan_cost;
+use std::marker::Model;
+
+/// A short line without its line feed, in a place of its own: an answer to what was carried out must not want memory.
+#[derive(Debug, Drop)]
+pub struct Line {
+    bytes: [u8; 128],
+    used: usize,
+}
+
+impl Model for Line {
+    ghost use Rattle.std.specs.Prelude.{List, ℕ};
+
+    ghost Value = { List ℕ };
+
+    ghost use Rattle.command_text.specs.Lines.{written, IsWithin};
+
+    ghost view = { written };
+
+    ghost invariant = { IsWithin };
+}
+
+impl Line {
+    fn new() -> Line
+        ensures { result ≡ [] }
+    {
+        Line {
+            bytes: [0; 128],
+            used: 0,
+        }
+    }
+
+    fn put(&mut self, text: &str)
+        requires { length self.old + length text.now ≤ 128 }
+        ensures text { self.new ≡ self.old ++ text.now }
+        ensures len { length self.new ≡ length self.old + length text.now }
+    {
+        let end = self.used + text.len();
+        self.bytes[self.used..end].copy_from_slice(text.as_bytes());
+        self.used = end;
+    }
+
+    fn put_number(&mut self, n: u64)
+        requires { length self.old + 20 ≤ 128 }
+        ensures text { self.new ≡ self.old ++ decimal n }
+        ensures len { length self.new ≤ length self.old + 20 }
+    {
+        let mut buffer = Buffer::new();
+        self.put(buffer.format(n));
+    }
+
+    fn put_cost(&mut self, cost: Cost)
+        requires { length self.old + 62 ≤ 128 }
+        ensures { self.new ≡ self.old ++ cost_text cost }
+    {
+        self.put_number(cost.unplanned);
+        self.put(" ");
+        self.put_number(cost.vehicles);
+        self.put(" ");
+        self.put_number(cost.distance);
+    }
+
+    /// The bytes of the line.
+    pub fn as_bytes(&self) -> &[u8]
+        ensures { result.now ≡ self.now }
+    {
+        &self.bytes[..self.used]
+    }
+}
+
+/// How the answer to a command ends.
+#[derive(Clone, Copy, Debug, PartialEq, Eq)]
+pub enum Answer {
+    Ok,
+    /// The line asks for nothing that there is.
+    BadLine,
+    /// The input ended before the announced bytes did.
+    Truncated,
+    /// The device failed in a command before.
+    Broken,
+    Refused(Refusal),
+    /// The text of an instance has this fault.
+    Read(ReadFault),
+    /// Requests are in no route, so there is no solution to be printed.
+    Unplanned,
+    /// The store can't be written any more.
+    Spent,
+    /// The device failed in this command.
+    DeviceFault,
+}
+
+impl Answer {
+    ghost use Rattle.command_text.specs.Answers.{answer_text};
+
+    /// Its line: `ok`, `no NAME`, `no NAME LINE` or `fault device`.
+    pub fn line(&self) -> Line
+        ensures { result ≡ answer_text self.now }
+    {
+        match self {
+            Answer::Ok => words("ok"),
+            Answer::BadLine => no_line("BadLine"),
+            Answer::Truncated => no_line("Truncated"),
+            Answer::Broken => no_line("Broken"),
+            Answer::Refused(refusal) => no_line(refusal.name()),
+            Answer::Read(fault) => read_line(*fault),
+            Answer::Unplanned => no_line("Unplanned"),
+            Answer::Spent => no_line("Spent"),
+            Answer::DeviceFault => words("fault device"),
+        }
+    }
+}
+
+fn words(text: &str) -> Line
+    requires { length text.now ≤ 128 }
+    ensures { result ≡ text.now }
+{
+    let mut line = Line::new();
+    line.put(text);
+    line
+}
+
+fn no_line(name: &str) -> Line
+    requires { length name.now ≤ 32 }
+    ensures text { result ≡ no_text name.now }
+    ensures len { length result ≡ 3 + length name.now }
+{
+    let mut line = Line::new();
+    line.put("no ");
+    line.put(name);
+    line
+}
+
+fn read_line(fault: ReadFault) -> Line
+    ensures { result ≡ read_text fault.kind fault.line }
+{
+    match fault.kind {
+        ReadFaultKind::OutOfMemory => no_line("OutOfMemory"),
+        _ => {
+            let mut line = no_line(fault.name());
+            line.put(" ");
+            line.put_number(fault.line);
+            line
+        }
+    }
+}
+
+/// What the incumbent costs.
+pub(crate) fn cost(job: &Job) -> Cost
+    ensures { result ≡ cost_of job.now.problem job.now.plan }
+{
+    passes_are_local();
+    plan_cost(&job.problem, &job.plan)
+}
+
+/// How far a search is: `at STEPS UNPLANNED VEHICLES DISTANCE`.
+pub fn at_line(job: &Job) -> Line
+    ensures { result ≡ at_text job.now }
+{
+    let cost = cost(job);
+    let mut line = Line::new();
+    line.put("at ");
+    line.put_number(job.steps);
+    line.put(" ");
+    line.put_cost(cost);
+    line
+}

@@ -1,0 +1,111 @@
+//! The numbers of a line.
+ghost use Rattle.std.specs.Prelude.{◌≡◌, ◌<◌, ◌≤◌, ◌++◌, [], ◌∷◌, length, None, Some, MatchOption, OnSome};
+ghost use Rattle.command_text.specs.Asking.{as_u32, field_in, field_of, fields_of};
+ghost use Rattle.command_text.specs.Numbers.{IsNoCommand};
+
+use std::marker::Model;
+use text_lines::{Number, Words};
+
+/// The most numbers that a command has.
+const MOST: usize = 11;
+
+/// An integer, where an `i32` holds it, and where a `u64` does.
+#[derive(Clone, Copy, Debug, PartialEq, Eq)]
+pub(crate) struct Field {
+    pub(crate) signed: Option<i32>,
+    pub(crate) unsigned: Option<u64>,
+}
+
+impl Field {
+    fn of(number: &Number<'_>) -> Field
+        ensures { result ≡ field_of number.now }
+    {
+        Field {
+            signed: number.within(i32::MIN, i32::MAX),
+            unsigned: number.to_u64(),
+        }
+    }
+
+    /// The number, if a `u32` holds it.
+    pub(crate) fn as_u32(&self) -> Option<u32>
+        ensures { result ≡ as_u32 self.now }
+    {
+        u32::try_from(self.unsigned?).ok()
+    }
+}
+
+// The integer that a word is.
+fn integer(word: &[u8]) -> Option<Field>
+    ensures { result ≡ field_in word.now }
+{
+    match Number::parse_integer(word) {
+        Some(number) => Some(Field::of(&number)),
+        None => None,
+    }
+}
+
+/// The numbers of a line, as many as a command may have.
+#[derive(Debug, Drop)]
+pub(crate) struct Fields {
+    fields: [Field; 11],
+    used: usize,
+}
+
+impl Model for Fields {
+    ghost use Rattle.std.specs.Prelude.{List};
+    ghost use Rattle.command_text.specs.declared.fields.Field.{Field};
+
+    ghost Value = { List Field };
+
+    ghost use Rattle.command_text.specs.Numbers.{taken, IsTaken};
+
+    ghost view = { taken };
+
+    ghost invariant = { IsTaken };
+}
+
+impl Fields {
+    fn new() -> Fields
+        ensures { result ≡ [] }
+    {
+        let none = Field {
+            signed: None,
+            unsigned: None,
+        };
+        Fields {
+            fields: [none; 11],
+            used: 0,
+        }
+    }
+
+    // Takes one more, where there is room.
+    fn push(&mut self, field: Field) -> Option<()>
+        ensures none { result ≡ None → 11 ≤ length self.old }
+        ensures some { OnSome result (self.new ≡ self.old ++ field ∷ []) }
+    {
+        if self.used == MOST {
+            return None;
+        }
+        self.fields[self.used] = field;
+        self.used += 1;
+        Some(())
+    }
+
+    pub(crate) fn as_slice(&self) -> &[Field]
+        ensures { result.now ≡ self.now }
+    {
+        &self.fields[..self.used]
+    }
+}
+
+/// The integers that the words are. `None` where one is none, or where there are more than any command has.
+pub(crate) fn integers(words: &mut Words<'_>) -> Option<Fields>
+    ensures { MatchOption result (IsNoCommand words.old)
+        (λ fields. fields_of words.old ≡ Some fields) }
+{
+    let mut fields = Fields::new();
+    for word in words.by_ref() {
+        fields.push(integer(word)?)?;
+    }
+    Some(fields)
+}

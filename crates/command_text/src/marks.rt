@@ -1,0 +1,94 @@
+//! Which requests are unplanned, by marks at the stops that are planned: so the time is linear in the problem and the plan.
+ghost use Rattle.std.specs.Prelude.{◌≡◌, ℕ, ◌<◌, ◌||◌, false, not, IfOk, length, slice_get, slice_index_or};
+ghost use Rattle.std.specs.Option.{option_and_then};
+ghost use Rattle.plan_audit.specs.Passes.{has};
+ghost use Rattle.route_sched.specs.Cost.{has_stop};
+ghost use Rattle.seeded_search.specs.Steps.{unplanned_names};
+ghost use Rattle.command_text.specs.Marks.{is_marked, name_where, names_where};
+
+use plan_types::{OutOfMemory, Problem, Request, Route, numbers_are_below_the_next};
+use std::alloc::Global;
+
+/// The names of the requests without a stop in any route, rising.
+pub(crate) fn unplanned_names(
+    alloc: Global,
+    problem: &Problem,
+    routes: &[Route],
+) -> Result<Vec<u32>, OutOfMemory>
+    ensures { IfOk result (λ names. names.items ≡ unplanned_names problem.now routes.now) }
+{
+    numbers_are_below_the_next();
+    let planned = marks(alloc, routes, problem.next_number as usize)?;
+    unmarked_names(alloc, problem, &planned)
+}
+
+// The names of the requests that have no stop among the planned ones.
+fn unmarked_names(
+    alloc: Global,
+    problem: &Problem,
+    planned: &[bool],
+) -> Result<Vec<u32>, OutOfMemory>
+    ensures { IfOk result (λ names. names.items ≡ names_where
+        (λ r. not (is_marked planned.now r)) problem.now.requests) }
+{
+    let mut names = Vec::new(alloc);
+    for index in 0..problem.requests.len() {
+        if let Some(name) = unmarked_name(problem, planned, index) {
+            names.push(name)?;
+        }
+    }
+    Ok(names)
+}
+
+fn unmarked_name(problem: &Problem, planned: &[bool], index: usize) -> Option<u32>
+    ensures { result ≡ option_and_then (name_where (λ r. not (is_marked planned.now r)))
+        (slice_get problem.now.requests index) }
+{
+    let (name, request) = problem.requests.get_index(index)?;
+    if is_marked(planned, request) {
+        None
+    } else {
+        Some(*name)
+    }
+}
+
+fn is_marked(marks: &[bool], request: &Request) -> bool
+    ensures { result ≡ is_marked marks.now request.now }
+{
+    match request {
+        Request::Single(stop) => mark(marks, stop.number),
+        Request::Pair(pickup, delivery) => {
+            mark(marks, pickup.number) || mark(marks, delivery.number)
+        }
+    }
+}
+
+fn mark(marks: &[bool], stop: u32) -> bool
+    ensures { result ≡ slice_index_or marks.now stop false }
+{
+    marks.get(stop as usize).copied().unwrap_or(false)
+}
+
+// For each number below `len` whether it is a stop of one of the routes.
+fn marks(alloc: Global, routes: &[Route], len: usize) -> Result<Vec<bool>, OutOfMemory>
+    ensures { IfOk result (λ marks. (n : ℕ) → n < len
+        → slice_index_or marks.items n false ≡ has_stop routes.now n) }
+{
+    let mut marks = vec![in alloc; false; len]?;
+    for route in routes {
+        mark_stops(&mut marks, route.as_slice());
+    }
+    Ok(marks)
+}
+
+fn mark_stops(marks: &mut [bool], stops: &[u32])
+    ensures { (n : ℕ) → n < length marks.old
+        → slice_index_or marks.new n false ≡ (slice_index_or marks.old n false || has stops.now n) }
+{
+    for stop in stops {
+        let stop = *stop as usize;
+        if stop < marks.len() {
+            marks[stop] = true;
+        }
+    }
+}

@@ -1,0 +1,49 @@
+//! How many steps a line makes.
+ghost use Rattle.std.specs.Prelude.{◌≡◌, ◌-◌, ◌≤◌, ◌<◌, ◌∷◌, ◌^◌};
+ghost use Rattle.command_text.specs.Answering.{counts_of, reach_steps, search_steps};
+
+use crate::asked::MAX_SEARCH;
+use command_core::{MAX_COUNT, MAX_STEPS, Refusal, State};
+
+/// How many steps `search N` makes, or why the line is refused.
+pub fn search_steps(state: &State, steps: u32) -> Result<u32, Refusal>
+    ensures { result ≡ search_steps state.now steps }
+{
+    let State::Loaded(job) = state else {
+        return Err(Refusal::NoInstance);
+    };
+    if job.steps + u64::from(steps) <= MAX_STEPS {
+        Ok(steps)
+    } else {
+        Err(Refusal::StepsSpent)
+    }
+}
+
+/// How many steps `reach N` makes, or why the line is refused.
+pub fn reach_steps(state: &State, goal: u64) -> Result<u32, Refusal>
+    ensures { result ≡ reach_steps state.now goal }
+{
+    let State::Loaded(job) = state else {
+        return Err(Refusal::NoInstance);
+    };
+    if goal <= job.steps + MAX_SEARCH {
+        Ok(goal.saturating_sub(job.steps) as u32)
+    } else {
+        Err(Refusal::Range)
+    }
+}
+
+/// How many steps the next command of a search makes that has so many left.
+#[tactic(auto, using(crate::proofs::StepLemmas::large_count, crate::proofs::StepLemmas::small_count))]
+pub fn next_count(left: u32) -> u16
+    requires { 0 < left }
+    ensures counts { counts_of left ≡ result ∷ counts_of (left - result) }
+    ensures least { 0 < result }
+    ensures most { result ≤ left }
+{
+    if left < u32::from(MAX_COUNT) {
+        left as u16
+    } else {
+        MAX_COUNT
+    }
+}

@@ -1,0 +1,52 @@
+-- Changes of a draft that make another plan of it.
+use Rattle.std.proofs.Common.{◌≡◌, ℕ, ◌≤◌, true, List, [], ◌∷◌, All, length, refl, sym, ap, ◌∙◌, arith}
+use Rattle.std.specs.List.{AllByRecursion, list_all}
+use Rattle.std.proofs.lemmas.Bool.{and_parts}
+use Rattle.std.proofs.lemmas.List.{length-map}
+use Rattle.std.proofs.lemmas.List.Elements.{All-from_recursion}
+use Rattle.plan_types.specs.Instance.{Instance, IsInstance}
+use Rattle.route_sched.specs.Cost.{unplanned_count}
+use Rattle.route_sched.specs.Route.{AreLiveOnce, IsPlan}
+use Rattle.slack_tables.specs.Course.{route_of}
+use Rattle.slack_tables.specs.Insertion.{KeepsLimits}
+use Rattle.plan_audit.specs.Laws.{KeepsPins}
+use Rattle.plan_audit.specs.Locality.{PassesAreLocal, TestsSayFeasible}
+use Rattle.plan_audit.specs.Passes.{feasible_alone, passes}
+use Rattle.move_ops.specs.Changes.{with_routes, IsChange, AreChanges}
+use Rattle.move_ops.specs.Drafts.{Drafted, draft_of, IsDraftOf}
+use Rattle.move_ops.specs.declared.changes.Change.{Change}
+use Rattle.move_ops.proofs.Replacing.{parts}
+use Rattle.move_ops.proofs.Fitting.{route_limits}
+use Rattle.move_ops.proofs.Changing.{said_feasible, passes_where_feasible}
+use Rattle.move_ops.proofs.Collecting.{all_changes, all_within, judged}
+
+pub few_tours : PassesAreLocal → (p : Instance) (pins : List (List ℕ)) (d : Drafted) → IsDraftOf p pins d → length d.tours ≤ 40000
+few_tours local p pins d is =
+    let e = (parts local p pins (draft_of d) (is.draft)).fleet in
+    let f = (is.valid).fleet in
+    let most = f.1 in
+    let g = length-map d.tours route_of in
+    omega arith
+
+keeps_all : (p : Instance) → IsInstance p → (cs : List Change) → list_all (λ c. feasible_alone p c.route) cs ≡ true → AllByRecursion (λ c. KeepsLimits p c.route) cs
+keeps_all p valid [] all = tt
+keeps_all p valid (c ∷ cs) all = let both = and_parts (feasible_alone p c.route) (list_all (λ (d : Change). feasible_alone p d.route) cs) all in (route_limits p valid c.route both.0, keeps_all p valid cs both.1)
+
+module _ (local : PassesAreLocal) (says : TestsSayFeasible) (p : Instance) (pins : List (List ℕ)) (d : Drafted) (is : IsDraftOf p pins d) (others : List (List ℕ)) (plan : IsPlan p others) (once : All (AreLiveOnce p) others)
+    (pinned : KeepsPins others pins) (long : length others ≡ length (draft_of d)) (cs : List Change) (are : AreChanges (draft_of d) others cs) where
+  pub asked : All (λ c. AreLiveOnce p c.route) cs
+  asked = all_changes (draft_of d) others cs are long (AreLiveOnce p) once
+
+  pub judge : list_all (λ c. feasible_alone p c.route) cs ≡ list_all (feasible_alone p) others
+  judge =
+      judged (feasible_alone p) (draft_of d) others cs are long
+      (said_feasible local says p pins (draft_of d) (is.draft) (draft_of d) ((parts local p pins (draft_of d) (is.draft)).feasible))
+
+  pub made : true ≡ list_all (λ c. feasible_alone p c.route) cs → IsChange p pins (draft_of d) cs (unplanned_count p (with_routes (draft_of d) cs))
+  made t = record {
+    within = all_within (draft_of d) others cs are long;
+    once = asked;
+    keeps = All-from_recursion (λ (c : Change). KeepsLimits p c.route) cs (keeps_all p (is.valid) cs (sym t));
+    passes = ap (passes p pins) (are.plan) ∙ passes_where_feasible local says p pins (draft_of d) (is.draft) others plan long pinned true (t ∙ judge);
+    unplanned = refl;
+  }

@@ -1,0 +1,247 @@
+-- A draft and what it keeps.
+use Rattle.std.proofs.Common.{◌≡◌, ℕ, zero, suc, ◌+◌, ◌-◌, ◌<◌, ◌≤◌, ◌||◌, not, Bool, true, false, List, [], ◌∷◌, ◌++◌, length, drop, map, set, get_or, Some, slice_get, refl, sym, ap, subst, ◌∙◌, inl, inr, arith, nat_eq, ◌⊎◌, filter}
+use Rattle.std.specs.Prelude.{unwrap_or}
+use Rattle.std.specs.List.{concat}
+use Rattle.std.proofs.lemmas.Bool.{cases_Bool}
+use Rattle.std.proofs.lemmas.Bool.Decides.{eqb_tells}
+use Rattle.std.proofs.lemmas.List.{drop_more}
+use Rattle.std.proofs.lemmas.List.Folds.{list_any-append}
+use Rattle.route_sched.specs.Cost.{has_stop}
+use Rattle.plan_audit.specs.Passes.{has}
+use Rattle.std.specs.List.{sum_by}
+use Rattle.std.proofs.lemmas.List.Sums.{sum_by-cons}
+use Rattle.route_sched.specs.Cost.{total_length}
+use Rattle.route_sched.specs.Schedule.{route_length}
+use Rattle.slack_tables.specs.Course.{Course, course_of, route_of}
+use Rattle.move_ops.specs.Insertion.{of_vehicle}
+use Rattle.move_ops.specs.Moves.{is_of_named, without_named}
+use Rattle.move_ops.specs.Tables.{plan_of, tables_of}
+use Rattle.plan_types.specs.Instance.{Instance}
+use Rattle.route_sched.specs.Cost.{cost_of}
+use Rattle.plan_audit.specs.Passes.{passes}
+use Rattle.move_ops.specs.Tables.{AreTablesIn}
+use Rattle.move_ops.specs.Drafts.{Drafted, undone, draft_of, IsDraftOf}
+use Rattle.move_ops.specs.Kept.{AreSeats}
+use Rattle.move_ops.specs.Refreshing.{AreWithin}
+use Rattle.move_ops.proofs.Times.{some_same}
+use Rattle.move_ops.proofs.Replacing.{get_set, get_set_other}
+use Rattle.std.proofs.lemmas.Option.{slice_get_within}
+
+-- ---- seats
+-- the number of a seat 0 has stayed, and is no stop seated now
+pub seat_first : (n x v : ℕ) → 1 ≤ v → (seats : List ℕ) → x < length seats → slice_get (set seats x v) n ≡ Some 0 → (nat_eq n x ≡ false) × (slice_get seats n ≡ Some 0)
+seat_first n x v some seats within at = elim (eqb_tells n x) [
+  | inl t ↦ absurd (let e : v ≡ 0 = some_same v 0 (sym (get_set seats x v within) ∙ (ap (λ k. slice_get (set seats x v) k) (sym t.1) ∙ at)) in omega arith)
+  | inr t ↦ (t.0, sym (get_set_other seats x n v t.1) ∙ at)
+]
+
+pub seat_outside : (n x : ℕ) → (seats : List ℕ) → length seats ≤ x → slice_get seats n ≡ Some 0 → nat_eq n x ≡ false
+seat_outside n x seats out at = elim (eqb_tells n x) [
+  | inl t ↦ absurd (let h = slice_get_within seats n 0 at in let e = t.1 in omega arith)
+  | inr t ↦ t.0
+]
+
+-- a list from a place on
+pub has_more : (xs : List ℕ) (k n : ℕ) → k < length xs → has (drop k xs) n ≡ nat_eq n (get_or xs k 0) || has (drop (k + 1) xs) n
+has_more xs k n below = ap (λ ys. has ys n) (drop_more xs k 0 below)
+
+-- ---- routes of which one changes
+or_false : (a b : Bool) → (a || b) ≡ false → (a ≡ false) × (b ≡ false)
+or_false true b h = absurd (let k : true ≡ false = h in cc)
+or_false false b h = (refl, h)
+
+both_false : (a b : Bool) → a ≡ false → b ≡ false → (a || b) ≡ false
+both_false a b h k = rw (h, k) refl
+
+append_false : (n : ℕ) (xs ys : List ℕ) → has (xs ++ ys) n ≡ false → (has xs n ≡ false) × (has ys n ≡ false)
+append_false n xs ys none = or_false (has xs n) (has ys n) (sym (list_any-append (nat_eq n) xs ys) ∙ none)
+
+-- a number that no route has, and the new route neither
+pub none_with : (n : ℕ) (routes : List (List ℕ)) (k : ℕ) (new : List ℕ) → has_stop routes n ≡ false → has new n ≡ false → has_stop (set routes k new) n ≡ false
+none_with n [] k new none out = none
+none_with n (r ∷ routes) zero new none out = let h = append_false n r (concat routes) none in list_any-append (nat_eq n) new (concat routes) ∙ both_false (has new n) (has_stop routes n) out h.1
+none_with n (r ∷ routes) (suc k) new none out =
+    let h = append_false n r (concat routes) none in
+    list_any-append (nat_eq n) r (concat (set routes k new)) ∙ both_false (has r n) (has_stop (set routes k new) n) h.0 (none_with n routes k new h.1 out)
+
+map_set : {X Y : Type 0} (f : X → Y) (xs : List X) (k : ℕ) (x : X) → map f (set xs k x) ≡ set (map f xs) k (f x)
+map_set f [] k x = refl
+map_set f (y ∷ xs) zero x = refl
+map_set f (y ∷ xs) (suc k) x = ap (λ l. f y ∷ l) (map_set f xs k x)
+
+-- the plan of tables, with another one for a vehicle
+pub plan_with : (tables : List Course) (k : ℕ) (c : Course) → plan_of (set tables k c) ≡ set (plan_of tables) k (route_of c)
+plan_with tables k c = map_set route_of tables k c
+
+pub seats_with : (old new : List ℕ) (tables : List Course) (k : ℕ) (c : Course) → AreSeats old (plan_of tables) → ((n : ℕ) → slice_get new n ≡ Some 0 → has (route_of c) n ≡ false)
+    → ((n : ℕ) → slice_get new n ≡ Some 0 → slice_get old n ≡ Some 0) → AreSeats new (plan_of (set tables k c))
+seats_with old new tables k c are out kept n at =
+    ap (λ (l : List (List ℕ)). has_stop l n) (plan_with tables k c) ∙ none_with n (plan_of tables) k (route_of c) (are n (kept n at)) (out n at)
+
+-- ---- the log
+undone_more : (tours : List Course) (log : List (ℕ × Course)) (v : ℕ) (c : Course) → undone tours (log ++ (v, c) ∷ []) ≡ undone (set tours (v - 1) c) log
+undone_more tours [] v c = refl
+undone_more tours (e ∷ log) v c = ap (λ (l : List Course). set l (e.0 - 1) e.1) (undone_more tours log v c)
+
+set_back : (tours : List Course) (k : ℕ) (c d : Course) → slice_get tours k ≡ Some d → set (set tours k c) k d ≡ tours
+set_back [] k c d at = refl
+set_back (t ∷ tours) zero c d at = ap (λ (x : Course). x ∷ tours) (sym (some_same t d at))
+set_back (t ∷ tours) (suc k) c d at = ap (λ l. t ∷ l) (set_back tours k c d at)
+
+pub undone_with : (tours new : List Course) (log more : List (ℕ × Course)) (v : ℕ) (c d : Course) → slice_get tours (v - 1) ≡ Some d → new ≡ set tours (v - 1) c → more ≡ log ++ (v, d) ∷ [] → undone new more ≡ undone tours log
+undone_with tours new log more v c d at is_new is_more =
+    ap (λ l. undone l more) is_new ∙ (ap (λ l. undone (set tours (v - 1) c) l) is_more ∙ (undone_more (set tours (v - 1) c) log v d ∙ ap (λ l. undone l log) (set_back tours (v - 1) c d at)))
+
+pub within_more : (n : ℕ) (log : List (ℕ × Course)) (v : ℕ) (c : Course) → 1 ≤ v → v ≤ n → AreWithin n log → AreWithin n (log ++ (v, c) ∷ [])
+within_more n [] v c low high all = ((low, high), tt)
+within_more n (e ∷ log) v c low high all = (all.0, within_more n log v c low high all.1)
+
+-- ---- a vehicle's route
+pub vehicle_route : (tours : List Course) (v : ℕ) (c : Course) → (v ≡ 0 → ⊥) → v - 1 < length tours → c ≡ get_or tours (v - 1) c → route_of c ≡ of_vehicle (plan_of tours) v
+vehicle_route tours zero c some below at = absurd (some refl)
+vehicle_route tours (suc k) c some below at = let e : suc k - 1 ≡ k = omega arith in go tours k (omega arith) (rw e at at)
+  where
+    go : (tours : List Course) (k : ℕ) → k < length tours → c ≡ get_or tours k c → route_of c ≡ unwrap_or (slice_get (plan_of tours) k) []
+    go [] k below at = absurd (omega arith)
+    go (t ∷ tours) zero below at = ap route_of at
+    go (t ∷ tours) (suc k) below at = go tours k (omega arith) at
+
+pub vehicle_none : (tours : List Course) (v : ℕ) → (v ≡ 0 → ⊥) → length tours ≤ v - 1 → ◌≡◌ {A = List ℕ} [] (of_vehicle (plan_of tours) v)
+vehicle_none tours zero some out = absurd (some refl)
+vehicle_none tours (suc k) some out = let e : suc k - 1 ≡ k = omega arith in go tours k (omega arith)
+  where
+    go : (tours : List Course) (k : ℕ) → length tours ≤ k → ◌≡◌ {A = List ℕ} [] (unwrap_or (slice_get (plan_of tours) k) [])
+    go [] k out = refl
+    go (t ∷ tours) zero out = absurd (omega arith)
+    go (t ∷ tours) (suc k) out = go tours k (omega arith)
+
+-- ---- the log gets shorter
+pub within_front : (n : ℕ) (log : List (ℕ × Course)) (v : ℕ) (c : Course) → AreWithin n (log ++ (v, c) ∷ []) → AreWithin n log × ((1 ≤ v) × (v ≤ n))
+within_front n [] v c all = (tt, all.0)
+within_front n (e ∷ log) v c all = let rest = within_front n log v c all.1 in ((all.0, rest.0), rest.1)
+
+pub undone_back : (tours new : List Course) (log less : List (ℕ × Course)) (v : ℕ) (c : Course) → log ≡ less ++ (v, c) ∷ [] → new ≡ set tours (v - 1) c → undone new less ≡ undone tours log
+undone_back tours new log less v c is is_new = ap (λ l. undone l less) is_new ∙ (sym (undone_more tours less v c) ∙ ap (undone tours) (sym is))
+
+pub undone_none : (tours : List Course) (log : List (ℕ × Course)) → length log ≡ 0 → undone tours log ≡ tours
+undone_none tours [] none = refl
+undone_none tours (e ∷ log) none = absurd (omega arith)
+
+module _ (old new : Drafted) (none : length new.log ≡ 0) (pinned : new.pinned ≡ old.pinned) where
+  new_undone : undone new.tours new.log ≡ new.tours
+  new_undone = undone_none new.tours new.log none
+
+  module _ (back : undone new.tours new.log ≡ undone old.tours old.log) where
+    pub dropped_tours : new.tours ≡ undone old.tours old.log
+    dropped_tours = sym new_undone ∙ back
+
+    pub dropped : (p : Instance) (pins : List (List ℕ)) → new.cost ≡ old.base_cost → new.base_cost ≡ old.base_cost → IsDraftOf p pins old → IsDraftOf p pins new
+    dropped p pins cost base_cost is = record {
+      valid = is.valid;
+      base = subst (λ (t : List Course). passes p pins (plan_of t) ≡ true) (sym back) (is.base);
+      draft = subst (λ (t : List Course). passes p pins (plan_of t) ≡ true) (sym dropped_tours) (is.base);
+      base_tables = subst (AreTablesIn p) (sym back) (is.base_tables);
+      tables = subst (AreTablesIn p) (sym dropped_tours) (is.base_tables);
+      pinned = subst (λ (m : List Bool). (n : ℕ) → n < length m → get_or m n false ≡ has_stop pins n) (sym pinned) (is.pinned);
+      cost = cost ∙ (is.base_cost ∙ ap (λ (t : List Course). cost_of p (plan_of t)) (sym dropped_tours));
+      base_cost = base_cost ∙ (is.base_cost ∙ ap (λ (t : List Course). cost_of p (plan_of t)) (sym back));
+    }
+
+  module _ (same : new.tours ≡ old.tours) where
+    pub taken_tours : undone new.tours new.log ≡ old.tours
+    taken_tours = new_undone ∙ same
+
+    pub taken : (p : Instance) (pins : List (List ℕ)) → new.cost ≡ old.cost → new.base_cost ≡ old.cost → IsDraftOf p pins old → IsDraftOf p pins new
+    taken p pins cost base_cost is = record {
+      valid = is.valid;
+      base = subst (λ (t : List Course). passes p pins (plan_of t) ≡ true) (sym taken_tours) (is.draft);
+      draft = subst (λ (t : List Course). passes p pins (plan_of t) ≡ true) (sym same) (is.draft);
+      base_tables = subst (AreTablesIn p) (sym taken_tours) (is.tables);
+      tables = subst (AreTablesIn p) (sym same) (is.tables);
+      pinned = subst (λ (m : List Bool). (n : ℕ) → n < length m → get_or m n false ≡ has_stop pins n) (sym pinned) (is.pinned);
+      cost = cost ∙ (is.cost ∙ ap (λ (t : List Course). cost_of p (plan_of t)) (sym same));
+      base_cost = base_cost ∙ (is.cost ∙ ap (λ (t : List Course). cost_of p (plan_of t)) (sym taken_tours));
+    }
+
+-- ---- the draft becomes another plan
+module _ (p : Instance) (pins : List (List ℕ)) (old new : Drafted) (is : IsDraftOf p pins old) (back : undone new.tours new.log ≡ undone old.tours old.log) (pinned : new.pinned ≡ old.pinned)
+    (base_cost : new.base_cost ≡ old.base_cost) where
+  pub changed : passes p pins (draft_of new) ≡ true → AreTablesIn p new.tours → new.cost ≡ cost_of p (draft_of new) → IsDraftOf p pins new
+  changed good tables cost = record {
+    valid = is.valid;
+    base = subst (λ (t : List Course). passes p pins (plan_of t) ≡ true) (sym back) (is.base);
+    draft = good;
+    base_tables = subst (AreTablesIn p) (sym back) (is.base_tables);
+    tables = tables;
+    pinned = subst (λ (m : List Bool). (n : ℕ) → n < length m → get_or m n false ≡ has_stop pins n) (sym pinned) (is.pinned);
+    cost = cost;
+    base_cost = base_cost ∙ (is.base_cost ∙ ap (λ (t : List Course). cost_of p (plan_of t)) (sym back));
+  }
+
+-- a list of which the first ones are replaced, and one more
+pub next_set : (ys old : List Course) (x : Course) → length ys < length old → set (ys ++ drop (length ys) old) (length ys) x ≡ (ys ++ x ∷ []) ++ drop (length (ys ++ x ∷ [])) old
+next_set [] [] x below = absurd (omega arith)
+next_set [] (o ∷ old) x below = refl
+next_set (y ∷ ys) [] x below = absurd (omega arith)
+next_set (y ∷ ys) (o ∷ old) x below = ap (λ l. y ∷ l) (next_set ys old x (omega arith))
+
+-- ---- the stops of tours
+pub tours_more : (tours : List Course) (k n : ℕ) (d : Course) → k < length tours → has_stop (plan_of (drop k tours)) n ≡ has (route_of (get_or tours k d)) n || has_stop (plan_of (drop (k + 1) tours)) n
+tours_more tours k n d below =
+    ap (λ (l : List Course). has_stop (plan_of l) n) (drop_more tours k d below) ∙ list_any-append (nat_eq n) (route_of (get_or tours k d)) (concat (plan_of (drop (k + 1) tours)))
+
+true_or : (a b : Bool) → a ≡ true → (a || b) ≡ true
+true_or a b h = rw h refl
+
+or_true : (a b : Bool) → b ≡ true → (a || b) ≡ true
+or_true true b h = refl
+or_true false b h = h
+
+pub has_in_vehicle : (routes : List (List ℕ)) (v n : ℕ) → has (of_vehicle routes v) n ≡ true → has_stop routes n ≡ true
+has_in_vehicle routes zero n had = absurd (let h : false ≡ true = had in cc)
+has_in_vehicle [] (suc k) n had = absurd (let h : false ≡ true = had in cc)
+has_in_vehicle (r ∷ routes) (suc zero) n had = list_any-append (nat_eq n) r (concat routes) ∙ true_or (has r n) (has_stop routes n) had
+has_in_vehicle (r ∷ routes) (suc (suc k)) n had = list_any-append (nat_eq n) r (concat routes) ∙ or_true (has r n) (has_stop routes n) (has_in_vehicle routes (suc k) n had)
+
+-- ---- tables with another one
+pub tables_with : (p : Instance) (tours : List Course) (k : ℕ) (tour : Course) → AreTablesIn p tours → course_of p (route_of tour) ≡ tour → AreTablesIn p (set tours k tour)
+tables_with p tours k tour are is =
+    ap (tables_of p) (plan_with tours k tour)
+    ∙ (map_set (course_of p) (plan_of tours) k (route_of tour)
+    ∙ (ap (λ l. set l k (course_of p (route_of tour))) are ∙ ap (λ t. set tours k t) is))
+
+pub sum_tours : (p : Instance) (tours : List Course) → total_length p (plan_of tours) ≡ sum_by (λ t. route_length p (route_of t)) tours
+sum_tours p [] = refl
+sum_tours p (t ∷ tours) =
+    sum_by-cons (route_length p) (route_of t) (plan_of tours) ∙ (ap (λ k. route_length p (route_of t) + k) (sum_tours p tours) ∙ sym (sum_by-cons (λ (c : Course). route_length p (route_of c)) t tours))
+
+-- ---- stops that no route has any more
+pub unseat_first : (n x : ℕ) (seats : List ℕ) → x < length seats → slice_get (set seats x 0) n ≡ Some 0 → (n ≡ x) ⊎ (slice_get seats n ≡ Some 0)
+unseat_first n x seats within at = elim (eqb_tells n x) [
+  | inl t ↦ inl t.1
+  | inr t ↦ inr (sym (get_set_other seats x n 0 t.1) ∙ at)
+]
+
+pub seats_without : (old new : List ℕ) (routes : List (List ℕ)) (x : ℕ) → AreSeats old routes → has_stop routes x ≡ false → ((n : ℕ) → slice_get new n ≡ Some 0 → (n ≡ x) ⊎ (slice_get old n ≡ Some 0)) → AreSeats new routes
+seats_without old new routes x are gone told n at = elim (told n at) [
+  | inl here ↦ ap (has_stop routes) here ∙ gone
+  | inr there ↦ are n there
+]
+
+gone_in : (keep : ℕ → Bool) (n : ℕ) → keep n ≡ false → (xs : List ℕ) → has (filter keep xs) n ≡ false
+gone_in keep n out [] = refl
+gone_in keep n out (x ∷ xs) = elim (eqb_tells n x) [
+  | inl t ↦ (let left : keep x ≡ false = ap keep (sym t.1) ∙ out in rw left (gone_in keep n out xs))
+  | inr t ↦ elim (cases_Bool (keep x)) [
+    | inl kept ↦ rw (kept, t.0) (gone_in keep n out xs)
+    | inr left ↦ rw left (gone_in keep n out xs)
+  ]
+]
+
+gone : (keep : ℕ → Bool) (n : ℕ) → keep n ≡ false → (routes : List (List ℕ)) → has_stop (map (filter keep) routes) n ≡ false
+gone keep n out [] = refl
+gone keep n out (r ∷ routes) =
+    list_any-append (nat_eq n) (filter keep r) (concat (map (filter keep) routes)) ∙ both_false (has (filter keep r) n) (has_stop (map (filter keep) routes) n) (gone_in keep n out r) (gone keep n out routes)
+
+pub named_gone : (p : Instance) (names : List ℕ) (routes given : List (List ℕ)) → given ≡ without_named p names routes → (n : ℕ) → is_of_named p names n ≡ true → has_stop given n ≡ false
+named_gone p names routes given are n named = ap (λ (l : List (List ℕ)). has_stop l n) are ∙ gone (λ m. not (is_of_named p names m)) n (rw named refl) routes

@@ -1,0 +1,102 @@
+use Rattle.std.proofs.Common.{rules, ◌≡◌, ℕ, List, true, false, not, All, Some, filter, sym, ap, subst, ◌∙◌}
+use Rattle.std.specs.List.{list_all}
+use Rattle.std.proofs.lemmas.List.{length-map}
+use Rattle.route_sched.specs.Route.{AreLiveOnce}
+use Rattle.plan_audit.specs.Passes.{feasible_alone}
+use Rattle.slack_tables.specs.Course.{Course}
+use Rattle.move_ops.specs.Moves.{is_movable_name, is_of_named, without_named}
+use Rattle.move_ops.specs.Changes.{AreChanges}
+use Rattle.move_ops.specs.Tables.{plan_of}
+use Rattle.move_ops.specs.Drafts.{draft_of}
+use Rattle.move_ops.specs.declared.changes.Change.{Change}
+use Rattle.move_ops.proofs.Removing.{left_plan, left_pinned, left_once, removed_is}
+use Rattle.move_ops.proofs.Applying.{asked, judge, made}
+use Rattle.move_ops.proofs.draft.Draft.removing.Goals as goal
+
+pub are_all_feasible-requires : goal.are_all_feasible-requires
+are_all_feasible-requires c =
+    let p = c.args.problem.now in
+    let pins = c.args.pins.now.routes in
+    let d = c.args.self.now in
+    let is = c.requires in
+    let routes = draft_of d in
+    let movable : list_all (is_movable_name p pins routes) c.args.names.now ≡ true = search rules in
+    let others : List (List ℕ) = without_named p c.args.names.now routes in
+    let plan = left_plan c.requests_stand_by_name.ensures c.passes_are_local.ensures c.plans_are_local.ensures c.tests_say_feasible.ensures p pins routes is.valid is.draft c.args.names.now movable in
+    let pinned = left_pinned c.requests_stand_by_name.ensures c.passes_are_local.ensures c.plans_are_local.ensures c.tests_say_feasible.ensures p pins routes is.valid is.draft c.args.names.now movable in
+    let once = left_once c.requests_stand_by_name.ensures c.passes_are_local.ensures c.plans_are_local.ensures c.tests_say_feasible.ensures p pins routes is.valid is.draft c.args.names.now movable in
+    let long = length-map routes (filter (λ m. not (is_of_named p c.args.names.now m))) in
+    let tours : c.deref.result.now ≡ d.tours = search rules in
+    let are : AreChanges routes others c.in_ok-changes.changes.items = subst (λ (t : List Course). AreChanges (plan_of t) (without_named p c.args.names.now (plan_of t)) c.in_ok-changes.changes.items) tours c.in_ok-changes.ensures in
+    subst (λ (l : List Change). All (λ x. AreLiveOnce p x.route) l) (sym c.deref-2.ensures.value) (asked c.passes_are_local.ensures c.tests_say_feasible.ensures p pins d is others plan once pinned long c.in_ok-changes.changes.items are)
+
+pub returns-then-not-are_all_feasible-clause-routes : goal.returns-then-not-are_all_feasible-clause-routes
+returns-then-not-are_all_feasible-clause-routes c =
+    let p = c.args.problem.now in
+    let pins = c.args.pins.now.routes in
+    let d = c.args.self.now in
+    let is = c.requires in
+    let routes = draft_of d in
+    let movable : list_all (is_movable_name p pins routes) c.args.names.now ≡ true = search rules in
+    let others : List (List ℕ) = without_named p c.args.names.now routes in
+    let plan = left_plan c.requests_stand_by_name.ensures c.passes_are_local.ensures c.plans_are_local.ensures c.tests_say_feasible.ensures p pins routes is.valid is.draft c.args.names.now movable in
+    let pinned = left_pinned c.requests_stand_by_name.ensures c.passes_are_local.ensures c.plans_are_local.ensures c.tests_say_feasible.ensures p pins routes is.valid is.draft c.args.names.now movable in
+    let once = left_once c.requests_stand_by_name.ensures c.passes_are_local.ensures c.plans_are_local.ensures c.tests_say_feasible.ensures p pins routes is.valid is.draft c.args.names.now movable in
+    let long = length-map routes (filter (λ m. not (is_of_named p c.args.names.now m))) in
+    let tours : c.deref.result.now ≡ d.tours = search rules in
+    let are : AreChanges routes others c.in_ok-changes.changes.items = subst (λ (t : List Course). AreChanges (plan_of t) (without_named p c.args.names.now (plan_of t)) c.in_ok-changes.changes.items) tours c.in_ok-changes.ensures in
+    let fails : c.are_all_feasible.result ≡ false = search rules in
+    sym (removed_is c.requests_stand_by_name.ensures c.passes_are_local.ensures c.plans_are_local.ensures c.tests_say_feasible.ensures p pins routes is.valid is.draft c.args.names.now movable false (sym fails ∙ (c.are_all_feasible.ensures ∙ ap (list_all (λ (x : Change). feasible_alone p x.route)) c.deref-2.ensures.value ∙ judge c.passes_are_local.ensures c.tests_say_feasible.ensures p pins d is others plan once pinned long c.in_ok-changes.changes.items are)))
+
+pub returns-clause-routes : goal.returns-clause-routes
+returns-clause-routes c =
+    let p = c.args.problem.now in
+    let pins = c.args.pins.now.routes in
+    let d = c.args.self.now in
+    let is = c.requires in
+    let routes = draft_of d in
+    let movable : list_all (is_movable_name p pins routes) c.args.names.now ≡ true = search rules in
+    let others : List (List ℕ) = without_named p c.args.names.now routes in
+    let plan = left_plan c.requests_stand_by_name.ensures c.passes_are_local.ensures c.plans_are_local.ensures c.tests_say_feasible.ensures p pins routes is.valid is.draft c.args.names.now movable in
+    let pinned = left_pinned c.requests_stand_by_name.ensures c.passes_are_local.ensures c.plans_are_local.ensures c.tests_say_feasible.ensures p pins routes is.valid is.draft c.args.names.now movable in
+    let once = left_once c.requests_stand_by_name.ensures c.passes_are_local.ensures c.plans_are_local.ensures c.tests_say_feasible.ensures p pins routes is.valid is.draft c.args.names.now movable in
+    let long = length-map routes (filter (λ m. not (is_of_named p c.args.names.now m))) in
+    let tours : c.deref.result.now ≡ d.tours = search rules in
+    let are : AreChanges routes others c.in_ok-changes.changes.items = subst (λ (t : List Course). AreChanges (plan_of t) (without_named p c.args.names.now (plan_of t)) c.in_ok-changes.changes.items) tours c.in_ok-changes.ensures in
+    let holds : c.are_all_feasible.result ≡ true = search rules in
+    ap (λ (l : List (List ℕ)). Some l) are.plan ∙ sym (removed_is c.requests_stand_by_name.ensures c.passes_are_local.ensures c.plans_are_local.ensures c.tests_say_feasible.ensures p pins routes is.valid is.draft c.args.names.now movable true (sym holds ∙ (c.are_all_feasible.ensures ∙ ap (list_all (λ (x : Change). feasible_alone p x.route)) c.deref-2.ensures.value ∙ judge c.passes_are_local.ensures c.tests_say_feasible.ensures p pins d is others plan once pinned long c.in_ok-changes.changes.items are)))
+
+pub returns-clause-change : goal.returns-clause-change
+returns-clause-change c =
+    let p = c.args.problem.now in
+    let pins = c.args.pins.now.routes in
+    let d = c.args.self.now in
+    let is = c.requires in
+    let routes = draft_of d in
+    let movable : list_all (is_movable_name p pins routes) c.args.names.now ≡ true = search rules in
+    let others : List (List ℕ) = without_named p c.args.names.now routes in
+    let plan = left_plan c.requests_stand_by_name.ensures c.passes_are_local.ensures c.plans_are_local.ensures c.tests_say_feasible.ensures p pins routes is.valid is.draft c.args.names.now movable in
+    let pinned = left_pinned c.requests_stand_by_name.ensures c.passes_are_local.ensures c.plans_are_local.ensures c.tests_say_feasible.ensures p pins routes is.valid is.draft c.args.names.now movable in
+    let once = left_once c.requests_stand_by_name.ensures c.passes_are_local.ensures c.plans_are_local.ensures c.tests_say_feasible.ensures p pins routes is.valid is.draft c.args.names.now movable in
+    let long = length-map routes (filter (λ m. not (is_of_named p c.args.names.now m))) in
+    let tours : c.deref.result.now ≡ d.tours = search rules in
+    let are : AreChanges routes others c.in_ok-changes.changes.items = subst (λ (t : List Course). AreChanges (plan_of t) (without_named p c.args.names.now (plan_of t)) c.in_ok-changes.changes.items) tours c.in_ok-changes.ensures in
+    let holds : c.are_all_feasible.result ≡ true = search rules in
+    made c.passes_are_local.ensures c.tests_say_feasible.ensures p pins d is others plan once pinned long c.in_ok-changes.changes.items are (sym holds ∙ (c.are_all_feasible.ensures ∙ ap (list_all (λ (x : Change). feasible_alone p x.route)) c.deref-2.ensures.value))
+
+pub returns-clause-named : goal.returns-clause-named
+returns-clause-named c =
+    let p = c.args.problem.now in
+    let pins = c.args.pins.now.routes in
+    let d = c.args.self.now in
+    let is = c.requires in
+    let routes = draft_of d in
+    let movable : list_all (is_movable_name p pins routes) c.args.names.now ≡ true = search rules in
+    let others : List (List ℕ) = without_named p c.args.names.now routes in
+    let plan = left_plan c.requests_stand_by_name.ensures c.passes_are_local.ensures c.plans_are_local.ensures c.tests_say_feasible.ensures p pins routes is.valid is.draft c.args.names.now movable in
+    let pinned = left_pinned c.requests_stand_by_name.ensures c.passes_are_local.ensures c.plans_are_local.ensures c.tests_say_feasible.ensures p pins routes is.valid is.draft c.args.names.now movable in
+    let once = left_once c.requests_stand_by_name.ensures c.passes_are_local.ensures c.plans_are_local.ensures c.tests_say_feasible.ensures p pins routes is.valid is.draft c.args.names.now movable in
+    let long = length-map routes (filter (λ m. not (is_of_named p c.args.names.now m))) in
+    let tours : c.deref.result.now ≡ d.tours = search rules in
+    let are : AreChanges routes others c.in_ok-changes.changes.items = subst (λ (t : List Course). AreChanges (plan_of t) (without_named p c.args.names.now (plan_of t)) c.in_ok-changes.changes.items) tours c.in_ok-changes.ensures in
+    are.plan

@@ -1,0 +1,92 @@
+//! A route and its table.
+ghost use Rattle.std.specs.Prelude.{◌≡◌, ◌≤◌, ◌<◌, IfOk, OnOk, Some, slice_get, slice_set, length};
+ghost use Rattle.route_sched.specs.Route.{AreLiveOnce};
+ghost use Rattle.slack_tables.specs.Insertion.{KeepsLimits};
+ghost use Rattle.slack_tables.specs.Course.{course_of, route_of};
+
+use plan_types::{OutOfMemory, Problem};
+use slack_tables::RouteTable;
+use std::alloc::Global;
+use std::marker::Model;
+use std::mem;
+
+/// The route of a vehicle with its table.
+#[derive(Debug, Drop)]
+pub(crate) struct Tour {
+    stops: Vec<u32>,
+    table: RouteTable,
+}
+
+impl Model for Tour {
+    ghost use Rattle.std.specs.Prelude.{◌≡◌};
+    ghost use Rattle.slack_tables.specs.Course.{Course, route_of};
+
+    ghost Value = { Course };
+
+    ghost view = { λ t. t.table };
+
+    ghost invariant = { λ t. t.stops.items ≡ route_of t.table };
+}
+
+impl Tour {
+    pub(crate) fn build(
+        alloc: Global,
+        problem: &Problem,
+        route: &[u32],
+    ) -> Result<Tour, OutOfMemory>
+        requires route { AreLiveOnce problem.now route.now }
+        requires limits { KeepsLimits problem.now route.now }
+        ensures course { IfOk result (λ tour. tour ≡ course_of problem.now route.now) }
+        ensures route { IfOk result (λ tour. route_of tour ≡ route.now) }
+    {
+        let table = RouteTable::build(alloc, problem, route)?;
+        let stops = Vec::from_slice(alloc, route)?;
+        Ok(Tour { stops, table })
+    }
+
+    /// The tour of another route, in the memory of this one as far as that goes.
+    pub(crate) fn remade(self, problem: &Problem, route: &[u32]) -> Result<Tour, OutOfMemory>
+        requires route { AreLiveOnce problem.now route.now }
+        requires limits { KeepsLimits problem.now route.now }
+        ensures course { IfOk result (λ tour. tour ≡ course_of problem.now route.now) }
+        ensures route { IfOk result (λ tour. route_of tour ≡ route.now) }
+    {
+        let Tour {
+            mut stops,
+            mut table,
+        } = self;
+        table.rebuild(problem, route)?;
+        stops.clear();
+        stops.extend_from_slice(route)?;
+        Ok(Tour { stops, table })
+    }
+
+    pub(crate) fn stop_count(&self) -> usize
+        ensures count { result ≡ length self.now.stops }
+        ensures few { result ≤ 40001 }
+    {
+        self.table.stop_count()
+    }
+
+    /// The stops in order.
+    pub(crate) fn stops(&self) -> &[u32]
+        ensures { result.now ≡ route_of self.now }
+    {
+        self.stops.as_slice()
+    }
+
+    pub(crate) fn table(&self) -> &RouteTable
+        ensures { result.now ≡ self.now }
+    {
+        &self.table
+    }
+}
+
+/// Lets a tour take the place of another, which is given back.
+pub(crate) fn swap(tours: &mut Vec<Tour>, index: usize, tour: Tour) -> Tour
+    requires { index < length tours.old.items }
+    ensures old { slice_get tours.old.items index ≡ Some result }
+    ensures new { tours.new.items ≡ slice_set tours.old.items index tour }
+{
+    mem::replace(&mut tours[index], tour)
+}

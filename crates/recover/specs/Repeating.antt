@@ -1,0 +1,48 @@
+-- What repeating the commands of a store gives.
+use Rattle.std.specs.Prelude.{◌≡◌, ℕ, ◌+◌, ◌≤◌, List, ⊤}
+use Rattle.command_core.specs.Runs.{after, AreAccepted}
+use Rattle.command_core.specs.declared.states.State.{State}
+use Rattle.command_core.specs.declared.commands.Command.{Command}
+use Rattle.command_core.specs.declared.refusals.Refusal.{Refusal}
+use Rattle.command_core.specs.declared.refusals.Refusal.TheVariants as refusals
+use Rattle.state_codec.specs.declared.fault.CodecFault.TheVariants.{Truncated, BadField, PlanRefused, OutOfMemory}
+use Rattle.state_codec.specs.declared.version.Version.TheVariants.{Two}
+use Rattle.checkpoint.specs.declared.faults.StoreFault.{StoreFault}
+use Rattle.checkpoint.specs.declared.faults.StoreFault.TheVariants as store
+use Rattle.checkpoint.specs.declared.places.Place.{Place}
+use Rattle.checkpoint.specs.Holds.{Holds}
+use Rattle.recover.specs.Opening.{steps_in}
+
+-- a record that the state refuses does not belong to its store
+abbrev pub fault_of : Refusal → StoreFault
+fault_of refusals.OutOfMemory = store.OutOfMemory
+fault_of refusals.NoInstance = store.Codec BadField
+fault_of refusals.Range = store.Codec BadField
+fault_of refusals.NoSuchRequest = store.Codec BadField
+fault_of refusals.Pinned = store.Codec BadField
+fault_of refusals.NoSuchPlace = store.Codec BadField
+fault_of refusals.NotARoute = store.Codec BadField
+fault_of refusals.NumbersSpent = store.Codec BadField
+fault_of refusals.StepsSpent = store.Codec BadField
+
+-- BadField where the commands are not all accepted, or want of memory
+abbrev pub IsOfRepeating : State → List Command → StoreFault → Type 0
+IsOfRepeating snapshot commands store.OutOfMemory = ⊤
+IsOfRepeating snapshot commands (store.Codec BadField) = ¬ AreAccepted snapshot commands
+IsOfRepeating snapshot commands (store.Codec Truncated) = ⊥
+IsOfRepeating snapshot commands (store.Codec (PlanRefused rule)) = ⊥
+IsOfRepeating snapshot commands (store.Codec OutOfMemory) = ⊥
+IsOfRepeating snapshot commands store.NotFormatted = ⊥
+IsOfRepeating snapshot commands store.BadVersion = ⊥
+IsOfRepeating snapshot commands store.Spent = ⊥
+IsOfRepeating snapshot commands store.DeviceFault = ⊥
+
+-- Of this image, whose place is this: the state after its commands, and how many steps they make.
+pub record IsRepeated (image : List ℕ) (state : State) (place : Place) (replayed : ℕ) : Type 0 where
+  pub snapshot : State
+  pub commands : List Command
+  pub holds : Holds Two image snapshot commands place
+  pub accepted : AreAccepted snapshot commands
+  pub leads : after snapshot commands ≡ state
+  pub steps : steps_in state ≡ steps_in snapshot + replayed
+  pub most : replayed ≤ 65536

@@ -1,0 +1,146 @@
+// Opening a device: the state that its store stands for.
+ghost use Rattle.std.specs.Prelude.{◌≡◌, ◌+◌, ◌<◌, ◌≤◌, ◌^◌, List, ℕ, false, Err, OnOk, IfOk, IfErr, IsErrOf, MatchResult};
+ghost use Rattle.command_core.specs.Runs.{IsState};
+ghost use Rattle.sector_disk.specs.Sectors.{Throughout, Only};
+ghost use Rattle.state_codec.specs.declared.version.Version.TheVariants.{Two};
+ghost use Rattle.checkpoint.specs.Reads.{IsStanding};
+ghost use Rattle.checkpoint.specs.Holds.{Holds};
+ghost use Rattle.checkpoint.specs.Holdless.{HoldsNothing, IsOfLoad, UnlessUnread};
+ghost use Rattle.checkpoint.specs.Refused.{faults_after_reading};
+ghost use Rattle.recover.specs.StandsFor.{StandsFor};
+ghost use Rattle.recover.specs.Applying.{IsBetween};
+ghost use Rattle.recover.specs.Opening.{Opens, StandsForNone, IsReplayed, outcome, device_after};
+ghost use Rattle.recover.specs.Repeating.{IsRepeated};
+
+use crate::repeating::{repeat, steps_in};
+use crate::sessions::Session;
+use checkpoint::{Loaded, Place, StoreFault, images_hold_one_thing, load_latest};
+use command_core::State;
+use sector_disk::{DeviceFault, Sectors};
+use std::alloc::Global;
+
+/// The sectors of the smallest store of any version.
+const LEAST_SECTORS: u64 = 802;
+
+/// What a device's store stands for.
+#[derive(Drop)]
+pub(crate) struct Recovered {
+    pub state: State,
+    /// Where the journal goes on.
+    pub place: Place,
+    /// How many search steps were repeated.
+    pub replayed: u64,
+}
+
+/// What the image that reads give holds, once it is durable: one call that finishes, and none on a device that is smaller than any store.
+fn read_settled<D: Sectors>(alloc: Global, device: &mut D) -> Result<Loaded, StoreFault>
+    ensures small { D.len device.old < 802 → device.new ≡ device.old }
+    ensures told { D.len device.old < 802 → IsErrOf result StoreFault.NotFormatted }
+    ensures fails { IfErr result IsOfLoad }
+    ensures standing { IfOk result
+        (λ loaded. IsStanding 8450 (D.len device.old) loaded.state loaded.place) }
+    ensures found { D.honest device.new
+        → MatchResult result (λ loaded.
+        Holds Two (D.seen device.old) loaded.state loaded.commands.items loaded.place)
+        (UnlessUnread (HoldsNothing Two (D.seen device.old))) }
+    ensures only { D.honest device.new
+        → OnOk result (Only (D.seen device.old) (D.possible device.new)) }
+    ensures same_len { D.len device.new ≡ D.len device.old }
+    ensures finished { OnOk result (D.calls device.new ≡ D.calls device.old + 1) }
+    ensures fault { D.faults device.new ≡ faults_after_reading result (D.faults device.old) }
+    ensures honest { D.honest device.new → D.honest device.old }
+    ensures moments { D.honest device.new
+        → Throughout D.clock D.possible_since device.old device.new
+        (λ m image. IsBetween (D.calls device.old) (D.calls device.old + 1) m image × D.possible device.old image) }
+{
+    if device.len() < LEAST_SECTORS {
+        return Err(StoreFault::NotFormatted);
+    }
+    match device.sync() {
+        Ok(()) => load_latest(alloc, device),
+        Err(DeviceFault) => Err(StoreFault::DeviceFault),
+    }
+}
+
+/// The state that the device's store stands for: what is read, with the commands of the records repeated.
+fn recover<D: Sectors>(alloc: Global, device: &mut D) -> Result<Recovered, StoreFault>
+    ensures small { D.len device.old < 802 → device.new ≡ device.old }
+    ensures told { D.len device.old < 802 → IsErrOf result StoreFault.NotFormatted }
+    ensures fails { IfErr result IsOfLoad }
+    ensures standing { IfOk result
+        (λ found. IsStanding 8450 (D.len device.old) found.state found.place) }
+    ensures found { D.honest device.new
+        → MatchResult result (λ found.
+        IsRepeated (D.seen device.old) found.state found.place found.replayed)
+        (UnlessUnread (StandsForNone (D.seen device.old))) }
+    ensures only { D.honest device.new
+        → OnOk result (Only (D.seen device.old) (D.possible device.new)) }
+    ensures same_len { D.len device.new ≡ D.len device.old }
+    ensures finished { OnOk result (D.calls device.new ≡ D.calls device.old + 1) }
+    ensures fault { D.faults device.new ≡ faults_after_reading result (D.faults device.old) }
+    ensures honest { D.honest device.new → D.honest device.old }
+    ensures moments { D.honest device.new
+        → Throughout D.clock D.possible_since device.old device.new
+        (λ m image. IsBetween (D.calls device.old) (D.calls device.old + 1) m image × D.possible device.old image) }
+{
+    let loaded = read_settled(alloc, device)?;
+    let begun = steps_in(&loaded.state);
+    let state = repeat(alloc, loaded.state, &loaded.commands)?;
+    Ok(Recovered {
+        replayed: steps_in(&state).saturating_sub(begun),
+        state,
+        place: loaded.place,
+    })
+}
+
+/// An opened store.
+#[derive(Drop)]
+pub struct Opened<D: Sectors> {
+    pub session: Session<D>,
+    /// How many search steps were repeated.
+    pub replayed: u64,
+}
+
+impl<D: Sectors> Session<D> {
+    /// Opens the store on a device: a sync, and then it reads alone and repeats the commands of the records.
+    ///
+    /// The state is the one that the image which reads give stands for. It is refused only where that image stands for none, where memory is
+    /// refused or where the device fails, and hands the device back. At each moment within the call a stop leaves an image that it might have
+    /// left before, and after `Ok` one that stands for the state. A device of fewer than 802 sectors is `NotFormatted`, and is not called.
+    pub fn open(alloc: Global, device: D) -> Result<Opened<D>, (StoreFault, D)>
+        ensures given { IfOk result (λ o. D.honest o.session.device
+            → StandsFor (D.seen device) o.session.state) }
+        ensures refused { D.honest (device_after (λ o. o.session.device) result)
+            → IfErr (outcome (λ o. o.session.state) result)
+            (UnlessUnread (StandsForNone (D.seen device))) }
+        ensures opens { D.honest (device_after (λ o. o.session.device) result)
+            → Opens (D.seen device) (outcome (λ o. o.session.state) result) }
+        ensures fails { IfErr (outcome (λ o. o.session.state) result) IsOfLoad }
+        ensures fault { D.faults (device_after (λ o. o.session.device) result)
+            ≡ faults_after_reading (outcome (λ o. o.session.state) result) (D.faults device) }
+        ensures small { D.len device < 802 → result ≡ Err (StoreFault.NotFormatted, device) }
+        ensures moments { D.honest (device_after (λ o. o.session.device) result)
+            → Throughout D.clock D.possible_since device
+            (device_after (λ o. o.session.device) result)
+            (λ m image. IsBetween (D.calls device) (D.calls device + 1) m image × D.possible device image) }
+        ensures stands { IfOk result (λ o. D.honest o.session.device → (image : List ℕ)
+            → D.possible o.session.device image → StandsFor image o.session.state) }
+        ensures finished { IfOk result (λ o. D.calls o.session.device ≡ D.calls device + 1) }
+        ensures whole { IfOk result (λ o. o.session.is_broken ≡ false) }
+        ensures facts { IfOk result (λ o. IsState o.session.state) }
+        ensures replayed { IfOk result (λ o. D.honest o.session.device
+            → IsReplayed (D.seen device) o.session.state o.replayed) }
+        ensures same_len { D.len (device_after (λ o. o.session.device) result) ≡ D.len device }
+        ensures honest { D.honest (device_after (λ o. o.session.device) result) → D.honest device }
+    {
+        images_hold_one_thing();
+        let mut device = device;
+        match recover(alloc, &mut device) {
+            Ok(found) => Ok(Opened {
+                session: Session::over(device, found.state, found.place),
+                replayed: found.replayed,
+            }),
+            Err(fault) => Err((fault, device)),
+        }
+    }
+}

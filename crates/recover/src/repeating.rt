@@ -1,0 +1,60 @@
+// The commands of a store's records, repeated.
+ghost use Rattle.std.specs.Prelude.{◌≡◌, ◌⊎◌, ◌-◌, Some, None, IfOk, IfErr};
+ghost use Rattle.command_core.specs.Runs.{IsState, AreAccepted, after};
+ghost use Rattle.recover.specs.Opening.{steps_in};
+ghost use Rattle.recover.specs.Repeating.{fault_of, IsOfRepeating};
+
+use crate::effects::state_after;
+use checkpoint::StoreFault;
+use command_core::{Command, Refusal, State};
+use state_codec::CodecFault;
+use std::alloc::Global;
+
+/// What is told where the command of a record is refused.
+fn fault_of(refusal: Refusal) -> StoreFault
+    ensures { result ≡ fault_of refusal }
+{
+    match refusal {
+        Refusal::OutOfMemory => StoreFault::OutOfMemory,
+        Refusal::NoInstance
+        | Refusal::Range
+        | Refusal::NoSuchRequest
+        | Refusal::Pinned
+        | Refusal::NoSuchPlace
+        | Refusal::NotARoute
+        | Refusal::NumbersSpent
+        | Refusal::StepsSpent => StoreFault::Codec(CodecFault::BadField),
+    }
+}
+
+/// The search steps that a state has made.
+pub(crate) fn steps_in(state: &State) -> u64
+    ensures { result ≡ steps_in state.now }
+{
+    match state {
+        State::Empty => 0,
+        State::Loaded(job) => job.steps,
+    }
+}
+
+/// The state after these commands.
+pub(crate) fn repeat(
+    alloc: Global,
+    snapshot: State,
+    commands: &[Command],
+) -> Result<State, StoreFault>
+    requires { IsState snapshot }
+    ensures accepted { IfOk result (λ state. AreAccepted snapshot commands.now) }
+    ensures leads { IfOk result (λ state. after snapshot commands.now ≡ state) }
+    ensures facts { IfOk result IsState }
+    ensures refused { IfErr result (IsOfRepeating snapshot commands.now) }
+{
+    let mut state = snapshot;
+    for command in commands {
+        state = match state_after(alloc, &state, command) {
+            Ok(next) => next,
+            Err(refusal) => return Err(fault_of(refusal)),
+        };
+    }
+    Ok(state)
+}

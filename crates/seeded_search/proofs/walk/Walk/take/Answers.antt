@@ -1,0 +1,28 @@
+use Rattle.std.proofs.Common.{rules, ◌≡◌, [], length, sym, ◌∙◌}
+use Rattle.route_sched.specs.Cost.{unplanned_count}
+use Rattle.move_ops.specs.Drafts.{base_of, draft_of}
+use Rattle.seeded_search.specs.Steps.{unplanned_names}
+use Rattle.seeded_search.proofs.NameLemmas.{no_items, none_unplanned, movable_stay}
+use Rattle.seeded_search.proofs.walk.Walk.take.Goals as goal
+
+-- where both plans leave no request out, the lists stay
+pub returns-then-is_empty : goal.returns-then-is_empty
+returns-then-is_empty c =
+    let p = c.args.problem.now in
+    let old = base_of c.args.self.now.draft in
+    let new = draft_of c.args.self.now.draft in
+    let empty : length c.args.self.now.lists.unplanned.items ≡ 0 = search rules in
+    let none : unplanned_count p new ≡ 0 = search rules in
+    let before : unplanned_names p old ≡ [] = sym c.requires.lists.unplanned ∙ no_items c.args.self.now.lists.unplanned.items empty in
+    let after : unplanned_names p new ≡ [] = none_unplanned p new none in
+    record {
+      base = c.take.ensures.base;
+      settled = c.take.ensures.draft;
+      draft = c.take.ensures.is p c.args.pins.now.routes c.requires.draft;
+      incumbent = search rules;
+      best = search rules;
+      lists = record {
+        movable = c.requires.lists.movable ∙ movable_stay p c.args.pins.now.routes old new before after;
+        unplanned = c.requires.lists.unplanned ∙ (before ∙ sym after);
+      };
+    }

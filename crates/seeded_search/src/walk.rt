@@ -1,0 +1,144 @@
+//! What a search keeps from step to step.
+ghost use Rattle.std.specs.Prelude.{◌≡◌, true, IfOk, OnOk};
+ghost use Rattle.route_sched.specs.Cost.{cost_of};
+ghost use Rattle.plan_audit.specs.Passes.{passes};
+ghost use Rattle.move_ops.specs.Drafts.{base_of, draft_of, IsDraftOf};
+ghost use Rattle.seeded_search.specs.Steps.{walked, candidate, is_near, moved_on, moved_on_by};
+ghost use Rattle.seeded_search.specs.Working.{KeepsWalk, IsWalk, AreListsOf, HasTaken, walked_by};
+
+use crate::incumbent::follow;
+use crate::lists::Lists;
+use crate::operators::make;
+use crate::search::Found;
+use move_ops::Draft;
+use plan_audit::passes_are_local;
+use plan_types::{Cost, OutOfMemory, Pins, Plan, Problem, costs_compare_part_by_part};
+use route_sched::plan_cost;
+use std::alloc::Global;
+
+/// A search between two steps.
+#[derive(Drop)]
+pub(crate) struct Walk {
+    draft: Draft,
+    incumbent: Plan,
+    /// What the incumbent costs.
+    best: Cost,
+    lists: Lists,
+}
+
+impl Walk {
+    /// A search before its first step.
+    pub(crate) fn begin(
+        alloc: Global,
+        problem: &Problem,
+        pins: &Pins,
+        plan: &Plan,
+        work: &Plan,
+    ) -> Result<Walk, OutOfMemory>
+        requires plan { passes problem.now pins.now.routes plan.now.routes ≡ true }
+        requires work { passes problem.now pins.now.routes work.now.routes ≡ true }
+        ensures walked { IfOk result
+            (λ walk. walked_by walk ≡ walked plan.now.routes work.now.routes) }
+        ensures walk { IfOk result (λ walk. IsWalk problem.now pins.now.routes walk) }
+    {
+        passes_are_local();
+        let draft = Draft::build(alloc, problem, pins, work)?;
+        let lists = Lists::build(alloc, problem, pins, &draft)?;
+        Ok(Walk {
+            draft,
+            incumbent: plan.copy()?,
+            best: plan_cost(problem, plan),
+            lists,
+        })
+    }
+
+    /// A step with these words.
+    pub(crate) fn step(
+        &mut self,
+        alloc: Global,
+        problem: &Problem,
+        pins: &Pins,
+        deviation: u32,
+        words: &[u32; 16],
+    ) -> Result<(), OutOfMemory>
+        requires { IsWalk problem.now pins.now.routes self.old }
+        ensures walked { OnOk result
+            (walked_by self.new ≡ moved_on_by problem.now deviation (walked_by self.old)
+            (candidate problem.now pins.now.routes (base_of self.old.draft) words.now)) }
+        ensures walk { OnOk result (IsWalk problem.now pins.now.routes self.new) }
+    {
+        if !make(alloc, problem, pins, &mut self.draft, &self.lists, words)? {
+            return Ok(());
+        }
+        self.settle(alloc, problem, pins, deviation)
+    }
+
+    // What the candidate replaces.
+    fn settle(
+        &mut self,
+        alloc: Global,
+        problem: &Problem,
+        pins: &Pins,
+        deviation: u32,
+    ) -> Result<(), OutOfMemory>
+        requires { KeepsWalk problem.now pins.now.routes self.old }
+        ensures walked { OnOk result
+            (walked_by self.new ≡ moved_on problem.now deviation (walked_by self.old)
+            (draft_of self.old.draft)) }
+        ensures walk { OnOk result (IsWalk problem.now pins.now.routes self.new) }
+    {
+        costs_compare_part_by_part();
+        passes_are_local();
+        let cost = self.draft.cost(problem, pins);
+        if cost <= self.best {
+            self.best = cost;
+            follow(alloc, &self.draft, &mut self.incumbent.routes)?;
+            return self.take(problem, pins, &cost);
+        }
+        if !is_near(deviation, &cost, &self.best) {
+            self.draft.drop_draft();
+            return Ok(());
+        }
+        self.take(problem, pins, &cost)
+    }
+
+    // Lets the candidate, which costs so much, become the working plan.
+    fn take(&mut self, problem: &Problem, pins: &Pins, cost: &Cost) -> Result<(), OutOfMemory>
+        requires draft { IsDraftOf problem.now pins.now.routes self.old.draft }
+        requires lists { AreListsOf problem.now pins.now.routes
+            (base_of self.old.draft) self.old.lists }
+        requires cost { cost.now ≡ cost_of problem.now (draft_of self.old.draft) }
+        ensures { OnOk result (HasTaken problem.now pins.now.routes self.old self.new) }
+    {
+        self.draft.take();
+        if cost.unplanned == 0 && self.lists.unplanned.is_empty() {
+            return Ok(());
+        }
+        self.lists.fill(problem, pins, &self.draft)
+    }
+
+    /// Both plans.
+    pub(crate) fn end(self, alloc: Global) -> Result<Found, OutOfMemory>
+        requires { draft_of self.draft ≡ base_of self.draft }
+        ensures { IfOk result (λ found. walked found.plan.routes found.work.routes
+            ≡ walked_by self) }
+    {
+        Ok(Found {
+            plan: self.incumbent,
+            work: self.draft.plan(alloc)?,
+        })
+    }
+}
+
+// Whether a plan of this cost may be walked on from beside an incumbent of that cost.
+fn is_near(deviation: u32, cost: &Cost, best: &Cost) -> bool
+    ensures { result ≡ is_near deviation cost.now best.now }
+{
+    if cost.unplanned != best.unplanned {
+        return cost.unplanned < best.unplanned;
+    }
+    if cost.vehicles != best.vehicles {
+        return cost.vehicles < best.vehicles;
+    }
+    cost.distance.saturating_sub(best.distance) <= u64::from(deviation)
+}

@@ -1,0 +1,99 @@
+-- Whether a sector is a record, and of which command.
+use Rattle.std.proofs.Common.{◌≡◌, ◌≢◌, ◌⊎◌, ℕ, ◌<◌, ◌≤◌, ◌^◌, ℤ, Bool, true, false, List, [], ◌∷◌, drop, Ok, Err, refl, sym, ap, subst, ◌∙◌, arith, inl, inr}
+use Rattle.std.proofs.lemmas.Bool.{cases_lt}
+use Rattle.std.proofs.lemmas.Bool.Decides.{eqb_tells}
+use Rattle.plan_types.specs.Limits.{IsCoordinate}
+use Rattle.command_core.specs.declared.commands.Spot.{Spot}
+use Rattle.command_core.specs.declared.commands.Command.{Command}
+use Rattle.command_core.specs.declared.commands.Command.TheVariants.{Load, Add, Add1, Withdraw, Pin, Unpin, Build, Search, Checkpoint, Deviation}
+use Rattle.state_codec.specs.declared.version.Version.{Version}
+use Rattle.state_codec.specs.declared.version.Version.TheVariants.{One, Two}
+use Rattle.state_codec.specs.Bytes.{record_bytes, width}
+use Rattle.state_codec.specs.Fields.{Field, is_coordinate}
+use Rattle.state_codec.specs.Laws.{RecordsAreDecided}
+use Rattle.state_codec.specs.Limits.{IsSpot, IsDeviationOf, IsRecorded}
+use Rattle.state_codec.specs.Records.{command_at}
+use Rattle.state_codec.proofs.FieldLaws.{ok_is}
+use Rattle.state_codec.proofs.RecordLaws.{record_again}
+use Rattle.state_codec.proofs.RequestLaws.{coordinate_is, is_coordinate-holds}
+
+-- it holds, or it doesn't
+abbrev pub Settled : Type 0 → Type 0
+Settled P = P ⊎ (P → ⊥)
+
+pub by_test : {P : Type 0} (b : Bool) → (b ≡ true → P) → (P → b ≡ true) → Settled P
+by_test true f g = inl (f refl)
+by_test false f g = inr (λ p. let e = g p in absurd cc)
+
+pub settled_both : {P Q : Type 0} → Settled P → Settled Q → Settled (P × Q)
+settled_both (inl p) (inl q) = inl (p, q)
+settled_both (inl p) (inr q) = inr (λ h. q h.1)
+settled_both (inr p) q = inr (λ h. p h.0)
+
+at_most : (a b : ℕ) → Settled (a ≤ b)
+at_most a b = elim (cases_lt b a) [
+  | inl lt ↦ inr (λ h. omega (arith, lt, h))
+  | inr le ↦ inl le
+]
+
+below : (a b : ℕ) → Settled (a < b)
+below a b = elim (cases_lt a b) [
+  | inl lt ↦ inl lt
+  | inr le ↦ inr (λ h. omega (arith, le, h))
+]
+
+coordinate : (x : ℤ) → Settled (IsCoordinate x)
+coordinate x = by_test (is_coordinate x) (coordinate_is x) (is_coordinate-holds x)
+
+spot : (s : Spot) → Settled (IsSpot s)
+spot s = elim (settled_both (settled_both (coordinate s.x) (coordinate s.y)) (settled_both (at_most s.earliest s.latest) (settled_both (at_most s.latest 100000000) (at_most s.service 1000000)))) [
+  | inl p ↦ inl (record { x = p.0.0; y = p.0.1; window = p.1.0; latest = p.1.1.0; service = p.1.1.1 })
+  | inr n ↦ inr (λ h. n ((h.x, h.y), (h.window, (h.latest, h.service))))
+]
+
+deviation : (v : Version) (d : ℕ) → Settled (IsDeviationOf v d)
+deviation One d = inr (λ h. h)
+deviation Two d = at_most d 1000000000
+
+recorded : (v : Version) (c : Command) → Settled (IsRecorded v c)
+recorded v (Load problem seed) = inr (λ h. h)
+recorded v (Add demand pickup delivery) = elim (settled_both (at_most demand 1000000) (settled_both (spot pickup) (spot delivery))) [
+  | inl p ↦ inl (p.0, p.1.0, p.1.1)
+  | inr n ↦ inr (λ h. n (h.0, (h.1, h.2)))
+]
+recorded v (Add1 demand s) = settled_both (at_most demand 1000000) (spot s)
+recorded v (Withdraw name) = below name (256 ^ width v)
+recorded v (Pin vehicle k) = settled_both (below vehicle (256 ^ width v)) (below k (256 ^ width v))
+recorded v (Unpin vehicle) = below vehicle (256 ^ width v)
+recorded v Build = inl tt
+recorded v (Search count) = settled_both (at_most 1 count) (at_most count 256)
+recorded v Checkpoint = inr (λ h. h)
+recorded v (Deviation d) = deviation v d
+
+same_numbers : (xs ys : List ℕ) → Settled (xs ≡ ys)
+same_numbers [] [] = inl refl
+same_numbers [] (y ∷ ys) = inr (λ e. absurd cc)
+same_numbers (x ∷ xs) [] = inr (λ e. absurd cc)
+same_numbers (x ∷ xs) (y ∷ ys) = elim (settled_both (number x y) (same_numbers xs ys)) [
+  | inl p ↦ (let first : x ≡ y = p.0 in let others : xs ≡ ys = p.1 in inl cc)
+  | inr n ↦ inr (λ e. n (cc, cc))
+]
+  where
+    number : (a b : ℕ) → Settled (a ≡ b)
+    number a b = elim (eqb_tells a b) [
+      | inl t ↦ inl t.1
+      | inr t ↦ inr t.1
+    ]
+
+pub records_decided : RecordsAreDecided
+records_decided v sector sequence index = by_read (command_at v (drop 12 sector)) refl
+  where
+    only : (x : Command × List ℕ) → command_at v (drop 12 sector) ≡ Ok x → (c : Command) → IsRecorded v c → sector ≡ record_bytes v sequence index c → c ≡ x.0
+    only x e c is h = let a = record_again v sector sequence index c is h in ap (λ (y : Command × List ℕ). y.0) (ok_is {A = Command × List ℕ} (c, a.0) x (sym a.1 ∙ e))
+
+    by_read : (r : Field Command) → command_at v (drop 12 sector) ≡ r → ((c : Command) × IsRecorded v c × (sector ≡ record_bytes v sequence index c)) ⊎ ((c : Command) → IsRecorded v c → sector ≢ record_bytes v sequence index c)
+    by_read (Err f) e = inr (λ c is h. let a = record_again v sector sequence index c is h in let both = sym e ∙ a.1 in absurd cc)
+    by_read (Ok x) e = elim (settled_both (recorded v x.0) (same_numbers sector (record_bytes v sequence index x.0))) [
+      | inl p ↦ inl (x.0, p.0, p.1)
+      | inr n ↦ inr (λ c is h. let same = only x e c is h in n (subst (IsRecorded v) same is, h ∙ ap (record_bytes v sequence index) same))
+    ]

@@ -1,0 +1,9 @@
+use Rattle.state_codec.proofs.DecodeLemmas.{states_differ}
+use Rattle.state_codec.proofs.RecordLaws.{records_differ}
+use Rattle.state_codec.proofs.laws.encodings_tell_values_apart.Goals as goal
+
+pub returns-clause-states : goal.returns-clause-states
+returns-clause-states c = states_differ c.numbers_are_below_the_next.ensures.stops
+
+pub returns-clause-records : goal.returns-clause-records
+returns-clause-records c = records_differ
