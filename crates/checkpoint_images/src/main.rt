@@ -4,20 +4,20 @@
 
 mod images;
 mod runs;
+mod trouble;
 
 use checkpoint::{commit_record, commit_snapshot, format, format_with};
 use command_core::{Command, State};
 use runs::{SECTORS, agreed, device_of, larger_state, small_run};
-use std::alloc::{AllocError, Global};
-use std::io;
-use std::process::Abort;
+use std::alloc::Global;
+use trouble::Trouble;
 
-fn main(rt: HostRuntime) -> io::Result<()> {
+fn main(rt: HostRuntime) -> Result<(), Trouble> {
     println!(rt;
         "the small run stopped, by finished calls: images that hold nothing, 1/0, 1/1, 1/2, 2/0, 2/1"
     )?;
     for calls in 0..17 {
-        let places = small_stops(&rt, rt.alloc(), calls)?;
+        let places = small_stops(rt.alloc(), calls)?;
         let count = |sequence, used| count_of(&places, (sequence, used));
         println!(rt;
             "{calls}: {} {} {} {} {} {}",
@@ -29,19 +29,19 @@ fn main(rt: HostRuntime) -> io::Result<()> {
             count(2, 1)
         )?;
     }
-    let state = larger_state(rt.alloc()).expect(&rt, "a state");
+    let state = larger_state(rt.alloc())?;
     println!(rt;
         "a format over a store stopped, by finished calls: images, and those with nothing"
     )?;
     for calls in 0..6 {
-        let places = format_stops(&rt, rt.alloc(), &state, calls)?;
+        let places = format_stops(rt.alloc(), &state, calls)?;
         println!(rt; "{calls}: {} {}", places.len(), count_of(&places, (0, 0)))?;
     }
     println!(rt;
         "a snapshot stopped with every second sector kept, by finished calls: its sequence"
     )?;
     for calls in 0..4 {
-        let (sequence, _) = snapshot_stop(&rt, rt.alloc(), &state, calls)?;
+        let (sequence, _) = snapshot_stop(rt.alloc(), &state, calls)?;
         println!(rt; "{calls}: {sequence}")?;
     }
     Ok(())
@@ -63,54 +63,50 @@ fn kept(choice: u32) -> [u32; 5] {
 }
 
 /// The small run stopped when so many calls have finished, for each choice of the sectors that it writes: where the images stand.
-fn small_stops(rt: &impl Abort, alloc: Global, calls: u64) -> Result<Vec<(u64, u32)>, AllocError> {
+fn small_stops(alloc: Global, calls: u64) -> Result<Vec<(u64, u32)>, Trouble> {
     let mut places = Vec::new(alloc);
     for choice in 0..32 {
-        let mut device = device_of(rt, alloc);
+        let mut device = device_of(alloc)?;
         device.fuse(calls);
         let finished = small_run(alloc, &mut device).is_ok();
-        assert!(rt; finished == (calls == 16));
+        if finished != (calls == 16) {
+            return Err(Trouble::NotStopped);
+        }
         device.crash(&kept(choice));
-        places.push(agreed(rt, alloc, &mut device))?;
+        places.push(agreed(alloc, &mut device)?)?;
     }
     Ok(places)
 }
 
 /// A format over a store with a record, stopped when so many calls have finished, for each choice of the headers and of the first record.
-fn format_stops(
-    rt: &impl Abort,
-    alloc: Global,
-    state: &State,
-    calls: u64,
-) -> Result<Vec<(u64, u32)>, AllocError> {
+fn format_stops(alloc: Global, state: &State, calls: u64) -> Result<Vec<(u64, u32)>, Trouble> {
     let mut places = Vec::new(alloc);
     for choice in 0..8 {
-        let mut device = device_of(rt, alloc);
-        let place = format_with(alloc, &mut device, state).expect(rt, "formats");
-        assert!(rt; commit_record(&mut device, place, &Command::Build).is_ok());
+        let mut device = device_of(alloc)?;
+        let place = format_with(alloc, &mut device, state)?;
+        commit_record(&mut device, place, &Command::Build)?;
         device.fuse(calls);
-        assert!(rt; format(alloc, &mut device).is_err());
+        if format(alloc, &mut device).is_ok() {
+            return Err(Trouble::NotStopped);
+        }
         device.crash(&kept(choice));
-        places.push(agreed(rt, alloc, &mut device))?;
+        places.push(agreed(alloc, &mut device)?)?;
     }
     Ok(places)
 }
 
 /// A snapshot over a store of the same state, stopped when so many calls have finished. Every second sector is kept.
-fn snapshot_stop(
-    rt: &impl Abort,
-    alloc: Global,
-    state: &State,
-    calls: u64,
-) -> Result<(u64, u32), AllocError> {
-    let mut device = device_of(rt, alloc);
-    let place = format_with(alloc, &mut device, state).expect(rt, "formats");
+fn snapshot_stop(alloc: Global, state: &State, calls: u64) -> Result<(u64, u32), Trouble> {
+    let mut device = device_of(alloc)?;
+    let place = format_with(alloc, &mut device, state)?;
     device.fuse(calls);
-    assert!(rt; commit_snapshot(alloc, &mut device, place, state).is_err());
+    if commit_snapshot(alloc, &mut device, place, state).is_ok() {
+        return Err(Trouble::NotStopped);
+    }
     let mut choices = vec![in alloc; 0; SECTORS]?;
     for choice in choices.iter_mut().step_by(2) {
         *choice = 1;
     }
     device.crash(&choices);
-    Ok(agreed(rt, alloc, &mut device))
+    agreed(alloc, &mut device)
 }

@@ -1,40 +1,44 @@
 //! Stores that are stopped, and what both readings say of them.
 
 use crate::images::held;
+use crate::trouble::Trouble;
 use checkpoint::{Place, StoreFault, commit_record, commit_snapshot, format, load_latest};
 use command_core::{Command, Refusal, Spot, State, apply};
 use plan_types::{Kind, Problem, Stop};
 use sector_disk::{MemDevice, Sectors};
 use std::alloc::Global;
-use std::process::Abort;
 
 pub(crate) const SECTORS: usize = 8450;
 
 /// A device of zeros.
-pub(crate) fn device_of(rt: &impl Abort, alloc: Global) -> MemDevice {
-    MemDevice::new(alloc, SECTORS as u64).expect(rt, "memory")
+pub(crate) fn device_of(alloc: Global) -> Result<MemDevice, Trouble> {
+    Ok(MemDevice::new(alloc, SECTORS as u64)?)
 }
 
 /// The bytes that reads give.
-fn image_of(rt: &impl Abort, alloc: Global, device: &mut MemDevice) -> Vec<u8> {
-    let mut image = vec![in alloc; 0; 512 * SECTORS].expect(rt, "memory");
-    assert!(rt; device.len() == SECTORS as u64);
-    assert!(rt; device.read(0, &mut image).is_ok());
-    image
+fn image_of(alloc: Global, device: &mut MemDevice) -> Result<Vec<u8>, Trouble> {
+    let mut image = vec![in alloc; 0; 512 * SECTORS]?;
+    if device.len() != SECTORS as u64 {
+        return Err(Trouble::Length);
+    }
+    device.read(0, &mut image)?;
+    Ok(image)
 }
 
 /// Where the store stands by both readings, which say the same; `(0, 0)` where it holds nothing.
-pub(crate) fn agreed(rt: &impl Abort, alloc: Global, device: &mut MemDevice) -> (u64, u32) {
-    let image = image_of(rt, alloc, device);
+pub(crate) fn agreed(alloc: Global, device: &mut MemDevice) -> Result<(u64, u32), Trouble> {
+    let image = image_of(alloc, device)?;
     let slow = held(alloc, &image);
     let fast = load_latest(alloc, device);
-    let first = format!(in alloc; "{slow:?}").expect(rt, "memory");
-    let second = format!(in alloc; "{fast:?}").expect(rt, "memory");
-    assert!(rt; first.as_str() == second.as_str());
+    let first = format!(in alloc; "{slow:?}")?;
+    let second = format!(in alloc; "{fast:?}")?;
+    if first.as_str() != second.as_str() {
+        return Err(Trouble::Differ);
+    }
     match fast {
-        Ok(loaded) => (loaded.place.sequence, loaded.place.used),
-        Err(StoreFault::NotFormatted) => (0, 0),
-        Err(_) => (0, 1),
+        Ok(loaded) => Ok((loaded.place.sequence, loaded.place.used)),
+        Err(StoreFault::NotFormatted) => Ok((0, 0)),
+        Err(_) => Ok((0, 1)),
     }
 }
 
