@@ -17,10 +17,6 @@ abbrev pub layout_of : Version → Layout
 layout_of One = version_1
 layout_of Two = version_2
 
--- the facts that a state keeps
-abbrev pub KeepsFacts : State → Type 0
-KeepsFacts = IsState
-
 -- the sectors of these commands, as the records of a sequence from this index on
 abbrev pub journal : Version → ℕ → ℕ → List Command → List (List ℕ)
 journal version sequence index [] = []

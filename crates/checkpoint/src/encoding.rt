@@ -10,10 +10,10 @@ use std::alloc::{AllocError, Global};
 
 /// The bytes of a snapshot, to a whole sector.
 #[derive(Drop)]
-pub struct Snapshot {
+pub(crate) struct Snapshot {
     /// How many of the bytes are the state's.
-    pub size: u64,
-    pub bytes: Vec<u8>,
+    pub(crate) size: u64,
+    pub(crate) bytes: Vec<u8>,
 }
 
 /// A state keeps its facts.

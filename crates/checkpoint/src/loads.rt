@@ -32,9 +32,9 @@ const LEAST_SECTORS: u64 = 802;
 
 /// The headers and the records of a device, and the header that counts.
 #[derive(Drop)]
-pub struct Opened {
-    pub front: Vec<u8>,
-    pub header: Header,
+pub(crate) struct Opened {
+    pub(crate) front: Vec<u8>,
+    pub(crate) header: Header,
 }
 
 /// Reads the headers and the records. One device call.
@@ -158,10 +158,10 @@ pub(crate) fn with_journal(
 
 /// What is read of a store before anything is decoded.
 #[derive(Drop)]
-pub struct Parts {
-    pub opened: Opened,
+pub(crate) struct Parts {
+    pub(crate) opened: Opened,
     /// The snapshot's bytes.
-    pub bytes: Vec<u8>,
+    pub(crate) bytes: Vec<u8>,
 }
 
 /// Reads the front of a store, and its snapshot. Two device calls, and none on a device that is smaller than any store.
