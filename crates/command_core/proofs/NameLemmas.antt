@@ -12,8 +12,9 @@ use Rattle.plan_types.specs.Request.{stops_of}
 use Rattle.plan_types.specs.declared.requests.Stop.{Stop}
 use Rattle.plan_types.specs.declared.requests.Request.{Request}
 use Rattle.route_sched.specs.Cost.{has_stop, is_planned}
-use Rattle.command_core.specs.Marks.{is_marked, name_where, names_where}
+use Rattle.seeded_search.specs.Names.{name_where, names_where}
 use Rattle.seeded_search.specs.Steps.{unplanned_names}
+use Rattle.command_core.specs.Marks.{is_marked}
 
 none_some : {X : Type 0} (x : X) → None ≡ Some x → ⊥
 none_some x h = cc

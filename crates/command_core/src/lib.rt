@@ -25,6 +25,7 @@ pub use laws::{
     plans_never_cost_more, searches_add_up,
 };
 pub use limits::{MAX_COUNT, MAX_DEVIATION, MAX_STEPS};
+pub use marks::unplanned_names;
 pub use refusals::Refusal;
 pub use states::{Job, State};
 

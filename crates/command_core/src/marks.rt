@@ -1,16 +1,17 @@
-//! Which requests are unplanned, by marks at the stops that are planned: so the time is linear in the problem and the plan.
+//! Which requests are unplanned, by marks at the stops that are planned.
 ghost use Rattle.std.specs.Prelude.{◌≡◌, ℕ, ◌<◌, ◌||◌, false, not, IfOk, length, slice_get, slice_index_or};
 ghost use Rattle.std.specs.Option.{option_and_then};
 ghost use Rattle.plan_audit.specs.Passes.{has};
 ghost use Rattle.route_sched.specs.Cost.{has_stop};
+ghost use Rattle.seeded_search.specs.Names.{name_where, names_where};
 ghost use Rattle.seeded_search.specs.Steps.{unplanned_names};
-ghost use Rattle.command_core.specs.Marks.{is_marked, name_where, names_where};
+ghost use Rattle.command_core.specs.Marks.{is_marked};
 
 use plan_types::{OutOfMemory, Problem, Request, Route, numbers_are_below_the_next};
 use std::alloc::Global;
 
-/// The names of the requests without a stop in any route, rising.
-pub(crate) fn unplanned_names(
+/// The names of the requests without a stop in any route, rising. The time is linear in the problem and the routes.
+pub fn unplanned_names(
     alloc: Global,
     problem: &Problem,
     routes: &[Route],

@@ -1,5 +1,6 @@
 use Rattle.std.proofs.Common.{◌≡◌, ◌++◌, not, drop}
-use Rattle.command_core.specs.Marks.{is_marked, names_where}
+use Rattle.seeded_search.specs.Names.{names_where}
+use Rattle.command_core.specs.Marks.{is_marked}
 use Rattle.command_core.proofs.marks.unmarked_names.Given as goal
 
 -- the names so far, and those of the requests left
