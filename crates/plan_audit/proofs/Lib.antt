@@ -16,5 +16,6 @@ pub mod SpotLemmas
 pub mod StepLemmas
 pub mod TestLemmas
 pub mod TimeLemmas
+pub mod TotalLemmas
 pub mod VerdictLemmas
 pub mod VisitLemmas

@@ -1,11 +1,11 @@
 -- What passes is judged route by route: what searches and commands take from the auditor.
 use Rattle.std.specs.Prelude.{◌≡◌, ◌↔◌, ℕ, true, All, List, length, Some, nat_eq, ◌⊎◌}
 use Rattle.std.specs.List.{starts_with}
-use Rattle.plan_types.specs.Instance.{Instance, request_with}
+use Rattle.plan_types.specs.Instance.{Instance, IsInstance, request_with}
 use Rattle.route_sched.specs.Route.{AreLiveOnce, IsPlan}
 use Rattle.route_sched.specs.Cost.{cost_of}
 use Rattle.plan_audit.specs.Rules.{item_at, Stands}
-use Rattle.plan_audit.specs.Alone.{IsFeasibleAlone}
+use Rattle.plan_audit.specs.Alone.{IsFeasibleAlone, IsFaultAlone}
 use Rattle.plan_audit.specs.Laws.{KeepsPins}
 use Rattle.plan_audit.specs.Passes.{feasible_alone, passes}
 use Rattle.plan_audit.specs.Verdict.{Subject, planned, IsVerdict}
@@ -15,6 +15,14 @@ use Rattle.plan_audit.specs.declared.rules.Verdict.TheVariants.{Pass}
 -- law: an audit has one answer
 abbrev pub VerdictsAreUnique : Type 0
 VerdictsAreUnique = (p : Instance) (s : Subject) (v w : Verdict) → IsVerdict p s v → IsVerdict p s w → v ≡ w
+
+-- law: every plan of a problem has an answer
+abbrev pub PlansHaveVerdicts : Type 0
+PlansHaveVerdicts = (p : Instance) (routes pins : List (List ℕ)) → IsInstance p → (v : Verdict) × IsVerdict p (planned routes pins) v
+
+-- law: a list of live stops is feasible alone, or breaks a least rule alone
+abbrev pub RoutesHaveAnswers : Type 0
+RoutesHaveAnswers = (p : Instance) (route : List ℕ) → AreLiveOnce p route → IsFeasibleAlone p route ⊎ ((number : ℕ) × IsFaultAlone p route number)
 
 -- law: the test of a route says that it is feasible alone
 abbrev pub TestsSayFeasible : Type 0

@@ -1,6 +1,6 @@
 // Laws of the verdict, each for every problem, plan and verdict: what it means to a dispatcher.
 ghost use Rattle.plan_audit.specs.Laws.{PassesAreSound, PassesArePlans, UnsoundIsBroken, PlansPassWhereSound, SolutionsPassWhereSound, RoutesAreFeasible};
-ghost use Rattle.plan_audit.specs.Locality.{TestsSayFeasible, TestsSayPass, PassesAreLocal, PlansAreLocal, PinsAreLiveOnce, RoutesMayBeReplaced, VerdictsAreUnique, FeasibilityIsLocal};
+ghost use Rattle.plan_audit.specs.Locality.{TestsSayFeasible, TestsSayPass, PassesAreLocal, PlansAreLocal, PinsAreLiveOnce, PlansHaveVerdicts, RoutesHaveAnswers, RoutesMayBeReplaced, VerdictsAreUnique, FeasibilityIsLocal};
 
 use plan_types::{requests_are_found_by_stop, requests_stand_by_name};
 use route_sched::schedules_agree;
@@ -77,6 +77,13 @@ pub fn pins_are_live_once()
 /// stop stands in two routes then.
 pub fn routes_may_be_replaced()
     ensures { RoutesMayBeReplaced }
+{}
+
+/// Every plan has a verdict: it passes, or some rule is the least that it breaks. Every list of live stops is feasible alone, or some
+/// rule is the least that it breaks alone.
+pub fn each_plan_has_a_verdict()
+    ensures plans { PlansHaveVerdicts }
+    ensures routes { RoutesHaveAnswers }
 {}
 
 /// An audit has one answer.

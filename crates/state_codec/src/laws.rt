@@ -2,7 +2,10 @@
 ghost use Rattle.state_codec.specs.Laws.{StatesDiffer, RecordsDiffer, StatesHaveNoFault, FaultsAreOne, BytesAreDecided, RecordsAreDecided, BadFieldsStay, BytesBehindAreBad, FrontsAreTruncated};
 ghost use Rattle.state_codec.specs.Lengths.{EncodingsFit};
 
-use plan_audit::{pins_are_live_once, tests_say_feasible, tests_say_pass, verdicts_are_unique};
+use plan_audit::{
+    each_plan_has_a_verdict, pins_are_live_once, tests_say_feasible, tests_say_pass,
+    verdicts_are_unique,
+};
 use plan_types::{numbers_are_below_the_next, put_adds_one_request};
 
 /// How long the encoding of a state is: never above 1,960,054 bytes.
@@ -30,6 +33,7 @@ pub fn bytes_have_one_answer()
 {
     numbers_are_below_the_next();
     verdicts_are_unique();
+    each_plan_has_a_verdict();
     tests_say_pass();
     tests_say_feasible();
     pins_are_live_once();

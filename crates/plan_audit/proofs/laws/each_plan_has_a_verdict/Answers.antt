@@ -1,0 +1,8 @@
+use Rattle.plan_audit.proofs.TotalLemmas.{plans_have_verdicts, routes_have_answers}
+use Rattle.plan_audit.proofs.laws.each_plan_has_a_verdict.Goals as goal
+
+pub returns-clause-plans : goal.returns-clause-plans
+returns-clause-plans c = plans_have_verdicts
+
+pub returns-clause-routes : goal.returns-clause-routes
+returns-clause-routes c = routes_have_answers
