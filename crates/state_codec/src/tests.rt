@@ -67,6 +67,16 @@ fn one_byte_more_is_a_bad_field(rt: HostRuntime) {
 }
 
 #[test]
+fn a_length_of_four_billion_is_truncated(rt: HostRuntime) {
+    // the route's length, and the working route's
+    for at in [87, 91] {
+        let mut long = LOADED;
+        long[at..at + 4].copy_from_slice(&[255; 4]);
+        assert!(rt; matches!(decode_state(rt.alloc(), &long), Err(CodecFault::Truncated)));
+    }
+}
+
+#[test]
 fn a_pin_over_an_empty_route_is_a_bad_field(rt: HostRuntime) {
     let mut pinned = LOADED;
     pinned[86] = 1;
