@@ -1,18 +1,20 @@
-pub mod Course
-pub mod CourseLaws
-pub mod Crash
-pub mod FileCalls
-pub mod FileDevice
-pub mod FileLaws
-pub mod FileRecord
+-- what public contracts reach
 pub mod Image
-pub mod ImageLaws
-pub mod Kept
-pub mod Laws
-pub mod MemDevice
-pub mod Memory
-pub mod MemoryLaws
-pub mod Model
-pub mod ModelLaws
 pub mod Sectors
 pub mod Throughout
+pub mod Model
+pub mod Course
+pub mod Memory
+pub mod MemDevice
+pub mod FileRecord
+pub mod FileCalls
+pub mod FileDevice
+pub mod Laws
+-- of private functions and of proofs alone
+pub mod Kept
+pub mod Crash
+pub mod CourseLaws
+pub mod FileLaws
+pub mod ImageLaws
+pub mod MemoryLaws
+pub mod ModelLaws
