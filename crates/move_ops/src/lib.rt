@@ -14,6 +14,7 @@ mod seats;
 mod swap;
 mod tables;
 mod tour;
+mod tours;
 
 pub use best::best_insertion;
 pub use cross::two_opt_star;

@@ -1,0 +1,163 @@
+// Requests taken out of a draft.
+ghost use Rattle.std.specs.Prelude.{◌≡◌, true, false, ℕ, IfSome, IfOk, OnOk};
+ghost use Rattle.route_sched.specs.Cost.{has_stop, unplanned_count};
+ghost use Rattle.move_ops.specs.Changes.{with_routes, IsChange};
+ghost use Rattle.move_ops.specs.Moves.{removed, without_named, is_of_named, is_movable_name};
+ghost use Rattle.std.specs.List.{list_all};
+ghost use Rattle.std.specs.Option.{option_map};
+ghost use Rattle.move_ops.specs.Drafts.{draft_of, base_of, IsDraftOf, IsMade};
+
+use super::Draft;
+use crate::changes::{Change, are_all_feasible, removals};
+use crate::removal::is_of_named;
+use crate::seats::unseat;
+use crate::tours::cost_of_tours;
+use plan_audit::{passes_are_local, plans_are_local, tests_say_feasible};
+use plan_types::{
+    OutOfMemory, Pins, Problem, Request, numbers_are_below_the_next, requests_stand_by_name,
+};
+
+impl Draft {
+    /// Takes the requests out of the draft, as `remove` does of a plan; answers whether it did.
+    pub fn remove(
+        &mut self,
+        problem: &Problem,
+        pins: &Pins,
+        names: &[u32],
+    ) -> Result<bool, OutOfMemory>
+        requires { IsDraftOf problem.now pins.now.routes self.old }
+        ensures is { OnOk result (IsDraftOf problem.now pins.now.routes self.new) }
+        ensures base { OnOk result (base_of self.new ≡ base_of self.old) }
+        ensures draft { IfOk result (λ made.
+            IsMade (removed problem.now pins.now.routes (draft_of self.old) names.now) made
+            self.old self.new) }
+    {
+        match self.removing(problem, pins, names)? {
+            Some(changes) => {
+                self.take_out(problem, pins, names, &changes)?;
+                Ok(true)
+            }
+            None => Ok(false),
+        }
+    }
+
+    // Gives some vehicles the routes without these requests.
+    fn take_out(
+        &mut self,
+        problem: &Problem,
+        pins: &Pins,
+        names: &[u32],
+        changes: &[Change],
+    ) -> Result<(), OutOfMemory>
+        requires is { IsDraftOf problem.now pins.now.routes self.old }
+        requires change { IsChange problem.now pins.now.routes (draft_of self.old) changes.now
+            (unplanned_count problem.now (with_routes (draft_of self.old) changes.now)) }
+        requires names { with_routes (draft_of self.old) changes.now
+            ≡ without_named problem.now names.now (draft_of self.old) }
+        ensures is { OnOk result (IsDraftOf problem.now pins.now.routes self.new) }
+        ensures base { OnOk result (base_of self.new ≡ base_of self.old) }
+        ensures draft { OnOk result (draft_of self.new
+            ≡ with_routes (draft_of self.old) changes.now) }
+    {
+        passes_are_local();
+        numbers_are_below_the_next();
+        self.set_routes(problem, changes)?;
+        self.clear_named(problem, names);
+        let unplanned = self.unplanned_count(problem);
+        self.cost = cost_of_tours(problem, &self.tours, unplanned);
+        Ok(())
+    }
+
+    // Notes that no stop of these requests is in the draft.
+    fn clear_named(&mut self, problem: &Problem, names: &[u32])
+        requires { (n : ℕ) → is_of_named problem.now names.now n ≡ true
+            → has_stop (draft_of self.old) n ≡ false }
+        ensures { self.new ≡ self.old }
+    {
+        for name in names {
+            self.clear_request(problem, names, *name);
+        }
+    }
+
+    fn clear_request(&mut self, problem: &Problem, names: &[u32], name: u32)
+        requires { (n : ℕ) → is_of_named problem.now names.now n ≡ true
+            → has_stop (draft_of self.old) n ≡ false }
+        ensures { self.new ≡ self.old }
+    {
+        match problem.requests.get(&name) {
+            Some(Request::Single(stop)) => self.clear(problem, names, stop.number),
+            Some(Request::Pair(pickup, delivery)) => {
+                self.clear(problem, names, pickup.number);
+                self.clear(problem, names, delivery.number);
+            }
+            None => {}
+        }
+    }
+
+    fn clear(&mut self, problem: &Problem, names: &[u32], stop: u32)
+        requires { (n : ℕ) → is_of_named problem.now names.now n ≡ true
+            → has_stop (draft_of self.old) n ≡ false }
+        ensures { self.new ≡ self.old }
+    {
+        if is_of_named(problem, names, stop) {
+            unseat(&mut self.seats, stop);
+        }
+    }
+
+    // The routes without these requests, where the plan with them passes.
+    fn removing(
+        &self,
+        problem: &Problem,
+        pins: &Pins,
+        names: &[u32],
+    ) -> Result<Option<Vec<Change>>, OutOfMemory>
+        requires { IsDraftOf problem.now pins.now.routes self.now }
+        ensures routes { IfOk result
+            (λ o. option_map (λ cs. with_routes (draft_of self.now) cs.items) o
+            ≡ removed problem.now pins.now.routes (draft_of self.now) names.now) }
+        ensures named { IfOk result (λ o. IfSome o
+            (λ cs. with_routes (draft_of self.now) cs.items
+            ≡ without_named problem.now names.now (draft_of self.now))) }
+        ensures change { IfOk result
+            (λ o. IfSome o (λ cs. IsChange problem.now pins.now.routes (draft_of self.now) cs.items
+            (unplanned_count problem.now (with_routes (draft_of self.now) cs.items)))) }
+    {
+        passes_are_local();
+        plans_are_local();
+        tests_say_feasible();
+        requests_stand_by_name();
+        if !self.are_movable(problem, pins, names) {
+            return Ok(None);
+        }
+        let alloc = *self.tours.allocator();
+        let changes = removals(alloc, problem, &self.tours, names)?;
+        if !are_all_feasible(problem, &changes) {
+            return Ok(None);
+        }
+        Ok(Some(changes))
+    }
+
+    // Whether each name is of a request that can be moved.
+    fn are_movable(&self, problem: &Problem, pins: &Pins, names: &[u32]) -> bool
+        requires { IsDraftOf problem.now pins.now.routes self.now }
+        ensures { result ≡ list_all (is_movable_name problem.now pins.now.routes
+            (draft_of self.now)) names.now }
+    {
+        for name in names {
+            if !self.is_movable_name(problem, pins, *name) {
+                return false;
+            }
+        }
+        true
+    }
+
+    fn is_movable_name(&self, problem: &Problem, pins: &Pins, name: u32) -> bool
+        requires { IsDraftOf problem.now pins.now.routes self.now }
+        ensures { result ≡ is_movable_name problem.now pins.now.routes (draft_of self.now) name }
+    {
+        match problem.requests.get(&name) {
+            Some(request) => self.is_movable(problem, pins, request),
+            None => false,
+        }
+    }
+}
