@@ -42,11 +42,11 @@ module _ (local : PassesAreLocal) (says : TestsSayFeasible) (p : Instance) (pins
       judged (feasible_alone p) (draft_of d) others cs are long
       (said_feasible local says p pins (draft_of d) (is.draft) (draft_of d) ((parts local p pins (draft_of d) (is.draft)).feasible))
 
-  pub made : true ≡ list_all (λ c. feasible_alone p c.route) cs → IsChange p pins (draft_of d) cs (unplanned_count p (with_routes (draft_of d) cs))
-  made t = record {
+  pub made : (left : ℕ) → left ≡ unplanned_count p others → true ≡ list_all (λ c. feasible_alone p c.route) cs → IsChange p pins (draft_of d) cs left
+  made left count t = record {
     within = all_within (draft_of d) others cs are long;
     once = asked;
     keeps = All-from_recursion (λ (c : Change). KeepsLimits p c.route) cs (keeps_all p (is.valid) cs (sym t));
     passes = ap (passes p pins) (are.plan) ∙ passes_where_feasible local says p pins (draft_of d) (is.draft) others plan long pinned true (t ∙ judge);
-    unplanned = refl;
+    unplanned = count ∙ ap (unplanned_count p) (sym (are.plan));
   }

@@ -13,6 +13,7 @@ pub mod Exchanging
 pub mod Fitting
 pub mod Inserting
 pub mod Installing
+pub mod Leaving
 pub mod Places
 pub mod Placing
 pub mod Putting

@@ -1,13 +1,18 @@
 -- Routes of a plan that others take the place of.
-use Rattle.std.specs.Prelude.{◌≡◌, ℕ, ◌≤◌, true, All, List, [], ◌∷◌, length}
+use Rattle.std.specs.Prelude.{◌≡◌, ℕ, ◌+◌, ◌≤◌, if◌then◌else◌, true, All, List, [], ◌∷◌, length}
 use Rattle.std.specs.List.{AllByRecursion}
 use Rattle.plan_types.specs.Instance.{Instance}
 use Rattle.route_sched.specs.Cost.{unplanned_count}
 use Rattle.route_sched.specs.Route.{AreLiveOnce}
-use Rattle.plan_audit.specs.Passes.{passes}
+use Rattle.plan_audit.specs.Passes.{has, passes}
 use Rattle.slack_tables.specs.Insertion.{KeepsLimits}
 use Rattle.move_ops.specs.Insertion.{with_route, of_vehicle}
 use Rattle.move_ops.specs.declared.changes.Change.{Change}
+
+-- how many names there are, one that stands twice counted once
+abbrev pub distinct_count : List ℕ → ℕ
+distinct_count [] = 0
+distinct_count (n ∷ ns) = (if has ns n then 0 else 1) + distinct_count ns
 
 -- the plan with these routes for their vehicles
 abbrev pub with_routes : List (List ℕ) → List Change → List (List ℕ)

@@ -1,11 +1,10 @@
 // Other routes for vehicles of a draft.
-ghost use Rattle.std.specs.Prelude.{◌≡◌, ◌≤◌, not, false, All, IfSome, IfOk, OnOk, length, slice_get};
+ghost use Rattle.std.specs.Prelude.{◌≡◌, ◌≤◌, All, IfSome, IfOk, OnOk, length};
 ghost use Rattle.slack_tables.specs.Course.{course_of, route_of};
-ghost use Rattle.route_sched.specs.Cost.{is_planned, unplanned_count};
 ghost use Rattle.route_sched.specs.Route.{AreLiveOnce};
 ghost use Rattle.slack_tables.specs.Insertion.{KeepsLimits};
 ghost use Rattle.move_ops.specs.Changes.{with_routes, IsChange};
-ghost use Rattle.std.specs.Option.{option_map, option_map_or};
+ghost use Rattle.std.specs.Option.{option_map};
 ghost use Rattle.move_ops.specs.Tables.{AreTablesIn};
 ghost use Rattle.move_ops.specs.Drafts.{undone, draft_of, base_of, IsDraftOf, IsMade};
 
@@ -43,80 +42,8 @@ impl Draft {
         }
     }
 
-    // The same where the requests that are left out have to be counted.
-    pub(crate) fn apply_counted(
-        &mut self,
-        problem: &Problem,
-        pins: &Pins,
-        changes: Option<Vec<Change>>,
-    ) -> Result<bool, OutOfMemory>
-        requires is { IsDraftOf problem.now pins.now.routes self.old }
-        requires change { IfSome changes
-            (λ cs. IsChange problem.now pins.now.routes (draft_of self.old) cs.items
-            (unplanned_count problem.now (with_routes (draft_of self.old) cs.items))) }
-        ensures is { OnOk result (IsDraftOf problem.now pins.now.routes self.new) }
-        ensures base { OnOk result (base_of self.new ≡ base_of self.old) }
-        ensures draft { IfOk result (λ made.
-            IsMade (option_map (λ cs. with_routes (draft_of self.old) cs.items) changes) made
-            self.old self.new) }
-    {
-        match changes {
-            Some(changes) => {
-                self.install_counted(problem, pins, &changes)?;
-                Ok(true)
-            }
-            None => Ok(false),
-        }
-    }
-
-    fn install_counted(
-        &mut self,
-        problem: &Problem,
-        pins: &Pins,
-        changes: &[Change],
-    ) -> Result<(), OutOfMemory>
-        requires is { IsDraftOf problem.now pins.now.routes self.old }
-        requires change { IsChange problem.now pins.now.routes (draft_of self.old) changes.now
-            (unplanned_count problem.now (with_routes (draft_of self.old) changes.now)) }
-        ensures is { OnOk result (IsDraftOf problem.now pins.now.routes self.new) }
-        ensures base { OnOk result (base_of self.new ≡ base_of self.old) }
-        ensures draft { OnOk result (draft_of self.new
-            ≡ with_routes (draft_of self.old) changes.now) }
-    {
-        passes_are_local();
-        numbers_are_below_the_next();
-        self.set_routes(problem, changes)?;
-        let unplanned = self.unplanned_count(problem);
-        self.cost = cost_of_tours(problem, &self.tours, unplanned);
-        Ok(())
-    }
-
-    // How many requests have no stop in the draft.
-    pub(crate) fn unplanned_count(&self, problem: &Problem) -> u64
-        ensures { result ≡ unplanned_count problem.now (draft_of self.now) }
-    {
-        let mut count = 0;
-        for index in 0..problem.requests.len() {
-            if self.is_left_out(problem, index) {
-                count += 1;
-            }
-        }
-        count
-    }
-
-    fn is_left_out(&self, problem: &Problem, index: usize) -> bool
-        ensures { result ≡ option_map_or
-            (λ e. not (is_planned (draft_of self.now) e.1))
-            (slice_get problem.now.requests index) false }
-    {
-        match problem.requests.get_index(index) {
-            Some((_, request)) => !self.is_planned(request),
-            None => false,
-        }
-    }
-
     // Gives some vehicles other routes.
-    fn install(
+    pub(crate) fn install(
         &mut self,
         problem: &Problem,
         pins: &Pins,
@@ -138,11 +65,7 @@ impl Draft {
         Ok(())
     }
 
-    pub(crate) fn set_routes(
-        &mut self,
-        problem: &Problem,
-        changes: &[Change],
-    ) -> Result<(), OutOfMemory>
+    fn set_routes(&mut self, problem: &Problem, changes: &[Change]) -> Result<(), OutOfMemory>
         requires tables { AreTablesIn problem.now self.old.tours }
         requires within { All (λ c. (1 ≤ c.vehicle)
             × (c.vehicle ≤ length (draft_of self.old))) changes.now }

@@ -1,6 +1,5 @@
 // Stops of a draft that take one another's places.
 ghost use Rattle.std.specs.Prelude.{◌≡◌, IfSome, IfOk, OnOk};
-ghost use Rattle.route_sched.specs.Cost.{unplanned_count};
 ghost use Rattle.move_ops.specs.Changes.{with_routes, IsChange};
 ghost use Rattle.move_ops.specs.Moves.{exchanged, crossed, is_cut, are_exchangeable};
 ghost use Rattle.std.specs.Option.{option_map};
@@ -12,7 +11,9 @@ use crate::cross::joined;
 use crate::lists::{is_feasible, of_vehicle};
 use crate::swap::have_same_form;
 use plan_audit::{passes_are_local, plans_are_local, tests_say_feasible};
-use plan_types::{OutOfMemory, Pins, Problem, Request, Route, requests_are_found_by_stop};
+use plan_types::{
+    OutOfMemory, Pins, Problem, Request, Route, requests_are_found_by_stop, requests_stand_by_name,
+};
 
 impl Draft {
     /// Lets two requests of the draft take one another's places, as `exchange` does; answers whether it did.
@@ -30,8 +31,9 @@ impl Draft {
             IsMade (exchanged problem.now pins.now.routes (draft_of self.old) a b) made self.old
             self.new) }
     {
+        let unplanned = self.cost.unplanned;
         let changes = self.exchanging(problem, pins, a, b)?;
-        self.apply_counted(problem, pins, changes)
+        self.apply(problem, pins, changes, unplanned)
     }
 
     // The routes with the two requests exchanged, where the plan with them passes.
@@ -47,13 +49,14 @@ impl Draft {
             (λ o. option_map (λ cs. with_routes (draft_of self.now) cs.items) o
             ≡ exchanged problem.now pins.now.routes (draft_of self.now) a b) }
         ensures change { IfOk result
-            (λ o. IfSome o (λ cs. IsChange problem.now pins.now.routes (draft_of self.now) cs.items
-            (unplanned_count problem.now (with_routes (draft_of self.now) cs.items)))) }
+            (λ o. IfSome o (λ cs. IsChange problem.now pins.now.routes
+            (draft_of self.now) cs.items self.now.cost.unplanned)) }
     {
         passes_are_local();
         plans_are_local();
         tests_say_feasible();
         requests_are_found_by_stop();
+        requests_stand_by_name();
         if a == b {
             return Ok(None);
         }

@@ -1,7 +1,7 @@
 // Requests taken out of a draft.
-ghost use Rattle.std.specs.Prelude.{◌≡◌, true, false, ℕ, IfSome, IfOk, OnOk};
-ghost use Rattle.route_sched.specs.Cost.{has_stop, unplanned_count};
-ghost use Rattle.move_ops.specs.Changes.{with_routes, IsChange};
+ghost use Rattle.std.specs.Prelude.{◌≡◌, ◌≤◌, ◌+◌, length, true, false, ℕ, IfSome, IfOk, OnOk};
+ghost use Rattle.route_sched.specs.Cost.{has_stop};
+ghost use Rattle.move_ops.specs.Changes.{distinct_count, with_routes, IsChange};
 ghost use Rattle.move_ops.specs.Moves.{removed, without_named, is_of_named, is_movable_name};
 ghost use Rattle.std.specs.List.{list_all};
 ghost use Rattle.std.specs.Option.{option_map};
@@ -9,12 +9,12 @@ ghost use Rattle.move_ops.specs.Drafts.{draft_of, base_of, IsDraftOf, IsMade};
 
 use super::Draft;
 use crate::changes::{Change, are_all_feasible, removals};
+use crate::lists::is_in;
 use crate::removal::is_of_named;
 use crate::seats::unseat;
-use crate::tours::cost_of_tours;
 use plan_audit::{passes_are_local, plans_are_local, tests_say_feasible};
 use plan_types::{
-    OutOfMemory, Pins, Problem, Request, numbers_are_below_the_next, requests_stand_by_name,
+    OutOfMemory, Pins, Problem, Request, requests_are_found_by_stop, requests_stand_by_name,
 };
 
 impl Draft {
@@ -51,7 +51,7 @@ impl Draft {
     ) -> Result<(), OutOfMemory>
         requires is { IsDraftOf problem.now pins.now.routes self.old }
         requires change { IsChange problem.now pins.now.routes (draft_of self.old) changes.now
-            (unplanned_count problem.now (with_routes (draft_of self.old) changes.now)) }
+            (self.old.cost.unplanned + distinct_count names.now) }
         requires names { with_routes (draft_of self.old) changes.now
             ≡ without_named problem.now names.now (draft_of self.old) }
         ensures is { OnOk result (IsDraftOf problem.now pins.now.routes self.new) }
@@ -59,12 +59,9 @@ impl Draft {
         ensures draft { OnOk result (draft_of self.new
             ≡ with_routes (draft_of self.old) changes.now) }
     {
-        passes_are_local();
-        numbers_are_below_the_next();
-        self.set_routes(problem, changes)?;
+        let unplanned = self.cost.unplanned + distinct_count(names);
+        self.install(problem, pins, changes, unplanned)?;
         self.clear_named(problem, names);
-        let unplanned = self.unplanned_count(problem);
-        self.cost = cost_of_tours(problem, &self.tours, unplanned);
         Ok(())
     }
 
@@ -120,12 +117,13 @@ impl Draft {
             ≡ without_named problem.now names.now (draft_of self.now))) }
         ensures change { IfOk result
             (λ o. IfSome o (λ cs. IsChange problem.now pins.now.routes (draft_of self.now) cs.items
-            (unplanned_count problem.now (with_routes (draft_of self.now) cs.items)))) }
+            (self.now.cost.unplanned + distinct_count names.now))) }
     {
         passes_are_local();
         plans_are_local();
         tests_say_feasible();
         requests_stand_by_name();
+        requests_are_found_by_stop();
         if !self.are_movable(problem, pins, names) {
             return Ok(None);
         }
@@ -160,4 +158,20 @@ impl Draft {
             None => false,
         }
     }
+}
+
+// How many names there are, where one that stands twice counts once.
+fn distinct_count(names: &[u32]) -> u64
+    ensures count { result ≡ distinct_count names.now }
+    ensures few { result ≤ length names.now }
+{
+    let mut count = 0;
+    let mut left = names;
+    while let [name, others @ ..] = left {
+        if !is_in(others, *name) {
+            count += 1;
+        }
+        left = others;
+    }
+    count
 }
