@@ -31,4 +31,6 @@ pub use tables::Tables;
 #[cfg(test)]
 mod best_tests;
 #[cfg(test)]
+mod draft_tests;
+#[cfg(test)]
 mod tests;
