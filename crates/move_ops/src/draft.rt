@@ -5,6 +5,7 @@ ghost use Rattle.plan_audit.specs.Passes.{passes};
 ghost use Rattle.route_sched.specs.Cost.{cost_of, has_stop, is_planned};
 ghost use Rattle.move_ops.specs.Insertion.{of_vehicle};
 ghost use Rattle.move_ops.specs.Moves.{is_movable};
+ghost use Rattle.move_ops.specs.Changes.{IsVehicleWith};
 ghost use Rattle.move_ops.specs.Drafts.{Drafted, undone, draft_of, base_of, IsDraftOf};
 
 mod installing;
@@ -16,7 +17,7 @@ use crate::laws::plans_pass_without_pins;
 use crate::lists::{has_stop, is_in};
 use crate::seats::{marks, seat};
 use crate::tour::{Tour, swap};
-use crate::tours::{is_anywhere, routes_of, seats_of, tours_of};
+use crate::tours::{routes_of, seats_of, tours_of, vehicle_with};
 use plan_audit::passes_are_local;
 use plan_types::{Cost, OutOfMemory, Pins, Plan, Problem, Request};
 use route_sched::plan_cost;
@@ -40,6 +41,7 @@ pub struct Draft {
 }
 
 impl Model for Draft {
+    ghost use Rattle.move_ops.specs.Changes.{IsVehicleWith};
     ghost use Rattle.move_ops.specs.Drafts.{Drafted};
     ghost use Rattle.move_ops.specs.Kept.{drafted, IsKept};
 
@@ -176,20 +178,27 @@ impl Draft {
     }
 
     /// Whether a route of the draft has the stop.
-    #[tactic(auto, using(crate::proofs::Drafting::has_in_vehicle))]
+    #[tactic(auto, using(crate::proofs::Gathering::has_by_vehicle))]
     pub fn has_stop(&self, stop: u32) -> bool
         ensures { result ≡ has_stop (draft_of self.now) stop }
     {
+        self.vehicle_of(stop) != 0
+    }
+
+    // The vehicle whose route has the stop, or 0 where none has it.
+    pub(crate) fn vehicle_of(&self, stop: u32) -> u64
+        ensures { IsVehicleWith (draft_of self.now) stop result }
+    {
         if (stop as usize) < self.seats.len() {
-            let vehicle = self.seats[stop as usize];
+            let vehicle = u64::from(self.seats[stop as usize]);
             if vehicle == 0 {
-                return false;
+                return 0;
             }
-            if is_in(self.route(u64::from(vehicle)), stop) {
-                return true;
+            if is_in(self.route(vehicle), stop) {
+                return vehicle;
             }
         }
-        is_anywhere(&self.tours, stop)
+        vehicle_with(&self.tours, stop)
     }
 
     /// What the draft costs.

@@ -2,6 +2,7 @@
 ghost use Rattle.std.specs.Prelude.{◌≡◌, ◌≤◌, ◌^◌, [], true, ℕ, Some, IfOk, slice_get};
 ghost use Rattle.plan_audit.specs.Passes.{passes};
 ghost use Rattle.route_sched.specs.Cost.{cost_of, has_stop, unplanned_count, used_count, vehicle_count, total_length};
+ghost use Rattle.move_ops.specs.Changes.{IsVehicleWith};
 ghost use Rattle.move_ops.specs.Tables.{plan_of, tables_of, AreTablesIn};
 
 use crate::lists::is_in;
@@ -62,17 +63,16 @@ pub(crate) fn routes_of(alloc: Global, tours: &[Tour]) -> Result<Routes, OutOfMe
     Ok(routes)
 }
 
-/// Whether the stop is in one of the tours.
-#[tactic(auto, using(crate::proofs::Drafting::tours_more))]
-pub(crate) fn is_anywhere(tours: &[Tour], stop: u32) -> bool
-    ensures { result ≡ has_stop (plan_of tours.now) stop }
+/// The first vehicle whose tour has the stop, or 0 where none has it.
+pub(crate) fn vehicle_with(tours: &[Tour], stop: u32) -> u64
+    ensures { IsVehicleWith (plan_of tours.now) stop result }
 {
-    for tour in tours {
-        if is_in(tour.stops(), stop) {
-            return true;
+    for index in 0..tours.len() {
+        if is_in(tours[index].stops(), stop) {
+            return index as u64 + 1;
         }
     }
-    false
+    0
 }
 
 /// What a plan costs, by its tours and how many requests it leaves out.

@@ -1,16 +1,19 @@
 // Requests taken out of a draft.
-ghost use Rattle.std.specs.Prelude.{◌≡◌, ◌≤◌, ◌+◌, length, true, false, ℕ, IfSome, IfOk, OnOk};
+ghost use Rattle.std.specs.Prelude.{◌≡◌, ◌≤◌, ◌+◌, ◌∷◌, [], length, nat_eq, true, false, ℕ, IsSome, IfSome, IfOk, OnOk};
 ghost use Rattle.route_sched.specs.Cost.{has_stop};
-ghost use Rattle.move_ops.specs.Changes.{distinct_count, with_routes, IsChange};
+ghost use Rattle.move_ops.specs.Changes.{distinct_count, with_routes, AreChanges, AreIn, AreVehiclesOf, IsChange, Notes};
 ghost use Rattle.move_ops.specs.Moves.{removed, without_named, is_of_named, is_movable_name};
-ghost use Rattle.std.specs.List.{list_all};
+ghost use Rattle.std.specs.List.{concat, list_all, IsDistinct};
+ghost use Rattle.plan_types.specs.Instance.{IsInstance};
+ghost use Rattle.plan_types.specs.Request.{stop_in};
+ghost use Rattle.plan_audit.specs.Passes.{has};
 ghost use Rattle.std.specs.Option.{option_map};
 ghost use Rattle.move_ops.specs.Drafts.{draft_of, base_of, IsDraftOf, IsMade};
 
 use super::Draft;
-use crate::changes::{Change, are_all_feasible, removals};
+use crate::changes::{Change, are_all_feasible};
 use crate::lists::is_in;
-use crate::removal::is_of_named;
+use crate::removal::{is_of_named, others};
 use crate::seats::unseat;
 use plan_audit::{passes_are_local, plans_are_local, tests_say_feasible};
 use plan_types::{
@@ -127,12 +130,102 @@ impl Draft {
         if !self.are_movable(problem, pins, names) {
             return Ok(None);
         }
-        let alloc = *self.tours.allocator();
-        let changes = removals(alloc, problem, &self.tours, names)?;
+        let vehicles = self.vehicles_of(problem, names)?;
+        let changes = self.removals(problem, names, &vehicles)?;
         if !are_all_feasible(problem, &changes) {
             return Ok(None);
         }
         Ok(Some(changes))
+    }
+
+    // The routes of these vehicles without the stops of the named requests.
+    fn removals(
+        &self,
+        problem: &Problem,
+        names: &[u32],
+        vehicles: &[u64],
+    ) -> Result<Vec<Change>, OutOfMemory>
+        requires few { length (draft_of self.now) ≤ 40000 }
+        requires within { AreIn (draft_of self.now) vehicles.now }
+        requires found { AreVehiclesOf (draft_of self.now)
+            (λ n. is_of_named problem.now names.now n ≡ true) vehicles.now }
+        ensures { IfOk result (λ changes. AreChanges (draft_of self.now)
+            (without_named problem.now names.now (draft_of self.now)) changes.items) }
+    {
+        let alloc = *self.tours.allocator();
+        let mut changes = Vec::with_capacity(alloc, vehicles.len())?;
+        for vehicle in vehicles {
+            let route = others(alloc, problem, self.route(*vehicle), names)?;
+            changes.push(Change {
+                vehicle: *vehicle as u32,
+                route,
+            })?;
+        }
+        Ok(changes)
+    }
+
+    // The vehicles of the named requests' stops.
+    fn vehicles_of(&self, problem: &Problem, names: &[u32]) -> Result<Vec<u64>, OutOfMemory>
+        requires valid { IsInstance problem.now }
+        requires once { IsDistinct nat_eq (concat (draft_of self.now)) }
+        ensures within { IfOk result (λ vehicles. AreIn (draft_of self.now) vehicles.items) }
+        ensures found { IfOk result (λ vehicles. AreVehiclesOf (draft_of self.now)
+            (λ n. is_of_named problem.now names.now n ≡ true) vehicles.items) }
+    {
+        let mut vehicles = Vec::new(*self.tours.allocator());
+        for name in names {
+            self.note_named(problem, *name, &mut vehicles)?;
+        }
+        Ok(vehicles)
+    }
+
+    fn note_named(
+        &self,
+        problem: &Problem,
+        name: u32,
+        vehicles: &mut Vec<u64>,
+    ) -> Result<(), OutOfMemory>
+        requires valid { IsInstance problem.now }
+        requires once { IsDistinct nat_eq (concat (draft_of self.now)) }
+        ensures { OnOk result (Notes (draft_of self.now)
+            (λ n. is_of_named problem.now (name ∷ []) n ≡ true)
+            vehicles.old.items vehicles.new.items) }
+    {
+        requests_stand_by_name();
+        match problem.requests.get(&name) {
+            Some(request) => self.note_request(request, vehicles),
+            None => Ok(()),
+        }
+    }
+
+    fn note_request(&self, request: &Request, vehicles: &mut Vec<u64>) -> Result<(), OutOfMemory>
+        requires { IsDistinct nat_eq (concat (draft_of self.now)) }
+        ensures { OnOk result (Notes (draft_of self.now) (λ n. IsSome (stop_in n request.now))
+            vehicles.old.items vehicles.new.items) }
+    {
+        match request {
+            Request::Single(stop) => self.note(stop.number, vehicles),
+            Request::Pair(pickup, delivery) => {
+                self.note(pickup.number, vehicles)?;
+                self.note(delivery.number, vehicles)
+            }
+        }
+    }
+
+    fn note(&self, stop: u32, vehicles: &mut Vec<u64>) -> Result<(), OutOfMemory>
+        requires { IsDistinct nat_eq (concat (draft_of self.now)) }
+        ensures { OnOk result (Notes (draft_of self.now) (λ n. n ≡ stop)
+            vehicles.old.items vehicles.new.items) }
+    {
+        let vehicle = self.vehicle_of(stop);
+        if vehicle == 0 {
+            return Ok(());
+        }
+        if is_among(vehicles, vehicle) {
+            return Ok(());
+        }
+        vehicles.push(vehicle)?;
+        Ok(())
     }
 
     // Whether each name is of a request that can be moved.
@@ -174,4 +267,10 @@ fn distinct_count(names: &[u32]) -> u64
         left = others;
     }
     count
+}
+
+fn is_among(vehicles: &[u64], vehicle: u64) -> bool
+    ensures { result ≡ has vehicles.now vehicle }
+{
+    vehicles.contains(&vehicle)
 }
