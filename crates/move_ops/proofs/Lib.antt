@@ -17,6 +17,7 @@ pub mod Installing
 pub mod Leaving
 pub mod Places
 pub mod Placing
+pub mod Pricing
 pub mod Putting
 pub mod Refreshing
 pub mod Removing

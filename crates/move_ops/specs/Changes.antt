@@ -1,5 +1,5 @@
 -- Routes of a plan that others take the place of.
-use Rattle.std.specs.Prelude.{◌≡◌, ℕ, ◌+◌, ◌≤◌, if◌then◌else◌, true, false, All, List, [], ◌∷◌, length}
+use Rattle.std.specs.Prelude.{◌≡◌, ℕ, ◌+◌, ◌==◌, not, ◌≤◌, if◌then◌else◌, true, false, All, List, [], ◌∷◌, length}
 use Rattle.std.specs.List.{AllByRecursion}
 use Rattle.plan_types.specs.Instance.{Instance}
 use Rattle.route_sched.specs.Cost.{has_stop, unplanned_count}
@@ -50,3 +50,7 @@ pub record Notes (routes : List (List ℕ)) (asked : ℕ → Type 0) (before aft
   pub within : AreIn routes before → AreIn routes after
   pub stays : (v : ℕ) → has before v ≡ true → has after v ≡ true
   pub found : AreVehiclesOf routes asked after
+
+-- how many vehicles a route uses, one or none
+abbrev pub used : List ℕ → ℕ
+used route = if not (length route == 0) then 1 else 0

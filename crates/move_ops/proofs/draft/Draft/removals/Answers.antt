@@ -14,5 +14,5 @@ returns c =
     let old = draft_of c.args.self.now in
     let whole = take_long c.args.vehicles.now c.loop-vehicle.vehicle-index c.loop-vehicle-test.false in
     let are : c.loop-vehicle.changes.items ≡ map (change_at (filter (λ n. not (is_of_named p names n))) old) c.args.vehicles.now =
-        c.loop-vehicle.invariant ∙ ap (map (change_at (filter (λ n. not (is_of_named p names n))) old)) whole in
+    c.loop-vehicle.invariant ∙ ap (map (change_at (filter (λ n. not (is_of_named p names n))) old)) whole in
     subst (λ (l : List Change). AreChanges old (without_named p names old) l) (sym are) (named_changes p names old c.args.vehicles.now c.requires.within c.requires.found)
