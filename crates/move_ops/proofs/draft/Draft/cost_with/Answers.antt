@@ -1,15 +1,12 @@
-use Rattle.std.proofs.Common.{rules, ◌≡◌, ◌+◌, ◌-◌, ◌≤◌, ◌^◌, ℕ, List, length, sym, ap, subst, ◌∙◌, arith}
-use Rattle.plan_types.specs.Instance.{Instance}
+use Rattle.std.proofs.Common.{rules, ◌≡◌, ◌+◌, ◌-◌, ◌≤◌, ◌^◌, List, length, sym, ap, subst, ◌∙◌, arith}
 use Rattle.plan_types.specs.declared.plans.Cost.{Cost}
 use Rattle.plan_types.specs.declared.requests.Kind.{Kind}
 use Rattle.plan_types.specs.declared.requests.Kind.TheVariants.{LiLim, Vrp}
-use Rattle.route_sched.specs.Cost.{cost_of, used_count, vehicle_count, total_length, unplanned_count}
+use Rattle.route_sched.specs.Cost.{cost_of, vehicle_count, total_length, unplanned_count}
 use Rattle.route_sched.specs.Schedule.{route_length}
-use Rattle.slack_tables.specs.Course.{Course, course_of, route_of}
+use Rattle.slack_tables.specs.Course.{Course, route_of}
 use Rattle.move_ops.specs.Insertion.{with_route}
-use Rattle.move_ops.specs.Changes.{used}
 use Rattle.move_ops.specs.Tables.{plan_of, AreTablesIn}
-use Rattle.move_ops.specs.Drafts.{draft_of}
 use Rattle.move_ops.proofs.Costs.{same_cost}
 use Rattle.move_ops.proofs.Pricing.{used_part, used_with, is_course, length_part, length_with}
 use Rattle.move_ops.proofs.draft.Draft.cost_with.Goals as goal

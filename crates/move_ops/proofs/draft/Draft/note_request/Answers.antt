@@ -1,4 +1,4 @@
-use Rattle.std.proofs.Common.{rules, ◌≡◌, IsSome, OnOk, subst, sym}
+use Rattle.std.proofs.Common.{rules, ◌≡◌, IsSome, subst, sym}
 use Rattle.std.proofs.lemmas.Result.{on_ok_weaker}
 use Rattle.plan_types.specs.Request.{stop_in}
 use Rattle.plan_types.specs.declared.requests.Request.{Request}

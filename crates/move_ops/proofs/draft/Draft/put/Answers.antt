@@ -1,8 +1,8 @@
-use Rattle.std.proofs.Common.{rules, ◌≡◌, ◌≤◌, ◌-◌, ◌+◌, ◌^◌, ℕ, List, length, set, refl, sym, ap, subst, ◌∙◌, arith}
+use Rattle.std.proofs.Common.{rules, ◌≡◌, ◌≤◌, ◌-◌, ◌^◌, ℕ, List, length, set, refl, sym, ap, subst, ◌∙◌, arith}
 use Rattle.plan_types.specs.declared.plans.Cost.{Cost}
 use Rattle.route_sched.specs.Cost.{cost_of, unplanned_count, total_length}
 use Rattle.route_sched.specs.Route.{AreLiveOnce}
-use Rattle.slack_tables.specs.Course.{Course, course_of, route_of}
+use Rattle.slack_tables.specs.Course.{course_of, route_of}
 use Rattle.slack_tables.specs.Insertion.{inserted, KeepsLimits}
 use Rattle.move_ops.specs.Insertion.{of_vehicle, with_route}
 use Rattle.move_ops.specs.Tables.{plan_of, AreTablesIn}

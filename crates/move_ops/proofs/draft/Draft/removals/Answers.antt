@@ -1,4 +1,4 @@
-use Rattle.std.proofs.Common.{rules, ◌≡◌, not, List, filter, map, sym, ap, subst, ◌∙◌}
+use Rattle.std.proofs.Common.{◌≡◌, not, List, filter, map, sym, ap, subst, ◌∙◌}
 use Rattle.move_ops.specs.Changes.{AreChanges}
 use Rattle.move_ops.specs.Drafts.{draft_of}
 use Rattle.move_ops.specs.Moves.{is_of_named, without_named}

@@ -1,6 +1,6 @@
-use Rattle.std.proofs.Common.{rules, ◌≡◌, ◌+◌, ◌<◌, ◌^◌, ap, ◌∙◌, arith}
+use Rattle.std.proofs.Common.{rules, ◌≡◌, ap, ◌∙◌, arith}
 use Rattle.plan_types.specs.declared.plans.Cost.{Cost}
-use Rattle.move_ops.specs.Changes.{with_routes, distinct_count}
+use Rattle.move_ops.specs.Changes.{with_routes}
 use Rattle.move_ops.specs.Drafts.{draft_of}
 use Rattle.move_ops.proofs.Drafting.{named_gone}
 use Rattle.move_ops.proofs.Leaving.{few_left_out}

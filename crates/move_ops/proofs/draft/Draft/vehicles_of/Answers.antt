@@ -1,7 +1,7 @@
-use Rattle.std.proofs.Common.{rules, ◌≡◌, ◌+◌, ◌<◌, ◌∷◌, drop, length, get_or}
+use Rattle.std.proofs.Common.{◌+◌, drop, get_or}
 use Rattle.std.proofs.lemmas.List.{drop_more}
 use Rattle.move_ops.specs.Drafts.{draft_of}
-use Rattle.move_ops.proofs.Gathering.{found_more, found_all}
+use Rattle.move_ops.proofs.Gathering.{found_more}
 use Rattle.move_ops.proofs.draft.Draft.vehicles_of.Goals as goal
 
 pub loop-name-preserved : goal.loop-name-preserved
