@@ -1,5 +1,5 @@
 -- Changes of a draft that make another plan of it.
-use Rattle.std.proofs.Common.{◌≡◌, ℕ, ◌≤◌, true, List, [], ◌∷◌, All, length, refl, sym, ap, ◌∙◌, arith}
+use Rattle.std.proofs.Common.{◌≡◌, ℕ, ◌≤◌, true, List, [], ◌∷◌, All, length, sym, ap, ◌∙◌, arith}
 use Rattle.std.specs.List.{AllByRecursion, list_all}
 use Rattle.std.proofs.lemmas.Bool.{and_parts}
 use Rattle.std.proofs.lemmas.List.{length-map}
@@ -12,7 +12,7 @@ use Rattle.slack_tables.specs.Insertion.{KeepsLimits}
 use Rattle.plan_audit.specs.Laws.{KeepsPins}
 use Rattle.plan_audit.specs.Locality.{PassesAreLocal, TestsSayFeasible}
 use Rattle.plan_audit.specs.Passes.{feasible_alone, passes}
-use Rattle.move_ops.specs.Changes.{with_routes, IsChange, AreChanges}
+use Rattle.move_ops.specs.Changes.{IsChange, AreChanges}
 use Rattle.move_ops.specs.Drafts.{Drafted, draft_of, IsDraftOf}
 use Rattle.move_ops.specs.declared.changes.Change.{Change}
 use Rattle.move_ops.proofs.Replacing.{parts}
@@ -42,11 +42,11 @@ module _ (local : PassesAreLocal) (says : TestsSayFeasible) (p : Instance) (pins
       judged (feasible_alone p) (draft_of d) others cs are long
       (said_feasible local says p pins (draft_of d) (is.draft) (draft_of d) ((parts local p pins (draft_of d) (is.draft)).feasible))
 
-  pub made : true ≡ list_all (λ c. feasible_alone p c.route) cs → IsChange p pins (draft_of d) cs (unplanned_count p (with_routes (draft_of d) cs))
-  made t = record {
+  pub made : (left : ℕ) → left ≡ unplanned_count p others → true ≡ list_all (λ c. feasible_alone p c.route) cs → IsChange p pins (draft_of d) cs left
+  made left count t = record {
     within = all_within (draft_of d) others cs are long;
     once = asked;
     keeps = All-from_recursion (λ (c : Change). KeepsLimits p c.route) cs (keeps_all p (is.valid) cs (sym t));
     passes = ap (passes p pins) (are.plan) ∙ passes_where_feasible local says p pins (draft_of d) (is.draft) others plan long pinned true (t ∙ judge);
-    unplanned = refl;
+    unplanned = count ∙ ap (unplanned_count p) (sym (are.plan));
   }

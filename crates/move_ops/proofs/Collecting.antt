@@ -23,7 +23,7 @@ mixed_same (n ∷ new) [] k long below at = absurd (omega arith)
 mixed_same (n ∷ new) (o ∷ old) zero long below at = ap (λ y. y ∷ old) (some_same o n (sym at))
 mixed_same (n ∷ new) (o ∷ old) (suc k) long below at = ap (λ l. n ∷ l) (mixed_same new old k (omega arith) (omega arith) at)
 
-take_long : {X : Type 0} (xs : List X) (k : ℕ) → length xs ≤ k → take k xs ≡ xs
+pub take_long : {X : Type 0} (xs : List X) (k : ℕ) → length xs ≤ k → take k xs ≡ xs
 take_long [] zero long = refl
 take_long [] (suc k) long = refl
 take_long (x ∷ xs) zero long = absurd (omega arith)
@@ -81,7 +81,7 @@ module _ (f : List ℕ → List ℕ) (old : List (List ℕ)) where
     plan = is.plan ∙ (mixed_same (map f old) old k (length-map old f) below (get_map f old k (of_vehicle old (k + 1)) (here k below) ∙ (ap Some same ∙ sym (here k below))) ∙ ap (λ j. take j (map f old) ++ drop j old) (sym (add-one k)));
   })
 
-  of_map : (v : ℕ) → 1 ≤ v → v ≤ length old → of_vehicle (map f old) v ≡ f (of_vehicle old v)
+  pub of_map : (v : ℕ) → 1 ≤ v → v ≤ length old → of_vehicle (map f old) v ≡ f (of_vehicle old v)
   of_map zero from within = absurd (omega arith)
   of_map (suc k) from within =
       let e : suc k - 1 ≡ k = omega arith in

@@ -17,6 +17,7 @@ use Rattle.route_sched.specs.Cost.{has_stop, is_planned, unplanned_count, vehicl
 use Rattle.route_sched.specs.Schedule.{route_length}
 use Rattle.slack_tables.specs.Insertion.{inserted}
 use Rattle.move_ops.specs.Insertion.{Place, of_vehicle, with_route, with_request_at, cost_with, is_no_later, is_no_worse}
+use Rattle.move_ops.specs.Changes.{used}
 use Rattle.move_ops.specs.Choosing.{opens}
 use Rattle.move_ops.proofs.Times.{times}
 use Rattle.move_ops.proofs.Fitting.{had_often, often_had}
@@ -56,14 +57,11 @@ module _ (p : Instance) (routes : List (List ℕ)) (r : Request) where
       unplanned_same (with_request_at routes r x) (with_request_at routes r y) (λ n. often_with x from within n ∙ sym (often_with y low high n)) p
 
 -- ---- vehicles and distance
-replaced : (f : List ℕ → ℕ) (routes : List (List ℕ)) (v : ℕ) (new : List ℕ) → 1 ≤ v → v ≤ length routes → sum_by f (with_route routes v new) + f (of_vehicle routes v) ≡ sum_by f routes + f new
+pub replaced : (f : List ℕ → ℕ) (routes : List (List ℕ)) (v : ℕ) (new : List ℕ) → 1 ≤ v → v ≤ length routes → sum_by f (with_route routes v new) + f (of_vehicle routes v) ≡ sum_by f routes + f new
 replaced f routes v new from within =
     let here = ap f (get_or_from_slice_get routes (v - 1) (of_vehicle routes v) [] (at_vehicle routes v from within)) in
     let e = sum_by-set f routes (v - 1) new [] (omega arith) in
     omega arith
-
-abbrev used : List ℕ → ℕ
-used route = cond (not (eqb (length route) 0)) 1 0
 
 used_or : (b : Bool) → cond (not b) 1 0 + cond b 1 0 ≡ 1
 used_or true = refl
@@ -85,7 +83,7 @@ vehicles_with LiLim routes v new from within some =
     omega arith
 
 -- ---- the order of insertions
-same_cost : (a b : Cost) → a.unplanned ≡ b.unplanned → a.vehicles ≡ b.vehicles → a.distance ≡ b.distance → a ≡ b
+pub same_cost : (a b : Cost) → a.unplanned ≡ b.unplanned → a.vehicles ≡ b.vehicles → a.distance ≡ b.distance → a ≡ b
 same_cost a b e f g = λ i. record { unplanned = e i; vehicles = f i; distance = g i }
 
 or_left : (a b : Bool) → a ≡ true → (a || b) ≡ true

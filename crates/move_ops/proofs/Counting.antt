@@ -40,9 +40,9 @@ found_among (e ∷ es) name r at n = elim (eqb_tells name e.0) [
 has_same : (n : ℕ) (routes others : List (List ℕ)) → times n (concat routes) ≡ times n (concat others) → has_stop routes n ≡ has_stop others n
 has_same n routes others same = any_same n (concat routes) (concat others) same
 
-module _ (routes others : List (List ℕ)) (r : Request) (more : (n : ℕ) → times n (concat others) ≡ times n (concat routes) + times n (numbers_of r)) where
+module _ (routes others : List (List ℕ)) (r : Request) (outside : (n : ℕ) → times n (numbers_of r) ≡ 0 → times n (concat routes) ≡ times n (concat others)) where
   stays : (n : ℕ) → times n (numbers_of r) ≡ 0 → has_stop routes n ≡ has_stop others n
-  stays n none = has_same n routes others (let e = more n in omega arith)
+  stays n none = has_same n routes others (outside n none)
 
   -- other requests are planned as before
   planned_as : (q : Request) → ((n : ℕ) → 1 ≤ times n (numbers_of q) → times n (numbers_of r) ≡ 0) → is_planned routes q ≡ is_planned others q

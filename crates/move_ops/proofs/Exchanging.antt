@@ -1,6 +1,6 @@
 -- Two requests of a plan that passes take one another's places.
-use Rattle.std.proofs.Common.{◌≡◌, ℕ, ◌+◌, ◌≤◌, ◌&&◌, Bool, true, false, cond, eqb, nat_eq, List, [], ◌∷◌, All, map, Some, None, slice_get, refl, sym, ap, subst, ◌∙◌, inl, inr, arith}
-use Rattle.std.specs.List.{AllByRecursion, list_all, concat}
+use Rattle.std.proofs.Common.{◌≡◌, ℕ, ◌+◌, ◌≤◌, ◌&&◌, ◌||◌, Bool, true, false, cond, eqb, nat_eq, List, [], ◌∷◌, All, map, Some, None, slice_get, refl, sym, ap, subst, ◌∙◌, inl, inr, arith}
+use Rattle.std.specs.List.{AllByRecursion, list_all, list_any, concat}
 use Rattle.std.specs.Map.{lookup}
 use Rattle.std.specs.Option.{option_map}
 use Rattle.std.proofs.lemmas.Bool.{cases_lt, and_parts, eq-eqb}
@@ -12,12 +12,14 @@ use Rattle.plan_types.specs.Laws.{NamedAreFound}
 use Rattle.plan_types.specs.Request.{request_name, IsRequest}
 use Rattle.plan_types.specs.declared.requests.Request.{Request}
 use Rattle.plan_types.specs.declared.requests.Request.TheVariants.{Single, Pair}
+use Rattle.route_sched.specs.Cost.{has_stop, is_planned}
 use Rattle.route_sched.specs.Route.{IsLive, AreLiveOnce, IsPlan}
 use Rattle.plan_audit.specs.Laws.{KeepsPins}
 use Rattle.plan_audit.specs.Locality.{PassesAreLocal, PlansAreLocal, TestsSayFeasible}
 use Rattle.plan_audit.specs.Passes.{feasible_alone, passes}
 use Rattle.move_ops.specs.Moves.{is_movable, have_same_form, are_exchangeable, swapped, counterpart, exchanged}
 use Rattle.move_ops.proofs.Times.{none_some, some_same, times, one_here, none_here, times-append, once_from, once_few, once_live}
+use Rattle.move_ops.proofs.Fitting.{had_often, often_had}
 use Rattle.move_ops.proofs.Replacing.{parts}
 use Rattle.move_ops.proofs.Inserting.{numbers_of, in_numbers, found_live, valid_request}
 use Rattle.move_ops.proofs.Changing.{passes_where_feasible, each_once, pins_map}
@@ -127,7 +129,7 @@ mapped_pinned f routes pins kept stays =
 not_among : (n m : ℕ) (xs : List ℕ) → cond (eqb n m) 1 0 + times n xs ≡ 0 → n ≡ m → ⊥
 not_among n m xs none same = let e = one_here n m same in omega arith
 
-counterpart_other : (r s : Request) (n : ℕ) → times n (numbers_of r) ≡ 0 → times n (numbers_of s) ≡ 0 → counterpart r s n ≡ n
+pub counterpart_other : (r s : Request) (n : ℕ) → times n (numbers_of r) ≡ 0 → times n (numbers_of s) ≡ 0 → counterpart r s n ≡ n
 counterpart_other (Single s) (Single t) n one two = swap_other s.number t.number n (not_among n s.number [] one) (not_among n t.number [] two)
 counterpart_other (Single s) (Pair c d) n one two = refl
 counterpart_other (Pair a b) (Single t) n one two = refl
@@ -154,8 +156,41 @@ counterpart_back (Pair a b) (Pair c d) valid too apart n =
     (λ same. apart c.number (second_among c.number b.number a.number same) (first_among c.number c.number (d.number ∷ []) refl))
     (too.2) n
 
+-- each request is planned where the other was
+any_two : (n m : ℕ) (xs ys : List ℕ) → times n xs ≡ times m ys → list_any (nat_eq n) xs ≡ list_any (nat_eq m) ys
+any_two n m xs ys same = by (list_any (nat_eq n) xs) (list_any (nat_eq m) ys) refl refl
+  where
+    by : (a b : Bool) → list_any (nat_eq n) xs ≡ a → list_any (nat_eq m) ys ≡ b → list_any (nat_eq n) xs ≡ list_any (nat_eq m) ys
+    by true true d e = d ∙ sym e
+    by false false d e = d ∙ sym e
+    by true false d e = absurd (let h = often_had ys m (let k = had_often xs n d in omega arith) in let c : true ≡ false = sym h ∙ e in cc)
+    by false true d e = absurd (let h = often_had xs n (let k = had_often ys m e in omega arith) in let c : true ≡ false = sym h ∙ d in cc)
+
+module _ (routes others : List (List ℕ)) where
+  first_planned : (r s : Request) → IsRequest r → IsRequest s → ((n : ℕ) → 1 ≤ times n (numbers_of r) → 1 ≤ times n (numbers_of s) → ⊥) → have_same_form r s ≡ true
+      → ((n : ℕ) → has_stop others n ≡ has_stop routes (counterpart r s n)) → is_planned others r ≡ is_planned routes s
+  first_planned (Single s) (Single t) valid too apart form had = ap (λ h. h || false) (had s.number ∙ ap (has_stop routes) (swap_left s.number t.number))
+  first_planned (Single s) (Pair c d) valid too apart form had = absurd (let k : false ≡ true = form in cc)
+  first_planned (Pair a b) (Single t) valid too apart form had = absurd (let k : false ≡ true = form in cc)
+  first_planned (Pair a b) (Pair c d) valid too apart form had =
+      let a_d = λ (same : a.number ≡ d.number). apart a.number (first_among a.number a.number (b.number ∷ []) refl) (second_among a.number d.number c.number same) in
+      let c_b = λ (same : c.number ≡ b.number). apart c.number (second_among c.number b.number a.number same) (first_among c.number c.number (d.number ∷ []) refl) in
+      ap (λ h. h || (has_stop others b.number || false)) (had a.number ∙ ap (has_stop routes) (both_a a.number b.number c.number d.number (valid.2) a_d c_b (too.2)))
+      ∙ ap (λ h. has_stop routes c.number || (h || false)) (had b.number ∙ ap (has_stop routes) (both_b a.number b.number c.number d.number (valid.2) a_d c_b (too.2)))
+
+  second_planned : (r s : Request) → IsRequest r → IsRequest s → ((n : ℕ) → 1 ≤ times n (numbers_of r) → 1 ≤ times n (numbers_of s) → ⊥) → have_same_form r s ≡ true
+      → ((n : ℕ) → has_stop others n ≡ has_stop routes (counterpart r s n)) → is_planned others s ≡ is_planned routes r
+  second_planned (Single s) (Single t) valid too apart form had = ap (λ h. h || false) (had t.number ∙ ap (has_stop routes) (swap_right s.number t.number))
+  second_planned (Single s) (Pair c d) valid too apart form had = absurd (let k : false ≡ true = form in cc)
+  second_planned (Pair a b) (Single t) valid too apart form had = absurd (let k : false ≡ true = form in cc)
+  second_planned (Pair a b) (Pair c d) valid too apart form had =
+      let a_d = λ (same : a.number ≡ d.number). apart a.number (first_among a.number a.number (b.number ∷ []) refl) (second_among a.number d.number c.number same) in
+      let c_b = λ (same : c.number ≡ b.number). apart c.number (second_among c.number b.number a.number same) (first_among c.number c.number (d.number ∷ []) refl) in
+      ap (λ h. h || (has_stop others d.number || false)) (had c.number ∙ ap (has_stop routes) (both_c a.number b.number c.number d.number (valid.2) a_d c_b (too.2)))
+      ∙ ap (λ h. has_stop routes a.number || (h || false)) (had d.number ∙ ap (has_stop routes) (both_d a.number b.number c.number d.number (valid.2) a_d c_b (too.2)))
+
 -- requests of two names share no number
-named_so : (es : List (ℕ × Request)) (name : ℕ) (r : Request) → AllByRecursion (λ e. e.0 ≡ request_name e.1) es → lookup (nat_eq name) es ≡ Some r → name ≡ request_name r
+pub named_so : (es : List (ℕ × Request)) (name : ℕ) (r : Request) → AllByRecursion (λ e. e.0 ≡ request_name e.1) es → lookup (nat_eq name) es ≡ Some r → name ≡ request_name r
 named_so [] name r named at = absurd (none_some r at)
 named_so (e ∷ es) name r named at = elim (eqb_tells name e.0) [
   | inl t ↦ t.1 ∙ (named.0 ∙ ap request_name (some_same e.1 r (rw t.0 at at)))
@@ -171,6 +206,21 @@ module _ (found : NamedAreFound) (p : Instance) (valid : IsInstance p) (a b : �
 
   back : (n : ℕ) → counterpart r s (counterpart r s n) ≡ n
   back = counterpart_back r s (valid_request p.requests a r (valid.valid) is_r) (valid_request p.requests b s (valid.valid) is_s) share_none
+
+  -- a stop stands in a route where its counterpart stood
+  pub times_exchanged : (n : ℕ) (routes : List (List ℕ)) → times n (concat (map (map (counterpart r s)) routes)) ≡ times (counterpart r s n) (concat routes)
+  times_exchanged n routes = times_all_mapped (counterpart r s) back n routes
+
+  had_exchanged : (routes : List (List ℕ)) (n : ℕ) → has_stop (map (map (counterpart r s)) routes) n ≡ has_stop routes (counterpart r s n)
+  had_exchanged routes n = any_two n (counterpart r s n) (concat (map (map (counterpart r s)) routes)) (concat routes) (times_exchanged n routes)
+
+  pub first_for_second : (routes : List (List ℕ)) → have_same_form r s ≡ true → is_planned (map (map (counterpart r s)) routes) r ≡ is_planned routes s
+  first_for_second routes form =
+      first_planned routes (map (map (counterpart r s)) routes) r s (valid_request p.requests a r (valid.valid) is_r) (valid_request p.requests b s (valid.valid) is_s) share_none form (had_exchanged routes)
+
+  pub second_for_first : (routes : List (List ℕ)) → have_same_form r s ≡ true → is_planned (map (map (counterpart r s)) routes) s ≡ is_planned routes r
+  second_for_first routes form =
+      second_planned routes (map (map (counterpart r s)) routes) r s (valid_request p.requests a r (valid.valid) is_r) (valid_request p.requests b s (valid.valid) is_s) share_none form (had_exchanged routes)
 
   stays_live : (n : ℕ) → IsLive p (counterpart r s n) → IsLive p n
   stays_live n live = elim (cases_lt 0 (times n (numbers_of r))) [

@@ -11,10 +11,13 @@ pub mod Drafting
 pub mod Crossing
 pub mod Exchanging
 pub mod Fitting
+pub mod Gathering
 pub mod Inserting
 pub mod Installing
+pub mod Leaving
 pub mod Places
 pub mod Placing
+pub mod Pricing
 pub mod Putting
 pub mod Refreshing
 pub mod Removing

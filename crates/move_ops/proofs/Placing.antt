@@ -75,7 +75,7 @@ module _ (law : NamedAreFound) (stand : RequestsStandByName) (local : PassesAreL
 
   pub one_less : unplanned_count p routes ≡ unplanned_count p (with_request_at routes r x) + 1
   one_less =
-      one_more_planned routes (with_request_at routes r x) r often (told.0) (planned_where (with_request_at routes r x) r (λ n. let e = often n in omega arith)) p valid name named
+      one_more_planned routes (with_request_at routes r x) r (λ n none. let e = often n in omega arith) (told.0) (planned_where (with_request_at routes r x) r (λ n. let e = often n in omega arith)) p valid name named
 
   pub new_small : total_length p (with_request_at routes r x) ≤ 2 ^ 63
   new_small = plan_small below local p valid pins (with_request_at routes r x) new_passes

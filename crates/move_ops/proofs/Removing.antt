@@ -77,7 +77,7 @@ module _ (n : ℕ) (r : Request) where
     ]
   ]
 
-  found_has : (es : List (ℕ × Request)) → first_some (λ q. option_map (λ _. q) (stop_in n q)) es ≡ Some r → 1 ≤ times n (numbers_of r)
+  pub found_has : (es : List (ℕ × Request)) → first_some (λ q. option_map (λ _. q) (stop_in n q)) es ≡ Some r → 1 ≤ times n (numbers_of r)
   found_has [] at = absurd (none_some r at)
   found_has (e ∷ es) at = found_in e.1 (first_some (λ q. option_map (λ _. q) (stop_in n q)) es) (found_has es) at
 

@@ -1,13 +1,18 @@
 -- Routes of a plan that others take the place of.
-use Rattle.std.specs.Prelude.{◌≡◌, ℕ, ◌≤◌, true, All, List, [], ◌∷◌, length}
+use Rattle.std.specs.Prelude.{◌≡◌, ℕ, ◌+◌, ◌==◌, not, ◌≤◌, if◌then◌else◌, true, false, All, List, [], ◌∷◌, length}
 use Rattle.std.specs.List.{AllByRecursion}
 use Rattle.plan_types.specs.Instance.{Instance}
-use Rattle.route_sched.specs.Cost.{unplanned_count}
+use Rattle.route_sched.specs.Cost.{has_stop, unplanned_count}
 use Rattle.route_sched.specs.Route.{AreLiveOnce}
-use Rattle.plan_audit.specs.Passes.{passes}
+use Rattle.plan_audit.specs.Passes.{has, passes}
 use Rattle.slack_tables.specs.Insertion.{KeepsLimits}
 use Rattle.move_ops.specs.Insertion.{with_route, of_vehicle}
 use Rattle.move_ops.specs.declared.changes.Change.{Change}
+
+-- how many names there are, one that stands twice counted once
+abbrev pub distinct_count : List ℕ → ℕ
+distinct_count [] = 0
+distinct_count (n ∷ ns) = (if has ns n then 0 else 1) + distinct_count ns
 
 -- the plan with these routes for their vehicles
 abbrev pub with_routes : List (List ℕ) → List Change → List (List ℕ)
@@ -27,3 +32,25 @@ pub record AreChanges (old new : List (List ℕ)) (changes : List Change) : Type
   pub within : AllByRecursion (λ c. (1 ≤ c.vehicle) × (c.vehicle ≤ length old)) changes
   pub there : AllByRecursion (λ c. c.route ≡ of_vehicle new c.vehicle) changes
   pub plan : with_routes old changes ≡ new
+
+-- the vehicle has the stop, or it is 0 and none has
+abbrev pub IsVehicleWith : List (List ℕ) → ℕ → ℕ → Type 0
+IsVehicleWith routes n v = (1 ≤ v → has (of_vehicle routes v) n ≡ true) × (v ≡ 0 → has_stop routes n ≡ false)
+
+-- the list has the vehicle of each such stop
+abbrev pub AreVehiclesOf : List (List ℕ) → (ℕ → Type 0) → List ℕ → Type 0
+AreVehiclesOf routes asked vs = (v n : ℕ) → asked n → has (of_vehicle routes v) n ≡ true → has vs v ≡ true
+
+-- these are vehicles that have a route
+abbrev pub AreIn : List (List ℕ) → List ℕ → Type 0
+AreIn routes vs = All (λ v. (1 ≤ v) × (v ≤ length routes)) vs
+
+-- a list of vehicles, and then with those of such stops too
+pub record Notes (routes : List (List ℕ)) (asked : ℕ → Type 0) (before after : List ℕ) : Type 0 where
+  pub within : AreIn routes before → AreIn routes after
+  pub stays : (v : ℕ) → has before v ≡ true → has after v ≡ true
+  pub found : AreVehiclesOf routes asked after
+
+-- how many vehicles a route uses, one or none
+abbrev pub used : List ℕ → ℕ
+used route = if not (length route == 0) then 1 else 0

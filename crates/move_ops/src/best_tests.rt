@@ -414,3 +414,31 @@ fn finds_a_place_in_the_largest_route(rt: HostRuntime) -> Result<(), Fail> {
     assert!(rt; false, "the plan does not pass");
     Ok(())
 }
+
+// 65 pairs, 64 at the depot and one at (3, 4), in one route, and one more at (3, 4), with a fleet of one that carries one of them.
+fn pairs_at_the_depot(alloc: Global) -> Result<Problem, Fail> {
+    let depot = stop_at(0, (0, 0), 0, 1_000);
+    let mut problem = Problem::new(alloc, Kind::LiLim, depot, 1, 1)?;
+    for pair in 0..66 {
+        let place = if pair < 64 { (0, 0) } else { (3, 4) };
+        let pickup = stop_at(2 * pair + 1, place, 1, 1_000);
+        problem.put(Request::Pair(pickup, stop_at(2 * pair + 2, place, -1, 1_000)))?;
+    }
+    Ok(problem)
+}
+
+#[test]
+fn finds_the_places_of_a_pair_in_a_long_route(rt: HostRuntime) -> Result<(), Fail> {
+    let alloc = rt.alloc();
+    let problem = pairs_at_the_depot(alloc)?;
+    let mut plan = Vec::new(alloc);
+    for stop in 1..131 {
+        plan.push(stop)?;
+    }
+    plan.push(0)?;
+    assert_eq!(rt;
+        best(alloc, &problem, &[], &plan, 131)?,
+        Some((1, 129, 130))
+    );
+    Ok(())
+}

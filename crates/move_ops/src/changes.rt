@@ -34,45 +34,6 @@ pub(crate) fn are_all_feasible(problem: &Problem, changes: &[Change]) -> bool
     true
 }
 
-/// The routes without the stops of the named requests, where they have some.
-pub(crate) fn removals(
-    alloc: Global,
-    problem: &Problem,
-    tours: &[Tour],
-    names: &[u32],
-) -> Result<Vec<Change>, OutOfMemory>
-    requires { length tours.now ≤ 40000 }
-    ensures { IfOk result (λ changes.
-        AreChanges (plan_of tours.now)
-        (without_named problem.now names.now (plan_of tours.now)) changes.items) }
-{
-    let mut changes = Vec::new(alloc);
-    for index in 0..tours.len() {
-        let stops = tours[index].stops();
-        if has_named(problem, names, stops) {
-            let route = others(alloc, problem, stops, names)?;
-            changes.push(Change {
-                vehicle: index as u32 + 1,
-                route,
-            })?;
-        }
-    }
-    Ok(changes)
-}
-
-// Whether a stop is one of a named request.
-fn has_named(problem: &Problem, names: &[u32], stops: &[u32]) -> bool
-    ensures { result ≡ false → filter (λ n. not (is_of_named problem.now names.now n)) stops.now
-        ≡ stops.now }
-{
-    for stop in stops {
-        if is_of_named(problem, names, *stop) {
-            return true;
-        }
-    }
-    false
-}
-
 /// The routes with the stops of either request where those of the other were, where they have some.
 pub(crate) fn exchanges(
     alloc: Global,

@@ -14,6 +14,7 @@ mod seats;
 mod swap;
 mod tables;
 mod tour;
+mod tours;
 
 pub use best::best_insertion;
 pub use cross::two_opt_star;
@@ -29,5 +30,7 @@ pub use tables::Tables;
 
 #[cfg(test)]
 mod best_tests;
+#[cfg(test)]
+mod draft_tests;
 #[cfg(test)]
 mod tests;

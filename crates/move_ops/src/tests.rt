@@ -70,7 +70,7 @@ pub(crate) fn pins_of(alloc: Global, stops: &[u32]) -> Result<Pins, Fail> {
 }
 
 // The routes of the plan, each ended by a 0; nothing for no plan.
-fn stops_of(alloc: Global, plan: &Option<Plan>) -> Result<Vec<u32>, Fail> {
+pub(crate) fn stops_of(alloc: Global, plan: &Option<Plan>) -> Result<Vec<u32>, Fail> {
     let mut stops = Vec::new(alloc);
     if let Some(plan) = plan {
         for route in plan.routes.as_slice() {

@@ -3,6 +3,8 @@ use Rattle.std.specs.List.{list_all}
 use Rattle.std.specs.Map.{lookup}
 use Rattle.std.proofs.lemmas.List.{length-map}
 use Rattle.route_sched.specs.Route.{AreLiveOnce}
+use Rattle.plan_types.specs.declared.plans.Cost.{Cost}
+use Rattle.route_sched.specs.Cost.{unplanned_count}
 use Rattle.plan_audit.specs.Passes.{feasible_alone}
 use Rattle.slack_tables.specs.Course.{Course}
 use Rattle.move_ops.specs.Moves.{are_exchangeable, counterpart}
@@ -12,6 +14,7 @@ use Rattle.move_ops.specs.Drafts.{draft_of}
 use Rattle.move_ops.specs.declared.changes.Change.{Change}
 use Rattle.move_ops.proofs.Exchanging.{others_plan, others_pinned, others_once, exchanged_is}
 use Rattle.move_ops.proofs.Applying.{asked, judge, made}
+use Rattle.move_ops.proofs.Leaving.{as_many}
 use Rattle.move_ops.proofs.draft.Draft.exchanging.Goals as goal
 
 pub are_all_feasible-requires : goal.are_all_feasible-requires
@@ -99,4 +102,5 @@ returns-clause-change c =
     let tours : c.deref.result.now ≡ d.tours = search rules in
     let are : AreChanges routes others c.in_ok-changes.changes.items = subst (λ (t : List Course). AreChanges (plan_of t) (map (map (counterpart r s)) (plan_of t)) c.in_ok-changes.changes.items) tours c.in_ok-changes.ensures in
     let holds : c.are_all_feasible.result ≡ true = search rules in
-    made c.passes_are_local.ensures c.tests_say_feasible.ensures p pins d is others plan once pinned long c.in_ok-changes.changes.items are (sym holds ∙ (c.are_all_feasible.ensures ∙ ap (list_all (λ (x : Change). feasible_alone p x.route)) c.deref-2.ensures.value))
+    let count : d.cost.unplanned ≡ unplanned_count p others = ap (λ (k : Cost). k.unplanned) is.cost ∙ as_many c.requests_are_found_by_stop.ensures c.requests_stand_by_name.ensures p is.valid c.args.a c.args.b c.if-a-b.false r s first second pins routes can in
+    made c.passes_are_local.ensures c.tests_say_feasible.ensures p pins d is others plan once pinned long c.in_ok-changes.changes.items are d.cost.unplanned count (sym holds ∙ (c.are_all_feasible.ensures ∙ ap (list_all (λ (x : Change). feasible_alone p x.route)) c.deref-2.ensures.value))

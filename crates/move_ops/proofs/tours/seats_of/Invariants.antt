@@ -1,5 +1,5 @@
 use Rattle.std.proofs.Common.{◌≡◌, ◌≤◌, ℕ, Some, slice_get}
-use Rattle.move_ops.proofs.draft.seats_of.Given as goal
+use Rattle.move_ops.proofs.tours.seats_of.Given as goal
 
 -- no seat is 0
 abbrev pub invariant-loop-tour : goal.invariant-loop-tour

@@ -1,6 +1,6 @@
 use Rattle.std.proofs.Common.{◌≡◌, take}
 use Rattle.move_ops.specs.Tables.{plan_of, tables_of}
-use Rattle.move_ops.proofs.draft.tours_of.Given as goal
+use Rattle.move_ops.proofs.tours.tours_of.Given as goal
 
 -- the tours of the routes so far
 abbrev pub invariant-loop-route : goal.invariant-loop-route

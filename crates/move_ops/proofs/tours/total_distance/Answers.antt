@@ -4,7 +4,7 @@ use Rattle.route_sched.specs.Schedule.{route_length}
 use Rattle.slack_tables.specs.Course.{Course, route_of}
 use Rattle.move_ops.proofs.Asked.{course_at}
 use Rattle.move_ops.proofs.Drafting.{sum_tours}
-use Rattle.move_ops.proofs.draft.total_distance.Goals as goal
+use Rattle.move_ops.proofs.tours.total_distance.Goals as goal
 
 pub overflow_add-total : goal.overflow_add-total
 overflow_add-total c =

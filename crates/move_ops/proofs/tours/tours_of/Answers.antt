@@ -3,7 +3,7 @@ use Rattle.plan_types.specs.Instance.{IsInstance}
 use Rattle.route_sched.specs.Route.{AreLiveOnce}
 use Rattle.slack_tables.specs.Insertion.{KeepsLimits}
 use Rattle.move_ops.proofs.Asked.{route_once, route_keeps}
-use Rattle.move_ops.proofs.draft.tours_of.Goals as goal
+use Rattle.move_ops.proofs.tours.tours_of.Goals as goal
 
 pub build-requires-clause-route : goal.build-requires-clause-route
 build-requires-clause-route c =

@@ -1,6 +1,6 @@
 use Rattle.std.proofs.Common.{◌≡◌, take}
 use Rattle.move_ops.specs.Tables.{plan_of}
-use Rattle.move_ops.proofs.draft.routes_of.Given as goal
+use Rattle.move_ops.proofs.tours.routes_of.Given as goal
 
 -- the routes so far
 abbrev pub invariant-loop-tour : goal.invariant-loop-tour

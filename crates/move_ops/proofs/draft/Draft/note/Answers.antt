@@ -1,0 +1,23 @@
+use Rattle.std.proofs.Common.{◌≡◌, ◌≤◌, true, sym, ap, ◌∙◌, arith}
+use Rattle.plan_audit.specs.Passes.{has}
+use Rattle.move_ops.specs.Drafts.{draft_of}
+use Rattle.move_ops.proofs.Gathering.{noted_none, noted_old, noted_new}
+use Rattle.move_ops.proofs.draft.Draft.note.Goals as goal
+
+pub returns-then-vehicle-eq0 : goal.returns-then-vehicle-eq0
+returns-then-vehicle-eq0 c =
+    noted_none (draft_of c.args.self.now) c.args.stop c.args.vehicles.now.items (c.vehicle_of-vehicle.ensures.1 c.if-vehicle-eq0.true)
+
+pub returns-then-is_among : goal.returns-then-is_among
+returns-then-is_among c =
+    let some = c.if-vehicle-eq0.false in
+    let from : 1 ≤ c.vehicle_of-vehicle.result = omega arith in
+    let among : has c.args.vehicles.now.items c.vehicle_of-vehicle.result ≡ true =
+    ap (λ l. has l c.vehicle_of-vehicle.result) (sym c.deref.ensures.value) ∙ (sym c.is_among.ensures ∙ c.if-is_among.true) in
+    noted_old (draft_of c.args.self.now) c.args.stop c.args.vehicles.now.items c.requires c.vehicle_of-vehicle.result (c.vehicle_of-vehicle.ensures.0 from) among
+
+pub returns : goal.returns
+returns c =
+    let some = c.if-vehicle-eq0.false in
+    let from : 1 ≤ c.vehicle_of-vehicle.result = omega arith in
+    noted_new (draft_of c.args.self.now) c.args.stop c.args.vehicles.now.items c.requires c.vehicle_of-vehicle.result (c.vehicle_of-vehicle.ensures.0 from) from c.push.new.self.items c.in_ok-push.ensures.items

@@ -1,0 +1,102 @@
+// Other routes for vehicles of a draft.
+ghost use Rattle.std.specs.Prelude.{◌≡◌, ◌≤◌, All, IfSome, IfOk, OnOk, length};
+ghost use Rattle.slack_tables.specs.Course.{course_of, route_of};
+ghost use Rattle.route_sched.specs.Route.{AreLiveOnce};
+ghost use Rattle.slack_tables.specs.Insertion.{KeepsLimits};
+ghost use Rattle.move_ops.specs.Changes.{with_routes, IsChange};
+ghost use Rattle.std.specs.Option.{option_map};
+ghost use Rattle.move_ops.specs.Tables.{AreTablesIn};
+ghost use Rattle.move_ops.specs.Drafts.{undone, draft_of, base_of, IsDraftOf, IsMade};
+
+use super::Draft;
+use crate::changes::Change;
+use crate::tour::Tour;
+use crate::tours::cost_of_tours;
+use plan_audit::passes_are_local;
+use plan_types::{OutOfMemory, Pins, Problem, numbers_are_below_the_next};
+
+impl Draft {
+    // Makes these changes, where there are some; answers whether it did.
+    pub(crate) fn apply(
+        &mut self,
+        problem: &Problem,
+        pins: &Pins,
+        changes: Option<Vec<Change>>,
+        unplanned: u64,
+    ) -> Result<bool, OutOfMemory>
+        requires is { IsDraftOf problem.now pins.now.routes self.old }
+        requires change { IfSome changes
+            (λ cs. IsChange problem.now pins.now.routes (draft_of self.old) cs.items unplanned) }
+        ensures is { OnOk result (IsDraftOf problem.now pins.now.routes self.new) }
+        ensures base { OnOk result (base_of self.new ≡ base_of self.old) }
+        ensures draft { IfOk result (λ made.
+            IsMade (option_map (λ cs. with_routes (draft_of self.old) cs.items) changes) made
+            self.old self.new) }
+    {
+        match changes {
+            Some(changes) => {
+                self.install(problem, pins, &changes, unplanned)?;
+                Ok(true)
+            }
+            None => Ok(false),
+        }
+    }
+
+    // Gives some vehicles other routes.
+    pub(crate) fn install(
+        &mut self,
+        problem: &Problem,
+        pins: &Pins,
+        changes: &[Change],
+        unplanned: u64,
+    ) -> Result<(), OutOfMemory>
+        requires is { IsDraftOf problem.now pins.now.routes self.old }
+        requires change { IsChange problem.now pins.now.routes
+            (draft_of self.old) changes.now unplanned }
+        ensures is { OnOk result (IsDraftOf problem.now pins.now.routes self.new) }
+        ensures base { OnOk result (base_of self.new ≡ base_of self.old) }
+        ensures draft { OnOk result (draft_of self.new
+            ≡ with_routes (draft_of self.old) changes.now) }
+    {
+        passes_are_local();
+        numbers_are_below_the_next();
+        self.set_routes(problem, changes)?;
+        self.cost = cost_of_tours(problem, &self.tours, unplanned);
+        Ok(())
+    }
+
+    fn set_routes(&mut self, problem: &Problem, changes: &[Change]) -> Result<(), OutOfMemory>
+        requires tables { AreTablesIn problem.now self.old.tours }
+        requires within { All (λ c. (1 ≤ c.vehicle)
+            × (c.vehicle ≤ length (draft_of self.old))) changes.now }
+        requires once { All (λ c. AreLiveOnce problem.now c.route) changes.now }
+        requires keeps { All (λ c. KeepsLimits problem.now c.route) changes.now }
+        ensures tables { OnOk result (AreTablesIn problem.now self.new.tours) }
+        ensures plan { OnOk result (draft_of self.new
+            ≡ with_routes (draft_of self.old) changes.now) }
+        ensures base { OnOk result (undone self.new.tours self.new.log
+            ≡ undone self.old.tours self.old.log) }
+        ensures pinned { OnOk result (self.new.pinned ≡ self.old.pinned) }
+        ensures base_cost { OnOk result (self.new.base_cost ≡ self.old.base_cost) }
+    {
+        for change in changes {
+            let tour = self.new_tour(problem, change.route.as_slice())?;
+            self.set_tour(change.vehicle, tour)?;
+        }
+        Ok(())
+    }
+
+    // The tour of a route, in memory that is left of others where there is some.
+    pub(crate) fn new_tour(&mut self, problem: &Problem, route: &[u32]) -> Result<Tour, OutOfMemory>
+        requires route { AreLiveOnce problem.now route.now }
+        requires limits { KeepsLimits problem.now route.now }
+        ensures course { IfOk result (λ tour. tour ≡ course_of problem.now route.now) }
+        ensures route { IfOk result (λ tour. route_of tour ≡ route.now) }
+        ensures same { self.new ≡ self.old }
+    {
+        match self.spare.pop() {
+            Some(tour) => tour.remade(problem, route),
+            None => Tour::build(*self.tours.allocator(), problem, route),
+        }
+    }
+}

@@ -1,0 +1,181 @@
+// Stops of a draft that take one another's places.
+ghost use Rattle.std.specs.Prelude.{◌≡◌, IfSome, IfOk, OnOk};
+ghost use Rattle.move_ops.specs.Changes.{with_routes, IsChange};
+ghost use Rattle.move_ops.specs.Moves.{exchanged, crossed, is_cut, are_exchangeable};
+ghost use Rattle.std.specs.Option.{option_map};
+ghost use Rattle.move_ops.specs.Drafts.{draft_of, base_of, IsDraftOf, IsMade};
+
+use super::Draft;
+use crate::changes::{Change, are_all_feasible, exchanges};
+use crate::cross::joined;
+use crate::lists::{is_feasible, of_vehicle};
+use crate::swap::have_same_form;
+use plan_audit::{passes_are_local, plans_are_local, tests_say_feasible};
+use plan_types::{
+    OutOfMemory, Pins, Problem, Request, Route, requests_are_found_by_stop, requests_stand_by_name,
+};
+
+impl Draft {
+    /// Lets two requests of the draft take one another's places, as `exchange` does; answers whether it did.
+    pub fn exchange(
+        &mut self,
+        problem: &Problem,
+        pins: &Pins,
+        a: u32,
+        b: u32,
+    ) -> Result<bool, OutOfMemory>
+        requires { IsDraftOf problem.now pins.now.routes self.old }
+        ensures is { OnOk result (IsDraftOf problem.now pins.now.routes self.new) }
+        ensures base { OnOk result (base_of self.new ≡ base_of self.old) }
+        ensures draft { IfOk result (λ made.
+            IsMade (exchanged problem.now pins.now.routes (draft_of self.old) a b) made self.old
+            self.new) }
+    {
+        let unplanned = self.cost.unplanned;
+        let changes = self.exchanging(problem, pins, a, b)?;
+        self.apply(problem, pins, changes, unplanned)
+    }
+
+    // The routes with the two requests exchanged, where the plan with them passes.
+    fn exchanging(
+        &self,
+        problem: &Problem,
+        pins: &Pins,
+        a: u32,
+        b: u32,
+    ) -> Result<Option<Vec<Change>>, OutOfMemory>
+        requires { IsDraftOf problem.now pins.now.routes self.now }
+        ensures routes { IfOk result
+            (λ o. option_map (λ cs. with_routes (draft_of self.now) cs.items) o
+            ≡ exchanged problem.now pins.now.routes (draft_of self.now) a b) }
+        ensures change { IfOk result
+            (λ o. IfSome o (λ cs. IsChange problem.now pins.now.routes
+            (draft_of self.now) cs.items self.now.cost.unplanned)) }
+    {
+        passes_are_local();
+        plans_are_local();
+        tests_say_feasible();
+        requests_are_found_by_stop();
+        requests_stand_by_name();
+        if a == b {
+            return Ok(None);
+        }
+        let Some(first) = problem.requests.get(&a) else {
+            return Ok(None);
+        };
+        let Some(second) = problem.requests.get(&b) else {
+            return Ok(None);
+        };
+        if !self.are_exchangeable(problem, pins, first, second) {
+            return Ok(None);
+        }
+        let alloc = *self.tours.allocator();
+        let changes = exchanges(alloc, &self.tours, first, second)?;
+        if !are_all_feasible(problem, &changes) {
+            return Ok(None);
+        }
+        Ok(Some(changes))
+    }
+
+    // Whether both requests can be moved, and each to the places of the other.
+    fn are_exchangeable(
+        &self,
+        problem: &Problem,
+        pins: &Pins,
+        first: &Request,
+        second: &Request,
+    ) -> bool
+        requires { IsDraftOf problem.now pins.now.routes self.now }
+        ensures { result ≡ are_exchangeable pins.now.routes
+            (draft_of self.now) first.now second.now }
+    {
+        self.is_movable(problem, pins, first)
+            && self.is_movable(problem, pins, second)
+            && have_same_form(first, second)
+    }
+
+    /// Lets two vehicles of the draft exchange the ends of their routes, as `two_opt_star` does; answers whether it did.
+    pub fn cross(
+        &mut self,
+        problem: &Problem,
+        pins: &Pins,
+        a: u64,
+        a_cut: u64,
+        b: u64,
+        b_cut: u64,
+    ) -> Result<bool, OutOfMemory>
+        requires { IsDraftOf problem.now pins.now.routes self.old }
+        ensures is { OnOk result (IsDraftOf problem.now pins.now.routes self.new) }
+        ensures base { OnOk result (base_of self.new ≡ base_of self.old) }
+        ensures draft { IfOk result (λ made.
+            IsMade (crossed problem.now pins.now.routes (draft_of self.old) a a_cut b b_cut)
+            made self.old self.new) }
+    {
+        let unplanned = self.cost.unplanned;
+        let changes = self.crossing(problem, pins, a, a_cut, b, b_cut)?;
+        self.apply(problem, pins, changes, unplanned)
+    }
+
+    // The two routes with their ends exchanged, where the plan with them passes.
+    fn crossing(
+        &self,
+        problem: &Problem,
+        pins: &Pins,
+        a: u64,
+        a_cut: u64,
+        b: u64,
+        b_cut: u64,
+    ) -> Result<Option<Vec<Change>>, OutOfMemory>
+        requires { IsDraftOf problem.now pins.now.routes self.now }
+        ensures routes { IfOk result
+            (λ o. option_map (λ cs. with_routes (draft_of self.now) cs.items) o
+            ≡ crossed problem.now pins.now.routes (draft_of self.now) a a_cut b b_cut) }
+        ensures change { IfOk result
+            (λ o. IfSome o (λ cs. IsChange problem.now pins.now.routes
+            (draft_of self.now) cs.items self.now.cost.unplanned)) }
+    {
+        passes_are_local();
+        tests_say_feasible();
+        if a == b {
+            return Ok(None);
+        }
+        let kept = pins.routes.as_slice();
+        if !self.is_cut(kept, a, a_cut) {
+            return Ok(None);
+        }
+        if !self.is_cut(kept, b, b_cut) {
+            return Ok(None);
+        }
+        let alloc = *self.tours.allocator();
+        let first = joined(alloc, self.route(a), a_cut, self.route(b), b_cut)?;
+        let second = joined(alloc, self.route(b), b_cut, self.route(a), a_cut)?;
+        if !is_feasible(problem, first.as_slice()) {
+            return Ok(None);
+        }
+        if !is_feasible(problem, second.as_slice()) {
+            return Ok(None);
+        }
+        let mut changes = Vec::with_capacity(alloc, 2)?;
+        changes.push(Change {
+            vehicle: a as u32,
+            route: first,
+        })?;
+        changes.push(Change {
+            vehicle: b as u32,
+            route: second,
+        })?;
+        Ok(Some(changes))
+    }
+
+    // Whether the route of this vehicle can be cut behind so many stops.
+    fn is_cut(&self, pins: &[Route], vehicle: u64, cut: u64) -> bool
+        ensures { result ≡ is_cut pins.now (draft_of self.now) vehicle cut }
+    {
+        if vehicle < 1 || (self.tours.len() as u64) < vehicle {
+            return false;
+        }
+        let kept = of_vehicle(pins, vehicle).len() as u64;
+        let stops = self.route(vehicle).len() as u64;
+        kept <= cut && cut <= stops
+    }
+}

@@ -1,0 +1,276 @@
+// Requests taken out of a draft.
+ghost use Rattle.std.specs.Prelude.{◌≡◌, ◌≤◌, ◌+◌, ◌∷◌, [], length, nat_eq, true, false, ℕ, IsSome, IfSome, IfOk, OnOk};
+ghost use Rattle.route_sched.specs.Cost.{has_stop};
+ghost use Rattle.move_ops.specs.Changes.{distinct_count, with_routes, AreChanges, AreIn, AreVehiclesOf, IsChange, Notes};
+ghost use Rattle.move_ops.specs.Moves.{removed, without_named, is_of_named, is_movable_name};
+ghost use Rattle.std.specs.List.{concat, list_all, IsDistinct};
+ghost use Rattle.plan_types.specs.Instance.{IsInstance};
+ghost use Rattle.plan_types.specs.Request.{stop_in};
+ghost use Rattle.plan_audit.specs.Passes.{has};
+ghost use Rattle.std.specs.Option.{option_map};
+ghost use Rattle.move_ops.specs.Drafts.{draft_of, base_of, IsDraftOf, IsMade};
+
+use super::Draft;
+use crate::changes::{Change, are_all_feasible};
+use crate::lists::is_in;
+use crate::removal::{is_of_named, others};
+use crate::seats::unseat;
+use plan_audit::{passes_are_local, plans_are_local, tests_say_feasible};
+use plan_types::{
+    OutOfMemory, Pins, Problem, Request, requests_are_found_by_stop, requests_stand_by_name,
+};
+
+impl Draft {
+    /// Takes the requests out of the draft, as `remove` does of a plan; answers whether it did.
+    pub fn remove(
+        &mut self,
+        problem: &Problem,
+        pins: &Pins,
+        names: &[u32],
+    ) -> Result<bool, OutOfMemory>
+        requires { IsDraftOf problem.now pins.now.routes self.old }
+        ensures is { OnOk result (IsDraftOf problem.now pins.now.routes self.new) }
+        ensures base { OnOk result (base_of self.new ≡ base_of self.old) }
+        ensures draft { IfOk result (λ made.
+            IsMade (removed problem.now pins.now.routes (draft_of self.old) names.now) made
+            self.old self.new) }
+    {
+        match self.removing(problem, pins, names)? {
+            Some(changes) => {
+                self.take_out(problem, pins, names, &changes)?;
+                Ok(true)
+            }
+            None => Ok(false),
+        }
+    }
+
+    // Gives some vehicles the routes without these requests.
+    fn take_out(
+        &mut self,
+        problem: &Problem,
+        pins: &Pins,
+        names: &[u32],
+        changes: &[Change],
+    ) -> Result<(), OutOfMemory>
+        requires is { IsDraftOf problem.now pins.now.routes self.old }
+        requires change { IsChange problem.now pins.now.routes (draft_of self.old) changes.now
+            (self.old.cost.unplanned + distinct_count names.now) }
+        requires names { with_routes (draft_of self.old) changes.now
+            ≡ without_named problem.now names.now (draft_of self.old) }
+        ensures is { OnOk result (IsDraftOf problem.now pins.now.routes self.new) }
+        ensures base { OnOk result (base_of self.new ≡ base_of self.old) }
+        ensures draft { OnOk result (draft_of self.new
+            ≡ with_routes (draft_of self.old) changes.now) }
+    {
+        let unplanned = self.cost.unplanned + distinct_count(names);
+        self.install(problem, pins, changes, unplanned)?;
+        self.clear_named(problem, names);
+        Ok(())
+    }
+
+    // Notes that no stop of these requests is in the draft.
+    fn clear_named(&mut self, problem: &Problem, names: &[u32])
+        requires { (n : ℕ) → is_of_named problem.now names.now n ≡ true
+            → has_stop (draft_of self.old) n ≡ false }
+        ensures { self.new ≡ self.old }
+    {
+        for name in names {
+            self.clear_request(problem, names, *name);
+        }
+    }
+
+    fn clear_request(&mut self, problem: &Problem, names: &[u32], name: u32)
+        requires { (n : ℕ) → is_of_named problem.now names.now n ≡ true
+            → has_stop (draft_of self.old) n ≡ false }
+        ensures { self.new ≡ self.old }
+    {
+        match problem.requests.get(&name) {
+            Some(Request::Single(stop)) => self.clear(problem, names, stop.number),
+            Some(Request::Pair(pickup, delivery)) => {
+                self.clear(problem, names, pickup.number);
+                self.clear(problem, names, delivery.number);
+            }
+            None => {}
+        }
+    }
+
+    fn clear(&mut self, problem: &Problem, names: &[u32], stop: u32)
+        requires { (n : ℕ) → is_of_named problem.now names.now n ≡ true
+            → has_stop (draft_of self.old) n ≡ false }
+        ensures { self.new ≡ self.old }
+    {
+        if is_of_named(problem, names, stop) {
+            unseat(&mut self.seats, stop);
+        }
+    }
+
+    // The routes without these requests, where the plan with them passes.
+    fn removing(
+        &self,
+        problem: &Problem,
+        pins: &Pins,
+        names: &[u32],
+    ) -> Result<Option<Vec<Change>>, OutOfMemory>
+        requires { IsDraftOf problem.now pins.now.routes self.now }
+        ensures routes { IfOk result
+            (λ o. option_map (λ cs. with_routes (draft_of self.now) cs.items) o
+            ≡ removed problem.now pins.now.routes (draft_of self.now) names.now) }
+        ensures named { IfOk result (λ o. IfSome o
+            (λ cs. with_routes (draft_of self.now) cs.items
+            ≡ without_named problem.now names.now (draft_of self.now))) }
+        ensures change { IfOk result
+            (λ o. IfSome o (λ cs. IsChange problem.now pins.now.routes (draft_of self.now) cs.items
+            (self.now.cost.unplanned + distinct_count names.now))) }
+    {
+        passes_are_local();
+        plans_are_local();
+        tests_say_feasible();
+        requests_stand_by_name();
+        requests_are_found_by_stop();
+        if !self.are_movable(problem, pins, names) {
+            return Ok(None);
+        }
+        let vehicles = self.vehicles_of(problem, names)?;
+        let changes = self.removals(problem, names, &vehicles)?;
+        if !are_all_feasible(problem, &changes) {
+            return Ok(None);
+        }
+        Ok(Some(changes))
+    }
+
+    // The routes of these vehicles without the stops of the named requests.
+    fn removals(
+        &self,
+        problem: &Problem,
+        names: &[u32],
+        vehicles: &[u64],
+    ) -> Result<Vec<Change>, OutOfMemory>
+        requires few { length (draft_of self.now) ≤ 40000 }
+        requires within { AreIn (draft_of self.now) vehicles.now }
+        requires found { AreVehiclesOf (draft_of self.now)
+            (λ n. is_of_named problem.now names.now n ≡ true) vehicles.now }
+        ensures { IfOk result (λ changes. AreChanges (draft_of self.now)
+            (without_named problem.now names.now (draft_of self.now)) changes.items) }
+    {
+        let alloc = *self.tours.allocator();
+        let mut changes = Vec::with_capacity(alloc, vehicles.len())?;
+        for vehicle in vehicles {
+            let route = others(alloc, problem, self.route(*vehicle), names)?;
+            changes.push(Change {
+                vehicle: *vehicle as u32,
+                route,
+            })?;
+        }
+        Ok(changes)
+    }
+
+    // The vehicles of the named requests' stops.
+    fn vehicles_of(&self, problem: &Problem, names: &[u32]) -> Result<Vec<u64>, OutOfMemory>
+        requires valid { IsInstance problem.now }
+        requires once { IsDistinct nat_eq (concat (draft_of self.now)) }
+        ensures within { IfOk result (λ vehicles. AreIn (draft_of self.now) vehicles.items) }
+        ensures found { IfOk result (λ vehicles. AreVehiclesOf (draft_of self.now)
+            (λ n. is_of_named problem.now names.now n ≡ true) vehicles.items) }
+    {
+        let mut vehicles = Vec::new(*self.tours.allocator());
+        for name in names {
+            self.note_named(problem, *name, &mut vehicles)?;
+        }
+        Ok(vehicles)
+    }
+
+    fn note_named(
+        &self,
+        problem: &Problem,
+        name: u32,
+        vehicles: &mut Vec<u64>,
+    ) -> Result<(), OutOfMemory>
+        requires valid { IsInstance problem.now }
+        requires once { IsDistinct nat_eq (concat (draft_of self.now)) }
+        ensures { OnOk result (Notes (draft_of self.now)
+            (λ n. is_of_named problem.now (name ∷ []) n ≡ true)
+            vehicles.old.items vehicles.new.items) }
+    {
+        requests_stand_by_name();
+        match problem.requests.get(&name) {
+            Some(request) => self.note_request(request, vehicles),
+            None => Ok(()),
+        }
+    }
+
+    fn note_request(&self, request: &Request, vehicles: &mut Vec<u64>) -> Result<(), OutOfMemory>
+        requires { IsDistinct nat_eq (concat (draft_of self.now)) }
+        ensures { OnOk result (Notes (draft_of self.now) (λ n. IsSome (stop_in n request.now))
+            vehicles.old.items vehicles.new.items) }
+    {
+        match request {
+            Request::Single(stop) => self.note(stop.number, vehicles),
+            Request::Pair(pickup, delivery) => {
+                self.note(pickup.number, vehicles)?;
+                self.note(delivery.number, vehicles)
+            }
+        }
+    }
+
+    fn note(&self, stop: u32, vehicles: &mut Vec<u64>) -> Result<(), OutOfMemory>
+        requires { IsDistinct nat_eq (concat (draft_of self.now)) }
+        ensures { OnOk result (Notes (draft_of self.now) (λ n. n ≡ stop)
+            vehicles.old.items vehicles.new.items) }
+    {
+        let vehicle = self.vehicle_of(stop);
+        if vehicle == 0 {
+            return Ok(());
+        }
+        if is_among(vehicles, vehicle) {
+            return Ok(());
+        }
+        vehicles.push(vehicle)?;
+        Ok(())
+    }
+
+    // Whether each name is of a request that can be moved.
+    fn are_movable(&self, problem: &Problem, pins: &Pins, names: &[u32]) -> bool
+        requires { IsDraftOf problem.now pins.now.routes self.now }
+        ensures { result ≡ list_all (is_movable_name problem.now pins.now.routes
+            (draft_of self.now)) names.now }
+    {
+        for name in names {
+            if !self.is_movable_name(problem, pins, *name) {
+                return false;
+            }
+        }
+        true
+    }
+
+    fn is_movable_name(&self, problem: &Problem, pins: &Pins, name: u32) -> bool
+        requires { IsDraftOf problem.now pins.now.routes self.now }
+        ensures { result ≡ is_movable_name problem.now pins.now.routes (draft_of self.now) name }
+    {
+        match problem.requests.get(&name) {
+            Some(request) => self.is_movable(problem, pins, request),
+            None => false,
+        }
+    }
+}
+
+// How many names there are, where one that stands twice counts once.
+fn distinct_count(names: &[u32]) -> u64
+    ensures count { result ≡ distinct_count names.now }
+    ensures few { result ≤ length names.now }
+{
+    let mut count = 0;
+    let mut left = names;
+    while let [name, others @ ..] = left {
+        if !is_in(others, *name) {
+            count += 1;
+        }
+        left = others;
+    }
+    count
+}
+
+fn is_among(vehicles: &[u64], vehicle: u64) -> bool
+    ensures { result ≡ has vehicles.now vehicle }
+{
+    vehicles.contains(&vehicle)
+}

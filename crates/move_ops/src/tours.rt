@@ -1,0 +1,117 @@
+//! The tours of a plan: built of its routes, asked for stops, and what they cost.
+ghost use Rattle.std.specs.Prelude.{◌≡◌, ◌≤◌, ◌^◌, [], true, ℕ, Some, IfOk, slice_get};
+ghost use Rattle.plan_audit.specs.Passes.{passes};
+ghost use Rattle.route_sched.specs.Cost.{cost_of, has_stop, unplanned_count, used_count, vehicle_count, total_length};
+ghost use Rattle.move_ops.specs.Changes.{IsVehicleWith};
+ghost use Rattle.move_ops.specs.Tables.{plan_of, tables_of, AreTablesIn};
+
+use crate::lists::is_in;
+use crate::seats::seat;
+use crate::tour::Tour;
+use plan_audit::{passes_are_local, plans_are_local, tests_say_feasible};
+use plan_types::{Cost, Kind, OutOfMemory, Problem, Route, Routes};
+use std::alloc::Global;
+
+/// The tours of routes of a plan that passes.
+pub(crate) fn tours_of(
+    alloc: Global,
+    problem: &Problem,
+    routes: &[Route],
+) -> Result<Vec<Tour>, OutOfMemory>
+    requires { passes problem.now [] routes.now ≡ true }
+    ensures tours { IfOk result (λ tours. tours.items ≡ tables_of problem.now routes.now) }
+    ensures plan { IfOk result (λ tours. plan_of tours.items ≡ routes.now) }
+{
+    passes_are_local();
+    plans_are_local();
+    tests_say_feasible();
+    // That the problem keeps its limits is known where a field of it is read.
+    let _fleet = problem.fleet;
+    let mut tours = Vec::with_capacity(alloc, routes.len())?;
+    for route in routes {
+        tours.push(Tour::build(alloc, problem, route.as_slice())?)?;
+    }
+    Ok(tours)
+}
+
+/// Where to look for the stops of these tours, by number. None is known to be in no route yet.
+pub(crate) fn seats_of(alloc: Global, tours: &[Tour], len: usize) -> Result<Vec<u32>, OutOfMemory>
+    ensures { IfOk result (λ seats. (n : ℕ) → slice_get seats.items n ≡ Some 0 → ⊥) }
+{
+    let mut seats = vec![in alloc; 1; len]?;
+    let mut vehicle = 1;
+    for tour in tours {
+        seat(&mut seats, tour.stops(), vehicle);
+        vehicle = next(vehicle);
+    }
+    Ok(seats)
+}
+
+fn next(vehicle: u32) -> u32
+    ensures { 1 ≤ result }
+{
+    vehicle.saturating_add(1)
+}
+
+pub(crate) fn routes_of(alloc: Global, tours: &[Tour]) -> Result<Routes, OutOfMemory>
+    ensures { IfOk result (λ routes. routes ≡ plan_of tours.now) }
+{
+    let mut routes = Routes::with_capacity(alloc, tours.len())?;
+    for tour in tours {
+        routes.push(Route::from(Vec::from_slice(alloc, tour.stops())?))?;
+    }
+    Ok(routes)
+}
+
+/// The first vehicle whose tour has the stop, or 0 where none has it.
+pub(crate) fn vehicle_with(tours: &[Tour], stop: u32) -> u64
+    ensures { IsVehicleWith (plan_of tours.now) stop result }
+{
+    for index in 0..tours.len() {
+        if is_in(tours[index].stops(), stop) {
+            return index as u64 + 1;
+        }
+    }
+    0
+}
+
+/// What a plan costs, by its tours and how many requests it leaves out.
+pub(crate) fn cost_of_tours(problem: &Problem, tours: &[Tour], unplanned: u64) -> Cost
+    requires tables { AreTablesIn problem.now tours.now }
+    requires small { total_length problem.now (plan_of tours.now) ≤ 2 ^ 63 }
+    requires unplanned { unplanned ≡ unplanned_count problem.now (plan_of tours.now) }
+    ensures { result ≡ cost_of problem.now (plan_of tours.now) }
+{
+    Cost {
+        unplanned,
+        vehicles: vehicle_count(problem.kind, tours),
+        distance: total_distance(problem, tours),
+    }
+}
+
+fn vehicle_count(kind: Kind, tours: &[Tour]) -> u64
+    ensures { result ≡ vehicle_count kind (plan_of tours.now) }
+{
+    match kind {
+        Kind::LiLim => used_count(tours),
+        Kind::Vrp => 0,
+    }
+}
+
+fn used_count(tours: &[Tour]) -> u64
+    ensures { result ≡ used_count (plan_of tours.now) }
+{
+    tours.iter().filter(|tour| !tour.stops().is_empty()).count() as u64
+}
+
+fn total_distance(problem: &Problem, tours: &[Tour]) -> u64
+    requires tables { AreTablesIn problem.now tours.now }
+    requires small { total_length problem.now (plan_of tours.now) ≤ 2 ^ 63 }
+    ensures { result ≡ total_length problem.now (plan_of tours.now) }
+{
+    let mut total = 0;
+    for tour in tours {
+        total += tour.table().distance();
+    }
+    total
+}
