@@ -7,12 +7,14 @@ ghost use Rattle.slack_tables.specs.Best.{IsFirstOf, BestIsOne};
 ghost use Rattle.slack_tables.specs.Driven.{IsSmall, IsSmallPlace};
 ghost use Rattle.slack_tables.specs.Legs.{AreLegs, AreLeast, AreLinked, AreRising};
 ghost use Rattle.slack_tables.specs.Walk.{IsTrip, IsUnderway, IsNearWay};
+ghost use Rattle.slack_tables.specs.Span.{AreHome, AreLaden, IsSpan};
 ghost use Rattle.slack_tables.specs.Ride.{IsSmallRide, IsNearRide};
 ghost use Rattle.slack_tables.specs.Scan.{AddsSingle, AddsPair, AddsDelivery, IsNearUnderway, picked_up, gone_on, none_below, offered, accepted};
 
 use crate::legs::{ROOM, fill_least, fill_legs, is_hopeless, leg_at, small_place};
 use crate::progress::{Limits, Place, Progress, difference, is_in_time};
 use crate::ride::{Detour, Ride, ride_of, ride_on, serve_below};
+use crate::span::Span;
 use nint_dist::dist;
 use plan_types::Stop;
 
@@ -79,15 +81,26 @@ impl Best {
 pub(crate) fn best_single(
     limits: Limits,
     places: &[Place],
+    span: &Span,
+    depot: &Stop,
     stop: &Stop,
     kept: usize,
     below: i64,
 ) -> Option<Addition>
     requires places { All IsSmallPlace places.now }
+    requires laden { AreLaden places.now }
+    requires span { IsSpan span.now places.now }
+    requires home { AreHome depot.now places.now }
     requires stop { IsVisit stop.now }
     requires kept { kept + 2 ≤ length places.now }
     ensures { (d : Place) → IsFirstOf (AddsSingle limits places.now stop.now kept below d) result }
 {
+    if span.is_full(limits, stop) {
+        return None;
+    }
+    if span.is_far_single(depot, stop, below) {
+        return None;
+    }
     let mut best = Best::none_below(below);
     let first = small_place(places, kept);
     let mut to = u64::from(dist(&first.at.stop, stop));
@@ -110,6 +123,8 @@ pub(crate) fn best_single(
 pub(crate) fn best_pair(
     limits: Limits,
     places: &[Place],
+    span: &Span,
+    depot: &Stop,
     pickup: &Stop,
     delivery: &Stop,
     kept: usize,
@@ -119,12 +134,17 @@ pub(crate) fn best_pair(
     requires ways { AreLinked places.now }
     requires rising { AreRising places.now }
     requires few { length places.now ≤ 40003 }
+    requires span { IsSpan span.now places.now }
+    requires home { AreHome depot.now places.now }
     requires pickup { IsVisit pickup.now }
     requires delivery { IsVisit delivery.now }
     requires kept { kept + 2 ≤ length places.now }
     ensures { (d : Place) → IsFirstOf
         (AddsPair limits places.now pickup.now delivery.now kept below d) result }
 {
+    if span.is_far_pair(depot, pickup, delivery, below) {
+        return None;
+    }
     let trip = Trip {
         limits,
         pickup: *pickup,
