@@ -1,6 +1,6 @@
-use Rattle.std.proofs.Common.{◌≡◌, ◌≤ℤ◌, ◌+ℤ◌, ℤ, w64, to_z, of_z, rules, subst, arith}
+use Rattle.std.proofs.Common.{◌≡◌, ◌≤ℤ◌, ◌+ℤ◌, ℤ, w64, to_z, of_z, rules, subst}
 use mir.Val.{SFits}
-use Rattle.std.proofs.lemmas.Int.{ints, to_z-of_z}
+use Rattle.std.proofs.lemmas.Int.{to_z-of_z}
 use Rattle.slack_tables.proofs.ScanLemmas.{bits-below}
 use Rattle.slack_tables.proofs.SpliceLemmas.{int_le-true}
 use Rattle.slack_tables.proofs.span.Span.is_far_pair.Goals as goal
