@@ -15,8 +15,9 @@ use crate::legs::{ROOM, fill_least, fill_legs, is_hopeless, leg_at, small_place}
 use crate::progress::{Limits, Place, Progress, difference, is_in_time};
 use crate::ride::{Detour, Ride, ride_of, ride_on, serve_below};
 use crate::span::Span;
+use crate::table::place_at;
 use nint_dist::dist;
-use plan_types::Stop;
+use plan_types::{Kind, Stop};
 
 /// Where a request is put into a route, and by how much the route gets longer.
 ///
@@ -157,7 +158,8 @@ pub(crate) fn best_pair(
     let mut pickup_legs = [0; ROOM];
     let mut delivery_legs = [0; ROOM];
     let mut least = [0; ROOM];
-    fill_legs(&mut pickup_legs[..places.len()], places, pickup);
+    let near = reachable(limits.kind, places, u64::from(pickup.latest));
+    fill_legs(&mut pickup_legs[..near], places, pickup);
     fill_legs(&mut delivery_legs[..places.len()], places, delivery);
     fill_least(
         &mut least[..places.len()],
@@ -168,12 +170,25 @@ pub(crate) fn best_pair(
     best_pickup(
         &trip,
         places,
-        &pickup_legs[..places.len()],
+        &pickup_legs[..near],
         &delivery_legs[..places.len()],
         &least[..places.len()],
         kept,
         below,
     )
+}
+
+/// How many places there are up to the first, with it, that is reached after this time. Of those
+/// behind it no ways are asked.
+fn reachable(kind: Kind, places: &[Place], latest: u64) -> usize
+    ensures { result ≤ length places.now }
+{
+    for k in 0..places.len() {
+        if !is_in_time(kind, place_at(places, k).at.start, latest) {
+            return k + 1;
+        }
+    }
+    places.len()
 }
 
 /// A pair, the way from its pickup to its delivery, and what a vehicle must keep.
