@@ -2,7 +2,7 @@
 use Rattle.std.specs.Prelude.{ℕ, ◌+◌, ◌*◌, ◌-ℤ◌, unsigned_abs}
 use Rattle.plan_types.specs.Limits.{IsCoordinate}
 use Rattle.plan_types.specs.declared.requests.Stop.{Stop}
-use Rattle.nint_dist.specs.NearestRoot.{nearest_root}
+use Rattle.nint_dist.specs.NearestRoot.{IsNearestRoot, nearest_root}
 
 -- its coordinates keep their limits
 abbrev pub IsPlaced : Stop → Type 0
@@ -16,3 +16,6 @@ squared_distance a b =
 -- its root, rounded to the nearest whole number
 unfoldable pub distance : Stop → Stop → ℕ
 distance a b = nearest_root (squared_distance a b)
+
+abbrev pub DistancesAreNearestRoots : Type 0
+DistancesAreNearestRoots = (a b : Stop) → IsNearestRoot (squared_distance a b) (distance a b)

@@ -3,7 +3,7 @@
 
 ghost use Rattle.std.specs.Prelude.{◌≡◌, ◌+◌, ◌*◌, ◌≤◌, ◌-ℤ◌, unsigned_abs};
 ghost use Rattle.plan_types.specs.Limits.{IsCoordinate};
-ghost use Rattle.nint_dist.specs.Distance.{IsPlaced, distance, squared_distance};
+ghost use Rattle.nint_dist.specs.Distance.{IsPlaced, distance, squared_distance, DistancesAreNearestRoots};
 ghost use Rattle.nint_dist.specs.NearestRoot.{IsNearestRoot};
 
 mod root;
@@ -27,6 +27,11 @@ pub fn dist(a: &Stop, b: &Stop) -> u32
     let dy = gap(a.y, b.y);
     nint_root(dx * dx + dy * dy) as u32
 }
+
+/// The law that each distance is the nearest root of the squared one, whether it was computed or not.
+pub fn distances_are_nearest_roots()
+    ensures { DistancesAreNearestRoots }
+{}
 
 /// How far two coordinates are apart.
 fn gap(x: i32, y: i32) -> u64

@@ -23,7 +23,7 @@ step-far limits a b s is = by (keeps limits (driven_on a s)) is
     by true is = let same : driven_on a s ≡ b = cc in (ap (λ (x : Progress). x.stop) (sym same), ap (λ (x : Progress). x.distance) (sym same))
     by false is = absurd (cc)
 
-served-price : (limits : Limits) (r : Ride) (service to : ℕ) (s : Stop) (from : ℕ) (tail : Place) (x : ℤ) → served limits r service to s from tail ≡ Some x → x ≡ price r to from tail
+pub served-price : (limits : Limits) (r : Ride) (service to : ℕ) (s : Stop) (from : ℕ) (tail : Place) (x : ℤ) → served limits r service to s from tail ≡ Some x → x ≡ price r to from tail
 served-price limits r service to s from tail x is = by (is_served limits r service to s from tail) is
   where
     by : (k : Bool) → cond k (Some (price r to from tail)) None ≡ Some x → x ≡ price r to from tail

@@ -12,14 +12,14 @@ use Rattle.slack_tables.specs.declared.progress.Place.{Place}
 
 -- ---- forward: the ways of the places before k
 pub record AreLegsTo (places : List Place) (s : Stop) (k : ℕ) (legs : List ℕ) : Type 0 where
-  pub long : length legs ≡ length places
+  pub long : length legs ≤ length places
   pub each : (m : ℕ) (d : Place) → m < k → m < length places → get_or legs m 0 ≡ distance (get_or places m d).at.stop s
 
-pub legs-none : (places : List Place) (s : Stop) (legs : List ℕ) → length legs ≡ length places → AreLegsTo places s 0 legs
+pub legs-none : (places : List Place) (s : Stop) (legs : List ℕ) → length legs ≤ length places → AreLegsTo places s 0 legs
 legs-none places s legs long = record { long = long; each = λ m d h _. absurd (omega arith) }
 
 pub legs-more : (places : List Place) (s : Stop) (k : ℕ) (legs : List ℕ) (e : Place) (x : ℕ) → AreLegsTo places s k legs → k < length legs → ((d : Place) → e ≡ get_or places k d) → x ≡ distance e.at.stop s → AreLegsTo places s (k + 1) (set legs k x)
-legs-more places s k legs e x is within here leg = record { long = length-set legs k x ∙ is.long; each = λ m d h l. by m d l (cases_lt m k) h }
+legs-more places s k legs e x is within here leg = record { long = subst (λ n. n ≤ length places) (sym (length-set legs k x)) is.long; each = λ m d h l. by m d l (cases_lt m k) h }
   where
     by : (m : ℕ) (d : Place) → m < length places → (m < k) ⊎ (k ≤ m) → m < k + 1 → get_or (set legs k x) m 0 ≡ distance (get_or places m d).at.stop s
     by m d l (inl before) h = get_or-set_other legs k m x 0 (omega arith) ∙ is.each m d before l

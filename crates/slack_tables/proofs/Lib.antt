@@ -12,6 +12,7 @@ pub mod LegLemmas
 pub mod OpenLemmas
 pub mod ReadLemmas
 pub mod ScanLemmas
+pub mod SpanLemmas
 pub mod SpliceLemmas
 pub mod TableLemmas
 pub mod TestLemmas

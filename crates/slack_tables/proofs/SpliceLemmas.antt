@@ -18,7 +18,7 @@ use Rattle.slack_tables.specs.declared.progress.Place.{Place}
 use Rattle.slack_tables.proofs.AlongLemmas.{start-next, load-next, length-next, spliced-start, spliced-load, spliced-length}
 
 -- ---- tests
-int_le-true : (x y : ℤ) → int_le x y ≡ true → x ≤ℤ y
+pub int_le-true : (x y : ℤ) → int_le x y ≡ true → x ≤ℤ y
 int_le-true x y h = record { le = subst T (sym h) tt }
 
 int_le-false : (x y : ℤ) → int_le x y ≡ false → x ≤ℤ y → ⊥

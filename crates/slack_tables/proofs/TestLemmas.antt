@@ -1,15 +1,12 @@
 -- What the tests ask of a route before they make its table.
-use Rattle.std.proofs.Common.{◌≡◌, ℕ, ◌+◌, ◌<◌, ◌≤◌, ◌⊎◌, true, eqb, ℤ, pos, ◌≤ℤ◌, List, get_or, length, refl, sym, ap, ◌∙◌, arith, subst, inl, inr}
-use Rattle.std.specs.List.{All, IsDistinct}
+use Rattle.std.proofs.Common.{◌≡◌, ℕ, ◌+◌, ◌<◌, ◌≤◌, ◌⊎◌, true, eqb, List, get_or, length, sym, ap, ◌∙◌, arith, subst, inl, inr}
 use Rattle.std.proofs.lemmas.Bool.{cases_lt, ne_eqb}
 use Rattle.std.proofs.lemmas.List.{get_or_default}
 use Rattle.std.proofs.lemmas.Map.Keys.{IsDistinct-from_apart}
 use Rattle.plan_types.specs.Instance.{Instance}
-use Rattle.plan_types.specs.declared.requests.Kind.{Kind}
 use Rattle.route_sched.specs.Route.{AreLiveOnce, IsLive, place}
 use Rattle.slack_tables.specs.Course.{Course, course_of, route_of, IsCourseIn}
 use Rattle.slack_tables.specs.Driven.{keeps}
-use Rattle.slack_tables.specs.Inside.{IsInLimits}
 use Rattle.slack_tables.specs.Insertion.{KeepsLimits}
 use Rattle.slack_tables.specs.Opened.{AreOpen}
 use Rattle.slack_tables.specs.declared.progress.Limits.{Limits}

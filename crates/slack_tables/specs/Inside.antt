@@ -8,6 +8,7 @@ use Rattle.slack_tables.specs.Course.{Course, course_of}
 use Rattle.slack_tables.specs.Along.{stop_on, start_along, load_along}
 use Rattle.slack_tables.specs.Driven.{IsSmallPlace}
 use Rattle.slack_tables.specs.Places.{IsKnown}
+use Rattle.slack_tables.specs.Span.{IsSpan}
 use Rattle.slack_tables.specs.declared.progress.Limits.{Limits}
 use Rattle.slack_tables.specs.declared.progress.Place.{Place}
 use Rattle.slack_tables.specs.declared.table.RouteTable.TheInside.{Inside}
@@ -37,7 +38,7 @@ pub record AreKnown (c : Course) (places : List Place) : Type 0 where
   pub limits : IsInLimits c.kind c.capacity (stop_on c) (length c.stops + 1)
 
 abbrev pub IsTable : Inside → Type 0
-IsTable a = AreKnown (course_within a) a.places.items
+IsTable a = AreKnown (course_within a) a.places.items × IsSpan a.span a.places.items
 
 -- what is known of each place of a route
 pub record IsMade (p : Instance) (route : List ℕ) (places : List Place) : Type 0 where

@@ -13,4 +13,5 @@ pub mod Opened
 pub mod Places
 pub mod Ride
 pub mod Scan
+pub mod Span
 pub mod Walk

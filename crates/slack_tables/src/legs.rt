@@ -20,11 +20,11 @@ pub(crate) const ROOM: usize = 128;
 /// No detour is as long.
 const FAR: i64 = 1 << 60;
 
-/// The way between each place and the stop.
+/// The way between each of the first places and the stop.
 pub(crate) fn fill_legs(legs: &mut [u32], places: &[Place], stop: &Stop)
     requires places { All IsSmallPlace places.now }
     requires stop { IsVisit stop.now }
-    requires count { length legs.old ≡ length places.now }
+    requires count { length legs.old ≤ length places.now }
     ensures { AreLegs legs.new places.now stop.now }
 {
     for k in 0..legs.len() {

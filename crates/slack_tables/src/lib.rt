@@ -7,6 +7,7 @@ mod progress;
 mod ride;
 mod scan;
 mod slack;
+mod span;
 mod table;
 
 pub use scan::{Addition, best_places_are_one};

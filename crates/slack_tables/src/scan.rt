@@ -7,14 +7,17 @@ ghost use Rattle.slack_tables.specs.Best.{IsFirstOf, BestIsOne};
 ghost use Rattle.slack_tables.specs.Driven.{IsSmall, IsSmallPlace};
 ghost use Rattle.slack_tables.specs.Legs.{AreLegs, AreLeast, AreLinked, AreRising};
 ghost use Rattle.slack_tables.specs.Walk.{IsTrip, IsUnderway, IsNearWay};
+ghost use Rattle.slack_tables.specs.Span.{AreHome, AreLaden, IsSpan};
 ghost use Rattle.slack_tables.specs.Ride.{IsSmallRide, IsNearRide};
 ghost use Rattle.slack_tables.specs.Scan.{AddsSingle, AddsPair, AddsDelivery, IsNearUnderway, picked_up, gone_on, none_below, offered, accepted};
 
 use crate::legs::{ROOM, fill_least, fill_legs, is_hopeless, leg_at, small_place};
 use crate::progress::{Limits, Place, Progress, difference, is_in_time};
 use crate::ride::{Detour, Ride, ride_of, ride_on, serve_below};
+use crate::span::Span;
+use crate::table::place_at;
 use nint_dist::dist;
-use plan_types::Stop;
+use plan_types::{Kind, Stop};
 
 /// Where a request is put into a route, and by how much the route gets longer.
 ///
@@ -79,15 +82,26 @@ impl Best {
 pub(crate) fn best_single(
     limits: Limits,
     places: &[Place],
+    span: &Span,
+    depot: &Stop,
     stop: &Stop,
     kept: usize,
     below: i64,
 ) -> Option<Addition>
     requires places { All IsSmallPlace places.now }
+    requires laden { AreLaden places.now }
+    requires span { IsSpan span.now places.now }
+    requires home { AreHome depot.now places.now }
     requires stop { IsVisit stop.now }
     requires kept { kept + 2 ≤ length places.now }
     ensures { (d : Place) → IsFirstOf (AddsSingle limits places.now stop.now kept below d) result }
 {
+    if span.is_full(limits, stop) {
+        return None;
+    }
+    if span.is_far_single(depot, stop, below) {
+        return None;
+    }
     let mut best = Best::none_below(below);
     let first = small_place(places, kept);
     let mut to = u64::from(dist(&first.at.stop, stop));
@@ -110,6 +124,8 @@ pub(crate) fn best_single(
 pub(crate) fn best_pair(
     limits: Limits,
     places: &[Place],
+    span: &Span,
+    depot: &Stop,
     pickup: &Stop,
     delivery: &Stop,
     kept: usize,
@@ -119,12 +135,17 @@ pub(crate) fn best_pair(
     requires ways { AreLinked places.now }
     requires rising { AreRising places.now }
     requires few { length places.now ≤ 40003 }
+    requires span { IsSpan span.now places.now }
+    requires home { AreHome depot.now places.now }
     requires pickup { IsVisit pickup.now }
     requires delivery { IsVisit delivery.now }
     requires kept { kept + 2 ≤ length places.now }
     ensures { (d : Place) → IsFirstOf
         (AddsPair limits places.now pickup.now delivery.now kept below d) result }
 {
+    if span.is_far_pair(depot, pickup, delivery, below) {
+        return None;
+    }
     let trip = Trip {
         limits,
         pickup: *pickup,
@@ -137,7 +158,8 @@ pub(crate) fn best_pair(
     let mut pickup_legs = [0; ROOM];
     let mut delivery_legs = [0; ROOM];
     let mut least = [0; ROOM];
-    fill_legs(&mut pickup_legs[..places.len()], places, pickup);
+    let near = reachable(limits.kind, places, u64::from(pickup.latest));
+    fill_legs(&mut pickup_legs[..near], places, pickup);
     fill_legs(&mut delivery_legs[..places.len()], places, delivery);
     fill_least(
         &mut least[..places.len()],
@@ -148,12 +170,25 @@ pub(crate) fn best_pair(
     best_pickup(
         &trip,
         places,
-        &pickup_legs[..places.len()],
+        &pickup_legs[..near],
         &delivery_legs[..places.len()],
         &least[..places.len()],
         kept,
         below,
     )
+}
+
+/// How many places there are up to the first, with it, that is reached after this time. Of those
+/// behind it no ways are asked.
+fn reachable(kind: Kind, places: &[Place], latest: u64) -> usize
+    ensures { result ≤ length places.now }
+{
+    for k in 0..places.len() {
+        if !is_in_time(kind, place_at(places, k).at.start, latest) {
+            return k + 1;
+        }
+    }
+    places.len()
 }
 
 /// A pair, the way from its pickup to its delivery, and what a vehicle must keep.

@@ -14,6 +14,7 @@ use crate::insertion::{pair_added, single_added};
 use crate::progress::{Limits, Place, Progress, driven_on};
 use crate::scan::{Addition, best_pair, best_single};
 use crate::slack::fill_slack;
+use crate::span::Span;
 use plan_types::{
     Kind, OutOfMemory, Problem, Request, Stop, numbers_are_below_the_next,
     requests_are_found_by_stop,
@@ -29,6 +30,7 @@ pub struct RouteTable {
     depot: Stop,
     // The depot, each stop in order, and the depot at the return.
     places: Vec<Place>,
+    span: Span,
 }
 
 impl Model for RouteTable {
@@ -62,6 +64,7 @@ impl RouteTable {
         numbers_are_below_the_next();
         let mut places = Vec::with_capacity(alloc, route.len() + 2)?;
         remake(&mut places, problem, route)?;
+        let span = Span::of(places.as_slice());
         Ok(RouteTable {
             limits: Limits {
                 kind: problem.kind,
@@ -69,6 +72,7 @@ impl RouteTable {
             },
             depot: problem.depot,
             places,
+            span,
         })
     }
 
@@ -87,6 +91,7 @@ impl RouteTable {
             capacity: problem.capacity,
         };
         self.depot = problem.depot;
+        self.span = Span::of(self.places.as_slice());
         Ok(())
     }
 
@@ -191,10 +196,22 @@ impl RouteTable {
         requests_are_found_by_stop();
         let places = self.places.as_slice();
         match request {
-            Request::Single(stop) => best_single(self.limits, places, stop, kept as usize, below),
+            Request::Single(stop) => {
+                best_single(
+                    self.limits,
+                    places,
+                    &self.span,
+                    &self.depot,
+                    stop,
+                    kept as usize,
+                    below,
+                )
+            }
             Request::Pair(pickup, delivery) => best_pair(
                 self.limits,
                 places,
+                &self.span,
+                &self.depot,
                 pickup,
                 delivery,
                 kept as usize,

@@ -8,12 +8,12 @@ use Rattle.slack_tables.proofs.table.RouteTable.latest_start.Goals as goal
 
 pub returns-in-Vrp : goal.returns-in-Vrp
 returns-in-Vrp c = λ p route is.
-    (let table : AreKnown c.args.self.now c.self.inside.places.items = subst (λ q. AreKnown q c.self.inside.places.items) c.self.view_is c.self.invariant in
+    (let table : AreKnown c.args.self.now c.self.inside.places.items = subst (λ q. AreKnown q c.self.inside.places.items) c.self.view_is c.self.invariant.0 in
     any-in-vrp c.args.self.now c.self.inside.places.items table p route is c.args.place (sym (ap (λ q. q.kind) c.self.view_is) ∙ c.in-Vrp.is))
 
 pub returns-in-LiLim : goal.returns-in-LiLim
 returns-in-LiLim c = λ p route is.
-    (let table : AreKnown c.args.self.now c.self.inside.places.items = subst (λ q. AreKnown q c.self.inside.places.items) c.self.view_is c.self.invariant in
+    (let table : AreKnown c.args.self.now c.self.inside.places.items = subst (λ q. AreKnown q c.self.inside.places.items) c.self.view_is c.self.invariant.0 in
     let long = table.long in
     let same = ap length c.as_slice-places.ensures.value in
     let d = open_place (leaving c.self.inside.depot) in

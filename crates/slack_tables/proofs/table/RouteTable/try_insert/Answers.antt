@@ -33,7 +33,7 @@ pair_added-requires-clause-delivery c =
 pub returns-in-Single : goal.returns-in-Single
 returns-in-Single c =
     let named : request_named c.args.problem.now c.args.name ≡ Some (Single c.in-Single.stop) = c.live_request.ensures.found ∙ ap (λ r. Some r) c.in-Single.is in
-    let table : AreKnown c.args.self.now c.self.inside.places.items = subst (λ q. AreKnown q c.self.inside.places.items) c.self.view_is c.self.invariant in
+    let table : AreKnown c.args.self.now c.self.inside.places.items = subst (λ q. AreKnown q c.self.inside.places.items) c.self.view_is c.self.invariant.0 in
     let are : ArePlaces (Single c.in-Single.stop) (length (route_of c.args.self.now)) c.args.i c.args.j = subst (λ o. IsSomeAnd o (λ r. ArePlaces r (length (route_of c.args.self.now)) c.args.i c.args.j)) named c.requires.places in
     let d = open_place (leaving c.in-Single.stop) in
     let made = c.single_added.ensures d in
@@ -45,7 +45,7 @@ returns-in-Single c =
 pub returns-in-Pair : goal.returns-in-Pair
 returns-in-Pair c =
     let named : request_named c.args.problem.now c.args.name ≡ Some (Pair c.in-Pair.pickup c.in-Pair.delivery) = c.live_request.ensures.found ∙ ap (λ r. Some r) c.in-Pair.is in
-    let table : AreKnown c.args.self.now c.self.inside.places.items = subst (λ q. AreKnown q c.self.inside.places.items) c.self.view_is c.self.invariant in
+    let table : AreKnown c.args.self.now c.self.inside.places.items = subst (λ q. AreKnown q c.self.inside.places.items) c.self.view_is c.self.invariant.0 in
     let are : ArePlaces (Pair c.in-Pair.pickup c.in-Pair.delivery) (length (route_of c.args.self.now)) c.args.i c.args.j = subst (λ o. IsSomeAnd o (λ r. ArePlaces r (length (route_of c.args.self.now)) c.args.i c.args.j)) named c.requires.places in
     let d = open_place (leaving c.in-Pair.pickup) in
     let made = c.pair_added.ensures d in

@@ -1,0 +1,285 @@
+-- What a request adds to a route at least.
+use Rattle.std.proofs.Common.{◌≡◌, ℕ, ◌+◌, ◌-◌, ◌*◌, ◌/◌, ◌^◌, ◌<◌, ◌≤◌, ◌⊎◌, Bool, true, false, cond, int_le, ℤ, pos, ◌+ℤ◌, ◌-ℤ◌, ◌≤ℤ◌, ◌<ℤ◌, w32, w64, to_z, of_z, List, [], ◌∷◌, get_or, length, Some, None, refl, sym, ap, ◌∙◌, arith, subst, inl, inr}
+use mir.Val.{SFits}
+use Rattle.std.specs.Prelude.{unsigned_abs}
+use Rattle.std.proofs.Math.Nat.{div-mul-le_self}
+use Rattle.std.proofs.lemmas.Nat.{mul-le}
+use Rattle.std.proofs.lemmas.Bool.{cases_lt, and_parts}
+use Rattle.std.proofs.lemmas.Int.{ints, to_z-of_z}
+use Rattle.std.proofs.lemmas.List.{get_or_past}
+use Rattle.plan_types.specs.declared.requests.Stop.{Stop}
+use Rattle.nint_dist.specs.Distance.{distance, DistancesAreNearestRoots}
+use Rattle.slack_tables.specs.Along.{stop_on}
+use Rattle.slack_tables.specs.Best.{IsFirstOf}
+use Rattle.slack_tables.specs.Course.{Course}
+use Rattle.slack_tables.specs.Driven.{with_between, with_pair}
+use Rattle.slack_tables.specs.Inside.{AreKnown}
+use Rattle.slack_tables.specs.Legs.{AreLinked, detour_of}
+use Rattle.slack_tables.specs.Ride.{ride_of, driven, is_kept, is_borne, goes_on, is_served, price, served}
+use Rattle.slack_tables.specs.Scan.{AddsSingle, AddsPair}
+use Rattle.slack_tables.specs.Span.{IsInside, IsSmallSpan, IsSpanTo, AreEnds, IsSpan, IsNearest, IsFloor, IsFloorOfPair, IsFarSingle, IsFarPair, AreHome, AreLaden, edge_of}
+use Rattle.slack_tables.specs.declared.progress.Limits.{Limits}
+use Rattle.slack_tables.specs.declared.progress.Place.{Place}
+use Rattle.slack_tables.specs.declared.ride.Ride.{Ride}
+use Rattle.slack_tables.specs.declared.span.Span.{Span}
+use Rattle.slack_tables.specs.declared.span.Nearest.{Nearest}
+use Rattle.slack_tables.proofs.AlongLemmas.{load-next}
+use Rattle.slack_tables.proofs.DetourLemmas.{near-is, apart-is, served-price}
+use Rattle.slack_tables.proofs.SpliceLemmas.{int_le-true}
+use Rattle.slack_tables.proofs.WalkLemmas.{distance-back, single-served}
+
+-- twice a product is at most the sum of the squares
+product-ordered : (u t : ℕ) → u * (u + t) + u * (u + t) ≤ u * u + (u + t) * (u + t)
+product-ordered u t = omega arith
+
+pub product-le : (u v : ℕ) → u * v + u * v ≤ u * u + v * v
+product-le u v = by (cases_lt u v)
+  where
+    by : (u < v) ⊎ (v ≤ u) → u * v + u * v ≤ u * u + v * v
+    by (inl less) = let far : u + (v - u) ≡ v = omega arith in subst (λ w. u * w + u * w ≤ u * u + w * w) far (product-ordered u (v - u))
+    by (inr more) = let far : v + (u - v) ≡ u = omega arith in let le = product-ordered v (u - v) in let there : v * u + v * u ≤ v * v + u * u = subst (λ w. v * w + v * w ≤ v * v + w * w) far le in omega arith
+
+-- the part of a way along a direction (a, b) of length 256 or less
+pub along-le : (a b x y c e : ℕ) → a * a + b * b ≤ 65536 → c * 256 ≤ a * x + b * y → x * x + y * y ≤ e * (e + 1) → c ≤ e
+along-le a b x y c e short part reach = by (cases_lt e c)
+  where
+    by : (e < c) ⊎ (c ≤ e) → c ≤ e
+    by (inr le) = le
+    by (inl less) =
+        let products = product-le (a * y) (b * x) in
+        let square = mul-le (c * 256) (c * 256) (a * x + b * y) (a * x + b * y) part part in
+        let scaled = mul-le (a * a + b * b) (x * x + y * y) 65536 (e * (e + 1)) short reach in
+        let over = mul-le (e + 1) (e + 1) c c (omega arith) (omega arith) in
+        absurd (omega arith)
+
+-- the five directions
+pub ways-le : (x y e : ℕ) → x * x + y * y ≤ e * (e + 1) → (x ≤ e) × (y ≤ e) × ((x * 236 + y * 98) / 256 ≤ e) × ((x * 98 + y * 236) / 256 ≤ e) × ((x * 181 + y * 181) / 256 ≤ e)
+ways-le x y e reach =
+    let flat = div-mul-le_self (x * 236 + y * 98) 256 in
+    let steep = div-mul-le_self (x * 98 + y * 236) 256 in
+    let even = div-mul-le_self (x * 181 + y * 181) 256 in (
+      along-le 256 0 x y x e (omega arith) (omega arith) reach,
+      along-le 0 256 x y y e (omega arith) (omega arith) reach,
+      along-le 236 98 x y ((x * 236 + y * 98) / 256) e (omega arith) (omega arith) reach,
+      along-le 98 236 x y ((x * 98 + y * 236) / 256) e (omega arith) (omega arith) reach,
+      along-le 181 181 x y ((x * 181 + y * 181) / 256) e (omega arith) (omega arith) reach,
+    )
+
+-- no stop inside is nearer than the gaps to the span
+pub apart-le : DistancesAreNearestRoots → (a b : Stop) (x y w : ℕ) → ((e : ℕ) → x * x + y * y ≤ e * (e + 1) → w ≤ e) → x ≤ unsigned_abs (a.x -ℤ b.x) → y ≤ unsigned_abs (a.y -ℤ b.y) → w ≤ distance a b
+apart-le law a b x y w least gap_x gap_y =
+    let reach = (law a b).reaches in
+    let squares_x = mul-le x x (unsigned_abs (a.x -ℤ b.x)) (unsigned_abs (a.x -ℤ b.x)) gap_x gap_x in
+    let squares_y = mul-le y y (unsigned_abs (a.y -ℤ b.y)) (unsigned_abs (a.y -ℤ b.y)) gap_y gap_y in
+    least (distance a b) (omega arith)
+
+-- ---- the span, place after place
+-- a span whose fields fit is not changed by being written
+pub span-as : (w e s n l t o : ℤ) → SFits w32 w → SFits w32 e → SFits w32 s → SFits w32 n → SFits w64 l → SFits w64 t → SFits w64 o → ◌≡◌ {A = Span} (record { west = to_z w32 (of_z w32 w); east = to_z w32 (of_z w32 e); south = to_z w32 (of_z w32 s); north = to_z w32 (of_z w32 n); longest = to_z w64 (of_z w64 l); tips = to_z w64 (of_z w64 t); load = to_z w64 (of_z w64 o) }) (record { west = w; east = e; south = s; north = n; longest = l; tips = t; load = o })
+span-as w e s n l t o fw fe fs fn fl ft fo = rw (to_z-of_z w32 w fw, to_z-of_z w32 e fe, to_z-of_z w32 s fs, to_z-of_z w32 n fn, to_z-of_z w64 l fl, to_z-of_z w64 t ft, to_z-of_z w64 o fo) refl
+
+pub span-more : (places : List Place) (k : ℕ) (old new : Span) (before here : Place) → 1 ≤ k → IsSpanTo old places k → ((d : Place) → before ≡ get_or places (k - 1) d) → ((d : Place) → here ≡ get_or places k d) → IsInside new here.at.stop → ((s : Stop) → IsInside old s → IsInside new s) → edge_of before here ≤ℤ new.longest → old.longest ≤ℤ new.longest → IsSmallSpan new → IsSpanTo new places (k + 1)
+span-more places k old new before here some is is_before is_here inside wider edge longer small = record {
+  inside = λ m d h l. inside-by m d h l (cases_lt m k);
+  longest = λ m d h l. longest-by m d h l (cases_lt (m + 1) k);
+  small = small;
+}
+  where
+    inside-by : (m : ℕ) (d : Place) → 1 ≤ m → m < k + 1 → (m < k) ⊎ (k ≤ m) → IsInside new (get_or places m d).at.stop
+    inside-by m d h l (inl less) = wider _ (is.inside m d h less)
+    inside-by m d h l (inr more) = let same : k ≡ m = omega arith in subst (λ (e : Place). IsInside new e.at.stop) (is_here d ∙ ap (λ n. get_or places n d) same) inside
+
+    longest-by : (m : ℕ) (d : Place) → 1 ≤ m → m + 1 < k + 1 → (m + 1 < k) ⊎ (k ≤ m + 1) → edge_of (get_or places m d) (get_or places (m + 1) d) ≤ℤ new.longest
+    longest-by m d h l (inl less) = let le = is.longest m d h less in omega (arith, ints)
+    longest-by m d h l (inr more) =
+        let same : k ≡ m + 1 = omega arith in
+        let back : k - 1 ≡ m = omega arith in
+        subst (λ (e : Place). edge_of e (get_or places (m + 1) d) ≤ℤ new.longest) (is_before d ∙ ap (λ n. get_or places n d) back)
+        (subst (λ (e : Place). edge_of before e ≤ℤ new.longest) (is_here d ∙ ap (λ n. get_or places n d) same) edge)
+
+pub ends-same : (old new : Span) (places : List Place) → new.tips ≡ old.tips → new.load ≡ old.load → AreEnds old places → AreEnds new places
+ends-same old new places tips load ends = record {
+  first = λ d. subst (λ x. edge_of (get_or places 0 d) (get_or places 1 d) ≤ℤ x) (sym tips) (ends.first d);
+  last = λ d. subst (λ x. edge_of (get_or places (length places - 2) d) (get_or places (length places - 1) d) ≤ℤ x) (sym tips) (ends.last d);
+  load = λ d. load ∙ ends.load d;
+}
+
+-- ---- the depot and the loads of a table
+pub home : (c : Course) (places : List Place) → AreKnown c places → AreHome c.depot places
+home c places table = let long = table.long in record {
+  first = λ d. (table.known 0 d (omega arith)).at.stop;
+  last = λ d. (table.known (length places - 1) d (omega arith)).at.stop ∙ get_or_past (c.depot ∷ c.stops) (length places - 1) c.depot (omega arith);
+}
+
+pub laden : (c : Course) (places : List Place) → AreKnown c places → AreLaden places
+laden c places table = let long = table.long in record {
+  step = λ k d h.
+      (let here = (table.known k d (omega arith)).at in
+      let next = (table.known (k + 1) d h).at in
+      next.load ∙ (load-next (stop_on c) k ∙ (ap (λ x. x +ℤ (stop_on c (k + 1)).demand) (sym (here.load)) ∙ ap (λ (s : Stop). (get_or places k d).at.load +ℤ s.demand) (sym (next.stop)))));
+  most = λ k d h.
+      (let here = table.known k d h in
+      let last = (table.known (length places - 1) d (omega arith)).at.load in
+      let end = (here.most_load (get_or places k d).most_load).0 (omega (arith, ints)) (length places - 1) (omega arith) (omega arith) in
+      subst (λ x. x ≤ℤ (get_or places k d).most_load) (sym last) end);
+}
+
+-- ---- what a stop adds
+module _ (places : List Place) (depot : Stop) (span : Span) (is : IsSpan span places) (at_home : AreHome depot places) where
+  -- what a stop adds behind place m
+  pub detour-le : (s : Stop) (near : Nearest) → IsNearest span depot s near → (x : ℤ) → IsFloor span near x → (m : ℕ) (d : Place) → m + 1 < length places → x ≤ℤ detour_of places s m d
+  detour-le s near nearest x floor m d within = by (cases_lt 0 m) (cases_lt (m + 2) (length places))
+    where
+      count : 2 ≤ is.count
+      count = is.some
+
+      all : length places ≤ is.count + 1
+      all = is.all
+
+      far : (k : ℕ) → 1 ≤ k → k < is.count → near.inside ≤ distance (get_or places k d).at.stop s
+      far k h l = nearest.inside (get_or places k d).at.stop (is.within.inside k d h l)
+
+      by : (0 < m) ⊎ (m ≤ 0) → (m + 2 < length places) ⊎ (length places ≤ m + 2) → x ≤ℤ detour_of places s m d
+      by (inl some) (inl more) =
+          let to = far m (omega arith) (omega arith) in
+          let from = far (m + 1) (omega arith) (omega arith) in
+          let edge = is.within.longest m d (omega arith) (omega arith) in
+          let le = floor.inside in
+          omega (arith, ints)
+      by (inl some) (inr last) =
+          let to = far m (omega arith) (omega arith) in
+          let end : length places - 1 ≡ m + 1 = omega arith in
+          let before : length places - 2 ≡ m = omega arith in
+          let there : (get_or places (m + 1) d).at.stop ≡ depot = subst (λ k. (get_or places k d).at.stop ≡ depot) end (at_home.last d) in
+          let from : near.home ≤ distance (get_or places (m + 1) d).at.stop s = subst (λ (t : Stop). near.home ≤ distance t s) (sym there) nearest.home in
+          let edge : edge_of (get_or places m d) (get_or places (m + 1) d) ≤ℤ span.tips = subst (λ k. edge_of (get_or places k d) (get_or places (m + 1) d) ≤ℤ span.tips) before (subst (λ k. edge_of (get_or places (length places - 2) d) (get_or places k d) ≤ℤ span.tips) end (is.ends.last d)) in
+          let le = floor.tips in
+          omega (arith, ints)
+      by (inr none) _ =
+          let zero_m : 0 ≡ m = omega arith in
+          let from = far 1 (omega arith) (omega arith) in
+          let to : near.home ≤ distance (get_or places 0 d).at.stop s = subst (λ (t : Stop). near.home ≤ distance t s) (sym (at_home.first d)) nearest.home in
+          let edge = is.ends.first d in
+          let le = floor.tips in
+          subst (λ k. x ≤ℤ detour_of places s k d) zero_m (let first : x ≤ℤ detour_of places s 0 d = omega (arith, ints) in first)
+
+  -- what a pair adds whose stops come side by side behind place m
+  pub beside-le : (p q : Stop) (to_p to_q : Nearest) → IsNearest span depot p to_p → IsNearest span depot q to_q → (across : ℕ) → across ≤ distance p q → (x : ℤ) → IsFloorOfPair span to_p to_q across x → (m : ℕ) (d : Place) → m + 1 < length places → x ≤ℤ (pos ((get_or places m d).at.distance + distance (get_or places m d).at.stop p + distance p q + distance (get_or places (m + 1) d).at.stop q) -ℤ pos (get_or places (m + 1) d).at.distance)
+  beside-le p q to_p to_q near_p near_q across between x floor m d within = by (cases_lt 0 m) (cases_lt (m + 2) (length places))
+    where
+      Goal : ℕ → Type 0
+      Goal k = x ≤ℤ (pos ((get_or places k d).at.distance + distance (get_or places k d).at.stop p + distance p q + distance (get_or places (k + 1) d).at.stop q) -ℤ pos (get_or places (k + 1) d).at.distance)
+
+      count : 2 ≤ is.count
+      count = is.some
+
+      all : length places ≤ is.count + 1
+      all = is.all
+
+      far_p : (k : ℕ) → 1 ≤ k → k < is.count → to_p.inside ≤ distance (get_or places k d).at.stop p
+      far_p k h l = near_p.inside (get_or places k d).at.stop (is.within.inside k d h l)
+
+      far_q : (k : ℕ) → 1 ≤ k → k < is.count → to_q.inside ≤ distance (get_or places k d).at.stop q
+      far_q k h l = near_q.inside (get_or places k d).at.stop (is.within.inside k d h l)
+
+      by : (0 < m) ⊎ (m ≤ 0) → (m + 2 < length places) ⊎ (length places ≤ m + 2) → Goal m
+      by (inl some) (inl more) =
+          let to = far_p m (omega arith) (omega arith) in
+          let from = far_q (m + 1) (omega arith) (omega arith) in
+          let edge = is.within.longest m d (omega arith) (omega arith) in
+          let le = floor.inside in
+          omega (arith, ints)
+      by (inl some) (inr last) =
+          let to = far_p m (omega arith) (omega arith) in
+          let end : length places - 1 ≡ m + 1 = omega arith in
+          let before : length places - 2 ≡ m = omega arith in
+          let there : (get_or places (m + 1) d).at.stop ≡ depot = subst (λ k. (get_or places k d).at.stop ≡ depot) end (at_home.last d) in
+          let from : to_q.home ≤ distance (get_or places (m + 1) d).at.stop q = subst (λ (t : Stop). to_q.home ≤ distance t q) (sym there) near_q.home in
+          let edge : edge_of (get_or places m d) (get_or places (m + 1) d) ≤ℤ span.tips = subst (λ k. edge_of (get_or places k d) (get_or places (m + 1) d) ≤ℤ span.tips) before (subst (λ k. edge_of (get_or places (length places - 2) d) (get_or places k d) ≤ℤ span.tips) end (is.ends.last d)) in
+          let le = floor.last in
+          omega (arith, ints)
+      by (inr none) _ =
+          let zero_m : 0 ≡ m = omega arith in
+          let from = far_q 1 (omega arith) (omega arith) in
+          let to : to_p.home ≤ distance (get_or places 0 d).at.stop p = subst (λ (t : Stop). to_p.home ≤ distance t p) (sym (at_home.first d)) near_p.home in
+          let edge = is.ends.first d in
+          let le = floor.first in
+          subst Goal zero_m (let first : Goal 0 = omega (arith, ints) in first)
+
+-- ---- a single
+singles-none : (limits : Limits) (places : List Place) (s : Stop) (kept : ℕ) (below : ℤ) (d : Place) → ((i : ℕ) (x : ℤ) → 1 ≤ i → i < length places → with_between limits places (i - 1) (s ∷ []) i d ≡ Some x → below ≤ℤ x) → IsFirstOf (AddsSingle limits places s kept below d) None
+singles-none limits places s kept below d dear = λ a is. (let behind = is.0.behind in let le = dear a.pickup a.distance (omega arith) is.0.within is.0.added in let less = is.1 in absurd (omega (arith, ints)))
+
+pub far-single : (limits : Limits) (places : List Place) (depot s : Stop) (kept : ℕ) (below : ℤ) (d : Place) (span : Span) → IsSpan span places → AreHome depot places → IsFarSingle span depot s below → IsFirstOf (AddsSingle limits places s kept below d) None
+far-single limits places depot s kept below d span is at_home dear =
+    singles-none limits places s kept below d
+    (λ i x one within some.
+    (let cost = served-price limits (ride_of (get_or places (i - 1) d).at) (get_or places (i - 1) d).at.stop.service (distance (get_or places (i - 1) d).at.stop s) s (distance s (get_or places i d).at.stop) (get_or places i d) x (sym (single-served limits places s i d) ∙ some) in
+    let next : i - 1 + 1 ≡ i = omega arith in
+    let least = subst (λ k. dear.floor ≤ℤ (pos ((get_or places (i - 1) d).at.distance + distance (get_or places (i - 1) d).at.stop s + distance (get_or places k d).at.stop s) -ℤ pos (get_or places k d).at.distance)) next (detour-le places depot span is at_home s dear.near dear.nearest dear.floor dear.lowest (i - 1) d (omega arith)) in
+    let back = distance-back s (get_or places i d).at.stop in
+    let le = dear.dear in
+    omega (arith, ints)))
+
+-- what a served stop brings on board fits
+served-fits : (limits : Limits) (r : Ride) (service to : ℕ) (s : Stop) (from : ℕ) (tail : Place) (x : ℤ) → served limits r service to s from tail ≡ Some x → is_served limits r service to s from tail ≡ true
+served-fits limits r service to s from tail x is = by (is_served limits r service to s from tail) refl is
+  where
+    by : (k : Bool) → is_served limits r service to s from tail ≡ k → cond k (Some (price r to from tail)) None ≡ Some x → is_served limits r service to s from tail ≡ true
+    by true h is = h
+    by false h is = absurd (cc)
+
+borne : (limits : Limits) (r : Ride) (service to : ℕ) (s : Stop) (from : ℕ) (tail : Place) → is_served limits r service to s from tail ≡ true → (r.load +ℤ s.demand +ℤ tail.at.stop.demand -ℤ tail.at.load +ℤ tail.most_load) ≤ℤ pos limits.capacity
+borne limits r service to s from tail is =
+    let on = (and_parts (is_kept limits (driven r service to s) s) (goes_on limits (driven r service to s) s.service from tail) is).1 in
+    let there = (and_parts (is_kept limits (driven (driven r service to s) s.service from tail.at.stop) tail.at.stop) (is_borne limits (driven (driven r service to s) s.service from tail.at.stop) tail) on).1 in
+    let light = (and_parts (int_le (r.load +ℤ s.demand +ℤ tail.at.stop.demand -ℤ tail.at.load +ℤ tail.most_load) (pos limits.capacity)) _ there).0 in
+    int_le-true _ _ light
+
+pub full-single : (limits : Limits) (places : List Place) (s : Stop) (kept : ℕ) (below : ℤ) (d : Place) (span : Span) → IsSpan span places → AreLaden places → pos limits.capacity <ℤ (span.load +ℤ s.demand) → IsFirstOf (AddsSingle limits places s kept below d) None
+full-single limits places s kept below d span is laden over =
+    singles-none limits places s kept below d
+    (λ i x one within some.
+    (let light = borne limits (ride_of (get_or places (i - 1) d).at) (get_or places (i - 1) d).at.stop.service (distance (get_or places (i - 1) d).at.stop s) s (distance s (get_or places i d).at.stop) (get_or places i d) (served-fits limits (ride_of (get_or places (i - 1) d).at) (get_or places (i - 1) d).at.stop.service (distance (get_or places (i - 1) d).at.stop s) s (distance s (get_or places i d).at.stop) (get_or places i d) x (sym (single-served limits places s i d) ∙ some)) in
+    let next : i - 1 + 1 ≡ i = omega arith in
+    let step = subst (λ k. (get_or places k d).at.load ≡ (get_or places (i - 1) d).at.load +ℤ (get_or places k d).at.stop.demand) next (laden.step (i - 1) d (omega arith)) in
+    let most = laden.most i d within in
+    let end = is.ends.load d in
+    absurd (omega (arith, ints))))
+
+-- ---- a pair
+pub far-pair : (limits : Limits) (places : List Place) (depot p q : Stop) (kept : ℕ) (below : ℤ) (d : Place) (span : Span) → AreLinked places → IsSpan span places → AreHome depot places → IsFarPair span depot p q below → IsFirstOf (AddsPair limits places p q kept below d) None
+far-pair limits places depot p q kept below d span linked is at_home dear = λ a adds. (let behind = adds.0.behind in let order = adds.0.order in let le = at-places a.pickup a.delivery a.distance (omega arith) order adds.0.within adds.0.added in let less = adds.1 in absurd (omega (arith, ints)))
+  where
+    at-places : (i j : ℕ) (x : ℤ) → 1 ≤ i → i < j → j ≤ length places → with_pair limits places p q i j d ≡ Some x → below ≤ℤ x
+    at-places i j x one order within some = by (cases_lt j (i + 2))
+      where
+        next : i - 1 + 1 ≡ i
+        next = omega arith
+
+        by : (j < i + 2) ⊎ (i + 2 ≤ j) → below ≤ℤ x
+        by (inl here) =
+            let same : j ≡ i + 1 = omega arith in
+            let cost = near-is limits places p q i d linked x (subst (λ n. with_pair limits places p q i n d ≡ Some x) same some) in
+            let least = subst (λ k. dear.beside ≤ℤ (pos ((get_or places (i - 1) d).at.distance + distance (get_or places (i - 1) d).at.stop p + distance p q + distance (get_or places k d).at.stop q) -ℤ pos (get_or places k d).at.distance)) next (beside-le places depot span is at_home p q dear.to_p dear.to_q dear.nearest_p dear.nearest_q dear.across dear.between dear.beside dear.lowest (i - 1) d (omega arith)) in
+            let le = dear.near in
+            omega (arith, ints)
+        by (inr further) =
+            let back : j - 2 + 2 ≡ j = omega arith in
+            let cost = apart-is limits places p q i d linked (j - 2) x (omega arith) (omega arith) (subst (λ n. with_pair limits places p q i n d ≡ Some x) (sym back) some) in
+            let first = subst (λ k. dear.floor_p ≤ℤ (pos ((get_or places (i - 1) d).at.distance + distance (get_or places (i - 1) d).at.stop p + distance (get_or places k d).at.stop p) -ℤ pos (get_or places k d).at.distance)) next (detour-le places depot span is at_home p dear.to_p dear.nearest_p dear.floor_p dear.lowest_p (i - 1) d (omega arith)) in
+            let second = detour-le places depot span is at_home q dear.to_q dear.nearest_q dear.floor_q dear.lowest_q (j - 2) d (omega arith) in
+            let way = distance-back p (get_or places i d).at.stop in
+            let le = dear.apart in
+            omega (arith, ints)
+
+-- ---- the span of the first stop alone
+pub span-begun : (places : List Place) (first : Place) (t o : ℤ) → ((d : Place) → first ≡ get_or places 1 d) → unsigned_abs t ≤ 2 ^ 52 → unsigned_abs o ≤ 2 ^ 52 → IsSpanTo (record { west = first.at.stop.x; east = first.at.stop.x; south = first.at.stop.y; north = first.at.stop.y; longest = pos 0; tips = t; load = o }) places 2
+span-begun places first t o is_first tips load = record {
+  inside = λ k d h l.
+      (let one : 1 ≡ k = omega arith in
+      subst (λ (e : Place). IsInside (record { west = first.at.stop.x; east = first.at.stop.x; south = first.at.stop.y; north = first.at.stop.y; longest = pos 0; tips = t; load = o }) e.at.stop) (is_first d ∙ ap (λ n. get_or places n d) one)
+      (record { west = omega (arith, ints); east = omega (arith, ints); south = omega (arith, ints); north = omega (arith, ints) }));
+  longest = λ k d h l. absurd (omega arith);
+  small = record { longest = omega (arith, ints); tips = tips; load = load };
+}

@@ -1,0 +1,27 @@
+use Rattle.std.proofs.Common.{w64, rules, subst, sym, arith, ◌≤◌, ◌^◌}
+use Rattle.std.specs.Prelude.{unsigned_abs}
+use mir.Val.{SFits}
+use Rattle.std.proofs.lemmas.Int.{ints, clamps, to_z-of_z}
+use Rattle.slack_tables.specs.Span.{IsFloor}
+use Rattle.slack_tables.proofs.span.Span.floor.Goals as goal
+
+pub returns-clause-floor : goal.returns-clause-floor
+returns-clause-floor c =
+    let fits : SFits w64 c.min.result = search rules in
+    let value = c.min.ensures.value in
+    let inner = c.difference.ensures in
+    let outer = c.difference-2.ensures in
+    subst (λ x. IsFloor c.args.self.now c.args.near.now x) (sym (to_z-of_z w64 c.min.result fits))
+    (record { inside = omega (arith, ints, clamps); tips = omega (arith, ints, clamps) })
+
+pub returns-clause-small : goal.returns-clause-small
+returns-clause-small c =
+    let fits : SFits w64 c.min.result = search rules in
+    let value = c.min.ensures.value in
+    let inner = c.difference.ensures in
+    let outer = c.difference-2.ensures in
+    let longest = c.requires.small.longest in
+    let tips = c.requires.small.tips in
+    let inside = c.requires.inside in
+    let home = c.requires.home in
+    subst (λ x. unsigned_abs x ≤ 2 ^ 53) (sym (to_z-of_z w64 c.min.result fits)) (omega (arith, ints, clamps))

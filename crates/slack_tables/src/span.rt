@@ -1,0 +1,282 @@
+//! What a request adds to a route at least, without a look at each of its places.
+
+ghost use Rattle.std.specs.Prelude.{◌≡◌, ◌+◌, ◌*◌, ◌^◌, ◌≤◌, ◌<◌, ℕ, ℤ, pos, ◌+ℤ◌, ◌-ℤ◌, ◌≤ℤ◌, ◌<ℤ◌, ◌-◌, IsTrue, All, length, slice_index_or, unsigned_abs};
+ghost use Rattle.plan_types.specs.declared.requests.Stop.{Stop};
+ghost use Rattle.nint_dist.specs.Distance.{distance};
+ghost use Rattle.slack_tables.specs.declared.progress.Place.{Place};
+ghost use Rattle.slack_tables.specs.Driven.{IsSmallPlace};
+ghost use Rattle.slack_tables.specs.Span.{IsInside, IsSmallSpan, IsSpanTo, AreEnds, IsSpan, IsNearest, IsFloor, IsFloorOfPair, IsFarSingle, IsFarPair, edge_of};
+
+use crate::legs::small_place;
+use crate::progress::{Limits, Place, difference};
+use nint_dist::distances_are_nearest_roots;
+use plan_types::Stop;
+
+/// The coordinates between which the stops of a route lie, the longest way from one of them to the
+/// next, the longer of the ways between them and the depot, and what the vehicle carries at the end.
+#[derive(Clone, Copy, Debug, PartialEq, Eq)]
+pub(crate) struct Span {
+    west: i32,
+    east: i32,
+    south: i32,
+    north: i32,
+    longest: i64,
+    tips: i64,
+    load: i64,
+}
+
+/// No way from a stop to one inside a span is shorter than `inside`, and none to the depot than `home`.
+#[derive(Clone, Copy, Debug, PartialEq, Eq)]
+struct Nearest {
+    inside: u64,
+    home: u64,
+}
+
+impl Span {
+    /// The span of the places of a route.
+    pub(crate) fn of(places: &[Place]) -> Span
+        requires places { All IsSmallPlace places.now }
+        requires count { 2 ≤ length places.now }
+        ensures { IsSpan result places.now }
+    {
+        let mut span = Span::begun(places);
+        for k in 2..places.len() - 1 {
+            let before = small_place(places, k - 1);
+            let here = small_place(places, k);
+            span = span.extended(before, here);
+        }
+        span
+    }
+
+    /// The span of the first stop alone, with the ends of the route.
+    fn begun(places: &[Place]) -> Span
+        requires places { All IsSmallPlace places.now }
+        requires count { 2 ≤ length places.now }
+        ensures within { IsSpanTo result places.now 2 }
+        ensures ends { AreEnds result places.now }
+    {
+        let first = small_place(places, 1);
+        let end = small_place(places, places.len() - 1);
+        Span {
+            west: first.at.stop.x,
+            east: first.at.stop.x,
+            south: first.at.stop.y,
+            north: first.at.stop.y,
+            longest: 0,
+            tips: tips(places),
+            load: end.at.load,
+        }
+    }
+
+    /// The span with one place more, behind one that is in it.
+    fn extended(&self, before: &Place, here: &Place) -> Span
+        requires before { IsSmallPlace before.now }
+        requires here { IsSmallPlace here.now }
+        requires small { IsSmallSpan self.now }
+        ensures inside { IsInside result here.now.at.stop }
+        ensures wider { (s : Stop) → IsInside self.now s → IsInside result s }
+        ensures edge { edge_of before.now here.now ≤ℤ result.longest }
+        ensures longer { self.now.longest ≤ℤ result.longest }
+        ensures tips { result.tips ≡ self.now.tips }
+        ensures load { result.load ≡ self.now.load }
+        ensures small { IsSmallSpan result }
+    {
+        let stop = &here.at.stop;
+        Span {
+            west: self.west_of(stop),
+            east: self.east_of(stop),
+            south: self.south_of(stop),
+            north: self.north_of(stop),
+            longest: self.longer(before, here),
+            tips: self.tips,
+            load: self.load,
+        }
+    }
+
+    fn west_of(&self, stop: &Stop) -> i32
+        ensures here { result ≤ℤ stop.now.x }
+        ensures before { result ≤ℤ self.now.west }
+    {
+        self.west.min(stop.x)
+    }
+
+    fn east_of(&self, stop: &Stop) -> i32
+        ensures here { stop.now.x ≤ℤ result }
+        ensures before { self.now.east ≤ℤ result }
+    {
+        self.east.max(stop.x)
+    }
+
+    fn south_of(&self, stop: &Stop) -> i32
+        ensures here { result ≤ℤ stop.now.y }
+        ensures before { result ≤ℤ self.now.south }
+    {
+        self.south.min(stop.y)
+    }
+
+    fn north_of(&self, stop: &Stop) -> i32
+        ensures here { stop.now.y ≤ℤ result }
+        ensures before { self.now.north ≤ℤ result }
+    {
+        self.north.max(stop.y)
+    }
+
+    fn longer(&self, before: &Place, here: &Place) -> i64
+        requires before { IsSmallPlace before.now }
+        requires here { IsSmallPlace here.now }
+        requires small { IsSmallSpan self.now }
+        ensures here { edge_of before.now here.now ≤ℤ result }
+        ensures before { self.now.longest ≤ℤ result }
+        ensures small { unsigned_abs result ≤ 2 ^ 52 }
+    {
+        self.longest.max(edge(before, here))
+    }
+
+    /// Whether a single exceeds the capacity wherever it is put in.
+    pub(crate) fn is_full(&self, limits: Limits, stop: &Stop) -> bool
+        requires small { IsSmallSpan self.now }
+        ensures { IsTrue result → pos limits.capacity <ℤ (self.now.load +ℤ stop.now.demand) }
+    {
+        self.load + i64::from(stop.demand) > i64::from(limits.capacity)
+    }
+
+    /// Whether a single adds `below` or more wherever it is put in.
+    pub(crate) fn is_far_single(&self, depot: &Stop, stop: &Stop, below: i64) -> bool
+        requires small { IsSmallSpan self.now }
+        ensures { IsTrue result → IsFarSingle self.now depot.now stop.now below }
+    {
+        let near = self.nearest(depot, stop);
+        self.floor(&near) >= below
+    }
+
+    /// Whether a pair adds `below` or more wherever it is put in.
+    pub(crate) fn is_far_pair(
+        &self,
+        depot: &Stop,
+        pickup: &Stop,
+        delivery: &Stop,
+        below: i64,
+    ) -> bool
+        requires small { IsSmallSpan self.now }
+        ensures { IsTrue result → IsFarPair self.now depot.now pickup.now delivery.now below }
+    {
+        let to_pickup = self.nearest(depot, pickup);
+        let to_delivery = self.nearest(depot, delivery);
+        let across = least_between(pickup, delivery);
+        self.floor(&to_pickup) + self.floor(&to_delivery) >= below
+            && self.floor_of_pair(&to_pickup, &to_delivery, across) >= below
+    }
+
+    /// What a stop adds at least.
+    fn floor(&self, near: &Nearest) -> i64
+        requires small { IsSmallSpan self.now }
+        requires inside { near.now.inside ≤ 2 ^ 33 }
+        requires home { near.now.home ≤ 2 ^ 33 }
+        ensures floor { IsFloor self.now near.now result }
+        ensures small { unsigned_abs result ≤ 2 ^ 53 }
+    {
+        let inner = difference(near.inside + near.inside, 0) - self.longest;
+        let outer = difference(near.inside + near.home, 0) - self.tips;
+        inner.min(outer)
+    }
+
+    /// What a pair adds at least whose stops are next to one another.
+    fn floor_of_pair(&self, pickup: &Nearest, delivery: &Nearest, across: u64) -> i64
+        requires small { IsSmallSpan self.now }
+        requires pickup_inside { pickup.now.inside ≤ 2 ^ 33 }
+        requires pickup_home { pickup.now.home ≤ 2 ^ 33 }
+        requires delivery_inside { delivery.now.inside ≤ 2 ^ 33 }
+        requires delivery_home { delivery.now.home ≤ 2 ^ 33 }
+        requires across { across ≤ 2 ^ 33 }
+        ensures { IsFloorOfPair self.now pickup.now delivery.now across result }
+    {
+        let inner = difference(pickup.inside + across + delivery.inside, 0) - self.longest;
+        let ends = (pickup.home + delivery.inside).min(pickup.inside + delivery.home);
+        let outer = difference(ends + across, 0) - self.tips;
+        inner.min(outer)
+    }
+
+    fn nearest(&self, depot: &Stop, stop: &Stop) -> Nearest
+        ensures { IsNearest self.now depot.now stop.now result }
+    {
+        Nearest {
+            inside: self.least_inside(stop),
+            home: least_between(depot, stop),
+        }
+    }
+
+    /// No way from the stop to one inside is shorter.
+    fn least_inside(&self, stop: &Stop) -> u64
+        ensures below { (s : Stop) → IsInside self.now s → result ≤ distance s stop.now }
+        ensures bound { result ≤ 2 ^ 33 }
+    {
+        distances_are_nearest_roots();
+        let dx = gap(self.west, self.east, stop.x);
+        let dy = gap(self.south, self.north, stop.y);
+        least_way(dx, dy)
+    }
+}
+
+/// The longer of the ways between the depot and the stops.
+fn tips(places: &[Place]) -> i64
+    requires places { All IsSmallPlace places.now }
+    requires count { 2 ≤ length places.now }
+    ensures first { (d : Place) → edge_of (slice_index_or places.now 0 d)
+        (slice_index_or places.now 1 d) ≤ℤ result }
+    ensures last { (d : Place) → edge_of (slice_index_or places.now (length places.now - 2) d)
+        (slice_index_or places.now (length places.now - 1) d) ≤ℤ result }
+    ensures small { unsigned_abs result ≤ 2 ^ 52 }
+{
+    let depot = small_place(places, 0);
+    let first = small_place(places, 1);
+    let last = small_place(places, places.len() - 2);
+    let end = small_place(places, places.len() - 1);
+    edge(depot, first).max(edge(last, end))
+}
+
+/// The way from one place to the next.
+fn edge(before: &Place, here: &Place) -> i64
+    requires before { IsSmallPlace before.now }
+    requires here { IsSmallPlace here.now }
+    ensures value { result ≡ edge_of before.now here.now }
+    ensures small { unsigned_abs result ≤ 2 ^ 51 }
+{
+    difference(here.at.distance, before.at.distance)
+}
+
+/// The way between two stops is no shorter.
+fn least_between(a: &Stop, b: &Stop) -> u64
+    ensures below { result ≤ distance a.now b.now }
+    ensures bound { result ≤ 2 ^ 33 }
+{
+    distances_are_nearest_roots();
+    least_way(u64::from(a.x.abs_diff(b.x)), u64::from(a.y.abs_diff(b.y)))
+}
+
+/// How far a coordinate is at least from those between two others.
+fn gap(low: i32, high: i32, x: i32) -> u64
+    ensures below { (z : ℤ) → low ≤ℤ z → z ≤ℤ high → result ≤ unsigned_abs (z -ℤ x) }
+    ensures bound { result < 2 ^ 32 }
+{
+    if x < low {
+        return u64::from(low.abs_diff(x));
+    }
+    if high < x {
+        return u64::from(x.abs_diff(high));
+    }
+    0
+}
+
+/// No way with these differences of coordinates is shorter. This takes no root: the length is at
+/// least its part along any direction, and one of these five is near that of the way.
+fn least_way(dx: u64, dy: u64) -> u64
+    requires dx { dx < 2 ^ 32 }
+    requires dy { dy < 2 ^ 32 }
+    ensures below { (e : ℕ) → dx * dx + dy * dy ≤ e * (e + 1) → result ≤ e }
+    ensures bound { result ≤ 2 ^ 33 }
+{
+    let flat = (dx * 236 + dy * 98) / 256;
+    let steep = (dx * 98 + dy * 236) / 256;
+    let even = (dx * 181 + dy * 181) / 256;
+    dx.max(dy).max(flat.max(steep)).max(even)
+}
