@@ -4,20 +4,27 @@
 
 mod examples;
 mod images;
+mod memory;
 mod stops;
 
 use crate::examples::{five_commands, load_one, load_pairs, load_three, states_of};
 use crate::images::{print_headers, print_snapshots};
+use crate::memory::{Refused, run_once};
 use crate::stops::{Ended, Tally, choices_of, fresh, open, place_of, stopped};
 use command_core::Command;
 use recover::Session;
 use sector_disk::Sectors;
 use state_codec::encode_state;
 use std::alloc::Global;
-use std::io;
+use std::{env, io};
 
 fn main(rt: HostRuntime) -> io::Result<()> {
     let alloc = rt.alloc();
+    for word in env::args(&rt)?.skip(1) {
+        if word.as_str() == "memory" {
+            return with_refused_memory(&rt, alloc);
+        }
+    }
     every_stop(&rt, alloc)?;
     every_failed_call(&rt, alloc)?;
     wide_snapshot(&rt, alloc)?;
@@ -26,6 +33,17 @@ fn main(rt: HostRuntime) -> io::Result<()> {
     full_journal(&rt, alloc)?;
     print_snapshots(&rt, alloc)?;
     print_headers(&rt, alloc)
+}
+
+/// The five commands once, for a run in which some allocation is refused: the same line is printed wherever that is, and the status is 0
+/// but where this program's own memory was refused.
+fn with_refused_memory<R: Print>(rt: &R, alloc: Global) -> io::Result<()> {
+    match run_once(alloc)? {
+        Refused::Nowhere | Refused::Before | Refused::Command | Refused::Device => {
+            println!(rt; "as promised")
+        }
+        Refused::Otherwise => println!(rt; "not as promised"),
+    }
 }
 
 /// The sectors that the five commands write: both headers, three records, and the first sector of each half.

@@ -9,7 +9,7 @@ use std::alloc::Global;
 use std::io;
 
 /// The sectors of a store.
-const SECTORS: u64 = 8450;
+pub(crate) const SECTORS: u64 = 8450;
 
 /// A device with a new store.
 pub(crate) fn fresh(alloc: Global) -> io::Result<MemDevice> {
