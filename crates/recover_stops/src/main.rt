@@ -9,7 +9,7 @@ mod stops;
 
 use crate::examples::{five_commands, load_one, load_pairs, load_three, states_of};
 use crate::images::{print_headers, print_snapshots};
-use crate::memory::{Refused, run_once};
+use crate::memory::run_once;
 use crate::stops::{Ended, Tally, choices_of, fresh, open, place_of, stopped};
 use command_core::Command;
 use recover::Session;
@@ -35,15 +35,9 @@ fn main(rt: HostRuntime) -> io::Result<()> {
     print_headers(&rt, alloc)
 }
 
-/// The five commands once, for a run in which some allocation is refused: the same line is printed wherever that is, and the status is 0
-/// but where this program's own memory was refused.
+/// The five commands once, for a run in which some allocation is refused: what answered that.
 fn with_refused_memory<R: Print>(rt: &R, alloc: Global) -> io::Result<()> {
-    match run_once(alloc)? {
-        Refused::Nowhere | Refused::Before | Refused::Command | Refused::Device => {
-            println!(rt; "as promised")
-        }
-        Refused::Otherwise => println!(rt; "not as promised"),
-    }
+    println!(rt; "{}", run_once(alloc)?.as_str())
 }
 
 /// The sectors that the five commands write: both headers, three records, and the first sector of each half.

@@ -10,6 +10,7 @@ use std::alloc::Global;
 use std::io;
 
 /// What the first call answered that was refused memory.
+#[derive(Clone, Copy)]
 pub(crate) enum Refused {
     /// Nothing was refused, and the state is the one after all commands.
     Nowhere,
@@ -21,6 +22,18 @@ pub(crate) enum Refused {
     Device,
     /// None of these.
     Otherwise,
+}
+
+impl Refused {
+    pub(crate) fn as_str(self) -> &'static str {
+        match self {
+            Refused::Nowhere => "nothing was refused",
+            Refused::Before => "refused before the first command",
+            Refused::Command => "OutOfMemory",
+            Refused::Device => "DeviceFault",
+            Refused::Otherwise => "not as promised",
+        }
+    }
 }
 
 /// A session over a new store; none where it was refused memory and can be had once more.
