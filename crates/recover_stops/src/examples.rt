@@ -48,7 +48,7 @@ pub(crate) fn five_commands(alloc: Global) -> io::Result<Vec<Command>> {
 pub(crate) fn load_pairs(alloc: Global) -> io::Result<Command> {
     let stop = |number: u32, demand: i32| Stop {
         number,
-        x: number as i32,
+        x: i32::try_from(number).unwrap_or(0),
         y: 0,
         demand,
         earliest: 0,

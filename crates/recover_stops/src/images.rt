@@ -29,7 +29,7 @@ impl<'a> Image<'a> {
             sector: 0,
             version: 2,
             sequence: 2,
-            length: snapshot.len() as u32,
+            length: u32::try_from(snapshot.len()).unwrap_or(u32::MAX),
             snapshot,
             stray: 0,
         }
@@ -114,7 +114,7 @@ pub(crate) fn print_snapshots<R: Print>(rt: &R, alloc: Global) -> io::Result<()>
     for length in 1..95 {
         let image = Image::of(&LOADED[..length]);
         if image.is_refused_as(alloc, "Codec(Truncated)")? {
-            truncated += 1;
+            truncated = truncated.saturating_add(1);
         }
     }
     println!(rt; "cut to 1 to 94 bytes: {truncated} are Codec(Truncated)")?;

@@ -1,6 +1,6 @@
 // The five commands where memory is refused once, somewhere.
 use crate::examples::{five_commands, states_of};
-use crate::stops::{SECTORS, open};
+use crate::stops::{SECTORS, is_state, open};
 use checkpoint::{FormatFault, StoreFault, format};
 use command_core::Command;
 use recover::{Denial, Session};
@@ -75,7 +75,7 @@ pub(crate) fn run_once(alloc: Global) -> io::Result<Refused> {
         }
     }
     let states = states_of(alloc, &five_commands(alloc)?)?;
-    Ok(if is_state(alloc, &session, &states, done)? && done == 5 {
+    Ok(if is_after(alloc, &session, &states, done)? && done == 5 {
         Refused::Nowhere
     } else {
         Refused::Otherwise
@@ -90,7 +90,7 @@ fn after(
     done: usize,
 ) -> io::Result<Refused> {
     let states = states_of(alloc, &five_commands(alloc)?)?;
-    if !is_state(alloc, &session, &states, done)? {
+    if !is_after(alloc, &session, &states, done)? {
         return Ok(Refused::Otherwise);
     }
     match denial {
@@ -100,7 +100,7 @@ fn after(
                     return Ok(Refused::Otherwise);
                 }
             }
-            Ok(if is_state(alloc, &session, &states, 5)? {
+            Ok(if is_after(alloc, &session, &states, 5)? {
                 Refused::Command
             } else {
                 Refused::Otherwise
@@ -111,8 +111,8 @@ fn after(
                 return Ok(Refused::Otherwise);
             }
             let session = open(alloc, session.close())?.session;
-            let is_known = is_state(alloc, &session, &states, done)?
-                || is_state(alloc, &session, &states, done.saturating_add(1))?;
+            let is_known = is_after(alloc, &session, &states, done)?
+                || is_after(alloc, &session, &states, done.saturating_add(1))?;
             Ok(if is_known {
                 Refused::Device
             } else {
@@ -124,15 +124,12 @@ fn after(
 }
 
 /// Whether the session's state is the one after so many of the commands.
-fn is_state(
+fn is_after(
     alloc: Global,
     session: &Session<MemDevice>,
     states: &[Vec<u8>],
     done: usize,
 ) -> io::Result<bool> {
     let bytes = encode_state(alloc, session.state())?;
-    Ok(match states.get(done) {
-        Some(state) => state.as_slice() == bytes.as_slice(),
-        None => false,
-    })
+    Ok(is_state(states, done, &bytes))
 }

@@ -2,7 +2,7 @@
 use crate::examples::failed;
 use checkpoint::format;
 use command_core::Command;
-use recover::{Denial, Opened, Session};
+use recover::{Denial, Opened, Reply, Session};
 use sector_disk::MemDevice;
 use state_codec::encode_state;
 use std::alloc::Global;
@@ -63,21 +63,25 @@ impl Ended {
         choices: &[u32],
     ) -> io::Result<Ended> {
         let replies = session.run(alloc, commands)?.replies;
-        let count = |answer| replies
-            .iter()
-            .filter(|reply| reply.answer == answer)
-            .count();
         let mut device = session.close();
         device.crash(choices);
         let opened = open(alloc, device)?;
         Ok(Ended {
-            acknowledged: count(Ok(())),
-            faults: count(Err(Denial::DeviceFault)),
-            refused: count(Err(Denial::Broken)),
+            acknowledged: count_of(&replies, Ok(())),
+            faults: count_of(&replies, Err(Denial::DeviceFault)),
+            refused: count_of(&replies, Err(Denial::Broken)),
             bytes: encode_state(alloc, opened.session.state())?,
             replayed: opened.replayed,
         })
     }
+}
+
+/// How many commands were answered so.
+fn count_of(replies: &[Reply], answer: Result<(), Denial>) -> usize {
+    replies
+        .iter()
+        .filter(|reply| reply.answer == answer)
+        .count()
 }
 
 /// Which of these states has these bytes, the first one; their number, where none has.
@@ -86,6 +90,14 @@ pub(crate) fn place_of(states: &[Vec<u8>], bytes: &[u8]) -> usize {
         .iter()
         .position(|state| state.as_slice() == bytes)
         .unwrap_or(states.len())
+}
+
+/// Whether the state of this number has these bytes.
+pub(crate) fn is_state(states: &[Vec<u8>], number: usize, bytes: &[u8]) -> bool {
+    match states.get(number) {
+        Some(state) => state.as_slice() == bytes,
+        None => false,
+    }
 }
 
 /// Runs commands over a new store whose device fails once so many calls have finished behind its opening, and stops it then.
@@ -119,14 +131,10 @@ pub(crate) struct Tally {
 
 impl Tally {
     pub(crate) fn add(&mut self, ended: &Ended, states: &[Vec<u8>]) {
-        let is_state = |count: usize| match states.get(count) {
-            Some(state) => state.as_slice() == ended.bytes.as_slice(),
-            None => false,
-        };
         self.acknowledged = ended.acknowledged;
-        if is_state(ended.acknowledged) {
+        if is_state(states, ended.acknowledged, &ended.bytes) {
             self.same = self.same.saturating_add(1);
-        } else if is_state(ended.acknowledged.saturating_add(1)) {
+        } else if is_state(states, ended.acknowledged.saturating_add(1), &ended.bytes) {
             self.one_more = self.one_more.saturating_add(1);
         } else {
             self.other = self.other.saturating_add(1);
