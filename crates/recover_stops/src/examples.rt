@@ -1,6 +1,6 @@
 // Commands that are run, and the states that they lead to.
 use command_core::{Command, Spot, State, apply};
-use plan_types::{Kind, Problem, Request, Stop};
+use instance_read::{read_lilim, read_vrp};
 use state_codec::{decode_state, encode_state};
 use std::alloc::Global;
 use std::io;
@@ -13,6 +13,27 @@ pub(crate) const LOADED: [u8; 95] = [
     0, 0, 0, 0,
 ];
 
+const THREE: &[u8] = b"NAME : t3
+TYPE : CVRP
+DIMENSION : 4
+EDGE_WEIGHT_TYPE : EUC_2D
+CAPACITY : 10
+NODE_COORD_SECTION
+1 0 0
+2 3 4
+3 6 8
+4 0 5
+DEMAND_SECTION
+1 0
+2 6
+3 4
+4 5
+DEPOT_SECTION
+1
+-1
+EOF
+";
+
 /// What is answered for what can't be: a state that is refused, a store that can't be made or opened.
 pub(crate) fn failed() -> io::Error {
     io::ErrorKind::InvalidData.into()
@@ -20,7 +41,12 @@ pub(crate) fn failed() -> io::Error {
 
 /// The command that loads that customer.
 pub(crate) fn load_one(alloc: Global) -> io::Result<Command> {
-    match decode_state(alloc, &LOADED) {
+    load_of_state(alloc, &LOADED)
+}
+
+/// The command that leads to this state.
+fn load_of_state(alloc: Global, bytes: &[u8]) -> io::Result<Command> {
+    match decode_state(alloc, bytes) {
         Ok(State::Loaded(job)) => Ok(Command::Load(job.problem.copy()?, 0)),
         _ => Err(failed()),
     }
@@ -46,47 +72,34 @@ pub(crate) fn five_commands(alloc: Global) -> io::Result<Vec<Command>> {
 
 /// The command that loads 20 pairs for two vehicles: a state of 54 + 20 * 57 + 2 * 8 + 2 * 4 = 1,218 bytes, so three sectors.
 pub(crate) fn load_pairs(alloc: Global) -> io::Result<Command> {
-    let stop = |number: u32, demand: i32| Stop {
-        number,
-        x: i32::try_from(number).unwrap_or(0),
-        y: 0,
-        demand,
-        earliest: 0,
-        latest: 1000,
-        service: 0,
-    };
-    let Ok(mut problem) = Problem::new(alloc, Kind::LiLim, stop(0, 0), 10, 2) else {
-        return Err(failed());
-    };
-    for name in 1..=20 {
-        let pair = Request::Pair(stop(2 * name - 1, 1), stop(2 * name, -1));
-        if problem.put(pair).is_err() {
-            return Err(failed());
-        }
+    let mut text = b"2 10 1\n0 0 0 0 0 1000 0 0 0\n".to_vec(alloc)?;
+    for name in 0..20u32 {
+        let (pickup, delivery) = (2 * name + 1, 2 * name + 2);
+        let tasks = format!(in alloc;
+            "{pickup} {pickup} 0 1 0 1000 0 0 {delivery}\n{delivery} {delivery} 0 -1 0 1000 0 {pickup} 0\n"
+        )?;
+        text.extend_from_slice(tasks.as_bytes())?;
     }
-    Ok(Command::Load(problem, 0))
+    load_lilim(alloc, &text)
+}
+
+fn load_lilim(alloc: Global, text: &[u8]) -> io::Result<Command> {
+    match read_lilim(alloc, text) {
+        Ok(problem) => Ok(Command::Load(problem, 0)),
+        Err(_) => Err(failed()),
+    }
 }
 
 /// The command that loads three customers, whose least distance is 30.
 pub(crate) fn load_three(alloc: Global) -> io::Result<Command> {
-    let stop = |number: u32, x: i32, y: i32, demand: i32| Stop {
-        number,
-        x,
-        y,
-        demand,
-        earliest: 0,
-        latest: 100_000_000,
-        service: 0,
-    };
-    let Ok(mut problem) = Problem::new(alloc, Kind::Vrp, stop(0, 0, 0, 0), 10, 3) else {
-        return Err(failed());
-    };
-    for customer in [stop(1, 3, 4, 6), stop(2, 6, 8, 4), stop(3, 0, 5, 5)] {
-        if problem.put(Request::Single(customer)).is_err() {
-            return Err(failed());
-        }
+    load_vrp(alloc, THREE)
+}
+
+fn load_vrp(alloc: Global, text: &[u8]) -> io::Result<Command> {
+    match read_vrp(alloc, text) {
+        Ok(problem) => Ok(Command::Load(problem, 0)),
+        Err(_) => Err(failed()),
     }
-    Ok(Command::Load(problem, 0))
 }
 
 /// The states before these commands and after each, as bytes.

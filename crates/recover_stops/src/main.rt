@@ -10,7 +10,7 @@ mod stops;
 use crate::examples::{five_commands, load_one, load_pairs, load_three, states_of};
 use crate::images::{print_headers, print_snapshots};
 use crate::memory::run_once;
-use crate::stops::{Ended, Tally, choices_of, fresh, open, place_of, stopped};
+use crate::stops::{Ended, Tally, answer, choices_of, fresh, open, place_of, stopped};
 use command_core::Command;
 use recover::Session;
 use sector_disk::Sectors;
@@ -143,8 +143,8 @@ fn opening_settles<R: Print>(rt: &R, alloc: Global) -> io::Result<()> {
     // Three calls of opening, four of the load, and the write of the record.
     device.fail_once(8);
     let mut session = open(alloc, device)?.session;
-    session.apply(alloc, load_one(alloc)?);
-    session.apply(alloc, Command::Build);
+    let _ = answer(alloc, &mut session, load_one(alloc)?);
+    let _ = answer(alloc, &mut session, Command::Build);
     let session = open(alloc, session.close())?.session;
     let first = encode_state(alloc, session.state())?;
     let mut device = session.close();
@@ -162,18 +162,19 @@ fn opening_settles<R: Print>(rt: &R, alloc: Global) -> io::Result<()> {
 fn full_journal<R: Print>(rt: &R, alloc: Global) -> io::Result<()> {
     println!(rt; "a full journal")?;
     let mut session = open(alloc, fresh(alloc)?)?.session;
-    session.apply(alloc, load_three(alloc)?);
-    session.apply(alloc, Command::Build);
-    session.apply(alloc, Command::Checkpoint);
+    let _ = answer(alloc, &mut session, load_three(alloc)?);
+    let _ = answer(alloc, &mut session, Command::Build);
+    let _ = answer(alloc, &mut session, Command::Checkpoint);
     for _ in 0..256 {
-        session.apply(alloc, Command::Search(256));
+        let _ = answer(alloc, &mut session, Command::Search(256));
     }
     let device = session.close();
     println!(rt; "{} calls", device.calls())?;
     let opened = open(alloc, device)?;
     println!(rt; "{} steps repeated", opened.replayed)?;
     let mut session = opened.session;
-    let reply = session.apply(alloc, Command::Search(1));
-    println!(rt; "{} calls", reply.calls)?;
-    println!(rt; "{} steps repeated", open(alloc, session.close())?.replayed)
+    let _ = answer(alloc, &mut session, Command::Search(1));
+    let device = session.close();
+    println!(rt; "{} calls", device.calls())?;
+    println!(rt; "{} steps repeated", open(alloc, device)?.replayed)
 }

@@ -1,6 +1,6 @@
 // The five commands where memory is refused once, somewhere.
 use crate::examples::{five_commands, states_of};
-use crate::stops::{SECTORS, is_state, open};
+use crate::stops::{SECTORS, answer, is_state, open};
 use checkpoint::{FormatFault, StoreFault, format};
 use command_core::Command;
 use recover::{Denial, Session};
@@ -69,7 +69,7 @@ pub(crate) fn run_once(alloc: Global) -> io::Result<Refused> {
     };
     let mut done: usize = 0;
     for command in five_commands(alloc)? {
-        match session.apply(alloc, command).answer {
+        match answer(alloc, &mut session, command) {
             Ok(()) => done = done.saturating_add(1),
             Err(denial) => return after(alloc, session, denial, done),
         }
@@ -96,7 +96,7 @@ fn after(
     match denial {
         Denial::OutOfMemory => {
             for command in five_commands(alloc)?.into_iter().skip(done) {
-                if session.apply(alloc, command).answer.is_err() {
+                if answer(alloc, &mut session, command).is_err() {
                     return Ok(Refused::Otherwise);
                 }
             }
@@ -107,7 +107,7 @@ fn after(
             })
         }
         Denial::DeviceFault => {
-            if session.apply(alloc, Command::Build).answer != Err(Denial::Broken) {
+            if answer(alloc, &mut session, Command::Build) != Err(Denial::Broken) {
                 return Ok(Refused::Otherwise);
             }
             let session = open(alloc, session.close())?.session;

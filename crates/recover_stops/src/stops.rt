@@ -27,6 +27,15 @@ pub(crate) fn open(alloc: Global, device: MemDevice) -> io::Result<Opened<MemDev
     }
 }
 
+/// What the session answers to a command.
+pub(crate) fn answer(
+    alloc: Global,
+    session: &mut Session<MemDevice>,
+    command: Command,
+) -> Result<(), Denial> {
+    session.apply(alloc, command).answer
+}
+
 /// Which contents a stop leaves: of each of these sectors the first or the second, as the digits of `choice` have it, and of all others
 /// the first.
 pub(crate) fn choices_of(alloc: Global, sectors: &[usize], choice: u32) -> io::Result<Vec<u32>> {
