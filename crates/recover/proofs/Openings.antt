@@ -43,8 +43,8 @@ module _ (image : List ℕ) (state : State) (place : Place) (replayed : ℕ) (fo
   pub stands : StandsFor image state
   stands = record { snapshot = found.snapshot; commands = found.commands; place = place; holds = found.holds; accepted = found.accepted; leads = found.leads }
 
-  pub is_replayed : IsReplayed image state replayed
-  is_replayed = record { snapshot = found.snapshot; commands = found.commands; place = place; holds = found.holds; steps = found.steps; most = found.most }
+  pub is_replayed : IsReplayed image state place replayed
+  is_replayed = record { snapshot = found.snapshot; commands = found.commands; holds = found.holds; steps = found.steps; most = found.most }
 
 module _ (one : HoldAtMostOne) (never : NeverBoth) (image : List ℕ) where
   -- an image stands for one state

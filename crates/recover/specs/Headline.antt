@@ -53,10 +53,11 @@ Reopens {D} honest seen possible = (device : D) (state : State) (outcome : Resul
     → Opens (seen device) outcome
     → GivesUnlessFailed (λ given. given ≡ state) outcome
 
--- Let each image that a stop may leave of a device hold this state and no command, as `format` promises of the empty one. Opening it gives it.
+-- Let each image that a stop may leave of a device hold this state and no command, as `format` promises of the empty one. Each stands for
+-- it, and opening the device gives it.
 abbrev pub OpensNew : {D : Type 0} → (D → Type 0) → (D → List ℕ) → (D → List ℕ → Type 0) → Type 0
 OpensNew {D} honest seen possible = (device : D) (state : State) (place : Place) (outcome : Result State StoreFault)
     → honest device
     → ((image : List ℕ) → possible device image → Holds Two image state [] place)
-    → Opens (seen device) outcome
-    → GivesUnlessFailed (λ given. given ≡ state) outcome
+    → ((image : List ℕ) → possible device image → StandsFor image state)
+    × (Opens (seen device) outcome → GivesUnlessFailed (λ given. given ≡ state) outcome)

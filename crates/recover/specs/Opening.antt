@@ -44,11 +44,11 @@ abbrev pub steps_in : State → ℕ
 steps_in Empty = 0
 steps_in (Loaded job) = job.steps
 
--- So many search steps are repeated: those of the state less those of the snapshot that the image holds.
-pub record IsReplayed (image : List ℕ) (state : State) (replayed : ℕ) : Type 0 where
+-- The journal that the image holds goes on at this place, and so many search steps are repeated: those of the state less those of the
+-- snapshot.
+pub record IsReplayed (image : List ℕ) (state : State) (place : Place) (replayed : ℕ) : Type 0 where
   pub snapshot : State
   pub commands : List Command
-  pub place : Place
   pub holds : Holds Two image snapshot commands place
   pub steps : steps_in state ≡ steps_in snapshot + replayed
   pub most : replayed ≤ 65536

@@ -19,7 +19,8 @@ pub fn a_closed_session_opens_the_same<D: Sectors>()
     ensures { Reopens D.honest D.seen D.possible }
 {}
 
-/// A store that was just made opens with the state that it was made of: the empty one after `format`.
+/// A store that was just made stands for the state that it was made of, whatever a stop leaves, and opens with it: the empty one after
+/// `format`.
 pub fn a_new_store_opens_with_its_state<D: Sectors>()
     ensures { OpensNew D.honest D.seen D.possible }
 {}

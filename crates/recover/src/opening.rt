@@ -129,7 +129,7 @@ impl<D: Sectors> Session<D> {
         ensures whole { IfOk result (λ o. o.session.is_broken ≡ false) }
         ensures facts { IfOk result (λ o. IsState o.session.state) }
         ensures replayed { IfOk result (λ o. D.honest o.session.device
-            → IsReplayed (D.seen device) o.session.state o.replayed) }
+            → IsReplayed (D.seen device) o.session.state o.session.place o.replayed) }
         ensures same_len { D.len (device_after (λ o. o.session.device) result) ≡ D.len device }
         ensures honest { D.honest (device_after (λ o. o.session.device) result) → D.honest device }
     {
