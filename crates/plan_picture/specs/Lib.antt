@@ -1,0 +1,8 @@
+-- what public contracts say
+pub mod Days
+pub mod Frame
+pub mod Known
+pub mod Map
+pub mod Picture
+pub mod Svg
+pub mod Table

@@ -1,0 +1,12 @@
+//! A plan as a picture: the depot, the stops, each route with its figures, and the day of each vehicle, as SVG.
+#![tactic(auto)]
+
+mod days;
+mod drawing;
+mod frame;
+mod known;
+mod map;
+mod svg;
+mod table;
+
+pub use drawing::draw;
