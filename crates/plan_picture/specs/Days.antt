@@ -6,7 +6,7 @@ use Rattle.plan_types.specs.declared.requests.Kind.TheVariants.{LiLim, Vrp}
 use Rattle.plan_types.specs.declared.requests.Stop.{Stop}
 use Rattle.route_sched.specs.declared.visits.Visit.{Visit}
 use Rattle.plan_picture.specs.Known.{visits_of}
-use Rattle.plan_picture.specs.Svg.{attribute, bar, each, named}
+use Rattle.plan_picture.specs.Svg.{attribute, bar, each, named, tag}
 
 -- the window of a stop; the depot's is the chart's whole width
 unfoldable pub window_text : Stop → List ℕ
@@ -33,7 +33,7 @@ visits_text start service (v ∷ visits) = visit_text (start + service) v ++ vis
 -- the day of the vehicle whose row is at this index
 unfoldable pub day_text : Instance → ℕ → List ℕ → List ℕ
 day_text p index route =
-    named (codes "<g transform='translate(0 ") (20 * index) ++ codes ")'>\n" ++ visits_text p.depot.earliest 0 (visits_of p route) ++ codes "</g>\n"
+    named (codes "<g transform='translate(0 ") (20 * index) ++ tag (codes ")'>\n") ++ visits_text p.depot.earliest 0 (visits_of p route) ++ tag (codes "</g>\n")
 
 -- the latest of a time and these starts of service
 abbrev pub last_start : ℕ → List Visit → ℕ
@@ -47,7 +47,7 @@ horizon p last (route ∷ routes) = horizon p (last_start last (visits_of p rout
 -- the times at the ends of the chart, and what its colours mean
 unfoldable pub axis_text : ℕ → ℕ → List ℕ
 axis_text first last =
-    named (codes "<text x='420' y='1090'>") first ++ named (codes "</text><text x='1180' y='1090' text-anchor='end'>") last ++ codes "</text><text x='660' y='1090'><tspan class='drive'>driving</tspan> <tspan class='wait'>waiting</tspan> <tspan class='serve'>service</tspan> <tspan class='window'>window</tspan> <tspan class='late'>late</tspan></text>\n"
+    named (codes "<text x='420' y='1090'>") first ++ named (codes "</text><text x='1180' y='1090' text-anchor='end'>") last ++ tag (codes "</text><text x='660' y='1090'><tspan class='drive'>driving</tspan> <tspan class='wait'>waiting</tspan> <tspan class='serve'>service</tspan> <tspan class='window'>window</tspan> <tspan class='late'>late</tspan></text>\n")
 
 unfoldable pub chart_head : ℕ → ℕ → ℕ → List ℕ
 chart_head first last height =
@@ -55,9 +55,9 @@ chart_head first last height =
 
 unfoldable pub chart_text : Instance → ℕ → List (List ℕ) → List ℕ
 chart_text p last routes =
-    axis_text p.depot.earliest last ++ chart_head p.depot.earliest last (20 * length routes) ++ codes ">\n" ++ each (day_text p) 0 routes
+    axis_text p.depot.earliest last ++ chart_head p.depot.earliest last (20 * length routes) ++ tag (codes ">\n") ++ each (day_text p) 0 routes
 
 -- a chart only where windows count
 abbrev pub days_text : Kind → Instance → List (List ℕ) → List ℕ
-days_text LiLim p routes = chart_text p (horizon p p.depot.latest routes) routes ++ codes "</svg>\n"
+days_text LiLim p routes = chart_text p (horizon p p.depot.latest routes) routes ++ tag (codes "</svg>\n")
 days_text Vrp p routes = []

@@ -1,19 +1,22 @@
 -- Where the stops stand in the picture: x grows to the right, y upward, and both are multiplied by one whole number.
-use Rattle.std.specs.Prelude.{ℕ, ◌+◌, ◌*◌, ◌/◌, max, ℤ, ◌-ℤ◌, unsigned_abs, List, map, fold}
+use Rattle.std.specs.Prelude.{ℕ, ◌+◌, ◌*◌, ◌/◌, max, ℤ, ◌-ℤ◌, unsigned_abs, List, fold}
 use Rattle.std.specs.Int.{div_ceil, int_max, int_min}
 use Rattle.plan_types.specs.declared.requests.Stop.{Stop}
 use Rattle.plan_picture.specs.declared.frame.Bounds.{Bounds}
 use Rattle.plan_picture.specs.declared.frame.Frame.{Frame}
 use Rattle.plan_picture.specs.declared.frame.Point.{Point}
 
+-- the bounds of one stop
+abbrev pub bounds_at : Stop → Bounds
+bounds_at s = record { left = s.x; right = s.x; bottom = s.y; top = s.y }
+
+-- the bounds with one more stop within
+abbrev pub widened : Bounds → Stop → Bounds
+widened b s = record { left = int_min b.left s.x; right = int_max b.right s.x; bottom = int_min b.bottom s.y; top = int_max b.top s.y }
+
 -- the least and the greatest coordinates of the depot and the stops
 unfoldable pub bounds_of : Stop → List Stop → Bounds
-bounds_of depot stops = record {
-  left = fold int_min depot.x (map (λ s. s.x) stops);
-  right = fold int_max depot.x (map (λ s. s.x) stops);
-  bottom = fold int_min depot.y (map (λ s. s.y) stops);
-  top = fold int_max depot.y (map (λ s. s.y) stops);
-}
+bounds_of depot stops = fold widened (bounds_at depot) stops
 
 -- how far two coordinates are apart
 abbrev pub gap : ℤ → ℤ → ℕ

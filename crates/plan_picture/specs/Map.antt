@@ -5,7 +5,7 @@ use Rattle.std.specs.Option.{option_and_then, option_map_or}
 use Rattle.plan_types.specs.Instance.{Instance, partner_at, pickup_at, stop_at}
 use Rattle.plan_types.specs.declared.requests.Stop.{Stop}
 use Rattle.plan_picture.specs.Frame.{bounds_of, framed, point_of}
-use Rattle.plan_picture.specs.Svg.{attribute, broken_class, colour, each, named, placed}
+use Rattle.plan_picture.specs.Svg.{attribute, broken_class, colour, each, named, placed, tag}
 use Rattle.plan_picture.specs.declared.frame.Frame.{Frame}
 
 -- a place of a line, as ` X,Y`
@@ -19,15 +19,15 @@ points_text p f route =
 
 -- the beginning of a route's line: whether it is the broken one, and its colour
 unfoldable pub line_head : ℕ → ℕ → List ℕ
-line_head broken number = codes "<polyline" ++ broken_class broken number ++ colour (codes " stroke='hsl(") number
+line_head broken number = tag (codes "<polyline") ++ broken_class broken number ++ colour (codes " stroke='hsl(") number
 
 -- the line of a route
 unfoldable pub line_text : Instance → Frame → ℕ → ℕ → List ℕ → List ℕ
-line_text p f broken number route = line_head broken number ++ codes " points='" ++ points_text p f route ++ codes "'/>\n"
+line_text p f broken number route = line_head broken number ++ tag (codes " points='") ++ points_text p f route ++ tag (codes "'/>\n")
 
 -- a shape where the stop stands, with the stop's number as its title
 unfoldable pub mark_text : List ℕ → Frame → Stop → List ℕ
-mark_text tag f s = placed tag (point_of f s) ++ named (codes "><title>") s.number ++ codes "</title></use>\n"
+mark_text shape f s = placed shape (point_of f s) ++ named (codes "><title>") s.number ++ tag (codes "</title></use>\n")
 
 -- pickups, deliveries and single stops are told apart
 abbrev pub shape_of : Instance → ℕ → List ℕ
@@ -45,7 +45,7 @@ ring_text p f n = option_map_or (mark_text (codes "<use href='#broken'") f) (sto
 -- the number of a route at the stop in its middle
 unfoldable pub label_at : Frame → ℕ → Stop → List ℕ
 label_at f number s =
-    placed (codes "<text dy='-4em'") (point_of f s) ++ colour (codes " fill='hsl(") number ++ named (codes "><tspan font-size='8em'>") number ++ codes "</tspan></text>\n"
+    placed (codes "<text dy='-4em'") (point_of f s) ++ colour (codes " fill='hsl(") number ++ named (codes "><tspan font-size='8em'>") number ++ tag (codes "</tspan></text>\n")
 
 abbrev pub label_text : Instance → Frame → ℕ → List ℕ → List ℕ
 label_text p f number route = option_map_or (label_at f number) (option_and_then (stop_at p) (slice_get route (length route / 2))) []
@@ -53,18 +53,18 @@ label_text p f number route = option_map_or (label_at f number) (option_and_then
 -- the frame's size, and the unit as the size of letters
 unfoldable pub opening_text : Frame → List ℕ
 opening_text f =
-    named (codes "<svg x='20' y='50' width='1160' height='1000' viewBox='0 0 ") f.width ++ named (codes " ") f.height ++ attribute (codes "' font-size='") f.unit ++ codes ">\n"
+    named (codes "<svg x='20' y='50' width='1160' height='1000' viewBox='0 0 ") f.width ++ named (codes " ") f.height ++ attribute (codes "' font-size='") f.unit ++ tag (codes ">\n")
 
 unfoldable pub lines_text : Instance → Frame → ℕ → List (List ℕ) → List ℕ
 lines_text p f broken routes =
-    codes "<g fill='none' stroke-width='1em' stroke-linejoin='round'>\n" ++ each (line_text p f broken) 1 routes ++ codes "</g>\n"
+    tag (codes "<g fill='none' stroke-width='1em' stroke-linejoin='round'>\n") ++ each (line_text p f broken) 1 routes ++ tag (codes "</g>\n")
 
 unfoldable pub marks_text : Instance → Frame → ℕ → List Stop → List ℕ
 marks_text p f broken stops = mark_text (codes "<use href='#depot'") f p.depot ++ flat_map (stop_mark p f) stops ++ ring_text p f broken
 
 unfoldable pub labels_text : Instance → Frame → List (List ℕ) → List ℕ
 labels_text p f routes =
-    attribute (codes "<g text-anchor='middle' font-weight='bold' stroke='white' paint-order='stroke' stroke-width='") (3 * f.unit) ++ codes ">\n" ++ each (label_text p f) 1 routes ++ codes "</g>\n</svg>\n"
+    attribute (codes "<g text-anchor='middle' font-weight='bold' stroke='white' paint-order='stroke' stroke-width='") (3 * f.unit) ++ tag (codes ">\n") ++ each (label_text p f) 1 routes ++ tag (codes "</g>\n</svg>\n")
 
 -- the map in this frame, with the number of the broken route and that of the broken stop
 unfoldable pub map_in : Frame → Instance → List Stop → List (List ℕ) → ℕ → ℕ → List ℕ

@@ -7,7 +7,7 @@ use Rattle.plan_audit.specs.declared.rules.Verdict.TheVariants.{Broken, Pass}
 use Rattle.plan_picture.specs.Days.{days_text}
 use Rattle.plan_picture.specs.Known.{kept_of, known_stops}
 use Rattle.plan_picture.specs.Map.{map_text}
-use Rattle.plan_picture.specs.Svg.{attribute, named}
+use Rattle.plan_picture.specs.Svg.{attribute, named, tag}
 use Rattle.plan_picture.specs.Table.{rows_text}
 
 -- the number of the broken route, 0 where there is none
@@ -36,12 +36,12 @@ verdict_text (Broken rule route place stop) = broken_text rule route place stop
 -- the shapes, the colours, and a key to the shapes
 unfoldable pub style : List ℕ
 style =
-    codes ">\n<style>.drive{fill:#69c}.wait{fill:#ec6}.serve{fill:#063}.window{fill:#aaa}.late{fill:#e00}text.broken{fill:#e00}polyline.broken{stroke-dasharray:6em 3em}</style>\n<defs>\n<rect id='depot' x='-4em' y='-4em' width='8em' height='8em' transform='rotate(45)'/>\n<circle id='stop' r='2em'/>\n<circle id='pickup' r='2em' fill='white' stroke='black' stroke-width='1em'/>\n<rect id='delivery' x='-2em' y='-2em' width='4em' height='4em'/>\n<circle id='broken' r='6em' fill='none' stroke='#e00' stroke-width='2em'/>\n</defs>\n<rect width='100%' height='100%' fill='white'/>\n<g font-size='3'><use href='#depot' x='860' y='24'/><use href='#stop' x='940' y='24'/><use href='#pickup' x='1010' y='24'/><use href='#delivery' x='1090' y='24'/></g>\n<text x='880' y='29'>depot</text><text x='955' y='29'>stop</text><text x='1025' y='29'>pickup</text><text x='1105' y='29'>delivery</text>\n"
+    tag (codes ">\n<style>.drive{fill:#69c}.wait{fill:#ec6}.serve{fill:#063}.window{fill:#aaa}.late{fill:#e00}text.broken{fill:#e00}polyline.broken{stroke-dasharray:6em 3em}</style>\n<defs>\n<rect id='depot' x='-4em' y='-4em' width='8em' height='8em' transform='rotate(45)'/>\n<circle id='stop' r='2em'/>\n<circle id='pickup' r='2em' fill='white' stroke='black' stroke-width='1em'/>\n<rect id='delivery' x='-2em' y='-2em' width='4em' height='4em'/>\n<circle id='broken' r='6em' fill='none' stroke='#e00' stroke-width='2em'/>\n</defs>\n<rect width='100%' height='100%' fill='white'/>\n<g font-size='3'><use href='#depot' x='860' y='24'/><use href='#stop' x='940' y='24'/><use href='#pickup' x='1010' y='24'/><use href='#delivery' x='1090' y='24'/></g>\n<text x='880' y='29'>depot</text><text x='955' y='29'>stop</text><text x='1025' y='29'>pickup</text><text x='1105' y='29'>delivery</text>\n")
 
 -- the size of the picture, its shapes, and the verdict
 unfoldable pub head_text : ℕ → Verdict → List ℕ
 head_text rows verdict =
-    attribute (codes "<svg xmlns='http://www.w3.org/2000/svg' font-family='sans-serif' font-size='14' viewBox='0 0 1200 ") (1120 + 20 * rows) ++ style ++ verdict_text verdict ++ codes "</text>\n"
+    attribute (codes "<svg xmlns='http://www.w3.org/2000/svg' font-family='sans-serif' font-size='14' viewBox='0 0 1200 ") (1120 + 20 * rows) ++ style ++ verdict_text verdict ++ tag (codes "</text>\n")
 
 -- the picture of routes of live stops, each once
 unfoldable pub drawing : Instance → List (List ℕ) → Verdict → List ℕ
@@ -50,4 +50,4 @@ drawing p routes verdict =
 
 -- the picture of any routes
 abbrev pub picture : Instance → List (List ℕ) → Verdict → List ℕ
-picture p routes verdict = drawing p (map (kept_of p) routes) verdict ++ codes "</svg>\n"
+picture p routes verdict = drawing p (map (kept_of p) routes) verdict ++ tag (codes "</svg>\n")

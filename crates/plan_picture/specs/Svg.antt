@@ -2,6 +2,10 @@
 use Rattle.std.specs.Prelude.{ℕ, ◌+◌, ◌*◌, ◌%◌, ◌==◌, if◌then◌else◌, List, [], ◌∷◌, ◌++◌, codes, decimal}
 use Rattle.plan_picture.specs.declared.frame.Point.{Point}
 
+-- a fixed text
+unfoldable pub tag : List ℕ → List ℕ
+tag text = text
+
 -- a text and the number behind it
 unfoldable pub named : List ℕ → ℕ → List ℕ
 named text n = text ++ decimal n
@@ -12,7 +16,7 @@ attribute text n = text ++ decimal n ++ codes "'"
 
 -- a tag with the place where it stands, not closed yet
 unfoldable pub placed : List ℕ → Point → List ℕ
-placed tag point = tag ++ attribute (codes " x='") point.x ++ attribute (codes " y='") point.y
+placed text point = text ++ attribute (codes " x='") point.x ++ attribute (codes " y='") point.y
 
 -- an attribute with the colour of the route with this number: neighbors are 137 degrees apart on the wheel of 360
 unfoldable pub colour : List ℕ → ℕ → List ℕ
@@ -20,8 +24,8 @@ colour text number = named text (137 * number % 360) ++ named (codes ",75%,") (3
 
 -- a bar of a tag from a time on, where it is not empty
 unfoldable pub bar : List ℕ → ℕ → ℕ → List ℕ
-bar tag first width =
-    if width == 0 then [] else tag ++ attribute (codes " x='") first ++ attribute (codes " width='") width ++ codes "/>\n"
+bar text first width =
+    if width == 0 then [] else text ++ attribute (codes " x='") first ++ attribute (codes " width='") width ++ codes "/>\n"
 
 -- where a route is the broken one
 unfoldable pub broken_class : ℕ → ℕ → List ℕ

@@ -6,7 +6,7 @@ use Rattle.plan_types.specs.Instance.{Instance}
 use Rattle.route_sched.specs.Schedule.{route_length}
 use Rattle.route_sched.specs.declared.visits.Visit.{Visit}
 use Rattle.plan_picture.specs.Known.{visits_of}
-use Rattle.plan_picture.specs.Svg.{broken_class, colour, each, named}
+use Rattle.plan_picture.specs.Svg.{broken_class, colour, each, named, tag}
 
 -- the greatest load, at least 0
 abbrev pub top_load : List Visit → ℤ
@@ -14,17 +14,17 @@ top_load visits = fold int_max (pos 0) (map (λ v. v.load) visits)
 
 unfoldable pub row_head : ℕ → ℕ → List ℕ
 row_head broken number =
-    named (codes "<g transform='translate(20 ") (1080 + 20 * number) ++ colour (codes ")'><rect width='14' height='14' fill='hsl(") number ++ codes "/><text x='24' y='12'" ++ broken_class broken number
+    named (codes "<g transform='translate(20 ") (1080 + 20 * number) ++ colour (codes ")'><rect width='14' height='14' fill='hsl(") number ++ tag (codes "/><text x='24' y='12'") ++ broken_class broken number
 
 unfoldable pub load_text : ℤ → List ℕ
-load_text load = codes ", load " ++ signed_decimal load
+load_text load = tag (codes ", load ") ++ signed_decimal load
 
 unfoldable pub figures_text : Instance → ℕ → List ℕ → List ℕ
 figures_text p number route =
     named (codes ">route ") number ++ named (codes ": stops ") (length route) ++ load_text (top_load (visits_of p route)) ++ named (codes ", distance ") (route_length p route)
 
 unfoldable pub row_text : Instance → ℕ → ℕ → List ℕ → List ℕ
-row_text p broken number route = row_head broken number ++ figures_text p number route ++ codes "</text></g>\n"
+row_text p broken number route = row_head broken number ++ figures_text p number route ++ tag (codes "</text></g>\n")
 
 abbrev pub rows_text : Instance → ℕ → List (List ℕ) → List ℕ
 rows_text p broken routes = each (row_text p broken) 1 routes

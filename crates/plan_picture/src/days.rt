@@ -26,7 +26,7 @@ impl Svg {
             Kind::LiLim => {
                 let last = horizon(alloc, problem, routes)?;
                 self.put_chart(alloc, problem, last, routes)?;
-                self.put("</svg>\n")
+                self.put_tag("</svg>\n")
             }
             Kind::Vrp => Ok(()),
         }
@@ -46,7 +46,7 @@ impl Svg {
         let first = problem.depot.earliest;
         self.put_axis(first, last)?;
         self.put_chart_head(first, last, 20 * routes.len() as u128)?;
-        self.put(">\n")?;
+        self.put_tag(">\n")?;
         self.put_each_day(alloc, problem, routes)
     }
 
@@ -55,12 +55,12 @@ impl Svg {
     fn put_axis(&mut self, first: u32, last: u64) -> Result<(), OutOfMemory>
         ensures { OnOk result (self.new ≡ self.old ++ axis_text first last) }
     {
-        self.put_named("<text x='420' y='1090'>", u128::from(first))?;
+        self.put_named("<text x='420' y='1090'>", first as u128)?;
         self.put_named(
             "</text><text x='1180' y='1090' text-anchor='end'>",
-            u128::from(last),
+            last as u128,
         )?;
-        self.put("</text><text x='660' y='1090'><tspan class='drive'>driving</tspan> <tspan class='wait'>waiting</tspan> <tspan class='serve'>service</tspan> <tspan class='window'>window</tspan> <tspan class='late'>late</tspan></text>\n")
+        self.put_tag("</text><text x='660' y='1090'><tspan class='drive'>driving</tspan> <tspan class='wait'>waiting</tspan> <tspan class='serve'>service</tspan> <tspan class='window'>window</tspan> <tspan class='late'>late</tspan></text>\n")
     }
 
     #[tactic(auto, unfolding(crate::specs::Days::chart_head))]
@@ -68,10 +68,10 @@ impl Svg {
         ensures { OnOk result (self.new ≡ self.old ++ chart_head first last height) }
     {
         self.put_attribute("<svg x='420' y='1100' width='760' height='", height)?;
-        self.put_named(" preserveAspectRatio='none' viewBox='", u128::from(first))?;
+        self.put_named(" preserveAspectRatio='none' viewBox='", first as u128)?;
         self.put_named(
             " 0 ",
-            u128::from(last.saturating_sub(u64::from(first))),
+            last.saturating_sub(u64::from(first)) as u128,
         )?;
         self.put_attribute(" ", height)
     }
@@ -105,9 +105,9 @@ impl Svg {
     {
         let visits = visits(alloc, problem, route)?;
         self.put_named("<g transform='translate(0 ", 20 * index as u128)?;
-        self.put(")'>\n")?;
+        self.put_tag(")'>\n")?;
         self.put_visits(problem.depot.earliest, &visits)?;
-        self.put("</g>\n")
+        self.put_tag("</g>\n")
     }
 
     fn put_visits(&mut self, first: u32, visits: &[Visit]) -> Result<(), OutOfMemory>
@@ -116,7 +116,7 @@ impl Svg {
         let mut start = u64::from(first);
         let mut service = 0;
         for visit in visits {
-            self.put_visit(u128::from(start) + u128::from(service), visit)?;
+            self.put_visit(start, service, visit)?;
             start = visit.start;
             service = visit.stop.service;
         }
@@ -124,11 +124,11 @@ impl Svg {
     }
 
     #[tactic(auto, unfolding(crate::specs::Days::visit_text))]
-    fn put_visit(&mut self, leave: u128, visit: &Visit) -> Result<(), OutOfMemory>
-        requires { leave ≤ 2 ^ 65 }
-        ensures { OnOk result (self.new ≡ self.old ++ visit_text leave visit.now) }
+    fn put_visit(&mut self, start: u64, service: u32, visit: &Visit) -> Result<(), OutOfMemory>
+        ensures { OnOk result (self.new ≡ self.old
+            ++ visit_text (start + service) visit.now) }
     {
-        self.put_work(leave, visit)?;
+        self.put_work(start as u128 + service as u128, visit)?;
         self.put_window(&visit.stop)?;
         self.put_late(visit)
     }
@@ -139,11 +139,11 @@ impl Svg {
         requires { leave ≤ 2 ^ 65 }
         ensures { OnOk result (self.new ≡ self.old ++ work_text leave visit.now) }
     {
-        let leg = u128::from(visit.leg);
-        let start = u128::from(visit.start);
+        let leg = visit.leg as u128;
+        let start = visit.start as u128;
         let arrival = leave + leg;
         let wait = start.saturating_sub(arrival);
-        let service = u128::from(visit.stop.service);
+        let service = visit.stop.service as u128;
         self.put_bar("<rect class='drive' y='3' height='8'", leave, leg)?;
         self.put_bar("<rect class='wait' y='3' height='8'", arrival, wait)?;
         self.put_bar("<rect class='serve' y='3' height='8'", start, service)
@@ -160,8 +160,8 @@ impl Svg {
         let width = stop.latest.saturating_sub(stop.earliest);
         self.put_bar(
             "<rect class='window' y='13' height='3'",
-            u128::from(stop.earliest),
-            u128::from(width),
+            stop.earliest as u128,
+            width as u128,
         )
     }
 
@@ -173,8 +173,8 @@ impl Svg {
         let latest = u64::from(visit.stop.latest);
         self.put_bar(
             "<rect class='late' y='13' height='3'",
-            u128::from(latest),
-            u128::from(visit.start.saturating_sub(latest)),
+            latest as u128,
+            visit.start.saturating_sub(latest) as u128,
         )
     }
 }
@@ -194,10 +194,10 @@ fn horizon(alloc: Global, problem: &Problem, routes: &[Route]) -> Result<u64, Ou
 }
 
 // The latest of a time and these starts of service.
-fn last_start(last: u64, visits: &[Visit]) -> u64
-    ensures { result ≡ last_start last visits.now }
+fn last_start(first: u64, visits: &[Visit]) -> u64
+    ensures { result ≡ last_start first visits.now }
 {
-    let mut last = last;
+    let mut last = first;
     for visit in visits {
         last = last.max(visit.start);
     }

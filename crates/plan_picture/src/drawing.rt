@@ -26,7 +26,7 @@ pub fn draw(
     let kept = kept_routes(alloc, problem, routes)?;
     let mut svg = Svg::new(alloc);
     svg.put_drawing(alloc, problem, &kept, verdict)?;
-    svg.put("</svg>\n")?;
+    svg.put_tag("</svg>\n")?;
     Ok(svg.into_vec())
 }
 
@@ -71,7 +71,7 @@ impl Svg {
         )?;
         self.put_style()?;
         self.put_verdict(verdict)?;
-        self.put("</text>\n")
+        self.put_tag("</text>\n")
     }
 
     // The shapes, the colours, and a key to the shapes.
@@ -79,7 +79,7 @@ impl Svg {
     fn put_style(&mut self) -> Result<(), OutOfMemory>
         ensures { OnOk result (self.new ≡ self.old ++ style) }
     {
-        self.put(">\n<style>.drive{fill:#69c}.wait{fill:#ec6}.serve{fill:#063}.window{fill:#aaa}.late{fill:#e00}text.broken{fill:#e00}polyline.broken{stroke-dasharray:6em 3em}</style>\n<defs>\n<rect id='depot' x='-4em' y='-4em' width='8em' height='8em' transform='rotate(45)'/>\n<circle id='stop' r='2em'/>\n<circle id='pickup' r='2em' fill='white' stroke='black' stroke-width='1em'/>\n<rect id='delivery' x='-2em' y='-2em' width='4em' height='4em'/>\n<circle id='broken' r='6em' fill='none' stroke='#e00' stroke-width='2em'/>\n</defs>\n<rect width='100%' height='100%' fill='white'/>\n<g font-size='3'><use href='#depot' x='860' y='24'/><use href='#stop' x='940' y='24'/><use href='#pickup' x='1010' y='24'/><use href='#delivery' x='1090' y='24'/></g>\n<text x='880' y='29'>depot</text><text x='955' y='29'>stop</text><text x='1025' y='29'>pickup</text><text x='1105' y='29'>delivery</text>\n")
+        self.put_tag(">\n<style>.drive{fill:#69c}.wait{fill:#ec6}.serve{fill:#063}.window{fill:#aaa}.late{fill:#e00}text.broken{fill:#e00}polyline.broken{stroke-dasharray:6em 3em}</style>\n<defs>\n<rect id='depot' x='-4em' y='-4em' width='8em' height='8em' transform='rotate(45)'/>\n<circle id='stop' r='2em'/>\n<circle id='pickup' r='2em' fill='white' stroke='black' stroke-width='1em'/>\n<rect id='delivery' x='-2em' y='-2em' width='4em' height='4em'/>\n<circle id='broken' r='6em' fill='none' stroke='#e00' stroke-width='2em'/>\n</defs>\n<rect width='100%' height='100%' fill='white'/>\n<g font-size='3'><use href='#depot' x='860' y='24'/><use href='#stop' x='940' y='24'/><use href='#pickup' x='1010' y='24'/><use href='#delivery' x='1090' y='24'/></g>\n<text x='880' y='29'>depot</text><text x='955' y='29'>stop</text><text x='1025' y='29'>pickup</text><text x='1105' y='29'>delivery</text>\n")
     }
 
     fn put_verdict(&mut self, verdict: Verdict) -> Result<(), OutOfMemory>
@@ -102,10 +102,10 @@ impl Svg {
     {
         self.put_named(
             "<text x='20' y='30' font-size='20'>unplanned ",
-            u128::from(cost.unplanned),
+            cost.unplanned as u128,
         )?;
-        self.put_named(", vehicles ", u128::from(cost.vehicles))?;
-        self.put_named(", distance ", u128::from(cost.distance))
+        self.put_named(", vehicles ", cost.vehicles as u128)?;
+        self.put_named(", distance ", cost.distance as u128)
     }
 
     #[tactic(auto, unfolding(crate::specs::Picture::broken_text))]
@@ -120,10 +120,10 @@ impl Svg {
     {
         self.put_named(
             "<text class='broken' x='20' y='30' font-size='20'>broken: rule ",
-            u128::from(rule),
+            rule as u128,
         )?;
-        self.put_named(", route ", u128::from(route))?;
-        self.put_named(", place ", u128::from(place))?;
-        self.put_named(", stop ", u128::from(stop))
+        self.put_named(", route ", route as u128)?;
+        self.put_named(", place ", place as u128)?;
+        self.put_named(", stop ", stop as u128)
     }
 }

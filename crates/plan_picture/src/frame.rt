@@ -1,6 +1,7 @@
 //! Where the stops stand in the picture.
 ghost use Rattle.std.specs.Prelude.{◌≡◌, ◌≤◌};
-ghost use Rattle.plan_picture.specs.Frame.{bounds_of, framed, gap, point_of, scale_of, size_of, unit_of};
+ghost use Rattle.std.specs.Int.{int_max, int_min};
+ghost use Rattle.plan_picture.specs.Frame.{bounds_at, bounds_of, framed, gap, point_of, scale_of, size_of, unit_of, widened};
 
 use plan_types::Stop;
 
@@ -37,20 +38,35 @@ pub(crate) struct Frame {
 pub(crate) fn stop_bounds(depot: &Stop, stops: &[Stop]) -> Bounds
     ensures { result ≡ bounds_of depot.now stops.now }
 {
-    let (mut left, mut right) = (depot.x, depot.x);
-    let (mut bottom, mut top) = (depot.y, depot.y);
+    let mut bounds = bounds_at(depot);
     for stop in stops {
-        left = left.min(stop.x);
-        right = right.max(stop.x);
-        bottom = bottom.min(stop.y);
-        top = top.max(stop.y);
+        bounds = bounds.widened(stop);
     }
+    bounds
+}
+
+// The bounds of one stop.
+fn bounds_at(stop: &Stop) -> Bounds
+    ensures { result ≡ bounds_at stop.now }
+{
     Bounds {
-        left,
-        right,
-        bottom,
-        top,
+        left: stop.x,
+        right: stop.x,
+        bottom: stop.y,
+        top: stop.y,
     }
+}
+
+fn lesser(x: i32, y: i32) -> i32
+    ensures { result ≡ int_min x y }
+{
+    x.min(y)
+}
+
+fn greater(x: i32, y: i32) -> i32
+    ensures { result ≡ int_max x y }
+{
+    x.max(y)
 }
 
 // How far two coordinates are apart.
@@ -61,6 +77,18 @@ fn gap(x: i32, y: i32) -> u32
 }
 
 impl Bounds {
+    // The bounds with one more stop within.
+    fn widened(&self, stop: &Stop) -> Bounds
+        ensures { result ≡ widened self.now stop.now }
+    {
+        Bounds {
+            left: lesser(self.left, stop.x),
+            right: greater(self.right, stop.x),
+            bottom: lesser(self.bottom, stop.y),
+            top: greater(self.top, stop.y),
+        }
+    }
+
     #[tactic(auto, unfolding(crate::specs::Frame::size_of))]
     fn size(&self) -> u32
         ensures value { result ≡ size_of self.now }

@@ -60,8 +60,8 @@ impl Svg {
             frame.width,
         )?;
         self.put_named(" ", frame.height)?;
-        self.put_attribute("' font-size='", u128::from(frame.unit))?;
-        self.put(">\n")
+        self.put_attribute("' font-size='", frame.unit as u128)?;
+        self.put_tag(">\n")
     }
 
     #[tactic(auto, unfolding(crate::specs::Map::lines_text))]
@@ -75,9 +75,9 @@ impl Svg {
         ensures { OnOk result (self.new ≡ self.old
             ++ lines_text problem.now frame.now broken routes.now) }
     {
-        self.put("<g fill='none' stroke-width='1em' stroke-linejoin='round'>\n")?;
+        self.put_tag("<g fill='none' stroke-width='1em' stroke-linejoin='round'>\n")?;
         self.put_each_line(problem, frame, broken, routes)?;
-        self.put("</g>\n")
+        self.put_tag("</g>\n")
     }
 
     fn put_each_line(
@@ -110,16 +110,16 @@ impl Svg {
             ++ line_text problem.now frame.now broken number route.now) }
     {
         self.put_line_head(broken, number)?;
-        self.put(" points='")?;
+        self.put_tag(" points='")?;
         self.put_points(problem, frame, route)?;
-        self.put("'/>\n")
+        self.put_tag("'/>\n")
     }
 
     #[tactic(auto, unfolding(crate::specs::Map::line_head))]
     fn put_line_head(&mut self, broken: u64, number: u64) -> Result<(), OutOfMemory>
         ensures { OnOk result (self.new ≡ self.old ++ line_head broken number) }
     {
-        self.put("<polyline")?;
+        self.put_tag("<polyline")?;
         self.put_broken(broken, number)?;
         self.put_colour(" stroke='hsl(", number)
     }
@@ -203,8 +203,8 @@ impl Svg {
         ensures { OnOk result (self.new ≡ self.old ++ mark_text tag.now frame.now stop.now) }
     {
         self.put_placed(tag, frame.point(stop))?;
-        self.put_named("><title>", u128::from(stop.number))?;
-        self.put("</title></use>\n")
+        self.put_named("><title>", stop.number as u128)?;
+        self.put_tag("</title></use>\n")
     }
 
     fn put_ring(&mut self, problem: &Problem, frame: &Frame, stop: u32) -> Result<(), OutOfMemory>
@@ -226,13 +226,14 @@ impl Svg {
         ensures { OnOk result (self.new ≡ self.old
             ++ labels_text problem.now frame.now routes.now) }
     {
+        let unit = frame.unit;
         self.put_attribute(
             "<g text-anchor='middle' font-weight='bold' stroke='white' paint-order='stroke' stroke-width='",
-            3 * u128::from(frame.unit),
+            3 * unit as u128,
         )?;
-        self.put(">\n")?;
+        self.put_tag(">\n")?;
         self.put_each_label(problem, frame, routes)?;
-        self.put("</g>\n</svg>\n")
+        self.put_tag("</g>\n</svg>\n")
     }
 
     fn put_each_label(
@@ -277,8 +278,8 @@ impl Svg {
     {
         self.put_placed("<text dy='-4em'", frame.point(stop))?;
         self.put_colour(" fill='hsl(", number)?;
-        self.put_named("><tspan font-size='8em'>", u128::from(number))?;
-        self.put("</tspan></text>\n")
+        self.put_named("><tspan font-size='8em'>", number as u128)?;
+        self.put_tag("</tspan></text>\n")
     }
 }
 

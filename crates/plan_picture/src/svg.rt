@@ -1,7 +1,7 @@
 //! The text of a picture, piece by piece.
 ghost use Rattle.std.specs.Prelude.{◌≡◌, ◌++◌, [], OnOk, decimal};
 ghost use Rattle.std.specs.Fmt.{signed_decimal};
-ghost use Rattle.plan_picture.specs.Svg.{attribute, bar, broken_class, colour, named, placed};
+ghost use Rattle.plan_picture.specs.Svg.{attribute, bar, broken_class, colour, named, placed, tag};
 
 use crate::frame::Point;
 use itoa::Buffer;
@@ -39,7 +39,7 @@ impl Svg {
         bytes
     }
 
-    pub(crate) fn put(&mut self, text: &str) -> Result<(), OutOfMemory>
+    fn put(&mut self, text: &str) -> Result<(), OutOfMemory>
         ensures { OnOk result (self.new ≡ self.old ++ text.now) }
     {
         self.bytes.extend_from_slice(text.as_bytes())
@@ -57,6 +57,14 @@ impl Svg {
     {
         let mut buffer = Buffer::new();
         self.put(buffer.format(n))
+    }
+
+    // A fixed text.
+    #[tactic(auto, unfolding(crate::specs::Svg::tag))]
+    pub(crate) fn put_tag(&mut self, text: &str) -> Result<(), OutOfMemory>
+        ensures { OnOk result (self.new ≡ self.old ++ tag text.now) }
+    {
+        self.put(text)
     }
 
     // A text and the number behind it.
@@ -80,10 +88,10 @@ impl Svg {
 
     // A tag with the place where it stands, not closed yet.
     #[tactic(auto, unfolding(crate::specs::Svg::placed))]
-    pub(crate) fn put_placed(&mut self, tag: &str, point: Point) -> Result<(), OutOfMemory>
-        ensures { OnOk result (self.new ≡ self.old ++ placed tag.now point) }
+    pub(crate) fn put_placed(&mut self, text: &str, point: Point) -> Result<(), OutOfMemory>
+        ensures { OnOk result (self.new ≡ self.old ++ placed text.now point) }
     {
-        self.put(tag)?;
+        self.put(text)?;
         self.put_attribute(" x='", point.x)?;
         self.put_attribute(" y='", point.y)
     }
@@ -93,10 +101,10 @@ impl Svg {
     pub(crate) fn put_colour(&mut self, name: &str, number: u64) -> Result<(), OutOfMemory>
         ensures { OnOk result (self.new ≡ self.old ++ colour name.now number) }
     {
-        let hue = 137 * u128::from(number) % 360;
+        let hue = 137 * number as u128 % 360;
         let light = 30 + number % 4 * 7;
         self.put_named(name, hue)?;
-        self.put_named(",75%,", u128::from(light))?;
+        self.put_named(",75%,", light as u128)?;
         self.put("%)'")
     }
 
@@ -114,13 +122,13 @@ impl Svg {
 
     // A bar of a tag from a time on, where it is not empty.
     #[tactic(auto, unfolding(crate::specs::Svg::bar))]
-    pub(crate) fn put_bar(&mut self, tag: &str, first: u128, width: u128) -> Result<(), OutOfMemory>
-        ensures { OnOk result (self.new ≡ self.old ++ bar tag.now first width) }
+    pub(crate) fn put_bar(&mut self, text: &str, first: u128, width: u128) -> Result<(), OutOfMemory>
+        ensures { OnOk result (self.new ≡ self.old ++ bar text.now first width) }
     {
         if width == 0 {
             return Ok(());
         }
-        self.put(tag)?;
+        self.put(text)?;
         self.put_attribute(" x='", first)?;
         self.put_attribute(" width='", width)?;
         self.put("/>\n")

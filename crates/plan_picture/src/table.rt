@@ -42,7 +42,7 @@ impl Svg {
     {
         self.put_row_head(broken, number)?;
         self.put_figures(alloc, problem, number, route)?;
-        self.put("</text></g>\n")
+        self.put_tag("</text></g>\n")
     }
 
     #[tactic(auto, unfolding(crate::specs::Table::row_head))]
@@ -51,10 +51,10 @@ impl Svg {
     {
         self.put_named(
             "<g transform='translate(20 ",
-            1080 + 20 * u128::from(number),
+            1080 + 20 * number as u128,
         )?;
         self.put_colour(")'><rect width='14' height='14' fill='hsl(", number)?;
-        self.put("/><text x='24' y='12'")?;
+        self.put_tag("/><text x='24' y='12'")?;
         self.put_broken(broken, number)
     }
 
@@ -71,12 +71,12 @@ impl Svg {
             ++ figures_text problem.now number route.now) }
     {
         let visits = visits(alloc, problem, route)?;
-        self.put_named(">route ", u128::from(number))?;
+        self.put_named(">route ", number as u128)?;
         self.put_named(": stops ", route.len() as u128)?;
         self.put_load(top_load(&visits))?;
         self.put_named(
             ", distance ",
-            u128::from(route_distance(problem, route)),
+            route_distance(problem, route) as u128,
         )
     }
 
@@ -84,7 +84,7 @@ impl Svg {
     fn put_load(&mut self, load: i64) -> Result<(), OutOfMemory>
         ensures { OnOk result (self.new ≡ self.old ++ load_text load) }
     {
-        self.put(", load ")?;
+        self.put_tag(", load ")?;
         self.put_signed(load)
     }
 }
