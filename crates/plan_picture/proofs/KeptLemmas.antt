@@ -1,12 +1,12 @@
 -- What is kept of a route are live stops, each once.
-use Rattle.std.proofs.Common.{◌≡◌, ℕ, Bool, true, false, not, ◌||◌, List, [], ◌∷◌, ◌++◌, refl}
+use Rattle.std.proofs.Common.{◌≡◌, ℕ, Bool, true, false, not, ◌||◌, List, [], ◌∷◌, ◌++◌, cond, ap, refl}
 use Rattle.std.specs.Prelude.{nat_eq, ◌==◌, is_some, All}
 use Rattle.std.specs.List.{AllByRecursion, IsDistinct, list_any}
 use Rattle.std.proofs.lemmas.Bool.{and_parts, not-true, true≢false}
 use Rattle.std.proofs.lemmas.List.Elements.{All-append, All-cons, All-nil}
 use Rattle.plan_types.specs.Instance.{Instance, stop_at}
 use Rattle.route_sched.specs.Route.{AreLiveOnce, IsLive}
-use Rattle.plan_picture.specs.Known.{is_new}
+use Rattle.plan_picture.specs.Known.{is_new, kept_after}
 
 pub none_once : (p : Instance) → AreLiveOnce p []
 unfolding IsDistinct
@@ -36,3 +36,10 @@ once_more p kept n once new =
       live = All-append (IsLive p) kept (n ∷ []) once.live (All-cons (IsLive p) n [] parts.0 (All-nil (IsLive p)));
       distinct = one_more kept n once.distinct (not-true (list_any (λ m. m == n) kept) parts.1);
     }
+
+-- what is kept, where the next stop is new and where it is not
+pub kept_new : (p : Instance) (kept route : List ℕ) (n : ℕ) → is_new p kept n ≡ true → kept_after p kept (n ∷ route) ≡ kept_after p (kept ++ n ∷ []) route
+kept_new p kept route n new = ap (λ b. kept_after p (cond b (kept ++ n ∷ []) kept) route) new
+
+pub kept_old : (p : Instance) (kept route : List ℕ) (n : ℕ) → is_new p kept n ≡ false → kept_after p kept (n ∷ route) ≡ kept_after p kept route
+kept_old p kept route n old = ap (λ b. kept_after p (cond b (kept ++ n ∷ []) kept) route) old

@@ -1,26 +1,28 @@
 -- The chart beside the table: when each vehicle drives, waits and serves, with the windows of its stops below.
-use Rattle.std.specs.Prelude.{ℕ, ◌+◌, ◌-◌, ◌*◌, ◌==◌, max, List, [], ◌∷◌, ◌++◌, map, fold, length, if◌then◌else◌, codes}
+use Rattle.std.specs.Prelude.{ℕ, ◌+◌, ◌-◌, ◌*◌, ◌==◌, max, List, [], ◌∷◌, ◌++◌, map, fold, length, if◌then◌else◌}
 use Rattle.plan_types.specs.Instance.{Instance}
 use Rattle.plan_types.specs.declared.requests.Kind.{Kind}
 use Rattle.plan_types.specs.declared.requests.Kind.TheVariants.{LiLim, Vrp}
 use Rattle.plan_types.specs.declared.requests.Stop.{Stop}
 use Rattle.route_sched.specs.declared.visits.Visit.{Visit}
 use Rattle.plan_picture.specs.Known.{visits_of}
-use Rattle.plan_picture.specs.Svg.{attribute, bar, each, named, tag}
+use Rattle.plan_picture.specs.Svg.{attribute, bar, each, named}
+use Rattle.plan_picture.specs.Texts.{fixed}
+use Rattle.plan_picture.specs.declared.texts.Text.TheVariants as text
 
 -- the window of a stop; the depot's is the chart's whole width
 unfoldable pub window_text : Stop → List ℕ
 window_text s =
-    if s.number == 0 then [] else bar (codes "<rect class='window' y='13' height='3'") s.earliest (s.latest - s.earliest)
+    if s.number == 0 then [] else bar text.Window s.earliest (s.latest - s.earliest)
 
 -- how much too late the service starts
 unfoldable pub late_text : Visit → List ℕ
-late_text v = bar (codes "<rect class='late' y='13' height='3'") v.stop.latest (v.start - v.stop.latest)
+late_text v = bar text.Late v.stop.latest (v.start - v.stop.latest)
 
 -- driving from when the vehicle leaves the place before, then waiting, then service
 unfoldable pub work_text : ℕ → Visit → List ℕ
 work_text leave v =
-    bar (codes "<rect class='drive' y='3' height='8'") leave v.leg ++ bar (codes "<rect class='wait' y='3' height='8'") (leave + v.leg) (v.start - (leave + v.leg)) ++ bar (codes "<rect class='serve' y='3' height='8'") v.start v.stop.service
+    bar text.Drive leave v.leg ++ bar text.Wait (leave + v.leg) (v.start - (leave + v.leg)) ++ bar text.Serve v.start v.stop.service
 
 unfoldable pub visit_text : ℕ → Visit → List ℕ
 visit_text leave v = work_text leave v ++ window_text v.stop ++ late_text v
@@ -33,7 +35,7 @@ visits_text start service (v ∷ visits) = visit_text (start + service) v ++ vis
 -- the day of the vehicle whose row is at this index
 unfoldable pub day_text : Instance → ℕ → List ℕ → List ℕ
 day_text p index route =
-    named (codes "<g transform='translate(0 ") (20 * index) ++ tag (codes ")'>\n") ++ visits_text p.depot.earliest 0 (visits_of p route) ++ tag (codes "</g>\n")
+    named text.Day (20 * index) ++ fixed text.DayOpen ++ visits_text p.depot.earliest 0 (visits_of p route) ++ fixed text.GroupEnd
 
 -- the latest of a time and these starts of service
 abbrev pub last_start : ℕ → List Visit → ℕ
@@ -47,17 +49,17 @@ horizon p last (route ∷ routes) = horizon p (last_start last (visits_of p rout
 -- the times at the ends of the chart, and what its colours mean
 unfoldable pub axis_text : ℕ → ℕ → List ℕ
 axis_text first last =
-    named (codes "<text x='420' y='1090'>") first ++ named (codes "</text><text x='1180' y='1090' text-anchor='end'>") last ++ tag (codes "</text><text x='660' y='1090'><tspan class='drive'>driving</tspan> <tspan class='wait'>waiting</tspan> <tspan class='serve'>service</tspan> <tspan class='window'>window</tspan> <tspan class='late'>late</tspan></text>\n")
+    named text.First first ++ named text.Last last ++ fixed text.Key
 
 unfoldable pub chart_head : ℕ → ℕ → ℕ → List ℕ
 chart_head first last height =
-    attribute (codes "<svg x='420' y='1100' width='760' height='") height ++ named (codes " preserveAspectRatio='none' viewBox='") first ++ named (codes " 0 ") (last - first) ++ attribute (codes " ") height
+    attribute text.Chart height ++ named text.ChartBox first ++ named text.ChartWidth (last - first) ++ attribute text.Blank height
 
 unfoldable pub chart_text : Instance → ℕ → List (List ℕ) → List ℕ
 chart_text p last routes =
-    axis_text p.depot.earliest last ++ chart_head p.depot.earliest last (20 * length routes) ++ tag (codes ">\n") ++ each (day_text p) 0 routes
+    axis_text p.depot.earliest last ++ chart_head p.depot.earliest last (20 * length routes) ++ fixed text.Open ++ each (day_text p) 0 routes
 
 -- a chart only where windows count
 abbrev pub days_text : Kind → Instance → List (List ℕ) → List ℕ
-days_text LiLim p routes = chart_text p (horizon p p.depot.latest routes) routes ++ tag (codes "</svg>\n")
+days_text LiLim p routes = chart_text p (horizon p p.depot.latest routes) routes ++ fixed text.End
 days_text Vrp p routes = []

@@ -6,3 +6,4 @@ pub mod Map
 pub mod Picture
 pub mod Svg
 pub mod Table
+pub mod Texts

@@ -6,6 +6,7 @@ ghost use Rattle.plan_picture.specs.Svg.{each};
 
 use crate::known::visits;
 use crate::svg::Svg;
+use crate::texts::Text;
 use plan_types::{Kind, OutOfMemory, Problem, Route, Stop};
 use route_sched::Visit;
 use std::alloc::Global;
@@ -26,7 +27,7 @@ impl Svg {
             Kind::LiLim => {
                 let last = horizon(alloc, problem, routes)?;
                 self.put_chart(alloc, problem, last, routes)?;
-                self.put_tag("</svg>\n")
+                self.put(Text::End)
             }
             Kind::Vrp => Ok(()),
         }
@@ -46,7 +47,7 @@ impl Svg {
         let first = problem.depot.earliest;
         self.put_axis(first, last)?;
         self.put_chart_head(first, last, 20 * routes.len() as u128)?;
-        self.put_tag(">\n")?;
+        self.put(Text::Open)?;
         self.put_each_day(alloc, problem, routes)
     }
 
@@ -55,25 +56,22 @@ impl Svg {
     fn put_axis(&mut self, first: u32, last: u64) -> Result<(), OutOfMemory>
         ensures { OnOk result (self.new ≡ self.old ++ axis_text first last) }
     {
-        self.put_named("<text x='420' y='1090'>", first as u128)?;
-        self.put_named(
-            "</text><text x='1180' y='1090' text-anchor='end'>",
-            last as u128,
-        )?;
-        self.put_tag("</text><text x='660' y='1090'><tspan class='drive'>driving</tspan> <tspan class='wait'>waiting</tspan> <tspan class='serve'>service</tspan> <tspan class='window'>window</tspan> <tspan class='late'>late</tspan></text>\n")
+        self.put_named(Text::First, first as u128)?;
+        self.put_named(Text::Last, last as u128)?;
+        self.put(Text::Key)
     }
 
     #[tactic(auto, unfolding(crate::specs::Days::chart_head))]
     fn put_chart_head(&mut self, first: u32, last: u64, height: u128) -> Result<(), OutOfMemory>
         ensures { OnOk result (self.new ≡ self.old ++ chart_head first last height) }
     {
-        self.put_attribute("<svg x='420' y='1100' width='760' height='", height)?;
-        self.put_named(" preserveAspectRatio='none' viewBox='", first as u128)?;
+        self.put_attribute(Text::Chart, height)?;
+        self.put_named(Text::ChartBox, first as u128)?;
         self.put_named(
-            " 0 ",
+            Text::ChartWidth,
             last.saturating_sub(u64::from(first)) as u128,
         )?;
-        self.put_attribute(" ", height)
+        self.put_attribute(Text::Blank, height)
     }
 
     fn put_each_day(
@@ -104,10 +102,10 @@ impl Svg {
         ensures { OnOk result (self.new ≡ self.old ++ day_text problem.now index route.now) }
     {
         let visits = visits(alloc, problem, route)?;
-        self.put_named("<g transform='translate(0 ", 20 * index as u128)?;
-        self.put_tag(")'>\n")?;
+        self.put_named(Text::Day, 20 * index as u128)?;
+        self.put(Text::DayOpen)?;
         self.put_visits(problem.depot.earliest, &visits)?;
-        self.put_tag("</g>\n")
+        self.put(Text::GroupEnd)
     }
 
     fn put_visits(&mut self, first: u32, visits: &[Visit]) -> Result<(), OutOfMemory>
@@ -144,9 +142,9 @@ impl Svg {
         let arrival = leave + leg;
         let wait = start.saturating_sub(arrival);
         let service = visit.stop.service as u128;
-        self.put_bar("<rect class='drive' y='3' height='8'", leave, leg)?;
-        self.put_bar("<rect class='wait' y='3' height='8'", arrival, wait)?;
-        self.put_bar("<rect class='serve' y='3' height='8'", start, service)
+        self.put_bar(Text::Drive, leave, leg)?;
+        self.put_bar(Text::Wait, arrival, wait)?;
+        self.put_bar(Text::Serve, start, service)
     }
 
     // The window of a stop; the depot's is the chart's whole width.
@@ -158,11 +156,7 @@ impl Svg {
             return Ok(());
         }
         let width = stop.latest.saturating_sub(stop.earliest);
-        self.put_bar(
-            "<rect class='window' y='13' height='3'",
-            stop.earliest as u128,
-            width as u128,
-        )
+        self.put_bar(Text::Window, stop.earliest as u128, width as u128)
     }
 
     // How much too late the service starts.
@@ -172,7 +166,7 @@ impl Svg {
     {
         let latest = u64::from(visit.stop.latest);
         self.put_bar(
-            "<rect class='late' y='13' height='3'",
+            Text::Late,
             latest as u128,
             visit.start.saturating_sub(latest) as u128,
         )

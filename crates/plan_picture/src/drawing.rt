@@ -1,11 +1,12 @@
 //! The whole picture.
 ghost use Rattle.std.specs.Prelude.{◌≡◌, ◌++◌, All, IfOk, OnOk};
 ghost use Rattle.route_sched.specs.Route.{AreLiveOnce};
-ghost use Rattle.plan_picture.specs.Picture.{broken_route, broken_stop, broken_text, cost_text, drawing, head_text, picture, style, verdict_text};
+ghost use Rattle.plan_picture.specs.Picture.{broken_route, broken_stop, broken_text, cost_text, drawing, head_text, picture, verdict_text};
 
 use crate::known::{kept_routes, known_stops};
 use crate::map::Broken;
 use crate::svg::Svg;
+use crate::texts::Text;
 use plan_audit::Verdict;
 use plan_types::{Cost, OutOfMemory, Problem, Route};
 use std::alloc::Global;
@@ -26,7 +27,7 @@ pub fn draw(
     let kept = kept_routes(alloc, problem, routes)?;
     let mut svg = Svg::new(alloc);
     svg.put_drawing(alloc, problem, &kept, verdict)?;
-    svg.put_tag("</svg>\n")?;
+    svg.put(Text::End)?;
     Ok(svg.into_vec())
 }
 
@@ -65,21 +66,10 @@ impl Svg {
     fn put_head(&mut self, rows: usize, verdict: Verdict) -> Result<(), OutOfMemory>
         ensures { OnOk result (self.new ≡ self.old ++ head_text rows verdict) }
     {
-        self.put_attribute(
-            "<svg xmlns='http://www.w3.org/2000/svg' font-family='sans-serif' font-size='14' viewBox='0 0 1200 ",
-            1120 + 20 * rows as u128,
-        )?;
-        self.put_style()?;
+        self.put_attribute(Text::Head, 1120 + 20 * rows as u128)?;
+        self.put(Text::Style)?;
         self.put_verdict(verdict)?;
-        self.put_tag("</text>\n")
-    }
-
-    // The shapes, the colours, and a key to the shapes.
-    #[tactic(auto, unfolding(crate::specs::Picture::style))]
-    fn put_style(&mut self) -> Result<(), OutOfMemory>
-        ensures { OnOk result (self.new ≡ self.old ++ style) }
-    {
-        self.put_tag(">\n<style>.drive{fill:#69c}.wait{fill:#ec6}.serve{fill:#063}.window{fill:#aaa}.late{fill:#e00}text.broken{fill:#e00}polyline.broken{stroke-dasharray:6em 3em}</style>\n<defs>\n<rect id='depot' x='-4em' y='-4em' width='8em' height='8em' transform='rotate(45)'/>\n<circle id='stop' r='2em'/>\n<circle id='pickup' r='2em' fill='white' stroke='black' stroke-width='1em'/>\n<rect id='delivery' x='-2em' y='-2em' width='4em' height='4em'/>\n<circle id='broken' r='6em' fill='none' stroke='#e00' stroke-width='2em'/>\n</defs>\n<rect width='100%' height='100%' fill='white'/>\n<g font-size='3'><use href='#depot' x='860' y='24'/><use href='#stop' x='940' y='24'/><use href='#pickup' x='1010' y='24'/><use href='#delivery' x='1090' y='24'/></g>\n<text x='880' y='29'>depot</text><text x='955' y='29'>stop</text><text x='1025' y='29'>pickup</text><text x='1105' y='29'>delivery</text>\n")
+        self.put(Text::TextEnd)
     }
 
     fn put_verdict(&mut self, verdict: Verdict) -> Result<(), OutOfMemory>
@@ -100,12 +90,9 @@ impl Svg {
     fn put_cost(&mut self, cost: Cost) -> Result<(), OutOfMemory>
         ensures { OnOk result (self.new ≡ self.old ++ cost_text cost) }
     {
-        self.put_named(
-            "<text x='20' y='30' font-size='20'>unplanned ",
-            cost.unplanned as u128,
-        )?;
-        self.put_named(", vehicles ", cost.vehicles as u128)?;
-        self.put_named(", distance ", cost.distance as u128)
+        self.put_named(Text::Unplanned, cost.unplanned as u128)?;
+        self.put_named(Text::Vehicles, cost.vehicles as u128)?;
+        self.put_named(Text::Distance, cost.distance as u128)
     }
 
     #[tactic(auto, unfolding(crate::specs::Picture::broken_text))]
@@ -118,12 +105,9 @@ impl Svg {
     ) -> Result<(), OutOfMemory>
         ensures { OnOk result (self.new ≡ self.old ++ broken_text rule route place stop) }
     {
-        self.put_named(
-            "<text class='broken' x='20' y='30' font-size='20'>broken: rule ",
-            rule as u128,
-        )?;
-        self.put_named(", route ", route as u128)?;
-        self.put_named(", place ", place as u128)?;
-        self.put_named(", stop ", stop as u128)
+        self.put_named(Text::BrokenRule, rule as u128)?;
+        self.put_named(Text::BrokenRoute, route as u128)?;
+        self.put_named(Text::BrokenPlace, place as u128)?;
+        self.put_named(Text::BrokenStop, stop as u128)
     }
 }

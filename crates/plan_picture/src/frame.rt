@@ -57,16 +57,16 @@ fn bounds_at(stop: &Stop) -> Bounds
     }
 }
 
-fn lesser(x: i32, y: i32) -> i32
-    ensures { result ≡ int_min x y }
+fn lesser(x: &i32, y: &i32) -> i32
+    ensures { result ≡ int_min x.now y.now }
 {
-    x.min(y)
+    (*x).min(*y)
 }
 
-fn greater(x: i32, y: i32) -> i32
-    ensures { result ≡ int_max x y }
+fn greater(x: &i32, y: &i32) -> i32
+    ensures { result ≡ int_max x.now y.now }
 {
-    x.max(y)
+    (*x).max(*y)
 }
 
 // How far two coordinates are apart.
@@ -82,10 +82,10 @@ impl Bounds {
         ensures { result ≡ widened self.now stop.now }
     {
         Bounds {
-            left: lesser(self.left, stop.x),
-            right: greater(self.right, stop.x),
-            bottom: lesser(self.bottom, stop.y),
-            top: greater(self.top, stop.y),
+            left: lesser(&self.left, &stop.x),
+            right: greater(&self.right, &stop.x),
+            bottom: lesser(&self.bottom, &stop.y),
+            top: greater(&self.top, &stop.y),
         }
     }
 

@@ -8,5 +8,6 @@ mod known;
 mod map;
 mod svg;
 mod table;
+mod texts;
 
 pub use drawing::draw;

@@ -9,6 +9,7 @@ ghost use Rattle.plan_picture.specs.Svg.{each};
 
 use crate::frame::{Frame, stop_bounds};
 use crate::svg::Svg;
+use crate::texts::Text;
 use plan_types::{OutOfMemory, Problem, Route, Stop};
 
 /// What is broken: the number of a route and that of a stop, 0 for none.
@@ -55,13 +56,10 @@ impl Svg {
     fn put_opening(&mut self, frame: &Frame) -> Result<(), OutOfMemory>
         ensures { OnOk result (self.new ≡ self.old ++ opening_text frame.now) }
     {
-        self.put_named(
-            "<svg x='20' y='50' width='1160' height='1000' viewBox='0 0 ",
-            frame.width,
-        )?;
-        self.put_named(" ", frame.height)?;
-        self.put_attribute("' font-size='", frame.unit as u128)?;
-        self.put_tag(">\n")
+        self.put_named(Text::Map, frame.width)?;
+        self.put_named(Text::Blank, frame.height)?;
+        self.put_attribute(Text::Letters, frame.unit as u128)?;
+        self.put(Text::Open)
     }
 
     #[tactic(auto, unfolding(crate::specs::Map::lines_text))]
@@ -75,9 +73,9 @@ impl Svg {
         ensures { OnOk result (self.new ≡ self.old
             ++ lines_text problem.now frame.now broken routes.now) }
     {
-        self.put_tag("<g fill='none' stroke-width='1em' stroke-linejoin='round'>\n")?;
+        self.put(Text::Lines)?;
         self.put_each_line(problem, frame, broken, routes)?;
-        self.put_tag("</g>\n")
+        self.put(Text::GroupEnd)
     }
 
     fn put_each_line(
@@ -110,18 +108,18 @@ impl Svg {
             ++ line_text problem.now frame.now broken number route.now) }
     {
         self.put_line_head(broken, number)?;
-        self.put_tag(" points='")?;
+        self.put(Text::Points)?;
         self.put_points(problem, frame, route)?;
-        self.put_tag("'/>\n")
+        self.put(Text::LineEnd)
     }
 
     #[tactic(auto, unfolding(crate::specs::Map::line_head))]
     fn put_line_head(&mut self, broken: u64, number: u64) -> Result<(), OutOfMemory>
         ensures { OnOk result (self.new ≡ self.old ++ line_head broken number) }
     {
-        self.put_tag("<polyline")?;
+        self.put(Text::Polyline)?;
         self.put_broken(broken, number)?;
-        self.put_colour(" stroke='hsl(", number)
+        self.put_colour(Text::Stroke, number)
     }
 
     // The places of the depot, the route's stops, and the depot.
@@ -162,8 +160,8 @@ impl Svg {
         ensures { OnOk result (self.new ≡ self.old ++ point_text frame.now stop.now) }
     {
         let point = frame.point(stop);
-        self.put_named(" ", point.x)?;
-        self.put_named(",", point.y)
+        self.put_named(Text::Blank, point.x)?;
+        self.put_named(Text::Comma, point.y)
     }
 
     #[tactic(auto, unfolding(crate::specs::Map::marks_text))]
@@ -177,7 +175,7 @@ impl Svg {
         ensures { OnOk result (self.new ≡ self.old
             ++ marks_text problem.now frame.now broken stops.now) }
     {
-        self.put_mark("<use href='#depot'", frame, &problem.depot)?;
+        self.put_mark(Text::DepotMark, frame, &problem.depot)?;
         self.put_each_mark(problem, frame, stops)?;
         self.put_ring(problem, frame, broken)
     }
@@ -199,19 +197,19 @@ impl Svg {
 
     // A shape where the stop stands, with the stop's number as its title.
     #[tactic(auto, unfolding(crate::specs::Map::mark_text))]
-    fn put_mark(&mut self, tag: &str, frame: &Frame, stop: &Stop) -> Result<(), OutOfMemory>
-        ensures { OnOk result (self.new ≡ self.old ++ mark_text tag.now frame.now stop.now) }
+    fn put_mark(&mut self, shape: Text, frame: &Frame, stop: &Stop) -> Result<(), OutOfMemory>
+        ensures { OnOk result (self.new ≡ self.old ++ mark_text shape frame.now stop.now) }
     {
-        self.put_placed(tag, frame.point(stop))?;
-        self.put_named("><title>", stop.number as u128)?;
-        self.put_tag("</title></use>\n")
+        self.put_placed(shape, frame.point(stop))?;
+        self.put_named(Text::Title, stop.number as u128)?;
+        self.put(Text::MarkEnd)
     }
 
     fn put_ring(&mut self, problem: &Problem, frame: &Frame, stop: u32) -> Result<(), OutOfMemory>
         ensures { OnOk result (self.new ≡ self.old ++ ring_text problem.now frame.now stop) }
     {
         match problem.stop(stop) {
-            Some(stop) => self.put_mark("<use href='#broken'", frame, stop),
+            Some(stop) => self.put_mark(Text::BrokenMark, frame, stop),
             None => Ok(()),
         }
     }
@@ -227,13 +225,10 @@ impl Svg {
             ++ labels_text problem.now frame.now routes.now) }
     {
         let unit = frame.unit;
-        self.put_attribute(
-            "<g text-anchor='middle' font-weight='bold' stroke='white' paint-order='stroke' stroke-width='",
-            3 * unit as u128,
-        )?;
-        self.put_tag(">\n")?;
+        self.put_attribute(Text::Labels, 3 * unit as u128)?;
+        self.put(Text::Open)?;
         self.put_each_label(problem, frame, routes)?;
-        self.put_tag("</g>\n</svg>\n")
+        self.put(Text::MapEnd)
     }
 
     fn put_each_label(
@@ -268,18 +263,13 @@ impl Svg {
     }
 
     #[tactic(auto, unfolding(crate::specs::Map::label_at))]
-    fn put_label_at(
-        &mut self,
-        frame: &Frame,
-        number: u64,
-        stop: &Stop,
-    ) -> Result<(), OutOfMemory>
+    fn put_label_at(&mut self, frame: &Frame, number: u64, stop: &Stop) -> Result<(), OutOfMemory>
         ensures { OnOk result (self.new ≡ self.old ++ label_at frame.now number stop.now) }
     {
-        self.put_placed("<text dy='-4em'", frame.point(stop))?;
-        self.put_colour(" fill='hsl(", number)?;
-        self.put_named("><tspan font-size='8em'>", number as u128)?;
-        self.put_tag("</tspan></text>\n")
+        self.put_placed(Text::Label, frame.point(stop))?;
+        self.put_colour(Text::Fill, number)?;
+        self.put_named(Text::LabelNumber, number as u128)?;
+        self.put(Text::LabelEnd)
     }
 }
 
@@ -295,14 +285,14 @@ fn middle<'a>(problem: &'a Problem, route: &[u32]) -> Option<&'a Stop>
 }
 
 // The shape of a stop.
-fn shape(problem: &Problem, number: u32) -> &'static str
-    ensures { result.now ≡ shape_of problem.now number }
+fn shape(problem: &Problem, number: u32) -> Text
+    ensures { result ≡ shape_of problem.now number }
 {
     if problem.pickup_of(number).is_some() {
-        return "<use href='#delivery'";
+        return Text::DeliveryMark;
     }
     if problem.partner_of(number).is_some() {
-        return "<use href='#pickup'";
+        return Text::PickupMark;
     }
-    "<use href='#stop'"
+    Text::StopMark
 }

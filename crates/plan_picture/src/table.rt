@@ -5,6 +5,7 @@ ghost use Rattle.plan_picture.specs.Table.{figures_text, load_text, row_head, ro
 
 use crate::known::visits;
 use crate::svg::Svg;
+use crate::texts::Text;
 use plan_types::{OutOfMemory, Problem, Route};
 use route_sched::{Visit, route_distance};
 use std::alloc::Global;
@@ -42,19 +43,16 @@ impl Svg {
     {
         self.put_row_head(broken, number)?;
         self.put_figures(alloc, problem, number, route)?;
-        self.put_tag("</text></g>\n")
+        self.put(Text::RowEnd)
     }
 
     #[tactic(auto, unfolding(crate::specs::Table::row_head))]
     fn put_row_head(&mut self, broken: u64, number: u64) -> Result<(), OutOfMemory>
         ensures { OnOk result (self.new ≡ self.old ++ row_head broken number) }
     {
-        self.put_named(
-            "<g transform='translate(20 ",
-            1080 + 20 * number as u128,
-        )?;
-        self.put_colour(")'><rect width='14' height='14' fill='hsl(", number)?;
-        self.put_tag("/><text x='24' y='12'")?;
+        self.put_named(Text::Row, 1080 + 20 * number as u128)?;
+        self.put_colour(Text::RowColour, number)?;
+        self.put(Text::RowText)?;
         self.put_broken(broken, number)
     }
 
@@ -71,20 +69,17 @@ impl Svg {
             ++ figures_text problem.now number route.now) }
     {
         let visits = visits(alloc, problem, route)?;
-        self.put_named(">route ", number as u128)?;
-        self.put_named(": stops ", route.len() as u128)?;
+        self.put_named(Text::RouteNumber, number as u128)?;
+        self.put_named(Text::RouteStops, route.len() as u128)?;
         self.put_load(top_load(&visits))?;
-        self.put_named(
-            ", distance ",
-            route_distance(problem, route) as u128,
-        )
+        self.put_named(Text::Distance, route_distance(problem, route) as u128)
     }
 
     #[tactic(auto, unfolding(crate::specs::Table::load_text))]
     fn put_load(&mut self, load: i64) -> Result<(), OutOfMemory>
         ensures { OnOk result (self.new ≡ self.old ++ load_text load) }
     {
-        self.put_tag(", load ")?;
+        self.put(Text::RouteLoad)?;
         self.put_signed(load)
     }
 }
