@@ -2,6 +2,7 @@
 pub mod Days
 pub mod Frame
 pub mod Known
+pub mod Laws
 pub mod Map
 pub mod Picture
 pub mod Svg

@@ -5,9 +5,11 @@ mod days;
 mod drawing;
 mod frame;
 mod known;
+mod laws;
 mod map;
 mod svg;
 mod table;
 mod texts;
 
 pub use drawing::draw;
+pub use laws::{legs_are_drawn, stops_are_marked};
