@@ -41,8 +41,8 @@ module _ (below : StopsAreBelowNext) where
       let all = flat_map (stop_mark p f) (known_stops p) in
       let less = below p n valid (ap is_some at) in
       let marks : IsIn mark (marks_text p f stop (known_stops p)) =
-          in_left mark (mark_text text.DepotMark f p.depot ++ all) (ring_text p f stop)
-          (in_right mark (mark_text text.DepotMark f p.depot) all (stop_in_all (stop_mark p f) p n s p.next_number at less))
+      in_left mark (mark_text text.DepotMark f p.depot ++ all) (ring_text p f stop)
+      (in_right mark (mark_text text.DepotMark f p.depot) all (stop_in_all (stop_mark p f) p n s p.next_number at less))
       in
       in_picture mark p kept verdict
       (in_left mark (opening_text f ++ lines_text p f route kept ++ marks_text p f stop (known_stops p)) (labels_text p f kept)
@@ -61,8 +61,8 @@ routes_are_drawn p routes verdict r route at =
     let all = each (line_text p f broken) 1 kept in
     let marks = marks_text p f stop (known_stops p) in
     let lines : IsIn line (lines_text p f broken kept) =
-        in_left line (fixed text.Lines ++ all) (fixed text.GroupEnd)
-        (in_right line (fixed text.Lines) all (subst (λ j. IsIn (line_text p f broken j (kept_of p route)) all) number (route_in_all (line_text p f broken) 1 kept r (kept_of p route) there)))
+    in_left line (fixed text.Lines ++ all) (fixed text.GroupEnd)
+    (in_right line (fixed text.Lines) all (subst (λ j. IsIn (line_text p f broken j (kept_of p route)) all) number (route_in_all (line_text p f broken) 1 kept r (kept_of p route) there)))
     in
     in_picture line p kept verdict
     (in_left line (opening_text f ++ lines_text p f broken kept ++ marks) (labels_text p f kept)

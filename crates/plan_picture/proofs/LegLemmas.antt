@@ -101,7 +101,7 @@ legs_in p f s (n ∷ route) (suc k) valid live within =
     let behind = legs_in p f (stop_numbered p n) route k valid live.1 fewer in
     let part = leg_text f (stop_numbered p (slice_index (n ∷ route) k)) (stop_numbered p (slice_index route k)) in
     let moved : IsIn part (point_text f (stop_numbered p n) ++ (rest ++ end)) =
-        subst (λ a. IsIn (leg_text f a (stop_numbered p (slice_index route k))) (point_text f (stop_numbered p n) ++ (rest ++ end))) (placed_on p n route k) behind
+    subst (λ a. IsIn (leg_text f a (stop_numbered p (slice_index route k))) (point_text f (stop_numbered p n) ++ (rest ++ end))) (placed_on p n route k) behind
     in
     subst (λ t. IsIn part t) (ap (λ z. here ++ z) (sym (append_assoc next rest end)))
     (in_right part here (next ++ (rest ++ end)) (subst (λ x. IsIn part (x ++ (rest ++ end))) (sym is) moved))
@@ -114,10 +114,10 @@ legs_are_drawn p f broken number route k valid once within =
     let here = point_text f p.depot in
     let rest = flat_map (stop_text p f) route in
     let points : IsIn leg (points_text p f route) =
-        subst (λ a. IsIn (leg_text f a (stop_numbered p (slice_index (0 ∷ route) (k + 1)))) (points_text p f route)) (placed_on p 0 route k)
-        (subst (λ j. IsIn (leg_text f (at_place p p.depot route k) (stop_numbered p (slice_index (0 ∷ route) j))) (points_text p f route)) (sym behind)
-        (subst (λ t. IsIn (leg_text f (at_place p p.depot route k) (stop_numbered p (slice_index route k))) t) (sym (append_assoc here rest here))
-        (legs_in p f p.depot route k valid (recursion_from_All (IsLive p) route once.live) within)))
+    subst (λ a. IsIn (leg_text f a (stop_numbered p (slice_index (0 ∷ route) (k + 1)))) (points_text p f route)) (placed_on p 0 route k)
+    (subst (λ j. IsIn (leg_text f (at_place p p.depot route k) (stop_numbered p (slice_index (0 ∷ route) j))) (points_text p f route)) (sym behind)
+    (subst (λ t. IsIn (leg_text f (at_place p p.depot route k) (stop_numbered p (slice_index route k))) t) (sym (append_assoc here rest here))
+    (legs_in p f p.depot route k valid (recursion_from_All (IsLive p) route once.live) within)))
     in
     in_left leg (line_head broken number ++ fixed text.Points ++ points_text p f route) (fixed text.LineEnd)
     (in_right leg (line_head broken number ++ fixed text.Points) (points_text p f route) points)
