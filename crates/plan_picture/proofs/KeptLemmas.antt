@@ -1,6 +1,6 @@
 -- What is kept of a route are live stops, each once.
 use Rattle.std.proofs.Common.{◌≡◌, ℕ, Bool, true, false, not, ◌||◌, List, [], ◌∷◌, ◌++◌, cond, ap, refl}
-use Rattle.std.specs.Prelude.{nat_eq, ◌==◌, is_some, All}
+use Rattle.std.specs.Prelude.{nat_eq, ◌==◌, is_some}
 use Rattle.std.specs.List.{AllByRecursion, IsDistinct, list_any}
 use Rattle.std.proofs.lemmas.Bool.{and_parts, not-true, true≢false}
 use Rattle.std.proofs.lemmas.List.Elements.{All-append, All-cons, All-nil}

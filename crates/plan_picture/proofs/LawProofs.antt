@@ -1,17 +1,17 @@
 -- What is in each picture.
-use Rattle.std.proofs.Common.{◌≡◌, ◌∙◌, ℕ, ◌+◌, List, ◌++◌, map, Some, ap, subst, arith}
+use Rattle.std.proofs.Common.{◌≡◌, ◌∙◌, ℕ, ◌+◌, List, ◌++◌, map, ap, subst, arith}
 use Rattle.std.specs.Prelude.{is_some, length}
 use Rattle.std.specs.Option.{option_map}
 use Rattle.std.specs.List.{flat_map}
 use Rattle.std.proofs.lemmas.Option.{slice_get-map}
-use Rattle.plan_types.specs.Instance.{Instance, stop_at}
+use Rattle.plan_types.specs.Instance.{Instance}
 use Rattle.plan_types.specs.Laws.{StopsAreBelowNext}
 use Rattle.plan_audit.specs.declared.rules.Verdict.{Verdict}
 use Rattle.plan_picture.specs.Days.{days_text}
 use Rattle.plan_picture.specs.Known.{kept_of, known_stops}
 use Rattle.plan_picture.specs.Laws.{frame_of, IsIn, RoutesAreDrawn, StopsAreMarked}
 use Rattle.plan_picture.specs.Map.{labels_text, line_text, lines_text, map_in, map_text, mark_text, marks_text, opening_text, ring_text, stop_mark}
-use Rattle.plan_picture.specs.Picture.{broken_route, broken_stop, drawing, head_text, picture}
+use Rattle.plan_picture.specs.Picture.{broken_route, broken_stop, drawing, head_text}
 use Rattle.plan_picture.specs.Svg.{each}
 use Rattle.plan_picture.specs.Table.{rows_text}
 use Rattle.plan_picture.specs.Texts.{fixed}

@@ -11,8 +11,8 @@ use Rattle.plan_types.specs.Instance.{Instance, IsInstance, first_some, stop_at}
 use Rattle.plan_types.specs.declared.requests.Stop.{Stop}
 use Rattle.plan_types.specs.declared.requests.Request.{Request}
 use Rattle.plan_types.specs.declared.requests.Request.TheVariants.{Single, Pair}
-use Rattle.route_sched.specs.Route.{AreLiveOnce, IsLive, place, stop_numbered}
-use Rattle.plan_picture.specs.Known.{is_new, kept_after, kept_of}
+use Rattle.route_sched.specs.Route.{IsLive, place, stop_numbered}
+use Rattle.plan_picture.specs.Known.{is_new, kept_after}
 use Rattle.plan_picture.specs.Laws.{IsIn, leg_text, LegsAreDrawn, RoutesAreKept}
 use Rattle.plan_picture.specs.Map.{line_head, line_text, point_text, points_text}
 use Rattle.plan_picture.specs.Texts.{fixed}

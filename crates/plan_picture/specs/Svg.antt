@@ -19,7 +19,7 @@ placed t point = fixed t ++ attribute text.X point.x ++ attribute text.Y point.y
 
 -- the colour of the route with this number: neighbors are 137 degrees apart on the wheel of 360
 unfoldable pub colour : Text → ℕ → List ℕ
-colour t number = named t (137 * number % 360) ++ named text.Saturation (30 + number % 4 * 7) ++ fixed text.ColourEnd
+colour t number = named t (137 * number % 360) ++ named text.Saturation (30 + number % 7 * 4) ++ fixed text.ColourEnd
 
 -- a bar of a tag from a time on, where it is not empty
 unfoldable pub bar : Text → ℕ → ℕ → List ℕ

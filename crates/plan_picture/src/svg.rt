@@ -102,7 +102,7 @@ impl Svg {
         ensures { OnOk result (self.new ≡ self.old ++ colour text number) }
     {
         let hue = 137 * number as u128 % 360;
-        let light = 30 + number % 4 * 7;
+        let light = 30 + number % 7 * 4;
         self.put_named(text, hue)?;
         self.put_named(Text::Saturation, light as u128)?;
         self.put(Text::ColourEnd)

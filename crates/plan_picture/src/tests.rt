@@ -61,11 +61,11 @@ fn draws_a_pair(rt: HostRuntime) -> Result<(), Fail> {
     let lines = [
         ">unplanned 0, vehicles 1, distance 20</text>\n",
         "viewBox='0 0 3200 4200' font-size='10'>\n",
-        "<polyline stroke='hsl(137,75%,37%)' points=' 100,4100 1600,2100 3100,100 100,4100'/>\n",
+        "<polyline stroke='hsl(137,75%,34%)' points=' 100,4100 1600,2100 3100,100 100,4100'/>\n",
         "<use href='#depot' x='100' y='4100'><title>0</title></use>\n",
         "<use href='#pickup' x='1600' y='2100'><title>1</title></use>\n",
         "<use href='#delivery' x='3100' y='100'><title>2</title></use>\n<g text-anchor='middle'",
-        "<text dy='-4em' x='3100' y='100' fill='hsl(137,75%,37%)'><tspan font-size='8em'>1</tspan></text>\n",
+        "<text dy='-4em' x='3100' y='100' fill='hsl(137,75%,34%)'><tspan font-size='8em'>1</tspan></text>\n",
         "<text x='24' y='12'>route 1: stops 2, load 4, distance 20</text></g>\n",
         "<rect class='drive' y='3' height='8' x='7' width='5'/>\n<rect class='serve' y='3' height='8' x='12' width='2'/>\n",
         "<rect class='window' y='13' height='3' x='0' width='11'/>\n<rect class='late' y='13' height='3' x='11' width='1'/>\n",
@@ -87,7 +87,7 @@ fn draws_what_is_broken(rt: HostRuntime) -> Result<(), Fail> {
     let text = drawn(rt.alloc(), &[1, 7, 1, 2], verdict)?;
     let lines = [
         ">broken: rule 2, route 1, place 3, stop 1</text>\n",
-        "<polyline class='broken' stroke='hsl(137,75%,37%)' points=' 100,4100 1600,2100 3100,100 100,4100'/>\n",
+        "<polyline class='broken' stroke='hsl(137,75%,34%)' points=' 100,4100 1600,2100 3100,100 100,4100'/>\n",
         "<use href='#broken' x='1600' y='2100'><title>1</title></use>\n",
         "<text x='24' y='12' class='broken'>route 1: stops 2, load 4, distance 20</text></g>\n",
     ];

@@ -1,4 +1,4 @@
-use Rattle.std.proofs.Common.{◌≡◌, ◌∙◌, ◌+◌, ◌∷◌, drop, get_or, true, false, sym, ap, refl, drop-cons, rules}
+use Rattle.std.proofs.Common.{◌≡◌, ◌∙◌, ◌+◌, ◌∷◌, drop, get_or, true, false, sym, ap, drop-cons, rules}
 use Rattle.plan_picture.specs.Known.{is_new, kept_after}
 use Rattle.plan_picture.proofs.KeptLemmas.{none_once, once_more, kept_new, kept_old}
 use Rattle.plan_picture.proofs.known.kept_route.Goals as goal

@@ -1,4 +1,4 @@
-use Rattle.std.proofs.Common.{◌≡◌, ◌∙◌, ◌+◌, ◌++◌, ◌∷◌, [], map, drop, get_or, ap, sym, append_assoc, drop-cons, rules}
+use Rattle.std.proofs.Common.{◌≡◌, ◌∙◌, ◌+◌, ◌++◌, ◌∷◌, [], map, drop, ap, sym, append_assoc, drop-cons, rules}
 use Rattle.std.proofs.lemmas.List.Elements.{All-append, All-cons, All-nil}
 use Rattle.route_sched.specs.Route.{AreLiveOnce}
 use Rattle.plan_picture.specs.Known.{kept_of}

@@ -1,4 +1,4 @@
-use Rattle.std.proofs.Common.{◌≡◌, ◌+◌, ◌++◌, drop}
+use Rattle.std.proofs.Common.{◌≡◌, ◌++◌, drop}
 use Rattle.plan_picture.specs.Days.{day_text}
 use Rattle.plan_picture.specs.Svg.{each}
 use Rattle.plan_picture.proofs.svg.Svg.put_each_day.Given as goal
