@@ -1,8 +1,7 @@
 //! The map: the lines, the marks and the routes' numbers.
-ghost use Rattle.std.specs.Prelude.{◌≡◌, ◌++◌, [], OnOk};
+ghost use Rattle.std.specs.Prelude.{◌≡◌, ◌/◌, ◌++◌, [], OnOk, length, slice_get};
 ghost use Rattle.std.specs.List.{flat_map};
 ghost use Rattle.std.specs.Option.{option_and_then, option_copied, option_map_or};
-ghost use Rattle.std.specs.Prelude.{◌/◌, length, slice_get};
 ghost use Rattle.plan_types.specs.Instance.{stop_at};
 ghost use Rattle.plan_picture.specs.Map.{label_at, label_text, labels_text, line_head, line_text, lines_text, map_in, map_text, mark_text, marks_text, opening_text, point_text, points_text, ring_text, shape_of, stop_mark};
 ghost use Rattle.plan_picture.specs.Svg.{each};
