@@ -1,0 +1,4 @@
+pub mod KeptLemmas
+pub mod LawProofs
+pub mod LegLemmas
+pub mod PartLemmas

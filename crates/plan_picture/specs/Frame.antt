@@ -1,0 +1,50 @@
+-- Where the stops stand in the picture: x grows to the right, y upward, and both are multiplied by one whole number.
+use Rattle.std.specs.Prelude.{ℕ, ◌+◌, ◌*◌, ◌/◌, max, ℤ, ◌-ℤ◌, unsigned_abs, List, fold}
+use Rattle.std.specs.Int.{div_ceil, int_max, int_min}
+use Rattle.plan_types.specs.declared.requests.Stop.{Stop}
+use Rattle.plan_picture.specs.declared.frame.Bounds.{Bounds}
+use Rattle.plan_picture.specs.declared.frame.Frame.{Frame}
+use Rattle.plan_picture.specs.declared.frame.Point.{Point}
+
+-- the bounds of one stop
+abbrev pub bounds_at : Stop → Bounds
+bounds_at s = record { left = s.x; right = s.x; bottom = s.y; top = s.y }
+
+-- the bounds with one more stop within
+abbrev pub widened : Bounds → Stop → Bounds
+widened b s = record { left = int_min b.left s.x; right = int_max b.right s.x; bottom = int_min b.bottom s.y; top = int_max b.top s.y }
+
+-- the least and the greatest coordinates of the depot and the stops
+unfoldable pub bounds_of : Stop → List Stop → Bounds
+bounds_of depot stops = fold widened (bounds_at depot) stops
+
+-- how far two coordinates are apart
+abbrev pub gap : ℤ → ℤ → ℕ
+gap a b = unsigned_abs (a -ℤ b)
+
+-- the greater side, at least 1
+unfoldable pub size_of : Bounds → ℕ
+size_of b = max (max (gap b.left b.right) (gap b.top b.bottom)) 1
+
+-- the least scale by which the greater side is at least 4000 long
+unfoldable pub scale_of : Bounds → ℕ
+scale_of b = div_ceil 4000 (size_of b)
+
+-- a 400th of the greater side, by which marks, lines and letters are measured
+unfoldable pub unit_of : Bounds → ℕ
+unit_of b = scale_of b * size_of b / 400
+
+-- the frame of these bounds, with ten units of room on each side
+unfoldable pub framed : Bounds → Frame
+framed b = record {
+  left = b.left;
+  top = b.top;
+  scale = scale_of b;
+  unit = unit_of b;
+  width = scale_of b * gap b.left b.right + 20 * unit_of b;
+  height = scale_of b * gap b.top b.bottom + 20 * unit_of b;
+}
+
+-- where a stop stands
+unfoldable pub point_of : Frame → Stop → Point
+point_of f s = record { x = 10 * f.unit + f.scale * gap s.x f.left; y = 10 * f.unit + f.scale * gap f.top s.y }

@@ -1,0 +1,10 @@
+-- what public contracts say
+pub mod Days
+pub mod Frame
+pub mod Known
+pub mod Laws
+pub mod Map
+pub mod Picture
+pub mod Svg
+pub mod Table
+pub mod Texts

@@ -1,0 +1,149 @@
+//! Where the stops stand in the picture.
+ghost use Rattle.std.specs.Prelude.{◌≡◌, ◌≤◌};
+ghost use Rattle.std.specs.Int.{int_max, int_min};
+ghost use Rattle.plan_picture.specs.Frame.{bounds_at, bounds_of, framed, gap, point_of, scale_of, size_of, unit_of, widened};
+
+use plan_types::Stop;
+
+/// A place of the picture.
+#[derive(Clone, Copy, Debug, PartialEq, Eq)]
+pub(crate) struct Point {
+    pub x: u128,
+    pub y: u128,
+}
+
+/// The least and the greatest coordinates of stops.
+#[derive(Clone, Copy, Debug, PartialEq, Eq)]
+pub(crate) struct Bounds {
+    pub left: i32,
+    pub right: i32,
+    pub bottom: i32,
+    pub top: i32,
+}
+
+/// How coordinates become places: the corner from which they count, and by what they are multiplied.
+#[derive(Clone, Copy, Debug, PartialEq, Eq)]
+pub(crate) struct Frame {
+    pub left: i32,
+    pub top: i32,
+    pub scale: u32,
+    /// By which marks, lines and letters are measured.
+    pub unit: u64,
+    pub width: u128,
+    pub height: u128,
+}
+
+/// The bounds of the depot and the stops.
+#[tactic(auto, unfolding(crate::specs::Frame::bounds_of))]
+pub(crate) fn stop_bounds(depot: &Stop, stops: &[Stop]) -> Bounds
+    ensures { result ≡ bounds_of depot.now stops.now }
+{
+    let mut bounds = bounds_at(depot);
+    for stop in stops {
+        bounds = bounds.widened(stop);
+    }
+    bounds
+}
+
+// The bounds of one stop.
+fn bounds_at(stop: &Stop) -> Bounds
+    ensures { result ≡ bounds_at stop.now }
+{
+    Bounds {
+        left: stop.x,
+        right: stop.x,
+        bottom: stop.y,
+        top: stop.y,
+    }
+}
+
+fn lesser(x: &i32, y: &i32) -> i32
+    ensures { result ≡ int_min x.now y.now }
+{
+    (*x).min(*y)
+}
+
+fn greater(x: &i32, y: &i32) -> i32
+    ensures { result ≡ int_max x.now y.now }
+{
+    (*x).max(*y)
+}
+
+// How far two coordinates are apart.
+fn gap(x: i32, y: i32) -> u32
+    ensures { result ≡ gap x y }
+{
+    x.abs_diff(y)
+}
+
+impl Bounds {
+    // The bounds with one more stop within.
+    fn widened(&self, stop: &Stop) -> Bounds
+        ensures { result ≡ widened self.now stop.now }
+    {
+        Bounds {
+            left: lesser(&self.left, &stop.x),
+            right: greater(&self.right, &stop.x),
+            bottom: lesser(&self.bottom, &stop.y),
+            top: greater(&self.top, &stop.y),
+        }
+    }
+
+    #[tactic(auto, unfolding(crate::specs::Frame::size_of))]
+    fn size(&self) -> u32
+        ensures value { result ≡ size_of self.now }
+        ensures some { 1 ≤ result }
+    {
+        let across = gap(self.left, self.right);
+        let down = gap(self.top, self.bottom);
+        across.max(down).max(1)
+    }
+
+    #[tactic(auto, unfolding(crate::specs::Frame::scale_of))]
+    fn scale(&self) -> u32
+        ensures { result ≡ scale_of self.now }
+    {
+        4000u32.div_ceil(self.size())
+    }
+
+    #[tactic(auto, unfolding(crate::specs::Frame::unit_of))]
+    fn unit(&self) -> u64
+        ensures { result ≡ unit_of self.now }
+    {
+        u64::from(self.scale()) * u64::from(self.size()) / 400
+    }
+
+    /// The frame of these bounds.
+    #[tactic(auto, unfolding(crate::specs::Frame::framed))]
+    pub(crate) fn frame(&self) -> Frame
+        ensures { result ≡ framed self.now }
+    {
+        let unit = self.unit();
+        let scale = self.scale();
+        let across = u128::from(scale) * u128::from(gap(self.left, self.right));
+        let down = u128::from(scale) * u128::from(gap(self.top, self.bottom));
+        Frame {
+            left: self.left,
+            top: self.top,
+            scale,
+            unit,
+            width: across + 20 * u128::from(unit),
+            height: down + 20 * u128::from(unit),
+        }
+    }
+}
+
+impl Frame {
+    /// Where a stop stands.
+    #[tactic(auto, unfolding(crate::specs::Frame::point_of))]
+    pub(crate) fn point(&self, stop: &Stop) -> Point
+        ensures { result ≡ point_of self.now stop.now }
+    {
+        let scale = u128::from(self.scale);
+        let room = 10 * u128::from(self.unit);
+        Point {
+            x: room + scale * u128::from(gap(stop.x, self.left)),
+            y: room + scale * u128::from(gap(self.top, stop.y)),
+        }
+    }
+}

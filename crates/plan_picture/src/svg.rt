@@ -1,0 +1,141 @@
+//! The text of a picture, piece by piece.
+ghost use Rattle.std.specs.Prelude.{◌≡◌, ◌++◌, [], OnOk, decimal};
+ghost use Rattle.std.specs.Fmt.{signed_decimal};
+ghost use Rattle.plan_picture.specs.Svg.{attribute, bar, broken_class, colour, named, placed};
+ghost use Rattle.plan_picture.specs.Texts.{fixed};
+
+use crate::frame::Point;
+use crate::texts::Text;
+use itoa::Buffer;
+use plan_types::OutOfMemory;
+use std::alloc::Global;
+use std::marker::Model;
+
+/// The text so far.
+#[derive(Debug, Drop)]
+pub(crate) struct Svg {
+    bytes: Vec<u8>,
+}
+
+impl Model for Svg {
+    ghost use Rattle.std.specs.Prelude.{List, ℕ};
+
+    ghost Value = { List ℕ };
+
+    ghost view = { λ s. s.bytes.items };
+}
+
+impl Svg {
+    pub(crate) fn new(alloc: Global) -> Svg
+        ensures { result ≡ [] }
+    {
+        Svg {
+            bytes: Vec::new(alloc),
+        }
+    }
+
+    pub(crate) fn into_vec(self) -> Vec<u8>
+        ensures { result.items ≡ self }
+    {
+        let Svg { bytes } = self;
+        bytes
+    }
+
+    fn put_str(&mut self, text: &str) -> Result<(), OutOfMemory>
+        ensures { OnOk result (self.new ≡ self.old ++ text.now) }
+    {
+        self.bytes.extend_from_slice(text.as_bytes())
+    }
+
+    fn put_number(&mut self, n: u128) -> Result<(), OutOfMemory>
+        ensures { OnOk result (self.new ≡ self.old ++ decimal n) }
+    {
+        let mut buffer = Buffer::new();
+        self.put_str(buffer.format(n))
+    }
+
+    pub(crate) fn put_signed(&mut self, n: i64) -> Result<(), OutOfMemory>
+        ensures { OnOk result (self.new ≡ self.old ++ signed_decimal n) }
+    {
+        let mut buffer = Buffer::new();
+        self.put_str(buffer.format(n))
+    }
+
+    pub(crate) fn put(&mut self, text: Text) -> Result<(), OutOfMemory>
+        ensures { OnOk result (self.new ≡ self.old ++ fixed text) }
+    {
+        self.put_str(text.as_str())
+    }
+
+    // A text and the number behind it.
+    #[tactic(auto, unfolding(crate::specs::Svg::named))]
+    pub(crate) fn put_named(&mut self, text: Text, n: u128) -> Result<(), OutOfMemory>
+        ensures { OnOk result (self.new ≡ self.old ++ named text n) }
+    {
+        self.put(text)?;
+        self.put_number(n)
+    }
+
+    // The same with the quote that ends an attribute.
+    #[tactic(auto, unfolding(crate::specs::Svg::attribute))]
+    pub(crate) fn put_attribute(&mut self, text: Text, n: u128) -> Result<(), OutOfMemory>
+        ensures { OnOk result (self.new ≡ self.old ++ attribute text n) }
+    {
+        self.put(text)?;
+        self.put_number(n)?;
+        self.put(Text::Quote)
+    }
+
+    // A tag with the place where it stands, not closed yet.
+    #[tactic(auto, unfolding(crate::specs::Svg::placed))]
+    pub(crate) fn put_placed(&mut self, text: Text, point: Point) -> Result<(), OutOfMemory>
+        ensures { OnOk result (self.new ≡ self.old ++ placed text point) }
+    {
+        self.put(text)?;
+        self.put_attribute(Text::X, point.x)?;
+        self.put_attribute(Text::Y, point.y)
+    }
+
+    // An attribute with the colour of the route with this number.
+    #[tactic(auto, unfolding(crate::specs::Svg::colour))]
+    pub(crate) fn put_colour(&mut self, text: Text, number: u64) -> Result<(), OutOfMemory>
+        ensures { OnOk result (self.new ≡ self.old ++ colour text number) }
+    {
+        let hue = 137 * number as u128 % 360;
+        let light = 30 + number % 7 * 4;
+        self.put_named(text, hue)?;
+        self.put_named(Text::Saturation, light as u128)?;
+        self.put(Text::ColourEnd)
+    }
+
+    // A class where the route with this number is the broken one.
+    #[tactic(auto, unfolding(crate::specs::Svg::broken_class))]
+    pub(crate) fn put_broken(&mut self, broken: u64, number: u64) -> Result<(), OutOfMemory>
+        ensures { OnOk result (self.new ≡ self.old ++ broken_class broken number) }
+    {
+        if number == broken {
+            self.put(Text::BrokenClass)
+        } else {
+            Ok(())
+        }
+    }
+
+    // A bar of a tag from a time on, where it is not empty.
+    #[tactic(auto, unfolding(crate::specs::Svg::bar))]
+    pub(crate) fn put_bar(
+        &mut self,
+        text: Text,
+        first: u128,
+        width: u128,
+    ) -> Result<(), OutOfMemory>
+        ensures { OnOk result (self.new ≡ self.old ++ bar text first width) }
+    {
+        if width == 0 {
+            return Ok(());
+        }
+        self.put(text)?;
+        self.put_attribute(Text::X, first)?;
+        self.put_attribute(Text::Width, width)?;
+        self.put(Text::Close)
+    }
+}
