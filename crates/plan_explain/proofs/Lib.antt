@@ -1,1 +1,4 @@
-pub mod TextLemmas
+pub mod LineLemmas
+pub mod RouteLemmas
+pub mod RowLemmas
+pub mod SummaryLemmas

@@ -10,6 +10,7 @@ use Rattle.plan_explain.specs.Tables.{rows_of}
 use Rattle.plan_explain.specs.declared.phrases.Phrase.TheVariants.{RoutesHeading, Sum}
 use Rattle.plan_explain.specs.declared.rows.Row.{Row}
 use Rattle.plan_explain.specs.declared.summaries.Summary.{Summary}
+use Rattle.plan_explain.specs.declared.summaries.Sums.{Sums}
 
 -- how long the vehicle waits there
 abbrev pub wait : Row → ℕ
@@ -34,19 +35,27 @@ summary_of p route = record {
   waiting = waiting p route;
 }
 
+unfoldable pub way_text : ℕ → Summary → List ℕ
+way_text k s = right 5 k ++ codes " " ++ right 6 s.stops ++ codes " " ++ right 10 s.distance ++ codes " " ++ right_signed 9 s.load ++ codes " "
+
+unfoldable pub day_text : Summary → List ℕ
+day_text s = line (right 10 s.start ++ codes " " ++ right 10 s.back ++ codes " " ++ right 10 s.waiting)
+
 abbrev pub summary_line : ℕ → Summary → List ℕ
-summary_line k s =
-    (right 5 k ++ codes " " ++ right 6 s.stops ++ codes " " ++ right 10 s.distance ++ codes " " ++ right_signed 9 s.load ++ codes " ")
-    ++ line (right 10 s.start ++ codes " " ++ right 10 s.back ++ codes " " ++ right 10 s.waiting)
+summary_line k s = way_text k s ++ day_text s
 
 -- the line of each route, from this number on
 abbrev pub summary_lines : Instance → ℕ → List (List ℕ) → List ℕ
 summary_lines p k [] = []
 summary_lines p k (route ∷ routes) = summary_line k (summary_of p route) ++ summary_lines p (k + 1) routes
 
--- the sums of stops, distances and waiting times, in their columns
-abbrev pub sums_line : Instance → List (List ℕ) → List ℕ
-sums_line p routes = phrase Sum ++ line (right 7 (sum_by length routes) ++ right 11 (total_length p routes) ++ right 43 (sum_by (waiting p) routes))
+-- the sums of stops, distances and waiting times
+abbrev pub sums_of : Instance → List (List ℕ) → Sums
+sums_of p routes = record { stops = sum_by length routes; distance = total_length p routes; waiting = sum_by (waiting p) routes }
+
+-- in their columns
+abbrev pub sums_text : Sums → List ℕ
+sums_text s = phrase Sum ++ line (right 7 s.stops ++ right 11 s.distance ++ right 43 s.waiting)
 
 abbrev pub summary_text : Instance → List (List ℕ) → List ℕ
-summary_text p routes = phrase RoutesHeading ++ summary_lines p 1 routes ++ sums_line p routes
+summary_text p routes = phrase RoutesHeading ++ summary_lines p 1 routes ++ sums_text (sums_of p routes)

@@ -36,11 +36,18 @@ abbrev pub heading : Kind → List ℕ
 heading LiLim = phrase TimesHeading
 heading Vrp = phrase LoadsHeading
 
+unfoldable pub times_text : Row → List ℕ
+times_text r = right 5 r.place ++ codes " " ++ right 6 r.stop ++ codes " " ++ right 10 r.arrival ++ codes " " ++ right 10 r.start ++ codes " "
+
+unfoldable pub window_text : Row → List ℕ
+window_text r = line (right 10 r.earliest ++ codes ".." ++ left 10 r.latest ++ codes " " ++ right_signed 9 r.load)
+
+unfoldable pub load_text : Row → List ℕ
+load_text r = line (right 5 r.place ++ codes " " ++ right 6 r.stop ++ codes " " ++ right 10 r.arrival ++ codes " " ++ right_signed 9 r.load)
+
 abbrev pub row_text : Kind → Row → List ℕ
-row_text LiLim r =
-    (right 5 r.place ++ codes " " ++ right 6 r.stop ++ codes " " ++ right 10 r.arrival ++ codes " " ++ right 10 r.start ++ codes " ")
-    ++ line (right 10 r.earliest ++ codes ".." ++ left 10 r.latest ++ codes " " ++ right_signed 9 r.load)
-row_text Vrp r = line (right 5 r.place ++ codes " " ++ right 6 r.stop ++ codes " " ++ right 10 r.arrival ++ codes " " ++ right_signed 9 r.load)
+row_text LiLim r = times_text r ++ window_text r
+row_text Vrp r = load_text r
 
 abbrev pub table_text : Instance → List ℕ → List ℕ
 table_text p route = heading p.kind ++ flat_map (row_text p.kind) (rows_of p route)

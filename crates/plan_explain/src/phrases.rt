@@ -68,10 +68,12 @@ impl Phrase {
             Phrase::Fleet => " are used, the fleet has ",
             Phrase::WrongCost => "wrong cost: ",
             Phrase::Driven => " is printed, the distance driven is ",
-            Phrase::TimesHeading => "place   stop    arrival      start         window              load\n",
+            Phrase::TimesHeading =>
+                "place   stop    arrival      start         window              load\n",
             Phrase::LoadsHeading => "place   stop    arrival      load\n",
             Phrase::StopsHeading => "place   stop\n",
-            Phrase::RoutesHeading => "route  stops   distance      load      start     return    waiting\n",
+            Phrase::RoutesHeading =>
+                "route  stops   distance      load      start     return    waiting\n",
             Phrase::Sum => "  sum",
         }
     }

@@ -1,10 +1,10 @@
 //! What is said of a text that is refused.
-ghost use Rattle.std.specs.Prelude.{◌≡◌, ◌++◌, IfOk, OnOk, map, string_bytes};
+ghost use Rattle.std.specs.Prelude.{◌≡◌, ◌++◌, IfOk, OnOk, map, string_bytes, take};
 ghost use Rattle.std.specs.Option.{option_copied};
 ghost use Rattle.text_lines.specs.Lines.{lines_of};
 ghost use Rattle.plan_audit.specs.Rules.{item_at};
 ghost use Rattle.plan_explain.specs.Columns.{line};
-ghost use Rattle.plan_explain.specs.Refused.{TellsFault, cited_line, shown_byte};
+ghost use Rattle.plan_explain.specs.Refused.{TellsFault, cited_line, shown_byte, shown_bytes};
 
 use instance_read::ReadFault;
 use plan_types::OutOfMemory;
@@ -46,12 +46,27 @@ fn cite(sentence: String, text: &[u8], number: u64) -> Result<String, OutOfMemor
         ≡ line (string_bytes sentence) ++ cited_line (item_at (lines_of text.now) number)) }
 {
     let mut answer = sentence;
-    answer.push('\n')?;
+    answer.push_str("\n")?;
     if let Some(bytes) = line_at(text, number) {
-        put_bytes(&mut answer, &bytes[..bytes.len().min(SHOWN)])?;
-        answer.push('\n')?;
+        put_cited(&mut answer, bytes)?;
     }
     Ok(answer)
+}
+
+fn put_cited(text: &mut String, bytes: &[u8]) -> Result<(), OutOfMemory>
+    ensures { OnOk result (string_bytes text.new
+        ≡ string_bytes text.old ++ line (shown_bytes bytes.now)) }
+{
+    put_bytes(text, front(bytes))?;
+    text.push_str("\n")
+}
+
+// As much of a line as is shown.
+#[tactic(auto, using(std::proofs::lemmas::List::take_min))]
+fn front(bytes: &[u8]) -> &[u8]
+    ensures { result.now ≡ take 200 bytes.now }
+{
+    &bytes[..SHOWN.min(bytes.len())]
 }
 
 // The line with this number, counted from 1.

@@ -27,11 +27,7 @@ pub(crate) struct Row {
 }
 
 /// The rows of a route, the return last.
-pub(crate) fn rows(
-    alloc: Global,
-    problem: &Problem,
-    route: &[u32],
-) -> Result<Vec<Row>, OutOfMemory>
+pub(crate) fn rows(alloc: Global, problem: &Problem, route: &[u32]) -> Result<Vec<Row>, OutOfMemory>
     requires { AreLiveOnce problem.now route.now }
     ensures { IfOk result (λ rows. rows.items ≡ rows_of problem.now route.now) }
 {
@@ -43,9 +39,10 @@ pub(crate) fn rows(
         load: 0,
         leg: 0,
     };
-    for place in 0..=route.len() {
-        let Some(visit) = visits.next() else {
-            break;
+    for place in 0..route.len() + 1 {
+        let visit = match visits.next() {
+            Some(visit) => visit,
+            None => unreachable!(),
         };
         rows.push(row_of(place, &last, &visit))?;
         last = visit;

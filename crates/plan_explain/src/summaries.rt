@@ -1,10 +1,9 @@
 //! A line for each route, and the sums.
-ghost use Rattle.std.specs.Prelude.{◌≡◌, ◌++◌, ◌≤◌, ℕ, All, IfOk, OnOk, fold, map, pos, string_bytes, sum_by};
+ghost use Rattle.std.specs.Prelude.{◌≡◌, ◌++◌, ◌<◌, ◌^◌, All, IfOk, OnOk, fold, map, pos, string_bytes, sum_by};
 ghost use Rattle.std.specs.Int.{int_max};
 ghost use Rattle.route_sched.specs.Route.{AreLiveOnce};
 ghost use Rattle.route_sched.specs.Cost.{total_length};
-ghost use Rattle.plan_explain.specs.Columns.{line, right};
-ghost use Rattle.plan_explain.specs.Summaries.{summary_line, summary_of, summary_text, waiting};
+ghost use Rattle.plan_explain.specs.Summaries.{day_text, summary_line, summary_of, summary_text, sums_text, wait, waiting, way_text};
 ghost use Rattle.plan_explain.specs.Phrases.{phrase};
 ghost use Rattle.plan_explain.specs.Rows.{lines_from};
 ghost use Rattle.plan_explain.specs.Tables.{rows_of};
@@ -33,8 +32,9 @@ pub(crate) struct Summary {
 
 /// What some routes come to together.
 #[derive(Clone, Copy, Debug, PartialEq, Eq)]
-struct Sums {
+pub(crate) struct Sums {
     stops: u128,
+    distance: u128,
     waiting: u128,
 }
 
@@ -50,10 +50,15 @@ pub(crate) fn put_summary(
         ≡ string_bytes text.old ++ summary_text problem.now routes.now) }
 {
     let summaries = summaries(alloc, problem, routes)?;
+    let summaries = summaries.as_slice();
     put_phrase(text, Phrase::RoutesHeading)?;
-    put_lines(text, summaries.as_slice())?;
-    let distance = total_distance(problem, routes);
-    put_sums(text, sums_of(summaries.as_slice()), distance)
+    put_lines(text, summaries)?;
+    let sums = Sums {
+        stops: stops_in(summaries),
+        distance: total_distance(problem, routes),
+        waiting: waiting_in(summaries),
+    };
+    put_sums(text, &sums)
 }
 
 fn summaries(
@@ -104,9 +109,16 @@ fn waiting(problem: &Problem, route: &[u32], rows: &[Row]) -> u64
 {
     let mut waiting = 0;
     for row in rows {
-        waiting += row.start.saturating_sub(row.arrival);
+        waiting += wait(row);
     }
     waiting
+}
+
+fn wait(row: &Row) -> u64
+    ensures value { result ≡ wait row.now }
+    ensures fits { row.now.start < 2 ^ 64 }
+{
+    row.start.saturating_sub(row.arrival)
 }
 
 fn put_lines(text: &mut String, summaries: &[Summary]) -> Result<(), OutOfMemory>
@@ -123,29 +135,55 @@ fn put_line(text: &mut String, route: u64, summary: &Summary) -> Result<(), OutO
     ensures { OnOk result (string_bytes text.new
         ≡ string_bytes text.old ++ summary_line route summary.now) }
 {
+    put_way(text, route, summary)?;
+    put_day(text, summary)
+}
+
+#[tactic(auto, unfolding(crate::specs::Summaries::way_text))]
+fn put_way(text: &mut String, route: u64, summary: &Summary) -> Result<(), OutOfMemory>
+    ensures { OnOk result (string_bytes text.new
+        ≡ string_bytes text.old ++ way_text route summary.now) }
+{
     let Summary {
         stops,
         distance,
         load,
+        ..
+    } = *summary;
+    write!(text, "{route:>5} {stops:>6} {distance:>10} {load:>9} ")
+}
+
+#[tactic(auto, unfolding(crate::specs::Summaries::day_text))]
+fn put_day(text: &mut String, summary: &Summary) -> Result<(), OutOfMemory>
+    ensures { OnOk result (string_bytes text.new ≡ string_bytes text.old ++ day_text summary.now) }
+{
+    let Summary {
         start,
         back,
         waiting,
+        ..
     } = *summary;
-    write!(text, "{route:>5} {stops:>6} {distance:>10} {load:>9} ")?;
     writeln!(text, "{start:>10} {back:>10} {waiting:>10}")
 }
 
-fn sums_of(summaries: &[Summary]) -> Sums
-    ensures stops { result.stops ≡ sum_by (λ s. s.stops) summaries.now }
-    ensures waiting { result.waiting ≡ sum_by (λ s. s.waiting) summaries.now }
+fn stops_in(summaries: &[Summary]) -> u128
+    ensures { result ≡ sum_by (λ s. s.stops) summaries.now }
 {
     let mut stops = 0;
-    let mut waiting = 0;
     for summary in summaries {
         stops += u128::from(summary.stops);
+    }
+    stops
+}
+
+fn waiting_in(summaries: &[Summary]) -> u128
+    ensures { result ≡ sum_by (λ s. s.waiting) summaries.now }
+{
+    let mut waiting = 0;
+    for summary in summaries {
         waiting += u128::from(summary.waiting);
     }
-    Sums { stops, waiting }
+    waiting
 }
 
 /// How far the vehicles drive together.
@@ -160,12 +198,14 @@ pub(crate) fn total_distance(problem: &Problem, routes: &[Route]) -> u128
     total
 }
 
-fn put_sums(text: &mut String, sums: Sums, distance: u128) -> Result<(), OutOfMemory>
-    ensures { OnOk result (string_bytes text.new ≡ string_bytes text.old
-        ++ (phrase Phrase.Sum ++ line (right 7 sums.stops ++ right 11 distance
-        ++ right 43 sums.waiting))) }
+fn put_sums(text: &mut String, sums: &Sums) -> Result<(), OutOfMemory>
+    ensures { OnOk result (string_bytes text.new ≡ string_bytes text.old ++ sums_text sums.now) }
 {
-    let Sums { stops, waiting } = sums;
+    let Sums {
+        stops,
+        distance,
+        waiting,
+    } = *sums;
     put_phrase(text, Phrase::Sum)?;
     writeln!(text, "{stops:>7}{distance:>11}{waiting:>43}")
 }

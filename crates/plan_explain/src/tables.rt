@@ -4,7 +4,7 @@ ghost use Rattle.std.specs.List.{flat_map};
 ghost use Rattle.route_sched.specs.Route.{AreLiveOnce};
 ghost use Rattle.plan_explain.specs.Columns.{line, right};
 ghost use Rattle.plan_explain.specs.Phrases.{phrase};
-ghost use Rattle.plan_explain.specs.Tables.{heading, row_text, stop_rows, stops_table, table_text};
+ghost use Rattle.plan_explain.specs.Tables.{heading, load_text, row_text, stop_rows, stops_table, table_text, times_text, window_text};
 
 use crate::phrases::Phrase;
 use crate::rows::{Row, rows};
@@ -50,22 +50,54 @@ fn put_rows(text: &mut String, kind: Kind, rows: &[Row]) -> Result<(), OutOfMemo
 fn put_row(text: &mut String, kind: Kind, row: &Row) -> Result<(), OutOfMemory>
     ensures { OnOk result (string_bytes text.new ≡ string_bytes text.old ++ row_text kind row.now) }
 {
+    match kind {
+        Kind::LiLim => {
+            put_times(text, row)?;
+            put_window(text, row)
+        }
+        Kind::Vrp => put_load(text, row),
+    }
+}
+
+#[tactic(auto, unfolding(crate::specs::Tables::times_text))]
+fn put_times(text: &mut String, row: &Row) -> Result<(), OutOfMemory>
+    ensures { OnOk result (string_bytes text.new ≡ string_bytes text.old ++ times_text row.now) }
+{
     let Row {
         place,
         stop,
         arrival,
         start,
+        ..
+    } = *row;
+    write!(text, "{place:>5} {stop:>6} {arrival:>10} {start:>10} ")
+}
+
+#[tactic(auto, unfolding(crate::specs::Tables::window_text))]
+fn put_window(text: &mut String, row: &Row) -> Result<(), OutOfMemory>
+    ensures { OnOk result (string_bytes text.new ≡ string_bytes text.old ++ window_text row.now) }
+{
+    let Row {
         earliest,
         latest,
         load,
+        ..
     } = *row;
-    match kind {
-        Kind::LiLim => {
-            write!(text, "{place:>5} {stop:>6} {arrival:>10} {start:>10} ")?;
-            writeln!(text, "{earliest:>10}..{latest:<10} {load:>9}")
-        }
-        Kind::Vrp => writeln!(text, "{place:>5} {stop:>6} {arrival:>10} {load:>9}"),
-    }
+    writeln!(text, "{earliest:>10}..{latest:<10} {load:>9}")
+}
+
+#[tactic(auto, unfolding(crate::specs::Tables::load_text))]
+fn put_load(text: &mut String, row: &Row) -> Result<(), OutOfMemory>
+    ensures { OnOk result (string_bytes text.new ≡ string_bytes text.old ++ load_text row.now) }
+{
+    let Row {
+        place,
+        stop,
+        arrival,
+        load,
+        ..
+    } = *row;
+    writeln!(text, "{place:>5} {stop:>6} {arrival:>10} {load:>9}")
 }
 
 /// Appends the places of a route with their stops, without times.

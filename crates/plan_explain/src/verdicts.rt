@@ -36,9 +36,18 @@ pub fn explain_verdict(
             place,
             stop,
         } => {
-            put_sentence(alloc, &mut text, problem, solution, rule, route, place, stop)?;
+            put_sentence(
+                alloc, &mut text, problem, solution, rule, route, place, stop,
+            )?;
             text.push_str("\n")?;
-            put_shown(alloc, &mut text, problem, solution.routes.as_slice(), rule, route)?;
+            put_shown(
+                alloc,
+                &mut text,
+                problem,
+                solution.routes.as_slice(),
+                rule,
+                route,
+            )?;
         }
     }
     Ok(text)
