@@ -80,7 +80,8 @@ fn line_at(text: &[u8], number: u64) -> Option<&[u8]>
 }
 
 fn put_bytes(text: &mut String, bytes: &[u8]) -> Result<(), OutOfMemory>
-    ensures { OnOk result (string_bytes text.new ≡ string_bytes text.old ++ map shown_byte bytes.now) }
+    ensures { OnOk result (string_bytes text.new
+        ≡ string_bytes text.old ++ map shown_byte bytes.now) }
 {
     for byte in bytes {
         text.push(char::from(shown_byte(*byte)))?;

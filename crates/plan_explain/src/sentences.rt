@@ -198,7 +198,8 @@ pub(crate) fn put_late_return(
 }
 
 fn put_lateness(text: &mut String, start: u64, latest: u32) -> Result<(), OutOfMemory>
-    ensures { OnOk result (string_bytes text.new ≡ string_bytes text.old ++ late_text start latest) }
+    ensures { OnOk result (string_bytes text.new
+        ≡ string_bytes text.old ++ late_text start latest) }
 {
     let latest = u64::from(latest);
     write!(text, "{start}")?;

@@ -161,6 +161,6 @@ fn cites_lines(rt: HostRuntime) -> Result<(), Fail> {
         return Err(Fail::from("taken"));
     };
     let told = explain_solution_fault(alloc, &long, fault)?;
-    assert_eq!(rt; told.len(), 264);
+    assert_eq!(rt; told.len(), 263);
     Ok(())
 }
