@@ -1,5 +1,5 @@
 -- The route that is told.
-use Rattle.std.proofs.Common.{◌≡◌, ℕ, zero, suc, List, [], All, slice_get, unwrap_or, inl, inr, sym, ap, subst, arith}
+use Rattle.std.proofs.Common.{ℕ, zero, suc, List, [], All, slice_get, unwrap_or, inl, inr, sym, ap, subst, arith}
 use Rattle.std.specs.List.{IsDistinct}
 use Rattle.std.proofs.lemmas.Option.{slice_get_cases}
 use Rattle.plan_types.specs.Instance.{Instance}

@@ -5,7 +5,7 @@ use Rattle.std.specs.Option.{option_map}
 use Rattle.plan_types.specs.Instance.{Instance}
 use Rattle.plan_types.specs.declared.requests.Stop.{Stop}
 use Rattle.route_sched.specs.Route.{place}
-use Rattle.route_sched.specs.Schedule.{leg, start}
+use Rattle.route_sched.specs.Schedule.{start}
 use Rattle.route_sched.specs.Visiting.{visit_after, visits_from}
 use Rattle.route_sched.specs.declared.visits.Visit.{Visit}
 use Rattle.plan_audit.proofs.FirstLemmas.{none_some}

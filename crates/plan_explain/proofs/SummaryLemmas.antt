@@ -6,11 +6,10 @@ use Rattle.plan_types.specs.Instance.{Instance}
 use Rattle.route_sched.specs.Schedule.{start}
 use Rattle.route_sched.specs.Cost.{total_length}
 use Rattle.plan_explain.specs.Rows.{lines_from}
-use Rattle.plan_explain.specs.Summaries.{summary_line, summary_lines, summary_of, sums_of, sums_text, wait, waiting}
+use Rattle.plan_explain.specs.Summaries.{summary_line, summary_lines, summary_of, sums_of, sums_text, wait}
 use Rattle.plan_explain.specs.Tables.{arrival, row_behind, rows_of}
 use Rattle.plan_explain.specs.declared.rows.Row.{Row}
 use Rattle.plan_explain.specs.declared.summaries.Summary.{Summary}
-use Rattle.plan_explain.specs.declared.summaries.Sums.{Sums}
 use Rattle.plan_explain.proofs.RowLemmas.{arrives_before}
 
 -- the lines of the summaries are those of the routes

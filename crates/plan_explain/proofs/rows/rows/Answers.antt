@@ -1,9 +1,9 @@
-use Rattle.std.proofs.Common.{◌≡◌, ◌∙◌, ◌∷◌, ◌+◌, ◌++◌, [], arith, ap, sym, subst, length, map}
+use Rattle.std.proofs.Common.{◌∙◌, ◌∷◌, ◌++◌, [], arith, ap, sym, map}
 use Rattle.std.specs.List.{range_with_len}
 use Rattle.std.proofs.lemmas.List.FromFn.{map-range_with_len_more}
 use Rattle.plan_types.specs.Instance.{Instance}
 use Rattle.route_sched.specs.Walk.{Walk}
-use Rattle.route_sched.specs.Visiting.{visits_from, visit_after}
+use Rattle.route_sched.specs.Visiting.{visits_from}
 use Rattle.route_sched.specs.declared.visits.Visit.{Visit}
 use Rattle.route_sched.proofs.LiveStops.{place-first}
 use Rattle.route_sched.proofs.Steps.{start-first}

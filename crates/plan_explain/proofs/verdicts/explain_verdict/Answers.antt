@@ -1,4 +1,4 @@
-use Rattle.std.proofs.Common.{◌<◌, sym, subst, All}
+use Rattle.std.proofs.Common.{sym, subst, All}
 use Rattle.route_sched.specs.Route.{AreLiveOnce}
 use Rattle.plan_audit.specs.Verdict.{printed, IsVerdict}
 use Rattle.plan_audit.proofs.StepLemmas.{live_above, live_passing}

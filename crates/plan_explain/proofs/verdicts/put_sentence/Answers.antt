@@ -1,8 +1,6 @@
-use Rattle.std.proofs.Common.{◌≡◌, ◌<◌, ℕ, List, ◌∙◌, sym, ap, subst, arith, All}
-use Rattle.plan_types.specs.Instance.{Instance}
+use Rattle.std.proofs.Common.{◌≡◌, ◌<◌, ◌∙◌, sym, ap, subst, arith, All}
 use Rattle.route_sched.specs.Route.{AreLiveOnce}
-use Rattle.plan_audit.specs.Verdict.{printed, IsVerdict}
-use Rattle.plan_audit.specs.declared.rules.Verdict.TheVariants.{Broken}
+use Rattle.plan_audit.specs.Verdict.{printed}
 use Rattle.plan_audit.proofs.StepLemmas.{live_above}
 use Rattle.plan_explain.specs.Sentences.{route_told}
 use Rattle.plan_explain.proofs.RouteLemmas.{told_live}
