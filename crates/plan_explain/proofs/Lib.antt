@@ -1,0 +1,4 @@
+pub mod LineLemmas
+pub mod RouteLemmas
+pub mod RowLemmas
+pub mod SummaryLemmas

@@ -1,0 +1,22 @@
+-- The route that is told.
+use Rattle.std.proofs.Common.{ℕ, zero, suc, List, [], All, slice_get, unwrap_or, inl, inr, sym, ap, subst, arith}
+use Rattle.std.specs.List.{IsDistinct}
+use Rattle.std.proofs.lemmas.Option.{slice_get_cases}
+use Rattle.plan_types.specs.Instance.{Instance}
+use Rattle.route_sched.specs.Route.{AreLiveOnce}
+use Rattle.plan_explain.specs.Sentences.{route_told}
+
+no_stops : (p : Instance) → AreLiveOnce p []
+unfolding IsDistinct
+no_stops p = record { live = λ k d lt. absurd (omega arith); distinct = tt }
+
+item_live : (p : Instance) (routes : List (List ℕ)) (k : ℕ) → All (AreLiveOnce p) routes → AreLiveOnce p (unwrap_or (slice_get routes k) [])
+item_live p routes k live = elim (slice_get_cases routes k).1 [
+  | inl t ↦ subst (AreLiveOnce p) (sym (ap (λ o. unwrap_or o []) t.2)) (subst (AreLiveOnce p) t.3 (live k t.0 t.1))
+  | inr t ↦ subst (AreLiveOnce p) (sym (ap (λ o. unwrap_or o []) t.1)) (no_stops p)
+]
+
+-- its stops are live and stand once, if all are
+pub told_live : (p : Instance) (routes : List (List ℕ)) (r : ℕ) → All (AreLiveOnce p) routes → AreLiveOnce p (route_told routes r)
+told_live p routes zero live = no_stops p
+told_live p routes (suc k) live = item_live p routes k live

@@ -1,0 +1,68 @@
+-- The rows of a route, one visit after another.
+use Rattle.std.proofs.Common.{◌≡◌, ℕ, zero, suc, ◌+◌, ◌-◌, ◌<◌, ◌≤◌, List, [], length, map, slice_get, Option, Some, None, ap, sym, arith, ◌∙◌}
+use Rattle.std.specs.List.{range_with_len}
+use Rattle.std.specs.Option.{option_map}
+use Rattle.plan_types.specs.Instance.{Instance}
+use Rattle.plan_types.specs.declared.requests.Stop.{Stop}
+use Rattle.route_sched.specs.Route.{place}
+use Rattle.route_sched.specs.Schedule.{start}
+use Rattle.route_sched.specs.Visiting.{visit_after, visits_from}
+use Rattle.route_sched.specs.declared.visits.Visit.{Visit}
+use Rattle.plan_audit.proofs.FirstLemmas.{none_some}
+use Rattle.plan_audit.proofs.VisitLemmas.{visits_from-step}
+use Rattle.route_sched.proofs.Steps.{start-next}
+use Rattle.plan_explain.specs.Rows.{row_after}
+use Rattle.plan_explain.specs.Tables.{arrival, row_behind}
+use Rattle.plan_explain.specs.declared.rows.Row.{Row}
+
+-- nobody is served before the arrival
+pub arrives_before : (p : Instance) (route : List ℕ) (k : ℕ) → arrival p route k ≤ start p route (k + 1)
+arrives_before p route k = omega (arith, start-next p route k)
+
+row_with : ℕ → ℕ → Visit → Row
+row_with k arrival visit = record {
+  place = k + 1;
+  stop = visit.stop.number;
+  arrival = arrival;
+  start = visit.start;
+  earliest = visit.stop.earliest;
+  latest = visit.stop.latest;
+  load = visit.load;
+}
+
+module _ (p : Instance) (route : List ℕ) (k : ℕ) (last visit : Visit) (stop : last.stop ≡ place p route k) (begun : last.start ≡ start p route k) (is : visit ≡ visit_after p route k) where
+  pub arrival_is : last.start + last.stop.service + visit.leg ≡ arrival p route k
+  arrival_is = omega (arith, begun, ap (λ (s : Stop). s.service) stop, ap (λ (v : Visit). v.leg) is)
+
+  -- the row that is made of two visits is that of the place
+  pub row_is : row_after k last visit ≡ row_behind p route k
+  unfolding row_with
+  row_is = ap (λ a. row_with k a visit) arrival_is ∙ ap (row_with k (arrival p route k)) is
+
+  -- and its arrival is no later than the start
+  pub in_time : last.start + last.stop.service + visit.leg ≤ visit.start
+  in_time = omega (arith, arrival_is, arrives_before p route k, ap (λ (v : Visit). v.start) is)
+
+nth-range : {X : Type 0} (f : ℕ → X) (a n k : ℕ) → k < n → slice_get (map f (range_with_len a n)) k ≡ Some (f (a + k))
+nth-range f a zero k lt = absurd (omega arith)
+nth-range f a (suc n) zero lt = ap (λ i. Some (f i)) (let e : a ≡ a + 0 = omega arith in e)
+nth-range f a (suc n) (suc k) lt = nth-range f (a + 1) n k (omega arith) ∙ ap (λ i. Some (f i)) (let e : a + 1 + k ≡ a + suc k = omega arith in e)
+
+module _ (p : Instance) (route : List ℕ) (k : ℕ) (o : Option Visit) where
+  here : k ≤ length route → slice_get (visits_from p route 0) k ≡ Some (visit_after p route k)
+  here within = nth-range (visit_after p route) 0 (length route + 1 - 0) k (omega arith) ∙ ap (λ i. Some (visit_after p route i)) (let e : 0 + k ≡ k = omega arith in e)
+
+  same : (o : Option Visit) (v w : Visit) → o ≡ Some v → option_map (λ z. z) o ≡ Some w → v ≡ w
+  same None v w e h = absurd (none_some v e)
+  same (Some z) v w e h = cc
+
+  -- the visit that `nth` finds, and that it finds one
+  pub visit_told : (v : Visit) → k ≤ length route → o ≡ Some v → option_map (λ z. z) o ≡ slice_get (visits_from p route 0) k → v ≡ visit_after p route k
+  visit_told v within e h = same o v _ e (h ∙ here within)
+
+  pub visit_there : k ≤ length route → o ≡ None → option_map (λ z. z) o ≡ slice_get (visits_from p route 0) k → ⊥
+  visit_there within e h = none_some _ (sym (ap (option_map (λ z. z)) e) ∙ h ∙ here within)
+
+-- a place is left
+pub none_left : (p : Instance) (route : List ℕ) (k : ℕ) (left : List Visit) → k ≤ length route → left ≡ visits_from p route k → left ≡ [] → ⊥
+none_left p route k left within is none = absurd (omega (arith, ap length (sym none ∙ is ∙ visits_from-step p route k within)))

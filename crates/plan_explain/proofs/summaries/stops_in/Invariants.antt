@@ -1,0 +1,10 @@
+use Rattle.std.proofs.Common.{◌≡◌, ◌≤◌, ◌*◌, ◌^◌, take}
+use Rattle.std.specs.List.{sum_by}
+use Rattle.plan_explain.proofs.summaries.stops_in.Given as goal
+
+-- those of the routes so far
+abbrev pub invariant-loop-summary : goal.invariant-loop-summary
+invariant-loop-summary l = record {
+  sum : l.stops ≡ sum_by (λ s. s.stops) (take l.summary-index l.summaries);
+  bound : l.stops ≤ 2 ^ 64 * l.summary-index;
+}

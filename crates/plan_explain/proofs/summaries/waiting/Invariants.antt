@@ -1,0 +1,12 @@
+use Rattle.std.proofs.Common.{◌≡◌, ◌≤◌, take}
+use Rattle.std.specs.List.{sum_by}
+use Rattle.route_sched.specs.Schedule.{start}
+use Rattle.plan_explain.specs.Summaries.{wait}
+use Rattle.plan_explain.proofs.summaries.waiting.Given as goal
+
+-- that of the rows so far is never more than the time
+abbrev pub invariant-loop-row : goal.invariant-loop-row
+invariant-loop-row l = record {
+  sum : l.waiting ≡ sum_by wait (take l.row-index l.rows);
+  bound : l.waiting ≤ start l.problem l.route l.row-index;
+}

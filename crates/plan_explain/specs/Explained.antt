@@ -1,0 +1,24 @@
+-- What is said of a verdict behind the line of the audit.
+use Rattle.std.specs.Prelude.{ℕ, ◌==◌, nat_lt, if◌then◌else◌, List, [], ◌++◌}
+use Rattle.plan_types.specs.Instance.{Instance}
+use Rattle.sol_text.specs.declared.read.Solution.{Solution}
+use Rattle.plan_audit.specs.declared.rules.Verdict.{Verdict}
+use Rattle.plan_audit.specs.declared.rules.Verdict.TheVariants.{Broken, Pass}
+use Rattle.plan_explain.specs.Columns.{line}
+use Rattle.plan_explain.specs.Sentences.{route_told, sentence}
+use Rattle.plan_explain.specs.Summaries.{summary_text}
+use Rattle.plan_explain.specs.Tables.{stops_table, table_text}
+
+-- what is shown of the routes: the one that is told, without times where a stop is unknown or stands twice; all of them, where their
+-- distances are asked; none, where none is told
+abbrev pub shown_text : Instance → List (List ℕ) → ℕ → ℕ → List ℕ
+shown_text p routes rule r =
+    if rule == 11 then summary_text p routes
+    else if r == 0 then []
+    else if nat_lt 2 rule then table_text p (route_told routes r)
+    else stops_table (route_told routes r)
+
+-- a broken rule: its sentence and the route; a solution that passes: a line for each route
+abbrev pub verdict_text : Instance → Solution → Verdict → List ℕ
+verdict_text p plan (Pass cost) = summary_text p plan.routes
+verdict_text p plan (Broken rule r i n) = line (sentence p plan rule r i n) ++ shown_text p plan.routes rule r

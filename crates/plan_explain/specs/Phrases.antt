@@ -1,0 +1,36 @@
+-- The words between the figures.
+use Rattle.std.specs.Prelude.{ℕ, List, codes}
+use Rattle.plan_explain.specs.declared.phrases.Phrase.{Phrase}
+use Rattle.plan_explain.specs.declared.phrases.Phrase.TheVariants.{UnknownStop, NumbersBelow, VisitedTwice, First, MissingStop, SplitPair, EarlyDelivery, OtherStop, ItsPickup, Stop, Stands, There, Nowhere, AtPlace, OfRoute, Overload, Capacity, LateService, LateReturn, Latest, LateBy, TooManyVehicles, Fleet, WrongCost, Driven, TimesHeading, LoadsHeading, StopsHeading, RoutesHeading, Sum}
+
+unfoldable pub phrase : Phrase → List ℕ
+phrase UnknownStop = codes "unknown stop: no request has stop "
+phrase NumbersBelow = codes ", the numbers of the instance are below "
+phrase VisitedTwice = codes "visited twice: "
+phrase First = codes " first"
+phrase MissingStop = codes "missing stop: "
+phrase SplitPair = codes "split pair: "
+phrase EarlyDelivery = codes "early delivery: "
+phrase OtherStop = codes ", and the other stop of its pair, stop "
+phrase ItsPickup = codes ", and its pickup, stop "
+phrase Stop = codes "stop "
+phrase Stands = codes " stands "
+phrase There = codes ", "
+phrase Nowhere = codes "nowhere"
+phrase AtPlace = codes "at place "
+phrase OfRoute = codes " of route "
+phrase Overload = codes "overload: the load after this stop is "
+phrase Capacity = codes ", the capacity "
+phrase LateService = codes "late service: it starts at "
+phrase LateReturn = codes "late return: the vehicle is back at "
+phrase Latest = codes ", latest "
+phrase LateBy = codes ": late by "
+phrase TooManyVehicles = codes "too many vehicles: "
+phrase Fleet = codes " are used, the fleet has "
+phrase WrongCost = codes "wrong cost: "
+phrase Driven = codes " is printed, the distance driven is "
+phrase TimesHeading = codes "place   stop    arrival      start         window              load\n"
+phrase LoadsHeading = codes "place   stop    arrival      load\n"
+phrase StopsHeading = codes "place   stop\n"
+phrase RoutesHeading = codes "route  stops   distance      load      start     return    waiting\n"
+phrase Sum = codes "  sum"

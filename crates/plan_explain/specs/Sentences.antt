@@ -1,0 +1,105 @@
+-- The sentence on a broken rule, with its figures. Routes and places count from 1.
+use Rattle.std.specs.Prelude.{ℕ, ◌+◌, ◌-◌, ◌==◌, if◌then◌else◌, List, [], ◌∷◌, ◌++◌, length, Option, Some, None, unwrap_or, decimal}
+use Rattle.std.specs.Fmt.{signed_decimal}
+use Rattle.std.specs.Option.{option_map, option_or}
+use Rattle.plan_types.specs.Instance.{Instance, partner_at, pickup_at}
+use Rattle.route_sched.specs.Schedule.{start}
+use Rattle.route_sched.specs.Cost.{total_length, used_count}
+use Rattle.sol_text.specs.declared.read.Solution.{Solution}
+use Rattle.plan_audit.specs.Finding.{place_of}
+use Rattle.plan_audit.specs.Rules.{item_at}
+use Rattle.plan_explain.specs.Phrases.{phrase}
+use Rattle.plan_explain.specs.Tables.{rows_of}
+use Rattle.plan_explain.specs.declared.phrases.Phrase.{Phrase}
+use Rattle.plan_explain.specs.declared.phrases.Phrase.TheVariants.{UnknownStop, NumbersBelow, VisitedTwice, First, MissingStop, SplitPair, EarlyDelivery, OtherStop, ItsPickup, Stop, Stands, There, Nowhere, AtPlace, OfRoute, Overload, Capacity, LateService, LateReturn, Latest, LateBy, TooManyVehicles, Fleet, WrongCost, Driven}
+use Rattle.plan_explain.specs.declared.rows.Row.{Row}
+use Rattle.plan_explain.specs.declared.seats.Seat.{Seat}
+
+-- the stops of a route; route 0 has none
+abbrev pub route_told : List (List ℕ) → ℕ → List ℕ
+route_told routes r = unwrap_or (item_at routes r) []
+
+-- the first place of stop n in the routes, where these count from k on
+abbrev pub seat_from : ℕ → ℕ → List (List ℕ) → Option Seat
+seat_from n k [] = None
+seat_from n k (route ∷ routes) = option_or (option_map (λ i. record { route = k; place = i }) (place_of n 1 route)) (seat_from n (k + 1) routes)
+
+abbrev pub first_seat : List (List ℕ) → ℕ → Option Seat
+first_seat routes n = seat_from n 1 routes
+
+abbrev pub seat_text : Option Seat → List ℕ
+seat_text None = phrase Nowhere
+seat_text (Some s) = phrase AtPlace ++ decimal s.place ++ phrase OfRoute ++ decimal s.route
+
+-- where a stop stands first
+abbrev pub stands_text : List (List ℕ) → ℕ → List ℕ
+stands_text routes n = phrase Stop ++ decimal n ++ phrase Stands ++ seat_text (first_seat routes n)
+
+-- and another stop beside it, if there is one
+abbrev pub beside_text : List (List ℕ) → Phrase → Option ℕ → List ℕ
+beside_text routes words None = []
+beside_text routes words (Some m) = phrase words ++ decimal m ++ phrase There ++ seat_text (first_seat routes m)
+
+-- a stop, and the other one of its pair
+abbrev pub pair_text : Instance → List (List ℕ) → ℕ → List ℕ
+pair_text p routes n = stands_text routes n ++ beside_text routes OtherStop (partner_at p n)
+
+-- rules 1 and 2
+abbrev pub unknown_sentence : Instance → ℕ → List ℕ
+unknown_sentence p n = phrase UnknownStop ++ decimal n ++ phrase NumbersBelow ++ decimal p.next_number
+
+abbrev pub twice_sentence : List (List ℕ) → ℕ → List ℕ
+twice_sentence routes n = phrase VisitedTwice ++ stands_text routes n ++ phrase First
+
+-- 3, 4 and 5
+abbrev pub missing_sentence : Instance → List (List ℕ) → ℕ → List ℕ
+missing_sentence p routes n = phrase MissingStop ++ pair_text p routes n
+
+abbrev pub split_sentence : Instance → List (List ℕ) → ℕ → List ℕ
+split_sentence p routes n = phrase SplitPair ++ pair_text p routes n
+
+abbrev pub early_sentence : Instance → List (List ℕ) → ℕ → List ℕ
+early_sentence p routes n = phrase EarlyDelivery ++ stands_text routes n ++ beside_text routes ItsPickup (pickup_at p n)
+
+-- 6 and 7, by the row of the place that is told
+abbrev pub load_sentence : Instance → Option Row → List ℕ
+load_sentence p None = []
+load_sentence p (Some row) = phrase Overload ++ signed_decimal row.load ++ phrase Capacity ++ decimal p.capacity
+
+-- a time, the latest time, and by how much it is late
+abbrev pub late_text : ℕ → ℕ → List ℕ
+late_text start latest = decimal start ++ phrase Latest ++ decimal latest ++ phrase LateBy ++ decimal (start - latest)
+
+abbrev pub late_sentence : Option Row → List ℕ
+late_sentence None = []
+late_sentence (Some row) = phrase LateService ++ late_text row.start row.latest
+
+-- 8
+abbrev pub return_sentence : Instance → List ℕ → List ℕ
+return_sentence p route = phrase LateReturn ++ late_text (start p route (length route + 1)) p.depot.latest
+
+-- the row of a place, counted from 1
+abbrev pub row_told : Instance → List ℕ → ℕ → Option Row
+row_told p route i = item_at (rows_of p route) i
+
+-- 9 and 11
+abbrev pub fleet_sentence : Instance → List (List ℕ) → List ℕ
+fleet_sentence p routes = phrase TooManyVehicles ++ decimal (used_count routes) ++ phrase Fleet ++ decimal p.fleet
+
+abbrev pub cost_sentence : Instance → Solution → List ℕ
+cost_sentence p plan = phrase WrongCost ++ decimal plan.cost ++ phrase Driven ++ decimal (total_length p plan.routes)
+
+-- the sentence on a rule, by its number; a printed solution has no pins
+abbrev pub sentence : Instance → Solution → ℕ → ℕ → ℕ → ℕ → List ℕ
+sentence p plan rule r i n =
+    if rule == 1 then unknown_sentence p n
+    else if rule == 2 then twice_sentence plan.routes n
+    else if rule == 3 then missing_sentence p plan.routes n
+    else if rule == 4 then split_sentence p plan.routes n
+    else if rule == 5 then early_sentence p plan.routes n
+    else if rule == 6 then load_sentence p (row_told p (route_told plan.routes r) i)
+    else if rule == 7 then late_sentence (row_told p (route_told plan.routes r) i)
+    else if rule == 8 then return_sentence p (route_told plan.routes r)
+    else if rule == 9 then fleet_sentence p plan.routes
+    else if rule == 11 then cost_sentence p plan
+    else []

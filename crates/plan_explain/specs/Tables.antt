@@ -1,0 +1,61 @@
+-- A route as a table: a row for each place, the return to the depot last. Places count from 1.
+use Rattle.std.specs.Prelude.{ℕ, ◌+◌, List, [], ◌∷◌, ◌++◌, map, length, codes}
+use Rattle.std.specs.List.{flat_map, range_with_len}
+use Rattle.plan_types.specs.Instance.{Instance}
+use Rattle.plan_types.specs.declared.requests.Kind.{Kind}
+use Rattle.plan_types.specs.declared.requests.Kind.TheVariants.{LiLim, Vrp}
+use Rattle.route_sched.specs.Route.{place}
+use Rattle.route_sched.specs.Schedule.{leg, load, start}
+use Rattle.plan_explain.specs.Columns.{left, line, right, right_signed}
+use Rattle.plan_explain.specs.Phrases.{phrase}
+use Rattle.plan_explain.specs.declared.phrases.Phrase.TheVariants.{LoadsHeading, StopsHeading, TimesHeading}
+use Rattle.plan_explain.specs.declared.rows.Row.{Row}
+
+-- when the vehicle comes to the place behind place k: it leaves after the service there, and drives on
+abbrev pub arrival : Instance → List ℕ → ℕ → ℕ
+arrival p route k = start p route k + (place p route k).service + leg p route k
+
+-- the row of the place behind place k
+abbrev pub row_behind : Instance → List ℕ → ℕ → Row
+row_behind p route k = record {
+  place = k + 1;
+  stop = (place p route (k + 1)).number;
+  arrival = arrival p route k;
+  start = start p route (k + 1);
+  earliest = (place p route (k + 1)).earliest;
+  latest = (place p route (k + 1)).latest;
+  load = load p route (k + 1);
+}
+
+-- the rows of a route
+abbrev pub rows_of : Instance → List ℕ → List Row
+rows_of p route = map (row_behind p route) (range_with_len 0 (length route + 1))
+
+-- A problem of kind `Vrp` asks for no times: its rows leave the start and the window out.
+abbrev pub heading : Kind → List ℕ
+heading LiLim = phrase TimesHeading
+heading Vrp = phrase LoadsHeading
+
+unfoldable pub times_text : Row → List ℕ
+times_text r = right 5 r.place ++ codes " " ++ right 6 r.stop ++ codes " " ++ right 10 r.arrival ++ codes " " ++ right 10 r.start ++ codes " "
+
+unfoldable pub window_text : Row → List ℕ
+window_text r = line (right 10 r.earliest ++ codes ".." ++ left 10 r.latest ++ codes " " ++ right_signed 9 r.load)
+
+unfoldable pub load_text : Row → List ℕ
+load_text r = line (right 5 r.place ++ codes " " ++ right 6 r.stop ++ codes " " ++ right 10 r.arrival ++ codes " " ++ right_signed 9 r.load)
+
+abbrev pub row_text : Kind → Row → List ℕ
+row_text LiLim r = times_text r ++ window_text r
+row_text Vrp r = load_text r
+
+abbrev pub table_text : Instance → List ℕ → List ℕ
+table_text p route = heading p.kind ++ flat_map (row_text p.kind) (rows_of p route)
+
+-- Where a stop is unknown or stands twice, nobody knows when the vehicle comes: places and stops alone.
+abbrev pub stop_rows : ℕ → List ℕ → List ℕ
+stop_rows k [] = []
+stop_rows k (n ∷ route) = line (right 5 k ++ codes " " ++ right 6 n) ++ stop_rows (k + 1) route
+
+abbrev pub stops_table : List ℕ → List ℕ
+stops_table route = phrase StopsHeading ++ stop_rows 1 route

@@ -1,0 +1,246 @@
+//! The sentence on a broken rule.
+ghost use Rattle.std.specs.Prelude.{◌≡◌, ◌++◌, All, OnOk, decimal, string_bytes};
+ghost use Rattle.std.specs.Fmt.{signed_decimal};
+ghost use Rattle.route_sched.specs.Route.{AreLiveOnce};
+ghost use Rattle.route_sched.specs.Cost.{used_count};
+ghost use Rattle.plan_explain.specs.Phrases.{phrase};
+ghost use Rattle.plan_explain.specs.Sentences.{beside_text, cost_sentence, early_sentence, first_seat, fleet_sentence, late_sentence, late_text, load_sentence, missing_sentence, pair_text, return_sentence, seat_text, split_sentence, stands_text, twice_sentence, unknown_sentence};
+
+use crate::phrases::Phrase;
+use crate::rows::{Row, visit_behind};
+use crate::seats::{Seat, first_seat};
+use crate::summaries::total_distance;
+use plan_types::{OutOfMemory, Problem, Route};
+use sol_text::Solution;
+
+// Words, and the number behind them.
+fn put_named(text: &mut String, words: Phrase, n: u64) -> Result<(), OutOfMemory>
+    ensures { OnOk result (string_bytes text.new
+        ≡ string_bytes text.old ++ (phrase words ++ decimal n)) }
+{
+    put_phrase(text, words)?;
+    write!(text, "{n}")
+}
+
+/// Appends words.
+pub(crate) fn put_phrase(text: &mut String, words: Phrase) -> Result<(), OutOfMemory>
+    ensures { OnOk result (string_bytes text.new ≡ string_bytes text.old ++ phrase words) }
+{
+    text.push_str(words.text())
+}
+
+/// Appends that a stop is of no request.
+pub(crate) fn put_unknown(
+    text: &mut String,
+    problem: &Problem,
+    stop: u32,
+) -> Result<(), OutOfMemory>
+    ensures { OnOk result (string_bytes text.new
+        ≡ string_bytes text.old ++ unknown_sentence problem.now stop) }
+{
+    put_named(text, Phrase::UnknownStop, u64::from(stop))?;
+    let next = u64::from(problem.next_number);
+    put_named(text, Phrase::NumbersBelow, next)
+}
+
+/// Appends where a stop that stands twice stands first.
+pub(crate) fn put_twice(text: &mut String, routes: &[Route], stop: u32) -> Result<(), OutOfMemory>
+    ensures { OnOk result (string_bytes text.new
+        ≡ string_bytes text.old ++ twice_sentence routes.now stop) }
+{
+    put_phrase(text, Phrase::VisitedTwice)?;
+    put_stands(text, routes, stop)?;
+    put_phrase(text, Phrase::First)
+}
+
+/// Appends that a stop stands nowhere, and where the other one of its pair stands.
+pub(crate) fn put_missing(
+    text: &mut String,
+    problem: &Problem,
+    routes: &[Route],
+    stop: u32,
+) -> Result<(), OutOfMemory>
+    ensures { OnOk result (string_bytes text.new
+        ≡ string_bytes text.old ++ missing_sentence problem.now routes.now stop) }
+{
+    put_phrase(text, Phrase::MissingStop)?;
+    put_pair(text, problem, routes, stop)
+}
+
+/// Appends where the stops of a split pair stand.
+pub(crate) fn put_split(
+    text: &mut String,
+    problem: &Problem,
+    routes: &[Route],
+    stop: u32,
+) -> Result<(), OutOfMemory>
+    ensures { OnOk result (string_bytes text.new
+        ≡ string_bytes text.old ++ split_sentence problem.now routes.now stop) }
+{
+    put_phrase(text, Phrase::SplitPair)?;
+    put_pair(text, problem, routes, stop)
+}
+
+/// Appends where a delivery stands, and where its pickup does.
+pub(crate) fn put_early(
+    text: &mut String,
+    problem: &Problem,
+    routes: &[Route],
+    stop: u32,
+) -> Result<(), OutOfMemory>
+    ensures { OnOk result (string_bytes text.new
+        ≡ string_bytes text.old ++ early_sentence problem.now routes.now stop) }
+{
+    put_phrase(text, Phrase::EarlyDelivery)?;
+    put_stands(text, routes, stop)?;
+    put_beside(text, routes, Phrase::ItsPickup, problem.pickup_of(stop))
+}
+
+fn put_pair(
+    text: &mut String,
+    problem: &Problem,
+    routes: &[Route],
+    stop: u32,
+) -> Result<(), OutOfMemory>
+    ensures { OnOk result (string_bytes text.new
+        ≡ string_bytes text.old ++ pair_text problem.now routes.now stop) }
+{
+    put_stands(text, routes, stop)?;
+    put_beside(text, routes, Phrase::OtherStop, problem.partner_of(stop))
+}
+
+fn put_stands(text: &mut String, routes: &[Route], stop: u32) -> Result<(), OutOfMemory>
+    ensures { OnOk result (string_bytes text.new
+        ≡ string_bytes text.old ++ stands_text routes.now stop) }
+{
+    put_named(text, Phrase::Stop, u64::from(stop))?;
+    put_phrase(text, Phrase::Stands)?;
+    put_seat(text, first_seat(routes, stop))
+}
+
+// Where another stop stands, if there is one.
+fn put_beside(
+    text: &mut String,
+    routes: &[Route],
+    words: Phrase,
+    stop: Option<u32>,
+) -> Result<(), OutOfMemory>
+    ensures { OnOk result (string_bytes text.new
+        ≡ string_bytes text.old ++ beside_text routes.now words stop) }
+{
+    let Some(stop) = stop else {
+        return Ok(());
+    };
+    put_named(text, words, u64::from(stop))?;
+    put_phrase(text, Phrase::There)?;
+    put_seat(text, first_seat(routes, stop))
+}
+
+fn put_seat(text: &mut String, seat: Option<Seat>) -> Result<(), OutOfMemory>
+    ensures { OnOk result (string_bytes text.new ≡ string_bytes text.old ++ seat_text seat) }
+{
+    match seat {
+        None => put_phrase(text, Phrase::Nowhere),
+        Some(seat) => {
+            put_named(text, Phrase::AtPlace, seat.place)?;
+            put_named(text, Phrase::OfRoute, seat.route)
+        }
+    }
+}
+
+/// Appends the load after the place of this row, and the capacity.
+pub(crate) fn put_overload(
+    text: &mut String,
+    problem: &Problem,
+    row: Option<Row>,
+) -> Result<(), OutOfMemory>
+    ensures { OnOk result (string_bytes text.new
+        ≡ string_bytes text.old ++ load_sentence problem.now row) }
+{
+    let Some(row) = row else {
+        return Ok(());
+    };
+    put_phrase(text, Phrase::Overload)?;
+    put_signed(text, row.load)?;
+    put_named(text, Phrase::Capacity, u64::from(problem.capacity))
+}
+
+fn put_signed(text: &mut String, n: i64) -> Result<(), OutOfMemory>
+    ensures { OnOk result (string_bytes text.new ≡ string_bytes text.old ++ signed_decimal n) }
+{
+    write!(text, "{n}")
+}
+
+/// Appends the start of service at the place of this row, and the latest there.
+pub(crate) fn put_late(text: &mut String, row: Option<Row>) -> Result<(), OutOfMemory>
+    ensures { OnOk result (string_bytes text.new ≡ string_bytes text.old ++ late_sentence row) }
+{
+    let Some(row) = row else {
+        return Ok(());
+    };
+    put_phrase(text, Phrase::LateService)?;
+    put_lateness(text, row.start, row.latest)
+}
+
+/// Appends when the vehicle is back, and the depot's latest.
+pub(crate) fn put_late_return(
+    text: &mut String,
+    problem: &Problem,
+    route: &[u32],
+) -> Result<(), OutOfMemory>
+    requires { AreLiveOnce problem.now route.now }
+    ensures { OnOk result (string_bytes text.new
+        ≡ string_bytes text.old ++ return_sentence problem.now route.now) }
+{
+    let back = visit_behind(problem, route, route.len()).start;
+    put_phrase(text, Phrase::LateReturn)?;
+    put_lateness(text, back, problem.depot.latest)
+}
+
+fn put_lateness(text: &mut String, start: u64, latest: u32) -> Result<(), OutOfMemory>
+    ensures { OnOk result (string_bytes text.new
+        ≡ string_bytes text.old ++ late_text start latest) }
+{
+    let latest = u64::from(latest);
+    write!(text, "{start}")?;
+    put_named(text, Phrase::Latest, latest)?;
+    put_named(text, Phrase::LateBy, start.saturating_sub(latest))
+}
+
+/// Appends how many vehicles are used, and how many there are.
+pub(crate) fn put_fleet(
+    text: &mut String,
+    problem: &Problem,
+    routes: &[Route],
+) -> Result<(), OutOfMemory>
+    ensures { OnOk result (string_bytes text.new
+        ≡ string_bytes text.old ++ fleet_sentence problem.now routes.now) }
+{
+    put_named(text, Phrase::TooManyVehicles, used_count(routes))?;
+    put_named(text, Phrase::Fleet, u64::from(problem.fleet))
+}
+
+/// Appends the printed cost, and the distance driven.
+pub(crate) fn put_cost(
+    text: &mut String,
+    problem: &Problem,
+    solution: &Solution,
+) -> Result<(), OutOfMemory>
+    requires { All (AreLiveOnce problem.now) solution.now.routes }
+    ensures { OnOk result (string_bytes text.new
+        ≡ string_bytes text.old ++ cost_sentence problem.now solution.now) }
+{
+    let distance = total_distance(problem, solution.routes.as_slice());
+    put_named(text, Phrase::WrongCost, solution.cost)?;
+    put_phrase(text, Phrase::Driven)?;
+    write!(text, "{distance}")
+}
+
+fn used_count(routes: &[Route]) -> u64
+    ensures { result ≡ used_count routes.now }
+{
+    routes
+        .iter()
+        .filter(|route| !route.as_slice().is_empty())
+        .count() as u64
+}

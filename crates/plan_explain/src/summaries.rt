@@ -1,0 +1,211 @@
+//! A line for each route, and the sums.
+ghost use Rattle.std.specs.Prelude.{◌≡◌, ◌++◌, ◌<◌, ◌^◌, All, IfOk, OnOk, fold, map, pos, string_bytes, sum_by};
+ghost use Rattle.std.specs.Int.{int_max};
+ghost use Rattle.route_sched.specs.Route.{AreLiveOnce};
+ghost use Rattle.route_sched.specs.Cost.{total_length};
+ghost use Rattle.plan_explain.specs.Summaries.{day_text, summary_line, summary_of, summary_text, sums_text, wait, waiting, way_text};
+ghost use Rattle.plan_explain.specs.Phrases.{phrase};
+ghost use Rattle.plan_explain.specs.Rows.{lines_from};
+ghost use Rattle.plan_explain.specs.Tables.{rows_of};
+
+use crate::phrases::Phrase;
+use crate::rows::{Row, rows, visit_behind};
+use crate::sentences::put_phrase;
+use plan_types::{OutOfMemory, Problem, Route};
+use route_sched::route_distance;
+use std::alloc::Global;
+
+/// What a route comes to.
+#[derive(Clone, Copy, Debug, PartialEq, Eq)]
+pub(crate) struct Summary {
+    pub stops: u64,
+    pub distance: u64,
+    /// The most that the vehicle carries.
+    pub load: i64,
+    /// When the first service starts.
+    pub start: u64,
+    /// When the vehicle is back at the depot.
+    pub back: u64,
+    /// How long the vehicle waits.
+    pub waiting: u64,
+}
+
+/// What some routes come to together.
+#[derive(Clone, Copy, Debug, PartialEq, Eq)]
+pub(crate) struct Sums {
+    stops: u128,
+    distance: u128,
+    waiting: u128,
+}
+
+/// Appends a line for each route, and the sums.
+pub(crate) fn put_summary(
+    alloc: Global,
+    text: &mut String,
+    problem: &Problem,
+    routes: &[Route],
+) -> Result<(), OutOfMemory>
+    requires { All (AreLiveOnce problem.now) routes.now }
+    ensures { OnOk result (string_bytes text.new
+        ≡ string_bytes text.old ++ summary_text problem.now routes.now) }
+{
+    let summaries = summaries(alloc, problem, routes)?;
+    let summaries = summaries.as_slice();
+    put_phrase(text, Phrase::RoutesHeading)?;
+    put_lines(text, summaries)?;
+    let sums = Sums {
+        stops: stops_in(summaries),
+        distance: total_distance(problem, routes),
+        waiting: waiting_in(summaries),
+    };
+    put_sums(text, &sums)
+}
+
+fn summaries(
+    alloc: Global,
+    problem: &Problem,
+    routes: &[Route],
+) -> Result<Vec<Summary>, OutOfMemory>
+    requires { All (AreLiveOnce problem.now) routes.now }
+    ensures { IfOk result (λ summaries. summaries.items
+        ≡ map (summary_of problem.now) routes.now) }
+{
+    let mut summaries = Vec::new(alloc);
+    for route in routes {
+        summaries.push(summary_of(alloc, problem, route.as_slice())?)?;
+    }
+    Ok(summaries)
+}
+
+fn summary_of(alloc: Global, problem: &Problem, route: &[u32]) -> Result<Summary, OutOfMemory>
+    requires { AreLiveOnce problem.now route.now }
+    ensures { IfOk result (λ summary. summary ≡ summary_of problem.now route.now) }
+{
+    let rows = rows(alloc, problem, route)?;
+    Ok(Summary {
+        stops: route.len() as u64,
+        distance: route_distance(problem, route),
+        load: greatest_load(rows.as_slice()),
+        start: visit_behind(problem, route, 0).start,
+        back: visit_behind(problem, route, route.len()).start,
+        waiting: waiting(problem, route, rows.as_slice()),
+    })
+}
+
+fn greatest_load(rows: &[Row]) -> i64
+    ensures { result ≡ fold int_max (pos 0) (map (λ r. r.load) rows.now) }
+{
+    let mut greatest = 0;
+    for row in rows {
+        greatest = greatest.max(row.load);
+    }
+    greatest
+}
+
+// How long the vehicle waits in all. That is never more than the time at which it is back.
+fn waiting(problem: &Problem, route: &[u32], rows: &[Row]) -> u64
+    requires { rows.now ≡ rows_of problem.now route.now }
+    ensures { result ≡ waiting problem.now route.now }
+{
+    let mut waiting = 0;
+    for row in rows {
+        waiting += wait(row);
+    }
+    waiting
+}
+
+fn wait(row: &Row) -> u64
+    ensures value { result ≡ wait row.now }
+    ensures fits { row.now.start < 2 ^ 64 }
+{
+    row.start.saturating_sub(row.arrival)
+}
+
+fn put_lines(text: &mut String, summaries: &[Summary]) -> Result<(), OutOfMemory>
+    ensures { OnOk result (string_bytes text.new
+        ≡ string_bytes text.old ++ lines_from 1 summaries.now) }
+{
+    for (route, summary) in summaries.iter().enumerate() {
+        put_line(text, route as u64 + 1, summary)?;
+    }
+    Ok(())
+}
+
+fn put_line(text: &mut String, route: u64, summary: &Summary) -> Result<(), OutOfMemory>
+    ensures { OnOk result (string_bytes text.new
+        ≡ string_bytes text.old ++ summary_line route summary.now) }
+{
+    put_way(text, route, summary)?;
+    put_day(text, summary)
+}
+
+#[tactic(auto, unfolding(crate::specs::Summaries::way_text))]
+fn put_way(text: &mut String, route: u64, summary: &Summary) -> Result<(), OutOfMemory>
+    ensures { OnOk result (string_bytes text.new
+        ≡ string_bytes text.old ++ way_text route summary.now) }
+{
+    let Summary {
+        stops,
+        distance,
+        load,
+        ..
+    } = *summary;
+    write!(text, "{route:>5} {stops:>6} {distance:>10} {load:>9} ")
+}
+
+#[tactic(auto, unfolding(crate::specs::Summaries::day_text))]
+fn put_day(text: &mut String, summary: &Summary) -> Result<(), OutOfMemory>
+    ensures { OnOk result (string_bytes text.new ≡ string_bytes text.old ++ day_text summary.now) }
+{
+    let Summary {
+        start,
+        back,
+        waiting,
+        ..
+    } = *summary;
+    writeln!(text, "{start:>10} {back:>10} {waiting:>10}")
+}
+
+fn stops_in(summaries: &[Summary]) -> u128
+    ensures { result ≡ sum_by (λ s. s.stops) summaries.now }
+{
+    let mut stops = 0;
+    for summary in summaries {
+        stops += u128::from(summary.stops);
+    }
+    stops
+}
+
+fn waiting_in(summaries: &[Summary]) -> u128
+    ensures { result ≡ sum_by (λ s. s.waiting) summaries.now }
+{
+    let mut waiting = 0;
+    for summary in summaries {
+        waiting += u128::from(summary.waiting);
+    }
+    waiting
+}
+
+/// How far the vehicles drive together.
+pub(crate) fn total_distance(problem: &Problem, routes: &[Route]) -> u128
+    requires { All (AreLiveOnce problem.now) routes.now }
+    ensures { result ≡ total_length problem.now routes.now }
+{
+    let mut total = 0;
+    for route in routes {
+        total += u128::from(route_distance(problem, route.as_slice()));
+    }
+    total
+}
+
+fn put_sums(text: &mut String, sums: &Sums) -> Result<(), OutOfMemory>
+    ensures { OnOk result (string_bytes text.new ≡ string_bytes text.old ++ sums_text sums.now) }
+{
+    let Sums {
+        stops,
+        distance,
+        waiting,
+    } = *sums;
+    put_phrase(text, Phrase::Sum)?;
+    writeln!(text, "{stops:>7}{distance:>11}{waiting:>43}")
+}

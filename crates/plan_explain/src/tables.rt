@@ -1,0 +1,125 @@
+//! A route as a table.
+ghost use Rattle.std.specs.Prelude.{◌≡◌, ◌++◌, OnOk, codes, string_bytes};
+ghost use Rattle.std.specs.List.{flat_map};
+ghost use Rattle.route_sched.specs.Route.{AreLiveOnce};
+ghost use Rattle.plan_explain.specs.Columns.{line, right};
+ghost use Rattle.plan_explain.specs.Phrases.{phrase};
+ghost use Rattle.plan_explain.specs.Tables.{heading, load_text, row_text, stop_rows, stops_table, table_text, times_text, window_text};
+
+use crate::phrases::Phrase;
+use crate::rows::{Row, rows};
+use crate::sentences::put_phrase;
+use plan_types::{Kind, OutOfMemory, Problem};
+use std::alloc::Global;
+
+/// Appends the table of a route: each place with its times, window and load, the return last.
+pub(crate) fn put_table(
+    alloc: Global,
+    text: &mut String,
+    problem: &Problem,
+    route: &[u32],
+) -> Result<(), OutOfMemory>
+    requires { AreLiveOnce problem.now route.now }
+    ensures { OnOk result (string_bytes text.new
+        ≡ string_bytes text.old ++ table_text problem.now route.now) }
+{
+    let rows = rows(alloc, problem, route)?;
+    put_phrase(text, heading(problem.kind))?;
+    put_rows(text, problem.kind, rows.as_slice())
+}
+
+fn heading(kind: Kind) -> Phrase
+    ensures { phrase result ≡ heading kind }
+{
+    match kind {
+        Kind::LiLim => Phrase::TimesHeading,
+        Kind::Vrp => Phrase::LoadsHeading,
+    }
+}
+
+fn put_rows(text: &mut String, kind: Kind, rows: &[Row]) -> Result<(), OutOfMemory>
+    ensures { OnOk result (string_bytes text.new
+        ≡ string_bytes text.old ++ flat_map (row_text kind) rows.now) }
+{
+    for row in rows {
+        put_row(text, kind, row)?;
+    }
+    Ok(())
+}
+
+fn put_row(text: &mut String, kind: Kind, row: &Row) -> Result<(), OutOfMemory>
+    ensures { OnOk result (string_bytes text.new ≡ string_bytes text.old ++ row_text kind row.now) }
+{
+    match kind {
+        Kind::LiLim => {
+            put_times(text, row)?;
+            put_window(text, row)
+        }
+        Kind::Vrp => put_load(text, row),
+    }
+}
+
+#[tactic(auto, unfolding(crate::specs::Tables::times_text))]
+fn put_times(text: &mut String, row: &Row) -> Result<(), OutOfMemory>
+    ensures { OnOk result (string_bytes text.new ≡ string_bytes text.old ++ times_text row.now) }
+{
+    let Row {
+        place,
+        stop,
+        arrival,
+        start,
+        ..
+    } = *row;
+    write!(text, "{place:>5} {stop:>6} {arrival:>10} {start:>10} ")
+}
+
+#[tactic(auto, unfolding(crate::specs::Tables::window_text))]
+fn put_window(text: &mut String, row: &Row) -> Result<(), OutOfMemory>
+    ensures { OnOk result (string_bytes text.new ≡ string_bytes text.old ++ window_text row.now) }
+{
+    let Row {
+        earliest,
+        latest,
+        load,
+        ..
+    } = *row;
+    writeln!(text, "{earliest:>10}..{latest:<10} {load:>9}")
+}
+
+#[tactic(auto, unfolding(crate::specs::Tables::load_text))]
+fn put_load(text: &mut String, row: &Row) -> Result<(), OutOfMemory>
+    ensures { OnOk result (string_bytes text.new ≡ string_bytes text.old ++ load_text row.now) }
+{
+    let Row {
+        place,
+        stop,
+        arrival,
+        load,
+        ..
+    } = *row;
+    writeln!(text, "{place:>5} {stop:>6} {arrival:>10} {load:>9}")
+}
+
+/// Appends the places of a route with their stops, without times.
+pub(crate) fn put_stops(text: &mut String, route: &[u32]) -> Result<(), OutOfMemory>
+    ensures { OnOk result (string_bytes text.new ≡ string_bytes text.old ++ stops_table route.now) }
+{
+    put_phrase(text, Phrase::StopsHeading)?;
+    put_stop_rows(text, route)
+}
+
+fn put_stop_rows(text: &mut String, route: &[u32]) -> Result<(), OutOfMemory>
+    ensures { OnOk result (string_bytes text.new ≡ string_bytes text.old ++ stop_rows 1 route.now) }
+{
+    for (place, stop) in route.iter().enumerate() {
+        put_stop(text, place as u64 + 1, *stop)?;
+    }
+    Ok(())
+}
+
+fn put_stop(text: &mut String, place: u64, stop: u32) -> Result<(), OutOfMemory>
+    ensures { OnOk result (string_bytes text.new
+        ≡ string_bytes text.old ++ line (right 5 place ++ codes " " ++ right 6 stop)) }
+{
+    writeln!(text, "{place:>5} {stop:>6}")
+}

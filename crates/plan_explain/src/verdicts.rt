@@ -1,0 +1,144 @@
+//! What is said of a verdict.
+ghost use Rattle.std.specs.Prelude.{◌≡◌, ◌<◌, ◌++◌, All, IfOk, OnOk, string_bytes};
+ghost use Rattle.route_sched.specs.Route.{AreLiveOnce};
+ghost use Rattle.plan_audit.specs.Verdict.{IsVerdict, printed};
+ghost use Rattle.plan_explain.specs.Explained.{shown_text, verdict_text};
+ghost use Rattle.plan_explain.specs.Sentences.{route_told, row_told, sentence};
+ghost use Rattle.plan_audit.specs.declared.rules.Verdict.TheVariants.{Broken};
+
+use crate::rows::{Row, rows};
+use crate::sentences as say;
+use crate::summaries::put_summary;
+use crate::tables::{put_stops, put_table};
+use plan_audit::Verdict;
+use plan_types::{OutOfMemory, Problem, Route};
+use sol_text::Solution;
+use std::alloc::Global;
+
+/// What a verdict says to who has to mend the solution, in whole lines. For a broken rule: a sentence with its figures, and the route
+/// that is told, place by place. For a solution that passes: a line for each route, and the sums.
+pub fn explain_verdict(
+    alloc: Global,
+    problem: &Problem,
+    solution: &Solution,
+    verdict: Verdict,
+) -> Result<String, OutOfMemory>
+    requires { IsVerdict problem.now (printed solution.now.routes solution.now.cost) verdict }
+    ensures { IfOk result (λ text. string_bytes text
+        ≡ verdict_text problem.now solution.now verdict) }
+{
+    let mut text = String::new(alloc);
+    match verdict {
+        Verdict::Pass(_) => put_summary(alloc, &mut text, problem, solution.routes.as_slice())?,
+        Verdict::Broken {
+            rule,
+            route,
+            place,
+            stop,
+        } => {
+            put_sentence(
+                alloc, &mut text, problem, solution, rule, route, place, stop,
+            )?;
+            text.push_str("\n")?;
+            put_shown(
+                alloc,
+                &mut text,
+                problem,
+                solution.routes.as_slice(),
+                rule,
+                route,
+            )?;
+        }
+    }
+    Ok(text)
+}
+
+// The sentence on a broken rule.
+fn put_sentence(
+    alloc: Global,
+    text: &mut String,
+    problem: &Problem,
+    solution: &Solution,
+    rule: u32,
+    route: u64,
+    place: u64,
+    stop: u32,
+) -> Result<(), OutOfMemory>
+    requires { IsVerdict problem.now (printed solution.now.routes solution.now.cost)
+        (Broken rule route place stop) }
+    ensures { OnOk result (string_bytes text.new ≡ string_bytes text.old
+        ++ sentence problem.now solution.now rule route place stop) }
+{
+    let routes = solution.routes.as_slice();
+    let stops = route_told(routes, route);
+    match rule {
+        1 => say::put_unknown(text, problem, stop),
+        2 => say::put_twice(text, routes, stop),
+        3 => say::put_missing(text, problem, routes, stop),
+        4 => say::put_split(text, problem, routes, stop),
+        5 => say::put_early(text, problem, routes, stop),
+        6 => say::put_overload(text, problem, row_told(alloc, problem, stops, place)?),
+        7 => say::put_late(text, row_told(alloc, problem, stops, place)?),
+        8 => say::put_late_return(text, problem, stops),
+        9 => say::put_fleet(text, problem, routes),
+        11 => say::put_cost(text, problem, solution),
+        _ => Ok(()),
+    }
+}
+
+// What is shown of the routes for a broken rule.
+fn put_shown(
+    alloc: Global,
+    text: &mut String,
+    problem: &Problem,
+    routes: &[Route],
+    rule: u32,
+    route: u64,
+) -> Result<(), OutOfMemory>
+    requires { 2 < rule → All (AreLiveOnce problem.now) routes.now }
+    ensures { OnOk result (string_bytes text.new
+        ≡ string_bytes text.old ++ shown_text problem.now routes.now rule route) }
+{
+    if rule == 11 {
+        return put_summary(alloc, text, problem, routes);
+    }
+    if route == 0 {
+        return Ok(());
+    }
+    let stops = route_told(routes, route);
+    if rule > 2 {
+        put_table(alloc, text, problem, stops)
+    } else {
+        put_stops(text, stops)
+    }
+}
+
+// The stops of a route, counted from 1; route 0 has none.
+fn route_told(routes: &[Route], route: u64) -> &[u32]
+    ensures { result.now ≡ route_told routes.now route }
+{
+    if route == 0 {
+        return &[];
+    }
+    match routes.get(route as usize - 1) {
+        Some(stops) => stops.as_slice(),
+        None => &[],
+    }
+}
+
+// The row of a place of a route, counted from 1.
+fn row_told(
+    alloc: Global,
+    problem: &Problem,
+    route: &[u32],
+    place: u64,
+) -> Result<Option<Row>, OutOfMemory>
+    requires { AreLiveOnce problem.now route.now }
+    ensures { IfOk result (λ row. row ≡ row_told problem.now route.now place) }
+{
+    if place == 0 {
+        return Ok(None);
+    }
+    let rows = rows(alloc, problem, route)?;
+    Ok(rows.as_slice().get(place as usize - 1).copied())
+}
