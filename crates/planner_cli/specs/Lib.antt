@@ -5,6 +5,8 @@ pub mod Asked
 pub mod Served
 -- of private functions alone
 pub mod CommandLine
+pub mod Examined
+pub mod Files
 pub mod Telling
 pub mod Input
 pub mod Serving

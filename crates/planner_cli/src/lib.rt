@@ -4,9 +4,12 @@
 mod answer;
 mod answering;
 mod audit;
+mod audited;
 mod help;
 mod input;
+mod listed;
 mod program;
+mod solved;
 pub mod status;
 mod stores;
 mod telling;
@@ -16,7 +19,7 @@ pub use answer::{AuditAnswer, Line};
 pub use answering::{ServeFault, serve};
 pub use audit::audit_text;
 pub use program::run_words;
-pub use words::{Invocation, read_words};
+pub use words::{Invocation, Paths, Task, read_words};
 
 #[cfg(test)]
 mod tests;
