@@ -52,18 +52,18 @@ pub record IsSearched (kind : Kind) (text : List ℕ) (seed steps : ℕ) (before
   pub told : Appends before after_it (progress p seed steps)
 
 -- every request is planned, and the text is the solution's
-pub record IsSolution (kind : Kind) (text : List ℕ) (seed steps : ℕ) (before after_it : Option (List ℕ)) (solution : List ℕ) : Type 0 where
+pub record IsSolution (kind : Kind) (text : List ℕ) (seed steps : ℕ) (before after_it : Option (List ℕ)) (found : List ℕ) : Type 0 where
   pub problem : Instance
   pub searched : IsSearched kind text seed steps before after_it problem
   pub planned : unplanned_count problem (solved problem seed steps).plan ≡ 0
-  pub solution : solution ≡ print_text (solved problem seed steps)
+  pub solution : found ≡ print_text (solved problem seed steps)
 
 -- so many requests are left in no route
-pub record IsUnplanned (kind : Kind) (text : List ℕ) (seed steps : ℕ) (before after_it : Option (List ℕ)) (count : ℕ) : Type 0 where
+pub record IsUnplanned (kind : Kind) (text : List ℕ) (seed steps : ℕ) (before after_it : Option (List ℕ)) (n : ℕ) : Type 0 where
   pub problem : Instance
   pub searched : IsSearched kind text seed steps before after_it problem
-  pub some : 0 < count
-  pub count : count ≡ unplanned_count problem (solved problem seed steps).plan
+  pub some : 0 < n
+  pub count : n ≡ unplanned_count problem (solved problem seed steps).plan
 
 -- the first fault of the text, and none for want of memory
 abbrev pub IsFirst : Kind → List ℕ → ReadFault → Type 0

@@ -1,5 +1,5 @@
 -- The parts of a solving: how it begins, what is still to be told, and how it ends.
-use Rattle.std.specs.Prelude.{◌≡◌, ℕ, ◌-◌, ◌<◌, List, [], map, Option, ⊤}
+use Rattle.std.specs.Prelude.{◌≡◌, ℕ, ◌+◌, ◌-◌, ◌<◌, List, [], map, Option, ⊤}
 use Rattle.std.specs.List.{flat_map, range_with_len}
 use Rattle.plan_types.specs.Instance.{Instance}
 use Rattle.plan_types.specs.declared.requests.Kind.{Kind}
@@ -20,10 +20,10 @@ use Rattle.plan_solve.specs.declared.faults.SolveFault.{SolveFault}
 use Rattle.plan_solve.specs.declared.faults.SolveFault.TheVariants as fault
 
 -- the plan is built of the problem that the text spells
-pub record IsBegun (kind : Kind) (text : List ℕ) (seed : ℕ) (state : State) : Type 0 where
+pub record IsBegun (kind : Kind) (text : List ℕ) (seed : ℕ) (begun : State) : Type 0 where
   pub problem : Instance
   pub spelled : SpellsInstance kind text problem
-  pub state : state ≡ Loaded (built (loaded problem seed))
+  pub state : begun ≡ Loaded (built (loaded problem seed))
 
 -- a fault that may come at any time
 abbrev pub Interrupts : SolveFault → Type 0

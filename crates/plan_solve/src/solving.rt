@@ -3,7 +3,6 @@ ghost use Rattle.std.specs.Prelude.{◌≡◌, IfErr, IfOk, MatchResult, OnOk};
 ghost use Rattle.std.specs.Io.KnownBytes.{Appends};
 ghost use Rattle.instance_read.specs.Faults.{Tells};
 ghost use Rattle.command_core.specs.Effects.{effect};
-ghost use Rattle.command_core.specs.RunLaws.{SearchesAddUp};
 ghost use Rattle.command_core.specs.declared.commands.Command.TheVariants.{Search};
 ghost use Rattle.command_text.specs.Answering.{at_line};
 ghost use Rattle.command_text.specs.Answers.{line};
@@ -43,7 +42,6 @@ pub fn solve<W: Write>(
         MatchResult result (IsSolution kind instance.now seed steps before after)
         (Fails kind instance.now seed steps before after) }
 {
-    searches_add_up();
     let begun = begin(alloc, kind, instance, seed)?;
     let solved = search_telling(alloc, begun, steps, progress)?;
     solution_text(alloc, &solved)
@@ -99,12 +97,12 @@ fn search_telling<W: Write>(
     steps: u32,
     progress: &mut W,
 ) -> Result<State, SolveFault>
-    requires law { SearchesAddUp }
     ensures state { IfOk result (λ solved. solved ≡ effect begun (Search steps)) }
     ensures told { OnOk result (Appends (W.contents progress.old) (W.contents progress.new)
         (told begun (marks steps))) }
     ensures fault { IfErr result Interrupts }
 {
+    searches_add_up();
     tell(&begun, progress)?;
     let mut state = begun;
     let mut done = 0;
@@ -123,10 +121,10 @@ fn search_telling<W: Write>(
 
 /// So many more steps of the search, piece by piece.
 fn search(alloc: Global, state: State, steps: u32) -> Result<State, SolveFault>
-    requires law { SearchesAddUp }
     ensures state { IfOk result (λ found. found ≡ effect state (Search steps)) }
     ensures fault { IfErr result Interrupts }
 {
+    searches_add_up();
     let mut state = state;
     let mut left = steps;
     while left > 0 {
