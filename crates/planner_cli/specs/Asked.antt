@@ -1,5 +1,5 @@
 -- What the words of the command line ask for, those after the program's name.
-use Rattle.std.specs.Prelude.{◌≡◌, ◌==◌, ◌⊎◌, ◌^◌, ℕ, nat_le, Bool, true, false, not, List, [], ◌∷◌, length, codes, Option, Some, None, Result, MatchResult, if◌then◌else◌, option_map}
+use Rattle.std.specs.Prelude.{◌≡◌, ◌==◌, ◌⊎◌, ℕ, Bool, true, false, not, List, [], ◌∷◌, codes, Option, Some, None, Result, MatchResult, if◌then◌else◌, option_and_then, option_map}
 use Rattle.std.specs.List.{list_all}
 use Rattle.std.specs.Str.{bytes_eq}
 use Rattle.clap.specs.Words.{Row, Text, first_of, kind_of}
@@ -8,6 +8,7 @@ use Rattle.clap.specs.declared.error.kind.ErrorKind.TheVariants.{DisplayHelp, Di
 use Rattle.clap.specs.declared.error.kind.ErrorKind.{ErrorKind}
 use Rattle.plan_types.specs.declared.requests.Kind.{Kind}
 use Rattle.plan_types.specs.declared.requests.Kind.TheVariants.{LiLim, Vrp}
+use Rattle.command_text.specs.Asking.{field_in}
 use Rattle.text_lines.specs.Numbers.{below, digits_of}
 use Rattle.planner_cli.specs.declared.words.Paths.{Paths}
 use Rattle.planner_cli.specs.declared.words.Invocation.{Invocation}
@@ -59,12 +60,14 @@ asked_of (Run store) = run store.now
 abbrev pub kind_named : Text → Option Kind
 kind_named word = if bytes_eq (codes "lilim") word then Some LiLim else (if bytes_eq (codes "vrp") word then Some Vrp else None)
 
--- a number that is no greater than the limits of steps and of seeds, in digits alone, 20 at most of a seed
+-- a number of steps, in digits alone
 abbrev pub steps_named : Text → Option ℕ
 steps_named word = below 1000000001 (digits_of word)
 
+-- a seed, as a line of commands names one, with no minus
 abbrev pub seed_named : Text → Option ℕ
-seed_named word = if nat_le (length word) 20 then below (2 ^ 64) (digits_of word) else None
+seed_named [] = None
+seed_named (b ∷ bs) = if b == 45 then None else option_and_then (λ f. f.unsigned) (field_in (b ∷ bs))
 
 -- the seed where none is named is 0
 abbrev pub seed_or_none : Option Text → Option ℕ
@@ -139,14 +142,17 @@ task_in rows = task_with (first_of (codes "KIND") rows) (first_of (codes "INSTAN
 abbrev pub store_in : List Row → Option Text
 store_in rows = first_of (codes "STORE") rows
 
+-- what `format` or `run` asks for
+abbrev pub told_of_store : Text → List Row → Option Asked
+told_of_store name rows = if bytes_eq (codes "format") name then option_map format (store_in rows) else option_map run (store_in rows)
+
 -- what the subcommand of this name asks for; there is no other one than these
 abbrev pub told_by : Text → List Row → Option Asked
 told_by name rows = if bytes_eq (codes "audit") name then option_map audit (paths_in rows)
     else (if bytes_eq (codes "explain") name then option_map explain (paths_in rows)
     else (if bytes_eq (codes "draw") name then option_map draw (paths_in rows)
     else (if bytes_eq (codes "audits") name then list_in rows
-    else (if bytes_eq (codes "solve") name then option_map solve (task_in rows)
-    else (if bytes_eq (codes "format") name then option_map format (store_in rows) else option_map run (store_in rows))))))
+    else (if bytes_eq (codes "solve") name then option_map solve (task_in rows) else told_of_store name rows))))
 
 -- what the subcommand asks for
 abbrev pub told_of : Option (Text × List Row) → Option Asked

@@ -57,13 +57,13 @@ abbrev pub IsKindNames : Bor (List (Bor Text)) → Type 0
 IsKindNames names = map (λ name. name.now) names.now ≡ kind_words
 
 -- the argument is this word, and of this command alone
-pub record IsWord (rule : Rule) (arg : Arg) : Type 0 where
-  pub rule : rule_of arg ≡ rule
+pub record IsWord (r : Rule) (arg : Arg) : Type 0 where
+  pub rule : rule_of arg ≡ r
   pub local : arg.global ≡ false
 
 -- the command is this one, with no subcommand
-pub record IsLeafCommand (app : App) (command : Command) : Type 0 where
-  pub app : app_of command ≡ app
+pub record IsLeafCommand (a : App) (command : Command) : Type 0 where
+  pub app : app_of command ≡ a
   pub local : (out-Command command).has_globals ≡ false
 
 pub record IsPlannerCommand (command : Command) : Type 0 where

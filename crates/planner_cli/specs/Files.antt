@@ -3,9 +3,17 @@
 use Rattle.std.specs.Prelude.{◌≡◌, ◌⊎◌, ℕ, List, Option, Result, Ok, Err, IfOk}
 use Rattle.std.specs.Borrow.{Bor}
 use Rattle.std.specs.Io.KnownBytes.{Appends}
+use Rattle.std.specs.declared.alloc.AllocError.{AllocError}
 use Rattle.std.specs.declared.io.ErrorKind.{ErrorKind}
 use Rattle.plan_types.specs.declared.requests.Kind.{Kind}
-use Rattle.planner_cli.specs.Telling.{TellsAudit, TellsUnread}
+use Rattle.planner_cli.specs.Answer.{IsAnswer}
+use Rattle.planner_cli.specs.Telling.{answer_line, answer_status, unread_line, unread_status}
+use Rattle.planner_cli.specs.declared.answer.AuditAnswer.{AuditAnswer}
+
+-- what is told of two texts, and the status that goes with it
+abbrev pub IsToldOfTexts : Kind → List ℕ → List ℕ → List ℕ → ℕ → Type 0
+IsToldOfTexts kind instance solution text status =
+    (answer : Result AuditAnswer AllocError) × IfOk answer (IsAnswer kind instance solution) × (text ≡ answer_line answer) × (status ≡ answer_status answer)
 
 module _ {V E : Type 0} (post : Bor (List ℕ) → Result V E → Type 0) where
   -- it gave this for the path
@@ -22,8 +30,11 @@ module _ {V E : Type 0} (post : Bor (List ℕ) → Result V E → Type 0) where
       ((path ≡ instance) × ((e : E) × Gave instance (Err e) × (k ≡ kind e)))
       ⊎ ((path ≡ solution) × ((x : V) × (e : E) × Gave instance (Ok x) × Gave solution (Err e) × (k ≡ kind e)))
 
-  -- the audit of two files: of their texts, or that one can't be read
+  -- what `audit` tells of two files: the audit of their texts, or that one can't be read
+  abbrev pub IsToldOfFiles : (V → List ℕ) → (E → ErrorKind) → Kind → List ℕ → List ℕ → List ℕ → ℕ → Type 0
+  IsToldOfFiles items kind k instance solution text status =
+      ((x : V) × (y : V) × AreBothRead instance solution x y × IsToldOfTexts k (items x) (items y) text status)
+      ⊎ ((path : List ℕ) × (error : ErrorKind) × IsUnread kind instance solution path error × (text ≡ unread_line path error) × (status ≡ unread_status error))
+
   abbrev pub TellsFiles : (V → List ℕ) → (E → ErrorKind) → Kind → List ℕ → List ℕ → Option (List ℕ) → Option (List ℕ) → ℕ → Type 0
-  TellsFiles items kind k instance solution before after status =
-      ((x : V) × (y : V) × AreBothRead instance solution x y × TellsAudit k (items x) (items y) before after status)
-      ⊎ ((path : List ℕ) × (error : ErrorKind) × IsUnread kind instance solution path error × TellsUnread path error before after status)
+  TellsFiles items kind k instance solution before after status = (text : List ℕ) × IsToldOfFiles items kind k instance solution text status × Appends before after text

@@ -7,6 +7,8 @@ pub mod Served
 pub mod CommandLine
 pub mod Examined
 pub mod Files
+pub mod Listed
+pub mod Solving
 pub mod Telling
 pub mod Input
 pub mod Serving

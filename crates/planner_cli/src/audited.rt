@@ -25,7 +25,8 @@ pub(crate) fn read_both<'a, F>(
 where
     F: Fn(&str) -> io::Result<Vec<u8>>,
     requires { F.IsAlwaysCallable read.now }
-    ensures { let instance = paths.instance.now in let solution = paths.solution.now in
+    ensures { let instance = paths.entry.instance.now in
+        let solution = paths.entry.solution.now in
         MatchResult result
         (λ both. AreBothRead (λ path r. F.post read.now path r) instance solution both.0 both.1)
         (λ unread. IsUnread (λ path r. F.post read.now path r) error_kind instance solution
@@ -43,7 +44,7 @@ where
 }
 
 fn not_read<'a>(path: &'a str, error: &io::Error) -> Unread<'a>
-    ensures { (result.path ≡ path) × (result.kind ≡ error_kind error.now) }
+    ensures { (result.path.now ≡ path.entry.now) × (result.kind ≡ error_kind error.now) }
 {
     Unread {
         path,
@@ -63,13 +64,12 @@ where
     requires { F.IsAlwaysCallable read.now }
     ensures status { IfOk result (λ status. status ≤ 4) }
     ensures told { IfOk result (TellsFiles (λ path r. F.post read.now path r) (λ x. x.items)
-        error_kind paths.kind paths.instance.now paths.solution.now
+        error_kind paths.entry.kind paths.entry.instance.now paths.entry.solution.now
         (W.contents output.old) (W.contents output.new)) }
 {
-    match read_both(paths, read) {
-        Ok((instance, solution)) => {
-            tell_audit(output, &audit_text(alloc, paths.kind, &instance, &solution))
-        }
-        Err(unread) => tell_unread(output, unread.path, unread.kind),
-    }
+    let both = match read_both(paths, read) {
+        Ok(both) => both,
+        Err(unread) => return tell_unread(output, unread.path, unread.kind),
+    };
+    tell_audit(output, &audit_text(alloc, paths.kind, &both.0, &both.1))
 }

@@ -1,5 +1,9 @@
 //! The audits of a list of pairs of files.
-ghost use Rattle.std.specs.Prelude.{◌≤◌, IfOk};
+ghost use Rattle.std.specs.Prelude.{◌≡◌, ◌≤◌, IfOk, MatchOption, max, option_map};
+ghost use Rattle.std.specs.IoError.{error_kind};
+ghost use Rattle.std.specs.List.{position_or_len};
+ghost use Rattle.text_lines.specs.Lines.{lines_of};
+ghost use Rattle.planner_cli.specs.Listed.{IsPair, NamesNone, TellsLine, TellsLines, TellsList, is_path, is_tab, list_path, parts_of};
 
 use crate::audited::audit_read;
 use crate::status::{DONE, REFUSED};
@@ -12,7 +16,7 @@ use std::io::Write;
 use std::str;
 use text_lines::Lines;
 
-/// Reads a list, and audits the pair that each of its lines names. Gives the greatest status.
+/// Reads a list, and audits the pair that each of its lines names, as `audit_read` does. Gives the greatest status.
 pub(crate) fn audits_read<F, W: Write>(
     alloc: Global,
     kind: Kind,
@@ -24,6 +28,8 @@ where
     F: Fn(&str) -> io::Result<Vec<u8>>,
     requires { F.IsAlwaysCallable read.now }
     ensures status { IfOk result (λ status. status ≤ 4) }
+    ensures told { IfOk result (TellsList (λ path r. F.post read.now path r) (λ x. x.items)
+        error_kind kind list.now (W.contents output.old) (W.contents output.new)) }
 {
     let path = list_path(list);
     match read(path) {
@@ -33,7 +39,9 @@ where
 }
 
 /// The path by which the list is read.
-fn list_path(list: &str) -> &str {
+fn list_path(list: &str) -> &str
+    ensures { result.now ≡ list_path list.now }
+{
     if list == "-" { "/dev/stdin" } else { list }
 }
 
@@ -49,17 +57,25 @@ where
     F: Fn(&str) -> io::Result<Vec<u8>>,
     requires { F.IsAlwaysCallable read.now }
     ensures status { IfOk result (λ status. status ≤ 4) }
+    ensures told { IfOk result (TellsLines (λ path r. F.post read.now path r) (λ x. x.items)
+        error_kind kind (lines_of text.now) (W.contents output.old) (W.contents output.new)) }
 {
     let mut greatest = DONE;
     for line in Lines::new(text) {
         let status = audit_line(alloc, kind, line, read, output)?;
-        output.flush()?;
-        greatest = greatest.max(status);
+        greatest = greater(greatest, status);
     }
     Ok(greatest)
 }
 
-/// Tells the audit of the pair that the line names.
+/// The greater status.
+fn greater(one: u8, other: u8) -> u8
+    ensures { result ≡ max one other }
+{
+    if one < other { other } else { one }
+}
+
+/// Tells the audit of the pair that the line names, and flushes it.
 fn audit_line<F, W: Write>(
     alloc: Global,
     kind: Kind,
@@ -71,42 +87,82 @@ where
     F: Fn(&str) -> io::Result<Vec<u8>>,
     requires { F.IsAlwaysCallable read.now }
     ensures status { IfOk result (λ status. status ≤ 4) }
+    ensures told { IfOk result (TellsLine (λ path r. F.post read.now path r) (λ x. x.items)
+        error_kind kind line.now (W.contents output.old) (W.contents output.new)) }
 {
-    let Some((instance, solution)) = pair_of(line) else {
-        write_line(output, b"bad line")?;
-        return Ok(REFUSED);
+    let status = match pair_of(line) {
+        Some((instance, solution)) => {
+            write!(output, "{instance}\t{solution}\t")?;
+            audit_read(
+                alloc,
+                Paths {
+                    kind,
+                    instance,
+                    solution,
+                },
+                read,
+                output,
+            )?
+        }
+        None => {
+            write_line(output, b"bad line")?;
+            REFUSED
+        }
     };
-    write!(output, "{instance}\t{solution}\t")?;
-    let paths = Paths {
-        kind,
-        instance,
-        solution,
-    };
-    audit_read(alloc, paths, read, output)
+    output.flush()?;
+    Ok(status)
 }
 
 /// The paths of an instance and a solution with a tab between them.
-fn pair_of(line: &[u8]) -> Option<(&str, &str)> {
-    let (instance, solution) = parts_of(line)?;
-    Some((str::from_utf8(instance).ok()?, str::from_utf8(solution).ok()?))
+fn pair_of(line: &[u8]) -> Option<(&str, &str)>
+    ensures { MatchOption result (NamesNone line.now) (λ p. IsPair line.now p.0.now p.1.now) }
+{
+    let (instance, solution) = match parts_of(line) {
+        Some(parts) => parts,
+        None => return None,
+    };
+    let Ok(instance) = str::from_utf8(instance) else {
+        return None;
+    };
+    let Ok(solution) = str::from_utf8(solution) else {
+        return None;
+    };
+    Some((instance, solution))
 }
 
 /// What stands before and behind the one tab of a line, if neither is empty.
-fn parts_of(line: &[u8]) -> Option<(&[u8], &[u8])> {
-    let tab = tab_at(line);
-    if tab == 0 || line.len() <= tab + 1 {
-        return None;
+fn parts_of(line: &[u8]) -> Option<(&[u8], &[u8])>
+    ensures { option_map (λ p. (p.0.now, p.1.now)) result ≡ parts_of line.now }
+{
+    let (instance, rest) = line.split_at(tab_at(line));
+    match rest {
+        [] => None,
+        [_, solution @ ..] => {
+            if is_path(instance) && is_path(solution) {
+                return Some((instance, solution));
+            }
+            None
+        }
     }
-    let behind = &line[tab + 1..];
-    if tab_at(behind) < behind.len() {
-        return None;
-    }
-    Some((&line[..tab], behind))
+}
+
+fn is_path(path: &[u8]) -> bool
+    ensures { result ≡ is_path path.now }
+{
+    !path.is_empty() && tab_at(path) == path.len()
+}
+
+fn is_tab(byte: u8) -> bool
+    ensures { result ≡ is_tab byte }
+{
+    byte == b'\t'
 }
 
 /// How many bytes stand before the first tab, or all of them.
-fn tab_at(line: &[u8]) -> usize {
+fn tab_at(line: &[u8]) -> usize
+    ensures { result ≡ position_or_len is_tab line.now }
+{
     line.iter()
-        .position(|byte| *byte == b'\t')
+        .position(|byte| is_tab(*byte))
         .unwrap_or(line.len())
 }

@@ -1,5 +1,8 @@
 //! The solving of an instance in a file.
 ghost use Rattle.std.specs.Prelude.{◌≤◌, IfOk};
+ghost use Rattle.std.specs.IoError.{error_kind};
+ghost use Rattle.planner_cli.specs.Asked.{task_of};
+ghost use Rattle.planner_cli.specs.Solving.{IsToldFault, TellsSolved, TellsTask};
 
 use crate::status::{BROKEN, DONE, FILE, OUT_OF_MEMORY, REFUSED};
 use crate::telling::{tell_unread, write_line};
@@ -22,6 +25,9 @@ where
     F: Fn(&str) -> io::Result<Vec<u8>>,
     requires { F.IsAlwaysCallable read.now }
     ensures status { IfOk result (λ status. status ≤ 4) }
+    ensures told { IfOk result (TellsTask (λ path r. F.post read.now path r) (λ x. x.items)
+        error_kind (task_of task.entry) (W.contents output.old) (W.contents output.new)
+        (E.contents errors.old) (E.contents errors.new)) }
 {
     let text = match read(task.instance) {
         Ok(text) => text,
@@ -38,6 +44,9 @@ fn tell_solved<W: Write, E: Write>(
     errors: &mut E,
 ) -> io::Result<u8>
     ensures status { IfOk result (λ status. status ≤ 4) }
+    ensures told { IfOk result (TellsSolved solved.now
+        (W.contents output.old) (W.contents output.new)
+        (E.contents errors.old) (E.contents errors.new)) }
 {
     match solved {
         Ok(text) => {
@@ -51,6 +60,7 @@ fn tell_solved<W: Write, E: Write>(
 /// Tells why there is no solution, unless it is that telling failed.
 fn tell_fault<E: Write>(fault: SolveFault, errors: &mut E) -> io::Result<u8>
     ensures status { IfOk result (λ status. status ≤ 4) }
+    ensures told { IfOk result (IsToldFault fault (E.contents errors.old) (E.contents errors.new)) }
 {
     match fault {
         SolveFault::Refused(fault) => {

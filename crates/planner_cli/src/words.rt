@@ -1,7 +1,8 @@
 //! The words of the command line.
-ghost use Rattle.std.specs.Prelude.{◌≡◌, IfOk, drop, map, option_map};
+ghost use Rattle.std.specs.Prelude.{◌≡◌, IfOk, drop, map, option_and_then, option_map};
 ghost use Rattle.clap.specs.Words.{App, Rule, app_of, found_of, kind_of, rows_of, subcommand_rows_of, with_rule, with_subcommand};
-ghost use Rattle.planner_cli.specs.Asked.{ArePositional, Reads, asked_of, paths_in, paths_of, kind_named, list_in, seed_named, seed_or_none, steps_named, store_in, task_in, task_of, told_by, told_of};
+ghost use Rattle.command_text.specs.Asking.{field_in};
+ghost use Rattle.planner_cli.specs.Asked.{ArePositional, Reads, asked_of, paths_in, paths_of, kind_named, list_in, seed_named, seed_or_none, steps_named, store_in, task_in, task_of, told_by, told_of, told_of_store};
 ghost use Rattle.planner_cli.specs.CommandLine.{IsLeafCommand, IsPlannerCommand, IsWord, audits_app, paths_app, kind_rule, solve_app, store_app, word_rule};
 
 use crate::help::{
@@ -181,7 +182,7 @@ fn word<'a>(alloc: Global, name: &'a str, help: &'a str) -> Arg<'a>
 
 /// The command with one more word.
 fn with_word<'a>(command: Command<'a>, word: Arg<'a>) -> Result<Command<'a>, OutOfMemory>
-    ensures { (a : App) (r : Rule) → IsLeafCommand a command → IsWord r word
+    ensures { (a : App) (r : Rule) → IsLeafCommand a command.entry → IsWord r word.entry
         → IfOk result (IsLeafCommand (with_rule a r)) }
 {
     command.arg(word)
@@ -192,7 +193,7 @@ fn with_command<'a>(
     above: Command<'a>,
     command: Command<'a>,
 ) -> Result<Command<'a>, OutOfMemory>
-    ensures { (a b : App) → app_of above ≡ a → IsLeafCommand b command
+    ensures { (a b : App) → app_of above.entry ≡ a → IsLeafCommand b command.entry
         → IfOk result (λ new. app_of new ≡ with_subcommand a b.top) }
 {
     above.subcommand(command)
@@ -218,6 +219,15 @@ fn command_words<'a>(name: &str, words: &ArgMatches<'a>) -> Option<Invocation<'a
         "draw" => Some(Invocation::Draw(paths_words(words)?)),
         "audits" => list_words(words),
         "solve" => Some(Invocation::Solve(task_words(words)?)),
+        _ => store_words(name, words),
+    }
+}
+
+/// What the words behind `format` or `run` ask for.
+fn store_words<'a>(name: &str, words: &ArgMatches<'a>) -> Option<Invocation<'a>>
+    ensures { option_map asked_of result ≡ told_of_store name.now (rows_of (found_of words.now)) }
+{
+    match name {
         "format" => Some(Invocation::Format {
             store: store_word(words)?,
         }),
@@ -295,7 +305,7 @@ fn steps_of_word(word: &str) -> Option<u32>
 
 /// The seed that is named, or 0 where none is.
 fn seed_of_word(word: Option<&str>) -> Option<u64>
-    ensures { result ≡ seed_or_none (option_map (λ w. w.now) word) }
+    ensures { result ≡ seed_or_none (option_map (λ w. w.now) word.entry) }
 {
     match word {
         Some(word) => seed_named(word.as_bytes()),
@@ -306,8 +316,17 @@ fn seed_of_word(word: Option<&str>) -> Option<u64>
 fn seed_named(word: &[u8]) -> Option<u64>
     ensures { result ≡ seed_named word.now }
 {
-    if word.starts_with(b"-") {
-        return None;
+    match word {
+        [] | [b'-', ..] => None,
+        _ => unsigned(word),
     }
-    Number::parse_integer(word)?.to_u64()
+}
+
+fn unsigned(word: &[u8]) -> Option<u64>
+    ensures { result ≡ option_and_then (λ f. f.unsigned) (field_in word.now) }
+{
+    match Number::parse_integer(word) {
+        Some(number) => number.to_u64(),
+        None => None,
+    }
 }
