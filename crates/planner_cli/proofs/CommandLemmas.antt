@@ -788,8 +788,8 @@ module _ (f : Found) where
   abbrev IsValue : Text → Option Text → Type 0
   IsValue id o = o ≡ first_value f id
 
-  pub task_is : (k i n s : Option Text) → IsValue (codes "KIND") k → IsValue (codes "INSTANCE") i → IsValue (codes "STEPS") n → IsValue (codes "SEED") s → task_in (rows_of f) ≡ task_with k i n s
-  task_is k i n s ek ei en es = rw (value_is f (codes "KIND") k ek, value_is f (codes "INSTANCE") i ei, value_is f (codes "STEPS") n en, value_is f (codes "SEED") s es) refl
+  pub task_is : (k i n : Option Text) → IsValue (codes "KIND") k → IsValue (codes "INSTANCE") i → IsValue (codes "STEPS") n → task_in (rows_of f) ≡ task_with k i n (first_of (codes "SEED") (rows_of f))
+  task_is k i n ek ei en = rw (value_is f (codes "KIND") k ek, value_is f (codes "INSTANCE") i ei, value_is f (codes "STEPS") n en) refl
 
 -- words that ask for no task
 pub no_task_kind : (i n s : Option Text) → task_with None i n s ≡ None

@@ -1,12 +1,18 @@
 -- What is told line by line.
-use Rattle.std.proofs.Common.{◌≡◌, ◌∙◌, ℕ, ◌≤◌, List, [], ◌∷◌, ◌++◌, Option, Result, refl, sym, ap, subst, arith, append_assoc, append-nil}
+use Rattle.std.proofs.Common.{◌≡◌, ◌∙◌, ℕ, ◌≤◌, List, [], ◌∷◌, ◌++◌, Option, Some, None, Result, refl, sym, ap, subst, arith, append_assoc, append-nil}
 use Rattle.std.specs.Prelude.{max}
 use Rattle.std.specs.Borrow.{Bor}
-use Rattle.std.specs.Io.KnownBytes.{Appends}
+use Rattle.std.specs.Io.KnownBytes.{Appends, Keeps}
 use Rattle.std.specs.declared.io.ErrorKind.{ErrorKind}
 use Rattle.std.proofs.KnownBytes.{Appends-nil, Appends-trans}
 use Rattle.plan_types.specs.declared.requests.Kind.{Kind}
 use Rattle.planner_cli.specs.Listed.{AreTold, TellsLine, TellsLines}
+
+pub flushed : (a b c : Option (List ℕ)) (text : List ℕ) → Appends a b text → Keeps b c → Appends a c text
+flushed None b c text written kept = tt
+flushed (Some x) None c text written kept = absurd written
+flushed (Some x) (Some y) None text written kept = absurd kept
+flushed (Some x) (Some y) (Some z) text written kept = kept ∙ written
 
 module _ {V E : Type 0} (post : Bor (List ℕ) → Result V E → Type 0) (items : V → List ℕ) (kind : E → ErrorKind) (k : Kind) where
   -- So much was told, and whatever is told of the lines that are left makes what is told of all.

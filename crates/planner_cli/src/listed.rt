@@ -1,7 +1,9 @@
 //! The audits of a list of pairs of files.
-ghost use Rattle.std.specs.Prelude.{◌≡◌, ◌≤◌, IfOk, MatchOption, max, option_map};
+ghost use Rattle.std.specs.Prelude.{◌≡◌, ◌≤◌, IfOk, MatchOption, codes, length, max, option_map};
 ghost use Rattle.std.specs.IoError.{error_kind};
 ghost use Rattle.std.specs.List.{position_or_len};
+ghost use Rattle.std.specs.Io.KnownBytes.{Appends};
+ghost use Rattle.planner_cli.specs.Telling.{line};
 ghost use Rattle.text_lines.specs.Lines.{lines_of};
 ghost use Rattle.planner_cli.specs.Listed.{IsPair, NamesNone, TellsLine, TellsLines, TellsList, is_path, is_tab, list_path, parts_of};
 
@@ -90,27 +92,46 @@ where
     ensures told { IfOk result (TellsLine (λ path r. F.post read.now path r) (λ x. x.items)
         error_kind kind line.now (W.contents output.old) (W.contents output.new)) }
 {
-    let status = match pair_of(line) {
-        Some((instance, solution)) => {
-            write!(output, "{instance}\t{solution}\t")?;
-            audit_read(
-                alloc,
-                Paths {
-                    kind,
-                    instance,
-                    solution,
-                },
-                read,
-                output,
-            )?
-        }
-        None => {
-            write_line(output, b"bad line")?;
-            REFUSED
-        }
-    };
+    let status = audit_named(alloc, kind, line, read, output)?;
     output.flush()?;
     Ok(status)
+}
+
+/// Tells the audit of the pair that the line names.
+fn audit_named<F, W: Write>(
+    alloc: Global,
+    kind: Kind,
+    line: &[u8],
+    read: &F,
+    output: &mut W,
+) -> io::Result<u8>
+where
+    F: Fn(&str) -> io::Result<Vec<u8>>,
+    requires { F.IsAlwaysCallable read.now }
+    ensures status { IfOk result (λ status. status ≤ 4) }
+    ensures told { IfOk result (TellsLine (λ path r. F.post read.now path r) (λ x. x.items)
+        error_kind kind line.now (W.contents output.old) (W.contents output.new)) }
+{
+    let (instance, solution) = match pair_of(line) {
+        Some(pair) => pair,
+        None => return tell_bad_line(output),
+    };
+    write!(output, "{instance}\t{solution}\t")?;
+    let paths = Paths {
+        kind,
+        instance,
+        solution,
+    };
+    audit_read(alloc, paths, read, output)
+}
+
+/// Tells a line that names no pair.
+fn tell_bad_line<W: Write>(output: &mut W) -> io::Result<u8>
+    ensures { IfOk result (λ status. (status ≡ 2)
+        × Appends (W.contents output.old) (W.contents output.new) (line (codes "bad line"))) }
+{
+    write_line(output, b"bad line")?;
+    Ok(REFUSED)
 }
 
 /// The paths of an instance and a solution with a tab between them.
@@ -160,7 +181,8 @@ fn is_tab(byte: u8) -> bool
 
 /// How many bytes stand before the first tab, or all of them.
 fn tab_at(line: &[u8]) -> usize
-    ensures { result ≡ position_or_len is_tab line.now }
+    ensures value { result ≡ position_or_len is_tab line.now }
+    ensures bound { result ≤ length line.now }
 {
     line.iter()
         .position(|byte| is_tab(*byte))

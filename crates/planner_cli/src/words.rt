@@ -1,6 +1,6 @@
 //! The words of the command line.
-ghost use Rattle.std.specs.Prelude.{◌≡◌, IfOk, drop, map, option_and_then, option_map};
-ghost use Rattle.clap.specs.Words.{App, Rule, app_of, found_of, kind_of, rows_of, subcommand_rows_of, with_rule, with_subcommand};
+ghost use Rattle.std.specs.Prelude.{◌≡◌, IfOk, codes, drop, map, option_and_then, option_map};
+ghost use Rattle.clap.specs.Words.{App, Rule, app_of, first_of, found_of, kind_of, rows_of, subcommand_rows_of, with_rule, with_subcommand};
 ghost use Rattle.command_text.specs.Asking.{field_in};
 ghost use Rattle.planner_cli.specs.Asked.{ArePositional, Reads, asked_of, paths_in, paths_of, kind_named, list_in, seed_named, seed_or_none, steps_named, store_in, task_in, task_of, told_by, told_of, told_of_store};
 ghost use Rattle.planner_cli.specs.CommandLine.{IsLeafCommand, IsPlannerCommand, IsWord, audits_app, paths_app, kind_rule, solve_app, store_app, word_rule};
@@ -274,7 +274,7 @@ fn task_words<'a>(matches: &ArgMatches<'a>) -> Option<Task<'a>>
     let kind = kind_of_word(matches.get_str("KIND")?)?;
     let instance = matches.get_str("INSTANCE")?;
     let steps = steps_of_word(matches.get_str("STEPS")?)?;
-    let seed = seed_of_word(matches.get_str("SEED"))?;
+    let seed = seed_of_words(matches)?;
     Some(Task {
         kind,
         instance,
@@ -304,13 +304,20 @@ fn steps_of_word(word: &str) -> Option<u32>
 }
 
 /// The seed that is named, or 0 where none is.
-fn seed_of_word(word: Option<&str>) -> Option<u64>
-    ensures { result ≡ seed_or_none (option_map (λ w. w.now) word.entry) }
+fn seed_of_words(matches: &ArgMatches<'_>) -> Option<u64>
+    ensures { result
+        ≡ seed_or_none (first_of (codes "SEED") (rows_of (found_of matches.now))) }
 {
-    match word {
-        Some(word) => seed_named(word.as_bytes()),
+    match matches.get_str("SEED") {
+        Some(word) => seed_of_word(word),
         None => Some(0),
     }
+}
+
+fn seed_of_word(word: &str) -> Option<u64>
+    ensures { result ≡ seed_named word.now }
+{
+    seed_named(word.as_bytes())
 }
 
 fn seed_named(word: &[u8]) -> Option<u64>

@@ -5,8 +5,8 @@ use Rattle.text_lines.proofs.PlaceLemmas.{place_or_len}
 use Rattle.planner_cli.specs.Listed.{is_tab}
 use Rattle.planner_cli.proofs.listed.tab_at.Goals as goal
 
-pub returns : goal.returns
-returns c =
+pub returns-clause-value : goal.returns-clause-value
+returns-clause-value c =
     let text = c.args.line.now in
     c.unwrap_or.ensures
     ∙ place_or_len is_tab text c.position.result

@@ -1,5 +1,5 @@
 -- The subcommands are added in turn to a command that tells its version.
-use Rattle.std.proofs.Common.{◌≡◌, ◌∙◌, ap, codes, Bor, List, rules}
+use Rattle.std.proofs.Common.{◌≡◌, ◌∙◌, ap, codes, Bor, List, rules, true}
 use Rattle.std.proofs.lemmas.Result.{IfOk-weaker}
 use Rattle.clap.specs.Simple.{app_of_fields, on_top}
 use Rattle.clap.specs.Words.{App, Shape, Text, app_of, new_app, with_subcommand}
