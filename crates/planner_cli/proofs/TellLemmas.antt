@@ -14,6 +14,10 @@ flushed (Some x) None c text written kept = absurd written
 flushed (Some x) (Some y) None text written kept = absurd kept
 flushed (Some x) (Some y) (Some z) text written kept = kept ∙ written
 
+-- two paths with tabs behind them, and what follows
+pub tabs : (i s a : List ℕ) → (i ++ 9 ∷ (s ++ 9 ∷ [])) ++ a ≡ i ++ 9 ∷ (s ++ 9 ∷ a)
+tabs i s a = append_assoc i (9 ∷ (s ++ 9 ∷ [])) a ∙ ap (λ (x : List ℕ). i ++ 9 ∷ x) (append_assoc s (9 ∷ []) a)
+
 module _ {V E : Type 0} (post : Bor (List ℕ) → Result V E → Type 0) (items : V → List ℕ) (kind : E → ErrorKind) (k : Kind) where
   -- So much was told, and whatever is told of the lines that are left makes what is told of all.
   pub record IsSoFar (all : List (List ℕ)) (before now : Option (List ℕ)) (left : List (List ℕ)) (n : ℕ) : Type 0 where

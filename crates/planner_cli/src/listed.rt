@@ -4,7 +4,6 @@ ghost use Rattle.std.specs.IoError.{error_kind};
 ghost use Rattle.std.specs.List.{position_or_len};
 ghost use Rattle.std.specs.Io.KnownBytes.{Appends};
 ghost use Rattle.planner_cli.specs.Telling.{line};
-ghost use Rattle.text_lines.specs.Lines.{lines_of};
 ghost use Rattle.planner_cli.specs.Listed.{IsPair, NamesNone, TellsLine, TellsLines, TellsList, is_path, is_tab, list_path, parts_of};
 
 use crate::audited::audit_read;
@@ -35,7 +34,7 @@ where
 {
     let path = list_path(list);
     match read(path) {
-        Ok(text) => audit_lines(alloc, kind, &text, read, output),
+        Ok(text) => audit_lines(alloc, kind, Lines::new(&text), read, output),
         Err(error) => tell_unread(output, path, error.kind()),
     }
 }
@@ -51,7 +50,7 @@ fn list_path(list: &str) -> &str
 fn audit_lines<F, W: Write>(
     alloc: Global,
     kind: Kind,
-    text: &[u8],
+    lines: Lines<'_>,
     read: &F,
     output: &mut W,
 ) -> io::Result<u8>
@@ -60,10 +59,10 @@ where
     requires { F.IsAlwaysCallable read.now }
     ensures status { IfOk result (λ status. status ≤ 4) }
     ensures told { IfOk result (TellsLines (λ path r. F.post read.now path r) (λ x. x.items)
-        error_kind kind (lines_of text.now) (W.contents output.old) (W.contents output.new)) }
+        error_kind kind lines.entry (W.contents output.old) (W.contents output.new)) }
 {
     let mut greatest = DONE;
-    for line in Lines::new(text) {
+    for line in lines {
         let status = audit_line(alloc, kind, line, read, output)?;
         greatest = greater(greatest, status);
     }
@@ -72,7 +71,9 @@ where
 
 /// The greater status.
 fn greater(one: u8, other: u8) -> u8
-    ensures { result ≡ max one other }
+    requires { (one ≤ 4) × (other ≤ 4) }
+    ensures value { max one other ≡ result }
+    ensures bound { result ≤ 4 }
 {
     if one < other { other } else { one }
 }
