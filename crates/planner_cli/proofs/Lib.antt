@@ -5,4 +5,3 @@ pub mod InputLemmas
 pub mod ReplyLemmas
 pub mod ServingLemmas
 pub mod SpelledLemmas
-pub mod TellLemmas

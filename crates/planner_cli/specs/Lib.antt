@@ -5,10 +5,6 @@ pub mod Asked
 pub mod Served
 -- of private functions alone
 pub mod CommandLine
-pub mod Examined
-pub mod Files
-pub mod Listed
-pub mod Solving
 pub mod Telling
 pub mod Input
 pub mod Serving

@@ -4,12 +4,9 @@
 mod answer;
 mod answering;
 mod audit;
-mod audited;
 mod help;
 mod input;
-mod listed;
 mod program;
-mod solved;
 pub mod status;
 mod stores;
 mod telling;
@@ -19,7 +16,7 @@ pub use answer::{AuditAnswer, Line};
 pub use answering::{ServeFault, serve};
 pub use audit::audit_text;
 pub use program::run_words;
-pub use words::{Invocation, Paths, Task, read_words};
+pub use words::{Invocation, read_words};
 
 #[cfg(test)]
 mod tests;
