@@ -106,8 +106,7 @@ module _ (add_up : SearchesAddUp) (many : RunsAreOneSearch) (begun : State) (ste
       → (state ≡ effect begun (Search steps)) × Appends before now (told begun (marks steps))
   ends now state done parts h all =
       let last : parts ≡ 20 = let most = h.parts in omega (arith, most, all) in
-      let is : done ≡ steps = h.done ∙ ap (twentieths steps) last ∙ twenty steps in
-      (
+      let is : done ≡ steps = h.done ∙ ap (twentieths steps) last ∙ twenty steps in (
         h.state ∙ ap (λ n. effect begun (Search n)) is,
         subst (Appends before now) (sym (append-nil h.text) ∙ ap (λ k. h.text ++ told begun (marks_left steps done k)) (sym last) ∙ h.whole) h.written,
       )

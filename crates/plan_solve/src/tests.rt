@@ -4,8 +4,7 @@ use plan_types::Kind;
 use std::test::Fail;
 
 /// One pickup and its delivery, at (3, 4) and (6, 8), from a depot at (0, 0): a way of 5 + 5 + 10.
-const ONE_PAIR: &[u8] =
-    b"2 10 1\n0 0 0 0 0 100 0 0 0\n1 3 4 4 0 50 2 0 2\n2 6 8 -4 0 60 2 1 0\n";
+const ONE_PAIR: &[u8] = b"2 10 1\n0 0 0 0 0 100 0 0 0\n1 3 4 4 0 50 2 0 2\n2 6 8 -4 0 60 2 1 0\n";
 
 #[test]
 fn solves_one_pair(rt: HostRuntime) -> Result<(), Fail> {
