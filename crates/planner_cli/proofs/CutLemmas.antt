@@ -81,6 +81,15 @@ module _ (ended : PiecesFollow) (last : PiecesEnd) (none : pieces_of [] ≡ []) 
           let all : Consumes old new p.seen = subst (Consumes old new) (append-nil p.seen) (Consumes-trans old mid new p.seen [] p.moves moves.1) in
           last_cuts p.seen next p.free is old new all (known_before old mid new p.seen p.moves moves.2)
 
+-- at the end the line stays
+pub kept_at_end : (mid new : Option (List ℕ)) (before after : LineSoFar) (seen : List ℕ) → IsLineSoFar seen before → TakesPart mid new before after End → length after.kept.items ≡ length before.kept.items
+kept_at_end mid new before after seen kept t =
+    ap length ((t.line seen kept).0 ∙ ap (λ b. take 1026 (seen ++ b)) t.moves.0 ∙ ap (take 1026) (append-nil seen) ∙ sym kept.0)
+
+pub on_some : {X : Type 0} (o : Option X) (P Q : Type 0) → OnSome o P → (P → Q) → OnSome o Q
+on_some None P Q p on = tt
+on_some (Some x) P Q p on = on p
+
 -- ---- what was read ahead
 
 -- what was taken of it is what the input lost

@@ -1,5 +1,5 @@
 //! An input as lines and the bytes that follow a line, in whatever pieces these come.
-ghost use Rattle.std.specs.Prelude.{◌≡◌, ◌≤◌, ◌<◌, ◌+◌, ◌++◌, IfOk, MatchResult, OnErr, OnSome, ℕ, List, [], length};
+ghost use Rattle.std.specs.Prelude.{◌≡◌, ◌≤◌, ◌<◌, ◌+◌, ◌-◌, ◌++◌, IfOk, MatchResult, OnErr, OnSome, ℕ, List, [], length};
 ghost use Rattle.std.specs.Str.Lines.{strip_carriage_return};
 ghost use Rattle.command_text.specs.Asking.{asked};
 ghost use Rattle.planner_cli.specs.Input.{Counts, CutsNext, EndsFree, IsLast, IsLineSoFar, IsTextSoFar, IsUnread, Loads, TakesLess, TakesMore, TakesPart, TakesShown, TakesText, left_of};
@@ -69,7 +69,8 @@ impl LineSoFar {
 
     /// What the input's last line asks for, where there is one: it has a byte.
     fn last_asked(&self) -> Option<Asked>
-        ensures { (line : List ℕ) → IsLineSoFar line self.now → IsLast line result }
+        ensures last { (line : List ℕ) → IsLineSoFar line self.now → IsLast line result }
+        ensures some { OnSome result (0 < length self.now.kept.items) }
     {
         if self.kept.is_empty() {
             return None;
@@ -153,8 +154,9 @@ impl TextSoFar {
     }
 
     fn take(&mut self, part: &[u8])
-        ensures { (len : ℕ) (seen : List ℕ) → length part.now ≤ self.old.left
+        ensures bytes { (len : ℕ) (seen : List ℕ) → length part.now ≤ self.old.left
             → IsTextSoFar len seen self.old → IsTextSoFar len (seen ++ part.now) self.new }
+        ensures left { self.new.left ≡ self.old.left - length part.now }
     {
         self.left = self.left.saturating_sub(part.len());
         if self.is_whole {

@@ -62,6 +62,13 @@ impl<T> Watched<T> {
             has_failed: false,
         }
     }
+
+    /// The reader or writer itself.
+    pub fn into_inner(self) -> T
+        ensures { result ≡ self.inner }
+    {
+        self.inner
+    }
 }
 
 /// A call that a signal came between is made again.
