@@ -76,7 +76,7 @@ serves_as a b f f' g x y same p = record { text = p.text; leads = leads_as a b f
 
 -- ---- what was written of an answer
 
-serves_told : {D : Type 0} (a b : SessionValue D) (f g : Serving → Reply) (t : List ℕ) (x y : Option (List ℕ)) → Tells a f t b g → Appends x y t → Serves a f x y b g
+pub serves_told : {D : Type 0} (a b : SessionValue D) (f g : Serving → Reply) (t : List ℕ) (x y : Option (List ℕ)) → Tells a f t b g → Appends x y t → Serves a f x y b g
 serves_told a b f g t x y p written = record { text = t; leads = leads_told a b f g t p; written = written }
 
 pub answers_told : {D T E : Type 0} (r : Result T E) (a b : SessionValue D) (f g : Serving → Reply) (t : List ℕ) (x y : Option (List ℕ)) → Tells a f t b g → Puts x y r t → Answers r a f x y b g

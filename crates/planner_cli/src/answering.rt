@@ -40,9 +40,9 @@ pub enum ServeFault {
 
 impl From<Unread> for ServeFault {
     ghost use Rattle.std.specs.Prelude.{◌≡◌};
-    ghost use Rattle.planner_cli.specs.declared.answering.ServeFault.TheVariants.{ReadFault};
+    ghost use Rattle.planner_cli.specs.declared.answering.ServeFault.TheVariants as serve_fault;
 
-    ghost from_gives = { λ _ fault. fault ≡ ReadFault };
+    ghost from_gives = { λ _ fault. fault ≡ serve_fault.ReadFault };
 
     fn from(_: Unread) -> ServeFault {
         ServeFault::ReadFault
@@ -51,9 +51,9 @@ impl From<Unread> for ServeFault {
 
 impl From<Failed> for ServeFault {
     ghost use Rattle.std.specs.Prelude.{◌≡◌};
-    ghost use Rattle.planner_cli.specs.declared.answering.ServeFault.TheVariants.{WriteFault};
+    ghost use Rattle.planner_cli.specs.declared.answering.ServeFault.TheVariants as serve_fault;
 
-    ghost from_gives = { λ _ fault. fault ≡ WriteFault };
+    ghost from_gives = { λ _ fault. fault ≡ serve_fault.WriteFault };
 
     fn from(_: Failed) -> ServeFault {
         ServeFault::WriteFault

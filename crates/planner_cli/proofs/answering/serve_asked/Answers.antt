@@ -13,19 +13,19 @@ use Rattle.planner_cli.proofs.AskedLemmas.{cut_at_once, line_ends, line_on, load
 use Rattle.planner_cli.proofs.ServingLemmas.{answers_told, tells_same}
 use Rattle.planner_cli.proofs.answering.serve_asked.Goals as goal
 
-pub returns-in-BadLoad : goal.returns-in-BadLoad
-returns-in-BadLoad g c = λ reading rest is known.
+pub returns-in-BadLoad-clause-serves : goal.returns-in-BadLoad-clause-serves
+returns-in-BadLoad-clause-serves g c = λ reading rest is known.
     let old = c.args.session.now in
     let new = c.args.session.now in
     let before = g.W.Sink.contents c.args.writer.now in
     let after = g.W.Sink.contents c.tell.new.writer in
     let left = left_of g.R.Source.remaining c.args.input.now c.args.reader.now in
-    subst (λ a. GoesOn c.once.result reading old (cut_at a rest) before after new left) (sym c.in-BadLoad.is)
-    (line_ends reading asked.BadLoad rest old new before after left c.once.result c.tell.result c.once.ensures refl known
+    subst (λ a. GoesOn c.once-in-BadLoad.result reading old (cut_at a rest) before after new left) (sym c.in-BadLoad.is)
+    (line_ends reading asked.BadLoad rest old new before after left c.once-in-BadLoad.result c.tell.result c.once-in-BadLoad.ensures refl known
     (answers_told c.tell.result old new (λ s. answered s answer.BadLine) silent (line (answer_text answer.BadLine)) before after (tells_same old (λ s. answered s answer.BadLine) answer.BadLine (λ fates. refl)) c.tell.ensures.bytes))
 
-pub returns-in-LoadRange : goal.returns-in-LoadRange
-returns-in-LoadRange g c = λ reading rest is known.
+pub returns-in-LoadRange-clause-serves : goal.returns-in-LoadRange-clause-serves
+returns-in-LoadRange-clause-serves g c = λ reading rest is known.
     let old = c.args.session.now in
     let new = c.args.session.now in
     let before = g.W.Sink.contents c.args.writer.now in
@@ -35,8 +35,8 @@ returns-in-LoadRange g c = λ reading rest is known.
     (line_ends reading asked.LoadRange rest old new before after left c.once-in-LoadRange.result c.tell-in-LoadRange.result c.once-in-LoadRange.ensures refl known
     (answers_told c.tell-in-LoadRange.result old new (λ s. answered s (answer.Refused core.Range)) silent (line (answer_text (answer.Refused core.Range))) before after (tells_same old (λ s. answered s (answer.Refused core.Range)) (answer.Refused core.Range) (λ fates. refl)) c.tell-in-LoadRange.ensures.bytes))
 
-pub returns-in-BadLine : goal.returns-in-BadLine
-returns-in-BadLine g c = λ reading rest is known.
+pub returns-in-BadLine-clause-serves : goal.returns-in-BadLine-clause-serves
+returns-in-BadLine-clause-serves g c = λ reading rest is known.
     let old = c.args.session.now in
     let new = c.args.session.now in
     let before = g.W.Sink.contents c.args.writer.now in
@@ -46,8 +46,8 @@ returns-in-BadLine g c = λ reading rest is known.
     (line_on reading asked.BadLine rest old new before after left c.once-in-BadLine.result c.tell-in-BadLine.result c.once-in-BadLine.ensures refl known
     (answers_told c.tell-in-BadLine.result old new (λ s. answered s answer.BadLine) silent (line (answer_text answer.BadLine)) before after (tells_same old (λ s. answered s answer.BadLine) answer.BadLine (λ fates. refl)) c.tell-in-BadLine.ensures.bytes))
 
-pub returns-in-Refused : goal.returns-in-Refused
-returns-in-Refused g c = λ reading rest is known.
+pub returns-in-Refused-clause-serves : goal.returns-in-Refused-clause-serves
+returns-in-Refused-clause-serves g c = λ reading rest is known.
     let old = c.args.session.now in
     let new = c.args.session.now in
     let before = g.W.Sink.contents c.args.writer.now in
@@ -57,8 +57,8 @@ returns-in-Refused g c = λ reading rest is known.
     (line_on reading (asked.Refused c.in-Refused.refusal) rest old new before after left c.once-in-Refused.result c.tell-in-Refused.result c.once-in-Refused.ensures refl known
     (answers_told c.tell-in-Refused.result old new (λ s. unless_broken s (refused s s.state c.in-Refused.refusal)) silent (line (answer_text c.refused.result)) before after c.refused.ensures c.tell-in-Refused.ensures.bytes))
 
-pub returns-in-Plain : goal.returns-in-Plain
-returns-in-Plain g c = λ reading rest is known.
+pub returns-in-Plain-clause-serves : goal.returns-in-Plain-clause-serves
+returns-in-Plain-clause-serves g c = λ reading rest is known.
     let old = c.args.session.now in
     let new = c.applied.new.session in
     let before = g.W.Sink.contents c.args.writer.now in
@@ -68,8 +68,8 @@ returns-in-Plain g c = λ reading rest is known.
     (line_on reading (asked.Plain c.in-Plain.command) rest old new before after left c.once-in-Plain.result c.tell-in-Plain.result c.once-in-Plain.ensures refl known
     (answers_told c.tell-in-Plain.result old new (λ s. plain s c.in-Plain.command) silent (line (answer_text c.applied.result)) before after c.applied.ensures c.tell-in-Plain.ensures.bytes))
 
-pub returns-in-Search : goal.returns-in-Search
-returns-in-Search g c = λ reading rest is known.
+pub returns-in-Search-clause-serves : goal.returns-in-Search-clause-serves
+returns-in-Search-clause-serves g c = λ reading rest is known.
     let old = c.args.session.now in
     let new = c.serve_search.new.session in
     let before = g.W.Sink.contents c.args.writer.now in
@@ -79,8 +79,8 @@ returns-in-Search g c = λ reading rest is known.
     (line_on reading (asked.Search c.in-Search.steps) rest old new before after left c.once-in-Search.result c.serve_search.result c.once-in-Search.ensures refl known
     (c.serve_search.ensures.answers))
 
-pub returns-in-Reach : goal.returns-in-Reach
-returns-in-Reach g c = λ reading rest is known.
+pub returns-in-Reach-clause-serves : goal.returns-in-Reach-clause-serves
+returns-in-Reach-clause-serves g c = λ reading rest is known.
     let old = c.args.session.now in
     let new = c.serve_reach.new.session in
     let before = g.W.Sink.contents c.args.writer.now in
@@ -90,8 +90,8 @@ returns-in-Reach g c = λ reading rest is known.
     (line_on reading (asked.Reach c.in-Reach.goal) rest old new before after left c.once-in-Reach.result c.serve_reach.result c.once-in-Reach.ensures refl known
     (c.serve_reach.ensures.answers))
 
-pub returns-in-Print : goal.returns-in-Print
-returns-in-Print g c = λ reading rest is known.
+pub returns-in-Print-clause-serves : goal.returns-in-Print-clause-serves
+returns-in-Print-clause-serves g c = λ reading rest is known.
     let old = c.args.session.now in
     let new = c.args.session.now in
     let before = g.W.Sink.contents c.args.writer.now in
@@ -101,8 +101,8 @@ returns-in-Print g c = λ reading rest is known.
     (line_on reading asked.Print rest old new before after left c.once-in-Print.result c.serve_print.result c.once-in-Print.ensures refl known
     (c.serve_print.ensures.answers))
 
-pub returns-in-Show : goal.returns-in-Show
-returns-in-Show g c = λ reading rest is known.
+pub returns-in-Show-clause-serves : goal.returns-in-Show-clause-serves
+returns-in-Show-clause-serves g c = λ reading rest is known.
     let old = c.args.session.now in
     let new = c.args.session.now in
     let before = g.W.Sink.contents c.args.writer.now in

@@ -7,11 +7,11 @@ use Rattle.planner_cli.specs.Serving.{ServesOn}
 use Rattle.planner_cli.specs.declared.answering.Goes.TheVariants.{On}
 use Rattle.planner_cli.proofs.answering.serve_lines.Given as goal
 
-abbrev pub invariant-loop : goal.invariant-loop
-invariant-loop g l =
+abbrev pub invariant-loop-asked : goal.invariant-loop-asked
+invariant-loop-asked g l =
     ((reading : Reading) (bytes : List ℕ) → IsReading reading → left_of g.R.Source.remaining l.fn.input l.fn.reader ≡ Some bytes
     → ServesOn reading l.fn.session (pieces_of bytes) (g.W.Sink.contents l.fn.writer) (g.W.Sink.contents l.writer) l.session On (left_of g.R.Source.remaining l.input l.reader))
     × Counts (left_of g.R.Source.remaining l.fn.input l.fn.reader) l.fn.input.left (left_of g.R.Source.remaining l.input l.reader) l.input.left
 
-abbrev pub decreases-loop : goal.decreases-loop
-decreases-loop g l = l.input.left
+abbrev pub decreases-loop-asked : goal.decreases-loop-asked
+decreases-loop-asked g l = l.input.left

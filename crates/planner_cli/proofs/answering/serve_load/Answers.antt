@@ -8,8 +8,8 @@ use Rattle.planner_cli.specs.Serving.{Answers, load_reply, load_told, silent}
 use Rattle.planner_cli.proofs.ServingLemmas.{answers_told, tells_same}
 use Rattle.planner_cli.proofs.answering.serve_load.Goals as goal
 
-pub returns-in-Short : goal.returns-in-Short
-returns-in-Short g c = λ reading bytes is.
+pub returns-in-Short-clause-answers : goal.returns-in-Short-clause-answers
+returns-in-Short-clause-answers g c = λ reading bytes is.
     let old = c.args.session.now in
     let before = g.W.Sink.contents c.args.writer.now in
     let after = g.W.Sink.contents c.tell.new.writer in
@@ -17,8 +17,8 @@ returns-in-Short g c = λ reading bytes is.
     (answers_told c.tell.result old old (λ s. answered s answer.Truncated) silent (line (answer_text answer.Truncated)) before after
     (tells_same old (λ s. answered s answer.Truncated) answer.Truncated (λ fates. refl)) c.tell.ensures.bytes)
 
-pub returns-in-Dropped : goal.returns-in-Dropped
-returns-in-Dropped g c = λ reading bytes is.
+pub returns-in-Dropped-clause-answers : goal.returns-in-Dropped-clause-answers
+returns-in-Dropped-clause-answers g c = λ reading bytes is.
     let old = c.args.session.now in
     let before = g.W.Sink.contents c.args.writer.now in
     let after = g.W.Sink.contents c.tell-in-Dropped.new.writer in
@@ -26,8 +26,8 @@ returns-in-Dropped g c = λ reading bytes is.
     subst (λ t. Answers c.tell-in-Dropped.result old (load_told t reading c.args.kind c.args.seed bytes) before after old silent) (sym c.in-Dropped.is)
     (answers_told c.tell-in-Dropped.result old old (load_reply c.args.seed found) silent (line (answer_text c.dropped.result)) before after (c.dropped.ensures c.args.seed found) c.tell-in-Dropped.ensures.bytes)
 
-pub returns-in-Whole : goal.returns-in-Whole
-returns-in-Whole g c = λ reading bytes is.
+pub returns-in-Whole-clause-answers : goal.returns-in-Whole-clause-answers
+returns-in-Whole-clause-answers g c = λ reading bytes is.
     let old = c.args.session.now in
     let new = c.loaded.new.session in
     let before = g.W.Sink.contents c.args.writer.now in

@@ -13,14 +13,14 @@ use Rattle.planner_cli.proofs.ReplyLemmas.{planned_ok, planned_unmade, print_don
 use Rattle.planner_cli.proofs.ServingLemmas.{answers_told}
 use Rattle.planner_cli.proofs.answering.serve_print.Goals as goal
 
-pub returns-in-Err : goal.returns-in-Err
-returns-in-Err g c =
+pub returns-in-Err-clause-answers : goal.returns-in-Err-clause-answers
+returns-in-Err-clause-answers g c =
     let session = c.args.session.now in
     answers_told c.tell.result session session (λ s. unless_broken s (printed s s.state)) silent (line (answer_text c.in-Err.answer)) (g.W.Sink.contents c.args.writer.now) (g.W.Sink.contents c.tell.new.writer)
     (tells_none printed session c.in-Err.answer (λ t. refl) c.in-Err.ensures.none) c.tell.ensures.bytes
 
-pub returns-in-Ok-print : goal.returns-in-Ok-print
-returns-in-Ok-print g c =
+pub returns-in-Ok-print-clause-answers : goal.returns-in-Ok-print-clause-answers
+returns-in-Ok-print-clause-answers g c =
     let session = c.args.session.now in
     let job = c.in-Ok.job.now in
     let before = g.W.Sink.contents c.args.writer.now in
@@ -30,8 +30,8 @@ returns-in-Ok-print g c =
     answers_told c.tell_text.result session session (λ s. unless_broken s (printed s s.state)) silent (print_text job ++ line (answer_text answer.Ok)) before after
     (print_done session job c.in-Ok.ensures.job.0 c.in-Ok.ensures.job.1 planned) (subst (λ t. Puts before after c.tell_text.result (t ++ line (answer_text answer.Ok))) bytes c.tell_text.ensures.bytes)
 
-pub returns-in-Err-Unplanned : goal.returns-in-Err-Unplanned
-returns-in-Err-Unplanned g c =
+pub returns-in-Err-Unplanned-clause-answers : goal.returns-in-Err-Unplanned-clause-answers
+returns-in-Err-Unplanned-clause-answers g c =
     let session = c.args.session.now in
     let job = c.in-Ok.job.now in
     let is : c.print.result ≡ Err (write.Unplanned c.in-Err-Unplanned.field-0-0) = search rules in
@@ -39,8 +39,8 @@ returns-in-Err-Unplanned g c =
     answers_told c.tell-in-Err-Unplanned.result session session (λ s. unless_broken s (printed s s.state)) silent (line (answer_text answer.Unplanned)) (g.W.Sink.contents c.args.writer.now) (g.W.Sink.contents c.tell-in-Err-Unplanned.new.writer)
     (print_unplanned session job c.in-Ok.ensures.job.0 c.in-Ok.ensures.job.1 unplanned) c.tell-in-Err-Unplanned.ensures.bytes
 
-pub returns-in-Err-OutOfMemory : goal.returns-in-Err-OutOfMemory
-returns-in-Err-OutOfMemory g c =
+pub returns-in-Err-OutOfMemory-clause-answers : goal.returns-in-Err-OutOfMemory-clause-answers
+returns-in-Err-OutOfMemory-clause-answers g c =
     let session = c.args.session.now in
     let job = c.in-Ok.job.now in
     let is : c.print.result ≡ Err write.OutOfMemory = search rules in

@@ -11,14 +11,14 @@ use Rattle.planner_cli.proofs.ReplyLemmas.{show_done, show_unmade, tells_none}
 use Rattle.planner_cli.proofs.ServingLemmas.{answers_told}
 use Rattle.planner_cli.proofs.answering.serve_show.Goals as goal
 
-pub returns-in-Err : goal.returns-in-Err
-returns-in-Err g c =
+pub returns-in-Err-clause-answers : goal.returns-in-Err-clause-answers
+returns-in-Err-clause-answers g c =
     let session = c.args.session.now in
     answers_told c.tell.result session session (λ s. unless_broken s (shown s s.state)) silent (line (answer_text c.in-Err.answer)) (g.W.Sink.contents c.args.writer.now) (g.W.Sink.contents c.tell.new.writer)
     (tells_none shown session c.in-Err.answer (λ t. refl) c.in-Err.ensures.none) c.tell.ensures.bytes
 
-pub returns-in-Ok-show : goal.returns-in-Ok-show
-returns-in-Ok-show g c =
+pub returns-in-Ok-show-clause-answers : goal.returns-in-Ok-show-clause-answers
+returns-in-Ok-show-clause-answers g c =
     let session = c.args.session.now in
     let job = c.in-Ok.job.now in
     let before = g.W.Sink.contents c.args.writer.now in
@@ -27,8 +27,8 @@ returns-in-Ok-show g c =
     answers_told c.tell_text.result session session (λ s. unless_broken s (shown s s.state)) silent (show_text job ++ line (answer_text answer.Ok)) before after
     (show_done session job c.in-Ok.ensures.job.0 c.in-Ok.ensures.job.1) (subst (λ t. Puts before after c.tell_text.result (t ++ line (answer_text answer.Ok))) bytes c.tell_text.ensures.bytes)
 
-pub returns-in-Err-show : goal.returns-in-Err-show
-returns-in-Err-show g c =
+pub returns-in-Err-show-clause-answers : goal.returns-in-Err-show-clause-answers
+returns-in-Err-show-clause-answers g c =
     let session = c.args.session.now in
     answers_told c.tell-in-Err-show.result session session (λ s. unless_broken s (shown s s.state)) silent (line (answer_text (answer.Refused core.OutOfMemory))) (g.W.Sink.contents c.args.writer.now) (g.W.Sink.contents c.tell-in-Err-show.new.writer)
     (show_unmade session c.in-Ok.job.now c.in-Ok.ensures.job.0 c.in-Ok.ensures.job.1) c.tell-in-Err-show.ensures.bytes
