@@ -1,5 +1,6 @@
 -- Piece by piece, what is left of the search is what the reply still says.
 use Rattle.std.proofs.Common.{subst, sym, ◌≡◌, ◌-◌, Err, rules}
+use Rattle.std.specs.Prelude.{⊤}
 use Rattle.std.proofs.lemmas.Result.{err_from_is_err_and}
 use Rattle.command_text.specs.Answering.{counts_of, searched}
 use Rattle.command_text.specs.Answers.{answer_text, line}
@@ -62,5 +63,5 @@ returns-in_err-tell_progress-clause-answers g c =
     let tells = piece_done mid c.apply.new.self c.next_count-count.result c.loop-left.left (counts_of left) c.apply.result.answer c.in_default.field-0 c.next_count-count.ensures.counts
     c.apply.ensures.answer c.apply.ensures.makes c.in_default.is in
     subst (λ r. Answers r old (λ s. searched s (counts_of c.args.steps)) before after c.apply.new.self silent) (sym told.1)
-    (answers_behind (Err told.0) old mid c.apply.new.self (λ s. searched s (counts_of c.args.steps)) (λ s. searched s (counts_of left)) (counts_of c.loop-left.left) (at_line_of c.apply.new.self) before sofar after
+    (answers_behind {T = ⊤} (Err told.0) old mid c.apply.new.self (λ s. searched s (counts_of c.args.steps)) (λ s. searched s (counts_of left)) (counts_of c.loop-left.left) (at_line_of c.apply.new.self) before sofar after
     c.loop-left.invariant tells c.in_err-tell_progress.ensures.bytes)

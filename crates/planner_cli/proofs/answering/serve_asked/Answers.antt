@@ -1,5 +1,6 @@
 -- By what the line asks for.
 use Rattle.std.proofs.Common.{refl, subst, sym}
+use Rattle.std.proofs.lemmas.Result.{err_from_is_err_and}
 use Rattle.command_core.specs.declared.refusals.Refusal.TheVariants as core
 use Rattle.command_text.specs.Answering.{answered, plain, refused, unless_broken}
 use Rattle.command_text.specs.Answers.{answer_text, line}
@@ -112,3 +113,29 @@ returns-in-Show-clause-serves g c = λ reading rest is known.
     (line_on reading asked.Show rest old new before after left c.once-in-Show.result c.serve_show.result c.once-in-Show.ensures refl known
     (c.serve_show.ensures.answers))
 
+pub returns-in-Nothing-clause-serves : goal.returns-in-Nothing-clause-serves
+returns-in-Nothing-clause-serves g c = λ reading rest is known.
+    let old = c.args.session.now in
+    let before = g.W.Sink.contents c.args.writer.now in
+    let left = left_of g.R.Source.remaining c.args.input.now c.args.reader.now in
+    subst (λ a. ServesOn reading old (cut_at a rest) before before old On left) (sym c.in-Nothing.is) (nothing_on reading rest old before left known)
+
+pub returns-in_err-text-in-Load-clause-serves : goal.returns-in_err-text-in-Load-clause-serves
+returns-in_err-text-in-Load-clause-serves g c = λ reading rest is known.
+    let old = c.args.session.now in
+    let before = g.W.Sink.contents c.args.writer.now in
+    let left = left_of g.R.Source.remaining c.load_text.new.self c.load_text.new.reader in
+    let told = err_from_is_err_and c.from_residual.result c.from_residual.ensures.1 in
+    subst (λ r. GoesOn r reading old (cut_at c.args.asked rest) before before old left) (sym told.1) (cut_at_once reading old (cut_at c.args.asked rest) before)
+
+pub returns-in_ok-text-in-Load-clause-serves : goal.returns-in_ok-text-in-Load-clause-serves
+returns-in_ok-text-in-Load-clause-serves g c = λ reading rest is known.
+    let old = c.args.session.now in
+    let new = c.serve_load.new.session in
+    let before = g.W.Sink.contents c.args.writer.now in
+    let after = g.W.Sink.contents c.serve_load.new.writer in
+    let first = left_of g.R.Source.remaining c.args.input.now c.args.reader.now in
+    let left = left_of g.R.Source.remaining c.load_text.new.self c.load_text.new.reader in
+    subst (λ a. GoesOn c.once.result reading old (cut_at a rest) before after new left) (sym c.in-Load.is)
+    (load_on reading c.in-Load.kind c.in-Load.seed c.in-Load.len old new before after c.once.result c.serve_load.result rest c.in_ok-text-in-Load.text c.goes_behind-goes.result first left known c.in_ok-text-in-Load.ensures.loads
+    c.goes_behind-goes.ensures c.once.ensures (λ bytes. c.serve_load.ensures.answers reading bytes is))
