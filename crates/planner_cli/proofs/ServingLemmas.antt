@@ -259,7 +259,7 @@ pub piece_done : {D T : Type 0} (old mid : SessionValue D) (count left : ℕ) (n
 piece_done old mid count left ns result x counts said makes is =
     let done : Serving → Reply = λ t. with_text (at_line t.state) (searched t ns) in
     let p : Tells old (λ s. searched s (counts_of left)) [] mid done = tells_as old mid (λ s. carried s (command.Search count) done) (λ s. searched s (counts_of left)) done []
-        (λ fates. ap (searched (as_serving old fates)) counts ∙ searched_cons (as_serving old fates) count ns) (goes_on old mid (command.Search count) result said makes done x is) in
+    (λ fates. ap (searched (as_serving old fates)) counts ∙ searched_cons (as_serving old fates) count ns) (goes_on old mid (command.Search count) result said makes done x is) in
     record { fates = p.fates; commands = p.commands; says = λ later. p.says later; state = p.state; few = p.few }
 
 -- a piece is not carried out

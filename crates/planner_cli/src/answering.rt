@@ -387,10 +387,7 @@ fn search<D: Sectors, W: Sink>(
 }
 
 /// Writes how far the search is.
-fn tell_progress<D: Sectors, W: Sink>(
-    session: &Session<D>,
-    writer: &mut W,
-) -> Result<(), Failed>
+fn tell_progress<D: Sectors, W: Sink>(session: &Session<D>, writer: &mut W) -> Result<(), Failed>
     ensures bytes { Puts (W.contents writer.old) (W.contents writer.new) result
         (at_line_of session.now) }
     ensures failed { OnErr result (W.has_failed writer.new ≡ true) }

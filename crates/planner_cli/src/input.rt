@@ -283,11 +283,7 @@ impl Input {
     }
 
     /// Takes and counts what is read of the text, and says whether that is anything.
-    fn take_more<R: Source>(
-        &mut self,
-        reader: &mut R,
-        text: &mut TextSoFar,
-    ) -> Result<bool, Unread>
+    fn take_more<R: Source>(&mut self, reader: &mut R, text: &mut TextSoFar) -> Result<bool, Unread>
         ensures more { IfOk result (TakesMore (left_of R.remaining self.old reader.old)
             (left_of R.remaining self.new reader.new) text.old text.new) }
         ensures counted { Counts (left_of R.remaining self.old reader.old) self.old.left

@@ -12,7 +12,8 @@ use std::io;
 use std::io::Write;
 use stores::{Served, new_store, serve_input, served_by_a_faulty_device};
 
-const LOAD: &str = "load vrp 0 173\nNAME : t3\nTYPE : CVRP\nDIMENSION : 4\nEDGE_WEIGHT_TYPE : EUC_2D\nCAPACITY : 10\nNODE_COORD_SECTION\n1 0 0\n2 3 4\n3 6 8\n4 0 5\nDEMAND_SECTION\n1 0\n2 6\n3 4\n4 5\nDEPOT_SECTION\n1\n-1\nEOF\n";
+const LOAD: &str =
+    "load vrp 0 173\nNAME : t3\nTYPE : CVRP\nDIMENSION : 4\nEDGE_WEIGHT_TYPE : EUC_2D\nCAPACITY : 10\nNODE_COORD_SECTION\n1 0 0\n2 3 4\n3 6 8\n4 0 5\nDEMAND_SECTION\n1 0\n2 6\n3 4\n4 5\nDEPOT_SECTION\n1\n-1\nEOF\n";
 
 /// Each is a line and the bytes that follow it. The last has no line feed.
 const PARTS: [&str; 9] = [
@@ -64,12 +65,7 @@ fn input(alloc: Global, count: usize) -> Result<Vec<u8>, AllocError> {
 }
 
 /// What comes of the input over a new store.
-fn served(
-    alloc: Global,
-    input: &[u8],
-    pieces: Pieces,
-    limited: Limited,
-) -> Option<Served> {
+fn served(alloc: Global, input: &[u8], pieces: Pieces, limited: Limited) -> Option<Served> {
     let Some(mut session) = new_store(alloc) else {
         return None;
     };
@@ -105,11 +101,18 @@ fn is_allowed(stages: &[Served], stopped: &Served) -> bool {
 
 /// Whether the search of 600 steps was cut behind a piece: as many pieces as are told, or one more.
 fn is_on_the_way(stopped: &Served) -> bool {
-    [(0usize, "\nsteps 256 "), (1, "\nsteps 256 "), (1, "\nsteps 512 "), (2, "\nsteps 512 "), (2, "\nsteps 600 "), (3, "\nsteps 600 ")]
-        .iter()
-        .any(|(told, steps)| {
-            count_of(&stopped.text, b"at ") == *told && count_of(&stopped.shown, steps.as_bytes()) == 1
-        })
+    [
+        (0usize, "\nsteps 256 "),
+        (1, "\nsteps 256 "),
+        (1, "\nsteps 512 "),
+        (2, "\nsteps 512 "),
+        (2, "\nsteps 600 "),
+        (3, "\nsteps 600 "),
+    ]
+    .iter()
+    .any(|(told, steps)| {
+        count_of(&stopped.text, b"at ") == *told && count_of(&stopped.shown, steps.as_bytes()) == 1
+    })
 }
 
 /// How often the bytes stand in the text.
@@ -120,15 +123,15 @@ fn count_of(text: &[u8], bytes: &[u8]) -> usize {
 }
 
 /// Over all readers that fail at one of their calls: how many there are, and how many of them end otherwise than they should.
-fn stopped_reads(
-    alloc: Global,
-    input: &[u8],
-    stages: &[Served],
-) -> Result<(u32, u32), AllocError> {
+fn stopped_reads(alloc: Global, input: &[u8], stages: &[Served]) -> Result<(u32, u32), AllocError> {
     let mut wrong = 0;
     for calls in 0..1000 {
-        let Some(stopped) = served(alloc, input, Pieces::failing(7, calls), Limited::whole(alloc))
-        else {
+        let Some(stopped) = served(
+            alloc,
+            input,
+            Pieces::failing(7, calls),
+            Limited::whole(alloc),
+        ) else {
             return Ok((calls, wrong + 1));
         };
         if stopped.fault.is_none() {
@@ -149,8 +152,12 @@ fn stopped_writes(
 ) -> Result<(u32, u32), AllocError> {
     let mut wrong = 0;
     for calls in 0..1000 {
-        let Some(stopped) = served(alloc, input, Pieces::whole(), Limited::failing(alloc, 5, calls))
-        else {
+        let Some(stopped) = served(
+            alloc,
+            input,
+            Pieces::whole(),
+            Limited::failing(alloc, 5, calls),
+        ) else {
             return Ok((calls, wrong + 1));
         };
         if stopped.fault.is_none() {
@@ -188,5 +195,8 @@ fn failed_builds<W: Write>(alloc: Global, stages: &[Served], output: &mut W) -> 
             }
         }
     }
-    writeln!(output, "a device that fails once: {in_build} calls within build, {wrong} wrong")
+    writeln!(
+        output,
+        "a device that fails once: {in_build} calls within build, {wrong} wrong"
+    )
 }

@@ -79,7 +79,13 @@ pub(crate) fn served_by_a_faulty_device(
     let mut device = new_device(alloc)?;
     device.fail_once(calls);
     let mut session = opened(alloc, device)?;
-    let served = serve_input(alloc, &mut session, input, Pieces::whole(), Limited::whole(alloc));
+    let served = serve_input(
+        alloc,
+        &mut session,
+        input,
+        Pieces::whole(),
+        Limited::whole(alloc),
+    );
     let mut again = opened(alloc, session.close())?;
     let opened_text = shown(alloc, &mut again);
     let mut device = again.close();

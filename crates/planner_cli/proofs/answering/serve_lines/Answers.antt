@@ -85,8 +85,9 @@ loop-asked-preserved g c =
     let left = left_of g.R.Source.remaining c.loop-asked.input c.loop-asked.reader in
     let next = left_of g.R.Source.remaining c.next_asked.new.self c.next_asked.new.reader in
     let behind = left_of g.R.Source.remaining c.serve_asked.new.input c.serve_asked.new.reader in
-    let cuts = subst (λ asked. CutsNext asked left next) c.in-Some.is c.in_ok-asked.ensures.cuts in
-    (λ reading bytes is known. line_served reading old mid new (pieces_of bytes) before sofar after c.in-Some.asked left next behind On (c.loop-asked.invariant.0 reading bytes is known) cuts
-    (λ rest q. subst (λ goes. ServesOn reading mid (cut_at c.in-Some.asked rest) sofar after new goes behind) c.in-On.is (c.in_ok-serve_asked.ensures.serves reading rest is q)),
-    counts_on first next behind c.args.input.now.left c.next_asked.new.self.left c.serve_asked.new.input.left
-    (counts_on first left next c.args.input.now.left c.loop-asked.input.left c.next_asked.new.self.left c.loop-asked.invariant.1 c.next_asked.ensures.counted) c.serve_asked.ensures.counted)
+    let cuts = subst (λ asked. CutsNext asked left next) c.in-Some.is c.in_ok-asked.ensures.cuts in (
+      λ reading bytes is known. line_served reading old mid new (pieces_of bytes) before sofar after c.in-Some.asked left next behind On (c.loop-asked.invariant.0 reading bytes is known) cuts
+          (λ rest q. subst (λ goes. ServesOn reading mid (cut_at c.in-Some.asked rest) sofar after new goes behind) c.in-On.is (c.in_ok-serve_asked.ensures.serves reading rest is q)),
+      counts_on first next behind c.args.input.now.left c.next_asked.new.self.left c.serve_asked.new.input.left
+          (counts_on first left next c.args.input.now.left c.loop-asked.input.left c.next_asked.new.self.left c.loop-asked.invariant.1 c.next_asked.ensures.counted) c.serve_asked.ensures.counted,
+    )

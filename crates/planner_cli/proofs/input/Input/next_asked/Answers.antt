@@ -36,8 +36,9 @@ loop-self-preserved g c =
     let mid = left_of g.R.Source.remaining c.loop-self.self c.loop-self.reader in
     let new = left_of g.R.Source.remaining c.take_line.new.self c.take_line.new.reader in
     let taken = subst (TakesPart mid new c.loop-self.self.line c.take_line.new.self.line) c.in-More.is c.in_ok-take_line.ensures.part in
-    let less : c.take_line.new.self.left < c.loop-self.self.left = subst (TakesLess c.loop-self.self.left c.take_line.new.self.left) c.in-More.is c.in_ok-take_line.ensures.less in
-    (part_more old mid new c.loop-self.self.line c.take_line.new.self.line c.in-More.field-0 c.loop-self.invariant.0 taken,
-    counts_on old mid new c.args.self.now.left c.loop-self.self.left c.take_line.new.self.left c.loop-self.invariant.1 c.take_line.ensures.counted,
-    omega (arith, less, c.loop-self.invariant.2),
-    λ some. omega (arith, less, c.loop-self.invariant.2))
+    let less : c.take_line.new.self.left < c.loop-self.self.left = subst (TakesLess c.loop-self.self.left c.take_line.new.self.left) c.in-More.is c.in_ok-take_line.ensures.less in (
+      part_more old mid new c.loop-self.self.line c.take_line.new.self.line c.in-More.field-0 c.loop-self.invariant.0 taken,
+      counts_on old mid new c.args.self.now.left c.loop-self.self.left c.take_line.new.self.left c.loop-self.invariant.1 c.take_line.ensures.counted,
+      omega (arith, less, c.loop-self.invariant.2),
+      λ some. omega (arith, less, c.loop-self.invariant.2),
+    )
