@@ -1,16 +1,18 @@
 -- How an input that is known goes on by what was taken of it.
-use Rattle.std.proofs.Common.{◌≡◌, ◌∙◌, ℕ, Bool, true, false, List, [], ◌∷◌, ◌++◌, ◌⊎◌, inl, inr, Option, Some, None, Contains, take, drop, refl, sym, ap, subst, arith, append_assoc, append-nil}
+use Rattle.std.proofs.Common.{◌≡◌, ◌∙◌, ℕ, ◌+◌, ◌-◌, ◌≤◌, ◌<◌, min, Bool, true, false, List, [], ◌∷◌, ◌++◌, ◌⊎◌, inl, inr, Option, Some, None, Contains, length, take, drop, refl, sym, ap, subst, arith, append_assoc, append-nil, length-append}
 use Rattle.std.specs.Prelude.{OnSome, if◌then◌else◌}
-use Rattle.std.specs.Io.KnownBytes.{Consumes, IsAtEnd}
+use Rattle.std.specs.Io.KnownBytes.{Consumes, IsAtEnd, Keeps, prepend_known}
 use Rattle.std.specs.Str.Lines.{strip_carriage_return}
-use Rattle.std.proofs.KnownBytes.{Consumes-trans}
+use Rattle.std.proofs.KnownBytes.{Consumes-nil, Consumes-trans}
 use Rattle.std.proofs.lemmas.List.Elements.{Contains-append_cases}
 use Rattle.text_lines.specs.Lines.{HasNoFeed}
 use Rattle.command_text.specs.Asking.{asked}
 use Rattle.command_text.specs.Cutting.{announced, ends, pieces_of}
 use Rattle.command_text.specs.Laws.{PiecesEnd, PiecesFollow, cut_at, piece_at}
 use Rattle.command_text.specs.declared.asked.Asked.{Asked}
-use Rattle.planner_cli.specs.Input.{Cuts, CutsNext, IsLast, IsLineSoFar, IsPartOf, IsTextPart, TakesPart, TakesSome}
+use Rattle.planner_cli.specs.Input.{Counts, Cuts, CutsNext, IsLast, IsLineSoFar, IsPartOf, IsTextPart, IsTextSoFar, Loads, Moves, MovesShown, TakesMore, TakesPart, TakesShown, TakesText}
+use Rattle.planner_cli.specs.declared.input.LoadText.TheVariants.{Short}
+use Rattle.planner_cli.specs.declared.input.Part.{Part}
 use Rattle.planner_cli.specs.declared.input.LineSoFar.{LineSoFar}
 use Rattle.planner_cli.specs.declared.input.TextSoFar.{TextSoFar}
 use lib.Seq.{drop-nil}
@@ -30,8 +32,8 @@ no_feed_on a b p q h = at (Contains-append_cases a b 10 h)
     at (inl x) = p x
     at (inr y) = q y
 
-pub part_more : (old mid new : Option (List ℕ)) (before after : LineSoFar) → IsPartOf old mid before → TakesPart mid new before after More → IsPartOf old new after
-part_more old mid new before after p t = record {
+pub part_more : (old mid new : Option (List ℕ)) (before after : LineSoFar) (n : ℕ) → IsPartOf old mid before → TakesPart mid new before after (More n) → IsPartOf old new after
+part_more old mid new before after n p t = record {
   seen = p.seen ++ t.bytes;
   free = no_feed_on p.seen t.bytes p.free t.free;
   moves = Consumes-trans old mid new p.seen t.bytes p.moves t.moves;
@@ -44,9 +46,9 @@ module _ (ended : PiecesFollow) (last : PiecesEnd) (none : pieces_of [] ≡ []) 
   feed_cuts line free (Some xs) None moves = absurd moves
   feed_cuts line free (Some xs) (Some ys) moves = ap pieces_of (moves ∙ append_assoc line (10 ∷ []) ys) ∙ ended line ys free
 
-  pub part_feed : (old mid new : Option (List ℕ)) (before after : LineSoFar) (a : Asked) → IsPartOf old mid before → TakesPart mid new before after Feed
+  pub part_feed : (old mid new : Option (List ℕ)) (before after : LineSoFar) (n : ℕ) (a : Asked) → IsPartOf old mid before → TakesPart mid new before after (Feed n)
       → ((line : List ℕ) → IsLineSoFar line after → a ≡ asked (strip_carriage_return line)) → Cuts a old new
-  part_feed old mid new before after a p t asks =
+  part_feed old mid new before after n a p t asks =
       let line : List ℕ = p.seen ++ t.bytes in
       let moves : Consumes old new (p.seen ++ (t.bytes ++ 10 ∷ [])) = Consumes-trans old mid new p.seen (t.bytes ++ 10 ∷ []) p.moves t.moves in
       subst (λ b. Cuts b old new) (sym (asks line (t.line p.seen p.kept)))
@@ -79,7 +81,106 @@ module _ (ended : PiecesFollow) (last : PiecesEnd) (none : pieces_of [] ≡ []) 
           let all : Consumes old new p.seen = subst (Consumes old new) (append-nil p.seen) (Consumes-trans old mid new p.seen [] p.moves moves.1) in
           last_cuts p.seen next p.free is old new all (known_before old mid new p.seen p.moves moves.2)
 
+-- at the end the line stays
+pub kept_at_end : (mid new : Option (List ℕ)) (before after : LineSoFar) (seen : List ℕ) → IsLineSoFar seen before → TakesPart mid new before after End → length after.kept.items ≡ length before.kept.items
+kept_at_end mid new before after seen kept t =
+    ap length ((t.line seen kept).0 ∙ ap (λ b. take 1026 (seen ++ b)) t.moves.0 ∙ ap (take 1026) (append-nil seen) ∙ sym kept.0)
+
+pub on_some : {X : Type 0} (o : Option X) (P Q : Type 0) → OnSome o P → (P → Q) → OnSome o Q
+on_some None P Q p on = tt
+on_some (Some x) P Q p on = on p
+
+-- ---- what was read ahead
+
+-- what was taken of it is what the input lost
+front_taken : (rest known : Option (List ℕ)) (all front behind : List ℕ) → Keeps known (prepend_known all rest) → all ≡ front ++ behind → Consumes known (prepend_known behind rest) front
+front_taken rest None all front behind keeps is = tt
+front_taken None (Some xs) all front behind keeps is = absurd keeps
+front_taken (Some ys) (Some xs) all front behind keeps is = sym keeps ∙ ap (λ l. l ++ ys) is ∙ append_assoc front behind ys
+
+none_behind : (rest known : Option (List ℕ)) (all : List ℕ) → Keeps known (prepend_known all rest) → IsAtEnd rest → (behind : List ℕ) → behind ≡ [] → OnSome known (IsAtEnd (prepend_known behind rest))
+none_behind rest None all keeps end behind is = tt
+none_behind None (Some xs) all keeps end behind is = absurd keeps
+none_behind (Some ys) (Some xs) all keeps end behind is = ap (λ l. l ++ ys) is ∙ end
+
+module _ (rest known : Option (List ℕ)) (all behind : List ℕ) (keeps : Keeps known (prepend_known all rest)) where
+  moves_on : (part : Part) (bytes : List ℕ) → (all ≡ [] → IsAtEnd rest) → MovesShown part all behind bytes → Moves part known (prepend_known behind rest) bytes
+  moves_on (More n) bytes end moves = front_taken rest known all bytes behind keeps moves.0
+  moves_on (Feed n) bytes end moves = front_taken rest known all (bytes ++ 10 ∷ []) behind keeps moves.0
+  moves_on End bytes end moves =
+      (moves.0, front_taken rest known all [] behind keeps (moves.1 ∙ sym moves.2), none_behind rest known all keeps (end moves.1) behind moves.2)
+
+  pub part_taken : (before after : LineSoFar) (part : Part) → (all ≡ [] → IsAtEnd rest) → TakesShown all behind before after part → TakesPart known (prepend_known behind rest) before after part
+  part_taken before after part end t = record { bytes = t.bytes; free = t.free; moves = moves_on part t.bytes end t.moves; line = t.line }
+
+counts_by : (rest known : Option (List ℕ)) (all front behind : List ℕ) (left later : ℕ) → Keeps known (prepend_known all rest) → all ≡ front ++ behind → left ≤ later + length front → Counts known left (prepend_known behind rest) later
+counts_by rest None all front behind left later keeps is most = tt
+counts_by None (Some xs) all front behind left later keeps is most = absurd keeps
+counts_by (Some ys) (Some xs) all front behind left later keeps is most =
+    let whole : length xs ≡ length (all ++ ys) = ap length (sym keeps) in
+    let parts : length (all ++ ys) ≡ length all + length ys = length-append all ys in
+    let front_len : length all ≡ length front + length behind = ap length is ∙ length-append front behind in
+    let later_len : length (behind ++ ys) ≡ length behind + length ys = length-append behind ys in
+    omega (arith, whole, parts, front_len, later_len, most)
+
+pub counts_part : (rest known : Option (List ℕ)) (all behind : List ℕ) (before after : LineSoFar) (part : Part) (n left later : ℕ) → Keeps known (prepend_known all rest) → TakesShown all behind before after part
+    → (part ≡ More n) ⊎ (part ≡ Feed n) → left ≤ later + n → Counts known left (prepend_known behind rest) later
+counts_part rest known all behind before after part n left later keeps t (inl is) most =
+    let moves = subst (λ p. MovesShown p all behind t.bytes) is t.moves in
+    counts_by rest known all t.bytes behind left later keeps moves.0 (omega (arith, most, moves.1))
+counts_part rest known all behind before after part n left later keeps t (inr is) most =
+    let moves = subst (λ p. MovesShown p all behind t.bytes) is t.moves in
+    let more : length (t.bytes ++ 10 ∷ []) ≡ length t.bytes + 1 = length-append t.bytes (10 ∷ []) in
+    counts_by rest known all (t.bytes ++ 10 ∷ []) behind left later keeps moves.0 (omega (arith, most, moves.1, more))
+
+pub counts_end : (rest known : Option (List ℕ)) (all behind : List ℕ) (before after : LineSoFar) (left : ℕ) → Keeps known (prepend_known all rest) → TakesShown all behind before after End
+    → Counts known left (prepend_known behind rest) left
+counts_end rest known all behind before after left keeps t = counts_by rest known all [] behind left left keeps (t.moves.1 ∙ sym t.moves.2) (omega arith)
+
+-- nothing was taken
+pub counts_kept : (known later : Option (List ℕ)) (left : ℕ) → Keeps known later → Counts known left later left
+counts_kept None later left keeps = tt
+counts_kept (Some xs) None left keeps = absurd keeps
+counts_kept (Some xs) (Some ys) left keeps = omega (arith, ap length keeps)
+
+pub counts_on : (a b c : Option (List ℕ)) (m n k : ℕ) → Counts a m b n → Counts b n c k → Counts a m c k
+counts_on None b c m n k p q = tt
+counts_on (Some xs) None c m n k p q = absurd p
+counts_on (Some xs) (Some ys) None m n k p q = absurd q
+counts_on (Some xs) (Some ys) (Some zs) m n k p q = omega (arith, p, q)
+
 -- ---- the bytes of a text
 
-pub text_more : (len : ℕ) (old mid new : Option (List ℕ)) (before after : TextSoFar) → IsTextPart len old mid before → TakesSome mid new before after → IsTextPart len old new after
+pub more_taken : (rest known : Option (List ℕ)) (all behind : List ℕ) (before after : TextSoFar) (n : ℕ) (some : Bool) → Keeps known (prepend_known all rest) → (all ≡ [] → IsAtEnd rest)
+    → TakesText all behind before after n → (some ≡ true → 0 < n) → (some ≡ false → n ≡ 0) → TakesMore known (prepend_known behind rest) before after some
+more_taken rest known all behind before after n some keeps end t more none = record {
+  bytes = t.bytes;
+  moves = front_taken rest known all t.bytes behind keeps t.moves;
+  text = t.text;
+  less = λ is. omega (arith, t.left, more is);
+  end = λ is wanted.
+      let zero : n ≡ 0 = none is in
+      let empty : all ≡ [] = no_item all (omega (arith, t.most, zero, wanted)) in
+      let nothing : t.bytes ≡ [] = no_item t.bytes (t.count ∙ zero) in
+      let same : behind ≡ [] = sym (t.moves ∙ ap (λ l. l ++ behind) nothing) ∙ empty in
+      (nothing, none_behind rest known all keeps (end empty) behind same);
+}
+  where
+    no_item : (xs : List ℕ) → length xs ≡ 0 → xs ≡ []
+    no_item [] e = refl
+    no_item (x ∷ xs) e = absurd (omega (arith, e))
+
+pub counts_text : (rest known : Option (List ℕ)) (all behind : List ℕ) (before after : TextSoFar) (n left later : ℕ) → Keeps known (prepend_known all rest) → TakesText all behind before after n
+    → left ≤ later + n → Counts known left (prepend_known behind rest) later
+counts_text rest known all behind before after n left later keeps t most = counts_by rest known all t.bytes behind left later keeps t.moves (omega (arith, most, t.count))
+
+pub text_more : (len : ℕ) (old mid new : Option (List ℕ)) (before after : TextSoFar) → IsTextPart len old mid before → TakesMore mid new before after true → IsTextPart len old new after
 text_more len old mid new before after p t = record { seen = p.seen ++ t.bytes; moves = Consumes-trans old mid new p.seen t.bytes p.moves t.moves; kept = t.text len p.seen p.kept }
+
+-- the input ended before the text did
+pub text_short : (len : ℕ) (old mid new : Option (List ℕ)) (before after : TextSoFar) → IsTextPart len old mid before → 0 < before.left → TakesMore mid new before after false → Loads len old new Short
+text_short len old mid new before after p wanted t =
+    let ended = t.end refl wanted in
+    let all : Consumes old new (p.seen ++ t.bytes) = Consumes-trans old mid new p.seen t.bytes p.moves t.moves in
+    let same : p.seen ++ t.bytes ≡ p.seen = ap (λ b. p.seen ++ b) ended.0 ∙ append-nil p.seen in
+    (p.seen, subst (Consumes old new) same all, omega (arith, p.kept.0, wanted), known_before old mid new p.seen p.moves ended.1)

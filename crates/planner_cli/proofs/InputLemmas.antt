@@ -1,7 +1,7 @@
 -- What is kept of a line, and bytes before the first line feed.
 use Rattle.std.proofs.Common.{◌≡◌, ◌∙◌, ℕ, ◌+◌, ◌-◌, ◌<◌, ◌≤◌, min, Bool, true, false, List, ◌++◌, length, take, refl, sym, ap, arith, take_all, append-nil, length-take-le}
-use Rattle.std.specs.Prelude.{nat_le, nat_lt, slice_index, ◌==◌, if◌then◌else◌, OnOk, Result, Ok, Err}
-use Rattle.std.specs.Result.{is_ok}
+use Rattle.std.specs.Prelude.{nat_le, nat_lt, slice_index, ◌==◌, if◌then◌else◌, OnOk, Result, Ok, Err, IsOk, ◌↔◌}
+use mathlib.Core.Bool.{true≢false}
 use Rattle.std.proofs.lemmas.Bool.{leb-true, ltb-false, ltb-true}
 use Rattle.std.specs.Str.Lines.{strip_carriage_return}
 use Rattle.text_lines.specs.Words.{words_of}
@@ -42,10 +42,10 @@ kept_more most before part room is = at (nat_lt most (length before)) refl
         ap (λ xs. xs ++ take room part) all ∙ ap (λ n. before ++ take n part) room_is ∙ ap (λ xs. before ++ xs) (take_most left part) ∙ sym (take-append-add before part left)
         ∙ ap (λ n. take n (before ++ part)) (sym whole)
 
--- what was appended where memory was found
-pub appended_ok : {T E : Type 0} (r : Result T E) (new old part : List ℕ) → new ≡ (if is_ok r then old ++ part else old) → OnOk r (new ≡ old ++ part)
-appended_ok (Ok x) new old part e = e
-appended_ok (Err y) new old part e = tt
+-- what was appended where it fits
+pub appended_ok : {T E P Q : Type 0} (r : Result T E) → P → IsOk r ↔ P → OnOk r Q → Q
+appended_ok (Ok x) fits may q = q
+appended_ok (Err y) fits may q = absurd (true≢false (sym (may.1 fits)))
 
 -- ---- what a line asks for
 

@@ -5,3 +5,4 @@ pub mod InputLemmas
 pub mod ReplyLemmas
 pub mod ServingLemmas
 pub mod SpelledLemmas
+pub mod StreamLemmas

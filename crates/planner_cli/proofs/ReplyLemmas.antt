@@ -1,6 +1,5 @@
 -- What is answered to loads, and to lines that change nothing.
-use Rattle.std.proofs.Common.{◌≡◌, ◌∙◌, ℕ, Bool, true, false, List, [], ◌∷◌, ◌++◌, inl, inr, Option, None, Result, Ok, Err, refl, sym, ap, subst, append-nil, arith}
-use Rattle.std.specs.Io.KnownBytes.{Appends}
+use Rattle.std.proofs.Common.{◌≡◌, ◌∙◌, ℕ, ◌≤◌, Bool, true, false, List, [], ◌∷◌, ◌++◌, inl, inr, None, Result, length, Ok, Err, refl, sym, ap, subst, append-nil, arith}
 use Rattle.plan_types.specs.Instance.{Instance}
 use Rattle.instance_read.specs.Faults.{no_memory}
 use Rattle.instance_read.specs.declared.faults.ReadFault.{ReadFault}
@@ -23,9 +22,9 @@ use Rattle.std.proofs.lemmas.Bool.{eqb-false, eqb-true}
 use Rattle.command_text.specs.declared.answers.Answer.{Answer}
 use Rattle.command_text.specs.declared.answers.Answer.TheVariants as answer
 use Rattle.recover.specs.Sessions.{SessionValue}
-use Rattle.planner_cli.specs.Served.{as_serving}
-use Rattle.planner_cli.specs.Serving.{Leads, Serves, HasNoJob, load_reply, silent}
-use Rattle.planner_cli.proofs.ServingLemmas.{answered_is, carried_tried, leads_as}
+use Rattle.planner_cli.specs.Served.{Tells, as_serving}
+use Rattle.planner_cli.specs.Serving.{HasNoJob, load_reply, silent}
+use Rattle.planner_cli.proofs.ServingLemmas.{answered_is, carried_tried, tells_as}
 
 -- ---- what a session says that is not broken, or is
 
@@ -36,25 +35,19 @@ pub when_whole : (s : Serving) (r : Reply) → s.is_broken ≡ false → unless_
 when_whole s r e = rw e refl
 
 -- an answer that leaves the session as it is, after these fates
-pub leads_fate : {D : Type 0} (s : SessionValue D) (f : Serving → Reply) (fates : List Fate) (a : Answer) → ((later : List Fate) → f (as_serving s (fates ++ later)) ≡ answered (as_serving s later) a)
-    → Leads s f (line (answer_text a)) s silent
-leads_fate s f fates a says = record { fates = fates; commands = []; says = λ later. says later ∙ answered_is (as_serving s later) a }
-
-pub serves_fate : {D : Type 0} (s : SessionValue D) (f : Serving → Reply) (fates : List Fate) (a : Answer) (x y : Option (List ℕ)) → ((later : List Fate) → f (as_serving s (fates ++ later)) ≡ answered (as_serving s later) a)
-    → Appends x y (line (answer_text a)) → Serves s f x y s silent
-serves_fate s f fates a x y says written = record { text = line (answer_text a); leads = leads_fate s f fates a says; written = written }
+pub tells_fate : {D : Type 0} (s : SessionValue D) (f : Serving → Reply) (fates : List Fate) (a : Answer) → ((later : List Fate) → f (as_serving s (fates ++ later)) ≡ answered (as_serving s later) a)
+    → Tells s f (line (answer_text a)) s silent
+tells_fate s f fates a says = record { fates = fates; commands = []; says = λ later. says later ∙ answered_is (as_serving s later) a; state = refl; few = omega arith }
 
 -- a text, and `ok` behind it
-pub serves_text : {D : Type 0} (s : SessionValue D) (f : Serving → Reply) (text : List ℕ) (x y : Option (List ℕ)) → ((later : List Fate) → f (as_serving s (Done ∷ later)) ≡ with_text text (answered (as_serving s later) answer.Ok))
-    → Appends x y (text ++ line (answer_text answer.Ok)) → Serves s f x y s silent
-serves_text s f text x y says written = record {
-  text = text ++ line (answer_text answer.Ok);
-  leads = record {
-    fates = Done ∷ [];
-    commands = [];
-    says = λ later. says later ∙ ap (λ (t : List ℕ). record { text = t; commands = []; left = as_serving s later }) (sym (append-nil (text ++ line (answer_text answer.Ok))));
-  };
-  written = written;
+pub tells_text : {D : Type 0} (s : SessionValue D) (f : Serving → Reply) (text : List ℕ) → ((later : List Fate) → f (as_serving s (Done ∷ later)) ≡ with_text text (answered (as_serving s later) answer.Ok))
+    → Tells s f (text ++ line (answer_text answer.Ok)) s silent
+tells_text s f text says = record {
+  fates = Done ∷ [];
+  commands = [];
+  says = λ later. says later ∙ ap (λ (t : List ℕ). record { text = t; commands = []; left = as_serving s later }) (sym (append-nil (text ++ line (answer_text answer.Ok))));
+  state = refl;
+  few = omega arith;
 }
 
 -- ---- a session without a job
@@ -87,56 +80,55 @@ load_is : (s : Serving) (p : Instance) (seed : ℕ) → s.is_broken ≡ false �
 load_is s p seed e = by_fates s.state s.is_broken s.fates p seed ∙ sym (carried_tried s (command.Load p seed) (λ t. answered t answer.Ok) e (load_accepted s.state p seed))
 
 pub load_spelled : {D : Type 0} (old new : SessionValue D) (p : Instance) (seed : ℕ) (text : List ℕ) (found : Result Instance ReadFault) → old.is_broken ≡ false → Ok p ≡ found
-    → Leads old (λ s. plain s (command.Load p seed)) text new silent → Leads old (load_reply seed found) text new silent
+    → Tells old (λ s. plain s (command.Load p seed)) text new silent → Tells old (load_reply seed found) text new silent
 load_spelled old new p seed text found e is leads =
-    leads_as old new (λ s. plain s (command.Load p seed)) (load_reply seed found) silent text
+    tells_as old new (λ s. plain s (command.Load p seed)) (load_reply seed found) silent text
     (λ fates. when_whole (as_serving old fates) (load (next_fate fates) (as_serving old fates) seed found) e
     ∙ ap (load (next_fate fates) (as_serving old fates) seed) (sym is) ∙ load_is (as_serving old fates) p seed e) leads
 
 pub load_faulty : {D : Type 0} (old : SessionValue D) (seed : ℕ) (fault : ReadFault) (found : Result Instance ReadFault) → old.is_broken ≡ false → Err fault ≡ found
-    → Leads old (load_reply seed found) (line (answer_text (answer.Read fault))) old silent
+    → Tells old (load_reply seed found) (line (answer_text (answer.Read fault))) old silent
 load_faulty old seed fault found e is =
-    leads_fate old (load_reply seed found) (Done ∷ []) (answer.Read fault)
+    tells_fate old (load_reply seed found) (Done ∷ []) (answer.Read fault)
     (λ later. when_whole (as_serving old (Done ∷ later)) (load Done (as_serving old (Done ∷ later)) seed found) e ∙ ap (load Done (as_serving old (Done ∷ later)) seed) (sym is))
 
 pub load_dropped : {D : Type 0} (old : SessionValue D) (seed : ℕ) (found : Result Instance ReadFault) → old.is_broken ≡ false
-    → Leads old (load_reply seed found) (line (answer_text (answer.Refused core.OutOfMemory))) old silent
+    → Tells old (load_reply seed found) (line (answer_text (answer.Refused core.OutOfMemory))) old silent
 load_dropped old seed found e =
-    leads_fate old (load_reply seed found) (NoMemory ∷ []) (answer.Refused core.OutOfMemory)
+    tells_fate old (load_reply seed found) (NoMemory ∷ []) (answer.Refused core.OutOfMemory)
     (λ later. when_whole (as_serving old (NoMemory ∷ later)) (load NoMemory (as_serving old (NoMemory ∷ later)) seed found) e)
 
 pub load_broken : {D : Type 0} (old : SessionValue D) (seed : ℕ) (found : Result Instance ReadFault) → old.is_broken ≡ true
-    → Leads old (load_reply seed found) (line (answer_text answer.Broken)) old silent
+    → Tells old (load_reply seed found) (line (answer_text answer.Broken)) old silent
 load_broken old seed found e =
-    leads_fate old (load_reply seed found) [] answer.Broken (λ later. when_broken (as_serving old later) (load (next_fate later) (as_serving old later) seed found) e)
+    tells_fate old (load_reply seed found) [] answer.Broken (λ later. when_broken (as_serving old later) (load (next_fate later) (as_serving old later) seed found) e)
 
 -- a text that was read as faulty, or not for want of memory
 pub loaded_err : {D : Type 0} (old : SessionValue D) (seed : ℕ) (fault : ReadFault) (found : Result Instance ReadFault) → old.is_broken ≡ false → IsUnlessMemory (Err fault) found
-    → Leads old (load_reply seed found) (line (answer_text (answer.Read fault))) old silent
+    → Tells old (load_reply seed found) (line (answer_text (answer.Read fault))) old silent
 loaded_err old seed fault found e (inl is) = load_faulty old seed fault found e is
 loaded_err old seed fault found e (inr none) =
     let is : fault ≡ no_memory = cc in
-    subst (λ f. Leads old (load_reply seed found) (line (answer_text (answer.Read f))) old silent) (sym is) (load_dropped old seed found e)
+    subst (λ f. Tells old (load_reply seed found) (line (answer_text (answer.Read f))) old silent) (sym is) (load_dropped old seed found e)
 
 -- a text that was read
 pub loaded_ok : {D : Type 0} (old new : SessionValue D) (p : Instance) (seed : ℕ) (text : List ℕ) (found : Result Instance ReadFault) → old.is_broken ≡ false → IsUnlessMemory (Ok p) found
-    → Leads old (λ s. plain s (command.Load p seed)) text new silent → Leads old (load_reply seed found) text new silent
+    → Tells old (λ s. plain s (command.Load p seed)) text new silent → Tells old (load_reply seed found) text new silent
 loaded_ok old new p seed text found e (inl is) leads = load_spelled old new p seed text found e is leads
 loaded_ok old new p seed text found e (inr none) leads = absurd cc
 
 -- ---- a text to tell
 
-pub serves_none : {D : Type 0} (g : Serving → State → Reply) (s : SessionValue D) (a : Answer) (x y : Option (List ℕ)) → ((t : Serving) → g t Empty ≡ answered t (answer.Refused core.NoInstance))
-    → HasNoJob s.is_broken s.state a → Appends x y (line (answer_text a)) → Serves s (λ t. unless_broken t (g t t.state)) x y s silent
-serves_none g s a x y empty none written = serves_fate s (λ t. unless_broken t (g t t.state)) [] a x y (λ later. no_job g (as_serving s later) a empty none) written
+pub tells_none : {D : Type 0} (g : Serving → State → Reply) (s : SessionValue D) (a : Answer) → ((t : Serving) → g t Empty ≡ answered t (answer.Refused core.NoInstance))
+    → HasNoJob s.is_broken s.state a → Tells s (λ t. unless_broken t (g t t.state)) (line (answer_text a)) s silent
+tells_none g s a empty none = tells_fate s (λ t. unless_broken t (g t t.state)) [] a (λ later. no_job g (as_serving s later) a empty none)
 
-module _ {D : Type 0} (s : SessionValue D) (j : JobValue) (x y : Option (List ℕ)) (whole : s.is_broken ≡ false) (is : s.state ≡ Loaded j) where
-  pub show_done : Appends x y (show_text j ++ line (answer_text answer.Ok)) → Serves s (λ t. unless_broken t (shown t t.state)) x y s silent
-  show_done written = serves_text s (λ t. unless_broken t (shown t t.state)) (show_text j) x y (λ later. with_job shown (as_serving s (Done ∷ later)) j whole is) written
+module _ {D : Type 0} (s : SessionValue D) (j : JobValue) (whole : s.is_broken ≡ false) (is : s.state ≡ Loaded j) where
+  pub show_done : Tells s (λ t. unless_broken t (shown t t.state)) (show_text j ++ line (answer_text answer.Ok)) s silent
+  show_done = tells_text s (λ t. unless_broken t (shown t t.state)) (show_text j) (λ later. with_job shown (as_serving s (Done ∷ later)) j whole is)
 
-  pub show_unmade : Appends x y (line (answer_text (answer.Refused core.OutOfMemory))) → Serves s (λ t. unless_broken t (shown t t.state)) x y s silent
-  show_unmade written =
-      serves_fate s (λ t. unless_broken t (shown t t.state)) (NoMemory ∷ []) (answer.Refused core.OutOfMemory) x y (λ later. with_job shown (as_serving s (NoMemory ∷ later)) j whole is) written
+  pub show_unmade : Tells s (λ t. unless_broken t (shown t t.state)) (line (answer_text (answer.Refused core.OutOfMemory))) s silent
+  show_unmade = tells_fate s (λ t. unless_broken t (shown t t.state)) (NoMemory ∷ []) (answer.Refused core.OutOfMemory) (λ later. with_job shown (as_serving s (NoMemory ∷ later)) j whole is)
 
   planned_is : (t : Serving) → (unplanned_count j.problem j.plan == 0) ≡ true → printed t (Loaded j) ≡ told (next_fate t.fates) (tried t) (print_text j)
   planned_is t e = rw e refl
@@ -144,19 +136,19 @@ module _ {D : Type 0} (s : SessionValue D) (j : JobValue) (x y : Option (List �
   unplanned_is : (t : Serving) → (unplanned_count j.problem j.plan == 0) ≡ false → printed t (Loaded j) ≡ answered t answer.Unplanned
   unplanned_is t e = rw e refl
 
-  pub print_done : (unplanned_count j.problem j.plan == 0) ≡ true → Appends x y (print_text j ++ line (answer_text answer.Ok)) → Serves s (λ t. unless_broken t (printed t t.state)) x y s silent
-  print_done e written =
-      serves_text s (λ t. unless_broken t (printed t t.state)) (print_text j) x y
-      (λ later. with_job printed (as_serving s (Done ∷ later)) j whole is ∙ planned_is (as_serving s (Done ∷ later)) e) written
+  pub print_done : (unplanned_count j.problem j.plan == 0) ≡ true → Tells s (λ t. unless_broken t (printed t t.state)) (print_text j ++ line (answer_text answer.Ok)) s silent
+  print_done e =
+      tells_text s (λ t. unless_broken t (printed t t.state)) (print_text j)
+      (λ later. with_job printed (as_serving s (Done ∷ later)) j whole is ∙ planned_is (as_serving s (Done ∷ later)) e)
 
-  pub print_unmade : (unplanned_count j.problem j.plan == 0) ≡ true → Appends x y (line (answer_text (answer.Refused core.OutOfMemory))) → Serves s (λ t. unless_broken t (printed t t.state)) x y s silent
-  print_unmade e written =
-      serves_fate s (λ t. unless_broken t (printed t t.state)) (NoMemory ∷ []) (answer.Refused core.OutOfMemory) x y
-      (λ later. with_job printed (as_serving s (NoMemory ∷ later)) j whole is ∙ planned_is (as_serving s (NoMemory ∷ later)) e) written
+  pub print_unmade : (unplanned_count j.problem j.plan == 0) ≡ true → Tells s (λ t. unless_broken t (printed t t.state)) (line (answer_text (answer.Refused core.OutOfMemory))) s silent
+  print_unmade e =
+      tells_fate s (λ t. unless_broken t (printed t t.state)) (NoMemory ∷ []) (answer.Refused core.OutOfMemory)
+      (λ later. with_job printed (as_serving s (NoMemory ∷ later)) j whole is ∙ planned_is (as_serving s (NoMemory ∷ later)) e)
 
-  pub print_unplanned : (unplanned_count j.problem j.plan == 0) ≡ false → Appends x y (line (answer_text answer.Unplanned)) → Serves s (λ t. unless_broken t (printed t t.state)) x y s silent
-  print_unplanned e written =
-      serves_fate s (λ t. unless_broken t (printed t t.state)) [] answer.Unplanned x y (λ later. with_job printed (as_serving s later) j whole is ∙ unplanned_is (as_serving s later) e) written
+  pub print_unplanned : (unplanned_count j.problem j.plan == 0) ≡ false → Tells s (λ t. unless_broken t (printed t t.state)) (line (answer_text answer.Unplanned)) s silent
+  print_unplanned e =
+      tells_fate s (λ t. unless_broken t (printed t t.state)) [] answer.Unplanned (λ later. with_job printed (as_serving s later) j whole is ∙ unplanned_is (as_serving s later) e)
 
 -- all are planned where the text was made or memory ran out, and some is not where that is told
 module _ {T : Type 0} (n : ℕ) (r : Result T WriteSolFault) (some : 0 < n → IsErrOf r (write.Unplanned n)) (none : n ≡ 0 → IsOkUnless r write.OutOfMemory) where
@@ -182,8 +174,3 @@ module _ {T : Type 0} (n : ℕ) (r : Result T WriteSolFault) (some : 0 < n → I
           let other : write.Unplanned k ≡ write.OutOfMemory = subst (λ q. IsOkUnless q write.OutOfMemory) e (none (eqb-true n 0 is)) in
           absurd cc
       at false is = is
-
--- ---- a load as it came
-
-pub serves_leads : {D : Type 0} (old new : SessionValue D) (f g : Serving → Reply) (text : List ℕ) (x y : Option (List ℕ)) → Leads old f text new g → Appends x y text → Serves old f x y new g
-serves_leads old new f g text x y leads written = record { text = text; leads = leads; written = written }

@@ -3,6 +3,7 @@ pub mod Answer
 pub mod AnswerText
 pub mod Asked
 pub mod Served
+pub mod Streams
 -- of private functions alone
 pub mod CommandLine
 pub mod Telling

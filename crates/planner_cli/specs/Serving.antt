@@ -1,8 +1,8 @@
 -- What a session did and what was written, as replies say it.
-use Rattle.std.specs.Prelude.{◌≡◌, ◌++◌, ◌⊎◌, ℕ, Bool, true, false, List, [], Option, Some, Result}
+use Rattle.std.specs.Prelude.{◌≡◌, ◌++◌, ◌⊎◌, ℕ, Bool, true, false, List, [], take, Option, Some, None, Result, MatchResult}
 use Rattle.std.specs.Io.KnownBytes.{Appends}
 use Rattle.command_core.specs.declared.commands.Command.{Command}
-use Rattle.command_text.specs.Answering.{Fate, Reply, Serving, at_line, answered, load, next_fate, served, unless_broken}
+use Rattle.command_text.specs.Answering.{Fate, Reply, Serving, at_line, answered, load, next_fate, searched, served, unless_broken}
 use Rattle.command_text.specs.declared.answers.Answer.{Answer}
 use Rattle.command_text.specs.declared.answers.Answer.TheVariants as answer
 use Rattle.command_core.specs.declared.refusals.Refusal.TheVariants as refusal
@@ -11,7 +11,9 @@ use Rattle.instance_read.specs.declared.faults.ReadFault.{ReadFault}
 use Rattle.command_core.specs.declared.states.State.{State}
 use Rattle.command_core.specs.declared.states.State.TheVariants.{Empty}
 use Rattle.recover.specs.Sessions.{SessionValue}
-use Rattle.planner_cli.specs.Served.{as_serving}
+use Rattle.planner_cli.specs.Served.{IsCutShort, Leads, Tells, as_serving, preceded}
+use Rattle.planner_cli.specs.declared.answering.ServeFault.{ServeFault}
+use Rattle.planner_cli.specs.declared.answering.ServeFault.TheVariants as fault
 use Rattle.command_text.specs.Cutting.{Piece, pieces_of}
 use Rattle.recover.specs.declared.denials.Denial.{Denial}
 use Rattle.recover.specs.declared.denials.Denial.TheVariants as denial
@@ -22,26 +24,42 @@ use Rattle.planner_cli.specs.declared.answering.Goes.TheVariants.{On, ToEnd}
 use Rattle.planner_cli.specs.declared.input.LoadText.{LoadText}
 use Rattle.planner_cli.specs.declared.input.LoadText.TheVariants.{Whole, Dropped, Short}
 
--- a text and commands, and then a reply
-abbrev pub preceded : List ℕ → List Command → Reply → Reply
-preceded text commands r = record { text = text ++ r.text; commands = commands ++ r.commands; left = r.left }
-
 -- nothing more
 abbrev pub silent : Serving → Reply
 silent s = record { text = []; commands = []; left = s }
-
--- The session went from old to new, with this text: what `from` says of old is, after it, what `to` says of new, where the tries
--- so far ended by some fates, and whatever becomes of the later ones.
-pub record Leads {D : Type 0} (old : SessionValue D) (from : Serving → Reply) (text : List ℕ) (new : SessionValue D) (to : Serving → Reply) : Type 0 where
-  pub fates : List Fate
-  pub commands : List Command
-  pub says : (later : List Fate) → from (as_serving old (fates ++ later)) ≡ preceded text commands (to (as_serving new later))
 
 -- the text was written
 pub record Serves {D : Type 0} (old : SessionValue D) (from : Serving → Reply) (before after : Option (List ℕ)) (new : SessionValue D) (to : Serving → Reply) : Type 0 where
   pub text : List ℕ
   pub leads : Leads old from text new to
   pub written : Appends before after text
+
+-- one answer was written in part or not at all
+pub record CutAtOnce {D : Type 0} (old : SessionValue D) (from : Serving → Reply) (before after : Option (List ℕ)) (new : SessionValue D) : Type 0 where
+  pub last : List ℕ
+  pub later : Serving → Reply
+  pub tells : Tells old from last new later
+  pub len : ℕ
+  pub written : Appends before after (take len last)
+
+-- so it was behind what a search has told
+pub record CutWithin {D : Type 0} (old : SessionValue D) (from : Serving → Reply) (before after : Option (List ℕ)) (new : SessionValue D) : Type 0 where
+  pub counts : List ℕ
+  pub told : SessionValue D
+  pub text : List ℕ
+  pub answered : Leads old from text told (λ s. searched s counts)
+  pub last : List ℕ
+  pub later : Serving → Reply
+  pub tells : Tells told (λ s. searched s counts) last new later
+  pub len : ℕ
+  pub written : Appends before after (text ++ take len last)
+
+abbrev pub CutOff : {D : Type 0} → SessionValue D → (Serving → Reply) → Option (List ℕ) → Option (List ℕ) → SessionValue D → Type 0
+CutOff old from before after new = CutAtOnce old from before after new ⊎ CutWithin old from before after new
+
+-- the text was written, or the serving cut off
+abbrev pub Answers : {D T E : Type 0} → Result T E → SessionValue D → (Serving → Reply) → Option (List ℕ) → Option (List ℕ) → SessionValue D → (Serving → Reply) → Type 0
+Answers r old from before after new to = MatchResult r (λ _. Serves old from before after new to) (λ _. CutOff old from before after new)
 
 -- what is answered to a denial
 abbrev pub denied : Denial → Answer
@@ -83,3 +101,13 @@ pub record ServesOn {D : Type 0} (reading : Reading) (old : SessionValue D) (pie
   pub left : List ℕ
   pub is_known : known ≡ Some left
   pub serves : Serves old (λ s. served reading s pieces) before after new (goes_on reading goes left)
+
+-- these pieces were served, or cut short
+abbrev pub GoesOn : {D : Type 0} → Result Goes ServeFault → Reading → SessionValue D → List Piece → Option (List ℕ) → Option (List ℕ) → SessionValue D → Option (List ℕ) → Type 0
+GoesOn r reading old pieces before after new known =
+    MatchResult r (λ goes. ServesOn reading old pieces before after new goes known) (λ _. IsCutShort reading old pieces before after new)
+
+-- why it was cut short, by how many bytes are still read
+abbrev pub IsCause : ServeFault → Bool → Bool → ℕ → Type 0
+IsCause fault.ReadFault reader_failed writer_failed left = (reader_failed ≡ true) ⊎ (left ≡ 0)
+IsCause fault.WriteFault reader_failed writer_failed left = writer_failed ≡ true

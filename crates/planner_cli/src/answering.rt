@@ -1,19 +1,22 @@
 //! Commands by lines of text, over a session.
-ghost use Rattle.std.specs.Prelude.{◌≡◌, ◌++◌, IfErr, IfOk, OnOk, MatchResult, ℕ, List, Result, Ok, Err, Some, false};
+ghost use Rattle.std.specs.Prelude.{◌≡◌, ◌≤◌, ◌++◌, IfErr, IfOk, OnErr, MatchResult, ℕ, List, Result, Ok, Err, Some, true, false, length};
 ghost use Rattle.std.specs.Io.KnownBytes.{Appends};
 ghost use Rattle.plan_types.specs.Instance.{Instance};
 ghost use Rattle.instance_read.specs.declared.faults.ReadFault.{ReadFault};
 ghost use Rattle.command_text.specs.Answering.{counts_of, plain, printed, refused, searched, searched_or, search_steps, reach_steps, shown, unless_broken};
+ghost use Rattle.command_text.specs.Cutting.{pieces_of};
 ghost use Rattle.command_text.specs.Laws.{cut_at};
 ghost use Rattle.command_text.specs.Readings.{IsReading, Reading};
 ghost use Rattle.command_text.specs.Answers.{answer_text, line};
 ghost use Rattle.command_core.specs.declared.states.State.TheVariants.{Loaded};
-ghost use Rattle.planner_cli.specs.Input.{CutsNext};
-ghost use Rattle.planner_cli.specs.Served.{IsServed};
-ghost use Rattle.planner_cli.specs.Serving.{HasNoJob, Leads, Serves, ServesOn, at_line_of, denied, goes_behind, load_reply, load_told, silent};
+ghost use Rattle.planner_cli.specs.Input.{Counts, left_of};
+ghost use Rattle.planner_cli.specs.Streams.{Puts};
+ghost use Rattle.planner_cli.specs.Served.{HasCause, IsCutShort, IsServed, Tells};
+ghost use Rattle.planner_cli.specs.Serving.{Answers, GoesOn, HasNoJob, IsCause, at_line_of, denied, goes_behind, load_reply, load_told, silent};
+ghost use Rattle.planner_cli.specs.declared.answering.ServeFault.TheVariants.{WriteFault};
 
-use crate::input::{Input, LoadText};
-use crate::telling::write_line;
+use crate::input::{Input, LoadText, Unread};
+use crate::streams::{Failed, Sink, Source};
 use command_core::{Command, Job, Refusal, State};
 use command_text::{
     Answer, Asked, at_line, next_count, pieces_follow, print, reach_steps, read_instance,
@@ -24,7 +27,6 @@ use recover::{Denial, Session};
 use sector_disk::Sectors;
 use sol_text::WriteSolFault;
 use std::alloc::Global;
-use std::io::{BufRead, BufReader, Read, Write};
 use thiserror::Error;
 
 /// Why the serving ended before the input did.
@@ -36,6 +38,28 @@ pub enum ServeFault {
     WriteFault,
 }
 
+impl From<Unread> for ServeFault {
+    ghost use Rattle.std.specs.Prelude.{◌≡◌};
+    ghost use Rattle.planner_cli.specs.declared.answering.ServeFault.TheVariants as serve_fault;
+
+    ghost from_gives = { λ _ fault. fault ≡ serve_fault.ReadFault };
+
+    fn from(_: Unread) -> ServeFault {
+        ServeFault::ReadFault
+    }
+}
+
+impl From<Failed> for ServeFault {
+    ghost use Rattle.std.specs.Prelude.{◌≡◌};
+    ghost use Rattle.planner_cli.specs.declared.answering.ServeFault.TheVariants as serve_fault;
+
+    ghost from_gives = { λ _ fault. fault ≡ serve_fault.WriteFault };
+
+    fn from(_: Failed) -> ServeFault {
+        ServeFault::WriteFault
+    }
+}
+
 /// Whether there is more to serve.
 #[derive(Clone, Copy, PartialEq, Eq)]
 enum Goes {
@@ -44,92 +68,85 @@ enum Goes {
 }
 
 /// Does what each line of the input asks for, and writes its answer, until the input ends, or a `load` line leaves open how many bytes
-/// follow it.
+/// follow it. It ends before that where the reader or the writer fails, or 10^12 bytes were read. Takes no memory to read lines.
 ///
 /// `ok` and `at` stand behind the last sync of what they acknowledge. Where the bytes of the input are known and all are served, what is
-/// written is the answer to them, and the session has carried out just the commands that it says, up to a failed device.
-pub fn serve<D: Sectors, R: Read, W: Write>(
+/// written is the answer to them, and the session has carried out just the commands that it says, up to a failed device. Behind a fault the
+/// state is that after the commands answered, or with the one whose answer was being written.
+pub fn serve<D: Sectors, R: Source, W: Sink>(
     alloc: Global,
     session: &mut Session<D>,
     reader: &mut R,
     writer: &mut W,
 ) -> Result<(), ServeFault>
-    ensures { (reading : Reading) (input : List ℕ) → IsReading reading
-        → R.remaining reader.old ≡ Some input
-        → OnOk result (IsServed reading session.old input
-        (W.contents writer.old) (W.contents writer.new) session.new) }
+    ensures serves { (reading : Reading) (input : List ℕ) → IsReading reading
+        → R.remaining reader.old ≡ Some input → let before = W.contents writer.old in
+        let after = W.contents writer.new in
+        MatchResult result (λ _. IsServed reading session.old input before after session.new)
+        (λ _. IsCutShort reading session.old (pieces_of input) before after session.new) }
+    ensures cause { (input : List ℕ) → R.remaining reader.old ≡ Some input
+        → IfErr result (λ fault. HasCause fault (R.has_failed reader.new)
+        (W.has_failed writer.new) (length input)) }
 {
-    let Ok(buffered) = BufReader::new(alloc, reader) else {
-        return Err(ServeFault::ReadFault);
-    };
-    let mut input = read_by_lines(alloc, buffered)?;
-    serve_lines(alloc, session, &mut input, writer)
+    let mut input = Input::new(alloc);
+    serve_lines(alloc, session, reader, &mut input, writer)
 }
 
 /// Serves the lines that the input has left.
-fn serve_lines<D: Sectors, B: BufRead, W: Write>(
+fn serve_lines<D: Sectors, R: Source, W: Sink>(
     alloc: Global,
     session: &mut Session<D>,
-    input: &mut Input<B>,
+    reader: &mut R,
+    input: &mut Input,
     writer: &mut W,
 ) -> Result<(), ServeFault>
-    ensures { (reading : Reading) (bytes : List ℕ) → IsReading reading
-        → B.remaining input.old.reader ≡ Some bytes
-        → OnOk result (IsServed reading session.old bytes
-        (W.contents writer.old) (W.contents writer.new) session.new) }
+    ensures serves { (reading : Reading) (bytes : List ℕ) → IsReading reading
+        → left_of R.remaining input.old reader.old ≡ Some bytes → let before = W.contents writer.old in
+        let after = W.contents writer.new in
+        MatchResult result (λ _. IsServed reading session.old bytes before after session.new)
+        (λ _. IsCutShort reading session.old (pieces_of bytes) before after session.new) }
+    ensures cause { IfErr result (λ fault. IsCause fault (R.has_failed reader.new)
+        (W.has_failed writer.new) input.new.left) }
+    ensures counted { Counts (left_of R.remaining input.old reader.old) input.old.left
+        (left_of R.remaining input.new reader.new) input.new.left }
 {
     pieces_follow();
     states_follow();
-    for _ in 0..u64::MAX {
-        let Some(asked) = next_asked(input)? else {
+    loop {
+        let Some(asked) = input.next_asked(reader)? else {
             return Ok(());
         };
-        match serve_asked(alloc, session, input, writer, asked)? {
+        match serve_asked(alloc, session, reader, input, writer, asked)? {
             Goes::On => {}
             Goes::ToEnd => return Ok(()),
         }
     }
-    Err(ServeFault::ReadFault)
 }
 
-fn read_by_lines<B: BufRead + Drop>(alloc: Global, reader: B) -> Result<Input<B>, ServeFault>
-    ensures { IfOk result (λ input. input.reader ≡ reader) }
-{
-    match Input::new(alloc, reader) {
-        Ok(input) => Ok(input),
-        Err(_) => Err(ServeFault::ReadFault),
-    }
-}
-
-fn next_asked<B: BufRead>(input: &mut Input<B>) -> Result<Option<Asked>, ServeFault>
-    ensures { IfOk result (λ next. CutsNext next
-        (B.remaining input.old.reader) (B.remaining input.new.reader)) }
-{
-    match input.next_asked() {
-        Ok(next) => Ok(next),
-        Err(_) => Err(ServeFault::ReadFault),
-    }
-}
-
-fn serve_asked<D: Sectors, B: BufRead, W: Write>(
+fn serve_asked<D: Sectors, R: Source, W: Sink>(
     alloc: Global,
     session: &mut Session<D>,
-    input: &mut Input<B>,
+    reader: &mut R,
+    input: &mut Input,
     writer: &mut W,
     asked: Asked,
 ) -> Result<Goes, ServeFault>
-    ensures { (reading : Reading) (rest : List ℕ) → IsReading reading
-        → B.remaining input.old.reader ≡ Some rest
-        → IfOk result (λ goes. ServesOn reading session.old (cut_at asked rest)
+    ensures serves { (reading : Reading) (rest : List ℕ) → IsReading reading
+        → left_of R.remaining input.old reader.old ≡ Some rest
+        → GoesOn result reading session.old (cut_at asked rest)
         (W.contents writer.old) (W.contents writer.new) session.new
-        goes (B.remaining input.new.reader)) }
+        (left_of R.remaining input.new reader.new) }
+    ensures cause { IfErr result (λ fault. IsCause fault (R.has_failed reader.new)
+        (W.has_failed writer.new) input.new.left) }
+    ensures counted { Counts (left_of R.remaining input.old reader.old) input.old.left
+        (left_of R.remaining input.new reader.new) input.new.left }
+    ensures less { input.new.left ≤ input.old.left }
 {
     match asked {
         Asked::Load { kind, seed, len } => {
-            let Ok(text) = input.load_text(len as usize) else {
-                return Err(ServeFault::ReadFault);
-            };
-            serve_load(alloc, session, writer, kind, seed, text)
+            let text = input.load_text(reader, len as usize)?;
+            let goes = goes_behind(&text);
+            once(serve_load(alloc, session, writer, kind, seed, text), goes)
         }
         Asked::BadLoad => once(tell(writer, Answer::BadLine), Goes::ToEnd),
         Asked::LoadRange => once(tell(writer, Answer::Refused(Refusal::Range)), Goes::ToEnd),
@@ -145,49 +162,55 @@ fn serve_asked<D: Sectors, B: BufRead, W: Write>(
 }
 
 /// Whether there is more to serve, once an answer is written.
-fn once(written: Result<(), ServeFault>, goes: Goes) -> Result<Goes, ServeFault>
-    ensures { MatchResult written (λ _. result ≡ Ok goes) (λ fault. result ≡ Err fault) }
+fn once(written: Result<(), Failed>, goes: Goes) -> Result<Goes, ServeFault>
+    ensures { MatchResult written (λ _. result ≡ Ok goes) (λ _. result ≡ Err WriteFault) }
 {
     match written {
         Ok(()) => Ok(goes),
-        Err(fault) => Err(fault),
+        Err(Failed) => Err(ServeFault::WriteFault),
     }
 }
 
-/// Writes a line and flushes it.
-fn flush_line<W: Write>(writer: &mut W, text: &[u8]) -> Result<(), ServeFault>
-    ensures { OnOk result (Appends (W.contents writer.old) (W.contents writer.new)
-        (line text.now)) }
+/// Writes a text and hands it on.
+fn put<W: Sink>(writer: &mut W, text: &[u8]) -> Result<(), Failed>
+    ensures bytes { Puts (W.contents writer.old) (W.contents writer.new) result text.now }
+    ensures failed { OnErr result (W.has_failed writer.new ≡ true) }
 {
-    let written = write_line(writer, text);
-    if written.is_err() || writer.flush().is_err() {
-        return Err(ServeFault::WriteFault);
-    }
-    Ok(())
+    writer.put(text)?;
+    writer.flush()
+}
+
+/// Writes a line and hands it on.
+fn put_line<W: Sink>(writer: &mut W, text: &[u8]) -> Result<(), Failed>
+    ensures bytes { Puts (W.contents writer.old) (W.contents writer.new) result (line text.now) }
+    ensures failed { OnErr result (W.has_failed writer.new ≡ true) }
+{
+    writer.put(text)?;
+    put(writer, b"\n")
 }
 
 /// Writes the last line of an answer.
-fn tell<W: Write>(writer: &mut W, answer: Answer) -> Result<(), ServeFault>
-    ensures { OnOk result (Appends (W.contents writer.old) (W.contents writer.new)
-        (line (answer_text answer))) }
+fn tell<W: Sink>(writer: &mut W, answer: Answer) -> Result<(), Failed>
+    ensures bytes { Puts (W.contents writer.old) (W.contents writer.new) result
+        (line (answer_text answer)) }
+    ensures failed { OnErr result (W.has_failed writer.new ≡ true) }
 {
-    flush_line(writer, answer.line().as_bytes())
+    put_line(writer, answer.line().as_bytes())
 }
 
 /// Writes the lines of an answer, and `ok` behind them.
-fn tell_text<W: Write>(writer: &mut W, text: &[u8]) -> Result<(), ServeFault>
-    ensures { OnOk result (Appends (W.contents writer.old) (W.contents writer.new)
-        (text.now ++ line (answer_text Answer.Ok))) }
+fn tell_text<W: Sink>(writer: &mut W, text: &[u8]) -> Result<(), Failed>
+    ensures bytes { Puts (W.contents writer.old) (W.contents writer.new) result
+        (text.now ++ line (answer_text Answer.Ok)) }
+    ensures failed { OnErr result (W.has_failed writer.new ≡ true) }
 {
-    if writer.write_all(text).is_err() {
-        return Err(ServeFault::WriteFault);
-    }
+    writer.put(text)?;
     tell(writer, Answer::Ok)
 }
 
 /// Carries the command out. `Ok` comes after its last sync.
 fn applied<D: Sectors>(alloc: Global, session: &mut Session<D>, command: Command) -> Answer
-    ensures { Leads session.old (λ s. plain s command)
+    ensures { Tells session.old (λ s. plain s command)
         (line (answer_text result)) session.new silent }
 {
     match session.apply(alloc, command).answer {
@@ -210,7 +233,7 @@ fn denied(denial: Denial) -> Answer
 
 /// What is answered to a command with a number that no field holds.
 fn refused<D: Sectors>(session: &Session<D>, refusal: Refusal) -> Answer
-    ensures { Leads session.now (λ s. unless_broken s (refused s s.state refusal))
+    ensures { Tells session.now (λ s. unless_broken s (refused s s.state refusal))
         (line (answer_text result)) session.now silent }
 {
     if session.is_broken() {
@@ -237,39 +260,40 @@ fn job_of<D: Sectors>(session: &Session<D>) -> Result<&Job, Answer>
     }
 }
 
-fn serve_load<D: Sectors, W: Write>(
+/// Whether there is more to serve behind the text of a `load`.
+fn goes_behind(text: &LoadText) -> Goes
+    ensures { result ≡ goes_behind text.now }
+{
+    match text {
+        LoadText::Short => Goes::ToEnd,
+        LoadText::Dropped | LoadText::Whole(_) => Goes::On,
+    }
+}
+
+fn serve_load<D: Sectors, W: Sink>(
     alloc: Global,
     session: &mut Session<D>,
     writer: &mut W,
     kind: Kind,
     seed: u64,
     text: LoadText,
-) -> Result<Goes, ServeFault>
-    ensures { (reading : Reading) (bytes : List ℕ) → IsReading reading
-        → IfOk result (λ goes. (goes ≡ goes_behind text)
-        × Serves session.old (load_told text reading kind seed bytes)
-        (W.contents writer.old) (W.contents writer.new) session.new silent) }
+) -> Result<(), Failed>
+    ensures answers { (reading : Reading) (bytes : List ℕ) → IsReading reading
+        → Answers result session.old (load_told text reading kind seed bytes)
+        (W.contents writer.old) (W.contents writer.new) session.new silent }
+    ensures failed { OnErr result (W.has_failed writer.new ≡ true) }
 {
     match text {
-        LoadText::Short => {
-            tell(writer, Answer::Truncated)?;
-            Ok(Goes::ToEnd)
-        }
-        LoadText::Dropped => {
-            tell(writer, dropped(session))?;
-            Ok(Goes::On)
-        }
-        LoadText::Whole(text) => {
-            tell(writer, loaded(alloc, session, kind, seed, &text))?;
-            Ok(Goes::On)
-        }
+        LoadText::Short => tell(writer, Answer::Truncated),
+        LoadText::Dropped => tell(writer, dropped(session)),
+        LoadText::Whole(text) => tell(writer, loaded(alloc, session, kind, seed, &text)),
     }
 }
 
 /// What is answered to a text for which no memory was found.
 fn dropped<D: Sectors>(session: &Session<D>) -> Answer
     ensures { (seed : ℕ) (found : Result Instance ReadFault)
-        → Leads session.now (load_reply seed found) (line (answer_text result)) session.now silent }
+        → Tells session.now (load_reply seed found) (line (answer_text result)) session.now silent }
 {
     if session.is_broken() {
         Answer::Broken
@@ -287,7 +311,7 @@ fn loaded<D: Sectors>(
     text: &[u8],
 ) -> Answer
     ensures { (reading : Reading) → IsReading reading
-        → Leads session.old (load_reply seed (reading kind text.now))
+        → Tells session.old (load_reply seed (reading kind text.now))
         (line (answer_text result)) session.new silent }
 {
     if session.is_broken() {
@@ -299,15 +323,16 @@ fn loaded<D: Sectors>(
     }
 }
 
-fn serve_search<D: Sectors, W: Write>(
+fn serve_search<D: Sectors, W: Sink>(
     alloc: Global,
     session: &mut Session<D>,
     writer: &mut W,
     steps: u32,
-) -> Result<(), ServeFault>
-    ensures { OnOk result (Serves session.old
+) -> Result<(), Failed>
+    ensures answers { Answers result session.old
         (λ s. unless_broken s (searched_or s (search_steps s.state steps)))
-        (W.contents writer.old) (W.contents writer.new) session.new silent) }
+        (W.contents writer.old) (W.contents writer.new) session.new silent }
+    ensures failed { OnErr result (W.has_failed writer.new ≡ true) }
 {
     if session.is_broken() {
         return tell(writer, Answer::Broken);
@@ -318,15 +343,16 @@ fn serve_search<D: Sectors, W: Write>(
     }
 }
 
-fn serve_reach<D: Sectors, W: Write>(
+fn serve_reach<D: Sectors, W: Sink>(
     alloc: Global,
     session: &mut Session<D>,
     writer: &mut W,
     goal: u64,
-) -> Result<(), ServeFault>
-    ensures { OnOk result (Serves session.old
+) -> Result<(), Failed>
+    ensures answers { Answers result session.old
         (λ s. unless_broken s (searched_or s (reach_steps s.state goal)))
-        (W.contents writer.old) (W.contents writer.new) session.new silent) }
+        (W.contents writer.old) (W.contents writer.new) session.new silent }
+    ensures failed { OnErr result (W.has_failed writer.new ≡ true) }
 {
     if session.is_broken() {
         return tell(writer, Answer::Broken);
@@ -338,14 +364,15 @@ fn serve_reach<D: Sectors, W: Write>(
 }
 
 /// Searches piece by piece, each told once it is acknowledged.
-fn search<D: Sectors, W: Write>(
+fn search<D: Sectors, W: Sink>(
     alloc: Global,
     session: &mut Session<D>,
     writer: &mut W,
     steps: u32,
-) -> Result<(), ServeFault>
-    ensures { OnOk result (Serves session.old (λ s. searched s (counts_of steps))
-        (W.contents writer.old) (W.contents writer.new) session.new silent) }
+) -> Result<(), Failed>
+    ensures answers { Answers result session.old (λ s. searched s (counts_of steps))
+        (W.contents writer.old) (W.contents writer.new) session.new silent }
+    ensures failed { OnErr result (W.has_failed writer.new ≡ true) }
 {
     let mut left = steps;
     while left > 0 {
@@ -360,26 +387,25 @@ fn search<D: Sectors, W: Write>(
 }
 
 /// Writes how far the search is.
-fn tell_progress<D: Sectors, W: Write>(
-    session: &Session<D>,
-    writer: &mut W,
-) -> Result<(), ServeFault>
-    ensures { OnOk result (Appends (W.contents writer.old) (W.contents writer.new)
-        (at_line_of session.now)) }
+fn tell_progress<D: Sectors, W: Sink>(session: &Session<D>, writer: &mut W) -> Result<(), Failed>
+    ensures bytes { Puts (W.contents writer.old) (W.contents writer.new) result
+        (at_line_of session.now) }
+    ensures failed { OnErr result (W.has_failed writer.new ≡ true) }
 {
     match session.state() {
-        State::Loaded(job) => flush_line(writer, at_line(job).as_bytes()),
+        State::Loaded(job) => put_line(writer, at_line(job).as_bytes()),
         State::Empty => Ok(()),
     }
 }
 
-fn serve_print<D: Sectors, W: Write>(
+fn serve_print<D: Sectors, W: Sink>(
     alloc: Global,
     session: &Session<D>,
     writer: &mut W,
-) -> Result<(), ServeFault>
-    ensures { OnOk result (Serves session.now (λ s. unless_broken s (printed s s.state))
-        (W.contents writer.old) (W.contents writer.new) session.now silent) }
+) -> Result<(), Failed>
+    ensures answers { Answers result session.now (λ s. unless_broken s (printed s s.state))
+        (W.contents writer.old) (W.contents writer.new) session.now silent }
+    ensures failed { OnErr result (W.has_failed writer.new ≡ true) }
 {
     let job = match job_of(session) {
         Ok(job) => job,
@@ -392,13 +418,14 @@ fn serve_print<D: Sectors, W: Write>(
     }
 }
 
-fn serve_show<D: Sectors, W: Write>(
+fn serve_show<D: Sectors, W: Sink>(
     alloc: Global,
     session: &Session<D>,
     writer: &mut W,
-) -> Result<(), ServeFault>
-    ensures { OnOk result (Serves session.now (λ s. unless_broken s (shown s s.state))
-        (W.contents writer.old) (W.contents writer.new) session.now silent) }
+) -> Result<(), Failed>
+    ensures answers { Answers result session.now (λ s. unless_broken s (shown s s.state))
+        (W.contents writer.old) (W.contents writer.new) session.now silent }
+    ensures failed { OnErr result (W.has_failed writer.new ≡ true) }
 {
     let job = match job_of(session) {
         Ok(job) => job,

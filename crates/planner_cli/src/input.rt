@@ -1,41 +1,38 @@
 //! An input as lines and the bytes that follow a line, in whatever pieces these come.
-ghost use Rattle.std.specs.Prelude.{◌≡◌, ◌≤◌, ◌++◌, IfOk, OnOk, ℕ, List, [], length};
+ghost use Rattle.std.specs.Prelude.{◌≡◌, ◌≤◌, ◌<◌, ◌+◌, ◌-◌, ◌++◌, IfOk, MatchResult, OnErr, OnSome, ℕ, List, [], length};
 ghost use Rattle.std.specs.Str.Lines.{strip_carriage_return};
 ghost use Rattle.command_text.specs.Asking.{asked};
-ghost use Rattle.planner_cli.specs.Input.{CutsNext, EndsFree, IsLast, IsLineSoFar, IsTextSoFar, Loads, TakesPart, TakesText};
+ghost use Rattle.planner_cli.specs.Input.{Counts, CutsNext, EndsFree, IsLast, IsLineSoFar, IsTextSoFar, IsUnread, Loads, TakesLess, TakesMore, TakesPart, TakesShown, TakesText, left_of};
 
-use command_text::{Asked, FirstWord, MAX_LINE, pieces_follow, read_line};
+use crate::ahead::Ahead;
+use crate::streams::{Failed, Source};
+use arrayvec::ArrayVec;
+use command_text::{Asked, FirstWord, pieces_follow, read_line};
 use memchr::memchr;
-use plan_types::OutOfMemory;
 use std::alloc::Global;
-use std::io;
-use std::io::{BufRead, ErrorKind};
 
 /// An input is read as far as this.
 const MOST_READ: u64 = 1_000_000_000_000;
 
 /// What is kept of a line: the longest one with its carriage return, and one byte more, which tells that a line is longer.
-const KEPT: usize = MAX_LINE + 2;
+const KEPT: usize = 1026;
 
 /// A line so far, without its line feed.
 #[derive(Drop)]
 pub(crate) struct LineSoFar {
     /// Its first bytes.
-    kept: Vec<u8>,
+    kept: ArrayVec<u8, 1026>,
     first_word: FirstWord,
-    /// How many bytes it has.
-    len: u64,
 }
 
 impl LineSoFar {
-    fn new(alloc: Global) -> Result<LineSoFar, OutOfMemory>
-        ensures { IfOk result (IsLineSoFar []) }
+    fn new() -> LineSoFar
+        ensures { IsLineSoFar [] result }
     {
-        Ok(LineSoFar {
-            kept: Vec::with_capacity(alloc, KEPT)?,
+        LineSoFar {
+            kept: ArrayVec::new(),
             first_word: FirstWord::new(),
-            len: 0,
-        })
+        }
     }
 
     /// Begins the next line.
@@ -44,17 +41,15 @@ impl LineSoFar {
     {
         self.kept.clear();
         self.first_word = FirstWord::new();
-        self.len = 0;
     }
 
-    fn take(&mut self, part: &[u8]) -> Result<(), OutOfMemory>
-        ensures { OnOk result ((before : List ℕ) → IsLineSoFar before self.old
-            → IsLineSoFar (before ++ part.now) self.new) }
+    fn take(&mut self, part: &[u8])
+        ensures { (before : List ℕ) → IsLineSoFar before self.old
+            → IsLineSoFar (before ++ part.now) self.new }
     {
         self.first_word = self.first_word.take(part);
-        self.len = self.len.saturating_add(part.len() as u64);
         let room = KEPT.saturating_sub(self.kept.len()).min(part.len());
-        self.kept.extend_from_slice(&part[..room])
+        let _ = self.kept.try_extend_from_slice(&part[..room]);
     }
 
     /// What the line asks for, once it has ended.
@@ -63,7 +58,7 @@ impl LineSoFar {
             → result ≡ asked (strip_carriage_return line) }
     {
         if self.kept.len() < KEPT {
-            return read_line(without_return(&self.kept));
+            return read_line(without_return(self.kept.as_slice()));
         }
         if self.first_word.is_load() {
             Asked::BadLoad
@@ -74,7 +69,8 @@ impl LineSoFar {
 
     /// What the input's last line asks for, where there is one: it has a byte.
     fn last_asked(&self) -> Option<Asked>
-        ensures { (line : List ℕ) → IsLineSoFar line self.now → IsLast line result }
+        ensures last { (line : List ℕ) → IsLineSoFar line self.now → IsLast line result }
+        ensures some { OnSome result (0 < length self.now.kept.items) }
     {
         if self.kept.is_empty() {
             return None;
@@ -96,9 +92,10 @@ fn without_return(line: &[u8]) -> &[u8]
 /// How a line goes on.
 #[derive(Clone, Copy)]
 enum Part {
-    More,
-    /// Its line feed was taken.
-    Feed,
+    /// So many bytes of it were taken.
+    More(usize),
+    /// So many were, its line feed the last of them.
+    Feed(usize),
     /// The input is at its end.
     End,
 }
@@ -110,27 +107,22 @@ fn front_len(bytes: &[u8]) -> usize
     memchr(b'\n', bytes).unwrap_or(bytes.len())
 }
 
-/// Takes what the reader shows of a line, which is nothing where a signal came between.
-fn take_part<B: BufRead>(reader: &mut B, line: &mut LineSoFar) -> io::Result<Part>
-    ensures { IfOk result (TakesPart (B.remaining reader.old)
-        (B.remaining reader.new) line.old line.new) }
+/// Takes what was read of a line.
+fn take_part(ahead: &mut Ahead, line: &mut LineSoFar) -> Part
+    ensures { TakesShown ahead.old ahead.new line.old line.new result }
 {
-    let available = match reader.fill_buf() {
-        Ok(available) => available,
-        Err(error) if error.kind() == ErrorKind::Interrupted => return Ok(Part::More),
-        Err(error) => return Err(error),
-    };
+    let available = ahead.as_slice();
     if available.is_empty() {
-        return Ok(Part::End);
+        return Part::End;
     }
     let len = front_len(available);
-    line.take(&available[..len])?;
+    line.take(&available[..len]);
     if len < available.len() {
-        reader.consume(len + 1);
-        Ok(Part::Feed)
+        ahead.take(len + 1);
+        Part::Feed(len + 1)
     } else {
-        reader.consume(len);
-        Ok(Part::More)
+        ahead.take(len);
+        Part::More(len)
     }
 }
 
@@ -162,8 +154,9 @@ impl TextSoFar {
     }
 
     fn take(&mut self, part: &[u8])
-        ensures { (len : ℕ) (seen : List ℕ) → length part.now ≤ self.old.left
+        ensures bytes { (len : ℕ) (seen : List ℕ) → length part.now ≤ self.old.left
             → IsTextSoFar len seen self.old → IsTextSoFar len (seen ++ part.now) self.new }
+        ensures left { self.new.left ≡ self.old.left - length part.now }
     {
         self.left = self.left.saturating_sub(part.len());
         if self.is_whole {
@@ -172,23 +165,15 @@ impl TextSoFar {
     }
 }
 
-/// Takes some of the bytes that are still to come, and says how many, or `None` at the end of the input.
-fn take_text<B: BufRead>(reader: &mut B, text: &mut TextSoFar) -> io::Result<Option<usize>>
-    ensures { IfOk result (TakesText (B.remaining reader.old)
-        (B.remaining reader.new) text.old text.new) }
+/// Takes some of the bytes that are still to come, and says how many: none where there are none.
+fn take_text(ahead: &mut Ahead, text: &mut TextSoFar) -> usize
+    ensures { TakesText ahead.old ahead.new text.old text.new result }
 {
-    let available = match reader.fill_buf() {
-        Ok(available) => available,
-        Err(error) if error.kind() == ErrorKind::Interrupted => return Ok(Some(0)),
-        Err(error) => return Err(error),
-    };
-    if available.is_empty() {
-        return Ok(None);
-    }
+    let available = ahead.as_slice();
     let taken = text.left.min(available.len());
     text.take(&available[..taken]);
-    reader.consume(taken);
-    Ok(Some(taken))
+    ahead.take(taken);
+    taken
 }
 
 /// What came of the bytes behind a `load` line.
@@ -201,92 +186,133 @@ pub(crate) enum LoadText {
     Short,
 }
 
-/// An input that is read line by line.
+/// The input can't be read on.
+#[derive(Clone, Copy)]
+pub(crate) struct Unread;
+
+impl From<Failed> for Unread {
+    fn from(_: Failed) -> Unread {
+        Unread
+    }
+}
+
+/// An input that is read line by line, from a reader.
 #[derive(Drop)]
-pub(crate) struct Input<B: BufRead> {
-    reader: B,
+pub(crate) struct Input {
+    ahead: Ahead,
     line: LineSoFar,
-    /// How many bytes are taken.
-    taken: u64,
+    /// How many bytes are still read of the input.
+    left: u64,
     alloc: Global,
 }
 
-impl<B: BufRead> Input<B> {
-    pub(crate) fn new(alloc: Global, reader: B) -> io::Result<Input<B>>
-    where
-        B: Drop,
-        ensures { IfOk result (λ input. input.reader ≡ reader) }
+impl Input {
+    pub(crate) fn new(alloc: Global) -> Input
+        ensures ahead { result.ahead ≡ [] }
+        ensures left { result.left ≡ 1000000000000 }
     {
-        let line = LineSoFar::new(alloc)?;
-        Ok(Input {
-            reader,
-            line,
-            taken: 0,
+        Input {
+            ahead: Ahead::new(),
+            line: LineSoFar::new(),
+            left: MOST_READ,
             alloc,
-        })
+        }
     }
 
     /// What the next line asks for, or `None` where there is none. A line ends with a line feed or with the input.
-    pub(crate) fn next_asked(&mut self) -> io::Result<Option<Asked>>
-        ensures { IfOk result (λ next. CutsNext next
-            (B.remaining self.old.reader) (B.remaining self.new.reader)) }
+    pub(crate) fn next_asked<R: Source>(&mut self, reader: &mut R) -> Result<Option<Asked>, Unread>
+        ensures cuts { IfOk result (λ next. CutsNext next
+            (left_of R.remaining self.old reader.old) (left_of R.remaining self.new reader.new)) }
+        ensures counted { Counts (left_of R.remaining self.old reader.old) self.old.left
+            (left_of R.remaining self.new reader.new) self.new.left }
+        ensures less { IfOk result (λ next. OnSome next (self.new.left < self.old.left)) }
+        ensures unread { OnErr result (IsUnread (R.has_failed reader.new) self.new.left) }
     {
         pieces_follow();
         self.line.begin();
-        for _ in 0..u64::MAX {
-            match self.take_counted()? {
-                Part::More => {}
-                Part::Feed => return Ok(Some(self.line.asked())),
+        loop {
+            match self.take_line(reader)? {
+                Part::More(_) => {}
+                Part::Feed(_) => return Ok(Some(self.line.asked())),
                 Part::End => return Ok(self.line.last_asked()),
             }
         }
-        Err(ErrorKind::Other.into())
     }
 
-    /// Takes and counts what the reader shows of the line.
-    fn take_counted(&mut self) -> io::Result<Part>
-        ensures { IfOk result (TakesPart (B.remaining self.old.reader)
-            (B.remaining self.new.reader) self.old.line self.new.line) }
+    /// Takes and counts what is read of the line.
+    fn take_line<R: Source>(&mut self, reader: &mut R) -> Result<Part, Unread>
+        ensures part { IfOk result (TakesPart (left_of R.remaining self.old reader.old)
+            (left_of R.remaining self.new reader.new) self.old.line self.new.line) }
+        ensures counted { Counts (left_of R.remaining self.old reader.old) self.old.left
+            (left_of R.remaining self.new reader.new) self.new.left }
+        ensures less { IfOk result (TakesLess self.old.left self.new.left) }
+        ensures unread { OnErr result (IsUnread (R.has_failed reader.new) self.new.left) }
     {
-        let before = self.line.len;
-        let part = take_part(&mut self.reader, &mut self.line)?;
-        self.count(self.line.len.saturating_sub(before))?;
-        if matches!(part, Part::Feed) {
-            self.count(1)?;
+        self.ahead.fill(reader)?;
+        let part = take_part(&mut self.ahead, &mut self.line);
+        if let Part::More(len) | Part::Feed(len) = part {
+            self.count(len)?;
         }
         Ok(part)
     }
 
     /// The next `len` bytes.
-    pub(crate) fn load_text(&mut self, len: usize) -> io::Result<LoadText>
-        ensures { IfOk result (Loads len (B.remaining self.old.reader)
-            (B.remaining self.new.reader)) }
+    pub(crate) fn load_text<R: Source>(
+        &mut self,
+        reader: &mut R,
+        len: usize,
+    ) -> Result<LoadText, Unread>
+        ensures loads { IfOk result (Loads len (left_of R.remaining self.old reader.old)
+            (left_of R.remaining self.new reader.new)) }
+        ensures counted { Counts (left_of R.remaining self.old reader.old) self.old.left
+            (left_of R.remaining self.new reader.new) self.new.left }
+        ensures less { self.new.left ≤ self.old.left }
+        ensures unread { OnErr result (IsUnread (R.has_failed reader.new) self.new.left) }
     {
         let mut text = TextSoFar::new(self.alloc, len);
-        for _ in 0..u64::MAX {
-            if text.left == 0 {
-                if text.is_whole {
-                    return Ok(LoadText::Whole(text.bytes));
-                }
-                return Ok(LoadText::Dropped);
-            }
-            match take_text(&mut self.reader, &mut text)? {
-                Some(taken) => self.count(taken as u64)?,
-                None => return Ok(LoadText::Short),
+        while text.left > 0 {
+            if !self.take_more(reader, &mut text)? {
+                return Ok(LoadText::Short);
             }
         }
-        Err(ErrorKind::Other.into())
+        if text.is_whole {
+            Ok(LoadText::Whole(text.bytes))
+        } else {
+            Ok(LoadText::Dropped)
+        }
+    }
+
+    /// Takes and counts what is read of the text, and says whether that is anything.
+    fn take_more<R: Source>(&mut self, reader: &mut R, text: &mut TextSoFar) -> Result<bool, Unread>
+        ensures more { IfOk result (TakesMore (left_of R.remaining self.old reader.old)
+            (left_of R.remaining self.new reader.new) text.old text.new) }
+        ensures counted { Counts (left_of R.remaining self.old reader.old) self.old.left
+            (left_of R.remaining self.new reader.new) self.new.left }
+        ensures less { self.new.left ≤ self.old.left }
+        ensures unread { OnErr result (IsUnread (R.has_failed reader.new) self.new.left) }
+    {
+        self.ahead.fill(reader)?;
+        let taken = take_text(&mut self.ahead, text);
+        if taken == 0 {
+            return Ok(false);
+        }
+        self.count(taken)?;
+        Ok(true)
     }
 
     /// Counts bytes that were taken. An error once there are as many as are read of an input.
-    fn count(&mut self, taken: u64) -> io::Result<()>
-        ensures reader { self.new.reader ≡ self.old.reader }
+    fn count(&mut self, taken: usize) -> Result<(), Unread>
+        ensures ahead { self.new.ahead ≡ self.old.ahead }
         ensures line { self.new.line ≡ self.old.line }
+        ensures left { MatchResult result (λ _. self.new.left + taken ≡ self.old.left)
+            (λ _. (self.new.left ≡ 0) × (self.old.left ≤ taken)) }
     {
-        self.taken = self.taken.saturating_add(taken);
-        if self.taken >= MOST_READ {
-            return Err(ErrorKind::Other.into());
+        let taken = taken as u64;
+        if taken >= self.left {
+            self.left = 0;
+            return Err(Unread);
         }
+        self.left -= taken;
         Ok(())
     }
 }

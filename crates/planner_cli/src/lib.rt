@@ -1,6 +1,7 @@
 //! The texts of the program: what its words ask for, and the lines that answer them.
 #![tactic(auto)]
 
+mod ahead;
 mod answer;
 mod answering;
 mod audit;
@@ -9,6 +10,7 @@ mod input;
 mod program;
 pub mod status;
 mod stores;
+mod streams;
 mod telling;
 mod words;
 
@@ -16,6 +18,7 @@ pub use answer::{AuditAnswer, Line};
 pub use answering::{ServeFault, serve};
 pub use audit::audit_text;
 pub use program::run_words;
+pub use streams::{Failed, Sink, Source, Watched};
 pub use words::{Invocation, read_words};
 
 #[cfg(test)]

@@ -3,6 +3,7 @@ ghost use Rattle.std.specs.Prelude.{◌≤◌, IfOk};
 
 use crate::answering::{ServeFault, serve};
 use crate::status::{DONE, FILE};
+use crate::streams::Watched;
 use crate::telling::{tell_file_fault, tell_format, tell_store_fault};
 use checkpoint::format;
 use recover::{Opened, Session};
@@ -81,7 +82,9 @@ fn serve_opened<D: Sectors + Drop, I: Read, W: Write>(
     } = opened;
     writeln!(output, "opened {replayed}")?;
     output.flush()?;
-    match serve(alloc, &mut session, input, output) {
+    let mut commands = Watched::new(input);
+    let mut answers = Watched::new(output.by_ref());
+    match serve(alloc, &mut session, &mut commands, &mut answers) {
         Ok(()) => Ok(DONE),
         Err(ServeFault::ReadFault) => {
             writeln!(output, "cannot read input")?;

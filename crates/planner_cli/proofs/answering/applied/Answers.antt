@@ -2,7 +2,8 @@
 use Rattle.std.proofs.Common.{subst, sym}
 use Rattle.command_text.specs.Answering.{plain}
 use Rattle.command_text.specs.Answers.{answer_text, line}
-use Rattle.planner_cli.specs.Serving.{Leads, silent}
+use Rattle.planner_cli.specs.Served.{Tells}
+use Rattle.planner_cli.specs.Serving.{silent}
 use Rattle.planner_cli.proofs.ServingLemmas.{plain_err, plain_ok}
 use Rattle.planner_cli.proofs.answering.applied.Goals as goal
 
@@ -11,5 +12,5 @@ returns-in-Ok g c = plain_ok c.args.session.now c.apply.new.self c.args.command 
 
 pub returns-in-Err : goal.returns-in-Err
 returns-in-Err g c =
-    subst (λ a. Leads c.args.session.now (λ s. plain s c.args.command) (line (answer_text a)) c.apply.new.self silent) (sym c.denied.ensures)
+    subst (λ a. Tells c.args.session.now (λ s. plain s c.args.command) (line (answer_text a)) c.apply.new.self silent) (sym c.denied.ensures)
     (plain_err c.args.session.now c.apply.new.self c.args.command c.apply.result.answer c.apply.ensures.answer c.apply.ensures.makes c.in-Err.denial c.in-Err.is)

@@ -2,11 +2,16 @@
 use Rattle.std.proofs.Common.{◌≡◌, ℕ, List, Some}
 use Rattle.command_text.specs.Cutting.{pieces_of}
 use Rattle.command_text.specs.Readings.{IsReading, Reading}
+use Rattle.planner_cli.specs.Input.{Counts, left_of}
 use Rattle.planner_cli.specs.Serving.{ServesOn}
 use Rattle.planner_cli.specs.declared.answering.Goes.TheVariants.{On}
 use Rattle.planner_cli.proofs.answering.serve_lines.Given as goal
 
-abbrev pub invariant-loop : goal.invariant-loop
-invariant-loop g l =
-    (reading : Reading) (bytes : List ℕ) → IsReading reading → g.B.Read.remaining l.fn.input.reader ≡ Some bytes
-    → ServesOn reading l.fn.session (pieces_of bytes) (g.W.Write.contents l.fn.writer) (g.W.Write.contents l.writer) l.session On (g.B.Read.remaining l.input.reader)
+abbrev pub invariant-loop-asked : goal.invariant-loop-asked
+invariant-loop-asked g l =
+    ((reading : Reading) (bytes : List ℕ) → IsReading reading → left_of g.R.Source.remaining l.fn.input l.fn.reader ≡ Some bytes
+    → ServesOn reading l.fn.session (pieces_of bytes) (g.W.Sink.contents l.fn.writer) (g.W.Sink.contents l.writer) l.session On (left_of g.R.Source.remaining l.input l.reader))
+    × Counts (left_of g.R.Source.remaining l.fn.input l.fn.reader) l.fn.input.left (left_of g.R.Source.remaining l.input l.reader) l.input.left
+
+abbrev pub decreases-loop-asked : goal.decreases-loop-asked
+decreases-loop-asked g l = l.input.left

@@ -1,18 +1,23 @@
--- What was consumed of the bytes that were shown.
-use Rattle.std.proofs.Common.{◌≡◌, ◌≤◌, length, min, rules, subst, take, arith, length-take-le}
-use Rattle.std.specs.Io.BufRead.{FillKeeps}
-use Rattle.std.proofs.BufReadLemmas.{Consumes_shown}
+-- What was taken is the front of what was read.
+use Rattle.std.proofs.Common.{◌≡◌, ◌∙◌, ◌+◌, ◌≤◌, ◌++◌, length, min, rules, sym, ap, subst, take, drop, arith, length-take-le, take-append-drop}
+use Rattle.planner_cli.specs.Input.{IsTextSoFar}
 use Rattle.planner_cli.proofs.input.take_text.Goals as goal
 
 pub returns : goal.returns
-returns g c =
-    let shown = c.in-Ok.available.now in
+returns c =
+    let shown = c.args.ahead.now in
     let taken = c.min-taken.result in
     let is : taken ≡ min c.args.text.now.left (length shown) = search rules in
     let within : taken ≤ length shown = omega (arith, is) in
     let left : taken ≤ c.args.text.now.left = omega (arith, is) in
     let long : length (take taken shown) ≡ taken = length-take-le taken shown within in
-    let rested = c.fill_buf.follows.lender-at-none in
-    let filled = subst (FillKeeps _ (g.B.Read.remaining rested) (g.B.BufRead.consumable_len rested)) c.in-Ok.is c.fill_buf.follows.holds-at-none in
-    let moved = Consumes_shown _ _ _ _ shown taken within c.in-Ok.ensures.front c.in-Ok.ensures.end filled.0 filled.1 c.consume.ensures.bytes in
-    record { bytes = take taken shown; moves = moved.0; text = λ len seen. c.take.ensures len seen (omega (arith, long, left)) }
+    let same : take taken c.as_slice-available.result.now ≡ take taken shown = ap (take taken) c.as_slice-available.ensures in
+    let part : length (take taken c.as_slice-available.result.now) ≡ taken = ap length same ∙ long in
+    record {
+      bytes = take taken shown;
+      moves = sym (take-append-drop taken shown) ∙ ap (λ r. take taken shown ++ r) (sym c.take-2.ensures);
+      count = long;
+      most = is;
+      left = omega (arith, c.take.ensures.left, part, left);
+      text = λ len seen kept. subst (λ b. IsTextSoFar len (seen ++ b) c.take.new.self) same (c.take.ensures.bytes len seen (omega (arith, part, left)) kept);
+    }

@@ -1,14 +1,17 @@
 -- What was taken more of the text.
-use Rattle.std.proofs.Common.{sym, subst}
-use Rattle.planner_cli.specs.Input.{IsTextPart, TakesText}
-use Rattle.planner_cli.proofs.CutLemmas.{text_more}
+use Rattle.std.proofs.Common.{subst, sym, ◌≡◌, ◌≤◌, true, false, arith, rules}
+use Rattle.planner_cli.specs.Input.{TakesMore, left_of}
+use Rattle.planner_cli.proofs.CutLemmas.{counts_on, text_more, text_short}
 use Rattle.planner_cli.proofs.input.Input.load_text.Goals as goal
 
-pub loop-preserved : goal.loop-preserved
-loop-preserved g c =
-    let old = g.B.Read.remaining c.args.self.now.reader in
-    let mid = g.B.Read.remaining c.loop.self.reader in
-    let new = g.B.Read.remaining c.take_text.new.reader in
-    let taken = subst (TakesText mid new c.loop.text c.take_text.new.text) c.in-Some.is c.in_ok-taken.ensures in
-    subst (λ r. IsTextPart c.args.len old (g.B.Read.remaining r) c.take_text.new.text) (sym c.count.ensures.reader)
-    (text_more c.args.len old mid new c.loop.text c.take_text.new.text c.loop.invariant taken)
+pub loop-text-preserved : goal.loop-text-preserved
+loop-text-preserved g c =
+    let old = left_of g.R.Source.remaining c.args.self.now c.args.reader.now in
+    let mid = left_of g.R.Source.remaining c.loop-text.self c.loop-text.reader in
+    let new = left_of g.R.Source.remaining c.take_more.new.self c.take_more.new.reader in
+    let some : c.in_ok-take_more.field-0 ≡ true = search rules in
+    let more = subst (TakesMore mid new c.loop-text.text c.take_more.new.text) some c.in_ok-take_more.ensures.more in (
+      text_more c.args.len old mid new c.loop-text.text c.take_more.new.text c.loop-text.invariant.0 more,
+      counts_on old mid new c.args.self.now.left c.loop-text.self.left c.take_more.new.self.left c.loop-text.invariant.1 c.take_more.ensures.counted,
+      omega (arith, c.loop-text.invariant.2, c.take_more.ensures.less),
+    )

@@ -1,6 +1,13 @@
 -- So much of the text has come.
-use Rattle.planner_cli.specs.Input.{IsTextPart}
+use Rattle.std.proofs.Common.{◌≤◌}
+use Rattle.planner_cli.specs.Input.{Counts, IsTextPart, left_of}
 use Rattle.planner_cli.proofs.input.Input.load_text.Given as goal
 
-abbrev pub invariant-loop : goal.invariant-loop
-invariant-loop g l = IsTextPart l.len (g.B.Read.remaining l.fn.self.reader) (g.B.Read.remaining l.self.reader) l.text
+abbrev pub invariant-loop-text : goal.invariant-loop-text
+invariant-loop-text g l =
+    IsTextPart l.len (left_of g.R.Source.remaining l.fn.self l.fn.reader) (left_of g.R.Source.remaining l.self l.reader) l.text
+    × Counts (left_of g.R.Source.remaining l.fn.self l.fn.reader) l.fn.self.left (left_of g.R.Source.remaining l.self l.reader) l.self.left
+    × (l.self.left ≤ l.fn.self.left)
+
+abbrev pub decreases-loop-text : goal.decreases-loop-text
+decreases-loop-text g l = l.text.left

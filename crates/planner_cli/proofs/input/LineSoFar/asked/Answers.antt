@@ -9,7 +9,7 @@ pub returns-then-len-lt-KEPT : goal.returns-then-len-lt-KEPT
 returns-then-len-lt-KEPT c = λ line is.
     let kept = c.args.self.now.kept.items in
     let short : length kept < 1026 = search rules in
-    c.read_line.ensures ∙ ap asked c.without_return.ensures ∙ ap (λ l. asked (strip_carriage_return l)) c.deref.ensures.value ∙ asked_kept kept line is.0 short
+    c.read_line.ensures ∙ ap asked c.without_return.ensures ∙ ap (λ l. asked (strip_carriage_return l)) c.as_slice.ensures.value ∙ asked_kept kept line is.0 short
 
 pub returns-then-is_load : goal.returns-then-is_load
 returns-then-is_load c = λ line is.

@@ -1,0 +1,99 @@
+//! Sessions over stores in memory.
+
+use crate::ends::{Limited, Pieces, Reader};
+use checkpoint::format;
+use planner_cli::{ServeFault, Watched, serve};
+use recover::Session;
+use sector_disk::{MemDevice, Sectors};
+use std::alloc::Global;
+
+const SECTORS: u64 = 8450;
+
+/// What came of an input.
+#[derive(Drop)]
+pub(crate) struct Served {
+    pub(crate) text: Vec<u8>,
+    pub(crate) fault: Option<ServeFault>,
+    /// What `show` answers then.
+    pub(crate) shown: Vec<u8>,
+}
+
+/// What came of an input over a device that failed, what `show` answers in the next session, and in the one after a stop.
+#[derive(Drop)]
+pub(crate) struct Stopped {
+    pub(crate) served: Served,
+    pub(crate) opened: Vec<u8>,
+    pub(crate) stopped: Vec<u8>,
+}
+
+fn new_device(alloc: Global) -> Option<MemDevice> {
+    let mut device = MemDevice::new(alloc, SECTORS).ok()?;
+    format(alloc, &mut device).ok()?;
+    Some(device)
+}
+
+fn opened(alloc: Global, device: MemDevice) -> Option<Session<MemDevice>> {
+    match Session::open(alloc, device) {
+        Ok(opened) => Some(opened.session),
+        Err(_) => None,
+    }
+}
+
+/// A session over a new store.
+pub(crate) fn new_store(alloc: Global) -> Option<Session<MemDevice>> {
+    opened(alloc, new_device(alloc)?)
+}
+
+/// What `show` answers.
+fn shown<D: Sectors>(alloc: Global, session: &mut Session<D>) -> Vec<u8> {
+    let mut text: &[u8] = b"show\n";
+    let mut writer = Watched::new(Limited::whole(alloc));
+    let _ = serve(alloc, session, &mut text, &mut writer);
+    writer.into_inner().taken
+}
+
+/// What comes of the input.
+pub(crate) fn serve_input<D: Sectors>(
+    alloc: Global,
+    session: &mut Session<D>,
+    input: &[u8],
+    pieces: Pieces,
+    limited: Limited,
+) -> Served {
+    let mut reader = Watched::new(Reader::new(input, pieces));
+    let mut writer = Watched::new(limited);
+    let fault = serve(alloc, session, &mut reader, &mut writer).err();
+    Served {
+        text: writer.into_inner().taken,
+        fault,
+        shown: shown(alloc, session),
+    }
+}
+
+/// What comes of the input over a new store whose device fails once, after so many calls from the opening on; nothing where it isn't opened.
+pub(crate) fn served_by_a_faulty_device(
+    alloc: Global,
+    calls: u64,
+    input: &[u8],
+) -> Option<Stopped> {
+    let mut device = new_device(alloc)?;
+    device.fail_once(calls);
+    let mut session = opened(alloc, device)?;
+    let served = serve_input(
+        alloc,
+        &mut session,
+        input,
+        Pieces::whole(),
+        Limited::whole(alloc),
+    );
+    let mut again = opened(alloc, session.close())?;
+    let opened_text = shown(alloc, &mut again);
+    let mut device = again.close();
+    device.crash(&[1, 1, 1, 1, 1, 1, 1, 1]);
+    let mut last = opened(alloc, device)?;
+    Some(Stopped {
+        served,
+        opened: opened_text,
+        stopped: shown(alloc, &mut last),
+    })
+}
