@@ -1,13 +1,12 @@
 -- The answer to a line, and what is answered further.
-use Rattle.std.proofs.Common.{◌≡◌, ◌∙◌, ℕ, ◌<◌, Bool, true, false, List, [], ◌∷◌, ◌++◌, ◌⊎◌, inl, inr, Option, Some, None, Result, Ok, Err, length, take, drop, refl, sym, ap, ap₂, subst, arith, append-nil, append_assoc}
-use Rattle.std.specs.Prelude.{◌^◌, ◌≤◌, IfErr, IfSome, MatchResult, nat_lt, if◌then◌else◌, ⊤}
+use Rattle.std.proofs.Common.{◌≡◌, ◌∙◌, ℕ, ◌<◌, Bool, true, false, List, [], ◌∷◌, ◌++◌, inl, inr, Option, Some, None, Result, Ok, Err, length, take, drop, refl, sym, ap, ap₂, subst, arith, append-nil, append_assoc}
+use Rattle.std.specs.Prelude.{◌^◌, ◌≤◌, IfSome, MatchResult, nat_lt, if◌then◌else◌, ⊤}
 use Rattle.std.specs.Io.KnownBytes.{Appends}
-use Rattle.std.proofs.KnownBytes.{Appends-nil, Appends-trans}
+use Rattle.std.proofs.KnownBytes.{Appends-trans}
 use Rattle.std.proofs.lemmas.Bool.{lt-ltb, ltb-true}
 use Rattle.std.proofs.lemmas.List.{take-append-le, drop-append-le, drop_all, take_all}
 use Rattle.plan_types.specs.declared.requests.Kind.{Kind}
 use Rattle.command_core.specs.declared.commands.Command.{Command}
-use Rattle.command_core.specs.Runs.{after}
 use Rattle.command_text.specs.Answering.{Fate, Reply, Serving, asked_reply, joined, reply, searched, served}
 use Rattle.command_text.specs.Cutting.{Piece, is_short, pieces_of}
 use Rattle.command_text.specs.Laws.{StatesFollow, cut_at}

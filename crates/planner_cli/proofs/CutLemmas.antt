@@ -1,16 +1,16 @@
 -- How an input that is known goes on by what was taken of it.
-use Rattle.std.proofs.Common.{◌≡◌, ◌∙◌, ℕ, ◌+◌, ◌-◌, ◌≤◌, ◌<◌, min, Bool, true, false, List, [], ◌∷◌, ◌++◌, ◌⊎◌, inl, inr, Option, Some, None, Contains, length, take, drop, refl, sym, ap, subst, arith, append_assoc, append-nil, length-append}
+use Rattle.std.proofs.Common.{◌≡◌, ◌∙◌, ℕ, ◌+◌, ◌≤◌, ◌<◌, Bool, true, false, List, [], ◌∷◌, ◌++◌, ◌⊎◌, inl, inr, Option, Some, None, Contains, length, take, drop, refl, sym, ap, subst, arith, append_assoc, append-nil, length-append}
 use Rattle.std.specs.Prelude.{OnSome, if◌then◌else◌}
 use Rattle.std.specs.Io.KnownBytes.{Consumes, IsAtEnd, Keeps, prepend_known}
 use Rattle.std.specs.Str.Lines.{strip_carriage_return}
-use Rattle.std.proofs.KnownBytes.{Consumes-nil, Consumes-trans}
+use Rattle.std.proofs.KnownBytes.{Consumes-trans}
 use Rattle.std.proofs.lemmas.List.Elements.{Contains-append_cases}
 use Rattle.text_lines.specs.Lines.{HasNoFeed}
 use Rattle.command_text.specs.Asking.{asked}
 use Rattle.command_text.specs.Cutting.{announced, ends, pieces_of}
 use Rattle.command_text.specs.Laws.{PiecesEnd, PiecesFollow, cut_at, piece_at}
 use Rattle.command_text.specs.declared.asked.Asked.{Asked}
-use Rattle.planner_cli.specs.Input.{Counts, Cuts, CutsNext, IsLast, IsLineSoFar, IsPartOf, IsTextPart, IsTextSoFar, Loads, Moves, MovesShown, TakesMore, TakesPart, TakesShown, TakesText}
+use Rattle.planner_cli.specs.Input.{Counts, Cuts, CutsNext, IsLast, IsLineSoFar, IsPartOf, IsTextPart, Loads, Moves, MovesShown, TakesMore, TakesPart, TakesShown, TakesText}
 use Rattle.planner_cli.specs.declared.input.LoadText.TheVariants.{Short}
 use Rattle.planner_cli.specs.declared.input.Part.{Part}
 use Rattle.planner_cli.specs.declared.input.LineSoFar.{LineSoFar}

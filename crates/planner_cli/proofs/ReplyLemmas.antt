@@ -1,5 +1,5 @@
 -- What is answered to loads, and to lines that change nothing.
-use Rattle.std.proofs.Common.{◌≡◌, ◌∙◌, ℕ, ◌≤◌, Bool, true, false, List, [], ◌∷◌, ◌++◌, inl, inr, None, Result, length, Ok, Err, refl, sym, ap, subst, append-nil, arith}
+use Rattle.std.proofs.Common.{◌≡◌, ◌∙◌, ℕ, Bool, true, false, List, [], ◌∷◌, ◌++◌, inl, inr, None, Result, Ok, Err, refl, sym, ap, subst, append-nil, arith}
 use Rattle.plan_types.specs.Instance.{Instance}
 use Rattle.instance_read.specs.Faults.{no_memory}
 use Rattle.instance_read.specs.declared.faults.ReadFault.{ReadFault}

@@ -1,5 +1,5 @@
 -- An input as lines and the bytes that follow a line, as far as its bytes are known.
-use Rattle.std.specs.Prelude.{◌≡◌, ◌≤◌, ◌<◌, ◌+◌, ◌-◌, ◌++◌, ◌⊎◌, ℕ, min, Bool, true, false, List, [], ◌∷◌, length, take, Option, Some, None, OnSome, IfSome, ⊤}
+use Rattle.std.specs.Prelude.{◌≡◌, ◌≤◌, ◌<◌, ◌+◌, ◌++◌, ◌⊎◌, ℕ, min, Bool, true, false, List, [], ◌∷◌, length, take, Option, Some, None, OnSome, IfSome, ⊤}
 use Rattle.std.specs.Io.KnownBytes.{Consumes, IsAtEnd, prepend_known}
 use Rattle.text_lines.specs.Lines.{HasNoFeed}
 use Rattle.command_text.specs.Scanning.{scanned}

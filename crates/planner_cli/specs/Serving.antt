@@ -1,8 +1,7 @@
 -- What a session did and what was written, as replies say it.
-use Rattle.std.specs.Prelude.{◌≡◌, ◌++◌, ◌⊎◌, ℕ, Bool, true, false, List, [], take, Option, Some, None, Result, MatchResult}
+use Rattle.std.specs.Prelude.{◌≡◌, ◌++◌, ◌⊎◌, ℕ, Bool, true, false, List, [], take, Option, Some, Result, MatchResult}
 use Rattle.std.specs.Io.KnownBytes.{Appends}
-use Rattle.command_core.specs.declared.commands.Command.{Command}
-use Rattle.command_text.specs.Answering.{Fate, Reply, Serving, at_line, answered, load, next_fate, searched, served, unless_broken}
+use Rattle.command_text.specs.Answering.{Reply, Serving, at_line, answered, load, next_fate, searched, served, unless_broken}
 use Rattle.command_text.specs.declared.answers.Answer.{Answer}
 use Rattle.command_text.specs.declared.answers.Answer.TheVariants as answer
 use Rattle.command_core.specs.declared.refusals.Refusal.TheVariants as refusal
@@ -11,7 +10,7 @@ use Rattle.instance_read.specs.declared.faults.ReadFault.{ReadFault}
 use Rattle.command_core.specs.declared.states.State.{State}
 use Rattle.command_core.specs.declared.states.State.TheVariants.{Empty}
 use Rattle.recover.specs.Sessions.{SessionValue}
-use Rattle.planner_cli.specs.Served.{IsCutShort, Leads, Tells, as_serving, preceded}
+use Rattle.planner_cli.specs.Served.{IsCutShort, Leads, Tells}
 use Rattle.planner_cli.specs.declared.answering.ServeFault.{ServeFault}
 use Rattle.planner_cli.specs.declared.answering.ServeFault.TheVariants as fault
 use Rattle.command_text.specs.Cutting.{Piece, pieces_of}

@@ -56,7 +56,7 @@ impl Read for Reader<'_> {
         if self.pieces.calls == 0 {
             return Err(ErrorKind::Other.into());
         }
-        self.turn = (self.turn + 1) % 3;
+        self.turn = self.turn.saturating_add(1);
         self.pieces.calls -= 1;
         let all = self.rest;
         let len = self.pieces.most.min(all.len()).min(block.len());

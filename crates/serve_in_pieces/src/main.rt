@@ -124,7 +124,7 @@ fn count_of(text: &[u8], bytes: &[u8]) -> usize {
 
 /// Over all readers that fail at one of their calls: how many there are, and how many of them end otherwise than they should.
 fn stopped_reads(alloc: Global, input: &[u8], stages: &[Served]) -> Result<(u32, u32), AllocError> {
-    let mut wrong = 0;
+    let mut wrong = 0u32;
     for calls in 0..1000 {
         let Some(stopped) = served(
             alloc,
@@ -132,13 +132,13 @@ fn stopped_reads(alloc: Global, input: &[u8], stages: &[Served]) -> Result<(u32,
             Pieces::failing(7, calls),
             Limited::whole(alloc),
         ) else {
-            return Ok((calls, wrong + 1));
+            return Ok((calls, u32::MAX));
         };
         if stopped.fault.is_none() {
             return Ok((calls, wrong));
         }
         if stopped.fault != Some(ServeFault::ReadFault) || !is_allowed(stages, &stopped) {
-            wrong += 1;
+            wrong = wrong.saturating_add(1);
         }
     }
     Ok((1000, wrong))
@@ -150,7 +150,7 @@ fn stopped_writes(
     input: &[u8],
     stages: &[Served],
 ) -> Result<(u32, u32), AllocError> {
-    let mut wrong = 0;
+    let mut wrong = 0u32;
     for calls in 0..1000 {
         let Some(stopped) = served(
             alloc,
@@ -158,13 +158,13 @@ fn stopped_writes(
             Pieces::whole(),
             Limited::failing(alloc, 5, calls),
         ) else {
-            return Ok((calls, wrong + 1));
+            return Ok((calls, u32::MAX));
         };
         if stopped.fault.is_none() {
             return Ok((calls, wrong));
         }
         if stopped.fault != Some(ServeFault::WriteFault) || !is_allowed(stages, &stopped) {
-            wrong += 1;
+            wrong = wrong.saturating_add(1);
         }
     }
     Ok((1000, wrong))
@@ -185,13 +185,13 @@ fn failed_builds<W: Write>(alloc: Global, stages: &[Served], output: &mut W) -> 
             break;
         }
         if stopped.served.text.as_slice() == FAULT_IN_BUILD {
-            in_build += 1;
+            in_build = in_build.saturating_add(1);
             let [_, _, loaded, built, ..] = stages else {
                 return writeln!(output, "no stages");
             };
             let is_either = stopped.opened == loaded.shown || stopped.opened == built.shown;
             if !is_either || stopped.stopped != stopped.opened {
-                wrong += 1;
+                wrong = wrong.saturating_add(1);
             }
         }
     }

@@ -1,8 +1,6 @@
 -- The text, and then its end.
-use Rattle.std.proofs.Common.{◌≡◌, ◌++◌, ◌∷◌, [], sym, subst}
+use Rattle.std.proofs.Common.{◌++◌, ◌∷◌, [], sym, subst}
 use Rattle.std.proofs.lemmas.Result.{err_from_is_err_and}
-use Rattle.command_text.specs.Answers.{answer_text, line}
-use Rattle.command_text.specs.declared.answers.Answer.TheVariants as answer
 use Rattle.planner_cli.specs.Streams.{Puts}
 use Rattle.planner_cli.proofs.StreamLemmas.{part_front, puts_on}
 use Rattle.planner_cli.proofs.answering.put_line.Goals as goal

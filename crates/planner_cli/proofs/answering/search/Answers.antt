@@ -6,7 +6,7 @@ use Rattle.command_text.specs.Answering.{counts_of, searched}
 use Rattle.command_text.specs.Answers.{answer_text, line}
 use Rattle.command_text.specs.declared.answers.Answer.TheVariants as answer
 use Rattle.planner_cli.specs.Served.{Tells}
-use Rattle.planner_cli.specs.Serving.{Answers, Serves, at_line_of, denied, silent}
+use Rattle.planner_cli.specs.Serving.{Answers, Serves, at_line_of, silent}
 use Rattle.planner_cli.proofs.ServingLemmas.{answers_behind, piece_denied, piece_done, search_ended, serves_nothing, serves_on, serves_told}
 use Rattle.planner_cli.proofs.answering.search.Goals as goal
 

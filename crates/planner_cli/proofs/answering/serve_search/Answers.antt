@@ -1,6 +1,5 @@
 -- By why the session refuses it, or by how many steps it makes.
 use Rattle.std.proofs.Common.{◌≡◌, ◌∙◌, false, true, sym, ap, Ok, Err}
-use Rattle.command_core.specs.declared.refusals.Refusal.TheVariants as core
 use Rattle.command_text.specs.Answering.{search_steps, searched_or, unless_broken}
 use Rattle.command_text.specs.Answers.{answer_text, line}
 use Rattle.command_text.specs.declared.answers.Answer.TheVariants as answer

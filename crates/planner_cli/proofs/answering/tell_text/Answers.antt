@@ -1,5 +1,5 @@
 -- The text, and then `ok`.
-use Rattle.std.proofs.Common.{◌≡◌, ◌++◌, ◌∷◌, [], sym, subst}
+use Rattle.std.proofs.Common.{◌++◌, sym, subst}
 use Rattle.std.proofs.lemmas.Result.{err_from_is_err_and}
 use Rattle.command_text.specs.Answers.{answer_text, line}
 use Rattle.command_text.specs.declared.answers.Answer.TheVariants as answer

@@ -1,5 +1,5 @@
 -- What was taken is the front of what was read.
-use Rattle.std.proofs.Common.{◌≡◌, ◌∙◌, ◌+◌, ◌≤◌, ◌++◌, length, min, rules, sym, ap, subst, take, drop, arith, length-take-le, take-append-drop}
+use Rattle.std.proofs.Common.{◌≡◌, ◌∙◌, ◌≤◌, ◌++◌, length, min, rules, sym, ap, subst, take, arith, length-take-le, take-append-drop}
 use Rattle.planner_cli.specs.Input.{IsTextSoFar}
 use Rattle.planner_cli.proofs.input.take_text.Goals as goal
 

@@ -1,5 +1,5 @@
 -- What is left begins later.
-use Rattle.std.proofs.Common.{◌≡◌, ◌∙◌, ℕ, ◌+◌, ◌-◌, ◌≤◌, List, length, take, drop, slice_range, sym, ap, arith, length-take, drop-drop, rules, subst}
+use Rattle.std.proofs.Common.{◌≡◌, ◌∙◌, ℕ, ◌+◌, ◌-◌, ◌≤◌, List, length, take, drop, slice_range, sym, ap, arith, length-take, drop-drop}
 use Rattle.std.proofs.lemmas.List.{drop-take}
 use Rattle.planner_cli.proofs.ahead.Ahead.take.Goals as goal
 

@@ -1,7 +1,7 @@
 -- What was taken more of the text.
-use Rattle.std.proofs.Common.{subst, sym, ◌≡◌, ◌≤◌, true, false, arith, rules}
+use Rattle.std.proofs.Common.{subst, ◌≡◌, true, arith, rules}
 use Rattle.planner_cli.specs.Input.{TakesMore, left_of}
-use Rattle.planner_cli.proofs.CutLemmas.{counts_on, text_more, text_short}
+use Rattle.planner_cli.proofs.CutLemmas.{counts_on, text_more}
 use Rattle.planner_cli.proofs.input.Input.load_text.Goals as goal
 
 pub loop-text-preserved : goal.loop-text-preserved
