@@ -453,7 +453,7 @@ judged_paths Help does name names (k ∷ i ∷ s ∷ x ∷ rest) kinds p =
     let px = both_true (is_positional_word x) _ ps.1 in
     inr (
       inl (fault_first _ _ (subst IsFault (sym (four_values name names k i s x rest pk.0 pi.0 ps.0 px.0))
-      (fault_then (kind_fault name names k) (kind.UnknownArgument ∷ []) (kind_mistakes _ k (known_fault names k kinds)) (refl, tt)))),
+          (fault_then (kind_fault name names k) (kind.UnknownArgument ∷ []) (kind_mistakes _ k (known_fault names k kinds)) (refl, tt)))),
       refl,
     )
 
@@ -473,7 +473,7 @@ judged_list Help names (k ∷ l ∷ x ∷ rest) kinds p =
     let px = both_true (is_positional_word x) _ pl.1 in
     inr (
       inl (fault_first _ _ (subst IsFault (sym (three_of_list names k l x rest pk.0 pl.0 px.0))
-      (fault_then (first_fault names k) (kind.UnknownArgument ∷ []) (kind_mistakes _ k (known_fault names k kinds)) (refl, tt)))),
+          (fault_then (first_fault names k) (kind.UnknownArgument ∷ []) (kind_mistakes _ k (known_fault names k kinds)) (refl, tt)))),
       refl,
     )
 
@@ -512,7 +512,7 @@ judged_task Help names (k ∷ i ∷ n ∷ s ∷ x ∷ rest) kinds p =
     let px = both_true (is_positional_word x) _ ps.1 in
     inr (
       inl (fault_first _ _ (subst IsFault (sym (five_of_task names k i n s x rest pk.0 pi.0 pn.0 ps.0 px.0))
-      (fault_then (task_fault names k) (kind.UnknownArgument ∷ []) (kind_mistakes _ k (known_fault names k kinds)) (refl, tt)))),
+          (fault_then (task_fault names k) (kind.UnknownArgument ∷ []) (kind_mistakes _ k (known_fault names k kinds)) (refl, tt)))),
       refl,
     )
 

@@ -18,10 +18,7 @@ pub(crate) struct Unread<'a> {
 }
 
 /// Reads the whole of both texts, the instance first.
-pub(crate) fn read_both<'a, F>(
-    paths: Paths<'a>,
-    read: &F,
-) -> Result<(Vec<u8>, Vec<u8>), Unread<'a>>
+pub(crate) fn read_both<'a, F>(paths: Paths<'a>, read: &F) -> Result<(Vec<u8>, Vec<u8>), Unread<'a>>
 where
     F: Fn(&str) -> io::Result<Vec<u8>>,
     requires { F.IsAlwaysCallable read.now }

@@ -12,9 +12,8 @@ use crate::telling::{tell_unread, write_line};
 use crate::words::Paths;
 use plan_types::Kind;
 use std::alloc::Global;
-use std::io;
 use std::io::Write;
-use std::str;
+use std::{io, str};
 use text_lines::Lines;
 
 /// Reads a list, and audits the pair that each of its lines names, as `audit_read` does. Gives the greatest status.

@@ -53,12 +53,7 @@ where
     }
 }
 
-fn do_asked<R, T: Start, E: Write>(
-    rt: &R,
-    start: T,
-    errors: &mut E,
-    invocation: Invocation,
-) -> u8
+fn do_asked<R, T: Start, E: Write>(rt: &R, start: T, errors: &mut E, invocation: Invocation) -> u8
 where
     R: Files<File = File> + Input + Print + Eprint + AllocGlobal,
     ensures { result ≤ 4 }

@@ -190,23 +190,27 @@ fn reads_words(rt: HostRuntime) -> Result<(), Fail> {
     assert!(rt; matches!(none, Invocation::BuiltIn));
 
     let words = ["planner", "audit", "vrp", "a b.vrp", "c.sol"];
-    let Invocation::Audit(Paths {
-        kind,
-        instance,
-        solution,
-    }) = read_words(rt.alloc(), words.as_slice())?
+    let Invocation::Audit(
+        Paths {
+            kind,
+            instance,
+            solution,
+        },
+    ) = read_words(rt.alloc(), words.as_slice())?
     else {
         return Err(Fail::from("not read as an audit"));
     };
     assert!(rt; kind == Kind::Vrp && instance == "a b.vrp" && solution == "c.sol");
 
     let words = ["planner", "solve", "lilim", "a.txt", "1000000000", "7"];
-    let Invocation::Solve(Task {
-        instance,
-        steps,
-        seed,
-        ..
-    }) = read_words(rt.alloc(), words.as_slice())?
+    let Invocation::Solve(
+        Task {
+            instance,
+            steps,
+            seed,
+            ..
+        },
+    ) = read_words(rt.alloc(), words.as_slice())?
     else {
         return Err(Fail::from("not read as a solving"));
     };
@@ -258,7 +262,15 @@ fn refuses_words(rt: HostRuntime) -> Result<(), Fail> {
             ErrorKind::InvalidValue,
         ),
         (
-            ["planner", "solve", "lilim", "a", "1", "18446744073709551616"].as_slice(),
+            [
+                "planner",
+                "solve",
+                "lilim",
+                "a",
+                "1",
+                "18446744073709551616",
+            ]
+            .as_slice(),
             ErrorKind::InvalidValue,
         ),
         (

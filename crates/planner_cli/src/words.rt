@@ -45,20 +45,13 @@ pub enum Invocation<'a> {
     Explain(Paths<'a>),
     Draw(Paths<'a>),
     /// `audits KIND LIST`: the audits of the pairs of files that the lines of this file name.
-    Audits {
-        kind: Kind,
-        list: &'a str,
-    },
+    Audits { kind: Kind, list: &'a str },
     /// `solve KIND INSTANCE STEPS [SEED]`: a solution of the instance in this file.
     Solve(Task<'a>),
     /// `format STORE`: an empty store in the file of this path.
-    Format {
-        store: &'a str,
-    },
+    Format { store: &'a str },
     /// `run STORE`: the commands of standard input, over the store in this file.
-    Run {
-        store: &'a str,
-    },
+    Run { store: &'a str },
 }
 
 /// The greatest number of steps.
@@ -140,17 +133,17 @@ fn paths_command<'a>(
     with_word(command, word(alloc, "SOLUTION", "The file of the solution"))
 }
 
-fn audits_command<'a>(
-    alloc: Global,
-    kinds: &'a [&'a str],
-) -> Result<Command<'a>, OutOfMemory>
+fn audits_command<'a>(alloc: Global, kinds: &'a [&'a str]) -> Result<Command<'a>, OutOfMemory>
     ensures { IfOk result (IsLeafCommand (audits_app kinds.entry)) }
 {
     let command = Command::new(alloc, "audits")
         .about(AUDITS_ABOUT)
         .after_help(AUDITS_ANSWERS);
     let command = with_word(command, kind_word(alloc, kinds))?;
-    with_word(command, word(alloc, "LIST", "The file of the list; - is standard input"))
+    with_word(
+        command,
+        word(alloc, "LIST", "The file of the list; - is standard input"),
+    )
 }
 
 fn solve_command<'a>(alloc: Global, kinds: &'a [&'a str]) -> Result<Command<'a>, OutOfMemory>
@@ -161,7 +154,10 @@ fn solve_command<'a>(alloc: Global, kinds: &'a [&'a str]) -> Result<Command<'a>,
         .after_help(SOLVE_ANSWERS);
     let command = with_word(command, kind_word(alloc, kinds))?;
     let command = with_word(command, word(alloc, "INSTANCE", "The file of the instance"))?;
-    let command = with_word(command, word(alloc, "STEPS", "How many steps the search makes"))?;
+    let command = with_word(
+        command,
+        word(alloc, "STEPS", "How many steps the search makes"),
+    )?;
     let seed = Arg::new(alloc, "SEED").help("What the search draws its numbers by; 0 without it");
     with_word(command, seed)
 }
@@ -189,10 +185,7 @@ fn with_word<'a>(command: Command<'a>, word: Arg<'a>) -> Result<Command<'a>, Out
 }
 
 /// The command with one more subcommand.
-fn with_command<'a>(
-    above: Command<'a>,
-    command: Command<'a>,
-) -> Result<Command<'a>, OutOfMemory>
+fn with_command<'a>(above: Command<'a>, command: Command<'a>) -> Result<Command<'a>, OutOfMemory>
     ensures { (a b : App) → app_of above.entry ≡ a → IsLeafCommand b command.entry
         → IfOk result (λ new. app_of new ≡ with_subcommand a b.top) }
 {
