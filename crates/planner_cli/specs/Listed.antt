@@ -44,7 +44,7 @@ module _ {V E : Type 0} (post : Bor (List ℕ) → Result V E → Type 0) (items
     pub pair : IsPair l instance solution
     pub answer : List ℕ
     pub told : IsToldOfFiles post items kind k instance solution answer status
-    pub text_is : text ≡ instance ++ 9 ∷ solution ++ 9 ∷ answer
+    pub text_is : text ≡ instance ++ 9 ∷ (solution ++ 9 ∷ answer)
 
   -- a line of the list: that of its pair, or that it names none
   abbrev pub IsToldOfLine : List ℕ → List ℕ → ℕ → Type 0

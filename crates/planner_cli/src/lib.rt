@@ -22,7 +22,7 @@ pub use answering::{ServeFault, serve};
 pub use audit::audit_text;
 pub use program::run_words;
 pub use streams::{Failed, Sink, Source, Watched};
-pub use words::{Invocation, Invocation, Paths, Task, read_words, read_words};
+pub use words::{Invocation, Paths, Task, read_words};
 
 #[cfg(test)]
 mod tests;

@@ -3,7 +3,7 @@ ghost use Rattle.std.specs.Prelude.{◌≡◌, IfOk, codes, drop, map, option_an
 ghost use Rattle.clap.specs.Words.{App, Rule, app_of, first_of, found_of, kind_of, rows_of, subcommand_rows_of, with_rule, with_subcommand};
 ghost use Rattle.command_text.specs.Asking.{field_in};
 ghost use Rattle.planner_cli.specs.Asked.{ArePositional, Reads, asked_of, paths_in, paths_of, kind_named, list_in, seed_named, seed_or_none, steps_named, store_in, task_in, task_of, told_by, told_of, told_of_store};
-ghost use Rattle.planner_cli.specs.CommandLine.{IsLeafCommand, IsPlannerCommand, IsWord, audits_app, paths_app, kind_rule, solve_app, store_app, word_rule};
+ghost use Rattle.planner_cli.specs.CommandLine.{IsKindNames, IsLeafCommand, IsPlannerCommand, IsWord, audits_app, paths_app, kind_rule, solve_app, store_app, word_rule};
 
 use crate::help::{
     ABOUT, AUDIT_ABOUT, AUDIT_ANSWERS, AUDITS_ABOUT, AUDITS_ANSWERS, DRAW_ABOUT, DRAW_ANSWERS,
@@ -86,7 +86,7 @@ fn bad_number(alloc: Global) -> Result<Error, OutOfMemory>
 fn planner_command<'a>(alloc: Global) -> Result<Command<'a>, OutOfMemory>
     ensures { IfOk result IsPlannerCommand }
 {
-    let kinds = KIND_WORDS.as_slice();
+    let kinds = kind_names();
     let planner = Command::new(alloc, "planner")
         .about(ABOUT)
         .version(VERSION)
@@ -102,6 +102,13 @@ fn planner_command<'a>(alloc: Global) -> Result<Command<'a>, OutOfMemory>
     let format = store_command(alloc, "format", FORMAT_ABOUT, FORMAT_ANSWERS)?;
     let run = store_command(alloc, "run", RUN_ABOUT, RUN_ANSWERS)?;
     with_command(with_command(planner, format)?, run)
+}
+
+/// The words that name a kind of instance.
+fn kind_names<'a>() -> &'a [&'a str]
+    ensures { IsKindNames result }
+{
+    KIND_WORDS.as_slice()
 }
 
 /// A command whose one word is the path of a store.

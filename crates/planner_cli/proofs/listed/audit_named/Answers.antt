@@ -15,7 +15,7 @@ returns-clause-told g c =
     let instance = c.in-Some.pair.0.now in
     let solution = c.in-Some.pair.1.now in
     let before = g.W.Write.contents c.args.output.now in
-    let mid = g.W.Write.contents c.write_fmt.new.self in
+    let mid = g.W.Write.contents c.write.new.self in
     let after = g.W.Write.contents c.audit_read.new.output in
     let wrote : Appends before mid (instance ++ 9 ∷ (solution ++ 9 ∷ [])) = search rules in
     IfOk-weaker c.audit_read.result _ _

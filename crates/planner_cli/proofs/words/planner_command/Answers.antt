@@ -1,5 +1,5 @@
 -- The subcommands are added in turn to a command that tells its version.
-use Rattle.std.proofs.Common.{◌≡◌, ◌∙◌, ap, codes, Bor, List, rules, true}
+use Rattle.std.proofs.Common.{◌≡◌, ◌∙◌, ap, codes, Bor, List, true}
 use Rattle.std.proofs.lemmas.Result.{IfOk-weaker}
 use Rattle.clap.specs.Simple.{app_of_fields, on_top}
 use Rattle.clap.specs.Words.{App, Shape, Text, app_of, new_app, with_subcommand}
@@ -9,8 +9,8 @@ use Rattle.planner_cli.proofs.words.planner_command.Goals as goal
 
 pub returns : goal.returns
 returns c =
-    let names : Bor (List (Bor Text)) = c.as_slice-kinds.result in
-    let kinds : IsKindNames names = search rules in
+    let names : Bor (List (Bor Text)) = c.kind_names-kinds.result in
+    let kinds : IsKindNames names = c.kind_names-kinds.ensures in
     let new_is : app_of c.about.result ≡ new_app (codes "planner") = ap app_of_fields c.about.ensures ∙ c.new.ensures.app in
     let none_is : app_of c.after_help-planner.result ≡ versioned_app (codes "planner") =
     ap app_of_fields c.after_help-planner.ensures ∙ (ap app_of_fields c.version.ensures ∙ ap (on_top (λ (s : Shape). record s { has_version = true })) new_is) in
