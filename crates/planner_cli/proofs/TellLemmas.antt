@@ -43,3 +43,12 @@ module _ {V E : Type 0} (post : Bor (List ℕ) → Result V E → Type 0) (items
 
   pub all_told : (all : List (List ℕ)) (before now : Option (List ℕ)) (n : ℕ) → IsSoFar all before now [] n → TellsLines post items kind k all before now n
   all_told all before now n h = (h.text, told_as all (h.text ++ []) h.text (max n 0) n (append-nil h.text) (omega arith) (h.whole [] 0 (refl, refl)), h.written)
+
+  pub left_as : (all : List (List ℕ)) (before now : Option (List ℕ)) (left other : List (List ℕ)) (n : ℕ) → left ≡ other → IsSoFar all before now left n → IsSoFar all before now other n
+  left_as all before now left other n same h = subst (λ ls. IsSoFar all before now ls n) same h
+
+  pub status_as : (all : List (List ℕ)) (before now : Option (List ℕ)) (left : List (List ℕ)) (n m : ℕ) → n ≡ m → IsSoFar all before now left n → IsSoFar all before now left m
+  status_as all before now left n m same h = subst (λ k'. IsSoFar all before now left k') same h
+
+  pub lines_as : (ls other : List (List ℕ)) (before after : Option (List ℕ)) (n : ℕ) → ls ≡ other → TellsLines post items kind k ls before after n → TellsLines post items kind k other before after n
+  lines_as ls other before after n same h = subst (λ x. TellsLines post items kind k x before after n) same h

@@ -44,9 +44,7 @@ versioned_app name = on_top (λ s. record s { has_version = true }) (new_app nam
 abbrev pub planner_app : Bor (List (Bor Text)) → App
 planner_app names =
     let audit = with_subcommand (versioned_app (codes "planner")) (paths_app (codes "audit") names).top in
-    let explain = with_subcommand audit (paths_app (codes "explain") names).top in
-    let draw = with_subcommand explain (paths_app (codes "draw") names).top in
-    let audits = with_subcommand draw (audits_app names).top in
+    let audits = with_subcommand audit (audits_app names).top in
     let solve = with_subcommand audits (solve_app names).top in
     with_subcommand (with_subcommand solve (store_app (codes "format")).top) (store_app (codes "run")).top
 

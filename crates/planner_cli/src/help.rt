@@ -57,21 +57,6 @@ pub(crate) const RUN_ANSWERS: &str =
     Where the store can't be opened, it prints `store NAME` or `cannot read PATH` alone (status 2, 3 or 4).\n\
     Status 0 says that the input was served, whatever the answers.";
 
-pub(crate) const EXPLAIN_ABOUT: &str = "Audits a solution, and says what the answer rests on";
-
-pub(crate) const EXPLAIN_ANSWERS: &str =
-    "It prints the line of `audit`, whose status it has, and then:\n  \
-    of a solution that passes    a line for each route, and the sums\n  \
-    of a broken rule             a sentence with its figures, and the route as a table\n  \
-    of a text that is refused    a sentence, and the line of the text";
-
-pub(crate) const DRAW_ABOUT: &str = "Draws a solution";
-
-pub(crate) const DRAW_ANSWERS: &str =
-    "It prints a picture, as SVG, of a solution that passes or breaks a rule (status 0).\n\
-    Of a text that is refused it prints nothing, and the line of `audit` on standard error (status 2);\n\
-    so it tells a file that can't be read (status 3), and want of memory (status 4).";
-
 pub(crate) const AUDITS_ABOUT: &str = "Audits a list of solutions";
 
 pub(crate) const AUDITS_ANSWERS: &str =

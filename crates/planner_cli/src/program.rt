@@ -62,8 +62,6 @@ where
     status_of(match invocation {
         Invocation::BuiltIn => audit_example(rt.alloc(), &mut output),
         Invocation::Audit(paths) => audit_files(rt, paths, &mut output),
-        Invocation::Explain(paths) => audit_files(rt, paths, &mut output),
-        Invocation::Draw(paths) => audit_files(rt, paths, &mut output),
         Invocation::Audits { kind, list } => audit_list(rt, kind, list, &mut output),
         Invocation::Solve(task) => solve_file(rt, task, &mut output, errors),
         Invocation::Format { store } => format_store(rt, start, store, &mut output),

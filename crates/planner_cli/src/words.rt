@@ -6,9 +6,8 @@ ghost use Rattle.planner_cli.specs.Asked.{ArePositional, Reads, asked_of, paths_
 ghost use Rattle.planner_cli.specs.CommandLine.{IsKindNames, IsLeafCommand, IsPlannerCommand, IsWord, audits_app, paths_app, kind_rule, solve_app, store_app, word_rule};
 
 use crate::help::{
-    ABOUT, AUDIT_ABOUT, AUDIT_ANSWERS, AUDITS_ABOUT, AUDITS_ANSWERS, DRAW_ABOUT, DRAW_ANSWERS,
-    EXPLAIN_ABOUT, EXPLAIN_ANSWERS, FORMAT_ABOUT, FORMAT_ANSWERS, RUN_ABOUT, RUN_ANSWERS,
-    SOLVE_ABOUT, SOLVE_ANSWERS, STATUSES, VERSION,
+    ABOUT, AUDIT_ABOUT, AUDIT_ANSWERS, AUDITS_ABOUT, AUDITS_ANSWERS, FORMAT_ABOUT, FORMAT_ANSWERS,
+    RUN_ABOUT, RUN_ANSWERS, SOLVE_ABOUT, SOLVE_ANSWERS, STATUSES, VERSION,
 };
 use clap::error::ErrorKind;
 use clap::{Arg, ArgMatches, Command, Error};
@@ -40,10 +39,8 @@ pub struct Task<'a> {
 pub enum Invocation<'a> {
     /// No words: the audit of the two texts that are built in.
     BuiltIn,
-    /// `audit`, `explain` and `draw` with `KIND INSTANCE SOLUTION`: the audit of two files, what it rests on, and their picture.
+    /// `audit KIND INSTANCE SOLUTION`: the audit of two files.
     Audit(Paths<'a>),
-    Explain(Paths<'a>),
-    Draw(Paths<'a>),
     /// `audits KIND LIST`: the audits of the pairs of files that the lines of this file name.
     Audits { kind: Kind, list: &'a str },
     /// `solve KIND INSTANCE STEPS [SEED]`: a solution of the instance in this file.
@@ -92,11 +89,7 @@ fn planner_command<'a>(alloc: Global) -> Result<Command<'a>, OutOfMemory>
         .version(VERSION)
         .after_help(STATUSES);
     let audit = paths_command(alloc, "audit", AUDIT_ABOUT, AUDIT_ANSWERS, kinds)?;
-    let explain = paths_command(alloc, "explain", EXPLAIN_ABOUT, EXPLAIN_ANSWERS, kinds)?;
-    let draw = paths_command(alloc, "draw", DRAW_ABOUT, DRAW_ANSWERS, kinds)?;
     let planner = with_command(planner, audit)?;
-    let planner = with_command(planner, explain)?;
-    let planner = with_command(planner, draw)?;
     let planner = with_command(planner, audits_command(alloc, kinds)?)?;
     let planner = with_command(planner, solve_command(alloc, kinds)?)?;
     let format = store_command(alloc, "format", FORMAT_ABOUT, FORMAT_ANSWERS)?;
@@ -215,8 +208,6 @@ fn command_words<'a>(name: &str, words: &ArgMatches<'a>) -> Option<Invocation<'a
 {
     match name {
         "audit" => Some(Invocation::Audit(paths_words(words)?)),
-        "explain" => Some(Invocation::Explain(paths_words(words)?)),
-        "draw" => Some(Invocation::Draw(paths_words(words)?)),
         "audits" => list_words(words),
         "solve" => Some(Invocation::Solve(task_words(words)?)),
         _ => store_words(name, words),

@@ -1,10 +1,13 @@
 -- Each line adds its own, and behind the last one all is told.
-use Rattle.std.proofs.Common.{◌≡◌, ◌∷◌, List, ℕ, rules, subst, arith}
-use Rattle.planner_cli.proofs.TellLemmas.{IsSoFar, all_told, line_told, nothing_told}
+use Rattle.std.proofs.Common.{◌≡◌, ◌∷◌, [], List, ℕ, rules, arith}
+use Rattle.planner_cli.proofs.TellLemmas.{all_told, left_as, line_told, nothing_told, status_as}
 use Rattle.planner_cli.proofs.listed.audit_lines.Goals as goal
 
 pub loop-line-init : goal.loop-line-init
-loop-line-init g c = (nothing_told _ _ _ _ c.args.lines (g.W.Write.contents c.args.output.now), omega arith)
+loop-line-init g c =
+    let before = g.W.Write.contents c.args.output.now in
+    let same : c.args.lines ≡ c.into_iter-line-iterator.result = search rules in
+    (left_as _ _ _ _ c.args.lines before before c.args.lines c.into_iter-line-iterator.result 0 same (nothing_told _ _ _ _ c.args.lines before), omega arith)
 
 pub loop-line-preserved : goal.loop-line-preserved
 loop-line-preserved g c =
@@ -12,13 +15,19 @@ loop-line-preserved g c =
     let now = g.W.Write.contents c.loop-line.output in
     let next = g.W.Write.contents c.audit_line.new.output in
     let rest = c.next.new.self in
-    let so_far = subst (λ ls. IsSoFar _ _ _ c.args.kind c.args.lines before now ls c.loop-line.greatest) c.in-Some.ensures.steps c.loop-line.invariant.0 in
-    let told = line_told _ _ _ _ c.args.lines before now next c.in-Some.line.now rest c.loop-line.greatest c.in_ok-status.status so_far c.in_ok-status.ensures.told in
-    (subst (λ n. IsSoFar _ _ _ c.args.kind c.args.lines before next rest n) c.greater.ensures.value told, c.greater.ensures.bound)
+    let line = c.in-Some.line.now in
+    let status = c.in_ok-status.status in
+    let greatest = c.loop-line.greatest in
+    let step : c.loop-line.line-iterator ≡ line ∷ rest = search rules in (
+      status_as _ _ _ _ c.args.lines before next rest _ c.greater-greatest.result c.greater-greatest.ensures.value
+          (line_told _ _ _ _ c.args.lines before now next line rest greatest status (left_as _ _ _ _ c.args.lines before now c.loop-line.line-iterator (line ∷ rest) greatest step c.loop-line.invariant.0) c.in_ok-status.ensures.told),
+      c.greater-greatest.ensures.bound,
+    )
 
 pub returns-clause-told : goal.returns-clause-told
 returns-clause-told g c =
     let before = g.W.Write.contents c.args.output.now in
     let now = g.W.Write.contents c.loop-line.output in
+    let none_left : c.loop-line.line-iterator ≡ [] = search rules in
     all_told _ _ _ _ c.args.lines before now c.loop-line.greatest
-    (subst (λ ls. IsSoFar _ _ _ c.args.kind c.args.lines before now ls c.loop-line.greatest) c.in-None.ensures.steps.0 c.loop-line.invariant.0)
+    (left_as _ _ _ _ c.args.lines before now c.loop-line.line-iterator [] c.loop-line.greatest none_left c.loop-line.invariant.0)

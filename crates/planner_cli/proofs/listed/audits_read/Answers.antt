@@ -2,8 +2,9 @@
 use Rattle.std.proofs.Common.{◌≡◌, ◌∙◌, ap, subst, Ok, Err}
 use Rattle.std.proofs.lemmas.Result.{IfOk-weaker}
 use Rattle.text_lines.specs.Lines.{lines_of}
-use Rattle.planner_cli.specs.Listed.{TellsLines}
+use Rattle.planner_cli.specs.Listed.{list_path}
 use Rattle.planner_cli.specs.Telling.{TellsUnread}
+use Rattle.planner_cli.proofs.TellLemmas.{lines_as}
 use Rattle.planner_cli.proofs.listed.audits_read.Goals as goal
 
 pub returns-in-Ok-clause-told : goal.returns-in-Ok-clause-told
@@ -13,7 +14,7 @@ returns-in-Ok-clause-told g c =
     let after = g.W.Write.contents c.audit_lines.new.output in
     let are : c.new.result ≡ lines_of c.in-Ok.text.items = c.new.ensures.lines ∙ ap lines_of c.deref.ensures.value in
     IfOk-weaker c.audit_lines.result _ _
-    (λ status told. (Ok c.in-Ok.text, (path, c.list_path-path.ensures, c.in-Ok.ensures), subst (λ ls. TellsLines _ _ _ c.args.kind ls before after status) are told)) c.audit_lines.ensures.told
+    (λ status told. (Ok c.in-Ok.text, (path, c.list_path-path.ensures, c.in-Ok.ensures), lines_as _ _ _ c.args.kind c.new.result (lines_of c.in-Ok.text.items) before after status are told)) c.audit_lines.ensures.told
 
 pub returns-in-Err-clause-told : goal.returns-in-Err-clause-told
 returns-in-Err-clause-told g c =
@@ -24,5 +25,5 @@ returns-in-Err-clause-told g c =
     (λ status told. (
       Err c.in-Err.error,
       (path, c.list_path-path.ensures, c.in-Err.ensures),
-      subst (λ kind. TellsUnread _ kind before after status) c.kind.ensures (subst (λ p. TellsUnread p c.kind.result before after status) c.list_path-path.ensures told),
+      subst (λ kind. TellsUnread (list_path c.args.list.now) kind before after status) c.kind.ensures (subst (λ p. TellsUnread p c.kind.result before after status) c.list_path-path.ensures told),
     )) c.tell_unread.ensures
