@@ -10,7 +10,7 @@ use std::process::ExitCode;
 
 fn main(rt: HostRuntime) -> ExitCode {
     let status = match words_of(&rt) {
-        Ok(words) => run_words(&rt, Unknown, words.as_slice()),
+        Ok(words) => run_words(&rt, Unknown, &mut rt.stderr(), words.as_slice()),
         Err(status) => status,
     };
     ExitCode::from(status)

@@ -1,5 +1,5 @@
 -- What the program's command makes of words that do not begin with a hyphen.
-use Rattle.std.proofs.Common.{◌≡◌, ◌∙◌, ◌⊎◌, ◌==◌, ◌&&◌, ◌||◌, Result, Ok, Err, IsErrAnd, option_map, subst, ℕ, Bool, true, false, not, refl, sym, ap, List, [], ◌∷◌, ◌++◌, Option, Some, None, codes, Bor, inl, inr, true≢false, append_assoc, append-nil}
+use Rattle.std.proofs.Common.{◌≡◌, ◌∙◌, ◌⊎◌, ◌==◌, ◌&&◌, ◌||◌, Result, Ok, Err, IsErrAnd, option_map, subst, ℕ, Bool, true, false, not, refl, sym, ap, ap₂, List, [], ◌∷◌, ◌++◌, Option, Some, None, codes, Bor, inl, inr, true≢false, append_assoc, append-nil}
 use Rattle.std.specs.Prelude.{drop, fold}
 use Rattle.clap.specs.Words.{App, Kinds, Row, Rule, Shape, Text, HasKind, HasMatchesOf, app_of, fault_of, first_of, first_value, is_simple, is_simple_and_free, kind_of, found_of, rows_of, subcommand_name_of, subcommand_of, subcommand_rows_of, IsAmong}
 use Rattle.clap.specs.declared.parser.ArgMatches.{ArgMatches}
@@ -8,9 +8,9 @@ use Rattle.clap.specs.declared.error.Error.{Error}
 use Rattle.clap.specs.declared.parser.matches.Found.{Found}
 use Rattle.clap.specs.declared.parser.matches.ArgMatches.TheViews.{out-ArgMatches, out-SubCommand}
 use Rattle.std.specs.Box.{box_value}
-use Rattle.clap.specs.Walk.{Held, Names, Walk, idle, value, arg_by_index, nothing_held, subcommand_or_other, stop_after, subcommand_met, to_positional, walk_from, walked}
-use Rattle.clap.specs.Simple.{built, built_leaf, entered, names_of, new_shape, rows_at}
-use Rattle.clap.specs.Faults.{built_fault, defaults_fault, level_fault, other_fault, settle_fault, step_fault, turn_fault, walk_fault}
+use Rattle.clap.specs.Walk.{Held, Names, Walk, idle, value, arg_by_index, finished, nothing_held, settled, subcommand_or_other, stop_after, subcommand_met, to_positional, walk, walk_from, walked}
+use Rattle.clap.specs.Simple.{built, built_leaf, entered, names_of, rows_at}
+use Rattle.clap.specs.Faults.{built_fault, check_fault, defaults_fault, level_fault, other_fault, settle_fault, step_fault, turn_fault, walk_fault}
 use Rattle.clap.specs.declared.error.kind.ErrorKind.TheVariants as kind
 use Rattle.clap.specs.declared.error.kind.ErrorKind.{ErrorKind}
 use Rattle.plan_types.specs.declared.requests.Kind.{Kind}
@@ -23,8 +23,8 @@ use Rattle.std.proofs.lemmas.Slice.Eq.{bytes_eq-Decides}
 use Rattle.clap.proofs.WalkLemmas.{first_value-rows, list_any-map}
 use Rattle.clap.proofs.OnLiterals.{clap_on_literals}
 use Rattle.planner_cli.specs.declared.words.Invocation.{Invocation}
-use Rattle.planner_cli.specs.Asked.{IsRefusal, ArePositional, asked_in, Asked, Reads, asked_by, asked_from, audit, audit_asked, format, is_positional_word, kind_named, run, store_asked, store_in, told_by, told_of, asks_help, usage_status_of}
-use Rattle.planner_cli.specs.CommandLine.{IsKindNames, IsPlannerCommand, planner_app, store_app}
+use Rattle.planner_cli.specs.Asked.{IsRefusal, ArePositional, Asked, PathsAsked, Reads, TaskAsked, asked_by, asked_with, asks_help, audit, audits, format, is_positional_word, kind_named, list_asked, list_from, list_in, paths_asked, paths_from, paths_in, run, seed_named, seed_or_none, solve, steps_named, store_asked, store_in, task_asked, task_from, task_in, task_with, told_by, told_of, usage_status_of}
+use Rattle.planner_cli.specs.CommandLine.{IsKindNames, IsPlannerCommand, audits_app, paths_app, planner_app, solve_app, store_app}
 
 -- ---- a word that does not begin with a hyphen is a value
 
@@ -34,11 +34,21 @@ is_no_hyphen false e = refl
 
 word_is_value : (c : List Rule) (position : ℕ) (w : Text) (h : Held) → is_positional_word w ≡ true → subcommand_or_other c None idle position w h ≡ (h, value)
 word_is_value c position [] h p = refl
-word_is_value c position (b ∷ bs) h p = let e : (b == 45) ≡ false = is_no_hyphen (b == 45) p in rw (e, e) refl
+word_is_value c position (b ∷ []) h p = by (b == 45) refl
+  where
+    by : (t : Bool) → (b == 45) ≡ t → subcommand_or_other c None idle position (b ∷ []) h ≡ (h, value)
+    by true e = rw (e, e) refl
+    by false e = rw (e, e) refl
+word_is_value c position (b ∷ d ∷ bs) h p = let e : (b == 45) ≡ false = is_no_hyphen (b == 45) p in rw (e, e) refl
 
 word_passes : (s : Shape) (w : Text) (h : Held) → is_positional_word w ≡ true → other_fault s None w h ≡ []
 word_passes s [] h p = refl
-word_passes s (b ∷ bs) h p = let e : (b == 45) ≡ false = is_no_hyphen (b == 45) p in rw (e, e) refl
+word_passes s (b ∷ []) h p = by (b == 45) refl
+  where
+    by : (t : Bool) → (b == 45) ≡ t → other_fault s None (b ∷ []) h ≡ []
+    by true e = rw (e, e) refl
+    by false e = rw (e, e) refl
+word_passes s (b ∷ d ∷ bs) h p = let e : (b == 45) ≡ false = is_no_hyphen (b == 45) p in rw (e, e) refl
 
 -- where the walk stands between two words
 abbrev standing : Held → ℕ → Walk
@@ -78,102 +88,269 @@ or_else-nil (k ∷ ks) = refl
 abbrev the_app : Bor (List (Bor Text)) → App
 the_app names = built (planner_app names)
 
-abbrev first_shape : List Shape → Shape
-first_shape [] = new_shape []
-first_shape (s ∷ rest) = s
-
--- `audit`, as built
-abbrev audit_shape : Bor (List (Bor Text)) → Shape
-audit_shape names = first_shape (the_app names).subs
-
-abbrev audit_fault : Bor (List (Bor Text)) → List Text → Kinds
-audit_fault names words = level_fault (audit_shape names) [] nothing_held words false []
-
 pub no_words : (names : Bor (List (Bor Text))) → built_fault (the_app names) nothing_held [] ≡ []
 unfolding clap_on_literals
 no_words names = refl
 
-pub audit_words_fault : (names : Bor (List (Bor Text))) (words : List Text) → built_fault (the_app names) nothing_held (codes "audit" ∷ words) ≡ audit_fault names words
-unfolding clap_on_literals
-audit_words_fault names words =
-    rw (
-      stopped_walk (the_app names).top.rules (names_of (the_app names)) (codes "audit") [] words,
-      stopped_fault (the_app names).top (names_of (the_app names)) (codes "audit") [] words,
-    ) (or_else-nil (audit_fault names words))
+-- ---- the words `KIND INSTANCE SOLUTION`
 
--- ---- the words of `audit`
+-- such a command, as built
+abbrev paths_shape : Text → Bor (List (Bor Text)) → Shape
+paths_shape name names = built_leaf (paths_app name names).top
 
-abbrev rules_of_audit : Bor (List (Bor Text)) → List Rule
-rules_of_audit names = (audit_shape names).rules
-
--- what is held after one, two and three values
-abbrev held_kind : Bor (List (Bor Text)) → Text → Held
-held_kind names k = (after_value (rules_of_audit names) nothing_held 1 k).held
-
-abbrev held_instance : Bor (List (Bor Text)) → Text → Text → Held
-held_instance names k i = (after_value (rules_of_audit names) (held_kind names k) 2 i).held
-
-abbrev held_solution : Bor (List (Bor Text)) → Text → Text → Text → Held
-held_solution names k i s = (after_value (rules_of_audit names) (held_instance names k i) 3 s).held
-
--- the kind is checked once the next word or the end comes
-abbrev kind_fault : Bor (List (Bor Text)) → Text → Kinds
-kind_fault names k = settle_fault (rules_of_audit names) false (held_kind names k)
+abbrev paths_fault : Text → Bor (List (Bor Text)) → List Text → Kinds
+paths_fault name names words = level_fault (paths_shape name names) [] nothing_held words false []
 
 abbrev missing : Kinds
 missing = kind.MissingRequiredArgument ∷ []
 
-no_values : (names : Bor (List (Bor Text))) → audit_fault names [] ≡ missing
-unfolding clap_on_literals
-no_values names = refl
+module _ (name : Text) (names : Bor (List (Bor Text))) where
+  abbrev paths_rules : List Rule
+  paths_rules = (paths_shape name names).rules
 
-kind_walked : (names : Bor (List (Bor Text))) (k : Text) → is_positional_word k ≡ true → walked (rules_of_audit names) [] (standing nothing_held 1) k ≡ standing (held_kind names k) 2
-kind_walked names k p = walked-value (rules_of_audit names) nothing_held 1 k p
+  -- what is held after one, two and three values
+  abbrev held_kind : Text → Held
+  held_kind k = (after_value paths_rules nothing_held 1 k).held
 
-instance_walked : (names : Bor (List (Bor Text))) (k i : Text) → is_positional_word i ≡ true
-    → walked (rules_of_audit names) [] (standing (held_kind names k) 2) i ≡ standing (held_instance names k i) 3
-instance_walked names k i p = walked-value (rules_of_audit names) (held_kind names k) 2 i p
+  abbrev held_instance : Text → Text → Held
+  held_instance k i = (after_value paths_rules (held_kind k) 2 i).held
 
-solution_walked : (names : Bor (List (Bor Text))) (k i s : Text) → is_positional_word s ≡ true
-    → walked (rules_of_audit names) [] (standing (held_instance names k i) 3) s ≡ standing (held_solution names k i s) 4
-solution_walked names k i s p = walked-value (rules_of_audit names) (held_instance names k i) 3 s p
+  abbrev held_solution : Text → Text → Text → Held
+  held_solution k i s = (after_value paths_rules (held_instance k i) 3 s).held
 
-kind_turn : (names : Bor (List (Bor Text))) (k : Text) → is_positional_word k ≡ true → turn_fault (audit_shape names) [] (standing nothing_held 1) k ≡ []
-kind_turn names k p = turn_fault-value (audit_shape names) nothing_held 1 k p
+  -- the kind is checked once the next word or the end comes
+  abbrev kind_fault : Text → Kinds
+  kind_fault k = settle_fault paths_rules false (held_kind k)
 
-instance_turn : (names : Bor (List (Bor Text))) (k i : Text) → is_positional_word i ≡ true → turn_fault (audit_shape names) [] (standing (held_kind names k) 2) i ≡ kind_fault names k
-instance_turn names k i p = turn_fault-value (audit_shape names) (held_kind names k) 2 i p
+  no_values : paths_fault name names [] ≡ missing
+  unfolding clap_on_literals
+  no_values = refl
 
-solution_turn : (names : Bor (List (Bor Text))) (k i s : Text) → is_positional_word s ≡ true → turn_fault (audit_shape names) [] (standing (held_instance names k i) 3) s ≡ []
-solution_turn names k i s p = turn_fault-value (audit_shape names) (held_instance names k i) 3 s p
+  kind_walked : (k : Text) → is_positional_word k ≡ true → walked paths_rules [] (standing nothing_held 1) k ≡ standing (held_kind k) 2
+  kind_walked k p = walked-value paths_rules nothing_held 1 k p
 
-stray_turn : (names : Bor (List (Bor Text))) (k i s x : Text) → is_positional_word x ≡ true → turn_fault (audit_shape names) [] (standing (held_solution names k i s) 4) x ≡ kind.UnknownArgument ∷ []
-stray_turn names k i s x p = turn_fault-value (audit_shape names) (held_solution names k i s) 4 x p
+  instance_walked : (k i : Text) → is_positional_word i ≡ true → walked paths_rules [] (standing (held_kind k) 2) i ≡ standing (held_instance k i) 3
+  instance_walked k i p = walked-value paths_rules (held_kind k) 2 i p
 
-one_value : (names : Bor (List (Bor Text))) (k : Text) → is_positional_word k ≡ true → audit_fault names (k ∷ []) ≡ or_else (kind_fault names k) missing
-unfolding walk_fault defaults_fault
-one_value names k p = rw (kind_walked names k p, kind_turn names k p) refl
+  solution_walked : (k i s : Text) → is_positional_word s ≡ true → walked paths_rules [] (standing (held_instance k i) 3) s ≡ standing (held_solution k i s) 4
+  solution_walked k i s p = walked-value paths_rules (held_instance k i) 3 s p
 
-two_values : (names : Bor (List (Bor Text))) (k i : Text) → is_positional_word k ≡ true → is_positional_word i ≡ true
-    → audit_fault names (k ∷ i ∷ []) ≡ or_else (or_else (kind_fault names k) []) missing
-unfolding walk_fault defaults_fault
-two_values names k i p q = rw (kind_walked names k p, kind_turn names k p, instance_walked names k i q, instance_turn names k i q) refl
+  kind_turn : (k : Text) → is_positional_word k ≡ true → turn_fault (paths_shape name names) [] (standing nothing_held 1) k ≡ []
+  kind_turn k p = turn_fault-value (paths_shape name names) nothing_held 1 k p
 
-three_values : (names : Bor (List (Bor Text))) (k i s : Text) → is_positional_word k ≡ true → is_positional_word i ≡ true → is_positional_word s ≡ true
-    → audit_fault names (k ∷ i ∷ s ∷ []) ≡ or_else (or_else (kind_fault names k) []) []
-unfolding walk_fault defaults_fault
-three_values names k i s p q r = rw (kind_walked names k p, kind_turn names k p, instance_walked names k i q, instance_turn names k i q, solution_walked names k i s r, solution_turn names k i s r) refl
+  instance_turn : (k i : Text) → is_positional_word i ≡ true → turn_fault (paths_shape name names) [] (standing (held_kind k) 2) i ≡ kind_fault k
+  instance_turn k i p = turn_fault-value (paths_shape name names) (held_kind k) 2 i p
 
--- those of the words are passed over that no walk reads
-four_values : (names : Bor (List (Bor Text))) (k i s x : Text) (rest : List Text) → is_positional_word k ≡ true → is_positional_word i ≡ true → is_positional_word s ≡ true
-    → is_positional_word x ≡ true → walk_fault (audit_shape names) [] (walk_from nothing_held) (k ∷ i ∷ s ∷ x ∷ rest) ≡ or_else (kind_fault names k) (kind.UnknownArgument ∷ [])
-unfolding walk_fault
-four_values names k i s x rest p q r t =
-    rw (kind_turn names k p, kind_walked names k p, instance_turn names k i q, instance_walked names k i q, solution_turn names k i s r, solution_walked names k i s r, stray_turn names k i s x t) refl
+  solution_turn : (k i s : Text) → is_positional_word s ≡ true → turn_fault (paths_shape name names) [] (standing (held_instance k i) 3) s ≡ []
+  solution_turn k i s p = turn_fault-value (paths_shape name names) (held_instance k i) 3 s p
 
-three_rows : (names : Bor (List (Bor Text))) (k i s : Text) → is_positional_word k ≡ true → is_positional_word i ≡ true → is_positional_word s ≡ true
-    → asked_in (rows_at (audit_shape names) (k ∷ i ∷ s ∷ [])).1 ≡ audit_asked (k ∷ i ∷ s ∷ [])
-three_rows names k i s p q r = rw (kind_walked names k p, instance_walked names k i q, solution_walked names k i s r) refl
+  stray_turn : (k i s x : Text) → is_positional_word x ≡ true → turn_fault (paths_shape name names) [] (standing (held_solution k i s) 4) x ≡ kind.UnknownArgument ∷ []
+  stray_turn k i s x p = turn_fault-value (paths_shape name names) (held_solution k i s) 4 x p
+
+  one_value : (k : Text) → is_positional_word k ≡ true → paths_fault name names (k ∷ []) ≡ or_else (kind_fault k) missing
+  unfolding walk_fault defaults_fault
+  one_value k p = rw (kind_walked k p, kind_turn k p) refl
+
+  two_values : (k i : Text) → is_positional_word k ≡ true → is_positional_word i ≡ true → paths_fault name names (k ∷ i ∷ []) ≡ or_else (or_else (kind_fault k) []) missing
+  unfolding walk_fault defaults_fault
+  two_values k i p q = rw (kind_walked k p, kind_turn k p, instance_walked k i q, instance_turn k i q) refl
+
+  three_values : (k i s : Text) → is_positional_word k ≡ true → is_positional_word i ≡ true → is_positional_word s ≡ true → paths_fault name names (k ∷ i ∷ s ∷ []) ≡ or_else (or_else (kind_fault k) []) []
+  unfolding walk_fault defaults_fault
+  three_values k i s p q r = rw (kind_walked k p, kind_turn k p, instance_walked k i q, instance_turn k i q, solution_walked k i s r, solution_turn k i s r) refl
+
+  -- those of the words are passed over that no walk reads
+  four_values : (k i s x : Text) (rest : List Text) → is_positional_word k ≡ true → is_positional_word i ≡ true → is_positional_word s ≡ true → is_positional_word x ≡ true
+      → walk_fault (paths_shape name names) [] (walk_from nothing_held) (k ∷ i ∷ s ∷ x ∷ rest) ≡ or_else (kind_fault k) (kind.UnknownArgument ∷ [])
+  unfolding walk_fault
+  four_values k i s x rest p q r t = rw (kind_turn k p, kind_walked k p, instance_turn k i q, instance_walked k i q, solution_turn k i s r, solution_walked k i s r, stray_turn k i s x t) refl
+
+  three_rows : (k i s : Text) → is_positional_word k ≡ true → is_positional_word i ≡ true → is_positional_word s ≡ true
+      → paths_in (rows_at (paths_shape name names) (k ∷ i ∷ s ∷ [])).1 ≡ paths_asked (k ∷ i ∷ s ∷ [])
+  three_rows k i s p q r = rw (kind_walked k p, instance_walked k i q, solution_walked k i s r) refl
+
+-- ---- the words `KIND LIST` of `audits`
+
+abbrev audits_shape : Bor (List (Bor Text)) → Shape
+audits_shape names = built_leaf (audits_app names).top
+
+abbrev audits_fault : Bor (List (Bor Text)) → List Text → Kinds
+audits_fault names words = level_fault (audits_shape names) [] nothing_held words false []
+
+module _ (names : Bor (List (Bor Text))) where
+  abbrev audits_rules : List Rule
+  audits_rules = (audits_shape names).rules
+
+  abbrev held_first : Text → Held
+  held_first k = (after_value audits_rules nothing_held 1 k).held
+
+  abbrev held_list : Text → Text → Held
+  held_list k l = (after_value audits_rules (held_first k) 2 l).held
+
+  abbrev first_fault : Text → Kinds
+  first_fault k = settle_fault audits_rules false (held_first k)
+
+  no_list : audits_fault names [] ≡ missing
+  unfolding clap_on_literals
+  no_list = refl
+
+  first_walked : (k : Text) → is_positional_word k ≡ true → walked audits_rules [] (standing nothing_held 1) k ≡ standing (held_first k) 2
+  first_walked k p = walked-value audits_rules nothing_held 1 k p
+
+  list_walked : (k l : Text) → is_positional_word l ≡ true → walked audits_rules [] (standing (held_first k) 2) l ≡ standing (held_list k l) 3
+  list_walked k l p = walked-value audits_rules (held_first k) 2 l p
+
+  first_turn : (k : Text) → is_positional_word k ≡ true → turn_fault (audits_shape names) [] (standing nothing_held 1) k ≡ []
+  first_turn k p = turn_fault-value (audits_shape names) nothing_held 1 k p
+
+  list_turn : (k l : Text) → is_positional_word l ≡ true → turn_fault (audits_shape names) [] (standing (held_first k) 2) l ≡ first_fault k
+  list_turn k l p = turn_fault-value (audits_shape names) (held_first k) 2 l p
+
+  stray_list_turn : (k l x : Text) → is_positional_word x ≡ true → turn_fault (audits_shape names) [] (standing (held_list k l) 3) x ≡ kind.UnknownArgument ∷ []
+  stray_list_turn k l x p = turn_fault-value (audits_shape names) (held_list k l) 3 x p
+
+  one_of_list : (k : Text) → is_positional_word k ≡ true → audits_fault names (k ∷ []) ≡ or_else (first_fault k) missing
+  unfolding walk_fault defaults_fault
+  one_of_list k p = rw (first_walked k p, first_turn k p) refl
+
+  two_of_list : (k l : Text) → is_positional_word k ≡ true → is_positional_word l ≡ true → audits_fault names (k ∷ l ∷ []) ≡ or_else (or_else (first_fault k) []) []
+  unfolding walk_fault defaults_fault
+  two_of_list k l p q = rw (first_walked k p, first_turn k p, list_walked k l q, list_turn k l q) refl
+
+  three_of_list : (k l x : Text) (rest : List Text) → is_positional_word k ≡ true → is_positional_word l ≡ true → is_positional_word x ≡ true
+      → walk_fault (audits_shape names) [] (walk_from nothing_held) (k ∷ l ∷ x ∷ rest) ≡ or_else (first_fault k) (kind.UnknownArgument ∷ [])
+  unfolding walk_fault
+  three_of_list k l x rest p q t = rw (first_turn k p, first_walked k p, list_turn k l q, list_walked k l q, stray_list_turn k l x t) refl
+
+  list_rows : (k l : Text) → is_positional_word k ≡ true → is_positional_word l ≡ true → list_in (rows_at (audits_shape names) (k ∷ l ∷ [])).1 ≡ list_asked (k ∷ l ∷ [])
+  list_rows k l p q = rw (first_walked k p, list_walked k l q) refl
+
+-- ---- the words `KIND INSTANCE STEPS [SEED]` of `solve`
+
+abbrev solve_shape : Bor (List (Bor Text)) → Shape
+solve_shape names = built_leaf (solve_app names).top
+
+abbrev solve_fault : Bor (List (Bor Text)) → List Text → Kinds
+solve_fault names words = level_fault (solve_shape names) [] nothing_held words false []
+
+module _ (names : Bor (List (Bor Text))) where
+  abbrev solve_rules : List Rule
+  solve_rules = (solve_shape names).rules
+
+  abbrev task_kind : Text → Held
+  task_kind k = (after_value solve_rules nothing_held 1 k).held
+
+  abbrev task_instance : Text → Text → Held
+  task_instance k i = (after_value solve_rules (task_kind k) 2 i).held
+
+  abbrev task_steps : Text → Text → Text → Held
+  task_steps k i n = (after_value solve_rules (task_instance k i) 3 n).held
+
+  abbrev task_seed : Text → Text → Text → Text → Held
+  task_seed k i n s = (after_value solve_rules (task_steps k i n) 4 s).held
+
+  abbrev task_fault : Text → Kinds
+  task_fault k = settle_fault solve_rules false (task_kind k)
+
+  no_task : solve_fault names [] ≡ missing
+  unfolding clap_on_literals
+  no_task = refl
+
+  task_kind_walked : (k : Text) → is_positional_word k ≡ true → walked solve_rules [] (standing nothing_held 1) k ≡ standing (task_kind k) 2
+  task_kind_walked k p = walked-value solve_rules nothing_held 1 k p
+
+  task_instance_walked : (k i : Text) → is_positional_word i ≡ true → walked solve_rules [] (standing (task_kind k) 2) i ≡ standing (task_instance k i) 3
+  task_instance_walked k i p = walked-value solve_rules (task_kind k) 2 i p
+
+  task_steps_walked : (k i n : Text) → is_positional_word n ≡ true → walked solve_rules [] (standing (task_instance k i) 3) n ≡ standing (task_steps k i n) 4
+  task_steps_walked k i n p = walked-value solve_rules (task_instance k i) 3 n p
+
+  task_seed_walked : (k i n s : Text) → is_positional_word s ≡ true → walked solve_rules [] (standing (task_steps k i n) 4) s ≡ standing (task_seed k i n s) 5
+  task_seed_walked k i n s p = walked-value solve_rules (task_steps k i n) 4 s p
+
+  task_kind_turn : (k : Text) → is_positional_word k ≡ true → turn_fault (solve_shape names) [] (standing nothing_held 1) k ≡ []
+  task_kind_turn k p = turn_fault-value (solve_shape names) nothing_held 1 k p
+
+  task_instance_turn : (k i : Text) → is_positional_word i ≡ true → turn_fault (solve_shape names) [] (standing (task_kind k) 2) i ≡ task_fault k
+  task_instance_turn k i p = turn_fault-value (solve_shape names) (task_kind k) 2 i p
+
+  task_steps_turn : (k i n : Text) → is_positional_word n ≡ true → turn_fault (solve_shape names) [] (standing (task_instance k i) 3) n ≡ []
+  task_steps_turn k i n p = turn_fault-value (solve_shape names) (task_instance k i) 3 n p
+
+  task_seed_turn : (k i n s : Text) → is_positional_word s ≡ true → turn_fault (solve_shape names) [] (standing (task_steps k i n) 4) s ≡ []
+  task_seed_turn k i n s p = turn_fault-value (solve_shape names) (task_steps k i n) 4 s p
+
+  stray_task_turn : (k i n s x : Text) → is_positional_word x ≡ true → turn_fault (solve_shape names) [] (standing (task_seed k i n s) 5) x ≡ kind.UnknownArgument ∷ []
+  stray_task_turn k i n s x p = turn_fault-value (solve_shape names) (task_seed k i n s) 5 x p
+
+  one_of_task : (k : Text) → is_positional_word k ≡ true → solve_fault names (k ∷ []) ≡ or_else (task_fault k) missing
+  unfolding walk_fault defaults_fault
+  one_of_task k p = rw (task_kind_walked k p, task_kind_turn k p) refl
+
+  two_of_task : (k i : Text) → is_positional_word k ≡ true → is_positional_word i ≡ true → solve_fault names (k ∷ i ∷ []) ≡ or_else (or_else (task_fault k) []) missing
+  unfolding walk_fault defaults_fault
+  two_of_task k i p q = rw (task_kind_walked k p, task_kind_turn k p, task_instance_walked k i q, task_instance_turn k i q) refl
+
+  three_of_task : (k i n : Text) → is_positional_word k ≡ true → is_positional_word i ≡ true → is_positional_word n ≡ true → solve_fault names (k ∷ i ∷ n ∷ []) ≡ or_else (or_else (task_fault k) []) []
+  unfolding walk_fault defaults_fault
+  three_of_task k i n p q r = rw (task_kind_walked k p, task_kind_turn k p, task_instance_walked k i q, task_instance_turn k i q, task_steps_walked k i n r, task_steps_turn k i n r) refl
+
+  -- what a walk that ends so may still fail by
+  abbrev task_rest : Held → Kinds
+  task_rest h =
+      or_else [] (or_else (settle_fault solve_rules (solve_shape names).args_override_self h)
+      (or_else (defaults_fault (settled solve_rules h).rows solve_rules) (check_fault (solve_shape names) (finished solve_rules h) false)))
+
+  seeded_fault : (k i n s : Text) → is_positional_word k ≡ true → is_positional_word i ≡ true → is_positional_word n ≡ true → is_positional_word s ≡ true
+      → walk_fault (solve_shape names) [] (walk_from nothing_held) (k ∷ i ∷ n ∷ s ∷ []) ≡ or_else (task_fault k) []
+  unfolding walk_fault
+  seeded_fault k i n s p q r t =
+      rw (
+        task_kind_turn k p,
+        task_kind_walked k p,
+        task_instance_turn k i q,
+        task_instance_walked k i q,
+        task_steps_turn k i n r,
+        task_steps_walked k i n r,
+        task_seed_turn k i n s t,
+      ) refl
+
+  seeded_walk : (k i n s : Text) → is_positional_word k ≡ true → is_positional_word i ≡ true → is_positional_word n ≡ true → is_positional_word s ≡ true
+      → walk solve_rules [] nothing_held (k ∷ i ∷ n ∷ s ∷ []) ≡ standing (task_seed k i n s) 5
+  seeded_walk k i n s p q r t = rw (task_kind_walked k p, task_instance_walked k i q, task_steps_walked k i n r, task_seed_walked k i n s t) refl
+
+  seeded_rest : (k i n s : Text) → task_rest (task_seed k i n s) ≡ []
+  unfolding defaults_fault
+  seeded_rest k i n s = refl
+
+  four_of_task : (k i n s : Text) → is_positional_word k ≡ true → is_positional_word i ≡ true → is_positional_word n ≡ true → is_positional_word s ≡ true
+      → solve_fault names (k ∷ i ∷ n ∷ s ∷ []) ≡ or_else (or_else (task_fault k) []) []
+  four_of_task k i n s p q r t =
+      ap₂ {C = Kinds} (λ (f : Kinds) (w : Walk). or_else f (task_rest w.held)) (seeded_fault k i n s p q r t) (seeded_walk k i n s p q r t)
+      ∙ ap (or_else (or_else (task_fault k) [])) (seeded_rest k i n s)
+
+  five_of_task : (k i n s x : Text) (rest : List Text) → is_positional_word k ≡ true → is_positional_word i ≡ true → is_positional_word n ≡ true → is_positional_word s ≡ true → is_positional_word x ≡ true
+      → walk_fault (solve_shape names) [] (walk_from nothing_held) (k ∷ i ∷ n ∷ s ∷ x ∷ rest) ≡ or_else (task_fault k) (kind.UnknownArgument ∷ [])
+  unfolding walk_fault
+  five_of_task k i n s x rest p q r t u =
+      rw (
+        task_kind_turn k p,
+        task_kind_walked k p,
+        task_instance_turn k i q,
+        task_instance_walked k i q,
+        task_steps_turn k i n r,
+        task_steps_walked k i n r,
+        task_seed_turn k i n s t,
+        task_seed_walked k i n s t,
+        stray_task_turn k i n s x u,
+      ) refl
+
+  task_rows : (k i n : Text) → is_positional_word k ≡ true → is_positional_word i ≡ true → is_positional_word n ≡ true → task_in (rows_at (solve_shape names) (k ∷ i ∷ n ∷ [])).1 ≡ task_asked (k ∷ i ∷ n ∷ [])
+  task_rows k i n p q r = rw (task_kind_walked k p, task_instance_walked k i q, task_steps_walked k i n r) refl
+
+  seeded_rows : (k i n s : Text) → is_positional_word k ≡ true → is_positional_word i ≡ true → is_positional_word n ≡ true → is_positional_word s ≡ true
+      → task_in (rows_at (solve_shape names) (k ∷ i ∷ n ∷ s ∷ [])).1 ≡ task_asked (k ∷ i ∷ n ∷ s ∷ [])
+  seeded_rows k i n s p q r t = rw (task_kind_walked k p, task_instance_walked k i q, task_steps_walked k i n r, task_seed_walked k i n s t) refl
 
 -- ---- what the parse of the words tells
 
@@ -221,26 +398,30 @@ accepted_by false false = refl
 accepts_names : (names : Bor (List (Bor Text))) (k : Text) → IsKindNames names → list_any (λ name. bytes_eq name.now k) names.now ≡ (bytes_eq (codes "lilim") k || (bytes_eq (codes "vrp") k || false))
 accepts_names names k kinds = list_any-map (λ t. bytes_eq t k) (λ (n : Bor Text). n.now) names.now ∙ ap (list_any (λ t. bytes_eq t k)) kinds
 
-kind_fault-is : (names : Bor (List (Bor Text))) (k : Text) → IsKindNames names → kind_fault names k ≡ unless_named (bytes_eq (codes "lilim") k) (bytes_eq (codes "vrp") k)
-kind_fault-is names k kinds =
-    ap (λ b. or_else (if b then [] else kind.InvalidValue ∷ []) []) (accepts_names names k kinds) ∙ accepted_by (bytes_eq (codes "lilim") k) (bytes_eq (codes "vrp") k)
+-- the fault of a word that is to name a kind
+abbrev fault_of_kind : Text → Kinds
+fault_of_kind k = unless_named (bytes_eq (codes "lilim") k) (bytes_eq (codes "vrp") k)
+
+known_fault : (names : Bor (List (Bor Text))) (k : Text) → IsKindNames names → or_else (if list_any (λ name. bytes_eq name.now k) names.now then [] else kind.InvalidValue ∷ []) [] ≡ fault_of_kind k
+known_fault names k kinds = ap (λ b. or_else (if b then [] else kind.InvalidValue ∷ []) []) (accepts_names names k kinds) ∙ accepted_by (bytes_eq (codes "lilim") k) (bytes_eq (codes "vrp") k)
 
 mistakes_by : (a b : Bool) → AreMistakes (unless_named a b)
 mistakes_by true b = tt
 mistakes_by false true = tt
 mistakes_by false false = (refl, tt)
 
-kind_mistakes : (names : Bor (List (Bor Text))) (k : Text) → IsKindNames names → AreMistakes (kind_fault names k)
-kind_mistakes names k kinds = subst AreMistakes (sym (kind_fault-is names k kinds)) (mistakes_by (bytes_eq (codes "lilim") k) (bytes_eq (codes "vrp") k))
+kind_mistakes : (fault : Kinds) (k : Text) → fault ≡ fault_of_kind k → AreMistakes fault
+kind_mistakes fault k is = subst AreMistakes (sym is) (mistakes_by (bytes_eq (codes "lilim") k) (bytes_eq (codes "vrp") k))
 
 mistakes_nil : (a : Kinds) → AreMistakes a → AreMistakes (or_else a [])
 mistakes_nil a h = subst AreMistakes (sym (or_else-nil a)) h
 
-judged_kind : (Help : Type 0) (a b : Bool) (i s : Text) (faults : Kinds) (asked told : Option Asked) → faults ≡ unless_named a b → asked ≡ option_map (λ k. audit k i s) (if a then Some LiLim else (if b then Some Vrp else None))
+-- words of the right number are judged by their kind
+judged_kind : (Help : Type 0) (a b : Bool) (faults : Kinds) (asked told : Option Asked) → faults ≡ unless_named a b → ((if a then Some LiLim else (if b then Some Vrp else None)) ≡ None → asked ≡ None)
     → asked ≡ told → IsJudged Help faults asked told
-judged_kind Help true b i s faults asked told f e same = inl (f, same)
-judged_kind Help false true i s faults asked told f e same = inl (f, same)
-judged_kind Help false false i s faults asked told f e same = inr (inl (subst IsFault (sym f) (refl, tt)), e)
+judged_kind Help true b faults asked told f e same = inl (f, same)
+judged_kind Help false true faults asked told f e same = inl (f, same)
+judged_kind Help false false faults asked told f e same = inr (inl (subst IsFault (sym f) (refl, tt)), e refl)
 
 failed : (Help : Type 0) (faults known : Kinds) (told : Option Asked) → faults ≡ known → IsFault known → IsJudged Help faults None told
 failed Help faults known told e h = inr (inl (subst IsFault (sym e) h), refl)
@@ -249,27 +430,91 @@ both_true : (a b : Bool) → (a && b) ≡ true → (a ≡ true) × (b ≡ true)
 both_true true b h = (refl, h)
 both_true false b h = absurd (true≢false (sym h))
 
-judged_audit : (Help : Type 0) (names : Bor (List (Bor Text))) (words : List Text) → IsKindNames names → ArePositional words
-    → IsJudged Help (audit_fault names words) (audit_asked words) (asked_in (rows_at (audit_shape names) words).1)
-judged_audit Help names [] kinds p = failed Help _ missing _ (no_values names) (refl, tt)
-judged_audit Help names (k ∷ []) kinds p =
-    failed Help _ _ _ (one_value names k (both_true _ _ p).0) (fault_then (kind_fault names k) missing (kind_mistakes names k kinds) (refl, tt))
-judged_audit Help names (k ∷ i ∷ []) kinds p =
-    failed Help _ _ _ (two_values names k i (both_true _ _ p).0 (both_true _ _ (both_true _ _ p).1).0)
-    (fault_then (or_else (kind_fault names k) []) missing (mistakes_nil (kind_fault names k) (kind_mistakes names k kinds)) (refl, tt))
-judged_audit Help names (k ∷ i ∷ s ∷ []) kinds p =
+judged_paths : (Help : Type 0) (does : PathsAsked → Asked) (name : Text) (names : Bor (List (Bor Text))) (words : List Text) → IsKindNames names → ArePositional words
+    → IsJudged Help (paths_fault name names words) (option_map does (paths_asked words)) (option_map does (paths_in (rows_at (paths_shape name names) words).1))
+judged_paths Help does name names [] kinds p = failed Help _ missing _ (no_values name names) (refl, tt)
+judged_paths Help does name names (k ∷ []) kinds p =
+    failed Help _ _ _ (one_value name names k (both_true _ _ p).0) (fault_then (kind_fault name names k) missing (kind_mistakes _ k (known_fault names k kinds)) (refl, tt))
+judged_paths Help does name names (k ∷ i ∷ []) kinds p =
+    failed Help _ _ _ (two_values name names k i (both_true _ _ p).0 (both_true _ _ (both_true _ _ p).1).0)
+    (fault_then (or_else (kind_fault name names k) []) missing (mistakes_nil (kind_fault name names k) (kind_mistakes _ k (known_fault names k kinds))) (refl, tt))
+judged_paths Help does name names (k ∷ i ∷ s ∷ []) kinds p =
     let pk = both_true (is_positional_word k) _ p in
     let pi = both_true (is_positional_word i) _ pk.1 in
     let ps = both_true (is_positional_word s) _ pi.1 in
-    judged_kind Help (bytes_eq (codes "lilim") k) (bytes_eq (codes "vrp") k) i s _ _ _
-    (three_values names k i s pk.0 pi.0 ps.0 ∙ or_else-nil _ ∙ or_else-nil _ ∙ kind_fault-is names k kinds) refl
-    (sym (three_rows names k i s pk.0 pi.0 ps.0))
-judged_audit Help names (k ∷ i ∷ s ∷ x ∷ rest) kinds p =
+    judged_kind Help (bytes_eq (codes "lilim") k) (bytes_eq (codes "vrp") k) _ _ _
+    (three_values name names k i s pk.0 pi.0 ps.0 ∙ or_else-nil _ ∙ or_else-nil _ ∙ known_fault names k kinds)
+    (λ none. ap (λ o. option_map does (option_map (λ k. record { kind = k; instance = i; solution = s }) o)) none)
+    (sym (ap (option_map does) (three_rows name names k i s pk.0 pi.0 ps.0)))
+judged_paths Help does name names (k ∷ i ∷ s ∷ x ∷ rest) kinds p =
     let pk = both_true (is_positional_word k) _ p in
     let pi = both_true (is_positional_word i) _ pk.1 in
     let ps = both_true (is_positional_word s) _ pi.1 in
     let px = both_true (is_positional_word x) _ ps.1 in
-    inr (inl (fault_first _ _ (subst IsFault (sym (four_values names k i s x rest pk.0 pi.0 ps.0 px.0)) (fault_then (kind_fault names k) (kind.UnknownArgument ∷ []) (kind_mistakes names k kinds) (refl, tt)))), refl)
+    inr (
+      inl (fault_first _ _ (subst IsFault (sym (four_values name names k i s x rest pk.0 pi.0 ps.0 px.0))
+          (fault_then (kind_fault name names k) (kind.UnknownArgument ∷ []) (kind_mistakes _ k (known_fault names k kinds)) (refl, tt)))),
+      refl,
+    )
+
+judged_list : (Help : Type 0) (names : Bor (List (Bor Text))) (words : List Text) → IsKindNames names → ArePositional words
+    → IsJudged Help (audits_fault names words) (list_asked words) (list_in (rows_at (audits_shape names) words).1)
+judged_list Help names [] kinds p = failed Help _ missing _ (no_list names) (refl, tt)
+judged_list Help names (k ∷ []) kinds p =
+    failed Help _ _ _ (one_of_list names k (both_true _ _ p).0) (fault_then (first_fault names k) missing (kind_mistakes _ k (known_fault names k kinds)) (refl, tt))
+judged_list Help names (k ∷ l ∷ []) kinds p =
+    let pk = both_true (is_positional_word k) _ p in
+    let pl = both_true (is_positional_word l) _ pk.1 in
+    judged_kind Help (bytes_eq (codes "lilim") k) (bytes_eq (codes "vrp") k) _ _ _ (two_of_list names k l pk.0 pl.0 ∙ or_else-nil _ ∙ or_else-nil _ ∙ known_fault names k kinds)
+    (λ none. ap (λ o. option_map (λ k. audits k l) o) none) (sym (list_rows names k l pk.0 pl.0))
+judged_list Help names (k ∷ l ∷ x ∷ rest) kinds p =
+    let pk = both_true (is_positional_word k) _ p in
+    let pl = both_true (is_positional_word l) _ pk.1 in
+    let px = both_true (is_positional_word x) _ pl.1 in
+    inr (
+      inl (fault_first _ _ (subst IsFault (sym (three_of_list names k l x rest pk.0 pl.0 px.0))
+          (fault_then (first_fault names k) (kind.UnknownArgument ∷ []) (kind_mistakes _ k (known_fault names k kinds)) (refl, tt)))),
+      refl,
+    )
+
+-- no task without a kind
+no_kind_no_task : (o : Option Kind) (i : Text) (n s : Option ℕ) → o ≡ None → option_map solve (task_from o i n s) ≡ None
+no_kind_no_task o i n s none = ap (λ o. option_map solve (task_from o i n s)) none
+
+judged_task : (Help : Type 0) (names : Bor (List (Bor Text))) (words : List Text) → IsKindNames names → ArePositional words
+    → IsJudged Help (solve_fault names words) (option_map solve (task_asked words)) (option_map solve (task_in (rows_at (solve_shape names) words).1))
+judged_task Help names [] kinds p = failed Help _ missing _ (no_task names) (refl, tt)
+judged_task Help names (k ∷ []) kinds p =
+    failed Help _ _ _ (one_of_task names k (both_true _ _ p).0) (fault_then (task_fault names k) missing (kind_mistakes _ k (known_fault names k kinds)) (refl, tt))
+judged_task Help names (k ∷ i ∷ []) kinds p =
+    failed Help _ _ _ (two_of_task names k i (both_true _ _ p).0 (both_true _ _ (both_true _ _ p).1).0)
+    (fault_then (or_else (task_fault names k) []) missing (mistakes_nil (task_fault names k) (kind_mistakes _ k (known_fault names k kinds))) (refl, tt))
+judged_task Help names (k ∷ i ∷ n ∷ []) kinds p =
+    let pk = both_true (is_positional_word k) _ p in
+    let pi = both_true (is_positional_word i) _ pk.1 in
+    let pn = both_true (is_positional_word n) _ pi.1 in
+    judged_kind Help (bytes_eq (codes "lilim") k) (bytes_eq (codes "vrp") k) _ _ _
+    (three_of_task names k i n pk.0 pi.0 pn.0 ∙ or_else-nil _ ∙ or_else-nil _ ∙ known_fault names k kinds) (no_kind_no_task (kind_named k) i (steps_named n) (Some 0))
+    (sym (ap (option_map solve) (task_rows names k i n pk.0 pi.0 pn.0)))
+judged_task Help names (k ∷ i ∷ n ∷ s ∷ []) kinds p =
+    let pk = both_true (is_positional_word k) _ p in
+    let pi = both_true (is_positional_word i) _ pk.1 in
+    let pn = both_true (is_positional_word n) _ pi.1 in
+    let ps = both_true (is_positional_word s) _ pn.1 in
+    judged_kind Help (bytes_eq (codes "lilim") k) (bytes_eq (codes "vrp") k) _ _ _
+    (four_of_task names k i n s pk.0 pi.0 pn.0 ps.0 ∙ or_else-nil _ ∙ or_else-nil _ ∙ known_fault names k kinds) (no_kind_no_task (kind_named k) i (steps_named n) (seed_named s))
+    (sym (ap (option_map solve) (seeded_rows names k i n s pk.0 pi.0 pn.0 ps.0)))
+judged_task Help names (k ∷ i ∷ n ∷ s ∷ x ∷ rest) kinds p =
+    let pk = both_true (is_positional_word k) _ p in
+    let pi = both_true (is_positional_word i) _ pk.1 in
+    let pn = both_true (is_positional_word n) _ pi.1 in
+    let ps = both_true (is_positional_word s) _ pn.1 in
+    let px = both_true (is_positional_word x) _ ps.1 in
+    inr (
+      inl (fault_first _ _ (subst IsFault (sym (five_of_task names k i n s x rest pk.0 pi.0 pn.0 ps.0 px.0))
+          (fault_then (task_fault names k) (kind.UnknownArgument ∷ []) (kind_mistakes _ k (known_fault names k kinds)) (refl, tt)))),
+      refl,
+    )
 
 -- ---- the word of `format` and `run`
 
@@ -279,22 +524,6 @@ store_shape name = built_leaf (store_app name).top
 
 abbrev store_fault : Text → List Text → Kinds
 store_fault name words = level_fault (store_shape name) [] nothing_held words false []
-
-format_words_fault : (names : Bor (List (Bor Text))) (words : List Text) → built_fault (the_app names) nothing_held (codes "format" ∷ words) ≡ store_fault (codes "format") words
-unfolding clap_on_literals
-format_words_fault names words =
-    rw (
-      stopped_walk (the_app names).top.rules (names_of (the_app names)) (codes "format") [] words,
-      stopped_fault (the_app names).top (names_of (the_app names)) (codes "format") [] words,
-    ) (or_else-nil (store_fault (codes "format") words))
-
-run_words_fault : (names : Bor (List (Bor Text))) (words : List Text) → built_fault (the_app names) nothing_held (codes "run" ∷ words) ≡ store_fault (codes "run") words
-unfolding clap_on_literals
-run_words_fault names words =
-    rw (
-      stopped_walk (the_app names).top.rules (names_of (the_app names)) (codes "run") [] words,
-      stopped_fault (the_app names).top (names_of (the_app names)) (codes "run") [] words,
-    ) (or_else-nil (store_fault (codes "run") words))
 
 abbrev held_store : Text → Text → Held
 held_store name w = (after_value (store_shape name).rules nothing_held 1 w).held
@@ -325,7 +554,7 @@ store_rows : (name w : Text) → is_positional_word w ≡ true → store_in (row
 store_rows name w p = rw (store_walked name w p) refl
 
 judged_store : (Help : Type 0) (does : Text → Asked) (name : Text) (words : List Text) → ArePositional words
-    → IsJudged Help (store_fault name words) (store_asked does words) (option_map does (store_in (rows_at (store_shape name) words).1))
+    → IsJudged Help (store_fault name words) (option_map does (store_asked words)) (option_map does (store_in (rows_at (store_shape name) words).1))
 judged_store Help does name [] p = failed Help _ missing _ (no_store name) (refl, tt)
 judged_store Help does name (w ∷ []) p =
     let pw = both_true (is_positional_word w) _ p in
@@ -335,44 +564,86 @@ judged_store Help does name (w ∷ x ∷ rest) p =
     let px = both_true (is_positional_word x) _ pw.1 in
     inr (inl (fault_first _ _ (subst IsFault (sym (two_stores name w x rest pw.0 px.0)) (refl, tt))), refl)
 
+-- ---- the subcommands
+
 -- the first word is a subcommand, `help`, or a word too many
 abbrev stop_in : Bor (List (Bor Text)) → List Text → Option (Text × List Row)
 stop_in names words = entered (the_app names) (stop_after (the_app names).top.rules (names_of (the_app names)) words)
 
-audit_stop : (names : Bor (List (Bor Text))) (words : List Text) → told_of (stop_in names (codes "audit" ∷ words)) ≡ asked_in (rows_at (audit_shape names) words).1
-unfolding clap_on_literals
-audit_stop names words = ap (λ (w : Walk). told_of (entered (the_app names) w.stopped)) (stopped_walk (the_app names).top.rules (names_of (the_app names)) (codes "audit") [] words)
+module _ (names : Bor (List (Bor Text))) (words : List Text) where
+  abbrev top_walk : Text → Walk
+  top_walk name = fold (walked (the_app names).top.rules (names_of (the_app names))) (stopped_at name []) words
 
-format_stop : (names : Bor (List (Bor Text))) (words : List Text) → told_of (stop_in names (codes "format" ∷ words)) ≡ option_map format (store_in (rows_at (store_shape (codes "format")) words).1)
-unfolding clap_on_literals
-format_stop names words = ap (λ (w : Walk). told_of (entered (the_app names) w.stopped)) (stopped_walk (the_app names).top.rules (names_of (the_app names)) (codes "format") [] words)
+  top_walked : (name : Text) → top_walk name ≡ stopped_at name words
+  top_walked name = stopped_walk (the_app names).top.rules (names_of (the_app names)) name [] words
 
-run_stop : (names : Bor (List (Bor Text))) (words : List Text) → told_of (stop_in names (codes "run" ∷ words)) ≡ option_map run (store_in (rows_at (store_shape (codes "run")) words).1)
-unfolding clap_on_literals
-run_stop names words = ap (λ (w : Walk). told_of (entered (the_app names) w.stopped)) (stopped_walk (the_app names).top.rules (names_of (the_app names)) (codes "run") [] words)
+  top_fault : (name : Text) → walk_fault (the_app names).top (names_of (the_app names)) (stopped_at name []) words ≡ []
+  top_fault name = stopped_fault (the_app names).top (names_of (the_app names)) name [] words
+
+  audit_words_fault : built_fault (the_app names) nothing_held (codes "audit" ∷ words) ≡ paths_fault (codes "audit") names words
+  unfolding clap_on_literals
+  audit_words_fault = rw (top_walked (codes "audit"), top_fault (codes "audit")) (or_else-nil (paths_fault (codes "audit") names words))
+
+  audit_stop : told_of (stop_in names (codes "audit" ∷ words)) ≡ option_map audit (paths_in (rows_at (paths_shape (codes "audit") names) words).1)
+  unfolding clap_on_literals
+  audit_stop = ap (λ (w : Walk). told_of (entered (the_app names) w.stopped)) (top_walked (codes "audit"))
+
+  audits_words_fault : built_fault (the_app names) nothing_held (codes "audits" ∷ words) ≡ audits_fault names words
+  unfolding clap_on_literals
+  audits_words_fault = rw (top_walked (codes "audits"), top_fault (codes "audits")) (or_else-nil (audits_fault names words))
+
+  audits_stop : told_of (stop_in names (codes "audits" ∷ words)) ≡ list_in (rows_at (audits_shape names) words).1
+  unfolding clap_on_literals
+  audits_stop = ap (λ (w : Walk). told_of (entered (the_app names) w.stopped)) (top_walked (codes "audits"))
+
+  solve_words_fault : built_fault (the_app names) nothing_held (codes "solve" ∷ words) ≡ solve_fault names words
+  unfolding clap_on_literals
+  solve_words_fault = rw (top_walked (codes "solve"), top_fault (codes "solve")) (or_else-nil (solve_fault names words))
+
+  solve_stop : told_of (stop_in names (codes "solve" ∷ words)) ≡ option_map solve (task_in (rows_at (solve_shape names) words).1)
+  unfolding clap_on_literals
+  solve_stop = ap (λ (w : Walk). told_of (entered (the_app names) w.stopped)) (top_walked (codes "solve"))
+
+  format_words_fault : built_fault (the_app names) nothing_held (codes "format" ∷ words) ≡ store_fault (codes "format") words
+  unfolding clap_on_literals
+  format_words_fault = rw (top_walked (codes "format"), top_fault (codes "format")) (or_else-nil (store_fault (codes "format") words))
+
+  format_stop : told_of (stop_in names (codes "format" ∷ words)) ≡ option_map format (store_in (rows_at (store_shape (codes "format")) words).1)
+  unfolding clap_on_literals
+  format_stop = ap (λ (w : Walk). told_of (entered (the_app names) w.stopped)) (top_walked (codes "format"))
+
+  run_words_fault : built_fault (the_app names) nothing_held (codes "run" ∷ words) ≡ store_fault (codes "run") words
+  unfolding clap_on_literals
+  run_words_fault = rw (top_walked (codes "run"), top_fault (codes "run")) (or_else-nil (store_fault (codes "run") words))
+
+  run_stop : told_of (stop_in names (codes "run" ∷ words)) ≡ option_map run (store_in (rows_at (store_shape (codes "run")) words).1)
+  unfolding clap_on_literals
+  run_stop = ap (λ (w : Walk). told_of (entered (the_app names) w.stopped)) (top_walked (codes "run"))
 
 help_fault : (names : Bor (List (Bor Text))) (words : List Text) → IsSomeKind (built_fault (the_app names) nothing_held (codes "help" ∷ words))
 unfolding clap_on_literals
 help_fault names words = tt
 
-abbrev four_names : Names
-four_names = (codes "audit", []) ∷ (codes "format", []) ∷ (codes "run", []) ∷ (codes "help", []) ∷ []
+abbrev all_names : Names
+all_names = (codes "audit", []) ∷ (codes "audits", []) ∷ (codes "solve", []) ∷ (codes "format", []) ∷ (codes "run", []) ∷ (codes "help", []) ∷ []
 
 -- the word is no subcommand's name
 record IsOther (w : Text) : Type 0 where
   positional : is_positional_word w ≡ true
   no_audit : bytes_eq (codes "audit") w ≡ false
+  no_audits : bytes_eq (codes "audits") w ≡ false
+  no_solve : bytes_eq (codes "solve") w ≡ false
   no_format : bytes_eq (codes "format") w ≡ false
   no_run : bytes_eq (codes "run") w ≡ false
 
-no_subcommand : (w : Text) → IsOther w → bytes_eq (codes "help") w ≡ false → subcommand_met four_names idle w ≡ None
-no_subcommand w o h = rw (o.no_audit, o.no_format, o.no_run, h) refl
+no_subcommand : (w : Text) → IsOther w → bytes_eq (codes "help") w ≡ false → subcommand_met all_names idle w ≡ None
+no_subcommand w o h = rw (o.no_audit, o.no_audits, o.no_solve, o.no_format, o.no_run, h) refl
 
-turn_fault-stray : (s : Shape) (w : Text) → IsOther w → bytes_eq (codes "help") w ≡ false → turn_fault s four_names (standing nothing_held 1) w ≡ step_fault s 1 nothing_held value
+turn_fault-stray : (s : Shape) (w : Text) → IsOther w → bytes_eq (codes "help") w ≡ false → turn_fault s all_names (standing nothing_held 1) w ≡ step_fault s 1 nothing_held value
 turn_fault-stray s w o h = rw (no_subcommand w o h, word_passes s w nothing_held o.positional, word_is_value s.rules 1 w nothing_held o.positional) refl
 
 stray_first : (names : Bor (List (Bor Text))) (w : Text) (words : List Text) → IsOther w → bytes_eq (codes "help") w ≡ false
-    → IsFault (walk_fault (the_app names).top four_names (walk_from nothing_held) (w ∷ words))
+    → IsFault (walk_fault (the_app names).top all_names (walk_from nothing_held) (w ∷ words))
 unfolding walk_fault
 stray_first names w words o h = fault_first _ _ (subst IsFault (sym (turn_fault-stray (the_app names).top w o h)) (refl, (refl, tt)))
 
@@ -391,55 +662,141 @@ judged_named names Help name w words fault asked told is f t j =
     subst (λ (v : Text). IsJudged Help (built_fault (the_app names) nothing_held (v ∷ words)) asked (told_of (stop_in names (v ∷ words)))) is
     (subst (λ x. IsJudged Help x asked (told_of (stop_in names (name ∷ words)))) (sym f) (subst (λ x. IsJudged Help fault asked x) (sym t) j))
 
-judged_first : (names : Bor (List (Bor Text))) (w : Text) (words : List Text) (is_audit is_format is_run : Bool) → bytes_eq (codes "audit") w ≡ is_audit → bytes_eq (codes "format") w ≡ is_format
-    → bytes_eq (codes "run") w ≡ is_run → IsKindNames names → ArePositional (w ∷ words)
+judged_first : (names : Bor (List (Bor Text))) (w : Text) (words : List Text) (is_audit is_audits is_solve is_format is_run : Bool)
+    → bytes_eq (codes "audit") w ≡ is_audit → bytes_eq (codes "audits") w ≡ is_audits → bytes_eq (codes "solve") w ≡ is_solve → bytes_eq (codes "format") w ≡ is_format → bytes_eq (codes "run") w ≡ is_run
+    → IsKindNames names → ArePositional (w ∷ words)
     → IsJudged (asks_help (w ∷ words) ≡ true) (built_fault (the_app names) nothing_held (w ∷ words))
-    (if is_audit then audit_asked words else (if is_format then store_asked format words else (if is_run then store_asked run words else None))) (told_of (stop_in names (w ∷ words)))
-judged_first names w words true is_format is_run a f r kinds p =
-    judged_named names _ (codes "audit") w words _ _ _ ((bytes_eq-Decides (codes "audit") w).0 a) (audit_words_fault names words) (audit_stop names words)
-    (judged_audit _ names words kinds (both_true _ _ p).1)
-judged_first names w words false true is_run a f r kinds p =
-    judged_named names _ (codes "format") w words _ _ _ ((bytes_eq-Decides (codes "format") w).0 f) (format_words_fault names words) (format_stop names words)
-    (judged_store _ format (codes "format") words (both_true _ _ p).1)
-judged_first names w words false false true a f r kinds p =
-    judged_named names _ (codes "run") w words _ _ _ ((bytes_eq-Decides (codes "run") w).0 r) (run_words_fault names words) (run_stop names words)
-    (judged_store _ run (codes "run") words (both_true _ _ p).1)
-judged_first names w words false false false a f r kinds p =
-    inr (judged_other names w words (bytes_eq (codes "help") w) refl (record { positional = (both_true _ _ p).0; no_audit = a; no_format = f; no_run = r }), refl)
+    (if is_audit then option_map audit (paths_asked words) else (if is_audits then list_asked words else (if is_solve then option_map solve (task_asked words) else (if is_format then option_map format (store_asked words) else (if is_run then option_map run (store_asked words) else None))))) (told_of (stop_in names (w ∷ words)))
+judged_first names w words true is_audits is_solve is_format is_run e1 e2 e3 e4 e5 kinds p =
+    let rest = (both_true _ _ p).1 in
+    judged_named names _ (codes "audit") w words _ _ _ ((bytes_eq-Decides (codes "audit") w).0 e1) (audit_words_fault names words) (audit_stop names words)
+    (judged_paths _ audit (codes "audit") names words kinds rest)
+judged_first names w words false true is_solve is_format is_run e1 e2 e3 e4 e5 kinds p =
+    let rest = (both_true _ _ p).1 in
+    judged_named names _ (codes "audits") w words _ _ _ ((bytes_eq-Decides (codes "audits") w).0 e2) (audits_words_fault names words) (audits_stop names words)
+    (judged_list _ names words kinds rest)
+judged_first names w words false false true is_format is_run e1 e2 e3 e4 e5 kinds p =
+    let rest = (both_true _ _ p).1 in
+    judged_named names _ (codes "solve") w words _ _ _ ((bytes_eq-Decides (codes "solve") w).0 e3) (solve_words_fault names words) (solve_stop names words)
+    (judged_task _ names words kinds rest)
+judged_first names w words false false false true is_run e1 e2 e3 e4 e5 kinds p =
+    let rest = (both_true _ _ p).1 in
+    judged_named names _ (codes "format") w words _ _ _ ((bytes_eq-Decides (codes "format") w).0 e4) (format_words_fault names words) (format_stop names words)
+    (judged_store _ format (codes "format") words rest)
+judged_first names w words false false false false true e1 e2 e3 e4 e5 kinds p =
+    let rest = (both_true _ _ p).1 in
+    judged_named names _ (codes "run") w words _ _ _ ((bytes_eq-Decides (codes "run") w).0 e5) (run_words_fault names words) (run_stop names words)
+    (judged_store _ run (codes "run") words rest)
+judged_first names w words false false false false false e1 e2 e3 e4 e5 kinds p =
+    inr (
+      judged_other names w words (bytes_eq (codes "help") w) refl (record {
+        positional = (both_true _ _ p).0;
+        no_audit = e1;
+        no_audits = e2;
+        no_solve = e3;
+        no_format = e4;
+        no_run = e5;
+      }),
+      refl,
+    )
 
 -- the parse of words that do not begin with a hyphen
 pub judged_words : (names : Bor (List (Bor Text))) (words : List Text) → IsKindNames names → ArePositional words
     → IsJudged (asks_help words ≡ true) (built_fault (the_app names) nothing_held words) (asked_by words) (told_of (stop_in names words))
 judged_words names [] kinds p = inl (no_words names, refl)
-judged_words names (w ∷ words) kinds p = judged_first names w words (bytes_eq (codes "audit") w) (bytes_eq (codes "format") w) (bytes_eq (codes "run") w) refl refl refl kinds p
+judged_words names (w ∷ words) kinds p =
+    judged_first names w words (bytes_eq (codes "audit") w) (bytes_eq (codes "audits") w) (bytes_eq (codes "solve") w) (bytes_eq (codes "format") w) (bytes_eq (codes "run") w)
+    refl refl refl refl refl kinds p
 
--- ---- the values of `audit`
+-- ---- the values of words
 
 pub value_is : (f : Found) (id : Text) (o : Option Text) → o ≡ first_value f id → first_of id (rows_of f) ≡ o
 value_is f id o e = sym (e ∙ first_value-rows f id)
 
-unnamed_kind : (k : Text) (i s : Option Text) → kind_named k ≡ None → asked_from (Some k) i s ≡ None
+unnamed_kind : (k : Text) (i s : Option Text) → kind_named k ≡ None → paths_from (Some k) i s ≡ None
 unnamed_kind k None s e = refl
 unnamed_kind k (Some i) None e = refl
 unnamed_kind k (Some i) (Some s) e = rw e refl
 
-pub three_found : (f : Found) (k i s : Text) (kind : Kind) → Some k ≡ first_value f (codes "KIND") → Some i ≡ first_value f (codes "INSTANCE") → Some s ≡ first_value f (codes "SOLUTION")
-    → Some kind ≡ kind_named k → Some (audit kind i s) ≡ asked_in (rows_of f)
-three_found f k i s kind ek ei es named =
-    let named' : kind_named k ≡ Some kind = sym named in
-    rw (value_is f (codes "KIND") (Some k) ek, value_is f (codes "INSTANCE") (Some i) ei, value_is f (codes "SOLUTION") (Some s) es, named') refl
+module _ (f : Found) where
+  pub three_found : (k i s : Text) (kind : Kind) → Some k ≡ first_value f (codes "KIND") → Some i ≡ first_value f (codes "INSTANCE") → Some s ≡ first_value f (codes "SOLUTION") → Some kind ≡ kind_named k
+      → Some (record { kind = kind; instance = i; solution = s }) ≡ paths_in (rows_of f)
+  three_found k i s kind ek ei es named =
+      let named' : kind_named k ≡ Some kind = sym named in
+      rw (value_is f (codes "KIND") (Some k) ek, value_is f (codes "INSTANCE") (Some i) ei, value_is f (codes "SOLUTION") (Some s) es, named') refl
 
-pub no_kind_word : (f : Found) → None ≡ first_value f (codes "KIND") → None ≡ asked_in (rows_of f)
-no_kind_word f ek = rw (value_is f (codes "KIND") None ek) refl
+  pub no_kind_word : None ≡ first_value f (codes "KIND") → None ≡ paths_in (rows_of f)
+  no_kind_word ek = rw (value_is f (codes "KIND") None ek) refl
 
-pub no_kind : (f : Found) (k : Text) → Some k ≡ first_value f (codes "KIND") → None ≡ kind_named k → None ≡ asked_in (rows_of f)
-no_kind f k ek unnamed = sym (rw (value_is f (codes "KIND") (Some k) ek) (unnamed_kind k _ _ (sym unnamed)))
+  pub no_kind : (k : Text) → Some k ≡ first_value f (codes "KIND") → None ≡ kind_named k → None ≡ paths_in (rows_of f)
+  no_kind k ek unnamed = sym (rw (value_is f (codes "KIND") (Some k) ek) (unnamed_kind k _ _ (sym unnamed)))
 
-pub no_instance : (f : Found) (k : Text) → Some k ≡ first_value f (codes "KIND") → None ≡ first_value f (codes "INSTANCE") → None ≡ asked_in (rows_of f)
-no_instance f k ek ei = rw (value_is f (codes "KIND") (Some k) ek, value_is f (codes "INSTANCE") None ei) refl
+  pub no_instance : (k : Text) → Some k ≡ first_value f (codes "KIND") → None ≡ first_value f (codes "INSTANCE") → None ≡ paths_in (rows_of f)
+  no_instance k ek ei = rw (value_is f (codes "KIND") (Some k) ek, value_is f (codes "INSTANCE") None ei) refl
 
-pub no_solution : (f : Found) (k i : Text) → Some k ≡ first_value f (codes "KIND") → Some i ≡ first_value f (codes "INSTANCE") → None ≡ first_value f (codes "SOLUTION") → None ≡ asked_in (rows_of f)
-no_solution f k i ek ei es = rw (value_is f (codes "KIND") (Some k) ek, value_is f (codes "INSTANCE") (Some i) ei, value_is f (codes "SOLUTION") None es) refl
+  pub no_solution : (k i : Text) → Some k ≡ first_value f (codes "KIND") → Some i ≡ first_value f (codes "INSTANCE") → None ≡ first_value f (codes "SOLUTION") → None ≡ paths_in (rows_of f)
+  no_solution k i ek ei es = rw (value_is f (codes "KIND") (Some k) ek, value_is f (codes "INSTANCE") (Some i) ei, value_is f (codes "SOLUTION") None es) refl
+
+  -- of `audits`
+  unnamed_list : (k : Text) (l : Option Text) → kind_named k ≡ None → list_from (Some k) l ≡ None
+  unnamed_list k None e = refl
+  unnamed_list k (Some l) e = rw e refl
+
+  pub no_list_kind : None ≡ first_value f (codes "KIND") → None ≡ list_in (rows_of f)
+  no_list_kind ek = rw (value_is f (codes "KIND") None ek) refl
+
+  pub no_kind_of_list : (k : Text) → Some k ≡ first_value f (codes "KIND") → None ≡ kind_named k → None ≡ list_in (rows_of f)
+  no_kind_of_list k ek unnamed = sym (rw (value_is f (codes "KIND") (Some k) ek) (unnamed_list k _ (sym unnamed)))
+
+  pub no_list_path : (k : Text) → Some k ≡ first_value f (codes "KIND") → None ≡ first_value f (codes "LIST") → None ≡ list_in (rows_of f)
+  no_list_path k ek el = rw (value_is f (codes "KIND") (Some k) ek, value_is f (codes "LIST") None el) refl
+
+  pub list_found : (k l : Text) (kind : Kind) → Some k ≡ first_value f (codes "KIND") → Some l ≡ first_value f (codes "LIST") → Some kind ≡ kind_named k → Some (audits kind l) ≡ list_in (rows_of f)
+  list_found k l kind ek el named =
+      let named' : kind_named k ≡ Some kind = sym named in
+      rw (value_is f (codes "KIND") (Some k) ek, value_is f (codes "LIST") (Some l) el, named') refl
+
+  -- of `solve`
+  abbrev IsValue : Text → Option Text → Type 0
+  IsValue id o = o ≡ first_value f id
+
+  pub task_is : (k i n : Option Text) → IsValue (codes "KIND") k → IsValue (codes "INSTANCE") i → IsValue (codes "STEPS") n → task_in (rows_of f) ≡ task_with k i n (first_of (codes "SEED") (rows_of f))
+  task_is k i n ek ei en = rw (value_is f (codes "KIND") k ek, value_is f (codes "INSTANCE") i ei, value_is f (codes "STEPS") n en) refl
+
+-- words that ask for no task
+pub no_task_kind : (i n s : Option Text) → task_with None i n s ≡ None
+no_task_kind i n s = refl
+
+pub no_kind_of_task : (k : Text) (i n s : Option Text) → kind_named k ≡ None → task_with (Some k) i n s ≡ None
+no_kind_of_task k None n s e = refl
+no_kind_of_task k (Some i) None s e = refl
+no_kind_of_task k (Some i) (Some n) s e = ap (λ o. task_from o i (steps_named n) (seed_or_none s)) e
+
+pub no_task_instance : (k : Text) (n s : Option Text) → task_with (Some k) None n s ≡ None
+no_task_instance k n s = refl
+
+pub no_task_steps : (k i : Text) (s : Option Text) → task_with (Some k) (Some i) None s ≡ None
+no_task_steps k i s = refl
+
+no_steps_from : (o : Option Kind) (i : Text) (s : Option ℕ) → task_from o i None s ≡ None
+no_steps_from None i s = refl
+no_steps_from (Some k) i s = refl
+
+pub bad_steps : (k i n : Text) (s : Option Text) → steps_named n ≡ None → task_with (Some k) (Some i) (Some n) s ≡ None
+bad_steps k i n s e = ap (λ o. task_from (kind_named k) i o (seed_or_none s)) e ∙ no_steps_from (kind_named k) i (seed_or_none s)
+
+no_seed_from : (o : Option Kind) (i : Text) (n : Option ℕ) → task_from o i n None ≡ None
+no_seed_from None i n = refl
+no_seed_from (Some k) i None = refl
+no_seed_from (Some k) i (Some n) = refl
+
+pub bad_seed : (k i n : Text) (s : Option Text) → seed_or_none s ≡ None → task_with (Some k) (Some i) (Some n) s ≡ None
+bad_seed k i n s e = ap (λ o. task_from (kind_named k) i (steps_named n) o) e ∙ no_seed_from (kind_named k) i (steps_named n)
+
+pub task_found : (k i n : Text) (s : Option Text) (kind : Kind) (steps seed : ℕ) → kind_named k ≡ Some kind → steps_named n ≡ Some steps → seed_or_none s ≡ Some seed
+    → task_with (Some k) (Some i) (Some n) s ≡ Some (record { kind = kind; instance = i; steps = steps; seed = seed })
+task_found k i n s kind steps seed ek en es =
+    ap (λ o. task_from o i (steps_named n) (seed_or_none s)) ek ∙ (ap (λ o. task_from (Some kind) i o (seed_or_none s)) en ∙ ap (λ o. task_from (Some kind) i (Some steps) o) es)
 
 -- ---- the parse
 

@@ -6,3 +6,4 @@ pub mod ReplyLemmas
 pub mod ServingLemmas
 pub mod SpelledLemmas
 pub mod StreamLemmas
+pub mod TellLemmas

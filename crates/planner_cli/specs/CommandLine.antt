@@ -1,8 +1,9 @@
 -- The command of the program, as its parser sees it.
 use Rattle.std.specs.Prelude.{◌≡◌, List, [], ◌∷◌, codes, Some, true, false, map}
 use Rattle.std.specs.Borrow.{Bor}
-use Rattle.clap.specs.Words.{App, Rule, Text, app_of, new_app, new_rule, with_rule, with_subcommand}
+use Rattle.clap.specs.Words.{App, Rule, Text, app_of, new_app, new_rule, rule_of, with_rule, with_subcommand}
 use Rattle.clap.specs.Simple.{on_top}
+use Rattle.clap.specs.declared.builder.Arg.{Arg}
 use Rattle.clap.specs.declared.builder.Command.{Command}
 use Rattle.clap.specs.declared.builder.Command.TheViews.{out-Command}
 use Rattle.clap.specs.declared.builder.value_parser.ValueParser.TheVariants.{Names}
@@ -14,9 +15,22 @@ word_rule id = record (new_rule id) { required = true }
 abbrev pub kind_rule : Bor (List (Bor Text)) → Rule
 kind_rule names = record (word_rule (codes "KIND")) { parser = Some (Names names) }
 
--- `audit KIND INSTANCE SOLUTION`, where KIND is one of the names
-abbrev pub audit_app : Bor (List (Bor Text)) → App
-audit_app names = with_rule (with_rule (with_rule (new_app (codes "audit")) (kind_rule names)) (word_rule (codes "INSTANCE"))) (word_rule (codes "SOLUTION"))
+-- A command of this name whose first word is KIND, one of the names.
+abbrev pub kind_app : Text → Bor (List (Bor Text)) → App
+kind_app name names = with_rule (new_app name) (kind_rule names)
+
+-- `KIND INSTANCE SOLUTION`
+abbrev pub paths_app : Text → Bor (List (Bor Text)) → App
+paths_app name names = with_rule (with_rule (kind_app name names) (word_rule (codes "INSTANCE"))) (word_rule (codes "SOLUTION"))
+
+-- `audits KIND LIST`
+abbrev pub audits_app : Bor (List (Bor Text)) → App
+audits_app names = with_rule (kind_app (codes "audits") names) (word_rule (codes "LIST"))
+
+-- `solve KIND INSTANCE STEPS [SEED]`
+abbrev pub solve_app : Bor (List (Bor Text)) → App
+solve_app names =
+    with_rule (with_rule (with_rule (kind_app (codes "solve") names) (word_rule (codes "INSTANCE"))) (word_rule (codes "STEPS"))) (new_rule (codes "SEED"))
 
 -- a command of this name with the word `STORE`
 abbrev pub store_app : Text → App
@@ -28,7 +42,11 @@ versioned_app name = on_top (λ s. record s { has_version = true }) (new_app nam
 
 -- one level of subcommands
 abbrev pub planner_app : Bor (List (Bor Text)) → App
-planner_app names = with_subcommand (with_subcommand (with_subcommand (versioned_app (codes "planner")) (audit_app names).top) (store_app (codes "format")).top) (store_app (codes "run")).top
+planner_app names =
+    let audit = with_subcommand (versioned_app (codes "planner")) (paths_app (codes "audit") names).top in
+    let audits = with_subcommand audit (audits_app names).top in
+    let solve = with_subcommand audits (solve_app names).top in
+    with_subcommand (with_subcommand solve (store_app (codes "format")).top) (store_app (codes "run")).top
 
 abbrev pub kind_words : List Text
 kind_words = codes "lilim" ∷ codes "vrp" ∷ []
@@ -36,16 +54,15 @@ kind_words = codes "lilim" ∷ codes "vrp" ∷ []
 abbrev pub IsKindNames : Bor (List (Bor Text)) → Type 0
 IsKindNames names = map (λ name. name.now) names.now ≡ kind_words
 
--- the command is this one
-pub record IsAuditCommand (command : Command) : Type 0 where
-  pub names : Bor (List (Bor Text))
-  pub kinds : IsKindNames names
-  pub app : app_of command ≡ audit_app names
-  pub globals : (out-Command command).has_globals ≡ false
+-- the argument is this word, and of this command alone
+pub record IsWord (r : Rule) (arg : Arg) : Type 0 where
+  pub rule : rule_of arg ≡ r
+  pub local : arg.global ≡ false
 
-pub record IsStoreCommand (name : Text) (command : Command) : Type 0 where
-  pub app : app_of command ≡ store_app name
-  pub globals : (out-Command command).has_globals ≡ false
+-- the command is this one, with no subcommand
+pub record IsLeafCommand (a : App) (command : Command) : Type 0 where
+  pub app : app_of command ≡ a
+  pub local : (out-Command command).has_globals ≡ false
 
 pub record IsPlannerCommand (command : Command) : Type 0 where
   pub names : Bor (List (Bor Text))

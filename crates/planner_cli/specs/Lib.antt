@@ -6,6 +6,10 @@ pub mod Served
 pub mod Streams
 -- of private functions alone
 pub mod CommandLine
+pub mod Examined
+pub mod Files
+pub mod Listed
+pub mod Solving
 pub mod Telling
 pub mod Input
 pub mod Serving

@@ -1,16 +1,16 @@
 //! The audit of two texts.
-ghost use Rattle.std.specs.Prelude.{◌≡◌, ◌≢◌, ◌≤◌, IfErr, IfOk, codes};
-ghost use Rattle.instance_read.specs.Names as instance_names;
-ghost use Rattle.sol_text.specs.Names as solution_names;
+ghost use Rattle.std.specs.Prelude.{◌≡◌, ◌≢◌, ◌≤◌, IfErr, IfOk};
 ghost use Rattle.instance_read.specs.Faults.{Tells};
 ghost use Rattle.planner_cli.specs.Answer.{InstanceFault, IsAnswer, JudgesSpelled, SaysSound, SpellsInstance, refused_answer, verdict_answer};
+ghost use Rattle.planner_cli.specs.Examined.{IsExamined, answer_of};
+ghost use Rattle.planner_cli.specs.declared.audit.Examined.TheVariants.{BadInstance, BadSolution};
 
 use crate::answer::{AuditAnswer, broken_line, fault_line, pass_line};
 use crate::status::{BROKEN, DONE, REFUSED};
 use instance_read::{ReadFault, ReadFaultKind, read_lilim, read_vrp};
 use plan_audit::{Verdict, audit_solution, solutions_pass_where_they_are_sound};
 use plan_types::{Kind, OutOfMemory, Problem};
-use sol_text::{SolFault, SolFaultKind, read_sol};
+use sol_text::{SolFault, SolFaultKind, Solution, read_sol};
 use std::alloc::{AllocError, Global};
 
 /// Audits a solution's text against an instance's text.
@@ -43,16 +43,40 @@ fn audit_both(
     ensures answer { IfOk result (IsAnswer kind instance.now solution.now) }
     ensures status { IfOk result (λ answer. answer.status ≤ 2) }
 {
+    let examined = examine(alloc, kind, instance, solution)?;
+    answer_of(alloc, &examined)
+}
+
+/// What an instance's text and a solution's text are.
+#[derive(Debug, Drop)]
+pub(crate) enum Examined {
+    /// The instance's text is refused.
+    BadInstance(ReadFault),
+    /// The solution's text is refused.
+    BadSolution(SolFault),
+    /// Both spell a value, on which this is the verdict.
+    Judged(Problem, Solution, Verdict),
+}
+
+/// Reads both texts, the instance first, and audits the solution.
+pub(crate) fn examine(
+    alloc: Global,
+    kind: Kind,
+    instance: &[u8],
+    solution: &[u8],
+) -> Result<Examined, OutOfMemory>
+    ensures { IfOk result (IsExamined kind instance.now solution.now) }
+{
     let problem = match read_instance(alloc, kind, instance) {
         Ok(problem) => problem,
-        Err(fault) => return instance_refused(alloc, fault),
+        Err(fault) => return bad_instance(fault),
     };
     let solution = match read_sol(alloc, solution) {
         Ok(solution) => solution,
-        Err(fault) => return solution_refused(alloc, fault),
+        Err(fault) => return bad_solution(fault),
     };
     let verdict = audit_solution(alloc, &problem, &solution)?;
-    verdict_told(alloc, verdict)
+    Ok(Examined::Judged(problem, solution, verdict))
 }
 
 fn read_instance(alloc: Global, kind: Kind, text: &[u8]) -> Result<Problem, ReadFault>
@@ -65,25 +89,34 @@ fn read_instance(alloc: Global, kind: Kind, text: &[u8]) -> Result<Problem, Read
     }
 }
 
-fn instance_refused(alloc: Global, fault: ReadFault) -> Result<AuditAnswer, OutOfMemory>
-    ensures memory { IfOk result (λ _. fault.kind ≢ ReadFaultKind.OutOfMemory) }
-    ensures answer { let name = instance_names.kind_name fault.kind in IfOk result (λ answer.
-        answer ≡ refused_answer (codes "instance") name fault.line) }
+fn bad_instance(fault: ReadFault) -> Result<Examined, OutOfMemory>
+    ensures { IfOk result (λ examined. (fault.kind ≢ ReadFaultKind.OutOfMemory)
+        × (examined ≡ BadInstance fault)) }
 {
     match fault.kind {
         ReadFaultKind::OutOfMemory => Err(AllocError),
-        _ => refused(alloc, "instance", fault.name(), fault.line),
+        _ => Ok(Examined::BadInstance(fault)),
     }
 }
 
-fn solution_refused(alloc: Global, fault: SolFault) -> Result<AuditAnswer, OutOfMemory>
-    ensures memory { IfOk result (λ _. fault.kind ≢ SolFaultKind.OutOfMemory) }
-    ensures answer { let name = solution_names.kind_name fault.kind in IfOk result (λ answer.
-        answer ≡ refused_answer (codes "solution") name fault.line) }
+fn bad_solution(fault: SolFault) -> Result<Examined, OutOfMemory>
+    ensures { IfOk result (λ examined. (fault.kind ≢ SolFaultKind.OutOfMemory)
+        × (examined ≡ BadSolution fault)) }
 {
     match fault.kind {
         SolFaultKind::OutOfMemory => Err(AllocError),
-        _ => refused(alloc, "solution", fault.name(), fault.line),
+        _ => Ok(Examined::BadSolution(fault)),
+    }
+}
+
+/// What is told of them.
+pub(crate) fn answer_of(alloc: Global, examined: &Examined) -> Result<AuditAnswer, OutOfMemory>
+    ensures { IfOk result (λ answer. answer ≡ answer_of examined.now) }
+{
+    match examined {
+        Examined::BadInstance(fault) => refused(alloc, "instance", fault.name(), fault.line),
+        Examined::BadSolution(fault) => refused(alloc, "solution", fault.name(), fault.line),
+        Examined::Judged(_, _, verdict) => verdict_told(alloc, *verdict),
     }
 }
 

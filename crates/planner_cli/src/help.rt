@@ -3,17 +3,20 @@
 pub(crate) const VERSION: &str = "0.1.0";
 
 pub(crate) const ABOUT: &str =
-    "Plans pickup and delivery routing and capacitated routing over a store that outlasts a stop, and audits plans. \
+    "Plans pickup and delivery routing and capacitated routing, over a store that outlasts a stop or at once, and audits plans. \
     Without words it audits a built-in example.";
 
 pub(crate) const STATUSES: &str =
     "Each answer is a line on standard output. The status says how the program ended:\n  \
     0   done; of an audit: the solution keeps all rules\n  \
-    1   the solution breaks a rule\n  \
+    1   the solution breaks a rule, or requests stay unplanned\n  \
     2   a text or a store is refused\n  \
     3   a file or a device failed, or an answer could not be written\n  \
     4   there was no memory\n  \
     64  the words ask for nothing that planner does";
+
+pub(crate) const AUDIT_ABOUT: &str =
+    "Says whether a solution keeps the rules, and the first rule that it breaks";
 
 pub(crate) const AUDIT_ANSWERS: &str = "It prints one line:\n  \
     pass UNPLANNED VEHICLES DISTANCE    the solution keeps all rules (status 0)\n  \
@@ -53,3 +56,24 @@ pub(crate) const RUN_ANSWERS: &str =
     A search tells `at STEPS UNPLANNED VEHICLES DISTANCE` before that, piece by piece: no stop loses these steps.\n\n\
     Where the store can't be opened, it prints `store NAME` or `cannot read PATH` alone (status 2, 3 or 4).\n\
     Status 0 says that the input was served, whatever the answers.";
+
+pub(crate) const AUDITS_ABOUT: &str = "Audits a list of solutions";
+
+pub(crate) const AUDITS_ANSWERS: &str =
+    "Each line of the list is the path of an instance and of a solution, with a tab between them.\n\
+    LIST may be - for standard input. For each line it prints one:\n  \
+    INSTANCE  SOLUTION  ANSWER    with tabs between them; ANSWER is the line of `audit`\n  \
+    bad line                      it is no two paths (status 2)\n\n\
+    The status is the greatest of `audit` over the lines.";
+
+pub(crate) const SOLVE_ABOUT: &str = "Finds a solution of an instance";
+
+pub(crate) const SOLVE_ANSWERS: &str =
+    "It builds a plan, searches for a better one, and prints the text of the solution (status 0).\n\
+    On standard error it prints:\n  \
+    at STEPS UNPLANNED VEHICLES DISTANCE    how far it is, at the start and at each twentieth of the steps\n  \
+    unplanned N                             no solution: so many requests are in no route (status 1)\n  \
+    instance NAME LINE                      the first fault of the instance's text (status 2)\n  \
+    cannot read PATH                        the file can't be read (status 3)\n  \
+    out of memory                           (status 4)\n\n\
+    The same words print the same text, whatever the machine.";

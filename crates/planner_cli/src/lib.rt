@@ -5,9 +5,12 @@ mod ahead;
 mod answer;
 mod answering;
 mod audit;
+mod audited;
 mod help;
 mod input;
+mod listed;
 mod program;
+mod solved;
 pub mod status;
 mod stores;
 mod streams;
@@ -19,7 +22,7 @@ pub use answering::{ServeFault, serve};
 pub use audit::audit_text;
 pub use program::run_words;
 pub use streams::{Failed, Sink, Source, Watched};
-pub use words::{Invocation, read_words};
+pub use words::{Invocation, Paths, Task, read_words};
 
 #[cfg(test)]
 mod tests;

@@ -1,16 +1,18 @@
 //! What the program does with its words: files are read, answers are printed.
-ghost use Rattle.std.specs.Prelude.{◌≡◌, ◌≤◌, IfOk, IsSome, MatchResult, false, drop, map};
+ghost use Rattle.std.specs.Prelude.{◌≡◌, ◌≤◌, IfOk, IsSome, false, drop, map};
 ghost use Rattle.clap.specs.Words.{kind_of};
 ghost use Rattle.planner_cli.specs.Asked.{ArePositional, IsUsageStatus, asked_by, asks_help, usage_status_of};
-ghost use Rattle.std.specs.IoError.{error_kind};
 ghost use Rattle.plan_types.specs.declared.requests.Kind.TheVariants.{LiLim};
-ghost use Rattle.planner_cli.specs.Telling.{TellsAudit, TellsUnread, example_instance, example_solution, is_usage_printed};
+ghost use Rattle.planner_cli.specs.Telling.{TellsAudit, example_instance, example_solution, is_usage_printed};
 
 use crate::audit::audit_text;
+use crate::audited::audit_read;
+use crate::listed::audits_read;
+use crate::solved::solve_read;
 use crate::status::{DONE, OUT_OF_MEMORY, USAGE};
 use crate::stores::{format_store, run_store};
-use crate::telling::{status_of, tell_audit, tell_unread};
-use crate::words::{Invocation, read_words};
+use crate::telling::{status_of, tell_audit};
+use crate::words::{Invocation, Paths, Task, read_words};
 use clap::Error;
 use clap::error::ErrorKind;
 use plan_types::Kind;
@@ -29,8 +31,14 @@ const EXAMPLE_INSTANCE: &str =
 const EXAMPLE_SOLUTION: &str = "Route #1: 1 2\nCost 20\n";
 
 /// Does what the words of the command line ask for, the program's name first, and gives the status to end with.
-/// Where an answer cannot be printed, that is `FILE`. `start` stands for what the store's file is as it is opened.
-pub fn run_words<R, T: Start, S: AsStr>(rt: &R, start: T, words: &[S]) -> u8
+/// Where an answer cannot be printed, that is `FILE`. `start` stands for what the store's file is as it is opened, `errors` is standard
+/// error.
+pub fn run_words<R, T: Start, E: Write, S: AsStr>(
+    rt: &R,
+    start: T,
+    errors: &mut E,
+    words: &[S],
+) -> u8
 where
     R: Files<File = File> + Input + Print + Eprint + AllocGlobal,
     ensures does { let asked = drop 1 (map S.text words.now) in
@@ -40,12 +48,12 @@ where
         → IsUsageStatus result }
 {
     match read_words(rt.alloc(), words) {
-        Ok(invocation) => do_asked(rt, start, invocation),
+        Ok(invocation) => do_asked(rt, start, errors, invocation),
         Err(error) => status_of(tell_usage(rt, &error)),
     }
 }
 
-fn do_asked<R, T: Start>(rt: &R, start: T, invocation: Invocation) -> u8
+fn do_asked<R, T: Start, E: Write>(rt: &R, start: T, errors: &mut E, invocation: Invocation) -> u8
 where
     R: Files<File = File> + Input + Print + Eprint + AllocGlobal,
     ensures { result ≤ 4 }
@@ -53,11 +61,9 @@ where
     let mut output = io::writer(rt);
     status_of(match invocation {
         Invocation::BuiltIn => audit_example(rt.alloc(), &mut output),
-        Invocation::Audit {
-            kind,
-            instance,
-            solution,
-        } => audit_files(rt, kind, instance, solution, &mut output),
+        Invocation::Audit(paths) => audit_files(rt, paths, &mut output),
+        Invocation::Audits { kind, list } => audit_list(rt, kind, list, &mut output),
+        Invocation::Solve(task) => solve_file(rt, task, &mut output, errors),
         Invocation::Format { store } => format_store(rt, start, store, &mut output),
         Invocation::Run { store } => run_store(rt, start, store, &mut rt.reader(), &mut output),
     })
@@ -107,19 +113,38 @@ fn audit_example<W: Write>(alloc: Global, output: &mut W) -> io::Result<u8>
 }
 
 /// Audits two files.
-fn audit_files<R, W: Write>(
+fn audit_files<R, W: Write>(rt: &R, paths: Paths, output: &mut W) -> io::Result<u8>
+where
+    R: Files + Eprint + AllocGlobal,
+    ensures { IfOk result (λ status. status ≤ 4) }
+{
+    let read = |path: &str| read_file(rt, path);
+    audit_read(rt.alloc(), paths, &read, output)
+}
+
+/// Audits the pairs of files that a list names.
+fn audit_list<R, W: Write>(rt: &R, kind: Kind, list: &str, output: &mut W) -> io::Result<u8>
+where
+    R: Files + Eprint + AllocGlobal,
+    ensures { IfOk result (λ status. status ≤ 4) }
+{
+    let read = |path: &str| read_file(rt, path);
+    audits_read(rt.alloc(), kind, list, &read, output)
+}
+
+/// Solves the instance in a file.
+fn solve_file<R, W: Write, E: Write>(
     rt: &R,
-    kind: Kind,
-    instance: &str,
-    solution: &str,
+    task: Task,
     output: &mut W,
+    errors: &mut E,
 ) -> io::Result<u8>
 where
     R: Files + Eprint + AllocGlobal,
     ensures { IfOk result (λ status. status ≤ 4) }
 {
     let read = |path: &str| read_file(rt, path);
-    audit_read(rt.alloc(), kind, instance, solution, read, output)
+    solve_read(rt.alloc(), task, &read, output, errors)
 }
 
 /// Reads a file. Why it can't be read is told on standard error, in the system's words.
@@ -129,35 +154,4 @@ fn read_file<R: Files + Eprint + AllocGlobal>(rt: &R, path: &str) -> io::Result<
         let _ = eprintln!(rt; "planner: {path}: {error}");
     }
     text
-}
-
-/// Reads the whole of both texts before it looks into either, and tells what comes of their audit.
-fn audit_read<F, W: Write>(
-    alloc: Global,
-    kind: Kind,
-    instance: &str,
-    solution: &str,
-    read: F,
-    output: &mut W,
-) -> io::Result<u8>
-where
-    F: Fn(&str) -> io::Result<Vec<u8>> + Drop,
-    requires { F.IsAlwaysCallable read }
-    ensures status { IfOk result (λ status. status ≤ 4) }
-    ensures told { let before = W.contents output.old in let after = W.contents output.new in
-        IfOk result (λ status. (first : _) × F.post read instance.entry first × MatchResult first
-        (λ x. (second : _) × F.post read solution.entry second × MatchResult second
-        (λ y. TellsAudit kind x.items y.items before after status)
-        (λ error. TellsUnread solution.entry.now (error_kind error) before after status))
-        (λ error. TellsUnread instance.entry.now (error_kind error) before after status)) }
-{
-    let instance = match read(instance) {
-        Ok(text) => text,
-        Err(error) => return tell_unread(output, instance, error.kind()),
-    };
-    let solution = match read(solution) {
-        Ok(text) => text,
-        Err(error) => return tell_unread(output, solution, error.kind()),
-    };
-    tell_audit(output, &audit_text(alloc, kind, &instance, &solution))
 }

@@ -1,6 +1,6 @@
 ghost use Rattle.std.specs.Prelude.{◌≤◌};
 
-use crate::{Invocation, audit_text, read_words};
+use crate::{Invocation, Paths, Task, audit_text, read_words};
 use clap::error::ErrorKind;
 use plan_types::Kind;
 use std::alloc::{AllocError, Global};
@@ -190,15 +190,36 @@ fn reads_words(rt: HostRuntime) -> Result<(), Fail> {
     assert!(rt; matches!(none, Invocation::BuiltIn));
 
     let words = ["planner", "audit", "vrp", "a b.vrp", "c.sol"];
-    let Invocation::Audit {
-        kind,
-        instance,
-        solution,
-    } = read_words(rt.alloc(), words.as_slice())?
+    let Invocation::Audit(
+        Paths {
+            kind,
+            instance,
+            solution,
+        },
+    ) = read_words(rt.alloc(), words.as_slice())?
     else {
         return Err(Fail::from("not read as an audit"));
     };
     assert!(rt; kind == Kind::Vrp && instance == "a b.vrp" && solution == "c.sol");
+
+    let words = ["planner", "solve", "lilim", "a.txt", "1000000000", "7"];
+    let Invocation::Solve(
+        Task {
+            instance,
+            steps,
+            seed,
+            ..
+        },
+    ) = read_words(rt.alloc(), words.as_slice())?
+    else {
+        return Err(Fail::from("not read as a solving"));
+    };
+    assert!(rt; instance == "a.txt" && steps == 1_000_000_000 && seed == 7);
+    let words = ["planner", "audits", "vrp", "-"];
+    let Invocation::Audits { list, .. } = read_words(rt.alloc(), words.as_slice())? else {
+        return Err(Fail::from("not read as a list"));
+    };
+    assert_eq!(rt; list, "-");
 
     let words = ["planner", "format", "a b.store"];
     let Invocation::Format { store } = read_words(rt.alloc(), words.as_slice())? else {
@@ -230,6 +251,26 @@ fn refuses_words(rt: HostRuntime) -> Result<(), Fail> {
         ),
         (
             ["planner", "audit", "Vrp", "a", "b"].as_slice(),
+            ErrorKind::InvalidValue,
+        ),
+        (
+            ["planner", "solve", "lilim", "a"].as_slice(),
+            ErrorKind::MissingRequiredArgument,
+        ),
+        (
+            ["planner", "solve", "lilim", "a", "1000000001"].as_slice(),
+            ErrorKind::InvalidValue,
+        ),
+        (
+            [
+                "planner",
+                "solve",
+                "lilim",
+                "a",
+                "1",
+                "18446744073709551616",
+            ]
+            .as_slice(),
             ErrorKind::InvalidValue,
         ),
         (

@@ -10,7 +10,7 @@ const STORE: &str = "session.store";
 fn main(rt: HostRuntime) -> io::Result<()> {
     for command in ["format", "run", "run"] {
         let words = ["planner", command, STORE];
-        let status = run_words(&rt, Unknown, words.as_slice());
+        let status = run_words(&rt, Unknown, &mut rt.stderr(), words.as_slice());
         println!(rt; "= {status}")?;
     }
     Ok(())

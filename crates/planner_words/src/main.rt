@@ -13,7 +13,7 @@ fn main(rt: HostRuntime) -> io::Result<()> {
         let line = line?;
         println!(rt; "> {}", line.as_str())?;
         let words = words_of(rt.alloc(), line.as_str())?;
-        let status = run_words(&rt, Unknown, words.as_slice());
+        let status = run_words(&rt, Unknown, &mut rt.stderr(), words.as_slice());
         println!(rt; "= {status}")?;
     }
     Ok(())

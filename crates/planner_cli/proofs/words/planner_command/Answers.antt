@@ -1,25 +1,25 @@
--- The three subcommands are added in turn to a command that tells its version.
-use Rattle.std.proofs.Common.{ap₂, ap, ◌≡◌, ◌∙◌, codes, Bor, List, true}
+-- The subcommands are added in turn to a command that tells its version.
+use Rattle.std.proofs.Common.{◌≡◌, ◌∙◌, ap, codes, Bor, List, true}
 use Rattle.std.proofs.lemmas.Result.{IfOk-weaker}
-use Rattle.clap.specs.Words.{AddsSubcommand, App, Shape, Text, app_of, with_subcommand}
 use Rattle.clap.specs.Simple.{app_of_fields, on_top}
+use Rattle.clap.specs.Words.{App, Shape, Text, app_of, new_app, with_subcommand}
 use Rattle.clap.specs.declared.builder.command.Command.{Command}
-use Rattle.planner_cli.specs.CommandLine.{audit_app, store_app, versioned_app}
+use Rattle.planner_cli.specs.CommandLine.{IsKindNames, audits_app, paths_app, planner_app, solve_app, store_app, versioned_app}
 use Rattle.planner_cli.proofs.words.planner_command.Goals as goal
 
 pub returns : goal.returns
 returns c =
-    let audit = c.in_ok-audit_command.ensures in
-    let names : Bor (List (Bor Text)) = audit.names in
-    let new_is : app_of c.about.result ≡ _ = ap app_of_fields c.about.ensures ∙ c.new.ensures.app in
-    let none_is : app_of c.after_help.result ≡ versioned_app (codes "planner") =
-    ap app_of_fields c.after_help.ensures ∙ (ap app_of_fields c.version.ensures ∙ ap (on_top (λ (s : Shape). record s { has_version = true })) new_is) in
-    let one_is : app_of c.in_ok-subcommand.field-0 ≡ with_subcommand (versioned_app (codes "planner")) (audit_app names).top =
-    c.in_ok-subcommand.ensures.shape audit.globals ∙ ap₂ with_subcommand none_is (ap (λ (a : App). a.top) audit.app) in
-    let two_is : app_of c.in_ok-subcommand-2.field-0 ≡ with_subcommand (with_subcommand (versioned_app (codes "planner")) (audit_app names).top) (store_app (codes "format")).top =
-    c.in_ok-subcommand-2.ensures.shape c.in_ok-format.ensures.globals ∙ ap₂ with_subcommand one_is (ap (λ (a : App). a.top) c.in_ok-format.ensures.app) in
-    IfOk-weaker c.subcommand-3.result _ _ (λ (command : Command) (added : AddsSubcommand _ _ command). record {
-      names = names;
-      kinds = audit.kinds;
-      app = added.shape c.in_ok-run.ensures.globals ∙ ap₂ with_subcommand two_is (ap (λ (a : App). a.top) c.in_ok-run.ensures.app);
-    }) c.subcommand-3.ensures
+    let names : Bor (List (Bor Text)) = c.kind_names-kinds.result in
+    let kinds : IsKindNames names = c.kind_names-kinds.ensures in
+    let new_is : app_of c.about.result ≡ new_app (codes "planner") = ap app_of_fields c.about.ensures ∙ c.new.ensures.app in
+    let none_is : app_of c.after_help-planner.result ≡ versioned_app (codes "planner") =
+    ap app_of_fields c.after_help-planner.ensures ∙ (ap app_of_fields c.version.ensures ∙ ap (on_top (λ (s : Shape). record s { has_version = true })) new_is) in
+    let audit = with_subcommand (versioned_app (codes "planner")) (paths_app (codes "audit") names).top in
+    let audits = with_subcommand audit (audits_app names).top in
+    let solve = with_subcommand audits (solve_app names).top in
+    let one = c.in_ok-planner.ensures (versioned_app (codes "planner")) (paths_app (codes "audit") names) none_is c.in_ok-audit.ensures in
+    let two = c.in_ok-planner-2.ensures audit (audits_app names) one c.in_ok-audits_command.ensures in
+    let three = c.in_ok-planner-3.ensures audits (solve_app names) two c.in_ok-solve_command.ensures in
+    let four = c.in_ok-with_command.ensures solve (store_app (codes "format")) three c.in_ok-format.ensures in
+    IfOk-weaker c.with_command-5.result _ _ (λ (command : Command) (is : app_of command ≡ planner_app names). record { names = names; kinds = kinds; app = is })
+    (c.with_command-5.ensures (with_subcommand solve (store_app (codes "format")).top) (store_app (codes "run")) four c.in_ok-run.ensures)

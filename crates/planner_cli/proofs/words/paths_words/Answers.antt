@@ -1,7 +1,7 @@
 -- Each value is the first of its entry, and a missing one leaves nothing to ask for.
 use Rattle.clap.specs.Words.{found_of}
 use Rattle.planner_cli.proofs.CommandLemmas.{no_instance, no_kind, no_kind_word, no_solution, three_found}
-use Rattle.planner_cli.proofs.words.audit_words.Goals as goal
+use Rattle.planner_cli.proofs.words.paths_words.Goals as goal
 
 pub returns-in_err-get_str : goal.returns-in_err-get_str
 returns-in_err-get_str c = rw c.from_residual.ensures (no_kind_word (found_of c.args.matches.now) c.in_err-get_str.ensures)

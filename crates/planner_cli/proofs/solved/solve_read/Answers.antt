@@ -1,0 +1,31 @@
+-- What the read gave, and what is told of it.
+use Rattle.std.proofs.Common.{refl, subst, Ok, Err}
+use Rattle.std.specs.Prelude.{MatchResult}
+use Rattle.std.proofs.KnownBytes.{Appends-nil}
+use Rattle.std.proofs.lemmas.Result.{IfOk-weaker}
+use Rattle.plan_solve.specs.Solved.{Fails, IsSolution}
+use Rattle.planner_cli.specs.Telling.{TellsUnread}
+use Rattle.planner_cli.proofs.solved.solve_read.Goals as goal
+
+pub returns-in-Err-clause-told : goal.returns-in-Err-clause-told
+returns-in-Err-clause-told g c =
+    let task = c.args.task in
+    let errors = g.E.Write.contents c.args.errors.now in
+    let later = g.E.Write.contents c.tell_unread.new.output in
+    IfOk-weaker c.tell_unread.result _ _
+    (λ status told. (
+      Err c.in-Err.error,
+      (task.instance, refl, c.in-Err.ensures),
+      (subst (λ kind. TellsUnread task.instance.now kind errors later status) c.kind.ensures told, Appends-nil (g.W.Write.contents c.args.output.now)),
+    )) c.tell_unread.ensures
+
+pub returns-clause-told : goal.returns-clause-told
+returns-clause-told g c =
+    let task = c.args.task in
+    let errors = g.E.Write.contents c.args.errors.now in
+    let found = c.solve-solved.result in
+    let searched = g.E.Write.contents c.solve-solved.new.progress in
+    let solves = subst (λ x. MatchResult found (IsSolution task.kind x task.seed task.steps errors searched) (Fails task.kind x task.seed task.steps errors searched)) c.deref.ensures.value
+    c.solve-solved.ensures in
+    IfOk-weaker c.tell_solved.result _ _
+    (λ status told. (Ok c.in-Ok.text, (task.instance, refl, c.in-Ok.ensures), record { found = found; searched = searched; solves = solves; told = told })) c.tell_solved.ensures.told

@@ -1,0 +1,48 @@
+-- What is told of a solving.
+use Rattle.std.specs.Prelude.{◌≡◌, ℕ, List, [], ◌++◌, codes, decimal, Option, Result, Ok, Err, MatchResult}
+use Rattle.std.specs.Borrow.{Bor}
+use Rattle.std.specs.Io.KnownBytes.{Appends}
+use Rattle.std.specs.declared.io.ErrorKind.{ErrorKind}
+use Rattle.instance_read.specs.Names.{kind_name}
+use Rattle.plan_solve.specs.Solved.{Fails, IsSolution}
+use Rattle.plan_solve.specs.declared.faults.SolveFault.{SolveFault}
+use Rattle.plan_solve.specs.declared.faults.SolveFault.TheVariants as fault
+use Rattle.planner_cli.specs.AnswerText.{fault_text}
+use Rattle.planner_cli.specs.Asked.{TaskAsked}
+use Rattle.planner_cli.specs.Files.{Gave}
+use Rattle.planner_cli.specs.Telling.{TellsUnread, line}
+
+-- why there is no solution, unless it is that telling failed
+abbrev pub fault_line : SolveFault → List ℕ
+fault_line (fault.Refused first) = line (fault_text (codes "instance") (kind_name first.kind) first.line)
+fault_line (fault.Unplanned n) = line (codes "unplanned " ++ decimal n)
+fault_line fault.OutOfMemory = line (codes "out of memory")
+fault_line fault.WriteFault = []
+
+abbrev pub fault_status : SolveFault → ℕ
+fault_status (fault.Refused first) = 2
+fault_status (fault.Unplanned n) = 1
+fault_status fault.OutOfMemory = 4
+fault_status fault.WriteFault = 3
+
+abbrev pub IsToldFault : SolveFault → Option (List ℕ) → Option (List ℕ) → ℕ → Type 0
+IsToldFault f before after status = (status ≡ fault_status f) × Appends before after (fault_line f)
+
+-- the solution's text is written to the output, or why there is none to the errors, and nothing to the other
+abbrev pub TellsSolved : Result (List ℕ) SolveFault → Option (List ℕ) → Option (List ℕ) → Option (List ℕ) → Option (List ℕ) → ℕ → Type 0
+TellsSolved (Ok text) output after errors later status = (status ≡ 0) × Appends output after text × Appends errors later []
+TellsSolved (Err f) output after errors later status = IsToldFault f errors later status × Appends output after []
+
+-- an instance's text is solved, and it is told what comes of it
+pub record TellsSolving (task : TaskAsked) (text : List ℕ) (output after errors later : Option (List ℕ)) (status : ℕ) : Type 0 where
+  pub found : Result (List ℕ) SolveFault
+  pub searched : Option (List ℕ)
+  pub solves : MatchResult found (IsSolution task.kind text task.seed task.steps errors searched) (Fails task.kind text task.seed task.steps errors searched)
+  pub told : TellsSolved found output after searched later status
+
+module _ {V E : Type 0} (post : Bor (List ℕ) → Result V E → Type 0) (items : V → List ℕ) (kind : E → ErrorKind) where
+  -- the instance in a file is solved, or it can't be read
+  abbrev pub TellsTask : TaskAsked → Option (List ℕ) → Option (List ℕ) → Option (List ℕ) → Option (List ℕ) → ℕ → Type 0
+  TellsTask task output after errors later status =
+      (given : Result V E) × Gave post task.instance given
+      × MatchResult given (λ x. TellsSolving task (items x) output after errors later status) (λ e. TellsUnread task.instance (kind e) errors later status × Appends output after [])

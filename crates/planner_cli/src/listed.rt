@@ -1,0 +1,190 @@
+//! The audits of a list of pairs of files.
+ghost use Rattle.std.specs.Prelude.{◌≡◌, ◌≤◌, IfOk, MatchOption, codes, length, max, option_map};
+ghost use Rattle.std.specs.IoError.{error_kind};
+ghost use Rattle.std.specs.List.{position_or_len};
+ghost use Rattle.std.specs.Io.KnownBytes.{Appends};
+ghost use Rattle.planner_cli.specs.Telling.{line};
+ghost use Rattle.planner_cli.specs.Listed.{IsPair, NamesNone, TellsLine, TellsLines, TellsList, is_path, is_tab, list_path, parts_of};
+
+use crate::audited::audit_read;
+use crate::status::{DONE, REFUSED};
+use crate::telling::{tell_unread, write_line};
+use crate::words::Paths;
+use plan_types::Kind;
+use std::alloc::Global;
+use std::io::Write;
+use std::{io, str};
+use text_lines::Lines;
+
+/// Reads a list, and audits the pair that each of its lines names, as `audit_read` does. Gives the greatest status.
+pub(crate) fn audits_read<F, W: Write>(
+    alloc: Global,
+    kind: Kind,
+    list: &str,
+    read: &F,
+    output: &mut W,
+) -> io::Result<u8>
+where
+    F: Fn(&str) -> io::Result<Vec<u8>>,
+    requires { F.IsAlwaysCallable read.now }
+    ensures status { IfOk result (λ status. status ≤ 4) }
+    ensures told { IfOk result (TellsList (λ path r. F.post read.now path r) (λ x. x.items)
+        error_kind kind list.now (W.contents output.old) (W.contents output.new)) }
+{
+    let path = list_path(list);
+    match read(path) {
+        Ok(text) => audit_lines(alloc, kind, Lines::new(&text), read, output),
+        Err(error) => tell_unread(output, path, error.kind()),
+    }
+}
+
+/// The path by which the list is read.
+fn list_path(list: &str) -> &str
+    ensures { result.now ≡ list_path list.now }
+{
+    if list == "-" { "/dev/stdin" } else { list }
+}
+
+/// Audits the pair that each line names, and tells it before it goes on.
+fn audit_lines<F, W: Write>(
+    alloc: Global,
+    kind: Kind,
+    lines: Lines<'_>,
+    read: &F,
+    output: &mut W,
+) -> io::Result<u8>
+where
+    F: Fn(&str) -> io::Result<Vec<u8>>,
+    requires { F.IsAlwaysCallable read.now }
+    ensures status { IfOk result (λ status. status ≤ 4) }
+    ensures told { IfOk result (TellsLines (λ path r. F.post read.now path r) (λ x. x.items)
+        error_kind kind lines.entry (W.contents output.old) (W.contents output.new)) }
+{
+    let mut greatest = DONE;
+    for line in lines {
+        let status = audit_line(alloc, kind, line, read, output)?;
+        greatest = greater(greatest, status);
+    }
+    Ok(greatest)
+}
+
+/// The greater status.
+fn greater(one: u8, other: u8) -> u8
+    requires { (one ≤ 4) × (other ≤ 4) }
+    ensures value { max one other ≡ result }
+    ensures bound { result ≤ 4 }
+{
+    if one < other { other } else { one }
+}
+
+/// Tells the audit of the pair that the line names, and flushes it.
+fn audit_line<F, W: Write>(
+    alloc: Global,
+    kind: Kind,
+    line: &[u8],
+    read: &F,
+    output: &mut W,
+) -> io::Result<u8>
+where
+    F: Fn(&str) -> io::Result<Vec<u8>>,
+    requires { F.IsAlwaysCallable read.now }
+    ensures status { IfOk result (λ status. status ≤ 4) }
+    ensures told { IfOk result (TellsLine (λ path r. F.post read.now path r) (λ x. x.items)
+        error_kind kind line.now (W.contents output.old) (W.contents output.new)) }
+{
+    let status = audit_named(alloc, kind, line, read, output)?;
+    output.flush()?;
+    Ok(status)
+}
+
+/// Tells the audit of the pair that the line names.
+fn audit_named<F, W: Write>(
+    alloc: Global,
+    kind: Kind,
+    line: &[u8],
+    read: &F,
+    output: &mut W,
+) -> io::Result<u8>
+where
+    F: Fn(&str) -> io::Result<Vec<u8>>,
+    requires { F.IsAlwaysCallable read.now }
+    ensures status { IfOk result (λ status. status ≤ 4) }
+    ensures told { IfOk result (TellsLine (λ path r. F.post read.now path r) (λ x. x.items)
+        error_kind kind line.now (W.contents output.old) (W.contents output.new)) }
+{
+    let (instance, solution) = match pair_of(line) {
+        Some(pair) => pair,
+        None => return tell_bad_line(output),
+    };
+    write!(output, "{instance}\t{solution}\t")?;
+    let paths = Paths {
+        kind,
+        instance,
+        solution,
+    };
+    audit_read(alloc, paths, read, output)
+}
+
+/// Tells a line that names no pair.
+fn tell_bad_line<W: Write>(output: &mut W) -> io::Result<u8>
+    ensures { IfOk result (λ status. (status ≡ 2)
+        × Appends (W.contents output.old) (W.contents output.new) (line (codes "bad line"))) }
+{
+    write_line(output, b"bad line")?;
+    Ok(REFUSED)
+}
+
+/// The paths of an instance and a solution with a tab between them.
+fn pair_of(line: &[u8]) -> Option<(&str, &str)>
+    ensures { MatchOption result (NamesNone line.now) (λ p. IsPair line.now p.0.now p.1.now) }
+{
+    let (instance, solution) = match parts_of(line) {
+        Some(parts) => parts,
+        None => return None,
+    };
+    let Ok(instance) = str::from_utf8(instance) else {
+        return None;
+    };
+    let Ok(solution) = str::from_utf8(solution) else {
+        return None;
+    };
+    Some((instance, solution))
+}
+
+/// What stands before and behind the one tab of a line, if neither is empty.
+fn parts_of(line: &[u8]) -> Option<(&[u8], &[u8])>
+    ensures { option_map (λ p. (p.0.now, p.1.now)) result ≡ parts_of line.now }
+{
+    let (instance, rest) = line.split_at(tab_at(line));
+    match rest {
+        [] => None,
+        [_, solution @ ..] => {
+            if is_path(instance) && is_path(solution) {
+                return Some((instance, solution));
+            }
+            None
+        }
+    }
+}
+
+fn is_path(path: &[u8]) -> bool
+    ensures { result ≡ is_path path.now }
+{
+    !path.is_empty() && tab_at(path) == path.len()
+}
+
+fn is_tab(byte: u8) -> bool
+    ensures { result ≡ is_tab byte }
+{
+    byte == b'\t'
+}
+
+/// How many bytes stand before the first tab, or all of them.
+fn tab_at(line: &[u8]) -> usize
+    ensures value { result ≡ position_or_len is_tab line.now }
+    ensures bound { result ≤ length line.now }
+{
+    line.iter()
+        .position(|byte| is_tab(*byte))
+        .unwrap_or(line.len())
+}
