@@ -29,7 +29,7 @@ expect() {
 }
 
 cd -- "$top/examples" || exit 1
-for path in *; do
+for path in *.txt *.sol *.vrp; do
     cmp -- "$path" "$top/crates/planner_words/data/$path" || fail "planner_words has another $path"
 done
 
