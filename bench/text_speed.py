@@ -2,7 +2,7 @@
 """How long the program takes for long texts: `load` of up to 16 MB, `show` and `print` of plans of up to 40,000 stops, and opening a store with a full
 journal of searches. All through a store on this disk, by the program that `./planner` builds.
 
-A time is the difference of two sessions, one with the lines that are measured and one without, divided by how often they stand in it.
+A time is the difference of two sessions on one store, one with the lines that are measured and one without, divided by how often they stand in it.
 
     bench/text_speed.py [REPEATS]
 """
@@ -19,6 +19,7 @@ MEGABYTE = 1 << 20
 TASKS = 40_000
 SIZES = [5_000, 10_000, 20_000, 40_000]
 REPEATS = 10
+STORE = "text.store"
 
 
 def padded_tasks(length):
@@ -47,20 +48,25 @@ def load(kind, text):
     return f"load {kind} 0 {len(text)}\n".encode() + text
 
 
+def prepare(folder, lines):
+    """A new store that holds what these lines make, and no journal."""
+    subprocess.run([PROGRAM, "format", folder / STORE], check=True, capture_output=True)
+    session(folder, lines + b"checkpoint\n" if lines else b"")
+
+
 def session(folder, lines):
-    """Seconds that a session on a new store takes, and what it prints."""
-    store = folder / "text.store"
-    subprocess.run([PROGRAM, "format", store], check=True, capture_output=True)
+    """Seconds that a session on the store takes, and what it prints."""
     began = time.monotonic()
-    got = subprocess.run([PROGRAM, "run", store], input=lines, check=True, capture_output=True)
+    got = subprocess.run([PROGRAM, "run", folder / STORE], input=lines, check=True, capture_output=True)
     return time.monotonic() - began, got.stdout
 
 
 def each(folder, before, line, repeats):
-    """Seconds that one such line takes, and the bytes of its answer."""
-    without, short = session(folder, before)
-    whole, text = session(folder, before + line * repeats)
-    return (whole - without) / repeats, (len(text) - len(short)) // repeats
+    """Seconds that one such line takes, and the bytes of its answer. What it needs is made before, in a session that is not measured."""
+    prepare(folder, before)
+    without, short = session(folder, b"")
+    whole, text = session(folder, line * repeats)
+    return max(whole - without, 1e-9) / repeats, (len(text) - len(short)) // repeats
 
 
 def main(words):
@@ -77,10 +83,10 @@ def main(words):
                 seconds, length = each(folder, before, line, repeats)
                 print(f"{line.decode().strip()} of {count} stops: {seconds * 1000:.2f} ms, {length} bytes, {length / seconds / 1e6:.0f} MB/s", flush=True)
         instance = (TOP / "examples" / "lc101.txt").read_bytes()
-        session(folder, load("lilim", instance) + b"build\ncheckpoint\nsearch 65536\n")
-        began = time.monotonic()
-        got = subprocess.run([PROGRAM, "run", folder / "text.store"], input=b"", check=True, capture_output=True)
-        print(f"opening a store with a full journal: {time.monotonic() - began:.2f} s, {got.stdout.decode().strip()}")
+        prepare(folder, load("lilim", instance) + b"build\n")
+        session(folder, b"search 65536\n")
+        seconds, told = session(folder, b"")
+        print(f"opening a store with a full journal: {seconds:.2f} s, {told.decode().strip()}")
     return 0
 
 

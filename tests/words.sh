@@ -46,6 +46,20 @@ expect 64 '' "error: invalid value 'LILIM' for '<KIND>'" audit LILIM one-pair.tx
 expect 64 '' "error: unrecognized subcommand 'check'" check one-pair.txt one-pair.sol
 expect 0 'planner 0.1.0' '' --version
 
+# An explanation stands behind the audit's line; a picture that can't be drawn is told on standard error.
+expect 0 'pass 0 10 829' '' explain lilim lc101.txt lc101.sol
+expect 1 'broken 5 route 1 place 1 stop 2' '' explain lilim one-pair.txt one-pair-reversed.sol
+expect 3 'cannot read nowhere' 'planner: nowhere: No such file or directory (os error 2)' explain lilim one-pair.txt nowhere
+expect 0 "$(head -n 1 lc101.svg)" '' draw lilim lc101.txt lc101.sol
+expect 2 '' 'solution BadLine 1' draw lilim one-pair.txt one-pair.txt
+expect 3 '' 'planner: nowhere: No such file or directory (os error 2)' draw lilim one-pair.txt nowhere
+[ "$("$program" draw lilim one-pair.sol nowhere 2>&1 >/dev/null | tail -n 1)" = 'cannot read nowhere' ] || fail "draw: not the file that can't be read"
+if [ -c /dev/full ]; then
+    "$program" draw lilim one-pair.txt one-pair.sol >/dev/full 2>/dev/null
+    status=$?
+    [ "$status" = 3 ] || fail "draw to a full output: status $status, wanted 3"
+fi
+
 # A solution goes to standard output, what is told of the search to standard error.
 expect 0 'Route #1: 1 2' 'at 0 0 1 20' solve lilim one-pair.txt 3
 expect 2 '' 'instance FieldCount 1' solve lilim one-pair.sol 3

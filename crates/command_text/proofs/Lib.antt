@@ -1,6 +1,5 @@
 pub mod CutLemmas
 pub mod FieldLemmas
-pub mod NameLemmas
 pub mod ReadLemmas
 pub mod ScanLemmas
 pub mod StateLemmas

@@ -9,5 +9,4 @@ pub mod Scanning
 pub mod Showing
 -- of private functions alone
 pub mod Lines
-pub mod Marks
 pub mod Numbers

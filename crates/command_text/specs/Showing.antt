@@ -4,6 +4,7 @@ use Rattle.std.specs.List.{flat_map}
 use Rattle.route_sched.specs.Cost.{cost_of, total_length}
 use Rattle.seeded_search.specs.Steps.{unplanned_names}
 use Rattle.sol_text.specs.Written.{customers_text, solution_text, used_routes}
+use Rattle.sol_text.specs.declared.read.Solution.{Solution}
 use Rattle.command_core.specs.Job.{JobValue}
 use Rattle.command_text.specs.Answers.{cost_text, line}
 
@@ -42,6 +43,10 @@ show_text j =
     ++ line (codes "cost " ++ cost_text (cost_of j.problem j.plan))
     ++ work_text j
 
--- the text of the solution
+-- the solution that is printed: the routes that are not empty, and the distance driven
+abbrev pub solution_of : JobValue → Solution
+solution_of j = record { routes = used_routes j.plan; cost = total_length j.problem j.plan }
+
+-- its text
 abbrev pub print_text : JobValue → List ℕ
 print_text j = solution_text (used_routes j.plan) (total_length j.problem j.plan)

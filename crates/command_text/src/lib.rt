@@ -7,7 +7,6 @@ mod fields;
 mod first_word;
 mod instances;
 mod laws;
-mod marks;
 mod showing;
 mod steps;
 mod verbs;

@@ -1,15 +1,15 @@
 //! What `show` and `print` write.
 ghost use Rattle.std.specs.Prelude.{◌≡◌, ◌<◌, ◌≤◌, ◌*◌, ◌^◌, ◌++◌, [], IfOk, OnOk, IsErrOf, IsOkUnless, codes, decimal};
 ghost use Rattle.route_sched.specs.Cost.{cost_of, unplanned_count};
+ghost use Rattle.sol_text.specs.Faults.{Spells};
 ghost use Rattle.sol_text.specs.Written.{customers_text};
 ghost use Rattle.sol_text.specs.declared.faults.WriteSolFault.TheVariants as write;
 ghost use Rattle.std.specs.List.{flat_map};
 ghost use Rattle.command_text.specs.Answers.{cost_text, line};
-ghost use Rattle.command_text.specs.Showing.{counts_text, list_text, lists_text, print_text, show_text, unplanned_text, work_text};
+ghost use Rattle.command_text.specs.Showing.{counts_text, list_text, lists_text, print_text, show_text, solution_of, unplanned_text, work_text};
 
 use crate::answers::cost;
-use crate::marks::unplanned_names;
-use command_core::Job;
+use command_core::{Job, unplanned_names};
 use itoa::Buffer;
 use plan_audit::passes_are_local;
 use plan_types::{Cost, OutOfMemory, Route};
@@ -188,6 +188,8 @@ fn work_cost(job: &Job) -> Cost
 /// `Unplanned` where a request is in no route, then `OutOfMemory`.
 pub fn print(alloc: Global, job: &Job) -> Result<Text, WriteSolFault>
     ensures text { IfOk result (λ text. text ≡ print_text job.now) }
+    // It is read back so.
+    ensures spells { IfOk result (λ text. Spells text (solution_of job.now)) }
     ensures unplanned { let n = unplanned_count job.now.problem job.now.plan in 0 < n
         → IsErrOf result (write.Unplanned n) }
     ensures planned { unplanned_count job.now.problem job.now.plan ≡ 0

@@ -1,5 +1,5 @@
 -- The same of the tables: a table of each vehicle's route.
-use Rattle.std.proofs.Common.{◌≡◌, ℕ, zero, suc, ◌+◌, ◌<◌, ◌≤◌, true, List, [], ◌∷◌, length, map, get_or, slice_get, Option, Some, None, add-one, refl, sym, ap, subst, ◌∙◌, arith}
+use Rattle.std.proofs.Common.{◌≡◌, ℕ, zero, suc, ◌+◌, ◌-◌, ◌<◌, ◌≤◌, true, List, [], ◌∷◌, length, map, get_or, slice_get, Option, Some, None, add-one, refl, sym, ap, subst, ◌∙◌, arith}
 use Rattle.std.specs.Prelude.{unwrap_or}
 use Rattle.std.specs.Option.{option_map}
 use Rattle.std.proofs.Math.ListN.{get_or-map, length-map}
@@ -20,7 +20,7 @@ use Rattle.slack_tables.specs.Insertion.{KeepsLimits}
 use Rattle.move_ops.specs.Insertion.{of_vehicle, best_insertion}
 use Rattle.move_ops.specs.Laws.{BestInsertionsAreLeast, BestInsertionsAreUnique, PlansPassWithoutPins}
 use Rattle.move_ops.specs.Tables.{plan_of, AreTablesIn}
-use Rattle.move_ops.specs.Choosing.{place_found, IsAsked, IsBestUpTo, HasIdle, IsBetter}
+use Rattle.move_ops.specs.Choosing.{place_found, IsAsked, IsBestUpTo, HasIdle, IsBetter, IsReach}
 use Rattle.move_ops.specs.declared.tables.Found.{Found}
 use Rattle.move_ops.proofs.Fitting.{route_limits}
 use Rattle.move_ops.proofs.Inserting.{valid_request}
@@ -70,6 +70,24 @@ module _ (law : NamedAreFound) (stand : RequestsStandByName) (local : PassesAreL
   answered least unique answer up =
       answer_is law stand local says below_tells at_most_tells costs_total costs_transitive below_at_most at_most_below weaken p pins (plan_of courses) (asked.valid) (asked.good) (request_name r) r (asked.named) (asked.free)
       least unique (length courses) (sym (length-map courses route_of)) answer up
+
+  -- vehicles that are not looked at, all as one that was
+  rest_skipped : (left k : ℕ) → k + left ≡ length (plan_of courses)
+      → ((v : ℕ) → k < v → v ≤ length (plan_of courses) → HasIdle (plan_of courses) k × (length (of_vehicle (plan_of courses) v) ≡ 0))
+      → (best : Option Found) → IsBestUpTo p pins (plan_of courses) r k best → IsBestUpTo p pins (plan_of courses) r (length courses) best
+  rest_skipped zero k all idle best old =
+      let e = length-map courses route_of in
+      subst (λ n. IsBestUpTo p pins (plan_of courses) r n best) (omega arith) old
+  rest_skipped (suc left) k all idle best old =
+      let here = idle (k + 1) (omega arith) (omega arith) in
+      rest_skipped left (k + 1) (omega arith) (λ v above within. let h = idle v (omega arith) within in (idle_more (plan_of courses) k h.0, h.1)) best
+      (skipped law stand local says below_tells at_most_tells costs_total costs_transitive below_at_most at_most_below weaken p pins (plan_of courses) (asked.valid) (asked.good) (request_name r) r (asked.named) (asked.free)
+      k (k + 1) refl (omega arith) here.1 here.0 best old)
+
+  pub beyond : (end : ℕ) → end ≤ length courses → IsReach (plan_of courses) end → (best : Option Found) → IsBestUpTo p pins (plan_of courses) r end best → IsBestUpTo p pins (plan_of courses) r (length courses) best
+  beyond end within reach best old =
+      let e = length-map courses route_of in
+      rest_skipped (length (plan_of courses) - end) end (omega arith) reach best old
 
   module _ (k : ℕ) (c : Course) (is : c ≡ get_or courses k c) (in_range : k < length courses) where
     pub pin_fits : (pin : List ℕ) → pin ≡ of_vehicle pins (k + 1) → length pin ≤ length c.stops

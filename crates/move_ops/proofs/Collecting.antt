@@ -1,8 +1,8 @@
 -- The changes that make a plan of another one, route by route.
-use Rattle.std.proofs.Common.{◌≡◌, ℕ, zero, suc, ◌+◌, ◌-◌, ◌<◌, ◌≤◌, Bool, true, false, List, [], ◌∷◌, ◌++◌, All, length, take, drop, map, set, Some, slice_get, refl, sym, ap, subst, ◌∙◌, inl, inr, arith, add-one}
+use Rattle.std.proofs.Common.{◌≡◌, ℕ, zero, suc, ◌-◌, ◌≤◌, Bool, true, false, List, [], ◌∷◌, All, length, take, map, set, Some, slice_get, refl, sym, ap, subst, ◌∙◌, inl, inr, arith}
 use Rattle.std.specs.List.{AllByRecursion, list_all}
 use Rattle.std.proofs.lemmas.Bool.{cases_Bool, and_parts, and_from}
-use Rattle.std.proofs.lemmas.List.{length-map, append-nil}
+use Rattle.std.proofs.lemmas.List.{length-map}
 use Rattle.std.proofs.lemmas.List.Elements.{All-from_recursion}
 use Rattle.move_ops.specs.Insertion.{of_vehicle, with_route}
 use Rattle.move_ops.specs.Changes.{with_routes, AreChanges}
@@ -10,77 +10,19 @@ use Rattle.move_ops.specs.declared.changes.Change.{Change}
 use Rattle.move_ops.proofs.Times.{none_some, some_same}
 use Rattle.move_ops.proofs.Replacing.{at_vehicle, all_at}
 
--- ---- lists of which the first ones are replaced
-mixed_set : {X : Type 0} (new old : List X) (k : ℕ) (x : X) → length new ≡ length old → slice_get new k ≡ Some x → set (take k new ++ drop k old) k x ≡ take (suc k) new ++ drop (suc k) old
-mixed_set [] old k x long at = absurd (none_some x at)
-mixed_set (n ∷ new) [] k x long at = absurd (omega arith)
-mixed_set (n ∷ new) (o ∷ old) zero x long at = ap (λ y. y ∷ old) (sym (some_same n x at))
-mixed_set (n ∷ new) (o ∷ old) (suc k) x long at = ap (λ l. n ∷ l) (mixed_set new old k x (omega arith) at)
-
-mixed_same : {X : Type 0} (new old : List X) (k : ℕ) → length new ≡ length old → k < length old → slice_get new k ≡ slice_get old k → take k new ++ drop k old ≡ take (suc k) new ++ drop (suc k) old
-mixed_same [] old k long below at = absurd (omega arith)
-mixed_same (n ∷ new) [] k long below at = absurd (omega arith)
-mixed_same (n ∷ new) (o ∷ old) zero long below at = ap (λ y. y ∷ old) (some_same o n (sym at))
-mixed_same (n ∷ new) (o ∷ old) (suc k) long below at = ap (λ l. n ∷ l) (mixed_same new old k (omega arith) (omega arith) at)
-
 pub take_long : {X : Type 0} (xs : List X) (k : ℕ) → length xs ≤ k → take k xs ≡ xs
 take_long [] zero long = refl
 take_long [] (suc k) long = refl
 take_long (x ∷ xs) zero long = absurd (omega arith)
 take_long (x ∷ xs) (suc k) long = ap (λ l. x ∷ l) (take_long xs k (omega arith))
 
-drop_long : {X : Type 0} (xs : List X) (k : ℕ) → length xs ≤ k → drop k xs ≡ []
-drop_long [] zero long = refl
-drop_long [] (suc k) long = refl
-drop_long (x ∷ xs) zero long = absurd (omega arith)
-drop_long (x ∷ xs) (suc k) long = drop_long xs k (omega arith)
-
 get_map : (f : List ℕ → List ℕ) (xs : List (List ℕ)) (k : ℕ) (x : List ℕ) → slice_get xs k ≡ Some x → slice_get (map f xs) k ≡ Some (f x)
 get_map f [] k x at = absurd (none_some x at)
 get_map f (y ∷ xs) zero x at = ap (λ l. Some (f l)) (some_same y x at)
 get_map f (y ∷ xs) (suc k) x at = get_map f xs k x at
 
-all_more : (P : Change → Type 0) (cs : List Change) (c : Change) → AllByRecursion P cs → P c → AllByRecursion P (cs ++ c ∷ [])
-all_more P [] c all one = (one, tt)
-all_more P (d ∷ cs) c all one = (all.0, all_more P cs c all.1 one)
-
-with_more : (routes : List (List ℕ)) (cs : List Change) (c : Change) → with_routes routes (cs ++ c ∷ []) ≡ with_route (with_routes routes cs) c.vehicle c.route
-with_more routes [] c = refl
-with_more routes (d ∷ cs) c = with_more (with_route routes d.vehicle d.route) cs c
-
--- ---- collected up to a vehicle
+-- ---- routes that are changed one by one
 module _ (f : List ℕ → List ℕ) (old : List (List ℕ)) where
-  pub record IsCollected (k : ℕ) (cs : List Change) : Type 0 where
-    pub within : AllByRecursion (λ c. (1 ≤ c.vehicle) × (c.vehicle ≤ length old)) cs
-    pub there : AllByRecursion (λ c. c.route ≡ f (of_vehicle old c.vehicle)) cs
-    pub plan : with_routes old cs ≡ take k (map f old) ++ drop k old
-
-  pub collected_none : (cs : List Change) → cs ≡ [] → IsCollected 0 cs
-  collected_none cs none = subst (IsCollected 0) (sym none) (record { within = tt; there = tt; plan = refl })
-
-  here : (k : ℕ) → k < length old → slice_get old k ≡ Some (of_vehicle old (k + 1))
-  here k below = let e : k + 1 - 1 ≡ k = omega arith in subst (λ j. slice_get old j ≡ Some (of_vehicle old (k + 1))) e (at_vehicle old (k + 1) (omega arith) (omega arith))
-
-  pub collected_more : (k : ℕ) (cs new : List Change) (c : Change) → k < length old → IsCollected k cs → c.vehicle ≡ k + 1 → c.route ≡ f (of_vehicle old (k + 1)) → new ≡ cs ++ c ∷ [] → IsCollected (k + 1) new
-  collected_more k cs new c below is v route are = subst (IsCollected (k + 1)) (sym are) (record {
-    within = all_more (λ (d : Change). (1 ≤ d.vehicle) × (d.vehicle ≤ length old)) cs c (is.within) (omega arith, omega arith);
-    there = all_more (λ (d : Change). d.route ≡ f (of_vehicle old d.vehicle)) cs c (is.there) (route ∙ ap (λ u. f (of_vehicle old u)) (sym v));
-    plan =
-        let e : c.vehicle - 1 ≡ k = omega arith in
-        with_more old cs c
-        ∙ (ap (λ l. with_route l c.vehicle c.route) (is.plan)
-        ∙ (ap (λ j. set (take k (map f old) ++ drop k old) j c.route) e
-        ∙ (mixed_set (map f old) old k c.route (length-map old f) (get_map f old k (of_vehicle old (k + 1)) (here k below) ∙ ap Some (sym route))
-        ∙ ap (λ j. take j (map f old) ++ drop j old) (sym (add-one k)))));
-  })
-
-  pub collected_same : (k : ℕ) (cs new : List Change) → k < length old → IsCollected k cs → f (of_vehicle old (k + 1)) ≡ of_vehicle old (k + 1) → new ≡ cs → IsCollected (k + 1) new
-  collected_same k cs new below is same are = subst (IsCollected (k + 1)) (sym are) (record {
-    within = is.within;
-    there = is.there;
-    plan = is.plan ∙ (mixed_same (map f old) old k (length-map old f) below (get_map f old k (of_vehicle old (k + 1)) (here k below) ∙ (ap Some same ∙ sym (here k below))) ∙ ap (λ j. take j (map f old) ++ drop j old) (sym (add-one k)));
-  })
-
   pub of_map : (v : ℕ) → 1 ≤ v → v ≤ length old → of_vehicle (map f old) v ≡ f (of_vehicle old v)
   of_map zero from within = absurd (omega arith)
   of_map (suc k) from within =
@@ -88,17 +30,6 @@ module _ (f : List ℕ → List ℕ) (old : List (List ℕ)) where
       some_same (of_vehicle (map f old) (suc k)) (f (of_vehicle old (suc k)))
       (sym (subst (λ j. slice_get (map f old) j ≡ Some (of_vehicle (map f old) (suc k))) e (at_vehicle (map f old) (suc k) (omega arith) (let m = length-map old f in omega arith)))
       ∙ get_map f old k (of_vehicle old (suc k)) (subst (λ j. slice_get old j ≡ Some (of_vehicle old (suc k))) e (at_vehicle old (suc k) (omega arith) within)))
-
-  there_all : (cs : List Change) → AllByRecursion (λ c. (1 ≤ c.vehicle) × (c.vehicle ≤ length old)) cs → AllByRecursion (λ c. c.route ≡ f (of_vehicle old c.vehicle)) cs → AllByRecursion (λ c. c.route ≡ of_vehicle (map f old) c.vehicle) cs
-  there_all [] within there = tt
-  there_all (c ∷ cs) within there = (there.0 ∙ sym (of_map c.vehicle within.0.0 within.0.1), there_all cs within.1 there.1)
-
-  pub collected_all : (k : ℕ) (cs : List Change) → length old ≤ k → IsCollected k cs → AreChanges old (map f old) cs
-  collected_all k cs end is = record {
-    within = is.within;
-    there = there_all cs (is.within) (is.there);
-    plan = is.plan ∙ (ap (λ l. l ++ drop k old) (take_long (map f old) k (let m = length-map old f in omega arith)) ∙ (ap (λ l. map f old ++ l) (drop_long old k end) ∙ append-nil (map f old)));
-  }
 
 -- ---- what the changes say of the plan
 module _ (old new : List (List ℕ)) (cs : List Change) (is : AreChanges old new cs) (long : length new ≡ length old) where

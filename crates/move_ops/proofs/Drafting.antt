@@ -1,8 +1,8 @@
 -- A draft and what it keeps.
-use Rattle.std.proofs.Common.{◌≡◌, ℕ, zero, suc, ◌+◌, ◌-◌, ◌<◌, ◌≤◌, ◌||◌, not, Bool, true, false, List, [], ◌∷◌, ◌++◌, length, drop, map, set, get_or, Some, slice_get, refl, sym, ap, subst, ◌∙◌, inl, inr, arith, nat_eq, ◌⊎◌, filter}
+use Rattle.std.proofs.Common.{◌≡◌, ℕ, zero, suc, ◌+◌, ◌-◌, ◌<◌, ◌≤◌, ◌||◌, not, Bool, true, false, List, [], ◌∷◌, ◌++◌, length, drop, map, set, get_or, Option, Some, None, slice_get, refl, sym, ap, subst, ◌∙◌, inl, inr, arith, nat_eq, ◌⊎◌, filter}
 use Rattle.std.specs.Prelude.{unwrap_or}
 use Rattle.std.specs.List.{concat}
-use Rattle.std.proofs.lemmas.Bool.{cases_Bool}
+use Rattle.std.proofs.lemmas.Bool.{cases_Bool, cases_lt}
 use Rattle.std.proofs.lemmas.Bool.Decides.{eqb_tells}
 use Rattle.std.proofs.lemmas.List.{drop_more}
 use Rattle.std.proofs.lemmas.List.Folds.{list_any-append}
@@ -20,11 +20,11 @@ use Rattle.plan_types.specs.Instance.{Instance}
 use Rattle.route_sched.specs.Cost.{cost_of}
 use Rattle.plan_audit.specs.Passes.{passes}
 use Rattle.move_ops.specs.Tables.{AreTablesIn}
-use Rattle.move_ops.specs.Drafts.{Drafted, undone, draft_of, IsDraftOf}
+use Rattle.move_ops.specs.Drafts.{Drafted, undone, draft_of, AreIdleBehind, IsDraftOf}
 use Rattle.move_ops.specs.Kept.{AreSeats}
 use Rattle.move_ops.specs.Refreshing.{AreWithin}
 use Rattle.move_ops.proofs.Times.{some_same}
-use Rattle.move_ops.proofs.Replacing.{get_set, get_set_other}
+use Rattle.move_ops.proofs.Replacing.{get_set, get_set_other, item_set_other}
 use Rattle.std.proofs.lemmas.Option.{slice_get_within}
 
 -- ---- seats
@@ -77,6 +77,32 @@ pub seats_with : (old new : List ℕ) (tables : List Course) (k : ℕ) (c : Cour
     → ((n : ℕ) → slice_get new n ≡ Some 0 → slice_get old n ≡ Some 0) → AreSeats new (plan_of (set tables k c))
 seats_with old new tables k c are out kept n at =
     ap (λ (l : List (List ℕ)). has_stop l n) (plan_with tables k c) ∙ none_with n (plan_of tables) k (route_of c) (are n (kept n at)) (out n at)
+
+-- ---- vehicles behind the front
+idle_with : (routes : List (List ℕ)) (v : ℕ) (route : List ℕ) (old new : ℕ) → 1 ≤ v → AreIdleBehind old routes → old ≤ new → v ≤ new → AreIdleBehind new (set routes (v - 1) route)
+idle_with routes v route old new from idle more within u above =
+    ap (λ (o : Option (List ℕ)). length (unwrap_or o [])) (item_set_other routes v u route from (λ same. absurd (omega arith))) ∙ idle u (omega arith)
+
+pub front_with : (tours set_tours : List Course) (v : ℕ) (tour : Course) (old new : ℕ) → set_tours ≡ set tours (v - 1) tour → 1 ≤ v → AreIdleBehind old (plan_of tours) → old ≤ new → v ≤ new → AreIdleBehind new (plan_of set_tours)
+front_with tours set_tours v tour old new is from idle more within =
+    subst (AreIdleBehind new) (sym (ap plan_of is ∙ plan_with tours (v - 1) tour)) (idle_with (plan_of tours) v (route_of tour) old new from idle more within)
+
+-- behind all vehicles there is none
+pub idle_behind_all : (routes : List (List ℕ)) (k : ℕ) → length routes ≤ k → AreIdleBehind k routes
+idle_behind_all routes k all zero above = refl
+idle_behind_all routes k all (suc u) above = ap (λ (o : Option (List ℕ)). length (unwrap_or o [])) (none_at routes u (omega arith))
+  where
+    none_at : (xs : List (List ℕ)) (i : ℕ) → length xs ≤ i → slice_get xs i ≡ None
+    none_at [] i out = refl
+    none_at (x ∷ xs) zero out = absurd (omega arith)
+    none_at (x ∷ xs) (suc i) out = none_at xs i (omega arith)
+
+-- one vehicle less, which has no stops
+pub idle_before : (routes : List (List ℕ)) (k : ℕ) → AreIdleBehind (k + 1) routes → length (of_vehicle routes (k + 1)) ≡ 0 → AreIdleBehind k routes
+idle_before routes k idle none u above = elim (cases_lt (k + 1) u) [
+  | inl more ↦ idle u more
+  | inr less ↦ (let same : u ≡ k + 1 = omega arith in ap (λ v. length (of_vehicle routes v)) same ∙ none)
+]
 
 -- ---- the log
 undone_more : (tours : List Course) (log : List (ℕ × Course)) (v : ℕ) (c : Course) → undone tours (log ++ (v, c) ∷ []) ≡ undone (set tours (v - 1) c) log

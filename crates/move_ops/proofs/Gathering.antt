@@ -1,9 +1,9 @@
 -- The changes of the vehicles that have some stops.
-use Rattle.std.proofs.Common.{◌≡◌, ℕ, zero, suc, ◌+◌, ◌-◌, ◌<◌, ◌≤◌, ◌||◌, ◌⊎◌, not, Bool, true, false, eqb, List, [], ◌∷◌, ◌++◌, length, map, filter, set, Option, Some, None, IsSome, slice_get, refl, sym, ap, subst, ◌∙◌, inl, inr, arith, nat_eq}
+use Rattle.std.proofs.Common.{rules, ◌≡◌, ℕ, zero, suc, ◌+◌, ◌-◌, ◌<◌, ◌≤◌, ◌||◌, ◌⊎◌, not, Bool, true, false, eqb, List, [], ◌∷◌, ◌++◌, length, map, filter, set, Option, Some, None, IsSome, slice_get, refl, sym, ap, subst, ◌∙◌, inl, inr, arith, nat_eq}
 use Rattle.std.specs.List.{AllByRecursion, IsDistinct, concat}
 use Rattle.std.specs.Map.{lookup}
 use Rattle.std.specs.Option.{option_map, option_map_or}
-use Rattle.std.proofs.lemmas.Bool.{cases_Bool, or_cases, eqb-true}
+use Rattle.std.proofs.lemmas.Bool.{cases_Bool, or_cases, eqb-true, eq-eqb}
 use Rattle.std.proofs.lemmas.Bool.Decides.{eqb_tells}
 use Rattle.std.proofs.lemmas.List.{length-map, length-set}
 use Rattle.std.proofs.lemmas.List.Elements.{All-append, All-from_recursion, recursion_from_All}
@@ -17,7 +17,7 @@ use Rattle.plan_types.specs.declared.requests.Stop.{Stop}
 use Rattle.route_sched.specs.Cost.{has_stop}
 use Rattle.plan_audit.specs.Passes.{has}
 use Rattle.move_ops.specs.Insertion.{of_vehicle, with_route}
-use Rattle.move_ops.specs.Moves.{is_of_named, without_named}
+use Rattle.move_ops.specs.Moves.{counterpart, is_of_named, without_named}
 use Rattle.move_ops.specs.Changes.{with_routes, AreChanges, AreIn, AreVehiclesOf, IsVehicleWith, Notes}
 use Rattle.move_ops.specs.declared.changes.Change.{Change}
 use Rattle.move_ops.proofs.Times.{none_some, some_same, times, times-append, at_most_once}
@@ -271,6 +271,69 @@ named_changes p names old vs within found =
     (λ v out. kept_whole (λ n. not (is_of_named p names n)) (of_vehicle old v) (λ n had. elim (cases_Bool (is_of_named p names n)) [
       | inl named ↦ false_true (sym out ∙ found v n named had)
       | inr free ↦ rw free refl
+    ]))
+
+-- ---- those of two requests' stops
+pub none_within : (routes : List (List ℕ)) → AreIn routes []
+none_within routes = All-from_recursion (λ (v : ℕ). (1 ≤ v) × (v ≤ length routes)) [] tt
+
+pub noted_both : (routes : List (List ℕ)) (r s : Request) (before mid after : List ℕ) → Notes routes (λ n. IsSome (stop_in n r)) before mid → Notes routes (λ n. IsSome (stop_in n s)) mid after
+    → AreVehiclesOf routes (λ n. IsSome (stop_in n r) ⊎ IsSome (stop_in n s)) after
+noted_both routes r s before mid after one two v n asked had = elim asked [
+  | inl first ↦ two.stays v (one.found v n first had)
+  | inr second ↦ two.found v n second had
+]
+
+in_single : (s : Stop) (n : ℕ) → n ≡ s.number → IsSome (stop_in n (Single s))
+in_single s n is = rw (eq-eqb s.number n (sym is)) (search rules)
+
+in_pair : (a b : Stop) (n : ℕ) → (n ≡ a.number) ⊎ (n ≡ b.number) → IsSome (stop_in n (Pair a b))
+in_pair a b n one = elim (eqb_tells a.number n) [
+  | inl t ↦ rw t.0 (search rules)
+  | inr t ↦ elim one [
+    | inl first ↦ absurd (t.1 (sym first))
+    | inr second ↦ rw (t.0, eq-eqb b.number n (sym second)) (search rules)
+  ]
+]
+
+-- any other number stays
+counterpart_stays : (r s : Request) (n : ℕ) → (IsSome (stop_in n r) ⊎ IsSome (stop_in n s)) ⊎ (counterpart r s n ≡ n)
+counterpart_stays (Single s) (Single t) n = elim (eqb_tells n s.number) [
+  | inl here ↦ inl (inl (in_single s n here.1))
+  | inr away ↦ elim (eqb_tells n t.number) [
+    | inl here ↦ inl (inr (in_single t n here.1))
+    | inr out ↦ inr (rw (away.0, out.0) refl)
+  ]
+]
+counterpart_stays (Single s) (Pair c d) n = inr refl
+counterpart_stays (Pair a b) (Single t) n = inr refl
+counterpart_stays (Pair a b) (Pair c d) n = elim (eqb_tells n b.number) [
+  | inl here ↦ inl (inl (in_pair a b n (inr here.1)))
+  | inr no_b ↦ elim (eqb_tells n d.number) [
+    | inl here ↦ inl (inr (in_pair c d n (inr here.1)))
+    | inr no_d ↦ elim (eqb_tells n a.number) [
+      | inl here ↦ inl (inl (in_pair a b n (inl here.1)))
+      | inr no_a ↦ elim (eqb_tells n c.number) [
+        | inl here ↦ inl (inr (in_pair c d n (inl here.1)))
+        | inr no_c ↦ inr (rw (no_b.0, no_d.0, no_a.0, no_c.0) refl)
+      ]
+    ]
+  ]
+]
+
+mapped_whole : (f : ℕ → ℕ) (xs : List ℕ) → ((n : ℕ) → has xs n ≡ true → f n ≡ n) → map f xs ≡ xs
+mapped_whole f [] all = refl
+mapped_whole f (x ∷ xs) all =
+    let same : f x ≡ x = all x (or_left (eqb x x) (has xs x) (elim (eqb_tells x x) [ inl u ↦ u.0 | inr u ↦ absurd (u.1 refl) ])) in
+    ap (λ (y : ℕ). y ∷ map f xs) same ∙ ap (λ (l : List ℕ). x ∷ l) (mapped_whole f xs (λ n h. all n (or_right (eqb n x) (has xs n) h)))
+
+pub exchanged_changes : (r s : Request) (old : List (List ℕ)) (vs : List ℕ) → AreIn old vs → AreVehiclesOf old (λ n. IsSome (stop_in n r) ⊎ IsSome (stop_in n s)) vs
+    → AreChanges old (map (map (counterpart r s)) old) (map (change_at (map (counterpart r s)) old) vs)
+exchanged_changes r s old vs within found =
+    gathered (map (counterpart r s)) old vs within
+    (λ v out. mapped_whole (counterpart r s) (of_vehicle old v) (λ n had. elim (counterpart_stays r s n) [
+      | inl asked ↦ false_true (sym out ∙ found v n asked had)
+      | inr same ↦ same
     ]))
 
 -- ---- whether a stop has a vehicle

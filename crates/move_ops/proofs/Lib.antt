@@ -11,6 +11,7 @@ pub mod Drafting
 pub mod Crossing
 pub mod Exchanging
 pub mod Fitting
+pub mod Fronts
 pub mod Gathering
 pub mod Inserting
 pub mod Installing

@@ -1,5 +1,5 @@
 -- What a plan costs with another route for a vehicle.
-use Rattle.std.proofs.Common.{◌≡◌, ℕ, zero, suc, ◌+◌, ◌-◌, ◌≤◌, List, [], ◌∷◌, length, get_or, ap, arith}
+use Rattle.std.proofs.Common.{◌≡◌, ℕ, zero, suc, ◌+◌, ◌-◌, ◌≤◌, List, [], ◌∷◌, length, get_or, set, ap, ◌∙◌, arith}
 use Rattle.std.specs.List.{sum_by}
 use Rattle.std.proofs.lemmas.List.{length-map}
 use Rattle.std.proofs.lemmas.List.Sums.{sum_by-cons}
@@ -12,7 +12,7 @@ use Rattle.move_ops.specs.Changes.{used}
 use Rattle.move_ops.specs.Tables.{plan_of, AreTablesIn}
 use Rattle.move_ops.proofs.Asked.{course_at}
 use Rattle.move_ops.proofs.Costs.{replaced}
-use Rattle.move_ops.proofs.Drafting.{vehicle_route}
+use Rattle.move_ops.proofs.Drafting.{vehicle_route, plan_with}
 
 part_of : (f : List ℕ → ℕ) (routes : List (List ℕ)) (v : ℕ) → 1 ≤ v → v ≤ length routes → f (of_vehicle routes v) ≤ sum_by f routes
 part_of f routes zero from within = absurd (omega arith)
@@ -28,7 +28,7 @@ module _ (tours : List Course) (v : ℕ) (from : 1 ≤ v) (within : v ≤ length
   in_plan : v ≤ length (plan_of tours)
   in_plan = let e = length-map tours route_of in omega arith
 
-  of_old : route_of old ≡ of_vehicle (plan_of tours) v
+  pub of_old : route_of old ≡ of_vehicle (plan_of tours) v
   of_old = vehicle_route tours v old (λ none. absurd (omega arith)) (omega arith) at
 
   pub used_part : used (route_of old) ≤ used_count (plan_of tours)
@@ -46,3 +46,14 @@ module _ (tours : List Course) (v : ℕ) (from : 1 ≤ v) (within : v ≤ length
 
     pub length_with : (new : List ℕ) → total_length p (with_route (plan_of tours) v new) ≡ total_length p (plan_of tours) - route_length p (route_of old) + route_length p new
     length_with new = let e = ap (route_length p) of_old in let h = exchanged_part (route_length p) (plan_of tours) v new from in_plan in omega arith
+
+-- how far all drive after a change
+pub length_moved : (p : Instance) (tours new : List Course) (v : ℕ) (tour : Course) → new ≡ set tours (v - 1) tour → 1 ≤ v → v ≤ length tours
+    → total_length p (plan_of new) + route_length p (of_vehicle (plan_of tours) v) ≡ total_length p (plan_of tours) + route_length p (route_of tour)
+length_moved p tours new v tour is from within =
+    let m = length-map tours route_of in
+    ap (λ (l : List (List ℕ)). total_length p l + route_length p (of_vehicle (plan_of tours) v)) (ap plan_of is ∙ plan_with tours (v - 1) tour)
+    ∙ replaced (route_length p) (plan_of tours) v (route_of tour) from (omega arith)
+
+pub length_within : (p : Instance) (tours : List Course) (v : ℕ) → 1 ≤ v → v ≤ length tours → route_length p (of_vehicle (plan_of tours) v) ≤ total_length p (plan_of tours)
+length_within p tours v from within = let m = length-map tours route_of in part_of (route_length p) (plan_of tours) v from (omega arith)

@@ -1,5 +1,5 @@
 -- The best insertion so far, on the way over the vehicles.
-use Rattle.std.specs.Prelude.{◌≡◌, ℕ, ◌≤◌, ℤ, pos, ◌==◌, Bool, true, false, not, ◌&&◌, List, length, Option, Some, None, nat_eq, MatchOption, if◌then◌else◌}
+use Rattle.std.specs.Prelude.{◌≡◌, ℕ, ◌≤◌, ◌<◌, ℤ, pos, ◌==◌, Bool, true, false, not, ◌&&◌, List, length, Option, Some, None, nat_eq, MatchOption, if◌then◌else◌}
 use Rattle.std.specs.List.{Contains}
 use Rattle.std.specs.Map.{lookup}
 use Rattle.std.specs.Option.{option_map, option_or}
@@ -52,6 +52,10 @@ IsBestUpTo p pins routes r k answer = MatchOption answer ((y : Place) → Contai
 -- one of the first k vehicles has no stops
 abbrev pub HasIdle : List (List ℕ) → ℕ → Type 0
 HasIdle routes k = (u : ℕ) × (1 ≤ u) × (u ≤ k) × (u ≤ length routes) × (length (of_vehicle routes u) ≡ 0)
+
+-- each vehicle behind the first so many has no stops, and one of those has none either
+abbrev pub IsReach : List (List ℕ) → ℕ → Type 0
+IsReach routes end = (v : ℕ) → end < v → v ≤ length routes → HasIdle routes end × (length (of_vehicle routes v) ≡ 0)
 
 -- what an insertion must add less than, where it opens a vehicle or not, to be better than the best so far; nothing where none is
 abbrev pub bound_of : Bool → Option Found → Option ℤ

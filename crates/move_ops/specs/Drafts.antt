@@ -6,7 +6,7 @@ use Rattle.plan_types.specs.declared.plans.Cost.{Cost}
 use Rattle.route_sched.specs.Cost.{has_stop, cost_of}
 use Rattle.plan_audit.specs.Passes.{passes}
 use Rattle.slack_tables.specs.Course.{Course}
-use Rattle.move_ops.specs.Insertion.{best_insertion, put_in}
+use Rattle.move_ops.specs.Insertion.{best_insertion, put_in, of_vehicle}
 use Rattle.move_ops.specs.Tables.{plan_of, AreTablesIn}
 
 -- the draft's tables, what the vehicles had before each change since the base, the newest last, marks at the pinned stops, and what both
@@ -28,6 +28,10 @@ draft_of d = plan_of d.tours
 
 abbrev pub base_of : Drafted → List (List ℕ)
 base_of d = plan_of (undone d.tours d.log)
+
+-- no vehicle behind the first so many has a stop
+abbrev pub AreIdleBehind : ℕ → List (List ℕ) → Type 0
+AreIdleBehind front routes = (v : ℕ) → front < v → length (of_vehicle routes v) ≡ 0
 
 -- both plans pass, and the tables are those of the problem
 pub record IsDraftOf (p : Instance) (pins : List (List ℕ)) (d : Drafted) : Type 0 where

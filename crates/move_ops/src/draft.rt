@@ -6,7 +6,8 @@ ghost use Rattle.route_sched.specs.Cost.{cost_of, has_stop, is_planned};
 ghost use Rattle.move_ops.specs.Insertion.{of_vehicle};
 ghost use Rattle.move_ops.specs.Moves.{is_movable};
 ghost use Rattle.move_ops.specs.Changes.{IsVehicleWith};
-ghost use Rattle.move_ops.specs.Drafts.{Drafted, undone, draft_of, base_of, IsDraftOf};
+ghost use Rattle.move_ops.specs.Choosing.{IsReach};
+ghost use Rattle.move_ops.specs.Drafts.{AreIdleBehind, Drafted, undone, draft_of, base_of, IsDraftOf};
 
 mod installing;
 mod placing;
@@ -17,7 +18,7 @@ use crate::laws::plans_pass_without_pins;
 use crate::lists::{has_stop, is_in};
 use crate::seats::{marks, seat};
 use crate::tour::{Tour, swap};
-use crate::tours::{routes_of, seats_of, tours_of, vehicle_with};
+use crate::tours::{front_of, routes_of, seats_of, tours_of, vehicle_with};
 use plan_audit::passes_are_local;
 use plan_types::{Cost, OutOfMemory, Pins, Plan, Problem, Request};
 use route_sched::plan_cost;
@@ -29,6 +30,8 @@ use std::marker::Model;
 #[derive(Debug, Drop)]
 pub struct Draft {
     tours: Vec<Tour>,
+    // No vehicle behind the first so many has a stop.
+    front: usize,
     // What a vehicle had before a change, the newest last.
     log: Vec<(u32, Tour)>,
     spare: Vec<Tour>,
@@ -69,11 +72,13 @@ impl Draft {
         plans_pass_without_pins();
         let len = problem.next_number as usize;
         let tours = tours_of(alloc, problem, plan.routes.as_slice())?;
+        let front = front_of(&tours, tours.len());
         let seats = seats_of(alloc, &tours, len)?;
         let pinned = marks(alloc, pins.routes.as_slice(), len)?;
         let cost = plan_cost(problem, plan);
         Ok(Draft {
             tours,
+            front,
             log: Vec::new(alloc),
             spare: Vec::new(alloc),
             seats,
@@ -94,6 +99,7 @@ impl Draft {
             self.forget();
         }
         self.base_cost = self.cost;
+        self.front = front_of(&self.tours, self.front);
     }
 
     /// The draft is the base again. Takes no memory.
@@ -130,6 +136,26 @@ impl Draft {
             return &[];
         }
         self.tours[index].stops()
+    }
+
+    /// How many vehicles are to be asked for the stops of the draft: none behind them has any.
+    pub fn front(&self) -> u64
+        ensures within { result ≤ length (draft_of self.now) }
+        ensures idle { AreIdleBehind result (draft_of self.now) }
+    {
+        self.front as u64
+    }
+
+    // How many vehicles are to be asked for a best insertion: where one behind the front has no stops, it stands for all others there.
+    pub(crate) fn reach(&self) -> usize
+        ensures within { result ≤ length self.now.tours }
+        ensures reach { IsReach (draft_of self.now) result }
+    {
+        let vehicles = self.tours.len();
+        if self.front < vehicles {
+            return self.front + 1;
+        }
+        vehicles
     }
 
     /// Whether a stop of the request is in the draft, and none is pinned.
@@ -229,6 +255,7 @@ impl Draft {
     {
         seat(&mut self.seats, tour.stops(), vehicle);
         let old = swap(&mut self.tours, (vehicle - 1) as usize, tour);
+        self.front = front_with(self.front, vehicle);
         self.log.push((vehicle, old))?;
         Ok(())
     }
@@ -244,6 +271,7 @@ impl Draft {
         if let Some((vehicle, tour)) = self.log.pop() {
             seat(&mut self.seats, tour.stops(), vehicle);
             let tried = swap(&mut self.tours, (vehicle - 1) as usize, tour);
+            self.front = front_with(self.front, vehicle);
             keep(&mut self.spare, tried);
         }
     }
@@ -260,6 +288,19 @@ impl Draft {
             keep(&mut self.spare, tour);
         }
     }
+}
+
+// The front, where this vehicle has another route.
+fn front_with(front: usize, vehicle: u32) -> usize
+    ensures front { front ≤ result }
+    ensures vehicle { vehicle ≤ result }
+    ensures least { (n : ℕ) → front ≤ n → vehicle ≤ n → result ≤ n }
+{
+    let vehicle = vehicle as usize;
+    if front < vehicle {
+        return vehicle;
+    }
+    front
 }
 
 // Keeps the memory of a tour, where there is room for it.

@@ -8,7 +8,7 @@ ghost use Rattle.move_ops.specs.Insertion.{request_named, best_insertion};
 ghost use Rattle.plan_audit.specs.Passes.{passes};
 ghost use Rattle.move_ops.specs.Refreshing.{fresh_of};
 ghost use Rattle.move_ops.specs.Tables.{plan_of, AreVehicles};
-ghost use Rattle.move_ops.specs.Choosing.{opens, bound_of, place_found, IsAsked, IsBetter};
+ghost use Rattle.move_ops.specs.Choosing.{opens, bound_of, place_found, IsAsked, IsBetter, IsReach};
 
 use crate::laws::{best_insertions_are_least, best_insertions_are_unique};
 use crate::lists::of_vehicle;
@@ -87,7 +87,13 @@ impl Tables {
     {
         let request = live_request(problem, name);
         let tables = self.tables.as_slice();
-        match best_of(problem, pins.routes.as_slice(), tables, request) {
+        match best_of(
+            problem,
+            pins.routes.as_slice(),
+            tables,
+            tables.len(),
+            request,
+        ) {
             Some(found) => Some(found.place()),
             None => None,
         }
@@ -166,14 +172,18 @@ fn live_request(problem: &Problem, name: u32) -> &Request
     problem.requests.get(&name).unwrap()
 }
 
-// The best insertion over all vehicles. Empty ones are alike, so the first of them stands for all.
+// The best insertion over all vehicles. Empty ones are alike, so the first of them stands for all, and where no others stand behind
+// `end`, the loop ends there.
 pub(crate) fn best_of(
     problem: &Problem,
     pins: &[Route],
     tables: &[Tour],
+    end: usize,
     request: &Request,
 ) -> Option<Found>
-    requires { IsAsked problem.now pins.now tables.now request.now }
+    requires asked { IsAsked problem.now pins.now tables.now request.now }
+    requires within { end ≤ length tables.now }
+    requires reach { IsReach (plan_of tables.now) end }
     ensures { option_map place_found result
         ≡ best_insertion problem.now pins.now (plan_of tables.now) (request_name request.now) }
 {
@@ -187,7 +197,7 @@ pub(crate) fn best_of(
     costs_are_in_order();
     let mut best = None;
     let mut has_idle = false;
-    for k in 0..tables.len() {
+    for k in 0..end {
         let table = &tables[k];
         let vehicle = k as u64 + 1;
         if table.stop_count() == 0 {
@@ -197,38 +207,38 @@ pub(crate) fn best_of(
             has_idle = true;
         }
         let kept = of_vehicle(pins, vehicle).len() as u64;
-        best = better_at(problem, request, table, kept, vehicle, best);
+        look_at(problem, request, table, kept, vehicle, &mut best);
     }
     best
 }
 
-// The best insertion so far, or a better one at this vehicle.
-fn better_at(
+// Lets the best insertion so far become a better one at this vehicle, if there is one. It is written in its place, since to copy it takes
+// longer than to look at a vehicle that is too far away.
+fn look_at(
     problem: &Problem,
     request: &Request,
     table: &Tour,
     kept: u64,
     vehicle: u64,
-    best: Option<Found>,
-) -> Option<Found>
+    best: &mut Option<Found>,
+)
     requires problem { IsInstance problem.now }
     requires course { IsCourseIn problem.now table.now }
     requires request { request_named problem.now (request_name request.now) ≡ Some request.now }
     requires valid { IsRequest request.now }
     requires kept { kept ≤ length table.now.stops }
-    ensures { IsBetter problem.now (route_of table.now) request.now kept vehicle best result }
+    ensures { IsBetter problem.now (route_of table.now) request.now kept vehicle best.old best.new }
 {
     let opens = opens(problem.kind, table);
-    let Some(below) = bound(opens, &best) else {
-        return best;
+    let Some(below) = bound(opens, best) else {
+        return;
     };
-    match table.table().best_places(request, kept, below) {
-        Some(addition) => Some(Found {
+    if let Some(addition) = table.table().best_places(request, kept, below) {
+        *best = Some(Found {
             vehicle,
             opens,
             addition,
-        }),
-        None => best,
+        });
     }
 }
 

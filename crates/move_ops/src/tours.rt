@@ -1,15 +1,16 @@
 //! The tours of a plan: built of its routes, asked for stops, and what they cost.
-ghost use Rattle.std.specs.Prelude.{◌≡◌, ◌≤◌, ◌^◌, [], true, ℕ, Some, IfOk, slice_get};
+ghost use Rattle.std.specs.Prelude.{◌≡◌, ◌≤◌, [], true, ℕ, Some, IfOk, length, slice_get};
 ghost use Rattle.plan_audit.specs.Passes.{passes};
-ghost use Rattle.route_sched.specs.Cost.{cost_of, has_stop, unplanned_count, used_count, vehicle_count, total_length};
+ghost use Rattle.route_sched.specs.Cost.{has_stop, used_count, vehicle_count};
 ghost use Rattle.move_ops.specs.Changes.{IsVehicleWith};
-ghost use Rattle.move_ops.specs.Tables.{plan_of, tables_of, AreTablesIn};
+ghost use Rattle.move_ops.specs.Drafts.{AreIdleBehind};
+ghost use Rattle.move_ops.specs.Tables.{plan_of, tables_of};
 
 use crate::lists::is_in;
 use crate::seats::seat;
 use crate::tour::Tour;
 use plan_audit::{passes_are_local, plans_are_local, tests_say_feasible};
-use plan_types::{Cost, Kind, OutOfMemory, Problem, Route, Routes};
+use plan_types::{Kind, OutOfMemory, Problem, Route, Routes};
 use std::alloc::Global;
 
 /// The tours of routes of a plan that passes.
@@ -75,25 +76,31 @@ pub(crate) fn vehicle_with(tours: &[Tour], stop: u32) -> u64
     0
 }
 
-/// What a plan costs, by its tours and how many requests it leaves out.
-pub(crate) fn cost_of_tours(problem: &Problem, tours: &[Tour], unplanned: u64) -> Cost
-    requires tables { AreTablesIn problem.now tours.now }
-    requires small { total_length problem.now (plan_of tours.now) ≤ 2 ^ 63 }
-    requires unplanned { unplanned ≡ unplanned_count problem.now (plan_of tours.now) }
-    ensures { result ≡ cost_of problem.now (plan_of tours.now) }
+/// The least front: no vehicle behind the first so many has a stop. It is at most `end`, which is such a number.
+pub(crate) fn front_of(tours: &[Tour], end: usize) -> usize
+    requires within { end ≤ length tours.now }
+    requires idle { AreIdleBehind end (plan_of tours.now) }
+    ensures within { result ≤ end }
+    ensures idle { AreIdleBehind result (plan_of tours.now) }
 {
-    Cost {
-        unplanned,
-        vehicles: vehicle_count(problem.kind, tours),
-        distance: total_distance(problem, tours),
+    let mut front = end;
+    while 0 < front {
+        if tours[front - 1].stop_count() != 0 {
+            return front;
+        }
+        front -= 1;
     }
+    front
 }
 
-fn vehicle_count(kind: Kind, tours: &[Tour]) -> u64
+/// How many vehicles count in a plan, by its tours, of which those behind the front are empty.
+pub(crate) fn vehicle_count(kind: Kind, tours: &[Tour], front: usize) -> u64
+    requires within { front ≤ length tours.now }
+    requires idle { AreIdleBehind front (plan_of tours.now) }
     ensures { result ≡ vehicle_count kind (plan_of tours.now) }
 {
     match kind {
-        Kind::LiLim => used_count(tours),
+        Kind::LiLim => used_count(&tours[..front]),
         Kind::Vrp => 0,
     }
 }
@@ -102,16 +109,4 @@ fn used_count(tours: &[Tour]) -> u64
     ensures { result ≡ used_count (plan_of tours.now) }
 {
     tours.iter().filter(|tour| !tour.stops().is_empty()).count() as u64
-}
-
-fn total_distance(problem: &Problem, tours: &[Tour]) -> u64
-    requires tables { AreTablesIn problem.now tours.now }
-    requires small { total_length problem.now (plan_of tours.now) ≤ 2 ^ 63 }
-    ensures { result ≡ total_length problem.now (plan_of tours.now) }
-{
-    let mut total = 0;
-    for tour in tours {
-        total += tour.table().distance();
-    }
-    total
 }

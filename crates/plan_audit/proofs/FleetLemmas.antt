@@ -1,5 +1,5 @@
 -- The first route beyond the fleet.
-use Rattle.std.proofs.Common.{◌≡◌, ◌≢◌, ℕ, zero, suc, ◌+◌, ◌-◌, ◌<◌, ◌≤◌, ◌⊎◌, Bool, true, false, cond, not, List, [], ◌∷◌, length, take, Some, None, slice_get, refl, sym, ap, subst, ◌∙◌, inl, inr, arith, eqb}
+use Rattle.std.proofs.Common.{◌≡◌, ◌≢◌, ℕ, zero, suc, ◌+◌, ◌-◌, ◌<◌, ◌≤◌, ◌⊎◌, Bool, true, false, cond, not, List, [], ◌∷◌, length, take, Option, Some, None, slice_get, refl, sym, ap, subst, ◌∙◌, inl, inr, arith, eqb}
 use Rattle.std.proofs.lemmas.Bool.Decides.{eqb_tells}
 use Rattle.std.proofs.lemmas.List.Sums.{sum_by-cons}
 use Rattle.plan_types.specs.Instance.{Instance}
@@ -170,3 +170,10 @@ module _ (p : Instance) (routes : List (List ℕ)) where
             let e = at.1 in let a = b.0 in let c = b.1 in
             inr (omega arith, inr (sym a, omega arith)));
       }
+
+  pub none_beyond : used_count routes ≤ p.fleet → first_beyond p.fleet 0 routes ≡ None
+  none_beyond few = by (first_beyond p.fleet 0 routes) refl
+    where
+      by : (o : Option ℕ) → first_beyond p.fleet 0 routes ≡ o → o ≡ None
+      by None e = refl
+      by (Some m) e = let b = (fleet_found m e).broken in let count = b.2 in let le = used-take (suc m) routes in absurd (omega arith)

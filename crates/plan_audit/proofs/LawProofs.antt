@@ -22,7 +22,7 @@ use Rattle.plan_audit.specs.declared.rules.Verdict.{Verdict}
 use Rattle.plan_audit.specs.declared.rules.Verdict.TheVariants.{Pass, Broken}
 use Rattle.plan_audit.proofs.AloneLemmas.{only_route, not_split}
 use Rattle.plan_audit.proofs.FirstLemmas.{some_same}
-use Rattle.plan_audit.proofs.FleetLemmas.{fleet_found, used-within, used-take}
+use Rattle.plan_audit.proofs.FleetLemmas.{fleet_found, none_beyond, used-within}
 use Rattle.plan_audit.proofs.PinLemmas.{pin_found, pins_kept}
 use Rattle.plan_audit.proofs.SoundLemmas.{missing_in, somewhere_or_not, sound_from, keeps_from, keeps_partners}
 use Rattle.plan_audit.proofs.StepLemmas.{plan_from, live_passing, planned_step, pass_step}
@@ -93,7 +93,7 @@ not_planned : (p : Instance) (routes : List (List ℕ)) (name : ℕ) (request : 
 not_planned p routes name (Single s) at free = (Single s, at, (free, tt))
 not_planned p routes name (Pair a b) at free = (Pair a b, at, (λ t. free (inl t), (λ t. free (inr t), tt)))
 
-is_planned : (p : Instance) (routes : List (List ℕ)) → AreAllPlanned p routes → (name : ℕ) → IsUnserved p routes name → ⊥
+pub is_planned : (p : Instance) (routes : List (List ℕ)) → AreAllPlanned p routes → (name : ℕ) → IsUnserved p routes name → ⊥
 is_planned p routes all name b = by b.0 b.2 (all name b.0 b.1)
   where
     by : (request : Request) → AllByRecursion (λ s. StandsSomewhere routes s.number → ⊥) (stops_of request) → IsPlanned routes request → ⊥
@@ -121,13 +121,6 @@ module _ (p : Instance) (routes : List (List ℕ)) (cost : ℕ) (valid : IsInsta
       by None e = used-within p.fleet 0 routes e
       by (Some m) e = absurd (kept Fleet (suc m) 0 0 (omega arith) (omega arith) (fleet_found p routes m e).broken)
 
-  none_beyond : used_count routes ≤ p.fleet → first_beyond p.fleet 0 routes ≡ None
-  none_beyond few = by (first_beyond p.fleet 0 routes) refl
-    where
-      by : (o : Option ℕ) → first_beyond p.fleet 0 routes ≡ o → o ≡ None
-      by None e = refl
-      by (Some m) e = let b = (fleet_found p routes m e).broken in let count = b.2 in let le = used-take (suc m) routes in absurd (omega arith)
-
   printed_cost : KeepsRules 1 11 p (printed routes cost) → cost ≡ total_length p routes
   printed_cost kept = elim (eqb_tells cost (total_length p routes)) [
     | inl t ↦ t.1
@@ -145,7 +138,7 @@ solutions_pass_where_sound by_name found p routes cost v valid is = (
       )),
   λ good. (
       passes p (printed routes cost) v
-      (pass_step p routes cost (keeps_from by_name p valid (printed routes cost) good.0 (serves_all p routes cost valid by_name good.0 good.1)) (none_beyond p routes cost valid good.2) good.3) is),
+      (pass_step p routes cost (keeps_from by_name p valid (printed routes cost) good.0 (serves_all p routes cost valid by_name good.0 good.1)) (none_beyond p routes good.2) good.3) is),
 )
 
 -- what stands in the only route stands in the plan

@@ -7,6 +7,7 @@ pub mod LocalLemmas
 pub mod PairLemmas
 pub mod PinLemmas
 pub mod PlanLemmas
+pub mod PrintLemmas
 pub mod RuleLemmas
 pub mod SeatLemmas
 pub mod ServedLemmas

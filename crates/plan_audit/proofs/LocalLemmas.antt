@@ -152,10 +152,10 @@ seats_keep routes pins kept (suc r) zero n t = absurd (none_some n t.2)
 seats_keep routes pins kept (suc r) (suc i) n t = kept r i n t
 
 module _ (p : Instance) (routes : List (List ℕ)) where
-  live_seat : IsPlan p routes → (r i n : ℕ) → Sits routes r i n → IsLive p n
+  pub live_seat : IsPlan p routes → (r i n : ℕ) → Sits routes r i n → IsLive p n
   live_seat plan r i n sits = all_seats (IsLive p) routes (recursion_from_All (IsLive p) (concat routes) (plan.live)) r i n sits
 
-  once_seat : IsPlan p routes → StandOnce routes
+  pub once_seat : IsPlan p routes → StandOnce routes
   once_seat plan = stand_once_from routes (plan.distinct)
 
   -- the first two rules
@@ -203,7 +203,7 @@ module _ (p : Instance) (routes : List (List ℕ)) where
     here : (r : ℕ) (route other : List ℕ) → item_at routes r ≡ Some route → item_at routes r ≡ Some other → other ≡ route
     here r route other at on = some_same other route (sym on ∙ at)
 
-    kept_rules : KeepsRules 1 8 p (planned routes pins)
+    pub kept_rules : KeepsRules 1 8 p (planned routes pins)
     kept_rules UnknownStop r i n from to b = none_unknown live r i n b
     kept_rules Twice r i n from to b = none_repeated once r i n b
     kept_rules Missing r i n from to b =
@@ -229,7 +229,7 @@ module _ (p : Instance) (routes : List (List ℕ)) where
     kept_rules PrintedCost r i n from to b = omega arith
 
 -- the item at an index holds what all hold
-all_items : {X : Type 0} (P : X → Type 0) (xs : List X) → All P xs → (r : ℕ) (x : X) → item_at xs r ≡ Some x → P x
+pub all_items : {X : Type 0} (P : X → Type 0) (xs : List X) → All P xs → (r : ℕ) (x : X) → item_at xs r ≡ Some x → P x
 all_items P xs all zero x at = absurd (none_some x at)
 all_items {X = X} P xs all (suc r) x at = by xs (recursion_from_All P xs all) r at
   where
@@ -238,7 +238,7 @@ all_items {X = X} P xs all (suc r) x at = by xs (recursion_from_All P xs all) r 
     by (y ∷ xs) all zero at = subst P (some_same y x at) all.0
     by (y ∷ xs) all (suc k) at = by xs all.1 k at
 
-items_all : {X : Type 0} (P : X → Type 0) (xs : List X) → ((r : ℕ) (x : X) → item_at xs r ≡ Some x → P x) → All P xs
+pub items_all : {X : Type 0} (P : X → Type 0) (xs : List X) → ((r : ℕ) (x : X) → item_at xs r ≡ Some x → P x) → All P xs
 items_all P xs each = All-from_recursion P xs (all_by_get P xs (λ k x at. each (suc k) x at))
 
 module _ (p : Instance) (pins routes : List (List ℕ)) where

@@ -64,7 +64,7 @@ no_seat routes n none = by (seat_of routes n) refl
     by None e = nowhere-seat routes n e
     by (Some u) e = absurd (let h : is_some (seat_of routes n) ≡ false = seat-has routes n ∙ none in let g : true ≡ false = (rw e at h) in cc)
 
-a_seat : (routes : List (List ℕ)) (n : ℕ) → has_stop routes n ≡ true → StandsSomewhere routes n
+pub a_seat : (routes : List (List ℕ)) (n : ℕ) → has_stop routes n ≡ true → StandsSomewhere routes n
 a_seat routes n some = by (seat_of routes n) refl
   where
     by : (o : Option Seat) → seat_of routes n ≡ o → StandsSomewhere routes n

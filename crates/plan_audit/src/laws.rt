@@ -1,5 +1,6 @@
 // Laws of the verdict, each for every problem, plan and verdict: what it means to a dispatcher.
 ghost use Rattle.plan_audit.specs.Laws.{PassesAreSound, PassesArePlans, UnsoundIsBroken, PlansPassWhereSound, SolutionsPassWhereSound, RoutesAreFeasible};
+ghost use Rattle.plan_audit.specs.Printing.{UsedRoutesAreSound, WholePlansPassPrinted};
 ghost use Rattle.plan_audit.specs.Locality.{TestsSayFeasible, TestsSayPass, PassesAreLocal, PlansAreLocal, PinsAreLiveOnce, PlansHaveVerdicts, RoutesHaveAnswers, RoutesMayBeReplaced, VerdictsAreUnique, FeasibilityIsLocal};
 
 use plan_types::{requests_are_found_by_stop, requests_stand_by_name};
@@ -96,4 +97,14 @@ pub fn feasibility_is_local()
     ensures { FeasibilityIsLocal }
 {
     schedules_agree();
+}
+
+/// A sound plan is sound without its empty routes. So a plan that passes and leaves no request out passes as it is printed, too: its
+/// routes that are not empty, and the distance driven.
+pub fn empty_routes_change_no_verdict()
+    ensures sound { UsedRoutesAreSound }
+    ensures printed { WholePlansPassPrinted }
+{
+    requests_stand_by_name();
+    requests_are_found_by_stop();
 }

@@ -1,1 +1,2 @@
+mod AuditedLemmas
 mod SolveLemmas

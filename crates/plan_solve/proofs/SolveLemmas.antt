@@ -14,7 +14,7 @@ use Rattle.command_core.specs.declared.states.State.TheVariants.{Empty, Loaded}
 use Rattle.command_text.specs.Answering.{at_line}
 use Rattle.plan_types.specs.declared.requests.Kind.{Kind}
 use Rattle.plan_solve.specs.Solved.{Fails, IsSearched, IsSolution, above, marks, solved, twentieths}
-use Rattle.plan_solve.specs.Telling.{IsBegun, IsText, LeavesOut, marks_left, told}
+use Rattle.plan_solve.specs.Telling.{Interrupts, IsBegun, IsText, LeavesOut, marks_left, told}
 use Rattle.plan_solve.specs.declared.faults.SolveFault.{SolveFault}
 use Rattle.plan_solve.specs.declared.faults.SolveFault.TheVariants as fault
 
@@ -119,7 +119,7 @@ module _ (add_up : SearchesAddUp) (many : RunsAreOneSearch) (begun : State) (ste
 module _ (kind : Kind) (text : List ℕ) (seed steps : ℕ) (before now : Option (List ℕ)) (begun found : State) where
   -- what is told of the search that begins with the plan that is built
   search_told : (b : IsBegun kind text seed begun) → Appends before now (told begun (marks steps)) → IsSearched kind text seed steps before now b.problem
-  search_told b written = record { spelled = b.spelled; told = subst (λ s. Appends before now (told s (marks steps))) b.state written }
+  search_told b written = record { spelled = b.spelled; kept = b.kept; told = subst (λ s. Appends before now (told s (marks steps))) b.state written }
 
   found_is : (b : IsBegun kind text seed begun) → found ≡ effect begun (Search steps) → found ≡ Loaded (solved b.problem seed steps)
   found_is b makes = makes ∙ ap (λ s. effect s (Search steps)) b.state
@@ -128,10 +128,17 @@ module _ (kind : Kind) (text : List ℕ) (seed steps : ℕ) (before now : Option
       → MatchResult r (IsSolution kind text seed steps before now) (Fails kind text seed steps before now)
   solves (Ok answer) b makes written is =
       let planned = subst (λ s. IsText s answer) (found_is b makes) is in
-      record { problem = b.problem; searched = search_told b written; planned = planned.0; solution = planned.1 }
+      record { problem = b.problem; searched = search_told b written; planned = planned.0; solution = planned.1; spells = planned.2 }
   solves (Err (fault.Unplanned n)) b makes written is =
       let left = subst (λ s. LeavesOut s (fault.Unplanned n)) (found_is b makes) is in
       record { problem = b.problem; searched = search_told b written; some = left.0; count = left.1 }
   solves (Err (fault.Refused first)) b makes written is = absurd (subst (λ s. LeavesOut s (fault.Refused first)) (found_is b makes) is)
   solves (Err fault.OutOfMemory) b makes written is = tt
-  solves (Err fault.WriteFault) b makes written is = tt
+  solves (Err fault.WriteFault) b makes written is = absurd (subst (λ s. LeavesOut s fault.WriteFault) (found_is b makes) is)
+
+  -- what may end a search ends a solving
+  pub interrupted : (f : SolveFault) → IsBegun kind text seed begun → Interrupts f → Fails kind text seed steps before now f
+  interrupted (fault.Refused first) b is = absurd is
+  interrupted (fault.Unplanned n) b is = absurd is
+  interrupted fault.OutOfMemory b is = tt
+  interrupted fault.WriteFault b is = (b.problem, b.spelled)

@@ -7,7 +7,7 @@ mod marks;
 mod solving;
 
 pub use faults::SolveFault;
-pub use laws::solving_is_commands;
+pub use laws::{solving_is_commands, what_is_solved_passes_the_audit};
 pub use solving::solve;
 
 #[cfg(test)]

@@ -15,9 +15,9 @@ use crate::marks::{PARTS, twentieths};
 use command_core::{Command, State, apply, searches_add_up};
 use command_text::{Text, at_line, next_count, print};
 use instance_read::{ReadFault, ReadFaultKind, read_lilim, read_vrp};
-use plan_types::{Kind, Problem};
+use plan_types::{Kind, OutOfMemory, Problem};
 use sol_text::WriteSolFault;
-use std::alloc::Global;
+use std::alloc::{AllocError, Global};
 use std::io::Write;
 
 /// The text of the solution that the search finds in so many steps from the plan that is built of an instance's text, as a store's
@@ -28,8 +28,8 @@ use std::io::Write;
 ///
 /// # Errors
 ///
-/// `Refused`, with the first fault of the instance's text; `Unplanned`, where requests are in no route at the end. `OutOfMemory` and
-/// `WriteFault` may come at any time.
+/// `Refused`, with the first fault of the instance's text; `Unplanned`, where requests are in no route at the end. `OutOfMemory` may come
+/// at any time, and `WriteFault` once the instance is read.
 pub fn solve<W: Write>(
     alloc: Global,
     kind: Kind,
@@ -57,7 +57,7 @@ fn begin(alloc: Global, kind: Kind, instance: &[u8], seed: u64) -> Result<State,
         Err(fault) => return Err(refused(fault)),
     };
     let loaded = carried_out(alloc, &State::Empty, &Command::Load(problem, seed))?;
-    carried_out(alloc, &loaded, &Command::Build)
+    Ok(carried_out(alloc, &loaded, &Command::Build)?)
 }
 
 fn read(alloc: Global, kind: Kind, text: &[u8]) -> Result<Problem, ReadFault>
@@ -80,13 +80,12 @@ fn refused(fault: ReadFault) -> SolveFault
 }
 
 /// What a command makes of the state. Those of a solving are never refused but for want of memory.
-fn carried_out(alloc: Global, state: &State, command: &Command) -> Result<State, SolveFault>
-    ensures state { IfOk result (λ next. next ≡ effect state.now command.now) }
-    ensures fault { IfErr result Interrupts }
+fn carried_out(alloc: Global, state: &State, command: &Command) -> Result<State, OutOfMemory>
+    ensures { IfOk result (λ next. next ≡ effect state.now command.now) }
 {
     match apply(alloc, state, command) {
         Ok(next) => Ok(next),
-        Err(_) => Err(SolveFault::OutOfMemory),
+        Err(_) => Err(AllocError),
     }
 }
 
@@ -120,9 +119,8 @@ fn search_telling<W: Write>(
 }
 
 /// So many more steps of the search, piece by piece.
-fn search(alloc: Global, state: State, steps: u32) -> Result<State, SolveFault>
-    ensures state { IfOk result (λ found. found ≡ effect state (Search steps)) }
-    ensures fault { IfErr result Interrupts }
+fn search(alloc: Global, state: State, steps: u32) -> Result<State, OutOfMemory>
+    ensures { IfOk result (λ found. found ≡ effect state (Search steps)) }
 {
     searches_add_up();
     let mut state = state;

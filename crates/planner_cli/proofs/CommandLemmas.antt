@@ -23,7 +23,7 @@ use Rattle.std.proofs.lemmas.Slice.Eq.{bytes_eq-Decides}
 use Rattle.clap.proofs.WalkLemmas.{first_value-rows, list_any-map}
 use Rattle.clap.proofs.OnLiterals.{clap_on_literals}
 use Rattle.planner_cli.specs.declared.words.Invocation.{Invocation}
-use Rattle.planner_cli.specs.Asked.{IsRefusal, ArePositional, Asked, PathsAsked, Reads, TaskAsked, asked_by, asked_with, asks_help, audit, audits, format, is_positional_word, kind_named, list_asked, list_from, list_in, paths_asked, paths_from, paths_in, run, seed_named, seed_or_none, solve, steps_named, store_asked, store_in, task_asked, task_from, task_in, task_with, told_by, told_of, usage_status_of}
+use Rattle.planner_cli.specs.Asked.{IsRefusal, ArePositional, Asked, PathsAsked, Reads, TaskAsked, asked_by, asked_with, asks_help, audit, audits, draw, explain, format, is_positional_word, kind_named, list_asked, list_from, list_in, paths_asked, paths_from, paths_in, run, seed_named, seed_or_none, solve, steps_named, store_asked, store_in, task_asked, task_from, task_in, task_with, told_by, told_of, usage_status_of}
 use Rattle.planner_cli.specs.CommandLine.{IsKindNames, IsPlannerCommand, audits_app, paths_app, planner_app, solve_app, store_app}
 
 -- ---- a word that does not begin with a hyphen is a value
@@ -596,6 +596,22 @@ module _ (names : Bor (List (Bor Text))) (words : List Text) where
   unfolding clap_on_literals
   audits_stop = ap (λ (w : Walk). told_of (entered (the_app names) w.stopped)) (top_walked (codes "audits"))
 
+  explain_words_fault : built_fault (the_app names) nothing_held (codes "explain" ∷ words) ≡ paths_fault (codes "explain") names words
+  unfolding clap_on_literals
+  explain_words_fault = rw (top_walked (codes "explain"), top_fault (codes "explain")) (or_else-nil (paths_fault (codes "explain") names words))
+
+  explain_stop : told_of (stop_in names (codes "explain" ∷ words)) ≡ option_map explain (paths_in (rows_at (paths_shape (codes "explain") names) words).1)
+  unfolding clap_on_literals
+  explain_stop = ap (λ (w : Walk). told_of (entered (the_app names) w.stopped)) (top_walked (codes "explain"))
+
+  draw_words_fault : built_fault (the_app names) nothing_held (codes "draw" ∷ words) ≡ paths_fault (codes "draw") names words
+  unfolding clap_on_literals
+  draw_words_fault = rw (top_walked (codes "draw"), top_fault (codes "draw")) (or_else-nil (paths_fault (codes "draw") names words))
+
+  draw_stop : told_of (stop_in names (codes "draw" ∷ words)) ≡ option_map draw (paths_in (rows_at (paths_shape (codes "draw") names) words).1)
+  unfolding clap_on_literals
+  draw_stop = ap (λ (w : Walk). told_of (entered (the_app names) w.stopped)) (top_walked (codes "draw"))
+
   solve_words_fault : built_fault (the_app names) nothing_held (codes "solve" ∷ words) ≡ solve_fault names words
   unfolding clap_on_literals
   solve_words_fault = rw (top_walked (codes "solve"), top_fault (codes "solve")) (or_else-nil (solve_fault names words))
@@ -625,19 +641,22 @@ unfolding clap_on_literals
 help_fault names words = tt
 
 abbrev all_names : Names
-all_names = (codes "audit", []) ∷ (codes "audits", []) ∷ (codes "solve", []) ∷ (codes "format", []) ∷ (codes "run", []) ∷ (codes "help", []) ∷ []
+all_names =
+    (codes "audit", []) ∷ (codes "audits", []) ∷ (codes "explain", []) ∷ (codes "draw", []) ∷ (codes "solve", []) ∷ (codes "format", []) ∷ (codes "run", []) ∷ (codes "help", []) ∷ []
 
 -- the word is no subcommand's name
 record IsOther (w : Text) : Type 0 where
   positional : is_positional_word w ≡ true
   no_audit : bytes_eq (codes "audit") w ≡ false
   no_audits : bytes_eq (codes "audits") w ≡ false
+  no_explain : bytes_eq (codes "explain") w ≡ false
+  no_draw : bytes_eq (codes "draw") w ≡ false
   no_solve : bytes_eq (codes "solve") w ≡ false
   no_format : bytes_eq (codes "format") w ≡ false
   no_run : bytes_eq (codes "run") w ≡ false
 
 no_subcommand : (w : Text) → IsOther w → bytes_eq (codes "help") w ≡ false → subcommand_met all_names idle w ≡ None
-no_subcommand w o h = rw (o.no_audit, o.no_audits, o.no_solve, o.no_format, o.no_run, h) refl
+no_subcommand w o h = rw (o.no_audit, o.no_audits, o.no_explain, o.no_draw, o.no_solve, o.no_format, o.no_run, h) refl
 
 turn_fault-stray : (s : Shape) (w : Text) → IsOther w → bytes_eq (codes "help") w ≡ false → turn_fault s all_names (standing nothing_held 1) w ≡ step_fault s 1 nothing_held value
 turn_fault-stray s w o h = rw (no_subcommand w o h, word_passes s w nothing_held o.positional, word_is_value s.rules 1 w nothing_held o.positional) refl
@@ -662,40 +681,61 @@ judged_named names Help name w words fault asked told is f t j =
     subst (λ (v : Text). IsJudged Help (built_fault (the_app names) nothing_held (v ∷ words)) asked (told_of (stop_in names (v ∷ words)))) is
     (subst (λ x. IsJudged Help x asked (told_of (stop_in names (name ∷ words)))) (sym f) (subst (λ x. IsJudged Help fault asked x) (sym t) j))
 
-judged_first : (names : Bor (List (Bor Text))) (w : Text) (words : List Text) (is_audit is_audits is_solve is_format is_run : Bool)
-    → bytes_eq (codes "audit") w ≡ is_audit → bytes_eq (codes "audits") w ≡ is_audits → bytes_eq (codes "solve") w ≡ is_solve → bytes_eq (codes "format") w ≡ is_format → bytes_eq (codes "run") w ≡ is_run
-    → IsKindNames names → ArePositional (w ∷ words)
-    → IsJudged (asks_help (w ∷ words) ≡ true) (built_fault (the_app names) nothing_held (w ∷ words))
-    (if is_audit then option_map audit (paths_asked words) else (if is_audits then list_asked words else (if is_solve then option_map solve (task_asked words) else (if is_format then option_map format (store_asked words) else (if is_run then option_map run (store_asked words) else None))))) (told_of (stop_in names (w ∷ words)))
-judged_first names w words true is_audits is_solve is_format is_run e1 e2 e3 e4 e5 kinds p =
+-- what the words behind the first one ask for, by whether it is the name of each subcommand
+abbrev asked_if : List Text → Bool → Bool → Bool → Bool → Bool → Bool → Bool → Option Asked
+asked_if words is_audit is_audits is_explain is_draw is_solve is_format is_run =
+    if is_audit then option_map audit (paths_asked words)
+    else (if is_audits then list_asked words
+    else (if is_explain then option_map explain (paths_asked words)
+    else (if is_draw then option_map draw (paths_asked words)
+    else (if is_solve then option_map solve (task_asked words)
+    else (if is_format then option_map format (store_asked words)
+    else (if is_run then option_map run (store_asked words) else None))))))
+
+judged_first : (names : Bor (List (Bor Text))) (w : Text) (words : List Text) (is_audit is_audits is_explain is_draw is_solve is_format is_run : Bool)
+    → bytes_eq (codes "audit") w ≡ is_audit → bytes_eq (codes "audits") w ≡ is_audits → bytes_eq (codes "explain") w ≡ is_explain → bytes_eq (codes "draw") w ≡ is_draw
+    → bytes_eq (codes "solve") w ≡ is_solve → bytes_eq (codes "format") w ≡ is_format → bytes_eq (codes "run") w ≡ is_run → IsKindNames names → ArePositional (w ∷ words)
+    → IsJudged (asks_help (w ∷ words) ≡ true) (built_fault (the_app names) nothing_held (w ∷ words)) (asked_if words is_audit is_audits is_explain is_draw is_solve is_format is_run)
+    (told_of (stop_in names (w ∷ words)))
+judged_first names w words true is_audits is_explain is_draw is_solve is_format is_run e1 e2 e3 e4 e5 e6 e7 kinds p =
     let rest = (both_true _ _ p).1 in
     judged_named names _ (codes "audit") w words _ _ _ ((bytes_eq-Decides (codes "audit") w).0 e1) (audit_words_fault names words) (audit_stop names words)
     (judged_paths _ audit (codes "audit") names words kinds rest)
-judged_first names w words false true is_solve is_format is_run e1 e2 e3 e4 e5 kinds p =
+judged_first names w words false true is_explain is_draw is_solve is_format is_run e1 e2 e3 e4 e5 e6 e7 kinds p =
     let rest = (both_true _ _ p).1 in
     judged_named names _ (codes "audits") w words _ _ _ ((bytes_eq-Decides (codes "audits") w).0 e2) (audits_words_fault names words) (audits_stop names words)
     (judged_list _ names words kinds rest)
-judged_first names w words false false true is_format is_run e1 e2 e3 e4 e5 kinds p =
+judged_first names w words false false true is_draw is_solve is_format is_run e1 e2 e3 e4 e5 e6 e7 kinds p =
     let rest = (both_true _ _ p).1 in
-    judged_named names _ (codes "solve") w words _ _ _ ((bytes_eq-Decides (codes "solve") w).0 e3) (solve_words_fault names words) (solve_stop names words)
+    judged_named names _ (codes "explain") w words _ _ _ ((bytes_eq-Decides (codes "explain") w).0 e3) (explain_words_fault names words) (explain_stop names words)
+    (judged_paths _ explain (codes "explain") names words kinds rest)
+judged_first names w words false false false true is_solve is_format is_run e1 e2 e3 e4 e5 e6 e7 kinds p =
+    let rest = (both_true _ _ p).1 in
+    judged_named names _ (codes "draw") w words _ _ _ ((bytes_eq-Decides (codes "draw") w).0 e4) (draw_words_fault names words) (draw_stop names words)
+    (judged_paths _ draw (codes "draw") names words kinds rest)
+judged_first names w words false false false false true is_format is_run e1 e2 e3 e4 e5 e6 e7 kinds p =
+    let rest = (both_true _ _ p).1 in
+    judged_named names _ (codes "solve") w words _ _ _ ((bytes_eq-Decides (codes "solve") w).0 e5) (solve_words_fault names words) (solve_stop names words)
     (judged_task _ names words kinds rest)
-judged_first names w words false false false true is_run e1 e2 e3 e4 e5 kinds p =
+judged_first names w words false false false false false true is_run e1 e2 e3 e4 e5 e6 e7 kinds p =
     let rest = (both_true _ _ p).1 in
-    judged_named names _ (codes "format") w words _ _ _ ((bytes_eq-Decides (codes "format") w).0 e4) (format_words_fault names words) (format_stop names words)
+    judged_named names _ (codes "format") w words _ _ _ ((bytes_eq-Decides (codes "format") w).0 e6) (format_words_fault names words) (format_stop names words)
     (judged_store _ format (codes "format") words rest)
-judged_first names w words false false false false true e1 e2 e3 e4 e5 kinds p =
+judged_first names w words false false false false false false true e1 e2 e3 e4 e5 e6 e7 kinds p =
     let rest = (both_true _ _ p).1 in
-    judged_named names _ (codes "run") w words _ _ _ ((bytes_eq-Decides (codes "run") w).0 e5) (run_words_fault names words) (run_stop names words)
+    judged_named names _ (codes "run") w words _ _ _ ((bytes_eq-Decides (codes "run") w).0 e7) (run_words_fault names words) (run_stop names words)
     (judged_store _ run (codes "run") words rest)
-judged_first names w words false false false false false e1 e2 e3 e4 e5 kinds p =
+judged_first names w words false false false false false false false e1 e2 e3 e4 e5 e6 e7 kinds p =
     inr (
       judged_other names w words (bytes_eq (codes "help") w) refl (record {
         positional = (both_true _ _ p).0;
         no_audit = e1;
         no_audits = e2;
-        no_solve = e3;
-        no_format = e4;
-        no_run = e5;
+        no_explain = e3;
+        no_draw = e4;
+        no_solve = e5;
+        no_format = e6;
+        no_run = e7;
       }),
       refl,
     )
@@ -705,8 +745,8 @@ pub judged_words : (names : Bor (List (Bor Text))) (words : List Text) → IsKin
     → IsJudged (asks_help words ≡ true) (built_fault (the_app names) nothing_held words) (asked_by words) (told_of (stop_in names words))
 judged_words names [] kinds p = inl (no_words names, refl)
 judged_words names (w ∷ words) kinds p =
-    judged_first names w words (bytes_eq (codes "audit") w) (bytes_eq (codes "audits") w) (bytes_eq (codes "solve") w) (bytes_eq (codes "format") w) (bytes_eq (codes "run") w)
-    refl refl refl refl refl kinds p
+    judged_first names w words (bytes_eq (codes "audit") w) (bytes_eq (codes "audits") w) (bytes_eq (codes "explain") w) (bytes_eq (codes "draw") w) (bytes_eq (codes "solve") w)
+    (bytes_eq (codes "format") w) (bytes_eq (codes "run") w) refl refl refl refl refl refl refl kinds p
 
 -- ---- the values of words
 

@@ -13,7 +13,8 @@ use Rattle.instance_read.specs.Faults.{HasNone}
 use Rattle.instance_read.specs.Lilim.{problem_of}
 use Rattle.sol_text.specs.Faults.{Spells}
 use Rattle.sol_text.specs.declared.read.Solution.{Solution}
-use Rattle.planner_cli.specs.Answer.{InstanceFault, IsAnswer, JudgesSpelled, SaysSound, SpellsInstance, TellsVerdict, verdict_answer}
+use Rattle.command_text.specs.Readings.{InstanceFault, SpellsInstance}
+use Rattle.planner_cli.specs.Answer.{IsAnswer, JudgesSpelled, SaysSound, TellsVerdict, verdict_answer}
 use Rattle.planner_cli.specs.declared.answer.AuditAnswer.{AuditAnswer}
 
 problem_once : (kind : Kind) (text : List ℕ) (p q : Instance) → SpellsInstance kind text p → SpellsInstance kind text q → p ≡ q

@@ -4,13 +4,9 @@ use Rattle.plan_audit.specs.Laws.{AreAllPlanned, IsSoundPlan}
 use Rattle.route_sched.specs.Cost.{total_length, used_count}
 use Rattle.plan_types.specs.Instance.{Instance, IsInstance}
 use Rattle.plan_types.specs.declared.requests.Kind.{Kind}
-use Rattle.plan_types.specs.declared.requests.Kind.TheVariants.{LiLim, Vrp}
-use Rattle.instance_read.specs.Faults.{Class, IsFirstFault}
-use Rattle.instance_read.specs.Lilim.{LilimFault, SpellsLilim}
+use Rattle.instance_read.specs.Faults.{IsFirstFault}
 use Rattle.instance_read.specs.Names as instance_names
-use Rattle.instance_read.specs.Vrp.{SpellsVrp, VrpFault}
 use Rattle.instance_read.specs.declared.faults.ReadFault.{ReadFault}
-use Rattle.instance_read.specs.declared.faults.ReadFaultKind.{ReadFaultKind}
 use Rattle.sol_text.specs.Faults as sol_faults
 use Rattle.sol_text.specs.Names as solution_names
 use Rattle.sol_text.specs.declared.faults.SolFault.{SolFault}
@@ -18,6 +14,7 @@ use Rattle.sol_text.specs.declared.read.Solution.{Solution}
 use Rattle.plan_audit.specs.Verdict.{IsVerdict, printed}
 use Rattle.plan_audit.specs.declared.rules.Verdict.{Verdict}
 use Rattle.plan_audit.specs.declared.rules.Verdict.TheVariants.{Broken, Pass}
+use Rattle.command_text.specs.Readings.{InstanceFault, SpellsInstance}
 use Rattle.planner_cli.specs.AnswerText.{broken_text, fault_text, pass_text}
 use Rattle.planner_cli.specs.declared.answer.AuditAnswer.{AuditAnswer}
 
@@ -29,16 +26,6 @@ refused_answer text name line = record { line = fault_text text name line; statu
 abbrev pub verdict_answer : Verdict → AuditAnswer
 verdict_answer (Pass cost) = record { line = pass_text cost; status = 0 }
 verdict_answer (Broken rule route place stop) = record { line = broken_text rule route place stop; status = 1 }
-
--- a fault of an instance's text, in the format of its kind
-abbrev pub InstanceFault : Kind → List ℕ → Class → ℕ → ReadFaultKind → Type 0
-InstanceFault LiLim text = LilimFault text
-InstanceFault Vrp text = VrpFault text
-
--- the problem that it spells
-abbrev pub SpellsInstance : Kind → List ℕ → Instance → Type 0
-SpellsInstance LiLim text = SpellsLilim text
-SpellsInstance Vrp text = SpellsVrp text
 
 -- the instance spells no problem: its first fault is told
 pub record RefusesInstance (kind : Kind) (instance : List ℕ) (answer : AuditAnswer) : Type 0 where

@@ -12,7 +12,7 @@ use Rattle.command_text.specs.Asking.{field_in}
 use Rattle.text_lines.specs.Numbers.{below, digits_of}
 use Rattle.planner_cli.specs.declared.words.Paths.{Paths}
 use Rattle.planner_cli.specs.declared.words.Invocation.{Invocation}
-use Rattle.planner_cli.specs.declared.words.Invocation.TheVariants.{Audit, Audits, BuiltIn, Format, Run, Solve}
+use Rattle.planner_cli.specs.declared.words.Invocation.TheVariants.{Audit, Audits, BuiltIn, Draw, Explain, Format, Run, Solve}
 use Rattle.planner_cli.specs.declared.words.Task.{Task}
 
 -- two files of a kind of instance, by their paths
@@ -28,12 +28,14 @@ pub record TaskAsked : Type 0 where
   pub steps : ℕ
   pub seed : ℕ
 
--- The audit of the two built-in texts, or of two files; the audits of a list; the solving of an
--- instance; a store made in a file, or commands over one.
+-- The audit of the two built-in texts, or of two files; the audits of a list; the audit of two files with what it rests on, or the picture
+-- of the solution; the solving of an instance; a store made in a file, or commands over one.
 pub data Asked : Type 0 where
   built_in : Asked
   audit : PathsAsked → Asked
   audits : Kind → Text → Asked
+  explain : PathsAsked → Asked
+  draw : PathsAsked → Asked
   solve : TaskAsked → Asked
   format : Text → Asked
   run : Text → Asked
@@ -48,6 +50,8 @@ abbrev pub asked_of : Invocation → Asked
 asked_of BuiltIn = built_in
 asked_of (Audit paths) = audit (paths_of paths)
 asked_of (Audits kind list) = audits kind list.now
+asked_of (Explain paths) = explain (paths_of paths)
+asked_of (Draw paths) = draw (paths_of paths)
 asked_of (Solve task) = solve (task_of task)
 asked_of (Format store) = format store.now
 asked_of (Run store) = run store.now
@@ -99,9 +103,11 @@ store_asked _ = None
 abbrev pub asked_with : List Text → Text → Option Asked
 asked_with words command = if bytes_eq (codes "audit") command then option_map audit (paths_asked words)
     else (if bytes_eq (codes "audits") command then list_asked words
+    else (if bytes_eq (codes "explain") command then option_map explain (paths_asked words)
+    else (if bytes_eq (codes "draw") command then option_map draw (paths_asked words)
     else (if bytes_eq (codes "solve") command then option_map solve (task_asked words)
     else (if bytes_eq (codes "format") command then option_map format (store_asked words)
-    else (if bytes_eq (codes "run") command then option_map run (store_asked words) else None))))
+    else (if bytes_eq (codes "run") command then option_map run (store_asked words) else None))))))
 
 -- no words, or a command with its own
 abbrev pub asked_by : List Text → Option Asked
@@ -140,11 +146,17 @@ store_in rows = first_of (codes "STORE") rows
 abbrev pub told_of_store : Text → List Row → Option Asked
 told_of_store name rows = if bytes_eq (codes "format") name then option_map format (store_in rows) else option_map run (store_in rows)
 
--- what the subcommand of this name asks for; there is no other one than these
+-- what a subcommand asks for that takes no solution; there is no other one than these
+abbrev pub told_by_other : Text → List Row → Option Asked
+told_by_other name rows =
+    if bytes_eq (codes "audits") name then list_in rows
+    else (if bytes_eq (codes "solve") name then option_map solve (task_in rows) else told_of_store name rows)
+
+-- what the subcommand of this name asks for
 abbrev pub told_by : Text → List Row → Option Asked
 told_by name rows = if bytes_eq (codes "audit") name then option_map audit (paths_in rows)
-    else (if bytes_eq (codes "audits") name then list_in rows
-    else (if bytes_eq (codes "solve") name then option_map solve (task_in rows) else told_of_store name rows))
+    else (if bytes_eq (codes "explain") name then option_map explain (paths_in rows)
+    else (if bytes_eq (codes "draw") name then option_map draw (paths_in rows) else told_by_other name rows))
 
 -- what the subcommand asks for
 abbrev pub told_of : Option (Text × List Row) → Option Asked

@@ -45,7 +45,9 @@ abbrev pub planner_app : Bor (List (Bor Text)) → App
 planner_app names =
     let audit = with_subcommand (versioned_app (codes "planner")) (paths_app (codes "audit") names).top in
     let audits = with_subcommand audit (audits_app names).top in
-    let solve = with_subcommand audits (solve_app names).top in
+    let explain = with_subcommand audits (paths_app (codes "explain") names).top in
+    let draw = with_subcommand explain (paths_app (codes "draw") names).top in
+    let solve = with_subcommand draw (solve_app names).top in
     with_subcommand (with_subcommand solve (store_app (codes "format")).top) (store_app (codes "run")).top
 
 abbrev pub kind_words : List Text

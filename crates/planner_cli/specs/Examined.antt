@@ -9,7 +9,8 @@ use Rattle.sol_text.specs.Faults as sol_faults
 use Rattle.sol_text.specs.Names as solution_names
 use Rattle.sol_text.specs.declared.faults.SolFault.{SolFault}
 use Rattle.sol_text.specs.declared.read.Solution.{Solution}
-use Rattle.planner_cli.specs.Answer.{InstanceFault, IsSolutionVerdict, SpellsInstance, refused_answer, verdict_answer}
+use Rattle.command_text.specs.Readings.{InstanceFault, SpellsInstance}
+use Rattle.planner_cli.specs.Answer.{IsSolutionVerdict, refused_answer, verdict_answer}
 use Rattle.planner_cli.specs.declared.answer.AuditAnswer.{AuditAnswer}
 use Rattle.planner_cli.specs.declared.audit.Examined.{Examined}
 use Rattle.planner_cli.specs.declared.audit.Examined.TheVariants.{BadInstance, BadSolution, Judged}
@@ -38,3 +39,9 @@ abbrev pub answer_of : Examined → AuditAnswer
 answer_of (BadInstance fault) = refused_answer (codes "instance") (instance_names.kind_name fault.kind) fault.line
 answer_of (BadSolution fault) = refused_answer (codes "solution") (solution_names.kind_name fault.kind) fault.line
 answer_of (Judged problem plan verdict) = verdict_answer verdict
+
+-- where both texts spell a value, the verdict is that on the two
+abbrev pub HasVerdict : Examined → Type 0
+HasVerdict (BadInstance fault) = Unit {0}
+HasVerdict (BadSolution fault) = Unit {0}
+HasVerdict (Judged problem plan verdict) = IsSolutionVerdict problem plan verdict

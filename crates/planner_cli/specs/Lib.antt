@@ -6,7 +6,9 @@ pub mod Served
 pub mod Streams
 -- of private functions alone
 pub mod CommandLine
+pub mod Drawn
 pub mod Examined
+pub mod Explained
 pub mod Files
 pub mod Listed
 pub mod Solving

@@ -1,7 +1,8 @@
 //! The audit of two texts.
 ghost use Rattle.std.specs.Prelude.{◌≡◌, ◌≢◌, ◌≤◌, IfErr, IfOk};
 ghost use Rattle.instance_read.specs.Faults.{Tells};
-ghost use Rattle.planner_cli.specs.Answer.{InstanceFault, IsAnswer, JudgesSpelled, SaysSound, SpellsInstance, refused_answer, verdict_answer};
+ghost use Rattle.command_text.specs.Readings.{InstanceFault, SpellsInstance};
+ghost use Rattle.planner_cli.specs.Answer.{IsAnswer, JudgesSpelled, SaysSound, refused_answer, verdict_answer};
 ghost use Rattle.planner_cli.specs.Examined.{IsExamined, answer_of};
 ghost use Rattle.planner_cli.specs.declared.audit.Examined.TheVariants.{BadInstance, BadSolution};
 

@@ -7,7 +7,7 @@ pub(crate) const ABOUT: &str =
     Without words it audits a built-in example.";
 
 pub(crate) const STATUSES: &str =
-    "Each answer is a line on standard output. The status says how the program ended:\n  \
+    "Answers go to standard output. The status says how the program ended:\n  \
     0   done; of an audit: the solution keeps all rules\n  \
     1   the solution breaks a rule, or requests stay unplanned\n  \
     2   a text or a store is refused\n  \
@@ -65,6 +65,26 @@ pub(crate) const AUDITS_ANSWERS: &str =
     INSTANCE  SOLUTION  ANSWER    with tabs between them; ANSWER is the line of `audit`\n  \
     bad line                      it is no two paths (status 2)\n\n\
     The status is the greatest of `audit` over the lines.";
+
+pub(crate) const EXPLAIN_ABOUT: &str = "Audits a solution, and tells the figures behind the answer";
+
+pub(crate) const EXPLAIN_ANSWERS: &str =
+    "It prints the line of `audit`, with its status, and under it:\n  \
+    pass                  a line for each route, and the sums (status 0)\n  \
+    broken                a sentence with the figures, and the route stop by stop (status 1)\n  \
+    instance or solution  what the fault means, and the line that has it (status 2)\n\n\
+    `cannot read PATH` (status 3) and `out of memory` (status 4) stand alone.";
+
+pub(crate) const DRAW_ABOUT: &str = "Draws a solution as a picture, in SVG";
+
+pub(crate) const DRAW_ANSWERS: &str =
+    "It prints a picture of the depot, the stops, and each route with its figures; of a lilim instance also\n\
+    the day of each vehicle. What breaks a rule is drawn too, and marked (status 0).\n\
+    Where there is no picture, it prints on standard error:\n  \
+    instance NAME LINE  the first fault of the instance's text (status 2)\n  \
+    solution NAME LINE  the first fault of the solution's text (status 2)\n  \
+    cannot read PATH    the file can't be read (status 3)\n  \
+    out of memory       (status 4)";
 
 pub(crate) const SOLVE_ABOUT: &str = "Finds a solution of an instance";
 

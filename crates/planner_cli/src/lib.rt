@@ -6,6 +6,8 @@ mod answer;
 mod answering;
 mod audit;
 mod audited;
+mod drawn;
+mod explained;
 mod help;
 mod input;
 mod listed;

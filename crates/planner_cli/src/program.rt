@@ -7,6 +7,8 @@ ghost use Rattle.planner_cli.specs.Telling.{TellsAudit, example_instance, exampl
 
 use crate::audit::audit_text;
 use crate::audited::audit_read;
+use crate::drawn::draw_read;
+use crate::explained::explain_read;
 use crate::listed::audits_read;
 use crate::solved::solve_read;
 use crate::status::{DONE, OUT_OF_MEMORY, USAGE};
@@ -63,6 +65,8 @@ where
         Invocation::BuiltIn => audit_example(rt.alloc(), &mut output),
         Invocation::Audit(paths) => audit_files(rt, paths, &mut output),
         Invocation::Audits { kind, list } => audit_list(rt, kind, list, &mut output),
+        Invocation::Explain(paths) => explain_files(rt, paths, &mut output),
+        Invocation::Draw(paths) => draw_files(rt, paths, &mut output, errors),
         Invocation::Solve(task) => solve_file(rt, task, &mut output, errors),
         Invocation::Format { store } => format_store(rt, start, store, &mut output),
         Invocation::Run { store } => run_store(rt, start, store, &mut rt.reader(), &mut output),
@@ -130,6 +134,31 @@ where
 {
     let read = |path: &str| read_file(rt, path);
     audits_read(rt.alloc(), kind, list, &read, output)
+}
+
+/// Audits two files, and tells what the answer rests on.
+fn explain_files<R, W: Write>(rt: &R, paths: Paths, output: &mut W) -> io::Result<u8>
+where
+    R: Files + Eprint + AllocGlobal,
+    ensures { IfOk result (λ status. status ≤ 4) }
+{
+    let read = |path: &str| read_file(rt, path);
+    explain_read(rt.alloc(), paths, &read, output)
+}
+
+/// Draws the solution in a file.
+fn draw_files<R, W: Write, E: Write>(
+    rt: &R,
+    paths: Paths,
+    output: &mut W,
+    errors: &mut E,
+) -> io::Result<u8>
+where
+    R: Files + Eprint + AllocGlobal,
+    ensures { IfOk result (λ status. status ≤ 4) }
+{
+    let read = |path: &str| read_file(rt, path);
+    draw_read(rt.alloc(), paths, &read, output, errors)
 }
 
 /// Solves the instance in a file.

@@ -2,12 +2,13 @@
 ghost use Rattle.std.specs.Prelude.{◌≡◌, IfOk, codes, drop, map, option_and_then, option_map};
 ghost use Rattle.clap.specs.Words.{App, Rule, app_of, first_of, found_of, kind_of, rows_of, subcommand_rows_of, with_rule, with_subcommand};
 ghost use Rattle.command_text.specs.Asking.{field_in};
-ghost use Rattle.planner_cli.specs.Asked.{ArePositional, Reads, asked_of, paths_in, paths_of, kind_named, list_in, seed_named, seed_or_none, steps_named, store_in, task_in, task_of, told_by, told_of, told_of_store};
+ghost use Rattle.planner_cli.specs.Asked.{ArePositional, Reads, asked_of, paths_in, paths_of, kind_named, list_in, seed_named, seed_or_none, steps_named, store_in, task_in, task_of, told_by, told_by_other, told_of, told_of_store};
 ghost use Rattle.planner_cli.specs.CommandLine.{IsKindNames, IsLeafCommand, IsPlannerCommand, IsWord, audits_app, paths_app, kind_rule, solve_app, store_app, word_rule};
 
 use crate::help::{
-    ABOUT, AUDIT_ABOUT, AUDIT_ANSWERS, AUDITS_ABOUT, AUDITS_ANSWERS, FORMAT_ABOUT, FORMAT_ANSWERS,
-    RUN_ABOUT, RUN_ANSWERS, SOLVE_ABOUT, SOLVE_ANSWERS, STATUSES, VERSION,
+    ABOUT, AUDIT_ABOUT, AUDIT_ANSWERS, AUDITS_ABOUT, AUDITS_ANSWERS, DRAW_ABOUT, DRAW_ANSWERS,
+    EXPLAIN_ABOUT, EXPLAIN_ANSWERS, FORMAT_ABOUT, FORMAT_ANSWERS, RUN_ABOUT, RUN_ANSWERS,
+    SOLVE_ABOUT, SOLVE_ANSWERS, STATUSES, VERSION,
 };
 use clap::error::ErrorKind;
 use clap::{Arg, ArgMatches, Command, Error};
@@ -43,6 +44,10 @@ pub enum Invocation<'a> {
     Audit(Paths<'a>),
     /// `audits KIND LIST`: the audits of the pairs of files that the lines of this file name.
     Audits { kind: Kind, list: &'a str },
+    /// `explain KIND INSTANCE SOLUTION`: the audit of two files, and what it rests on.
+    Explain(Paths<'a>),
+    /// `draw KIND INSTANCE SOLUTION`: the picture of a solution.
+    Draw(Paths<'a>),
     /// `solve KIND INSTANCE STEPS [SEED]`: a solution of the instance in this file.
     Solve(Task<'a>),
     /// `format STORE`: an empty store in the file of this path.
@@ -91,6 +96,10 @@ fn planner_command<'a>(alloc: Global) -> Result<Command<'a>, OutOfMemory>
     let audit = paths_command(alloc, "audit", AUDIT_ABOUT, AUDIT_ANSWERS, kinds)?;
     let planner = with_command(planner, audit)?;
     let planner = with_command(planner, audits_command(alloc, kinds)?)?;
+    let explain = paths_command(alloc, "explain", EXPLAIN_ABOUT, EXPLAIN_ANSWERS, kinds)?;
+    let planner = with_command(planner, explain)?;
+    let draw = paths_command(alloc, "draw", DRAW_ABOUT, DRAW_ANSWERS, kinds)?;
+    let planner = with_command(planner, draw)?;
     let planner = with_command(planner, solve_command(alloc, kinds)?)?;
     let format = store_command(alloc, "format", FORMAT_ABOUT, FORMAT_ANSWERS)?;
     let run = store_command(alloc, "run", RUN_ABOUT, RUN_ANSWERS)?;
@@ -208,6 +217,17 @@ fn command_words<'a>(name: &str, words: &ArgMatches<'a>) -> Option<Invocation<'a
 {
     match name {
         "audit" => Some(Invocation::Audit(paths_words(words)?)),
+        "explain" => Some(Invocation::Explain(paths_words(words)?)),
+        "draw" => Some(Invocation::Draw(paths_words(words)?)),
+        _ => other_words(name, words),
+    }
+}
+
+/// What the words behind the name of a command ask for that takes no solution.
+fn other_words<'a>(name: &str, words: &ArgMatches<'a>) -> Option<Invocation<'a>>
+    ensures { option_map asked_of result ≡ told_by_other name.now (rows_of (found_of words.now)) }
+{
+    match name {
         "audits" => list_words(words),
         "solve" => Some(Invocation::Solve(task_words(words)?)),
         _ => store_words(name, words),

@@ -10,6 +10,7 @@ use Rattle.plan_types.specs.Instance.{Instance}
 use Rattle.plan_types.specs.declared.requests.Request.{Request}
 use Rattle.route_sched.specs.Cost.{is_planned, unplanned_count}
 use Rattle.move_ops.specs.Insertion.{of_vehicle}
+use Rattle.move_ops.specs.Drafts.{AreIdleBehind}
 use Rattle.move_ops.specs.Moves.{is_movable}
 use Rattle.seeded_search.specs.Names.{name_where, names_where}
 use Rattle.seeded_search.specs.Steps.{drawn, movable_names, unplanned_names}
@@ -155,3 +156,14 @@ pub used_passed : (routes : List (List ℕ)) (used new all : List ℕ) (k : ℕ)
 used_passed routes used new all k so_far within is made =
     ap (λ l. l ++ used_from routes (k + 1)) made
     ∙ (ap (λ l. used ++ l) (sym (used_more routes k within ∙ ap (λ b. cond b ((k + 1) ∷ used_from routes (k + 1)) (used_from routes (k + 1))) is)) ∙ so_far)
+
+-- behind the front no vehicle is used
+unused : (routes : List (List ℕ)) (front a n : ℕ) → front < a → AreIdleBehind front routes → filter (is_used routes) (range_with_len a n) ≡ []
+unused routes front a zero above idle = refl
+unused routes front a (suc n) above idle =
+    let not_here : is_used routes a ≡ false = ap (λ k. not (k == 0)) (idle a above) in
+    ap (λ b. cond b (a ∷ filter (is_used routes) (range_with_len (a + 1) n)) (filter (is_used routes) (range_with_len (a + 1) n))) not_here ∙ unused routes front (a + 1) n (omega arith) idle
+
+pub used_end : (routes : List (List ℕ)) (used all : List ℕ) (front : ℕ) → used ++ used_from routes front ≡ all → AreIdleBehind front routes → used ≡ all
+used_end routes used all front so_far idle =
+    sym (append-nil used) ∙ (ap (λ l. used ++ l) (sym (unused routes front (front + 1) (length routes - front) (omega arith) idle)) ∙ so_far)

@@ -1,8 +1,9 @@
 -- Routes that become those of another plan, one after another.
-use Rattle.std.proofs.Common.{◌≡◌, ℕ, ◌+◌, ◌<◌, ◌≤◌, List, [], length, get_or, set, sym, ap, ◌∙◌, inl, inr, arith, add-one}
-use Rattle.std.proofs.lemmas.Bool.{cases_order}
+use Rattle.std.proofs.Common.{◌≡◌, ℕ, ◌+◌, ◌<◌, ◌≤◌, List, [], ◌∷◌, length, get_or, set, refl, sym, ap, ◌∙◌, inl, inr, arith, add-one}
+use Rattle.std.proofs.lemmas.Bool.{cases_order, cases_lt}
 use Rattle.std.proofs.lemmas.List.{get_or-set_same, get_or-set_other, ext_get_or}
 use Rattle.std.proofs.lemmas.Option.{unwrap_or-slice_get}
+use Rattle.move_ops.specs.Drafts.{AreIdleBehind}
 use Rattle.move_ops.specs.Insertion.{of_vehicle}
 
 abbrev pub SameBelow : List (List ℕ) → List (List ℕ) → ℕ → Type 0
@@ -25,5 +26,27 @@ same_set routes plan n route same within is =
     same_more (set routes n route) plan n
     (λ k low. get_or-set_other routes n k route [] (λ e. omega arith) ∙ same k low) (get_or-set_same routes n route [] within ∙ is)
 
-pub same_all : (routes plan : List (List ℕ)) (n : ℕ) → length routes ≡ length plan → SameBelow routes plan n → length routes ≤ n → routes ≡ plan
-same_all routes plan n long same all = ext_get_or [] routes plan long (λ k low. same k (omega arith))
+no_stops : (xs ys : List ℕ) → length xs ≡ 0 → length ys ≡ 0 → xs ≡ ys
+no_stops [] [] none also = refl
+no_stops [] (y ∷ ys) none some = absurd (omega arith)
+no_stops (x ∷ xs) ys some none = absurd (omega arith)
+
+-- routes behind the place that stayed, and are empty in both plans
+pub same_all : (old routes plan : List (List ℕ)) (n front other : ℕ) → length routes ≡ length plan → length old ≡ length plan → SameBelow routes plan n
+    → ((k : ℕ) → n ≤ k → get_or routes k [] ≡ get_or old k []) → ((v : ℕ) → n < v → v ≤ length old → (front < v) × (other < v))
+    → AreIdleBehind front old → AreIdleBehind other plan → routes ≡ plan
+same_all old routes plan n front other long before same stays enough idle also = ext_get_or [] routes plan long
+    (λ k low. elim (cases_lt k n) [
+      | inl below ↦ same k below
+      | inr above ↦ (
+          let behind = enough (k + 1) (omega arith) (omega arith) in
+          no_stops (get_or routes k []) (get_or plan k []) (ap length (stays k above) ∙ (sym (ap length (route_at old k)) ∙ idle (k + 1) behind.0)) (sym (ap length (route_at plan k)) ∙ also (k + 1) behind.1))
+    ])
+
+-- what stays behind the next place
+pub stays_more : (old routes : List (List ℕ)) (n : ℕ) → ((k : ℕ) → n ≤ k → get_or routes k [] ≡ get_or old k []) → (k : ℕ) → n + 1 ≤ k → get_or routes k [] ≡ get_or old k []
+stays_more old routes n stays k above = stays k (omega arith)
+
+pub stays_set : (old routes : List (List ℕ)) (n : ℕ) (route : List ℕ) → ((k : ℕ) → n ≤ k → get_or routes k [] ≡ get_or old k [])
+    → (k : ℕ) → n + 1 ≤ k → get_or (set routes n route) k [] ≡ get_or old k []
+stays_set old routes n route stays k above = get_or-set_other routes n k route [] (λ e. omega arith) ∙ stays k (omega arith)

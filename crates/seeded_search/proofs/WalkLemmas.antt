@@ -11,7 +11,7 @@ use Rattle.move_ops.specs.Insertion.{Place, request_named, passing, best_inserti
 use Rattle.move_ops.specs.Moves.{removed, exchanged, crossed}
 use Rattle.seeded_search.specs.Words.{pick, step_words}
 use Rattle.seeded_search.specs.Steps.{picked, movable_names, unplanned_names, placed, placed_all, relocated, exchanged_by, used_vehicles, cut_by, crossed_by, ruined_names, recreated_by, candidate, Walked, has_less_pair, has_same_pair, is_near, moved_on, moved_on_by, step, steps, walked}
-use Rattle.move_ops.specs.Drafts.{Drafted, draft_of, IsMade}
+use Rattle.move_ops.specs.Drafts.{AreIdleBehind, Drafted, draft_of, IsMade}
 use Rattle.seeded_search.specs.Working.{AreListsOf, IsWalk, HasTaken}
 use Rattle.seeded_search.specs.declared.walk.Walk.{Walk}
 use Rattle.plan_types.specs.declared.plans.Plan.{Plan}
@@ -291,14 +291,15 @@ module _ (p : Instance) (deviation : ℕ) (s : Walked) (c : List (List ℕ)) whe
 
 -- a walk goes on from its candidate
 pub taken_walk : (p : Instance) (pins : List (List ℕ)) (old new : Walk) → HasTaken p pins old new → passes p pins old.incumbent.routes ≡ true → old.best ≡ cost_of p old.incumbent.routes
-    → IsWalk p pins new
-taken_walk p pins old new h pass best =
+    → AreIdleBehind old.front old.incumbent.routes → IsWalk p pins new
+taken_walk p pins old new h pass best idle =
     let same : old.incumbent.routes ≡ new.incumbent.routes = ap (λ (plan : Plan). plan.routes) (sym h.incumbent) in
     record {
       keeps = record {
         draft = h.draft;
         incumbent = subst (λ routes. passes p pins routes ≡ true) same pass;
         best = h.best ∙ (best ∙ ap (cost_of p) same);
+        idle = subst (λ n. AreIdleBehind n new.incumbent.routes) (sym h.front) (subst (AreIdleBehind old.front) same idle);
         lists = subst (λ routes. AreListsOf p pins routes new.lists) (sym h.base) h.lists;
       };
       settled = h.settled ∙ sym h.base;

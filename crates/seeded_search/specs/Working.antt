@@ -3,7 +3,7 @@ use Rattle.std.specs.Prelude.{◌≡◌, ℕ, true, List}
 use Rattle.plan_types.specs.Instance.{Instance}
 use Rattle.route_sched.specs.Cost.{cost_of}
 use Rattle.plan_audit.specs.Passes.{passes}
-use Rattle.move_ops.specs.Drafts.{base_of, draft_of, IsDraftOf}
+use Rattle.move_ops.specs.Drafts.{base_of, draft_of, AreIdleBehind, IsDraftOf}
 use Rattle.seeded_search.specs.Steps.{movable_names, unplanned_names, Walked, walked}
 use Rattle.seeded_search.specs.declared.lists.Lists.{Lists}
 use Rattle.seeded_search.specs.declared.walk.Walk.{Walk}
@@ -22,6 +22,7 @@ pub record KeepsWalk (p : Instance) (pins : List (List ℕ)) (w : Walk) : Type 0
   pub draft : IsDraftOf p pins w.draft
   pub incumbent : passes p pins w.incumbent.routes ≡ true
   pub best : w.best ≡ cost_of p w.incumbent.routes
+  pub idle : AreIdleBehind w.front w.incumbent.routes
   pub lists : AreListsOf p pins (base_of w.draft) w.lists
 
 -- a walk between two steps, without a candidate
@@ -36,4 +37,5 @@ pub record HasTaken (p : Instance) (pins : List (List ℕ)) (old new : Walk) : T
   pub draft : IsDraftOf p pins new.draft
   pub incumbent : new.incumbent ≡ old.incumbent
   pub best : new.best ≡ old.best
+  pub front : new.front ≡ old.front
   pub lists : AreListsOf p pins (draft_of old.draft) new.lists

@@ -117,18 +117,13 @@ fn unplanned_name(problem: &Problem, draft: &Draft, index: usize) -> Option<u32>
     }
 }
 
-/// Those of so many vehicles whose routes are not empty, in order. Vehicles count from 1.
-pub(crate) fn used_vehicles(
-    alloc: Global,
-    draft: &Draft,
-    fleet: u32,
-) -> Result<Vec<u64>, OutOfMemory>
-    requires { length (draft_of draft.now) ≡ fleet }
+/// The vehicles whose routes are not empty, in order. Vehicles count from 1.
+pub(crate) fn used_vehicles(alloc: Global, draft: &Draft) -> Result<Vec<u64>, OutOfMemory>
     ensures { IfOk result (λ used. used.items ≡ used_vehicles (draft_of draft.now)) }
 {
     let mut used = Vec::new(alloc);
-    for index in 0..fleet {
-        let vehicle = u64::from(index) + 1;
+    for index in 0..draft.front() {
+        let vehicle = index + 1;
         if !draft.route(vehicle).is_empty() {
             used.push(vehicle)?;
         }

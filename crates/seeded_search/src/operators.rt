@@ -110,7 +110,7 @@ fn cross(
         draft.old draft.new) }
 {
     passes_are_local();
-    let used = used_vehicles(alloc, draft, problem.fleet)?;
+    let used = used_vehicles(alloc, draft)?;
     let Some(a) = picked_vehicle(words[1], &used) else {
         return Ok(false);
     };

@@ -21,6 +21,8 @@ use std::alloc::Global;
 pub(crate) struct Walk {
     draft: Draft,
     incumbent: Plan,
+    /// No vehicle behind the first so many has a stop in the incumbent.
+    front: u64,
     /// What the incumbent costs.
     best: Cost,
     lists: Lists,
@@ -47,6 +49,7 @@ impl Walk {
         Ok(Walk {
             draft,
             incumbent: plan.copy()?,
+            front: plan.routes.as_slice().len() as u64,
             best: plan_cost(problem, plan),
             lists,
         })
@@ -92,7 +95,8 @@ impl Walk {
         let cost = self.draft.cost(problem, pins);
         if cost <= self.best {
             self.best = cost;
-            follow(alloc, &self.draft, &mut self.incumbent.routes)?;
+            follow(alloc, &self.draft, &mut self.incumbent.routes, self.front)?;
+            self.front = self.draft.front();
             return self.take(problem, pins, &cost);
         }
         if !is_near(deviation, &cost, &self.best) {

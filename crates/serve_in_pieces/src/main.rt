@@ -28,6 +28,9 @@ const PARTS: [&str; 9] = [
     "show",
 ];
 
+/// A line that announces one byte more than a load may.
+const LOAD_OUT_OF_RANGE: &str = "load lilim 0 16777217\n";
+
 /// What is refused once the device has failed in `build`; a `load` comes behind it.
 const REFUSED: &str = "show\nsearch 1\n";
 
@@ -52,6 +55,7 @@ fn main(rt: HostRuntime) -> io::Result<()> {
     writeln!(output, "a reader that fails: {calls} calls, {wrong} wrong")?;
     let (calls, wrong) = stopped_writes(alloc, &whole, &stages)?;
     writeln!(output, "a writer that fails: {calls} calls, {wrong} wrong")?;
+    refused_loads(alloc, &stages, &mut output)?;
     failed_builds(alloc, &stages, &mut output)
 }
 
@@ -168,6 +172,29 @@ fn stopped_writes(
         }
     }
     Ok((1000, wrong))
+}
+
+/// What is answered to a load that is out of range, in pieces of two sizes: the serving ends with it, and the state stays.
+fn refused_loads<W: Write>(alloc: Global, stages: &[Served], output: &mut W) -> io::Result<()> {
+    let mut text = Vec::new(alloc);
+    for part in [LOAD, LOAD_OUT_OF_RANGE, "build\n"] {
+        text.extend_from_slice(part.as_bytes())?;
+    }
+    let [_, _, loaded, ..] = stages else {
+        return writeln!(output, "no stages");
+    };
+    for most in [1, 8192] {
+        let Some(ended) = served(alloc, &text, Pieces::of(most), Limited::whole(alloc)) else {
+            return writeln!(output, "no store");
+        };
+        output.write_all(&ended.text)?;
+        let is_kept = ended.fault.is_none() && ended.shown == loaded.shown;
+        writeln!(
+            output,
+            "a load out of range in pieces of {most}: the state stays: {is_kept}"
+        )?;
+    }
+    Ok(())
 }
 
 /// A device that fails once, at each of its calls in turn: at how many of them that is within `build`, and what opening gives then.

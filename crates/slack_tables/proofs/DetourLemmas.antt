@@ -1,5 +1,5 @@
 -- What a pair costs, by its two detours.
-use Rattle.std.proofs.Common.{◌≡◌, ℕ, zero, suc, ◌+◌, ◌-◌, ◌<◌, ◌≤◌, ◌⊎◌, Bool, true, false, cond, ℤ, pos, ◌+ℤ◌, ◌-ℤ◌, ◌≤ℤ◌, List, get_or, length, Option, Some, None, refl, sym, ap, ◌∙◌, arith, subst, inl, inr}
+use Rattle.std.proofs.Common.{◌≡◌, ℕ, zero, suc, ◌+◌, ◌-◌, ◌<◌, ◌≤◌, ◌⊎◌, Bool, true, false, cond, int_lt, ℤ, pos, ◌+ℤ◌, ◌-ℤ◌, ◌≤ℤ◌, List, get_or, length, Option, Some, None, refl, sym, ap, ◌∙◌, arith, subst, inl, inr}
 use Rattle.std.specs.Option.{option_and_then}
 use Rattle.std.proofs.lemmas.Bool.{cases_lt}
 use Rattle.std.proofs.lemmas.Int.{ints}
@@ -7,13 +7,14 @@ use Rattle.plan_types.specs.declared.requests.Stop.{Stop}
 use Rattle.nint_dist.specs.Distance.{distance}
 use Rattle.slack_tables.specs.Driven.{driven_on, keeps, stepped, joined, with_pair}
 use Rattle.slack_tables.specs.Legs.{AreLinked, AreLeast, detour_of}
-use Rattle.slack_tables.specs.Ride.{ride_of, is_served, price, served}
+use Rattle.slack_tables.specs.Ride.{ride_of, is_served, price, served, served_below}
 use Rattle.slack_tables.specs.Walk.{walk_to, IsUnderway}
 use Rattle.slack_tables.specs.declared.progress.Limits.{Limits}
 use Rattle.slack_tables.specs.declared.progress.Progress.{Progress}
 use Rattle.slack_tables.specs.declared.progress.Place.{Place}
 use Rattle.slack_tables.specs.declared.ride.Ride.{Ride}
 use Rattle.slack_tables.specs.declared.scan.Underway.{Underway}
+use Rattle.slack_tables.proofs.ScanLemmas.{int_lt-true}
 use Rattle.slack_tables.proofs.WalkLemmas.{distance-back, walk-first, walk-more, pair-served}
 
 step-far : (limits : Limits) (a b : Progress) (s : Stop) → stepped limits a s ≡ Some b → (b.stop ≡ s) × (b.distance ≡ a.distance + distance a.stop s)
@@ -29,6 +30,14 @@ served-price limits r service to s from tail x is = by (is_served limits r servi
     by : (k : Bool) → cond k (Some (price r to from tail)) None ≡ Some x → x ≡ price r to from tail
     by true is = let same : price r to from tail ≡ x = cc in sym same
     by false is = absurd (cc)
+
+-- what costs the bound or more by ways from below is not offered
+pub served-dear : (below : ℤ) (limits : Limits) (r : Ride) (service to : ℕ) (s : Stop) (from : ℕ) (tail : Place) (least_to least_from : ℕ) → least_to ≤ to → least_from ≤ from → below ≤ℤ price r least_to least_from tail → None ≡ served_below below limits r service to s from tail
+served-dear below limits r service to s from tail least_to least_from is_to is_from le = by (int_lt (price r to from tail) below) refl
+  where
+    by : (b : Bool) → int_lt (price r to from tail) below ≡ b → None ≡ cond b (served limits r service to s from tail) None
+    by true less = let lt = int_lt-true (price r to from tail) below less in absurd (omega (arith, ints))
+    by false _ = refl
 
 module _ (limits : Limits) (places : List Place) (p q : Stop) (i : ℕ) (d : Place) (linked : AreLinked places) where
   -- how far it is to place i over the pickup
@@ -123,15 +132,15 @@ module _ (limits : Limits) (places : List Place) (p q : Stop) (i : ℕ) (d : Pla
 
   module _ (least : List ℤ) (is : AreLeast least places q) (bound : ℤ) where
     -- each delivery further on comes to the bound
-    pub dear-behind : (k far base : ℕ) → i ≤ k → k < length least → far ≡ reach → base ≡ (get_or places i d).at.distance → bound ≤ℤ ((pos far -ℤ pos base) +ℤ get_or least k (pos 0)) → (j : ℕ) (x : ℤ) → k + 2 ≤ j → j ≤ length places → with_pair limits places p q i j d ≡ Some x → bound ≤ℤ x
+    pub dear-behind : (k far base : ℕ) → i ≤ k → k < length least → far ≤ reach → base ≡ (get_or places i d).at.distance → bound ≤ℤ ((pos far -ℤ pos base) +ℤ get_or least k (pos 0)) → (j : ℕ) (x : ℤ) → k + 2 ≤ j → j ≤ length places → with_pair limits places p q i j d ≡ Some x → bound ≤ℤ x
     dear-behind k far base order known is_far is_base hopeless j x behind last some =
         let back : j - 2 + 2 ≡ j = omega arith in
         let cost = apart-is (j - 2) x (omega arith) (omega arith) (subst (λ n. with_pair limits places p q i n d ≡ Some x) (sym back) some) in
         let le = is.lower k (j - 2) d known (omega arith) (omega arith) in
         omega (arith, ints)
 
-    -- and each at all
-    pub all-dear : (before next : Place) (to across from onward : ℕ) → i < length least → before ≡ get_or places (i - 1) d → next ≡ get_or places i d → to ≡ distance (get_or places (i - 1) d).at.stop p → across ≡ distance p q → from ≡ distance (get_or places i d).at.stop q → onward ≡ distance (get_or places i d).at.stop p → bound ≤ℤ (pos (before.at.distance + to + across + from) -ℤ pos next.at.distance) → bound ≤ℤ ((pos (before.at.distance + to + onward) -ℤ pos next.at.distance) +ℤ get_or least i (pos 0)) → (j : ℕ) (x : ℤ) → i + 1 ≤ j → j ≤ length places → with_pair limits places p q i j d ≡ Some x → bound ≤ℤ x
+    -- and each at all, by ways from below
+    pub all-dear : (before next : Place) (to across from onward : ℕ) → i < length least → before ≡ get_or places (i - 1) d → next ≡ get_or places i d → to ≤ distance (get_or places (i - 1) d).at.stop p → across ≡ distance p q → from ≤ distance (get_or places i d).at.stop q → onward ≤ distance (get_or places i d).at.stop p → bound ≤ℤ (pos (before.at.distance + to + across + from) -ℤ pos next.at.distance) → bound ≤ℤ ((pos (before.at.distance + to + onward) -ℤ pos next.at.distance) +ℤ get_or least i (pos 0)) → (j : ℕ) (x : ℤ) → i + 1 ≤ j → j ≤ length places → with_pair limits places p q i j d ≡ Some x → bound ≤ℤ x
     all-dear before next to across from onward known is_before is_next is_to is_across is_from is_onward near apart j x behind last some = by (cases_lt j (i + 2))
       where
         start : before.at.distance ≡ (get_or places (i - 1) d).at.distance
@@ -145,11 +154,10 @@ module _ (limits : Limits) (places : List Place) (p q : Stop) (i : ℕ) (d : Pla
             let same : j ≡ i + 1 = omega arith in
             let cost = near-is x (subst (λ n. with_pair limits places p q i n d ≡ Some x) same some) in
             let same_start = start in
-            let sum : before.at.distance + to + across + from ≡ (get_or places (i - 1) d).at.distance + distance (get_or places (i - 1) d).at.stop p + distance p q + distance (get_or places i d).at.stop q = omega arith in
-            let there = subst (λ n. bound ≤ℤ (pos n -ℤ pos next.at.distance)) sum near in
-            subst (λ y. bound ≤ℤ y) (sym cost) (subst (λ n. bound ≤ℤ (pos ((get_or places (i - 1) d).at.distance + distance (get_or places (i - 1) d).at.stop p + distance p q + distance (get_or places i d).at.stop q) -ℤ pos n)) base there)
+            let same_base = base in
+            omega (arith, ints)
         by (inr further) =
             let back = distance-back (get_or places i d).at.stop p in
             let same_start = start in
-            let far : before.at.distance + to + onward ≡ reach = omega arith in
+            let far : before.at.distance + to + onward ≤ reach = omega arith in
             dear-behind i (before.at.distance + to + onward) next.at.distance (omega arith) known far base apart j x further last some

@@ -1,5 +1,5 @@
--- The ways between the places of a table and a stop, place after place.
-use Rattle.std.proofs.Common.{◌≡◌, ◌≢◌, ℕ, ◌+◌, ◌-◌, ◌^◌, ◌<◌, ◌≤◌, ◌⊎◌, ℤ, pos, ◌≤ℤ◌, List, get_or, set, length, sym, ap, ◌∙◌, arith, subst, inl, inr, get_or-set_same, get_or-set_other}
+-- The least detours from each place of a table on.
+use Rattle.std.proofs.Common.{◌≡◌, ◌≢◌, ℕ, ◌+◌, ◌-◌, ◌^◌, ◌<◌, ◌≤◌, ◌⊎◌, ℤ, pos, ◌-ℤ◌, ◌≤ℤ◌, List, get_or, set, length, sym, ap, ◌∙◌, arith, subst, inl, inr, get_or-set_same, get_or-set_other}
 use Rattle.std.specs.Prelude.{unsigned_abs}
 use Rattle.std.specs.Int.{int_min}
 use Rattle.std.proofs.Math.ListN.{length-set}
@@ -7,28 +7,8 @@ use Rattle.std.proofs.lemmas.Bool.{cases_lt}
 use Rattle.std.proofs.lemmas.Int.{ints, clamps}
 use Rattle.plan_types.specs.declared.requests.Stop.{Stop}
 use Rattle.nint_dist.specs.Distance.{distance}
-use Rattle.slack_tables.specs.Legs.{AreLegs, AreLeast, detour_of}
+use Rattle.slack_tables.specs.Legs.{AreLeast, detour_of}
 use Rattle.slack_tables.specs.declared.progress.Place.{Place}
-
--- ---- forward: the ways of the places before k
-pub record AreLegsTo (places : List Place) (s : Stop) (k : ℕ) (legs : List ℕ) : Type 0 where
-  pub long : length legs ≤ length places
-  pub each : (m : ℕ) (d : Place) → m < k → m < length places → get_or legs m 0 ≡ distance (get_or places m d).at.stop s
-
-pub legs-none : (places : List Place) (s : Stop) (legs : List ℕ) → length legs ≤ length places → AreLegsTo places s 0 legs
-legs-none places s legs long = record { long = long; each = λ m d h _. absurd (omega arith) }
-
-pub legs-more : (places : List Place) (s : Stop) (k : ℕ) (legs : List ℕ) (e : Place) (x : ℕ) → AreLegsTo places s k legs → k < length legs → ((d : Place) → e ≡ get_or places k d) → x ≡ distance e.at.stop s → AreLegsTo places s (k + 1) (set legs k x)
-legs-more places s k legs e x is within here leg = record { long = subst (λ n. n ≤ length places) (sym (length-set legs k x)) is.long; each = λ m d h l. by m d l (cases_lt m k) h }
-  where
-    by : (m : ℕ) (d : Place) → m < length places → (m < k) ⊎ (k ≤ m) → m < k + 1 → get_or (set legs k x) m 0 ≡ distance (get_or places m d).at.stop s
-    by m d l (inl before) h = get_or-set_other legs k m x 0 (omega arith) ∙ is.each m d before l
-    by m d l (inr at) h =
-        let same : k ≡ m = omega arith in
-        subst (λ n. get_or (set legs k x) n 0 ≡ distance (get_or places n d).at.stop s) same (get_or-set_same legs k x 0 within ∙ (leg ∙ ap (λ (e : Place). distance e.at.stop s) (here d)))
-
-pub legs-all : (places : List Place) (s : Stop) (k : ℕ) (legs : List ℕ) → AreLegsTo places s k legs → length legs ≤ k → AreLegs legs places s
-legs-all places s k legs is all = λ m d h l. is.each m d (omega arith) l
 
 -- ---- backward: the least detours from place k on
 pub record AreLeastFrom (places : List Place) (s : Stop) (k : ℕ) (least : List ℤ) : Type 0 where
@@ -45,7 +25,14 @@ least-last places s least x long some small = record {
       subst (λ n. unsigned_abs (get_or (set least (length least - 1) x) n (pos 0)) ≤ 2 ^ 60) same (subst (λ y. unsigned_abs y ≤ 2 ^ 60) (sym (get_or-set_same least (length least - 1) x (pos 0) (omega arith))) small));
 }
 
-module _ (places : List Place) (s : Stop) (k : ℕ) (least : List ℤ) (x y : ℤ) (is : AreLeastFrom places s (k + 1) least) (within : k + 1 < length least) (detour : (d : Place) → x ≡ detour_of places s k d) (next : y ≡ int_min x (get_or least (k + 1) (pos 0))) where
+-- ways from below give a detour from below
+pub detour-below : (places : List Place) (s : Stop) (m : ℕ) (d : Place) (here next : Place) (to from : ℕ) → here ≡ get_or places m d → next ≡ get_or places (m + 1) d → to ≤ distance (get_or places m d).at.stop s → from ≤ distance (get_or places (m + 1) d).at.stop s → (pos (here.at.distance + to + from) -ℤ pos next.at.distance) ≤ℤ detour_of places s m d
+detour-below places s m d here next to from is_here is_next is_to is_from =
+    let before = ap (λ (e : Place). e.at.distance) is_here in
+    let after = ap (λ (e : Place). e.at.distance) is_next in
+    omega (arith, ints)
+
+module _ (places : List Place) (s : Stop) (k : ℕ) (least : List ℤ) (x y : ℤ) (is : AreLeastFrom places s (k + 1) least) (within : k + 1 < length least) (detour : (d : Place) → x ≤ℤ detour_of places s k d) (next : y ≡ int_min x (get_or least (k + 1) (pos 0))) where
   here : get_or (set least k y) k (pos 0) ≡ y
   here = get_or-set_same least k y (pos 0) (omega arith)
 
@@ -59,8 +46,9 @@ module _ (places : List Place) (s : Stop) (k : ℕ) (least : List ℤ) (x y : �
       by (inl after) = let le = is.lower (k + 1) m d (omega arith) within (omega arith) l in omega (arith, ints, clamps)
       by (inr first) =
           let same : k ≡ m = omega arith in
-          let le : y ≤ℤ x = omega (arith, ints, clamps) in
-          subst (λ n. y ≤ℤ detour_of places s n d) same (subst (λ z. y ≤ℤ z) (detour d) le)
+          let le = detour d in
+          let here : y ≤ℤ detour_of places s k d = omega (arith, ints, clamps) in
+          subst (λ n. y ≤ℤ detour_of places s n d) same here
 
   pub least-more : unsigned_abs x ≤ 2 ^ 60 → AreLeastFrom places s k (set least k y)
   least-more small = record {

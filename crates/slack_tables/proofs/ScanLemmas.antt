@@ -24,7 +24,7 @@ same-sum o a b p q = let e : Some a ≡ Some b = sym p ∙ q in cc
 pub never-sum : (o : Option ℤ) (a : ℤ) → o ≡ None → o ≡ Some a → ⊥
 never-sum o a p q = absurd (let e : None ≡ Some a = sym p ∙ q in cc)
 
-int_lt-true : (x y : ℤ) → int_lt x y ≡ true → x <ℤ y
+pub int_lt-true : (x y : ℤ) → int_lt x y ≡ true → x <ℤ y
 int_lt-true x y h = record { lt = subst T (sym h) tt }
 
 int_lt-false : (x y : ℤ) → int_lt x y ≡ false → x <ℤ y → ⊥

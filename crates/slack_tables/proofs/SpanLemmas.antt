@@ -52,18 +52,22 @@ along-le a b x y c e short part reach = by (cases_lt e c)
         let over = mul-le (e + 1) (e + 1) c c (omega arith) (omega arith) in
         absurd (omega arith)
 
--- the five directions
-pub ways-le : (x y e : ℕ) → x * x + y * y ≤ e * (e + 1) → (x ≤ e) × (y ≤ e) × ((x * 236 + y * 98) / 256 ≤ e) × ((x * 98 + y * 236) / 256 ≤ e) × ((x * 181 + y * 181) / 256 ≤ e)
+-- the two directions
+pub ways-le : (x y e : ℕ) → x * x + y * y ≤ e * (e + 1) → ((x * 251 + y * 50) / 256 ≤ e) × ((x * 213 + y * 142) / 256 ≤ e)
 ways-le x y e reach =
-    let flat = div-mul-le_self (x * 236 + y * 98) 256 in
-    let steep = div-mul-le_self (x * 98 + y * 236) 256 in
-    let even = div-mul-le_self (x * 181 + y * 181) 256 in (
-      along-le 256 0 x y x e (omega arith) (omega arith) reach,
-      along-le 0 256 x y y e (omega arith) (omega arith) reach,
-      along-le 236 98 x y ((x * 236 + y * 98) / 256) e (omega arith) (omega arith) reach,
-      along-le 98 236 x y ((x * 98 + y * 236) / 256) e (omega arith) (omega arith) reach,
-      along-le 181 181 x y ((x * 181 + y * 181) / 256) e (omega arith) (omega arith) reach,
+    let flat = div-mul-le_self (x * 251 + y * 50) 256 in
+    let steep = div-mul-le_self (x * 213 + y * 142) 256 in (
+      along-le 251 50 x y ((x * 251 + y * 50) / 256) e (omega arith) (omega arith) reach,
+      along-le 213 142 x y ((x * 213 + y * 142) / 256) e (omega arith) (omega arith) reach,
     )
+
+-- the longer side first
+pub sides-le : (x y long short e : ℕ) → (x < y → (long ≡ y) × (short ≡ x)) → (y ≤ x → (long ≡ x) × (short ≡ y)) → x * x + y * y ≤ e * (e + 1) → long * long + short * short ≤ e * (e + 1)
+sides-le x y long short e up across reach = by (cases_lt x y)
+  where
+    by : (x < y) ⊎ (y ≤ x) → long * long + short * short ≤ e * (e + 1)
+    by (inl less) = let same = up less in rw (same.0, same.1) (omega arith)
+    by (inr more) = let same = across more in rw (same.0, same.1) reach
 
 -- no stop inside is nearer than the gaps to the span
 pub apart-le : DistancesAreNearestRoots → (a b : Stop) (x y w : ℕ) → ((e : ℕ) → x * x + y * y ≤ e * (e + 1) → w ≤ e) → x ≤ unsigned_abs (a.x -ℤ b.x) → y ≤ unsigned_abs (a.y -ℤ b.y) → w ≤ distance a b

@@ -12,10 +12,6 @@ AreLinked places = (k : ℕ) (d : Place) → k + 1 < length places → (slice_in
 abbrev pub AreRising : List Place → Type 0
 AreRising places = (k : ℕ) (d : Place) → k + 1 < length places → (slice_index_or places k d).at.start ≤ (slice_index_or places (k + 1) d).at.start
 
--- the ways between the places, as far as they are listed, and the stop
-abbrev pub AreLegs : List ℕ → List Place → Stop → Type 0
-AreLegs legs places s = (k : ℕ) (d : Place) → k < length legs → k < length places → slice_index_or legs k 0 ≡ distance (slice_index_or places k d).at.stop s
-
 -- by how much the way from place m to the next gets longer over the stop
 abbrev pub detour_of : List Place → Stop → ℕ → Place → ℤ
 detour_of places s m d = pos ((slice_index_or places m d).at.distance + distance (slice_index_or places m d).at.stop s + distance (slice_index_or places (m + 1) d).at.stop s) -ℤ pos (slice_index_or places (m + 1) d).at.distance

@@ -1,9 +1,10 @@
 -- What a scan over the places of a table looks for.
-use Rattle.std.specs.Prelude.{◌^◌, nat_lt, slice_index_or, ◌≡◌, ℕ, ◌-◌, ◌<◌, ◌≤◌, ℤ, ◌<ℤ◌, List, [], ◌∷◌, length, Option, Some, None, int_lt, if◌then◌else◌}
+use Rattle.std.specs.Prelude.{◌^◌, nat_lt, slice_index_or, ◌≡◌, ℕ, ◌+◌, ◌-◌, ◌<◌, ◌≤◌, ℤ, ◌≤ℤ◌, ◌<ℤ◌, List, [], ◌∷◌, length, Option, Some, None, int_lt, if◌then◌else◌}
 use Rattle.std.specs.Option.{option_map}
 use Rattle.plan_types.specs.declared.requests.Stop.{Stop}
+use Rattle.nint_dist.specs.Distance.{distance}
 use Rattle.slack_tables.specs.Driven.{with_between, with_pair}
-use Rattle.slack_tables.specs.Ride.{ride_of, ridden, IsSmallRide}
+use Rattle.slack_tables.specs.Ride.{ride_of, ridden, served_below, IsSmallRide}
 use Rattle.slack_tables.specs.declared.progress.Limits.{Limits}
 use Rattle.slack_tables.specs.declared.progress.Progress.{Progress}
 use Rattle.slack_tables.specs.declared.progress.Place.{Place}
@@ -26,6 +27,12 @@ Under Is below a = Is a × (a.distance <ℤ below)
 abbrev pub AddsSingle : Limits → List Place → Stop → ℕ → ℤ → Place → Addition → Type 0
 AddsSingle limits places s kept below d a = Under (PutsSingle limits places s kept d) below a
 
+-- what the single adds there, where it is less than the bound and the limits are kept
+abbrev pub served_single : ℤ → Limits → List Place → Stop → ℕ → Place → Option ℤ
+served_single below limits places s i d =
+    let before = slice_index_or places (i - 1) d in let tail = slice_index_or places i d in
+    served_below below limits (ride_of before.at) before.at.stop.service (distance before.at.stop s) s (distance tail.at.stop s) tail
+
 -- a pair put in at these places
 pub record PutsPair (limits : Limits) (places : List Place) (p q : Stop) (kept : ℕ) (d : Place) (a : Addition) : Type 0 where
   pub behind : kept < a.pickup
@@ -45,6 +52,10 @@ pub record PutsDelivery (limits : Limits) (places : List Place) (p q : Stop) (i 
 
 abbrev pub AddsDelivery : Limits → List Place → Stop → Stop → ℕ → ℤ → Place → Addition → Type 0
 AddsDelivery limits places p q i below d a = Under (PutsDelivery limits places p q i d) below a
+
+-- each place of the delivery adds the bound or more, where the pickup stands at place i
+abbrev pub AreDear : Limits → List Place → Stop → Stop → ℕ → ℤ → Type 0
+AreDear limits places p q i bound = (j : ℕ) (x : ℤ) (d : Place) → i + 1 ≤ j → j ≤ length places → with_pair limits places p q i j d ≡ Some x → bound ≤ℤ x
 
 -- nothing found yet
 abbrev pub none_below : ℤ → Best

@@ -1,4 +1,4 @@
-//! The ways between the places of a table and a stop, each computed once.
+//! The ways between the places of a table and a stop, exact and from below.
 
 ghost use Rattle.std.specs.Prelude.{◌≡◌, ◌+◌, ◌^◌, ◌≤◌, ◌<◌, All, IsTrue, ℕ, length};
 ghost use Rattle.std.specs.Int.{int_min};
@@ -7,35 +7,23 @@ ghost use Rattle.nint_dist.specs.Distance.{distance};
 ghost use Rattle.std.specs.Prelude.{slice_index_or, ℤ, pos, ◌+ℤ◌, ◌-ℤ◌, ◌≤ℤ◌, unsigned_abs};
 ghost use Rattle.slack_tables.specs.declared.progress.Place.{Place};
 ghost use Rattle.slack_tables.specs.Driven.{IsSmallPlace};
-ghost use Rattle.slack_tables.specs.Legs.{AreLegs, AreLeast, detour_of};
+ghost use Rattle.slack_tables.specs.Legs.{AreLeast};
 
 use crate::progress::{Place, difference};
+use crate::span::least_between;
 use crate::table::place_at;
 use nint_dist::dist;
 use plan_types::Stop;
 
-/// Of so many places the ways are kept, since that takes no memory from the allocator.
+/// Of so many places the least detours are kept, since that takes no memory from the allocator.
 pub(crate) const ROOM: usize = 128;
 
 /// No detour is as long.
 const FAR: i64 = 1 << 60;
 
-/// The way between each of the first places and the stop.
-pub(crate) fn fill_legs(legs: &mut [u32], places: &[Place], stop: &Stop)
-    requires places { All IsSmallPlace places.now }
-    requires stop { IsVisit stop.now }
-    requires count { length legs.old ≤ length places.now }
-    ensures { AreLegs legs.new places.now stop.now }
-{
-    for k in 0..legs.len() {
-        let place = place_at(places, k);
-        legs[k] = dist(&place.at.stop, stop);
-    }
-}
-
-/// The way between a place and the stop, by the table where it has it.
-pub(crate) fn leg_at(legs: &[u32], places: &[Place], k: usize, stop: &Stop) -> u64
-    requires legs { AreLegs legs.now places.now stop.now }
+/// The way between a place and the stop.
+#[inline(always)]
+pub(crate) fn leg_at(places: &[Place], k: usize, stop: &Stop) -> u64
     requires places { All IsSmallPlace places.now }
     requires stop { IsVisit stop.now }
     requires within { k < length places.now }
@@ -43,42 +31,50 @@ pub(crate) fn leg_at(legs: &[u32], places: &[Place], k: usize, stop: &Stop) -> u
         ≡ distance (slice_index_or places.now k d).at.stop stop.now }
     ensures bound { result ≤ 2 ^ 32 }
 {
-    if k < legs.len() {
-        return u64::from(legs[k]);
-    }
-    let place = place_at(places, k);
+    let place = small_place(places, k);
     u64::from(dist(&place.at.stop, stop))
 }
 
-/// By how much the way from a place to the next gets longer over the stop.
-fn detour_at(places: &[Place], legs: &[u32], m: usize, stop: &Stop) -> i64
-    requires legs { AreLegs legs.now places.now stop.now }
-    requires places { All IsSmallPlace places.now }
-    requires stop { IsVisit stop.now }
-    requires within { m + 1 < length places.now }
-    ensures value { (d : Place) → result ≡ detour_of places.now stop.now m d }
+/// The way between a place and the stop is no shorter. This takes no root.
+pub(crate) fn least_leg_at(places: &[Place], k: usize, stop: &Stop) -> u64
+    requires within { k < length places.now }
+    ensures value { (d : Place) → result
+        ≤ distance (slice_index_or places.now k d).at.stop stop.now }
+    ensures bound { result ≤ 2 ^ 33 }
+{
+    let place = place_at(places, k);
+    least_between(&place.at.stop, stop)
+}
+
+/// By how much the way from a place to the next gets longer over a stop so far from both.
+fn detour(here: &Place, to: u64, from: u64, next: &Place) -> i64
+    requires here { IsSmallPlace here.now }
+    requires to { to ≤ 2 ^ 33 }
+    requires from { from ≤ 2 ^ 33 }
+    requires next { IsSmallPlace next.now }
+    ensures value { result
+        ≡ pos (here.now.at.distance + to + from) -ℤ pos next.now.at.distance }
     ensures small { unsigned_abs result ≤ 2 ^ 60 }
 {
-    let to = leg_at(legs, places, m, stop);
-    let from = leg_at(legs, places, m + 1, stop);
-    let here = place_at(places, m);
-    let next = place_at(places, m + 1);
     difference(here.at.distance + to + from, next.at.distance)
 }
 
-/// The least detour from each place on.
-pub(crate) fn fill_least(least: &mut [i64], places: &[Place], legs: &[u32], stop: &Stop)
-    requires legs { AreLegs legs.now places.now stop.now }
+/// What no detour from each place on is less than.
+pub(crate) fn fill_least(least: &mut [i64], places: &[Place], stop: &Stop)
     requires places { All IsSmallPlace places.now }
-    requires stop { IsVisit stop.now }
     requires count { length least.old ≡ length places.now }
     requires some { 0 < length least.old }
     ensures { AreLeast least.new places.now stop.now }
 {
     let last = least.len() - 1;
     least[last] = FAR;
+    let mut from = least_leg_at(places, last, stop);
     for k in (0..last).rev() {
-        least[k] = lesser(detour_at(places, legs, k, stop), least[k + 1]);
+        let here = small_place(places, k);
+        let next = small_place(places, k + 1);
+        let to = least_leg_at(places, k, stop);
+        least[k] = lesser(detour(here, to, from, next), least[k + 1]);
+        from = to;
     }
 }
 

@@ -143,7 +143,8 @@ pub(crate) fn serve_below(
     }
 }
 
-fn price(at: &Ride, detour: Detour, tail: &Place) -> i64
+/// The distance that a detour to a stop adds to the way to a place.
+pub(crate) fn price(at: &Ride, detour: Detour, tail: &Place) -> i64
     requires at { at.now.distance ≤ 2 ^ 58 }
     requires to { detour.to ≤ 2 ^ 58 }
     requires from { detour.from ≤ 2 ^ 58 }

@@ -1,21 +1,21 @@
 //! The places of a route at which a request adds the least distance.
 
-ghost use Rattle.std.specs.Prelude.{◌≡◌, ◌+◌, ◌^◌, ◌≤◌, ◌<◌, ℕ, pos, ◌+ℤ◌, ◌-ℤ◌, ◌≤ℤ◌, All, IfSome, IsTrue, length, slice_index_or, unsigned_abs};
+ghost use Rattle.std.specs.Prelude.{◌≡◌, ◌+◌, ◌^◌, ◌-◌, ◌≤◌, ◌<◌, ℕ, false, pos, ◌+ℤ◌, ◌-ℤ◌, ◌≤ℤ◌, All, IfSome, IsTrue, length, slice_index_or, unsigned_abs};
 ghost use Rattle.plan_types.specs.Limits.{IsVisit};
+ghost use Rattle.nint_dist.specs.Distance.{distance};
 ghost use Rattle.slack_tables.specs.declared.progress.Place.{Place};
 ghost use Rattle.slack_tables.specs.Best.{IsFirstOf, BestIsOne};
-ghost use Rattle.slack_tables.specs.Driven.{IsSmall, IsSmallPlace};
-ghost use Rattle.slack_tables.specs.Legs.{AreLegs, AreLeast, AreLinked, AreRising};
+ghost use Rattle.slack_tables.specs.Driven.{is_in_time, IsSmall, IsSmallPlace};
+ghost use Rattle.slack_tables.specs.Legs.{AreLeast, AreLinked, AreRising};
 ghost use Rattle.slack_tables.specs.Walk.{IsTrip, IsUnderway, IsNearWay};
 ghost use Rattle.slack_tables.specs.Span.{AreHome, AreLaden, IsSpan};
 ghost use Rattle.slack_tables.specs.Ride.{IsSmallRide, IsNearRide};
-ghost use Rattle.slack_tables.specs.Scan.{AddsSingle, AddsPair, AddsDelivery, IsNearUnderway, picked_up, gone_on, none_below, offered, accepted};
+ghost use Rattle.slack_tables.specs.Scan.{AddsSingle, AddsPair, AddsDelivery, AreDear, IsNearUnderway, served_single, picked_up, gone_on, none_below, offered, accepted};
 
-use crate::legs::{ROOM, fill_least, fill_legs, is_hopeless, leg_at, small_place};
+use crate::legs::{ROOM, fill_least, is_hopeless, least_leg_at, leg_at, small_place};
 use crate::progress::{Limits, Place, Progress, difference, is_in_time};
-use crate::ride::{Detour, Ride, ride_of, ride_on, serve_below};
+use crate::ride::{Detour, Ride, price, ride_of, ride_on, serve_below};
 use crate::span::Span;
-use crate::table::place_at;
 use nint_dist::dist;
 use plan_types::{Kind, Stop};
 
@@ -103,21 +103,51 @@ pub(crate) fn best_single(
         return None;
     }
     let mut best = Best::none_below(below);
-    let first = small_place(places, kept);
-    let mut to = u64::from(dist(&first.at.stop, stop));
+    let mut to = least_leg_at(places, kept, stop);
     for i in kept + 1..places.len() {
-        let before = small_place(places, i - 1);
-        let tail = small_place(places, i);
-        let from = u64::from(dist(&tail.at.stop, stop));
-        let detour = Detour { to, from };
-        let ride = ride_of(&before.at);
+        let from = least_leg_at(places, i, stop);
         let bound = best.bound;
-        let service = before.at.stop.service;
-        let distance = serve_below(bound, limits, &ride, service, detour, stop, tail);
+        let distance = single_at(limits, places, stop, i, Detour { to, from }, bound);
         best.offer(distance, i, i);
         to = from;
     }
     best.found
+}
+
+/// The distance that a single adds at place `i`, where it is less than `below` and all limits are
+/// kept. The price by a detour from below is compared first, since it takes no root.
+fn single_at(
+    limits: Limits,
+    places: &[Place],
+    stop: &Stop,
+    i: usize,
+    least: Detour,
+    below: i64,
+) -> Option<i64>
+    requires places { All IsSmallPlace places.now }
+    requires stop { IsVisit stop.now }
+    requires from_one { 1 ≤ i }
+    requires within { i < length places.now }
+    requires to { (d : Place) → least.to
+        ≤ distance (slice_index_or places.now (i - 1) d).at.stop stop.now }
+    requires from { (d : Place) → least.from
+        ≤ distance (slice_index_or places.now i d).at.stop stop.now }
+    requires to_small { least.to ≤ 2 ^ 33 }
+    requires from_small { least.from ≤ 2 ^ 33 }
+    ensures { (d : Place) → result ≡ served_single below limits places.now stop.now i d }
+{
+    let before = small_place(places, i - 1);
+    let tail = small_place(places, i);
+    let ride = ride_of(&before.at);
+    if price(&ride, least, tail) >= below {
+        return None;
+    }
+    let detour = Detour {
+        to: leg_at(places, i - 1, stop),
+        from: leg_at(places, i, stop),
+    };
+    let service = before.at.stop.service;
+    serve_below(below, limits, &ride, service, detour, stop, tail)
 }
 
 /// The best places of a pair, its pickup behind the first `kept` stops.
@@ -153,42 +183,11 @@ pub(crate) fn best_pair(
         across: u64::from(dist(pickup, delivery)),
     };
     if places.len() > ROOM {
-        return best_pickup(&trip, places, &[], &[], &[], kept, below);
+        return best_pickup(&trip, places, &[], kept, below);
     }
-    let mut pickup_legs = [0; ROOM];
-    let mut delivery_legs = [0; ROOM];
     let mut least = [0; ROOM];
-    let near = reachable(limits.kind, places, u64::from(pickup.latest));
-    fill_legs(&mut pickup_legs[..near], places, pickup);
-    fill_legs(&mut delivery_legs[..places.len()], places, delivery);
-    fill_least(
-        &mut least[..places.len()],
-        places,
-        &delivery_legs[..places.len()],
-        delivery,
-    );
-    best_pickup(
-        &trip,
-        places,
-        &pickup_legs[..near],
-        &delivery_legs[..places.len()],
-        &least[..places.len()],
-        kept,
-        below,
-    )
-}
-
-/// How many places there are up to the first, with it, that is reached after this time. Of those
-/// behind it no ways are asked.
-fn reachable(kind: Kind, places: &[Place], latest: u64) -> usize
-    ensures { result ≤ length places.now }
-{
-    for k in 0..places.len() {
-        if !is_in_time(kind, place_at(places, k).at.start, latest) {
-            return k + 1;
-        }
-    }
-    places.len()
+    fill_least(&mut least[..places.len()], places, delivery);
+    best_pickup(&trip, places, &least[..places.len()], kept, below)
 }
 
 /// A pair, the way from its pickup to its delivery, and what a vehicle must keep.
@@ -205,8 +204,6 @@ struct Trip {
 fn best_pickup(
     trip: &Trip,
     places: &[Place],
-    pickup_legs: &[u32],
-    delivery_legs: &[u32],
     least: &[i64],
     kept: usize,
     below: i64,
@@ -216,8 +213,6 @@ fn best_pickup(
     requires ways { AreLinked places.now }
     requires rising { AreRising places.now }
     requires few { length places.now ≤ 40003 }
-    requires pickup_legs { AreLegs pickup_legs.now places.now trip.now.pickup }
-    requires delivery_legs { AreLegs delivery_legs.now places.now trip.now.delivery }
     requires least { AreLeast least.now places.now trip.now.delivery }
     requires kept { kept + 2 ≤ length places.now }
     ensures { (d : Place) → IsFirstOf
@@ -232,28 +227,19 @@ fn best_pickup(
             return best.found;
         }
         let bound = best.bound;
-        best.accept(best_at(trip, places, pickup_legs, delivery_legs, least, i, bound));
+        best.accept(best_at(trip, places, least, i, bound));
     }
     best.found
 }
 
-/// The best place of the delivery, where the pickup stands at place `i`. Where prices alone show
-/// that there is none below the bound, nothing is driven.
-fn best_at(
-    trip: &Trip,
-    places: &[Place],
-    pickup_legs: &[u32],
-    delivery_legs: &[u32],
-    least: &[i64],
-    i: usize,
-    below: i64,
-) -> Option<Addition>
+/// The best place of the delivery, where the pickup stands at place `i`. No root is taken where the
+/// stop behind is over before the pickup's window opens, nor where prices from below show that there
+/// is none below the bound.
+fn best_at(trip: &Trip, places: &[Place], least: &[i64], i: usize, below: i64) -> Option<Addition>
     requires trip { IsTrip trip.now }
     requires places { All IsSmallPlace places.now }
     requires ways { AreLinked places.now }
     requires few { length places.now ≤ 40003 }
-    requires pickup_legs { AreLegs pickup_legs.now places.now trip.now.pickup }
-    requires delivery_legs { AreLegs delivery_legs.now places.now trip.now.delivery }
     requires least { AreLeast least.now places.now trip.now.delivery }
     requires from_one { 1 ≤ i }
     requires within { i < length places.now }
@@ -263,18 +249,47 @@ fn best_at(
 {
     let before = small_place(places, i - 1);
     let next = small_place(places, i);
-    let to = leg_at(pickup_legs, places, i - 1, &trip.pickup);
-    let onward = leg_at(pickup_legs, places, i, &trip.pickup);
-    let from = leg_at(delivery_legs, places, i, &trip.delivery);
-    let reach = before.at.distance + to;
-    let near = reach + trip.across + from;
-    if is_dear(least, i, near, reach + onward, next.at.distance, below) {
+    if is_over_before(trip.limits.kind, &next.at.stop, trip.pickup.earliest) {
         return None;
     }
+    if are_dear(trip, places, least, i, below) {
+        return None;
+    }
+    let to = leg_at(places, i - 1, &trip.pickup);
+    let onward = leg_at(places, i, &trip.pickup);
     let Some(first) = pick_up(trip, &before.at, to, onward) else {
         return None;
     };
-    best_delivery(trip, places, delivery_legs, least, i, first, below)
+    best_delivery(trip, places, least, i, first, below)
+}
+
+/// Whether a stop's latest time is over when another's window opens.
+fn is_over_before(kind: Kind, stop: &Stop, earliest: u32) -> bool
+    ensures { IsTrue result → is_in_time kind earliest stop.now.latest ≡ false }
+{
+    !is_in_time(kind, u64::from(earliest), u64::from(stop.latest))
+}
+
+/// Whether prices from below show that each place of the delivery adds `below` or more, where the
+/// pickup stands at place `i`.
+fn are_dear(trip: &Trip, places: &[Place], least: &[i64], i: usize, below: i64) -> bool
+    requires trip { IsTrip trip.now }
+    requires places { All IsSmallPlace places.now }
+    requires ways { AreLinked places.now }
+    requires least { AreLeast least.now places.now trip.now.delivery }
+    requires from_one { 1 ≤ i }
+    requires within { i < length places.now }
+    ensures { IsTrue result → AreDear trip.now.limits places.now trip.now.pickup
+        trip.now.delivery i below }
+{
+    let before = small_place(places, i - 1);
+    let next = small_place(places, i);
+    let to = least_leg_at(places, i - 1, &trip.pickup);
+    let onward = least_leg_at(places, i, &trip.pickup);
+    let from = least_leg_at(places, i, &trip.delivery);
+    let reach = before.at.distance + to;
+    let near = reach + trip.across + from;
+    is_dear(least, i, near, reach + onward, next.at.distance, below)
 }
 
 /// Whether neither the delivery right behind the pickup at place `i` nor one further on adds less
@@ -362,7 +377,6 @@ fn go_on(
 fn best_delivery(
     trip: &Trip,
     places: &[Place],
-    legs: &[u32],
     least: &[i64],
     i: usize,
     first: Underway,
@@ -372,7 +386,6 @@ fn best_delivery(
     requires places { All IsSmallPlace places.now }
     requires ways { AreLinked places.now }
     requires few { length places.now ≤ 40003 }
-    requires legs { AreLegs legs.now places.now trip.now.delivery }
     requires least { AreLeast least.now places.now trip.now.delivery }
     requires from_one { 1 ≤ i }
     requires within { i < length places.now }
@@ -393,7 +406,7 @@ fn best_delivery(
         let tail = small_place(places, j - 1);
         let detour = Detour {
             to: on.to_delivery,
-            from: leg_at(legs, places, j - 1, &trip.delivery),
+            from: leg_at(places, j - 1, &trip.delivery),
         };
         let bound = best.bound;
         let distance = serve_below(

@@ -245,7 +245,7 @@ fn edge(before: &Place, here: &Place) -> i64
 }
 
 /// The way between two stops is no shorter.
-fn least_between(a: &Stop, b: &Stop) -> u64
+pub(crate) fn least_between(a: &Stop, b: &Stop) -> u64
     ensures below { result ≤ distance a.now b.now }
     ensures bound { result ≤ 2 ^ 33 }
 {
@@ -268,15 +268,16 @@ fn gap(low: i32, high: i32, x: i32) -> u64
 }
 
 /// No way with these differences of coordinates is shorter. This takes no root: the length is at
-/// least its part along any direction, and one of these five is near that of the way.
+/// least its part along any direction, and one of these two is near that of the way.
 fn least_way(dx: u64, dy: u64) -> u64
     requires dx { dx < 2 ^ 32 }
     requires dy { dy < 2 ^ 32 }
     ensures below { (e : ℕ) → dx * dx + dy * dy ≤ e * (e + 1) → result ≤ e }
     ensures bound { result ≤ 2 ^ 33 }
 {
-    let flat = (dx * 236 + dy * 98) / 256;
-    let steep = (dx * 98 + dy * 236) / 256;
-    let even = (dx * 181 + dy * 181) / 256;
-    dx.max(dy).max(flat.max(steep)).max(even)
+    let long = dx.max(dy);
+    let short = dx.min(dy);
+    let flat = (long * 251 + short * 50) / 256;
+    let steep = (long * 213 + short * 142) / 256;
+    flat.max(steep)
 }

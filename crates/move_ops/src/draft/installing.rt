@@ -1,7 +1,10 @@
 // Other routes for vehicles of a draft.
-ghost use Rattle.std.specs.Prelude.{◌≡◌, ◌≤◌, All, IfSome, IfOk, OnOk, length};
+ghost use Rattle.std.specs.Prelude.{◌≡◌, ◌≤◌, ◌+◌, ◌^◌, All, IfSome, IfOk, OnOk, length};
 ghost use Rattle.slack_tables.specs.Course.{course_of, route_of};
+ghost use Rattle.route_sched.specs.Cost.{total_length};
 ghost use Rattle.route_sched.specs.Route.{AreLiveOnce};
+ghost use Rattle.route_sched.specs.Schedule.{route_length};
+ghost use Rattle.move_ops.specs.Insertion.{of_vehicle};
 ghost use Rattle.slack_tables.specs.Insertion.{KeepsLimits};
 ghost use Rattle.move_ops.specs.Changes.{with_routes, IsChange};
 ghost use Rattle.std.specs.Option.{option_map};
@@ -11,9 +14,9 @@ ghost use Rattle.move_ops.specs.Drafts.{undone, draft_of, base_of, IsDraftOf, Is
 use super::Draft;
 use crate::changes::Change;
 use crate::tour::Tour;
-use crate::tours::cost_of_tours;
+use crate::tours::vehicle_count;
 use plan_audit::passes_are_local;
-use plan_types::{OutOfMemory, Pins, Problem, numbers_are_below_the_next};
+use plan_types::{Cost, OutOfMemory, Pins, Problem, numbers_are_below_the_next};
 
 impl Draft {
     // Makes these changes, where there are some; answers whether it did.
@@ -60,30 +63,53 @@ impl Draft {
     {
         passes_are_local();
         numbers_are_below_the_next();
-        self.set_routes(problem, changes)?;
-        self.cost = cost_of_tours(problem, &self.tours, unplanned);
+        let distance = self.set_routes(problem, changes)?;
+        self.cost = Cost {
+            unplanned,
+            vehicles: vehicle_count(problem.kind, &self.tours, self.front),
+            distance,
+        };
         Ok(())
     }
 
-    fn set_routes(&mut self, problem: &Problem, changes: &[Change]) -> Result<(), OutOfMemory>
+    // Answers how far all vehicles drive then.
+    fn set_routes(&mut self, problem: &Problem, changes: &[Change]) -> Result<u64, OutOfMemory>
         requires tables { AreTablesIn problem.now self.old.tours }
         requires within { All (λ c. (1 ≤ c.vehicle)
             × (c.vehicle ≤ length (draft_of self.old))) changes.now }
         requires once { All (λ c. AreLiveOnce problem.now c.route) changes.now }
         requires keeps { All (λ c. KeepsLimits problem.now c.route) changes.now }
+        requires distance { self.old.cost.distance ≡ total_length problem.now (draft_of self.old) }
+        requires small { total_length problem.now
+            (with_routes (draft_of self.old) changes.now) ≤ 2 ^ 63 }
         ensures tables { OnOk result (AreTablesIn problem.now self.new.tours) }
         ensures plan { OnOk result (draft_of self.new
             ≡ with_routes (draft_of self.old) changes.now) }
         ensures base { OnOk result (undone self.new.tours self.new.log
             ≡ undone self.old.tours self.old.log) }
+        ensures distance { IfOk result (λ distance.
+            distance ≡ total_length problem.now (draft_of self.new)) }
         ensures pinned { OnOk result (self.new.pinned ≡ self.old.pinned) }
         ensures base_cost { OnOk result (self.new.base_cost ≡ self.old.base_cost) }
     {
+        let mut driven = u128::from(self.cost.distance);
         for change in changes {
             let tour = self.new_tour(problem, change.route.as_slice())?;
+            driven += u128::from(tour.table().distance());
+            driven -= u128::from(self.distance_of(problem, change.vehicle));
             self.set_tour(change.vehicle, tour)?;
         }
-        Ok(())
+        Ok(driven as u64)
+    }
+
+    // How far a vehicle drives.
+    fn distance_of(&self, problem: &Problem, vehicle: u32) -> u64
+        requires tables { AreTablesIn problem.now self.now.tours }
+        requires from_one { 1 ≤ vehicle }
+        requires within { vehicle ≤ length self.now.tours }
+        ensures { result ≡ route_length problem.now (of_vehicle (draft_of self.now) vehicle) }
+    {
+        self.tours[(vehicle - 1) as usize].table().distance()
     }
 
     // The tour of a route, in memory that is left of others where there is some.

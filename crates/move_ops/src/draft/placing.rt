@@ -35,7 +35,8 @@ impl Draft {
         if self.is_planned(request) {
             return Ok(());
         }
-        match best_of(problem, pins.routes.as_slice(), &self.tours, request) {
+        let kept = pins.routes.as_slice();
+        match best_of(problem, kept, &self.tours, self.reach(), request) {
             Some(found) => self.put(problem, pins, request, found.place()),
             None => Ok(()),
         }

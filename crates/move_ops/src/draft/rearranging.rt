@@ -1,15 +1,17 @@
 // Stops of a draft that take one another's places.
-ghost use Rattle.std.specs.Prelude.{◌≡◌, IfSome, IfOk, OnOk};
-ghost use Rattle.move_ops.specs.Changes.{with_routes, IsChange};
-ghost use Rattle.move_ops.specs.Moves.{exchanged, crossed, is_cut, are_exchangeable};
+ghost use Rattle.std.specs.Prelude.{◌≡◌, ◌≤◌, ◌⊎◌, nat_eq, map, length, IsSome, IfSome, IfOk, OnOk};
+ghost use Rattle.std.specs.List.{concat, IsDistinct};
+ghost use Rattle.plan_types.specs.Request.{stop_in};
+ghost use Rattle.move_ops.specs.Changes.{with_routes, AreChanges, AreIn, AreVehiclesOf, IsChange};
+ghost use Rattle.move_ops.specs.Moves.{counterpart, exchanged, crossed, is_cut, are_exchangeable};
 ghost use Rattle.std.specs.Option.{option_map};
 ghost use Rattle.move_ops.specs.Drafts.{draft_of, base_of, IsDraftOf, IsMade};
 
 use super::Draft;
-use crate::changes::{Change, are_all_feasible, exchanges};
+use crate::changes::{Change, are_all_feasible};
 use crate::cross::joined;
 use crate::lists::{is_feasible, of_vehicle};
-use crate::swap::have_same_form;
+use crate::swap::{counterparts, have_same_form};
 use plan_audit::{passes_are_local, plans_are_local, tests_say_feasible};
 use plan_types::{
     OutOfMemory, Pins, Problem, Request, Route, requests_are_found_by_stop, requests_stand_by_name,
@@ -69,12 +71,49 @@ impl Draft {
         if !self.are_exchangeable(problem, pins, first, second) {
             return Ok(None);
         }
-        let alloc = *self.tours.allocator();
-        let changes = exchanges(alloc, &self.tours, first, second)?;
+        let changes = self.exchanges(first, second)?;
         if !are_all_feasible(problem, &changes) {
             return Ok(None);
         }
         Ok(Some(changes))
+    }
+
+    // The routes with the stops of either request where those of the other were, of the vehicles that have some.
+    fn exchanges(&self, first: &Request, second: &Request) -> Result<Vec<Change>, OutOfMemory>
+        requires few { length (draft_of self.now) ≤ 40000 }
+        requires once { IsDistinct nat_eq (concat (draft_of self.now)) }
+        ensures { IfOk result (λ changes. AreChanges (draft_of self.now)
+            (map (map (counterpart first.now second.now)) (draft_of self.now)) changes.items) }
+    {
+        let mut vehicles = Vec::with_capacity(*self.tours.allocator(), 4)?;
+        self.note_request(first, &mut vehicles)?;
+        self.note_request(second, &mut vehicles)?;
+        self.exchanges_at(first, second, &vehicles)
+    }
+
+    fn exchanges_at(
+        &self,
+        first: &Request,
+        second: &Request,
+        vehicles: &[u64],
+    ) -> Result<Vec<Change>, OutOfMemory>
+        requires few { length (draft_of self.now) ≤ 40000 }
+        requires within { AreIn (draft_of self.now) vehicles.now }
+        requires found { AreVehiclesOf (draft_of self.now)
+            (λ n. IsSome (stop_in n first.now) ⊎ IsSome (stop_in n second.now)) vehicles.now }
+        ensures { IfOk result (λ changes. AreChanges (draft_of self.now)
+            (map (map (counterpart first.now second.now)) (draft_of self.now)) changes.items) }
+    {
+        let alloc = *self.tours.allocator();
+        let mut changes = Vec::with_capacity(alloc, vehicles.len())?;
+        for vehicle in vehicles {
+            let route = counterparts(alloc, self.route(*vehicle), first, second)?;
+            changes.push(Change {
+                vehicle: *vehicle as u32,
+                route,
+            })?;
+        }
+        Ok(changes)
     }
 
     // Whether both requests can be moved, and each to the places of the other.

@@ -198,7 +198,12 @@ impl Draft {
         }
     }
 
-    fn note_request(&self, request: &Request, vehicles: &mut Vec<u64>) -> Result<(), OutOfMemory>
+    // Adds the vehicles of the request's stops.
+    pub(crate) fn note_request(
+        &self,
+        request: &Request,
+        vehicles: &mut Vec<u64>,
+    ) -> Result<(), OutOfMemory>
         requires { IsDistinct nat_eq (concat (draft_of self.now)) }
         ensures { OnOk result (Notes (draft_of self.now) (λ n. IsSome (stop_in n request.now))
             vehicles.old.items vehicles.new.items) }

@@ -1,7 +1,7 @@
-use Rattle.std.proofs.Common.{◌≡◌, true, false, length, refl, sym, ◌∙◌, arith, subst}
+use Rattle.std.proofs.Common.{◌≡◌, rules, true, false, refl, sym, ◌∙◌, arith, subst}
 use Rattle.move_ops.specs.Tables.{plan_of}
 use Rattle.move_ops.specs.Choosing.{IsBestUpTo}
-use Rattle.move_ops.proofs.Asked.{course_at, request_valid, none_yet, pin_fits, idle_here, idle_more, one_more, one_skipped, answered}
+use Rattle.move_ops.proofs.Asked.{course_at, request_valid, none_yet, pin_fits, idle_here, idle_more, one_more, one_skipped, beyond, answered}
 use Rattle.move_ops.proofs.tables.best_of.Goals as goal
 use Rattle.move_ops.proofs.tables.best_of.Goals.{then-stop_count-eq0+else-has_idle, else-stop_count-eq0}
 
@@ -10,7 +10,7 @@ loop-k-init c =
     record {
       best = none_yet c.requests_are_found_by_stop.ensures c.requests_stand_by_name.ensures c.passes_are_local.ensures c.tests_say_feasible.ensures c.costs_compare_part_by_part.ensures.below_tells
           c.costs_compare_part_by_part.ensures.at_most_tells c.costs_are_in_order.ensures.total c.costs_are_in_order.ensures.transitive c.costs_are_in_order.ensures.below_then_at_most
-          c.costs_are_in_order.ensures.at_most_then_below c.costs_are_in_order.ensures.below_is_at_most c.args.problem.now c.args.pins.now c.args.tables.now c.args.request.now c.requires 0 refl;
+          c.costs_are_in_order.ensures.at_most_then_below c.costs_are_in_order.ensures.below_is_at_most c.args.problem.now c.args.pins.now c.args.tables.now c.args.request.now c.requires.asked 0 refl;
       idle = λ h. absurd (let k : false ≡ true = h in cc);
     }
 
@@ -21,25 +21,25 @@ loop-k-preserved-then-has_idle c =
     record {
       best = one_skipped c.requests_are_found_by_stop.ensures c.requests_stand_by_name.ensures c.passes_are_local.ensures c.tests_say_feasible.ensures c.costs_compare_part_by_part.ensures.below_tells
           c.costs_compare_part_by_part.ensures.at_most_tells c.costs_are_in_order.ensures.total c.costs_are_in_order.ensures.transitive c.costs_are_in_order.ensures.below_then_at_most
-          c.costs_are_in_order.ensures.at_most_then_below c.costs_are_in_order.ensures.below_is_at_most c.args.problem.now c.args.pins.now c.args.tables.now c.args.request.now c.requires
+          c.costs_are_in_order.ensures.at_most_then_below c.costs_are_in_order.ensures.below_is_at_most c.args.problem.now c.args.pins.now c.args.tables.now c.args.request.now c.requires.asked
           c.loop-k.k c.index-tables-k.result c.index-tables-k.is (omega arith) (omega arith) (c.loop-k.invariant.idle c.if-has_idle.true) c.loop-k.best c.loop-k.invariant.best;
       idle = λ h. idle_more (plan_of c.args.tables.now) c.loop-k.k (c.loop-k.invariant.idle h);
     }
 
-pub better_at-best-requires-clause-course : goal.better_at-best-requires-clause-course
-better_at-best-requires-clause-course c = course_at c.args.tables.now c.loop-k.k c.index-tables-k.result c.index-tables-k.is (omega arith) c.args.problem.now c.requires.tables
+pub look_at-requires-clause-course : goal.look_at-requires-clause-course
+look_at-requires-clause-course c = course_at c.args.tables.now c.loop-k.k c.index-tables-k.result c.index-tables-k.is (omega arith) c.args.problem.now c.requires.asked.tables
 
-pub better_at-best-requires-clause-valid : goal.better_at-best-requires-clause-valid
-better_at-best-requires-clause-valid c =
+pub look_at-requires-clause-valid : goal.look_at-requires-clause-valid
+look_at-requires-clause-valid c =
     request_valid c.requests_are_found_by_stop.ensures c.requests_stand_by_name.ensures c.passes_are_local.ensures c.tests_say_feasible.ensures c.costs_compare_part_by_part.ensures.below_tells
     c.costs_compare_part_by_part.ensures.at_most_tells c.costs_are_in_order.ensures.total c.costs_are_in_order.ensures.transitive c.costs_are_in_order.ensures.below_then_at_most
-    c.costs_are_in_order.ensures.at_most_then_below c.costs_are_in_order.ensures.below_is_at_most c.args.problem.now c.args.pins.now c.args.tables.now c.args.request.now c.requires
+    c.costs_are_in_order.ensures.at_most_then_below c.costs_are_in_order.ensures.below_is_at_most c.args.problem.now c.args.pins.now c.args.tables.now c.args.request.now c.requires.asked
 
-pub better_at-best-requires-clause-kept : goal.better_at-best-requires-clause-kept
-better_at-best-requires-clause-kept c =
+pub look_at-requires-clause-kept : goal.look_at-requires-clause-kept
+look_at-requires-clause-kept c =
     pin_fits c.requests_are_found_by_stop.ensures c.requests_stand_by_name.ensures c.passes_are_local.ensures c.tests_say_feasible.ensures c.costs_compare_part_by_part.ensures.below_tells
     c.costs_compare_part_by_part.ensures.at_most_tells c.costs_are_in_order.ensures.total c.costs_are_in_order.ensures.transitive c.costs_are_in_order.ensures.below_then_at_most
-    c.costs_are_in_order.ensures.at_most_then_below c.costs_are_in_order.ensures.below_is_at_most c.args.problem.now c.args.pins.now c.args.tables.now c.args.request.now c.requires
+    c.costs_are_in_order.ensures.at_most_then_below c.costs_are_in_order.ensures.below_is_at_most c.args.problem.now c.args.pins.now c.args.tables.now c.args.request.now c.requires.asked
     c.loop-k.k c.index-tables-k.result c.index-tables-k.is (omega arith) c.of_vehicle.result.now c.of_vehicle.ensures
 
 pub loop-k-preserved : goal.loop-k-preserved
@@ -49,21 +49,25 @@ loop-k-preserved c =
     record {
       best = one_more c.requests_are_found_by_stop.ensures c.requests_stand_by_name.ensures c.passes_are_local.ensures c.tests_say_feasible.ensures c.costs_compare_part_by_part.ensures.below_tells
           c.costs_compare_part_by_part.ensures.at_most_tells c.costs_are_in_order.ensures.total c.costs_are_in_order.ensures.transitive c.costs_are_in_order.ensures.below_then_at_most
-          c.costs_are_in_order.ensures.at_most_then_below c.costs_are_in_order.ensures.below_is_at_most c.args.problem.now c.args.pins.now c.args.tables.now c.args.request.now c.requires
-          c.loop-k.k c.index-tables-k.result c.index-tables-k.is (omega arith) c.of_vehicle.result.now c.of_vehicle.ensures (omega arith) c.loop-k.best c.better_at-best.result c.loop-k.invariant.best c.better_at-best.ensures;
+          c.costs_are_in_order.ensures.at_most_then_below c.costs_are_in_order.ensures.below_is_at_most c.args.problem.now c.args.pins.now c.args.tables.now c.args.request.now c.requires.asked
+          c.loop-k.k c.index-tables-k.result c.index-tables-k.is (omega arith) c.of_vehicle.result.now c.of_vehicle.ensures (omega arith) c.loop-k.best c.look_at.new.best c.loop-k.invariant.best c.look_at.ensures;
       idle = λ h. elim c.if-stop_count-eq0.branch [
         | then-stop_count-eq0+else-has_idle w ↦ (let none = w.if-stop_count-eq0 in idle_here c.requests_are_found_by_stop.ensures c.requests_stand_by_name.ensures c.passes_are_local.ensures c.tests_say_feasible.ensures c.costs_compare_part_by_part.ensures.below_tells
             c.costs_compare_part_by_part.ensures.at_most_tells c.costs_are_in_order.ensures.total c.costs_are_in_order.ensures.transitive c.costs_are_in_order.ensures.below_then_at_most
-            c.costs_are_in_order.ensures.at_most_then_below c.costs_are_in_order.ensures.below_is_at_most c.args.problem.now c.args.pins.now c.args.tables.now c.args.request.now c.requires c.loop-k.k c.index-tables-k.result c.index-tables-k.is (omega arith) (omega arith))
+            c.costs_are_in_order.ensures.at_most_then_below c.costs_are_in_order.ensures.below_is_at_most c.args.problem.now c.args.pins.now c.args.tables.now c.args.request.now c.requires.asked c.loop-k.k c.index-tables-k.result c.index-tables-k.is (omega arith) (omega arith))
         | else-stop_count-eq0 w ↦ idle_more (plan_of c.args.tables.now) c.loop-k.k (c.loop-k.invariant.idle (sym w.has_idle-is ∙ h))
       ];
     }
 
 pub returns : goal.returns
 returns c =
-    let end : c.loop-k.k ≡ length c.args.tables.now = omega arith in
+    let end : c.loop-k.k ≡ c.args.end = search rules in
     answered c.requests_are_found_by_stop.ensures c.requests_stand_by_name.ensures c.passes_are_local.ensures c.tests_say_feasible.ensures c.costs_compare_part_by_part.ensures.below_tells
     c.costs_compare_part_by_part.ensures.at_most_tells c.costs_are_in_order.ensures.total c.costs_are_in_order.ensures.transitive c.costs_are_in_order.ensures.below_then_at_most
-    c.costs_are_in_order.ensures.at_most_then_below c.costs_are_in_order.ensures.below_is_at_most c.args.problem.now c.args.pins.now c.args.tables.now c.args.request.now c.requires
+    c.costs_are_in_order.ensures.at_most_then_below c.costs_are_in_order.ensures.below_is_at_most c.args.problem.now c.args.pins.now c.args.tables.now c.args.request.now c.requires.asked
     c.best_insertions_are_least.ensures c.best_insertions_are_unique.ensures c.loop-k.best
-    (subst (λ k. IsBestUpTo c.args.problem.now c.args.pins.now (plan_of c.args.tables.now) c.args.request.now k c.loop-k.best) end c.loop-k.invariant.best)
+    (beyond c.requests_are_found_by_stop.ensures c.requests_stand_by_name.ensures c.passes_are_local.ensures c.tests_say_feasible.ensures c.costs_compare_part_by_part.ensures.below_tells
+    c.costs_compare_part_by_part.ensures.at_most_tells c.costs_are_in_order.ensures.total c.costs_are_in_order.ensures.transitive c.costs_are_in_order.ensures.below_then_at_most
+    c.costs_are_in_order.ensures.at_most_then_below c.costs_are_in_order.ensures.below_is_at_most c.args.problem.now c.args.pins.now c.args.tables.now c.args.request.now c.requires.asked
+    c.args.end c.requires.within c.requires.reach c.loop-k.best
+    (subst (λ k. IsBestUpTo c.args.problem.now c.args.pins.now (plan_of c.args.tables.now) c.args.request.now k c.loop-k.best) end c.loop-k.invariant.best))

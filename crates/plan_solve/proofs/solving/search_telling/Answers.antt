@@ -21,7 +21,7 @@ loop-parts-preserved-then-done-mark g c =
     let is : c.twentieths-mark.result ≡ twentieths c.args.steps (l.parts + 1) = c.twentieths-mark.ensures in
     let less : l.parts < 20 = search rules in
     let above_it : l.done < c.twentieths-mark.result = search rules in
-    let found : c.in_ok-state.state ≡ effect l.state (Search (c.twentieths-mark.result - l.done)) = c.in_ok-state.ensures.state in
+    let found : c.in_ok-state.state ≡ effect l.state (Search (c.twentieths-mark.result - l.done)) = c.in_ok-state.ensures in
     subst (λ m. IsTelling c.args.begun c.args.steps before next c.in_ok-state.state m (l.parts + 1)) (sym is)
     (tells law.two law.many c.args.begun c.args.steps before now next l.state c.in_ok-state.state l.done l.parts l.invariant less (subst (λ m. l.done < m) is above_it)
     (found ∙ ap (λ m. effect l.state (Search (m - l.done))) is) c.in_ok-tell-2.ensures.told)

@@ -1,9 +1,9 @@
-use Rattle.std.proofs.Common.{rules, ◌≡◌, ◌+◌, ◌<◌, ◌≤◌, [], length, set, slice_get, refl, sym, ap, subst, ◌∙◌}
+use Rattle.std.proofs.Common.{rules, ◌≡◌, ℕ, ◌+◌, ◌<◌, ◌≤◌, [], length, get_or, set, slice_get, refl, sym, ap, subst, ◌∙◌, arith}
 use Rattle.std.proofs.lemmas.List.{length-set}
 use Rattle.std.proofs.lemmas.Option.{slice_get_read, get_or_from_slice_get}
 use Rattle.move_ops.specs.Drafts.{draft_of}
 use Rattle.move_ops.specs.Insertion.{of_vehicle}
-use Rattle.seeded_search.proofs.RouteLemmas.{SameBelow, same_more, same_set, same_all}
+use Rattle.seeded_search.proofs.RouteLemmas.{SameBelow, same_more, same_set, stays_more, stays_set, same_all}
 use Rattle.seeded_search.proofs.incumbent.follow.Goals as goal
 use Rattle.seeded_search.proofs.incumbent.follow.Goals.{then-ne+in_ok-from_slice, else-ne}
 
@@ -12,7 +12,11 @@ loop-index-preserved c =
     let plan = draft_of c.args.draft.now in
     let routes = c.loop-index.routes in
     let n = c.loop-index.index in
-    let within : n < length routes = search rules in
+    let below = c.loop-index-test.true in
+    let high = c.reach-index-end.ensures.within in
+    let long = c.loop-index.invariant.long in
+    let before = c.requires.long in
+    let within : n < length routes = omega arith in
     let is : c.route-stops.result.now ≡ of_vehicle plan (n + 1) = search rules in
     elim c.if-ne.branch [
       | then-ne+in_ok-from_slice w ↦ (
@@ -20,6 +24,7 @@ loop-index-preserved c =
           record {
             long = ap length made ∙ (length-set routes n c.route-stops.result.now ∙ c.loop-index.invariant.long);
             same = subst (λ rs. SameBelow rs plan (n + 1)) (sym made) (same_set routes plan n c.route-stops.result.now c.loop-index.invariant.same within is);
+            stays = subst (λ rs. (k : ℕ) → n + 1 ≤ k → get_or rs k [] ≡ get_or c.args.routes.now k []) (sym made) (stays_set c.args.routes.now routes n c.route-stops.result.now c.loop-index.invariant.stays);
           })
       | else-ne w ↦ (
           let made : c.if-ne.routes ≡ routes = search rules in
@@ -30,10 +35,12 @@ loop-index-preserved c =
             long = ap length made ∙ c.loop-index.invariant.long;
             same = subst (λ rs. SameBelow rs plan (n + 1)) (sym made)
                 (same_more routes plan n c.loop-index.invariant.same (get_or_from_slice_get routes n c.index-as_slice-index.result [] there ∙ (same ∙ is)));
+            stays = subst (λ rs. (k : ℕ) → n + 1 ≤ k → get_or rs k [] ≡ get_or c.args.routes.now k []) (sym made) (stays_more c.args.routes.now routes n c.loop-index.invariant.stays);
           })
     ]
 
 pub returns : goal.returns
 returns c =
-    let all : length c.loop-index.routes ≤ c.loop-index.index = search rules in
-    same_all c.loop-index.routes (draft_of c.args.draft.now) c.loop-index.index c.loop-index.invariant.long c.loop-index.invariant.same all
+    let end : c.loop-index.index ≡ c.reach-index-end.result = search rules in
+    same_all c.args.routes.now c.loop-index.routes (draft_of c.args.draft.now) c.loop-index.index c.args.front c.front.result c.loop-index.invariant.long c.requires.long c.loop-index.invariant.same c.loop-index.invariant.stays
+    (subst (λ n. (v : ℕ) → n < v → v ≤ length c.args.routes.now → (c.args.front < v) × (c.front.result < v)) (sym end) c.reach-index-end.ensures.enough) c.requires.idle c.front.ensures.idle

@@ -1,15 +1,17 @@
-use Rattle.std.proofs.Common.{rules, ◌≡◌, ◌+◌, ◌<◌, ◌==◌, ◌++◌, ◌∷◌, [], not, true, false, length}
+use Rattle.std.proofs.Common.{rules, ◌≡◌, ◌+◌, ◌<◌, ◌==◌, ◌++◌, ◌∷◌, [], not, true, false, length, subst, arith}
 use Rattle.move_ops.specs.Insertion.{of_vehicle}
-use Rattle.move_ops.specs.Drafts.{draft_of}
+use Rattle.move_ops.specs.Drafts.{draft_of, AreIdleBehind}
 use Rattle.seeded_search.specs.Steps.{used_vehicles}
-use Rattle.seeded_search.proofs.NameLemmas.{used_pushed, used_passed}
+use Rattle.seeded_search.proofs.NameLemmas.{used_pushed, used_passed, used_end}
 use Rattle.seeded_search.proofs.lists.used_vehicles.Goals as goal
 use Rattle.seeded_search.proofs.lists.used_vehicles.Goals.{then-not-is_empty+in_ok-push, else-not-is_empty}
 
 pub loop-index-preserved : goal.loop-index-preserved
 loop-index-preserved c =
     let routes = draft_of c.args.draft.now in
-    let within : c.loop-index.index < length routes = search rules in
+    let below = c.loop-index-test.true in
+    let front = c.front-index-end.ensures.within in
+    let within : c.loop-index.index < length routes = omega arith in
     elim c.if-not-is_empty.branch [
       | then-not-is_empty+in_ok-push w ↦ (
           let made : c.if-not-is_empty.used.items ≡ c.loop-index.used.items ++ (c.loop-index.index + 1) ∷ [] = search rules in
@@ -20,3 +22,9 @@ loop-index-preserved c =
           let is : not (length (of_vehicle routes (c.loop-index.index + 1)) == 0) ≡ false = search rules in
           used_passed routes c.loop-index.used.items c.if-not-is_empty.used.items (used_vehicles routes) c.loop-index.index c.loop-index.invariant within is made)
     ]
+
+pub returns : goal.returns
+returns c =
+    let routes = draft_of c.args.draft.now in
+    let end : c.loop-index.index ≡ c.front-index-end.result = search rules in
+    used_end routes c.loop-index.used.items (used_vehicles routes) c.loop-index.index c.loop-index.invariant (subst (λ n. AreIdleBehind n routes) (search rules) c.front-index-end.ensures.idle)

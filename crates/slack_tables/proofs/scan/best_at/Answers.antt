@@ -1,12 +1,13 @@
-use Rattle.std.proofs.Common.{◌∙◌, w64, refl, subst, sym, ap}
+use Rattle.std.proofs.Common.{◌≡◌, false, ◌∙◌, w64, refl, subst, sym, ap}
 use mir.Val.{SFits}
 use Rattle.std.proofs.lemmas.Int.{to_z-of_z}
 use Rattle.nint_dist.specs.Distance.{distance}
 use Rattle.slack_tables.specs.Best.{IsFirstOf}
-use Rattle.slack_tables.specs.Scan.{AddsDelivery}
+use Rattle.slack_tables.specs.Driven.{is_in_time}
+use Rattle.slack_tables.specs.Scan.{AddsDelivery, AreDear}
 use Rattle.slack_tables.specs.declared.progress.Place.{Place}
-use Rattle.slack_tables.proofs.DetourLemmas.{all-dear}
-use Rattle.slack_tables.proofs.ScanLemmas.{deliveries-none, never-sum, bits-below}
+use Rattle.slack_tables.proofs.LateLemmas.{early-pickup}
+use Rattle.slack_tables.proofs.ScanLemmas.{deliveries-none, never-sum}
 use Rattle.slack_tables.proofs.WalkLemmas.{underway-begin, near-begin, not-begun}
 use Rattle.slack_tables.proofs.scan.best_at.Goals as goal
 
@@ -16,12 +17,16 @@ best_delivery-requires-clause-underway c = λ d. underway-begin c.args.trip.now.
 pub best_delivery-requires-clause-near : goal.best_delivery-requires-clause-near
 best_delivery-requires-clause-near c = λ d. near-begin c.args.trip.now.limits c.args.places.now c.args.trip.now.pickup c.args.trip.now.delivery c.args.i d c.in-Some.first c.in-Some.ensures.near
 
-pub returns-then-is_dear : goal.returns-then-is_dear
-returns-then-is_dear c = λ d.
+pub returns-then-are_dear : goal.returns-then-are_dear
+returns-then-are_dear c = λ d.
     (let below : SFits w64 c.args.below = record { sfits = c.ranges.below.sfits } in
-    let near = bits-below c.args.below _ below (c.is_dear.ensures.near c.if-is_dear.true) in
-    let apart = bits-below c.args.below _ below (c.is_dear.ensures.apart c.if-is_dear.true) in
-    deliveries-none c.args.trip.now.limits c.args.places.now c.args.trip.now.pickup c.args.trip.now.delivery c.args.i d c.args.below (all-dear c.args.trip.now.limits c.args.places.now c.args.trip.now.pickup c.args.trip.now.delivery c.args.i d c.requires.ways c.args.least.now c.requires.least c.args.below c.small_place-before.result.now c.small_place-next.result.now c.leg_at-to.result c.args.trip.now.across c.leg_at-from.result c.leg_at-onward.result (c.is_dear.ensures.within c.if-is_dear.true) (c.small_place-before.ensures.place d) (c.small_place-next.ensures.place d) (c.leg_at-to.ensures.value d) c.requires.trip.across (c.leg_at-from.ensures.value d) (c.leg_at-onward.ensures.value d) near apart))
+    let dear = subst (λ x. AreDear c.args.trip.now.limits c.args.places.now c.args.trip.now.pickup c.args.trip.now.delivery c.args.i x) (to_z-of_z w64 c.args.below below) (c.are_dear.ensures c.if-are_dear.true) in
+    deliveries-none c.args.trip.now.limits c.args.places.now c.args.trip.now.pickup c.args.trip.now.delivery c.args.i d c.args.below (λ j x behind last some. dear j x d behind last some))
+
+pub returns-then-is_over_before : goal.returns-then-is_over_before
+returns-then-is_over_before c = λ d. deliveries-none c.args.trip.now.limits c.args.places.now c.args.trip.now.pickup c.args.trip.now.delivery c.args.i d c.args.below (λ j x behind last some.
+    (let over = subst (λ (e : Place). is_in_time c.args.trip.now.limits.kind c.args.trip.now.pickup.earliest e.at.stop.latest ≡ false) (c.small_place-next.ensures.place d) (c.is_over_before.ensures c.if-is_over_before.true) in
+    absurd (never-sum _ x (early-pickup c.args.trip.now.limits c.args.places.now c.args.trip.now.pickup c.args.trip.now.delivery c.args.i d over j behind last) some)))
 
 pub returns-in_default : goal.returns-in_default
 returns-in_default c = λ d. deliveries-none c.args.trip.now.limits c.args.places.now c.args.trip.now.pickup c.args.trip.now.delivery c.args.i d c.args.below (λ j x behind last some.

@@ -71,7 +71,7 @@ returns-then-is_hopeless c = λ d.
     let so = delivery-more c.args.trip.now.limits c.args.places.now c.args.trip.now.pickup c.args.trip.now.delivery c.args.i d _ c.loop-j.j c.loop-j.best (c.loop-j.invariant.best d) _ c.offer.new.self order within refl
     (offered-here c.args.trip.now.limits c.args.places.now c.args.trip.now.pickup c.args.trip.now.delivery c.args.i d c.loop-j.j c.loop-j.on order within (c.loop-j.invariant.underway d) c.loop-j.best c.offer.new.self c.small_place-tail.result.now c.leg_at.result (c.small_place-tail.ensures.place d) (c.leg_at.ensures.value d ∙ ap (λ (e : Place). distance e.at.stop c.args.trip.now.delivery) (sym (c.small_place-tail.ensures.place d))) (c.offer.ensures ∙ ap (λ o. offered c.loop-j.best o c.args.i c.loop-j.j) served)) in
     let dear = bits-below c.offer.new.self.bound _ next_bound (c.is_hopeless.ensures.dear c.if-is_hopeless.true) in
-    let rest = dear-behind c.args.trip.now.limits c.args.places.now c.args.trip.now.pickup c.args.trip.now.delivery c.args.i d c.requires.ways c.args.least.now c.requires.least c.offer.new.self.bound (c.loop-j.j - 1) _ _ (omega arith) (c.is_hopeless.ensures.within c.if-is_hopeless.true) (first-reach c.args.trip.now.limits c.args.places.now c.args.trip.now.pickup c.args.trip.now.delivery c.args.i d c.requires.ways c.args.first (c.requires.underway d)) (ap (λ (e : Place). e.at.distance) (c.small_place-next.ensures.place d)) dear in
+    let rest = dear-behind c.args.trip.now.limits c.args.places.now c.args.trip.now.pickup c.args.trip.now.delivery c.args.i d c.requires.ways c.args.least.now c.requires.least c.offer.new.self.bound (c.loop-j.j - 1) _ _ (omega arith) (c.is_hopeless.ensures.within c.if-is_hopeless.true) (let far = first-reach c.args.trip.now.limits c.args.places.now c.args.trip.now.pickup c.args.trip.now.delivery c.args.i d c.requires.ways c.args.first (c.requires.underway d) in omega arith) (ap (λ (e : Place). e.at.distance) (c.small_place-next.ensures.place d)) dear in
     subst (λ x. IsFirstOf (AddsDelivery c.args.trip.now.limits c.args.places.now c.args.trip.now.pickup c.args.trip.now.delivery c.args.i x d) c.offer.new.self.found) (to_z-of_z w64 c.args.below below)
     (deliveries-stop c.args.trip.now.limits c.args.places.now c.args.trip.now.pickup c.args.trip.now.delivery c.args.i d _ (c.loop-j.j + 1) c.offer.new.self so (λ k x h l some. rest k x (omega arith) l some)))
 

@@ -1,11 +1,9 @@
-use Rattle.std.proofs.Common.{◌≡◌, ◌∙◌, ◌+◌, ◌-◌, w64, rules, get_or, refl, arith, subst, sym, ap}
+use Rattle.std.proofs.Common.{◌≡◌, ◌∙◌, ◌+◌, ◌-◌, ◌≤◌, w64, rules, get_or, refl, arith, subst, ap}
 use mir.Val.{SFits}
 use Rattle.std.proofs.lemmas.Int.{to_z-of_z}
 use Rattle.nint_dist.specs.Distance.{distance}
 use Rattle.slack_tables.specs.Best.{IsFirstOf}
-use Rattle.slack_tables.specs.Ride.{served_below}
-use Rattle.slack_tables.specs.Scan.{AddsSingle, offered}
-use Rattle.slack_tables.specs.declared.progress.Place.{Place}
+use Rattle.slack_tables.specs.Scan.{AddsSingle, offered, served_single}
 use Rattle.slack_tables.proofs.ScanLemmas.{singles-begin, single-more, singles-end}
 use Rattle.slack_tables.specs.Span.{IsFarSingle}
 use Rattle.slack_tables.proofs.SpanLemmas.{full-single, far-single}
@@ -15,26 +13,24 @@ use Rattle.slack_tables.proofs.scan.best_single.Goals as goal
 pub loop-i-init : goal.loop-i-init
 loop-i-init c = record {
   behind = omega arith;
-  to = λ d. (let here : c.args.kept + 1 - 1 ≡ c.args.kept = omega arith in c.from-to.ensures ∙ (c.dist.ensures.value ∙ (ap (λ (e : Place). distance e.at.stop c.args.stop.now) (c.small_place-first.ensures.place d) ∙ ap (λ k. distance (get_or c.args.places.now k d).at.stop c.args.stop.now) (sym here))));
-  bound = let far = c.dist.ensures.bound in let same = c.from-to.ensures in omega arith;
+  to = λ d. (let here : c.args.kept ≡ c.args.kept + 1 - 1 = omega arith in subst (λ k. c.least_leg_at-to.result ≤ distance (get_or c.args.places.now k d).at.stop c.args.stop.now) here (c.least_leg_at-to.ensures.value d));
+  bound = c.least_leg_at-to.ensures.bound;
   best = λ d. singles-begin c.args.limits c.args.places.now c.args.stop.now c.args.kept d _ _ c.none_below-best.ensures;
 }
 
 pub loop-i-preserved : goal.loop-i-preserved
 loop-i-preserved c =
     let behind = c.loop-i.invariant.behind in
-    let here : c.loop-i.i + 1 - 1 ≡ c.loop-i.i = omega arith in
+    let here : c.loop-i.i ≡ c.loop-i.i + 1 - 1 = omega arith in
     let bound : SFits w64 c.loop-i.best.bound = search rules in
-    let ride = c.ride_of-ride.ensures in
-    let raw = subst (λ x. c.serve_below-distance.result ≡ served_below x c.args.limits c.ride_of-ride.result c.small_place-before.result.now.at.stop.service c.loop-i.to c.args.stop.now c.from-from.result c.small_place-tail.result.now) (to_z-of_z w64 c.loop-i.best.bound bound) c.serve_below-distance.ensures in
-    let served = subst (λ r. c.serve_below-distance.result ≡ served_below c.loop-i.best.bound c.args.limits r c.small_place-before.result.now.at.stop.service c.loop-i.to c.args.stop.now c.from-from.result c.small_place-tail.result.now) ride raw in
-    let from = c.from-from.ensures ∙ c.dist-in-loop-i.ensures.value in
     record {
       behind = omega arith;
-      to = λ d. from ∙ (ap (λ (e : Place). distance e.at.stop c.args.stop.now) (c.small_place-tail.ensures.place d) ∙ ap (λ k. distance (get_or c.args.places.now k d).at.stop c.args.stop.now) (sym here));
-      bound = let far = c.dist-in-loop-i.ensures.bound in let same = c.from-from.ensures in omega arith;
-      best = λ d. single-more c.args.limits c.args.places.now c.args.stop.now c.args.kept d _ c.loop-i.i c.loop-i.best (c.loop-i.invariant.best d) _ c.offer.new.self behind (omega arith) refl
-          (offered-single c.args.limits c.args.places.now c.args.stop.now c.loop-i.i d c.loop-i.best c.offer.new.self c.small_place-before.result.now c.small_place-tail.result.now c.loop-i.to c.from-from.result (c.small_place-before.ensures.place d) (c.small_place-tail.ensures.place d) (c.loop-i.invariant.to d) from (c.offer.ensures ∙ ap (λ o. offered c.loop-i.best o c.loop-i.i c.loop-i.i) served));
+      to = λ d. subst (λ k. c.least_leg_at-from.result ≤ distance (get_or c.args.places.now k d).at.stop c.args.stop.now) here (c.least_leg_at-from.ensures.value d);
+      bound = c.least_leg_at-from.ensures.bound;
+      best = λ d.
+          (let served = subst (λ x. c.single_at-distance.result ≡ served_single x c.args.limits c.args.places.now c.args.stop.now c.loop-i.i d) (to_z-of_z w64 c.loop-i.best.bound bound) (c.single_at-distance.ensures d) in
+          single-more c.args.limits c.args.places.now c.args.stop.now c.args.kept d _ c.loop-i.i c.loop-i.best (c.loop-i.invariant.best d) _ c.offer.new.self behind (omega arith) refl
+          (offered-single c.args.limits c.args.places.now c.args.stop.now c.loop-i.i d c.loop-i.best c.offer.new.self (get_or c.args.places.now (c.loop-i.i - 1) d) (get_or c.args.places.now c.loop-i.i d) (distance (get_or c.args.places.now (c.loop-i.i - 1) d).at.stop c.args.stop.now) (distance (get_or c.args.places.now c.loop-i.i d).at.stop c.args.stop.now) refl refl refl refl (c.offer.ensures ∙ ap (λ o. offered c.loop-i.best o c.loop-i.i c.loop-i.i) served)));
     }
 
 pub returns : goal.returns

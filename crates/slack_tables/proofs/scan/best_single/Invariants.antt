@@ -1,4 +1,4 @@
-use Rattle.std.proofs.Common.{◌≡◌, ◌-◌, ◌<◌, ◌≤◌, get_or}
+use Rattle.std.proofs.Common.{◌^◌, ◌-◌, ◌<◌, ◌≤◌, get_or}
 use Rattle.nint_dist.specs.Distance.{distance}
 use Rattle.slack_tables.specs.declared.progress.Place.{Place}
 use Rattle.slack_tables.proofs.ScanLemmas.{SinglesSoFar}
@@ -7,7 +7,7 @@ use Rattle.slack_tables.proofs.scan.best_single.Given as goal
 abbrev pub invariant-loop-i : goal.invariant-loop-i
 invariant-loop-i l = record {
   behind : l.kept < l.i;
-  to : (d : Place) → l.to ≡ distance (get_or l.places (l.i - 1) d).at.stop l.stop;
-  bound : l.to ≤ 2828427;
+  to : (d : Place) → l.to ≤ distance (get_or l.places (l.i - 1) d).at.stop l.stop;
+  bound : l.to ≤ 2 ^ 33;
   best : (d : Place) → SinglesSoFar l.limits l.places l.stop l.kept d l.fn.below l.i l.best;
 }

@@ -1,5 +1,4 @@
-use Rattle.std.proofs.Common.{◌≡◌, ◌∙◌, arith, sym}
-use Rattle.slack_tables.specs.Driven.{keeps}
+use Rattle.std.proofs.Common.{◌∙◌, sym}
 use Rattle.slack_tables.proofs.TestLemmas.{keep-more}
 use Rattle.slack_tables.proofs.tests.all_keep.Goals as goal
 

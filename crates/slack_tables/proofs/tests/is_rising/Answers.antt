@@ -1,4 +1,4 @@
-use Rattle.std.proofs.Common.{get_or, refl, subst, arith}
+use Rattle.std.proofs.Common.{refl, subst, arith}
 use Rattle.std.specs.Prelude.{IsSome}
 use Rattle.slack_tables.proofs.TestLemmas.{rising-none, rising-more, rising-all}
 use Rattle.slack_tables.proofs.tests.is_rising.Goals as goal

@@ -23,4 +23,6 @@ invariant_of-self c =
           (seats_without old.seats.items c.unseat.new.seats (plan_of old.tours.items) c.args.stop c.self.invariant.seats gone
           (subst (λ (l : List ℕ). (n : ℕ) → slice_get c.unseat.new.seats n ≡ Some 0 → (n ≡ c.args.stop) ⊎ (slice_get l n ≡ Some 0)) seated c.unseat.ensures.seat));
       within = c.self.invariant.within;
+      front = c.self.invariant.front;
+      idle = c.self.invariant.idle;
     }

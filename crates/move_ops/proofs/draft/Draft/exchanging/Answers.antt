@@ -6,10 +6,8 @@ use Rattle.route_sched.specs.Route.{AreLiveOnce}
 use Rattle.plan_types.specs.declared.plans.Cost.{Cost}
 use Rattle.route_sched.specs.Cost.{unplanned_count}
 use Rattle.plan_audit.specs.Passes.{feasible_alone}
-use Rattle.slack_tables.specs.Course.{Course}
 use Rattle.move_ops.specs.Moves.{are_exchangeable, counterpart}
 use Rattle.move_ops.specs.Changes.{AreChanges}
-use Rattle.move_ops.specs.Tables.{plan_of}
 use Rattle.move_ops.specs.Drafts.{draft_of}
 use Rattle.move_ops.specs.declared.changes.Change.{Change}
 use Rattle.move_ops.proofs.Exchanging.{others_plan, others_pinned, others_once, exchanged_is}
@@ -34,9 +32,8 @@ are_all_feasible-requires c =
     let pinned = others_pinned c.requests_are_found_by_stop.ensures p is.valid c.args.a c.args.b c.if-a-b.false r s first second c.passes_are_local.ensures c.plans_are_local.ensures c.tests_say_feasible.ensures pins routes is.draft can in
     let once = others_once c.requests_are_found_by_stop.ensures p is.valid c.args.a c.args.b c.if-a-b.false r s first second c.passes_are_local.ensures c.plans_are_local.ensures c.tests_say_feasible.ensures pins routes is.draft can in
     let long = length-map routes (map (counterpart r s)) in
-    let tours : c.deref.result.now ≡ d.tours = search rules in
-    let are : AreChanges routes others c.in_ok-changes.changes.items = subst (λ (t : List Course). AreChanges (plan_of t) (map (map (counterpart r s)) (plan_of t)) c.in_ok-changes.changes.items) tours c.in_ok-changes.ensures in
-    subst (λ (l : List Change). All (λ x. AreLiveOnce p x.route) l) (sym c.deref-2.ensures.value) (asked c.passes_are_local.ensures c.tests_say_feasible.ensures p pins d is others plan once pinned long c.in_ok-changes.changes.items are)
+    let are : AreChanges routes others c.in_ok-changes.changes.items = c.in_ok-changes.ensures in
+    subst (λ (l : List Change). All (λ x. AreLiveOnce p x.route) l) (sym c.deref.ensures.value) (asked c.passes_are_local.ensures c.tests_say_feasible.ensures p pins d is others plan once pinned long c.in_ok-changes.changes.items are)
 
 pub returns-then-not-are_all_feasible-clause-routes : goal.returns-then-not-are_all_feasible-clause-routes
 returns-then-not-are_all_feasible-clause-routes c =
@@ -55,10 +52,9 @@ returns-then-not-are_all_feasible-clause-routes c =
     let pinned = others_pinned c.requests_are_found_by_stop.ensures p is.valid c.args.a c.args.b c.if-a-b.false r s first second c.passes_are_local.ensures c.plans_are_local.ensures c.tests_say_feasible.ensures pins routes is.draft can in
     let once = others_once c.requests_are_found_by_stop.ensures p is.valid c.args.a c.args.b c.if-a-b.false r s first second c.passes_are_local.ensures c.plans_are_local.ensures c.tests_say_feasible.ensures pins routes is.draft can in
     let long = length-map routes (map (counterpart r s)) in
-    let tours : c.deref.result.now ≡ d.tours = search rules in
-    let are : AreChanges routes others c.in_ok-changes.changes.items = subst (λ (t : List Course). AreChanges (plan_of t) (map (map (counterpart r s)) (plan_of t)) c.in_ok-changes.changes.items) tours c.in_ok-changes.ensures in
+    let are : AreChanges routes others c.in_ok-changes.changes.items = c.in_ok-changes.ensures in
     let fails : c.are_all_feasible.result ≡ false = search rules in
-    sym (exchanged_is c.requests_are_found_by_stop.ensures p is.valid c.args.a c.args.b c.if-a-b.false r s first second c.passes_are_local.ensures c.plans_are_local.ensures c.tests_say_feasible.ensures pins routes is.draft can false (sym fails ∙ (c.are_all_feasible.ensures ∙ ap (list_all (λ (x : Change). feasible_alone p x.route)) c.deref-2.ensures.value ∙ judge c.passes_are_local.ensures c.tests_say_feasible.ensures p pins d is others plan once pinned long c.in_ok-changes.changes.items are)))
+    sym (exchanged_is c.requests_are_found_by_stop.ensures p is.valid c.args.a c.args.b c.if-a-b.false r s first second c.passes_are_local.ensures c.plans_are_local.ensures c.tests_say_feasible.ensures pins routes is.draft can false (sym fails ∙ (c.are_all_feasible.ensures ∙ ap (list_all (λ (x : Change). feasible_alone p x.route)) c.deref.ensures.value ∙ judge c.passes_are_local.ensures c.tests_say_feasible.ensures p pins d is others plan once pinned long c.in_ok-changes.changes.items are)))
 
 pub returns-clause-routes : goal.returns-clause-routes
 returns-clause-routes c =
@@ -77,10 +73,9 @@ returns-clause-routes c =
     let pinned = others_pinned c.requests_are_found_by_stop.ensures p is.valid c.args.a c.args.b c.if-a-b.false r s first second c.passes_are_local.ensures c.plans_are_local.ensures c.tests_say_feasible.ensures pins routes is.draft can in
     let once = others_once c.requests_are_found_by_stop.ensures p is.valid c.args.a c.args.b c.if-a-b.false r s first second c.passes_are_local.ensures c.plans_are_local.ensures c.tests_say_feasible.ensures pins routes is.draft can in
     let long = length-map routes (map (counterpart r s)) in
-    let tours : c.deref.result.now ≡ d.tours = search rules in
-    let are : AreChanges routes others c.in_ok-changes.changes.items = subst (λ (t : List Course). AreChanges (plan_of t) (map (map (counterpart r s)) (plan_of t)) c.in_ok-changes.changes.items) tours c.in_ok-changes.ensures in
+    let are : AreChanges routes others c.in_ok-changes.changes.items = c.in_ok-changes.ensures in
     let holds : c.are_all_feasible.result ≡ true = search rules in
-    ap (λ (l : List (List ℕ)). Some l) are.plan ∙ sym (exchanged_is c.requests_are_found_by_stop.ensures p is.valid c.args.a c.args.b c.if-a-b.false r s first second c.passes_are_local.ensures c.plans_are_local.ensures c.tests_say_feasible.ensures pins routes is.draft can true (sym holds ∙ (c.are_all_feasible.ensures ∙ ap (list_all (λ (x : Change). feasible_alone p x.route)) c.deref-2.ensures.value ∙ judge c.passes_are_local.ensures c.tests_say_feasible.ensures p pins d is others plan once pinned long c.in_ok-changes.changes.items are)))
+    ap (λ (l : List (List ℕ)). Some l) are.plan ∙ sym (exchanged_is c.requests_are_found_by_stop.ensures p is.valid c.args.a c.args.b c.if-a-b.false r s first second c.passes_are_local.ensures c.plans_are_local.ensures c.tests_say_feasible.ensures pins routes is.draft can true (sym holds ∙ (c.are_all_feasible.ensures ∙ ap (list_all (λ (x : Change). feasible_alone p x.route)) c.deref.ensures.value ∙ judge c.passes_are_local.ensures c.tests_say_feasible.ensures p pins d is others plan once pinned long c.in_ok-changes.changes.items are)))
 
 pub returns-clause-change : goal.returns-clause-change
 returns-clause-change c =
@@ -99,8 +94,7 @@ returns-clause-change c =
     let pinned = others_pinned c.requests_are_found_by_stop.ensures p is.valid c.args.a c.args.b c.if-a-b.false r s first second c.passes_are_local.ensures c.plans_are_local.ensures c.tests_say_feasible.ensures pins routes is.draft can in
     let once = others_once c.requests_are_found_by_stop.ensures p is.valid c.args.a c.args.b c.if-a-b.false r s first second c.passes_are_local.ensures c.plans_are_local.ensures c.tests_say_feasible.ensures pins routes is.draft can in
     let long = length-map routes (map (counterpart r s)) in
-    let tours : c.deref.result.now ≡ d.tours = search rules in
-    let are : AreChanges routes others c.in_ok-changes.changes.items = subst (λ (t : List Course). AreChanges (plan_of t) (map (map (counterpart r s)) (plan_of t)) c.in_ok-changes.changes.items) tours c.in_ok-changes.ensures in
+    let are : AreChanges routes others c.in_ok-changes.changes.items = c.in_ok-changes.ensures in
     let holds : c.are_all_feasible.result ≡ true = search rules in
     let count : d.cost.unplanned ≡ unplanned_count p others = ap (λ (k : Cost). k.unplanned) is.cost ∙ as_many c.requests_are_found_by_stop.ensures c.requests_stand_by_name.ensures p is.valid c.args.a c.args.b c.if-a-b.false r s first second pins routes can in
-    made c.passes_are_local.ensures c.tests_say_feasible.ensures p pins d is others plan once pinned long c.in_ok-changes.changes.items are d.cost.unplanned count (sym holds ∙ (c.are_all_feasible.ensures ∙ ap (list_all (λ (x : Change). feasible_alone p x.route)) c.deref-2.ensures.value))
+    made c.passes_are_local.ensures c.tests_say_feasible.ensures p pins d is others plan once pinned long c.in_ok-changes.changes.items are d.cost.unplanned count (sym holds ∙ (c.are_all_feasible.ensures ∙ ap (list_all (λ (x : Change). feasible_alone p x.route)) c.deref.ensures.value))

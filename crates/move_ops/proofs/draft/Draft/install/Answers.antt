@@ -1,30 +1,20 @@
-use Rattle.std.proofs.Common.{rules, ◌≡◌, ◌≤◌, ◌^◌, ℕ, List, true, sym, ap, subst, ◌∙◌}
-use Rattle.route_sched.specs.Cost.{cost_of, unplanned_count, total_length}
+use Rattle.std.proofs.Common.{rules, ◌≡◌, ℕ, List, true, sym, ap, subst, ◌∙◌}
+use Rattle.route_sched.specs.Cost.{cost_of, unplanned_count, vehicle_count, total_length}
+use Rattle.plan_types.specs.declared.plans.Cost.{Cost}
+use Rattle.plan_types.specs.declared.requests.Kind.{Kind}
 use Rattle.plan_audit.specs.Passes.{passes}
 use Rattle.slack_tables.specs.Course.{Course}
 use Rattle.move_ops.specs.Changes.{with_routes}
 use Rattle.move_ops.specs.Tables.{plan_of, AreTablesIn}
 use Rattle.move_ops.specs.Drafts.{undone, draft_of}
+use Rattle.move_ops.proofs.Costs.{same_cost}
 use Rattle.move_ops.proofs.Counting.{plan_small}
 use Rattle.move_ops.proofs.Drafting.{changed}
 use Rattle.move_ops.proofs.draft.Draft.install.Goals as goal
 
-pub cost_of_tours-self-inside-requires-clause-tables : goal.cost_of_tours-self-inside-requires-clause-tables
-cost_of_tours-self-inside-requires-clause-tables c =
-    let tables : AreTablesIn c.args.problem.now c.self.inside.tours.items = search rules in
-    subst (AreTablesIn c.args.problem.now) (sym c.deref.ensures.value) tables
-
-pub cost_of_tours-self-inside-requires-clause-small : goal.cost_of_tours-self-inside-requires-clause-small
-cost_of_tours-self-inside-requires-clause-small c =
-    let p = c.args.problem.now in
-    let plan : plan_of c.self.inside.tours.items ≡ with_routes (draft_of c.args.self.now) c.args.changes.now = search rules in
-    subst (λ (l : List (List ℕ)). total_length p l ≤ 2 ^ 63) (sym (ap plan_of c.deref.ensures.value ∙ plan))
-    (plan_small c.numbers_are_below_the_next.ensures.stops c.passes_are_local.ensures p c.requires.is.valid c.args.pins.now.routes (with_routes (draft_of c.args.self.now) c.args.changes.now) c.requires.change.passes)
-
-pub cost_of_tours-self-inside-requires-clause-unplanned : goal.cost_of_tours-self-inside-requires-clause-unplanned
-cost_of_tours-self-inside-requires-clause-unplanned c =
-    let plan : plan_of c.self.inside.tours.items ≡ with_routes (draft_of c.args.self.now) c.args.changes.now = search rules in
-    c.requires.change.unplanned ∙ ap (unplanned_count c.args.problem.now) (sym (ap plan_of c.deref.ensures.value ∙ plan))
+pub set_routes-requires-clause-small : goal.set_routes-requires-clause-small
+set_routes-requires-clause-small c =
+    plan_small c.numbers_are_below_the_next.ensures.stops c.passes_are_local.ensures c.args.problem.now c.requires.is.valid c.args.pins.now.routes (with_routes (draft_of c.args.self.now) c.args.changes.now) c.requires.change.passes
 
 pub returns-clause-is : goal.returns-clause-is
 returns-clause-is c =
@@ -33,8 +23,14 @@ returns-clause-is c =
     let plan : plan_of new.tours.items ≡ with_routes (draft_of c.args.self.now) c.args.changes.now = search rules in
     let tables : AreTablesIn p new.tours.items = search rules in
     let back : undone new.tours.items new.log.items ≡ undone c.args.self.now.tours c.args.self.now.log = search rules in
-    changed p c.args.pins.now.routes c.args.self.now (record { tours = new.tours.items; log = new.log.items; pinned = new.pinned.items; cost = c.cost_of_tours-self-inside.result; base_cost = new.base_cost })
+    let cost : Cost = record { unplanned = c.args.unplanned; vehicles = c.vehicle_count.result; distance = c.in_ok-distance.distance } in
+    let kind : c.problem.inside.kind ≡ p.kind = search rules in
+    let left : c.args.unplanned ≡ unplanned_count p (plan_of new.tours.items) = c.requires.change.unplanned ∙ ap (unplanned_count p) (sym plan) in
+    let used : c.vehicle_count.result ≡ vehicle_count p.kind (plan_of new.tours.items) =
+    c.vehicle_count.ensures ∙ (ap (λ (l : List Course). vehicle_count c.problem.inside.kind (plan_of l)) c.deref.ensures.value ∙ ap (λ (k : Kind). vehicle_count k (plan_of new.tours.items)) kind) in
+    let driven : c.in_ok-distance.distance ≡ total_length p (plan_of new.tours.items) = search rules in
+    changed p c.args.pins.now.routes c.args.self.now (record { tours = new.tours.items; log = new.log.items; pinned = new.pinned.items; cost = cost; base_cost = new.base_cost })
     c.requires.is back (search rules) (search rules)
     (subst (λ (l : List (List ℕ)). passes p c.args.pins.now.routes l ≡ true) (sym plan) c.requires.change.passes)
     tables
-    (c.cost_of_tours-self-inside.ensures ∙ ap (λ (l : List Course). cost_of p (plan_of l)) c.deref.ensures.value)
+    (same_cost cost (cost_of p (plan_of new.tours.items)) left used driven)

@@ -7,7 +7,7 @@ use Rattle.move_ops.specs.Tables.{plan_of}
 use Rattle.move_ops.specs.Kept.{AreSeats}
 use Rattle.move_ops.specs.Drafts.{undone}
 use Rattle.move_ops.specs.Refreshing.{AreWithin}
-use Rattle.move_ops.proofs.Drafting.{seats_with, within_front, undone_back}
+use Rattle.move_ops.proofs.Drafting.{seats_with, within_front, front_with, undone_back}
 use Rattle.move_ops.proofs.draft.Draft.undo.Goals as goal
 
 pub seat-requires : goal.seat-requires
@@ -45,6 +45,8 @@ invariant_of-self c =
           (seats_with old.seats.items c.seat.new.seats old.tours.items (c.in-Some.vehicle - 1) c.in-Some.tour c.self.invariant.seats (λ n at. ap (λ l. has l n) (sym c.stops.ensures) ∙ c.seat.ensures.stops n at)
           (λ n at. ap (λ l. slice_get l n) (sym seated) ∙ c.seat.ensures.others n at)));
       within = subst (λ (k : ℕ). AreWithin k c.pop.new.self.items) (sym (ap length new ∙ length-set old.tours.items (c.in-Some.vehicle - 1) c.in-Some.tour)) within.0;
+      front = (let long = ap length new ∙ length-set old.tours.items (c.in-Some.vehicle - 1) c.in-Some.tour in let least = c.front_with-self-inside.ensures.least (length old.tours.items) c.self.invariant.front within.1.1 in omega arith);
+      idle = front_with old.tours.items c.swap-tried.new.tours.items c.in-Some.vehicle c.in-Some.tour old.front c.front_with-self-inside.result new within.1.0 c.self.invariant.idle c.front_with-self-inside.ensures.front c.front_with-self-inside.ensures.vehicle;
     }
 
 pub returns-in-Some-clause-base : goal.returns-in-Some-clause-base

@@ -21,6 +21,7 @@ returns-then-is_empty c =
       draft = c.take.ensures.is p c.args.pins.now.routes c.requires.draft;
       incumbent = search rules;
       best = search rules;
+      front = search rules;
       lists = record {
         movable = c.requires.lists.movable ∙ movable_stay p c.args.pins.now.routes old new before after;
         unplanned = c.requires.lists.unplanned ∙ (before ∙ sym after);

@@ -1,0 +1,19 @@
+use Rattle.std.proofs.Common.{rules, ◌≡◌, ◌≤◌, List, length, ap, sym, subst, ◌∙◌}
+use Rattle.route_sched.specs.Schedule.{route_length}
+use Rattle.slack_tables.specs.Course.{Course, route_of}
+use Rattle.move_ops.specs.Insertion.{of_vehicle}
+use Rattle.move_ops.specs.Tables.{plan_of, AreTablesIn}
+use Rattle.move_ops.proofs.Pricing.{is_course, of_old}
+use Rattle.move_ops.proofs.draft.Draft.distance_of.Goals as goal
+
+pub returns : goal.returns
+returns c =
+    let p = c.args.problem.now in
+    let tours = c.self.inside.tours.items in
+    let v = c.args.vehicle in
+    let old = c.index.result.now in
+    let viewed : c.args.self.now.tours ≡ tours = search rules in
+    let within : v ≤ length tours = subst (λ (l : List Course). v ≤ length l) viewed c.requires.within in
+    let tables : AreTablesIn p tours = subst (AreTablesIn p) viewed c.requires.tables in
+    c.distance.ensures p (route_of old) (is_course tours v c.requires.from_one within old c.index.ensures p tables ∙ sym c.table.ensures)
+    ∙ (ap (route_length p) (of_old tours v c.requires.from_one within old c.index.ensures) ∙ ap (λ (l : List Course). route_length p (of_vehicle (plan_of l) v)) (sym viewed))

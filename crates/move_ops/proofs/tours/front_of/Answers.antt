@@ -1,0 +1,24 @@
+use Rattle.std.proofs.Common.{◌≡◌, ◌+◌, ◌-◌, length, subst, ap, arith}
+use Rattle.move_ops.specs.Drafts.{AreIdleBehind}
+use Rattle.move_ops.specs.Tables.{plan_of}
+use Rattle.move_ops.proofs.Asked.{route_at, stops_long}
+use Rattle.move_ops.proofs.Drafting.{idle_before}
+use Rattle.move_ops.proofs.tours.front_of.Goals as goal
+
+pub loop-front-preserved : goal.loop-front-preserved
+loop-front-preserved c =
+    let tours = c.args.tours.now in
+    let k = c.loop-front.front - 1 in
+    let within = c.loop-front.invariant.within in
+    let high = c.requires.within in
+    let some = c.loop-front-test.true in
+    let count = c.stop_count.ensures.count in
+    let few = c.if-stop_count-ne0.false in
+    let t = c.index-tours-front.result in
+    let next : c.loop-front.front ≡ k + 1 = omega arith in
+    let long = stops_long tours k t c.index-tours-front.is (omega arith) in
+    let at = ap length (route_at tours k t c.index-tours-front.is (omega arith)) in
+    record {
+      within = omega arith;
+      idle = idle_before (plan_of tours) k (subst (λ n. AreIdleBehind n (plan_of tours)) next c.loop-front.invariant.idle) (omega arith);
+    }

@@ -1,0 +1,30 @@
+-- What the auditor says of what is solved.
+use Rattle.std.specs.Prelude.{◌≡◌, ◌<◌, ◌≤◌, ◌^◌, ℕ, List, Option}
+use Rattle.plan_types.specs.Instance.{Instance}
+use Rattle.plan_types.specs.declared.requests.Kind.{Kind}
+use Rattle.route_sched.specs.Cost.{cost_of, total_length, used_count}
+use Rattle.sol_text.specs.Faults.{Spells}
+use Rattle.sol_text.specs.declared.read.Solution.{Solution}
+use Rattle.plan_audit.specs.Laws.{AreAllPlanned, IsSoundPlan}
+use Rattle.plan_audit.specs.Verdict.{IsVerdict, printed}
+use Rattle.plan_audit.specs.declared.rules.Verdict.TheVariants.{Pass}
+use Rattle.command_text.specs.Readings.{SpellsInstance}
+use Rattle.plan_solve.specs.Solved.{IsSolution}
+
+-- Both texts spell a value, and the verdict on the two is to pass. So the solution is sound, serves each request, uses no more vehicles
+-- than there are, and prints the distance that it drives.
+pub record PassesAudit (kind : Kind) (instance solution : List ℕ) : Type 0 where
+  pub problem : Instance
+  pub problem_spelled : SpellsInstance kind instance problem
+  pub plan : Solution
+  pub plan_spelled : Spells solution plan
+  pub passes : IsVerdict problem (printed plan.routes plan.cost) (Pass (cost_of problem plan.routes))
+  pub sound : IsSoundPlan problem plan.routes
+  pub complete : AreAllPlanned problem plan.routes
+  pub fleet : used_count plan.routes ≤ problem.fleet
+  pub distance : plan.cost ≡ total_length problem plan.routes
+
+-- law: what is solved passes
+abbrev pub SolutionsPassAudit : Type 0
+SolutionsPassAudit = (kind : Kind) (text : List ℕ) (seed steps : ℕ) (before after_it : Option (List ℕ)) (found : List ℕ) → seed < 2 ^ 64
+    → IsSolution kind text seed steps before after_it found → PassesAudit kind text found

@@ -1,0 +1,62 @@
+-- What is told of an audit that is explained.
+use Rattle.std.specs.Prelude.{◌≡◌, ◌⊎◌, ℕ, List, ◌++◌, codes, string_bytes, Option, Result, Ok, Err, IfOk}
+use Rattle.std.specs.Borrow.{Bor}
+use Rattle.std.specs.Io.KnownBytes.{Appends}
+use Rattle.std.specs.declared.alloc.AllocError.{AllocError}
+use Rattle.std.specs.declared.io.ErrorKind.{ErrorKind}
+use Rattle.plan_types.specs.declared.requests.Kind.{Kind}
+use Rattle.plan_explain.specs.Explained.{verdict_text}
+use Rattle.plan_explain.specs.Refused.{TellsFault}
+use Rattle.planner_cli.specs.Answer.{IsAnswer}
+use Rattle.planner_cli.specs.Examined.{IsExamined, answer_of}
+use Rattle.planner_cli.specs.Files.{AreBothRead, IsUnread}
+use Rattle.planner_cli.specs.Telling.{TellsUnread, line}
+use Rattle.planner_cli.specs.declared.audit.Examined.{Examined}
+use Rattle.planner_cli.specs.declared.audit.Examined.TheVariants.{BadInstance, BadSolution, Judged}
+use Rattle.planner_cli.specs.declared.explained.Explanation.{Explanation}
+
+-- what the answer for two texts rests on: a fault and its line, or the verdict in figures
+abbrev pub RestsOn : List ℕ → List ℕ → Examined → List ℕ → Type 0
+RestsOn instance solution (BadInstance fault) text = TellsFault instance fault.line text
+RestsOn instance solution (BadSolution fault) text = TellsFault solution fault.line text
+RestsOn instance solution (Judged problem plan verdict) text = text ≡ verdict_text problem plan verdict
+
+-- the answer for what two texts are, and what it rests on
+pub record IsExplanation (kind : Kind) (instance solution : List ℕ) (explanation : Explanation) : Type 0 where
+  pub examined : Examined
+  pub is_examined : IsExamined kind instance solution examined
+  pub answers : explanation.answer ≡ answer_of examined
+  pub rests : RestsOn instance solution examined (string_bytes explanation.text)
+
+-- the answer's line, and behind it what it rests on
+abbrev pub explanation_text : {E : Type 0} → Result Explanation E → List ℕ
+explanation_text (Ok explanation) = line explanation.answer.line ++ string_bytes explanation.text
+explanation_text (Err e) = line (codes "out of memory")
+
+abbrev pub explanation_status : {E : Type 0} → Result Explanation E → ℕ
+explanation_status (Ok explanation) = explanation.answer.status
+explanation_status (Err e) = 4
+
+abbrev pub TellsExplanation : {E : Type 0} → Result Explanation E → Option (List ℕ) → Option (List ℕ) → ℕ → Type 0
+TellsExplanation explained before after status = (status ≡ explanation_status explained) × Appends before after (explanation_text explained)
+
+module _ {V E : Type 0} (post : Bor (List ℕ) → Result V E → Type 0) (items : V → List ℕ) (kind : E → ErrorKind) (k : Kind) where
+  -- two texts are read and explained: the answer is that of their audit
+  pub record TellsBoth (instance solution : List ℕ) (before after : Option (List ℕ)) (status : ℕ) : Type 0 where
+    pub x : V
+    pub y : V
+    pub read : AreBothRead post instance solution x y
+    pub explained : Result Explanation AllocError
+    pub answers : IfOk explained (λ explanation. IsAnswer k (items x) (items y) explanation.answer)
+    pub explains : IfOk explained (IsExplanation k (items x) (items y))
+    pub told : TellsExplanation explained before after status
+
+  -- or one can't be read
+  pub record TellsNotRead (instance solution : List ℕ) (before after : Option (List ℕ)) (status : ℕ) : Type 0 where
+    pub path : List ℕ
+    pub error : ErrorKind
+    pub unread : IsUnread post kind instance solution path error
+    pub told : TellsUnread path error before after status
+
+  abbrev pub TellsExplained : List ℕ → List ℕ → Option (List ℕ) → Option (List ℕ) → ℕ → Type 0
+  TellsExplained instance solution before after status = TellsBoth instance solution before after status ⊎ TellsNotRead instance solution before after status

@@ -1,0 +1,104 @@
+//! The audit of two files, and what it rests on.
+ghost use Rattle.std.specs.Prelude.{◌≡◌, ◌≤◌, IfOk, string_bytes};
+ghost use Rattle.std.specs.IoError.{error_kind};
+ghost use Rattle.planner_cli.specs.Answer.{IsAnswer};
+ghost use Rattle.planner_cli.specs.Examined.{HasVerdict};
+ghost use Rattle.planner_cli.specs.Explained.{IsExplanation, RestsOn, TellsExplained, TellsExplanation};
+
+use crate::answer::AuditAnswer;
+use crate::audit::{Examined, answer_of, examine};
+use crate::audited::read_both;
+use crate::status::OUT_OF_MEMORY;
+use crate::telling::{tell_unread, write_line};
+use crate::words::Paths;
+use plan_explain::{explain_instance_fault, explain_solution_fault, explain_verdict};
+use plan_types::{Kind, OutOfMemory};
+use std::alloc::Global;
+use std::io;
+use std::io::Write;
+
+/// The answer of an audit, and the lines that tell what it rests on.
+#[derive(Debug, Drop)]
+pub(crate) struct Explanation {
+    answer: AuditAnswer,
+    text: String,
+}
+
+/// Reads both texts as `audit_read` does, and tells the audit's answer and what it rests on.
+pub(crate) fn explain_read<F, W: Write>(
+    alloc: Global,
+    paths: Paths,
+    read: &F,
+    output: &mut W,
+) -> io::Result<u8>
+where
+    F: Fn(&str) -> io::Result<Vec<u8>>,
+    requires { F.IsAlwaysCallable read.now }
+    ensures status { IfOk result (λ status. status ≤ 4) }
+    ensures told { IfOk result (TellsExplained (λ path r. F.post read.now path r) (λ x. x.items)
+        error_kind paths.entry.kind paths.entry.instance.now paths.entry.solution.now
+        (W.contents output.old) (W.contents output.new)) }
+{
+    let both = match read_both(paths, read) {
+        Ok(both) => both,
+        Err(unread) => return tell_unread(output, unread.path, unread.kind),
+    };
+    tell_explanation(output, &explain(alloc, paths.kind, &both.0, &both.1))
+}
+
+/// Tells an explanation, or want of memory.
+fn tell_explanation<W: Write>(
+    output: &mut W,
+    explained: &Result<Explanation, OutOfMemory>,
+) -> io::Result<u8>
+    ensures { IfOk result (TellsExplanation explained.now
+        (W.contents output.old) (W.contents output.new)) }
+{
+    match explained {
+        Ok(explanation) => {
+            write_line(output, explanation.answer.line.as_bytes())?;
+            output.write_all(explanation.text.as_bytes())?;
+            Ok(explanation.answer.status)
+        }
+        Err(_) => {
+            write_line(output, b"out of memory")?;
+            Ok(OUT_OF_MEMORY)
+        }
+    }
+}
+
+/// Audits a solution's text against an instance's text, and tells what the answer rests on.
+fn explain(
+    alloc: Global,
+    kind: Kind,
+    instance: &[u8],
+    solution: &[u8],
+) -> Result<Explanation, OutOfMemory>
+    ensures answer { IfOk result (λ explanation.
+        IsAnswer kind instance.now solution.now explanation.answer) }
+    ensures explains { IfOk result (IsExplanation kind instance.now solution.now) }
+    ensures status { IfOk result (λ explanation. explanation.answer.status ≤ 2) }
+{
+    let examined = examine(alloc, kind, instance, solution)?;
+    let answer = answer_of(alloc, &examined)?;
+    let text = rests_on(alloc, instance, solution, &examined)?;
+    Ok(Explanation { answer, text })
+}
+
+/// What the answer for two texts rests on.
+fn rests_on(
+    alloc: Global,
+    instance: &[u8],
+    solution: &[u8],
+    examined: &Examined,
+) -> Result<String, OutOfMemory>
+    requires { HasVerdict examined.now }
+    ensures { IfOk result (λ text. RestsOn instance.now solution.now examined.now
+        (string_bytes text)) }
+{
+    match examined {
+        Examined::BadInstance(fault) => explain_instance_fault(alloc, instance, *fault),
+        Examined::BadSolution(fault) => explain_solution_fault(alloc, solution, *fault),
+        Examined::Judged(problem, plan, verdict) => explain_verdict(alloc, problem, plan, *verdict),
+    }
+}
