@@ -1,0 +1,9 @@
+//! Worked examples of texts: lines and numbers, instances, solutions, explanations and pictures, by their public functions.
+#![tactic(auto)]
+
+#[cfg(test)]
+mod builders;
+#[cfg(test)]
+mod instances;
+#[cfg(test)]
+mod lines;
