@@ -23,10 +23,3 @@ pub use laws::{
 };
 pub use lilim::read_lilim;
 pub use vrp::read_vrp;
-
-#[cfg(test)]
-mod size_tests;
-#[cfg(test)]
-mod tests;
-#[cfg(test)]
-mod vrp_tests;

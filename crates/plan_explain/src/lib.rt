@@ -12,6 +12,3 @@ mod verdicts;
 
 pub use refused::{explain_instance_fault, explain_solution_fault};
 pub use verdicts::explain_verdict;
-
-#[cfg(test)]
-mod tests;

@@ -13,6 +13,3 @@ mod texts;
 
 pub use drawing::draw;
 pub use laws::{legs_are_drawn, stops_are_marked};
-
-#[cfg(test)]
-mod tests;

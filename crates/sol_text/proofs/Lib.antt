@@ -4,4 +4,3 @@ pub mod ShapeLemmas
 pub mod TextLemmas
 pub mod ValueLemmas
 pub mod WrittenRead
-pub mod SizeLemmas

@@ -11,8 +11,3 @@ pub use faults::{SolFault, SolFaultKind, WriteSolFault};
 pub use laws::{cost_lines_are_made, route_lines_are_made};
 pub use read::{Solution, read_sol};
 pub use write::write_sol;
-
-#[cfg(test)]
-mod size_tests;
-#[cfg(test)]
-mod tests;

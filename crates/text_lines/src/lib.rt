@@ -12,6 +12,3 @@ pub use laws::{
 pub use line_iter::Lines;
 pub use numeral::{Number, digits_len, digits_to_u32};
 pub use word_iter::{Words, is_blank_line, trim_blanks_start};
-
-#[cfg(test)]
-mod tests;

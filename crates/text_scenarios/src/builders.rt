@@ -1,5 +1,10 @@
 //! Texts and problems that more than one of the examples has.
 
+use instance_read::{read_lilim, read_vrp};
+use plan_types::{Kind, Problem};
+use std::alloc::Global;
+use std::test::Fail;
+
 /// One pickup and its delivery: the vehicle serves them at 5 and at 12, and is back at 24.
 pub const ONE_PAIR: &[u8] =
     b"2 10 1\n0 0 0 0 0 100 0 0 0\n1 3 4 4 0 50 2 0 2\n2 6 8 -4 0 60 2 1 0\n";
@@ -25,3 +30,11 @@ DEPOT_SECTION
 -1
 EOF
 ";
+
+/// The problem of a text in the format of this kind.
+pub fn read_problem(alloc: Global, kind: Kind, text: &[u8]) -> Result<Problem, Fail> {
+    match kind {
+        Kind::LiLim => Ok(read_lilim(alloc, text)?),
+        Kind::Vrp => Ok(read_vrp(alloc, text)?),
+    }
+}

@@ -1,7 +1,7 @@
 //! Instances as texts, of both formats.
 ghost use Rattle.std.specs.Prelude.{◌≤◌};
 
-use crate::builders::{ONE_PAIR, THREE_CUSTOMERS};
+use crate::builders::{ONE_PAIR, THREE_CUSTOMERS, read_problem};
 use instance_read::{ReadFault, ReadFaultKind, read_lilim, read_vrp};
 use plan_types::{Kind, Problem, limits};
 use std::alloc::{AllocError, Global};
@@ -34,43 +34,90 @@ NODE_COORD_SECTION : x\r
 3\t6\t8\r
 \t4 -0 5";
 
-/// The fleet, the capacity, the number after the last and how many requests there are.
-fn figures(problem: &Problem) -> (u32, u32, u32, usize) {
+/// The kind, the fleet, the capacity, the number after the last, how many requests there are, and the depot's demand.
+type Figures = (Kind, u32, u32, u32, usize, i32);
+
+/// The place and the demand of a stop, the end of its window, and the number that names its request.
+type Spot = (i32, i32, i32, u32, Option<u32>);
+
+fn figures(problem: &Problem) -> Figures {
     (
+        problem.kind,
         problem.fleet,
         problem.capacity,
         problem.next_number,
         problem.requests.len(),
+        problem.depot.demand,
     )
 }
 
-/// The place and the demand of a stop, and the end of its window.
-fn spot(problem: &Problem, number: u32) -> Option<(i32, i32, i32, u32)> {
-    let stop = problem.stop(number)?;
-    Some((stop.x, stop.y, stop.demand, stop.latest))
+fn spot(problem: &Problem, number: u32) -> Option<Spot> {
+    match problem.stop(number) {
+        Some(stop) => {
+            let name = problem.name_of(number);
+            Some((stop.x, stop.y, stop.demand, stop.latest, name))
+        }
+        None => None,
+    }
+}
+
+/// What a text is read as: its figures and two of its stops.
+fn reading(
+    alloc: Global,
+    kind: Kind,
+    text: &[u8],
+    stops: (u32, u32),
+) -> Result<(Figures, Option<Spot>, Option<Spot>), Fail> {
+    let problem = read_problem(alloc, kind, text)?;
+    let one = spot(&problem, stops.0);
+    let other = spot(&problem, stops.1);
+    Ok((figures(&problem), one, other))
 }
 
 #[test]
-fn reads_a_pair(rt: HostRuntime) -> Result<(), Fail> {
-    let problem = read_lilim(rt.alloc(), ONE_PAIR)?;
-    assert_eq!(rt; figures(&problem), (2, 10, 3, 1));
-    assert_eq!(rt; problem.name_of(2), Some(1));
-    assert_eq!(rt; spot(&problem, 2), Some((6, 8, -4, 60)));
+fn reads_pairs(rt: HostRuntime) -> Result<(), Fail> {
+    let texts: [(&[u8], Figures, Option<Spot>, Option<Spot>); 3] = [
+        (
+            ONE_PAIR,
+            (Kind::LiLim, 2, 10, 3, 1, 0),
+            Some((3, 4, 4, 50, Some(1))),
+            Some((6, 8, -4, 60, Some(1))),
+        ),
+        (
+            REWRITTEN_PAIRS,
+            (Kind::LiLim, 1, 10, 5, 2, 0),
+            Some((1, 1, 1, 50, Some(1))),
+            Some((1, 1, -1, 50, Some(1))),
+        ),
+        (
+            b"2 10 1\n0 0 0 0 0 100 0 0 0\n",
+            (Kind::LiLim, 2, 10, 1, 0, 0),
+            None,
+            None,
+        ),
+    ];
+    for (text, figures, one, other) in texts {
+        let told = reading(rt.alloc(), Kind::LiLim, text, (1, 2))?;
+        assert_eq!(rt; told, (figures, one, other));
+    }
     Ok(())
 }
 
 #[test]
-fn reads_any_spelling_of_pairs(rt: HostRuntime) -> Result<(), Fail> {
+fn reads_no_service_at_the_depot(rt: HostRuntime) -> Result<(), Fail> {
     let problem = read_lilim(rt.alloc(), REWRITTEN_PAIRS)?;
-    assert_eq!(rt; figures(&problem), (1, 10, 5, 2));
-    assert_eq!(rt; (problem.depot.demand, problem.depot.service), (0, 0));
+    assert_eq!(rt; problem.depot.service, 0);
     Ok(())
 }
 
 #[test]
-fn reads_a_depot_alone(rt: HostRuntime) -> Result<(), Fail> {
-    let problem = read_lilim(rt.alloc(), b"2 10 1\n0 0 0 0 0 100 0 0 0\n")?;
-    assert_eq!(rt; figures(&problem), (2, 10, 1, 0));
+fn reads_customers(rt: HostRuntime) -> Result<(), Fail> {
+    for text in [THREE_CUSTOMERS, REWRITTEN_CUSTOMERS] {
+        let told = reading(rt.alloc(), Kind::Vrp, text, (2, 3))?;
+        let second = Some((6, 8, 4, 100_000_000, Some(2)));
+        let third = Some((0, 5, 5, 100_000_000, Some(3)));
+        assert_eq!(rt; told, ((Kind::Vrp, 3, 10, 4, 3, 0), second, third));
+    }
     Ok(())
 }
 
@@ -149,27 +196,6 @@ fn names_faults(rt: HostRuntime) {
         kind: ReadFaultKind::Truncated,
     };
     assert_eq!(rt; fault.name(), "Truncated");
-}
-
-#[test]
-fn reads_customers(rt: HostRuntime) -> Result<(), Fail> {
-    for text in [THREE_CUSTOMERS, REWRITTEN_CUSTOMERS] {
-        let problem = read_vrp(rt.alloc(), text)?;
-        assert_eq!(rt; figures(&problem), (3, 10, 4, 3));
-        assert_eq!(rt; spot(&problem, 2), Some((6, 8, 4, 100_000_000)));
-        assert_eq!(rt; spot(&problem, 3), Some((0, 5, 5, 100_000_000)));
-    }
-    Ok(())
-}
-
-#[test]
-fn reads_the_kind_and_the_depot(rt: HostRuntime) -> Result<(), Fail> {
-    for text in [THREE_CUSTOMERS, REWRITTEN_CUSTOMERS] {
-        let problem = read_vrp(rt.alloc(), text)?;
-        assert!(rt; problem.kind == Kind::Vrp);
-        assert_eq!(rt; problem.depot.demand, 0);
-    }
-    Ok(())
 }
 
 #[test]
@@ -320,25 +346,33 @@ fn lilim_of_pairs(alloc: Global, pairs: u32) -> Result<Vec<u8>, AllocError>
     Ok(text)
 }
 
-/// Node n stands at (n, -n).
-fn put_nodes(alloc: Global, text: &mut Vec<u8>, nodes: u32) -> Result<(), AllocError>
-    requires { nodes ≤ 40001 }
-{
-    for before in 0..nodes {
-        let node = before + 1;
-        let line = format!(in alloc; "{node} {node} -{node}\n")?;
-        text.extend_from_slice(line.as_bytes())?;
-    }
-    Ok(())
+/// What each node has a line of.
+#[derive(Clone, Copy)]
+enum Section {
+    /// Node n stands at (n, -n).
+    Nodes,
+    /// Node n asks for n.
+    Demands,
 }
 
-/// Node n asks for n.
-fn put_demands(alloc: Global, text: &mut Vec<u8>, nodes: u32) -> Result<(), AllocError>
+fn put_section(
+    alloc: Global,
+    text: &mut Vec<u8>,
+    section: Section,
+    nodes: u32,
+) -> Result<(), AllocError>
     requires { nodes ≤ 40001 }
 {
+    text.extend_from_slice(match section {
+        Section::Nodes => b"NODE_COORD_SECTION\n".as_slice(),
+        Section::Demands => b"DEMAND_SECTION\n",
+    })?;
     for before in 0..nodes {
         let node = before + 1;
-        let line = format!(in alloc; "{node} {node}\n")?;
+        let line = match section {
+            Section::Nodes => format!(in alloc; "{node} {node} -{node}\n")?,
+            Section::Demands => format!(in alloc; "{node} {node}\n")?,
+        };
         text.extend_from_slice(line.as_bytes())?;
     }
     Ok(())
@@ -350,13 +384,10 @@ fn vrp_of_customers(alloc: Global, customers: u32) -> Result<Vec<u8>, AllocError
 {
     let nodes = customers + 1;
     let mut text = Vec::new(alloc);
-    let head = format!(in alloc;
-        "DIMENSION : {nodes}\nCAPACITY : 1000000\nEDGE_WEIGHT_TYPE : EUC_2D\nNODE_COORD_SECTION\n"
-    )?;
-    text.extend_from_slice(head.as_bytes())?;
-    put_nodes(alloc, &mut text, nodes)?;
-    text.extend_from_slice(b"DEMAND_SECTION\n")?;
-    put_demands(alloc, &mut text, nodes)?;
+    text.extend_from_slice(format!(in alloc; "DIMENSION : {nodes}\n")?.as_bytes())?;
+    text.extend_from_slice(b"CAPACITY : 1000000\nEDGE_WEIGHT_TYPE : EUC_2D\n")?;
+    put_section(alloc, &mut text, Section::Nodes, nodes)?;
+    put_section(alloc, &mut text, Section::Demands, nodes)?;
     text.extend_from_slice(b"DEPOT_SECTION\n1\n-1\nEOF\n")?;
     Ok(text)
 }
@@ -364,20 +395,21 @@ fn vrp_of_customers(alloc: Global, customers: u32) -> Result<Vec<u8>, AllocError
 #[test]
 fn reads_the_most_tasks(rt: HostRuntime) -> Result<(), Fail> {
     let text = lilim_of_pairs(rt.alloc(), STOPS / 2)?;
-    let problem = read_lilim(rt.alloc(), &text)?;
-    assert_eq!(rt; figures(&problem), (40_000, 1_000_000, 40_001, 20_000));
-    assert_eq!(rt; problem.name_of(40_000), Some(39_999));
-    assert_eq!(rt; spot(&problem, 39_999), Some((19_999, -19_999, 7, 100_000_000)));
-    assert_eq!(rt; spot(&problem, 40_000), Some((0, 19_999, -7, 100_000_000)));
+    let told = reading(rt.alloc(), Kind::LiLim, &text, (39_999, 40_000))?;
+    let figures = (Kind::LiLim, 40_000, 1_000_000, 40_001, 20_000, 0);
+    let pickup = Some((19_999, -19_999, 7, 100_000_000, Some(39_999)));
+    let delivery = Some((0, 19_999, -7, 100_000_000, Some(39_999)));
+    assert_eq!(rt; told, (figures, pickup, delivery));
     Ok(())
 }
 
 #[test]
 fn reads_the_most_customers(rt: HostRuntime) -> Result<(), Fail> {
     let text = vrp_of_customers(rt.alloc(), STOPS)?;
-    let problem = read_vrp(rt.alloc(), &text)?;
-    assert_eq!(rt; figures(&problem), (40_000, 1_000_000, 40_001, 40_000));
-    assert_eq!(rt; spot(&problem, 1), Some((2, -2, 2, 100_000_000)));
-    assert_eq!(rt; spot(&problem, 40_000), Some((40_001, -40_001, 40_001, 100_000_000)));
+    let told = reading(rt.alloc(), Kind::Vrp, &text, (1, 40_000))?;
+    let figures = (Kind::Vrp, 40_000, 1_000_000, 40_001, 40_000, 0);
+    let first = Some((2, -2, 2, 100_000_000, Some(1)));
+    let last = Some((40_001, -40_001, 40_001, 100_000_000, Some(40_000)));
+    assert_eq!(rt; told, (figures, first, last));
     Ok(())
 }

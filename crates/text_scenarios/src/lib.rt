@@ -4,6 +4,12 @@
 #[cfg(test)]
 mod builders;
 #[cfg(test)]
+mod explanations;
+#[cfg(test)]
 mod instances;
 #[cfg(test)]
 mod lines;
+#[cfg(test)]
+mod pictures;
+#[cfg(test)]
+mod solutions;

@@ -6,7 +6,7 @@ use Rattle.plan_types.specs.declared.requests.Stop.{Stop}
 use Rattle.plan_types.specs.declared.requests.Kind.{Kind}
 use Rattle.plan_types.specs.declared.requests.Request.TheVariants.{Single}
 use Rattle.route_sched.specs.Route.{AreLiveOnce, IsLive}
-use Rattle.sol_text.proofs.tests.three_customers.Goals as goal
+use Rattle.text_scenarios.proofs.solutions.three_customers.Goals as goal
 
 with_three : Kind → Stop → ℕ → ℕ → Stop → Stop → Stop → Instance
 with_three kind depot capacity fleet a b c = with_request (with_request (with_request (new_instance kind depot capacity fleet) (Single a)) (Single b)) (Single c)

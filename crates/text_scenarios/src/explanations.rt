@@ -1,13 +1,13 @@
-use super::*;
-use instance_read::{read_lilim, read_vrp};
+//! What is said of verdicts and of faults.
+
+use crate::builders::{ONE_PAIR, THREE_CUSTOMERS, read_problem};
+use instance_read::read_lilim;
 use plan_audit::audit_solution;
-use plan_types::{Kind, Problem};
+use plan_explain::{explain_instance_fault, explain_solution_fault, explain_verdict};
+use plan_types::Kind;
 use sol_text::read_sol;
 use std::alloc::Global;
 use std::test::Fail;
-
-/// One pickup and its delivery: the vehicle serves them at 5 and at 12, and is back at 24.
-const ONE_PAIR: &[u8] = b"2 10 1\n0 0 0 0 0 100 0 0 0\n1 3 4 4 0 50 2 0 2\n2 6 8 -4 0 60 2 1 0\n";
 
 /// The delivery's latest is 11.
 const LATEST_11: &[u8] = b"2 10 1\n0 0 0 0 0 100 0 0 0\n1 3 4 4 0 50 2 0 2\n2 6 8 -4 0 11 2 1 0\n";
@@ -15,27 +15,20 @@ const LATEST_11: &[u8] = b"2 10 1\n0 0 0 0 0 100 0 0 0\n1 3 4 4 0 50 2 0 2\n2 6 
 /// The vehicle waits for the pickup from 5 to 8.
 const EARLIEST_8: &[u8] = b"2 10 1\n0 0 0 0 0 100 0 0 0\n1 3 4 4 8 50 2 0 2\n2 6 8 -4 0 60 2 1 0\n";
 
+/// The vehicle has to be back at 23.
 const RETURN_23: &[u8] = b"2 10 1\n0 0 0 0 0 23 0 0 0\n1 3 4 4 0 50 2 0 2\n2 6 8 -4 0 60 2 1 0\n";
 
+/// The vehicle holds 3.
 const CAPACITY_3: &[u8] = b"2 3 1\n0 0 0 0 0 100 0 0 0\n1 3 4 4 0 50 2 0 2\n2 6 8 -4 0 60 2 1 0\n";
 
+/// Two pairs and one vehicle.
 const TWO_PAIRS: &[u8] =
     b"1 10 1\n0 0 0 0 0 100 0 0 0\n1 1 1 1 0 50 0 0 2\n2 1 1 -1 0 50 0 1 0\n3 2 2 1 0 50 0 0 4\n4 2 2 -1 0 50 0 3 0\n";
 
-/// Three customers, of which a vehicle can serve two.
-const THREE_CUSTOMERS: &[u8] =
-    b"NAME : t3\nTYPE : CVRP\nDIMENSION : 4\nEDGE_WEIGHT_TYPE : EUC_2D\nCAPACITY : 10\nNODE_COORD_SECTION\n1 0 0\n2 3 4\n3 6 8\n4 0 5\nDEMAND_SECTION\n1 0\n2 6\n3 4\n4 5\nDEPOT_SECTION\n1\n-1\nEOF\n";
-
+/// Route 1 serves both stops of a pair.
 const BOTH: &[u8] = b"Route #1: 1 2\nCost 20\n";
 
-fn read_problem(alloc: Global, kind: Kind, text: &[u8]) -> Result<Problem, Fail> {
-    match kind {
-        Kind::LiLim => Ok(read_lilim(alloc, text)?),
-        Kind::Vrp => Ok(read_vrp(alloc, text)?),
-    }
-}
-
-// What is said of a solution.
+/// What is said of a solution.
 fn explained(alloc: Global, kind: Kind, instance: &[u8], solution: &[u8]) -> Result<String, Fail> {
     let problem = read_problem(alloc, kind, instance)?;
     let solution = read_sol(alloc, solution)?;
@@ -44,8 +37,8 @@ fn explained(alloc: Global, kind: Kind, instance: &[u8], solution: &[u8]) -> Res
 }
 
 #[test]
-fn tells_figures(rt: HostRuntime) -> Result<(), Fail> {
-    let rows: [(&[u8], &[u8], &str); 10] = [
+fn tells_figures_of_stops(rt: HostRuntime) -> Result<(), Fail> {
+    let rows: [(&[u8], &[u8], &str); 6] = [
         (
             ONE_PAIR,
             b"Route #1: 1 2 9\nCost 20\n",
@@ -76,6 +69,17 @@ fn tells_figures(rt: HostRuntime) -> Result<(), Fail> {
             b"Route #1: 2 1\nCost 20\n",
             "early delivery: stop 2 stands at place 1 of route 1, and its pickup, stop 1, at place 2 of route 1\nplace   stop    arrival      start         window              load\n    1      2         10         10          0..60                -4\n    2      1         17         17          0..50                 0\n    3      0         24         24          0..100                0\n",
         ),
+    ];
+    for (instance, solution, want) in rows {
+        let told = explained(rt.alloc(), Kind::LiLim, instance, solution)?;
+        assert_eq!(rt; told.as_str(), want);
+    }
+    Ok(())
+}
+
+#[test]
+fn tells_figures_of_limits(rt: HostRuntime) -> Result<(), Fail> {
+    let rows: [(&[u8], &[u8], &str); 4] = [
         (
             CAPACITY_3,
             BOTH,
@@ -139,28 +143,42 @@ fn sums_up_routes(rt: HostRuntime) -> Result<(), Fail> {
     Ok(())
 }
 
+/// What is said of an instance that is refused.
+fn instance_refused(alloc: Global, text: &[u8]) -> Result<String, Fail> {
+    match read_lilim(alloc, text) {
+        Ok(_) => Err(Fail::from("taken")),
+        Err(fault) => Ok(explain_instance_fault(alloc, text, fault)?),
+    }
+}
+
+/// What is said of a solution that is refused.
+fn solution_refused(alloc: Global, text: &[u8]) -> Result<String, Fail> {
+    match read_sol(alloc, text) {
+        Ok(_) => Err(Fail::from("taken")),
+        Err(fault) => Ok(explain_solution_fault(alloc, text, fault)?),
+    }
+}
+
 #[test]
-fn cites_lines(rt: HostRuntime) -> Result<(), Fail> {
-    let alloc = rt.alloc();
-    let bad = b"2 10 1\r\n0\t0 \x1bx \xff\r\n";
-    let Err(fault) = read_lilim(alloc, bad) else {
-        return Err(Fail::from("taken"));
-    };
-    let told = explain_instance_fault(alloc, bad, fault)?;
+fn cites_a_line(rt: HostRuntime) -> Result<(), Fail> {
+    let told = instance_refused(rt.alloc(), b"2 10 1\r\n0\t0 \x1bx \xff\r\n")?;
     assert_eq!(rt;
         told.as_str(),
         "line 2: the number of words is wrong\n0\t0 ?x ?\n"
     );
-    let Err(fault) = read_sol(alloc, b"Route #1: 1\n") else {
-        return Err(Fail::from("taken"));
-    };
-    let told = explain_solution_fault(alloc, b"Route #1: 1\n", fault)?;
+    Ok(())
+}
+
+#[test]
+fn cites_no_line_behind_the_text(rt: HostRuntime) -> Result<(), Fail> {
+    let told = solution_refused(rt.alloc(), b"Route #1: 1\n")?;
     assert_eq!(rt; told.as_str(), "line 2: there is no cost line\n");
-    let long = [b'x'; 300];
-    let Err(fault) = read_sol(alloc, &long) else {
-        return Err(Fail::from("taken"));
-    };
-    let told = explain_solution_fault(alloc, &long, fault)?;
+    Ok(())
+}
+
+#[test]
+fn cuts_a_long_line(rt: HostRuntime) -> Result<(), Fail> {
+    let told = solution_refused(rt.alloc(), &[b'x'; 300])?;
     assert_eq!(rt; told.len(), 263);
     Ok(())
 }

@@ -1,8 +1,8 @@
 use Rattle.std.proofs.Common.{◌≡◌, [], ◌∷◌, ◌+◌, ◌++◌, drop, get_or, sym, ap, ◌∙◌}
 use Rattle.std.specs.List.{concat}
 use Rattle.std.proofs.lemmas.List.{drop_more}
-use Rattle.sol_text.proofs.SizeLemmas.{one_more}
-use Rattle.sol_text.proofs.size_tests.own_routes.Goals as goal
+use Rattle.text_scenarios.proofs.SizeLemmas.{one_more}
+use Rattle.text_scenarios.proofs.solutions.own_routes.Goals as goal
 
 pub loop-number-preserved : goal.loop-number-preserved
 loop-number-preserved c =

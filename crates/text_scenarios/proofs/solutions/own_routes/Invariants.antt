@@ -1,6 +1,6 @@
 use Rattle.std.proofs.Common.{◌≡◌, ◌++◌, drop}
 use Rattle.std.specs.List.{concat}
-use Rattle.sol_text.proofs.size_tests.own_routes.Given as goal
+use Rattle.text_scenarios.proofs.solutions.own_routes.Given as goal
 
 -- the routes so far and the numbers to come are all
 abbrev pub invariant-loop-number : goal.invariant-loop-number

@@ -1,6 +1,6 @@
 use Rattle.std.proofs.Common.{◌≡◌, drop}
-use Rattle.sol_text.proofs.SizeLemmas.{rises_live}
-use Rattle.sol_text.proofs.size_tests.rise_and_live.Given as goal
+use Rattle.text_scenarios.proofs.SizeLemmas.{rises_live}
+use Rattle.text_scenarios.proofs.solutions.rise_and_live.Given as goal
 
 -- all rise and are live where those to come do
 abbrev pub invariant-loop-number : goal.invariant-loop-number

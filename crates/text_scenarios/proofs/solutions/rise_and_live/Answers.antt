@@ -1,7 +1,7 @@
 use Rattle.std.proofs.Common.{sym, ap, ◌∙◌, arith}
 use Rattle.std.proofs.lemmas.List.{drop_all}
-use Rattle.sol_text.proofs.SizeLemmas.{live_once, rises_live}
-use Rattle.sol_text.proofs.size_tests.rise_and_live.Goals as goal
+use Rattle.text_scenarios.proofs.SizeLemmas.{live_once, rises_live}
+use Rattle.text_scenarios.proofs.solutions.rise_and_live.Goals as goal
 
 pub returns : goal.returns
 returns c = λ _.

@@ -1,0 +1,304 @@
+//! Solutions as texts.
+ghost use Rattle.std.specs.Prelude.{◌≡◌, ◌++◌, true, IfOk, [], ◌∷◌};
+ghost use Rattle.std.specs.List.{concat};
+ghost use Rattle.route_sched.specs.Route.{AreLiveOnce};
+
+use plan_types::{Kind, Plan, Problem, Request, Route, Routes, Stop, limits};
+use sol_text::{SolFault, SolFaultKind, WriteSolFault, read_sol, write_sol};
+use std::alloc::{AllocError, Global};
+use std::test::Fail;
+
+/// The most customers that a problem can have.
+const CUSTOMERS: u32 = limits::MAX_STOP_NUMBER;
+
+/// Whether the routes are these and no more.
+fn are_routes(routes: &[Route], wanted: &[&[u32]]) -> bool {
+    if routes.len() != wanted.len() {
+        return false;
+    }
+    for (route, stops) in routes.iter().zip(wanted) {
+        if route.as_slice() != *stops {
+            return false;
+        }
+    }
+    true
+}
+
+/// Whether a text is read as these routes and this cost.
+fn is_read_as(alloc: Global, text: &[u8], routes: &[&[u32]], cost: u64) -> Result<bool, Fail> {
+    let solution = read_sol(alloc, text)?;
+    Ok(solution.cost == cost && are_routes(solution.routes.as_slice(), routes))
+}
+
+#[test]
+fn reads_any_spelling(rt: HostRuntime) -> Result<(), Fail> {
+    let text = b"Route 1 : 2 1\nroute #2:3\r\n\t\nRoute #3:\nCOST 30\nnot read\nCost x";
+    let routes: [&[u32]; 3] = [&[2, 1], &[3], &[]];
+    assert!(rt; is_read_as(rt.alloc(), text, &routes, 30)?);
+    Ok(())
+}
+
+#[test]
+fn reads_any_route_number(rt: HostRuntime) -> Result<(), Fail> {
+    let text =
+        b"Route1:2 1\nroute 0:3\nROUTE#7:\nRoute\t# 7 : 4\nRoute 99999999999999999999999999:5\nCost 1";
+    let routes: [&[u32]; 5] = [&[2, 1], &[3], &[], &[4], &[5]];
+    assert!(rt; is_read_as(rt.alloc(), text, &routes, 1)?);
+    Ok(())
+}
+
+#[test]
+fn ignores_what_follows_the_cost(rt: HostRuntime) -> Result<(), Fail> {
+    let routes: [&[u32]; 1] = [&[1]];
+    for text in [
+        b"Route #1: 1\nCost 7\nCost 8\n".as_slice(),
+        b"Route #1: 1\nCost 7\nCost 8 9\nRoute #2: 2",
+        b"Route #1: 1\nCost 7\nRoute #2: x\nnonsense",
+    ] {
+        assert!(rt; is_read_as(rt.alloc(), text, &routes, 7)?);
+    }
+    Ok(())
+}
+
+#[test]
+fn reads_costs(rt: HostRuntime) -> Result<(), Fail> {
+    for (text, cost) in [
+        (b"Cost 784".as_slice(), 784),
+        (b"Cost : 5.0", 5),
+        (b"cost:\t+5.", 5),
+        (b"Cost\t-0", 0),
+        (b"Cost 18446744073709551615", u64::MAX),
+    ] {
+        assert!(rt; is_read_as(rt.alloc(), text, &[], cost)?);
+    }
+    Ok(())
+}
+
+#[test]
+fn tells_the_first_fault(rt: HostRuntime) {
+    for (text, line, kind) in [
+        (b"".as_slice(), 1, SolFaultKind::NoCost),
+        (b"Route #1: 1\n\r\n", 3, SolFaultKind::NoCost),
+        (b"Route #1: 1\n\nRoute: 2\nCost 3", 3, SolFaultKind::BadLine),
+        (b" Route #1: 1", 1, SolFaultKind::BadLine),
+        (b"Route #1 1", 1, SolFaultKind::BadLine),
+        (b"Cost5", 1, SolFaultKind::BadLine),
+        (b"Cost :", 1, SolFaultKind::BadLine),
+        (b"Cost x 2", 1, SolFaultKind::BadLine),
+        (b"Cost ::5", 1, SolFaultKind::BadNumber),
+        (b"Cost -1", 1, SolFaultKind::BadNumber),
+        (b"Cost 30.5", 1, SolFaultKind::BadNumber),
+        (b"Cost 18446744073709551616", 1, SolFaultKind::BadNumber),
+        (b"Route #1: 4294967296\nRoute", 1, SolFaultKind::BadNumber),
+        (b"Route #1: +1\nCost 1", 1, SolFaultKind::BadNumber),
+    ] {
+        let fault = read_sol(rt.alloc(), text).err();
+        assert_eq!(rt; fault, Some(SolFault { line, kind }));
+    }
+}
+
+#[test]
+fn tells_the_first_of_two_faults(rt: HostRuntime) {
+    for (text, line, kind) in [
+        // In one line the words come before their values.
+        (b"Cost x y".as_slice(), 1, SolFaultKind::BadLine),
+        (b"Cost", 1, SolFaultKind::BadLine),
+        // The lesser line, whatever its fault is.
+        (b"Cost 1 2\nCost x", 1, SolFaultKind::BadLine),
+        (b"Cost x\nCost 1 2", 1, SolFaultKind::BadNumber),
+        (b"Route #1: x\nRoute 2", 1, SolFaultKind::BadNumber),
+        (b"\n \t\r\nRoute 2\nRoute #1: x", 3, SolFaultKind::BadLine),
+        // A fault of a line comes before that of the whole text.
+        (b"Route #1: 1\nRoute 2", 2, SolFaultKind::BadLine),
+        (b"Route #1: x\nRoute #2: 1", 1, SolFaultKind::BadNumber),
+    ] {
+        let fault = read_sol(rt.alloc(), text).err();
+        assert_eq!(rt; fault, Some(SolFault { line, kind }));
+    }
+}
+
+#[test]
+fn names_faults(rt: HostRuntime) {
+    let fault = SolFault {
+        line: 3,
+        kind: SolFaultKind::NoCost,
+    };
+    assert_eq!(rt; fault.name(), "NoCost");
+    assert_eq!(rt; WriteSolFault::Unplanned(1).name(), "Unplanned");
+}
+
+fn stop_at(number: u32, x: i32, y: i32, demand: i32) -> Stop
+    ensures { result.number ≡ number }
+{
+    Stop {
+        number,
+        x,
+        y,
+        demand,
+        earliest: 0,
+        latest: 100,
+        service: 0,
+    }
+}
+
+/// Three customers of a fleet of three.
+fn three_customers(alloc: Global) -> Result<Problem, Fail>
+    ensures all { IfOk result (λ problem. AreLiveOnce problem (2 ∷ 1 ∷ 3 ∷ [])) }
+    ensures two { IfOk result (λ problem. AreLiveOnce problem (2 ∷ 1 ∷ [])) }
+{
+    let depot = stop_at(0, 0, 0, 0);
+    let mut problem = Problem::new(alloc, Kind::Vrp, depot, 10, 3)?;
+    let first = stop_at(1, 3, 4, 6);
+    problem.put(Request::Single(first))?;
+    let second = stop_at(2, 6, 8, 4);
+    problem.put(Request::Single(second))?;
+    let third = stop_at(3, 0, 5, 5);
+    problem.put(Request::Single(third))?;
+    Ok(problem)
+}
+
+/// Two routes, and a third vehicle that stays idle.
+fn two_routes(alloc: Global, first: &[u32], second: &[u32]) -> Result<Routes, AllocError>
+    ensures { IfOk result (λ routes. concat routes ≡ first.now ++ second.now) }
+{
+    let first = Route::from(Vec::from_slice(alloc, first)?);
+    let second = Route::from(Vec::from_slice(alloc, second)?);
+    let idle = Route::new(alloc);
+    Ok(Routes::from(vec![in alloc; first, second, idle]?))
+}
+
+#[test]
+fn writes_used_routes(rt: HostRuntime) -> Result<(), Fail> {
+    let problem = three_customers(rt.alloc())?;
+    let routes = two_routes(rt.alloc(), &[2, 1], &[3])?;
+    let text = write_sol(rt.alloc(), &problem, &Plan { routes })?;
+    assert_eq!(rt;
+        text.as_slice(),
+        b"Route #1: 2 1\nRoute #2: 3\nCost 30\n".as_slice()
+    );
+    Ok(())
+}
+
+#[test]
+fn writes_no_plan_that_leaves_a_request_out(rt: HostRuntime) -> Result<(), Fail> {
+    let problem = three_customers(rt.alloc())?;
+    let routes = two_routes(rt.alloc(), &[2, 1], &[])?;
+    let fault = write_sol(rt.alloc(), &problem, &Plan { routes }).err();
+    assert_eq!(rt; fault, Some(WriteSolFault::Unplanned(1)));
+    Ok(())
+}
+
+/// A fleet of as many as the customers, which all stand one to the right of the depot.
+fn customers(alloc: Global) -> Result<Problem, Fail> {
+    let mut problem = Problem::new(alloc, Kind::Vrp, stop_at(0, 0, 0, 0), 10, CUSTOMERS)?;
+    for before in 0..CUSTOMERS {
+        problem.put(Request::Single(stop_at(before + 1, 1, 0, 0)))?;
+    }
+    Ok(problem)
+}
+
+/// All customers, by number.
+fn numbers(alloc: Global) -> Result<Vec<u32>, AllocError> {
+    let mut numbers = Vec::new(alloc);
+    for before in 0..CUSTOMERS {
+        numbers.push(before + 1)?;
+    }
+    Ok(numbers)
+}
+
+/// Whether each of these numbers is a customer's and greater than the one before it.
+fn rise_and_live(problem: &Problem, numbers: &[u32]) -> bool
+    ensures { result ≡ true → AreLiveOnce problem.now numbers.now }
+{
+    let mut last = 0;
+    for number in numbers {
+        if *number <= last || problem.stop(*number).is_none() {
+            return false;
+        }
+        last = *number;
+    }
+    true
+}
+
+/// One route of all.
+fn one_route(alloc: Global, numbers: &[u32]) -> Result<Routes, AllocError>
+    ensures { IfOk result (λ routes. concat routes ≡ numbers.now) }
+{
+    let route = Route::from(Vec::from_slice(alloc, numbers)?);
+    Ok(Routes::from(vec![in alloc; route]?))
+}
+
+/// A route for each.
+fn own_routes(alloc: Global, numbers: &[u32]) -> Result<Routes, AllocError>
+    ensures { IfOk result (λ routes. concat routes ≡ numbers.now) }
+{
+    let mut routes = Vec::new(alloc);
+    for number in numbers {
+        routes.push(Route::from(vec![in alloc; *number]?))?;
+    }
+    Ok(Routes::from(routes))
+}
+
+/// `Route #1: 1 2 3 ..`, and the cost.
+fn text_of_one_route(alloc: Global) -> Result<Vec<u8>, AllocError> {
+    let mut text = Vec::new(alloc);
+    text.extend_from_slice(b"Route #1:")?;
+    for before in 0..CUSTOMERS {
+        let customer = before + 1;
+        text.extend_from_slice(format!(in alloc; " {customer}")?.as_bytes())?;
+    }
+    text.extend_from_slice(b"\nCost 2\n")?;
+    Ok(text)
+}
+
+/// `Route #1: 1`, `Route #2: 2` and so on, and the cost.
+fn text_of_own_routes(alloc: Global) -> Result<Vec<u8>, AllocError> {
+    let mut text = Vec::new(alloc);
+    for before in 0..CUSTOMERS {
+        let customer = before + 1;
+        text.extend_from_slice(format!(in alloc; "Route #{customer}: {customer}\n")?.as_bytes())?;
+    }
+    text.extend_from_slice(b"Cost 80000\n")?;
+    Ok(text)
+}
+
+#[test]
+fn reads_the_most_customers_of_a_route(rt: HostRuntime) -> Result<(), Fail> {
+    let text = text_of_one_route(rt.alloc())?;
+    let numbers = numbers(rt.alloc())?;
+    assert!(rt; is_read_as(rt.alloc(), &text, &[numbers.as_slice()], 2)?);
+    Ok(())
+}
+
+#[test]
+fn reads_the_most_routes(rt: HostRuntime) -> Result<(), Fail> {
+    let text = text_of_own_routes(rt.alloc())?;
+    let solution = read_sol(rt.alloc(), &text)?;
+    assert_eq!(rt; solution.cost, 80_000);
+    let routes = solution.routes.as_slice();
+    assert_eq!(rt; routes.len(), 40_000);
+    assert!(rt; routes[39_999].as_slice() == [40_000].as_slice());
+    Ok(())
+}
+
+#[test]
+fn writes_the_most_customers_of_a_route(rt: HostRuntime) -> Result<(), Fail> {
+    let numbers = numbers(rt.alloc())?;
+    let problem = customers(rt.alloc())?;
+    assert!(rt; rise_and_live(&problem, &numbers));
+    let routes = one_route(rt.alloc(), &numbers)?;
+    let text = write_sol(rt.alloc(), &problem, &Plan { routes })?;
+    assert!(rt; text.as_slice() == text_of_one_route(rt.alloc())?.as_slice());
+    Ok(())
+}
+
+#[test]
+fn writes_the_most_routes(rt: HostRuntime) -> Result<(), Fail> {
+    let numbers = numbers(rt.alloc())?;
+    let problem = customers(rt.alloc())?;
+    assert!(rt; rise_and_live(&problem, &numbers));
+    let routes = own_routes(rt.alloc(), &numbers)?;
+    let text = write_sol(rt.alloc(), &problem, &Plan { routes })?;
+    assert!(rt; text.as_slice() == text_of_own_routes(rt.alloc())?.as_slice());
+    Ok(())
+}
