@@ -1,0 +1,81 @@
+//! What the examples share: sectors, states as bytes, and stores.
+
+use checkpoint::{format, format_with};
+use sector_disk::{DeviceFault, MemDevice, SECTOR_SIZE, Sectors};
+use state_codec::decode_state;
+use std::alloc::Global;
+use std::process::Abort;
+use std::test::Fail;
+
+/// The sectors of the smallest store.
+pub const SECTORS: u64 = 8450;
+
+/// A state: one customer, 1 at (3, 4) with demand 6, a capacity of 10 and one vehicle, just loaded.
+pub const LOADED: [u8; 95] = [
+    1, 2, 0, 0, 0, 0, 0, 0, 0, 0, 0, 0, 0, 0, 0, 0, 0, 0, 0, 0, 0, 10, 0, 0, 0, 1, 0, 0, 0, 2, 0,
+    0, 0, 0, 0, 0, 0, 0, 0, 0, 0, 0, 5, 245, 225, 0, 0, 0, 0, 0, 0, 0, 0, 1, 1, 0, 0, 0, 1, 0, 0,
+    0, 3, 0, 0, 0, 4, 0, 0, 0, 6, 0, 0, 0, 0, 5, 245, 225, 0, 0, 0, 0, 0, 0, 0, 0, 0, 0, 0, 0, 0,
+    0, 0, 0, 0,
+];
+
+/// The same in version 1. The next number is its bytes 24 and 25.
+pub const LOADED_V1: [u8; 75] = [
+    1, 2, 0, 0, 0, 0, 0, 0, 0, 0, 0, 0, 0, 0, 0, 0, 0, 0, 0, 0, 0, 10, 0, 1, 0, 2, 0, 0, 0, 0, 0,
+    0, 0, 0, 0, 0, 0, 0, 5, 245, 225, 0, 0, 1, 1, 0, 1, 0, 0, 0, 3, 0, 0, 0, 4, 0, 0, 0, 6, 0, 0,
+    0, 0, 5, 245, 225, 0, 0, 0, 0, 0, 0, 0, 0, 0,
+];
+
+/// A sector of the device, or none where the read fails.
+pub fn read_sector(
+    rt: &impl Abort,
+    device: &mut impl Sectors,
+    sector: u64,
+) -> Option<[u8; SECTOR_SIZE]> {
+    assert!(rt; sector < device.len());
+    let mut bytes = [0xee; SECTOR_SIZE];
+    device.read(sector, &mut bytes).ok()?;
+    Some(bytes)
+}
+
+/// Writes a sector.
+pub fn write_sector(
+    rt: &impl Abort,
+    device: &mut impl Sectors,
+    sector: u64,
+    bytes: &[u8; SECTOR_SIZE],
+) -> Result<(), DeviceFault> {
+    assert!(rt; sector < device.len());
+    device.write(sector, bytes)
+}
+
+/// A sector that begins with these bytes, of which 512 count at most, and has zeros behind them.
+pub fn sector_of(front: &[u8]) -> [u8; SECTOR_SIZE] {
+    let mut sector = [0; SECTOR_SIZE];
+    let len = front.len().min(SECTOR_SIZE);
+    sector[..len].copy_from_slice(&front[..len]);
+    sector
+}
+
+/// The header of a store: its version, its sequence and the length of its snapshot.
+pub fn header(version: u32, sequence: u64, length: u64) -> [u8; SECTOR_SIZE] {
+    let mut sector = [0; SECTOR_SIZE];
+    sector[..8].copy_from_slice(b"PDRSTORE");
+    sector[8..12].copy_from_slice(&version.to_be_bytes());
+    sector[12..20].copy_from_slice(&sequence.to_be_bytes());
+    sector[20..28].copy_from_slice(&length.to_be_bytes());
+    sector
+}
+
+/// A store of no state.
+pub fn empty_store(alloc: Global) -> Result<MemDevice, Fail> {
+    let mut device = MemDevice::new(alloc, SECTORS)?;
+    format(alloc, &mut device)?;
+    Ok(device)
+}
+
+/// A store of the loaded state.
+pub fn loaded_store(alloc: Global) -> Result<MemDevice, Fail> {
+    let mut device = MemDevice::new(alloc, SECTORS)?;
+    format_with(alloc, &mut device, &decode_state(alloc, &LOADED)?)?;
+    Ok(device)
+}

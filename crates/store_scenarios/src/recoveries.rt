@@ -1,0 +1,224 @@
+//! Sessions over a store: commands, stops and recovery.
+
+use crate::builders::{
+    LOADED, SECTORS, empty_store, header, loaded_store, sector_of, write_sector,
+};
+use checkpoint::{Place, StoreFault, commit_record};
+use command_core::{Command, Refusal, Spot, State};
+use recover::{Denial, Opened, Session};
+use sector_disk::{MemDevice, Sectors};
+use state_codec::{CodecFault, decode_state};
+use std::alloc::Global;
+use std::test::Fail;
+
+/// The command that leads to the loaded state.
+fn load(alloc: Global) -> Result<Command, Fail> {
+    match decode_state(alloc, &LOADED)? {
+        State::Loaded(job) => Ok(Command::Load(job.problem.copy()?, 0)),
+        State::Empty => Err(StoreFault::NotFormatted.into()),
+    }
+}
+
+fn open(alloc: Global, device: MemDevice) -> Result<Opened<MemDevice>, Fail> {
+    match Session::open(alloc, device) {
+        Ok(opened) => Ok(opened),
+        Err((fault, _)) => Err(fault.into()),
+    }
+}
+
+/// Why the device is not opened, and how many calls have finished.
+fn refused(alloc: Global, device: MemDevice) -> Option<(StoreFault, u64)> {
+    match Session::open(alloc, device) {
+        Ok(_) => None,
+        Err((fault, device)) => Some((fault, device.calls())),
+    }
+}
+
+/// How many search steps the state has made, and how many requests it has.
+fn counts(state: &State) -> (u64, usize) {
+    match state {
+        State::Empty => (0, 0),
+        State::Loaded(job) => (job.steps, job.problem.requests.len()),
+    }
+}
+
+/// The answer to a command, and the device's count then.
+fn answer(
+    alloc: Global,
+    session: &mut Session<MemDevice>,
+    command: Command,
+) -> (Result<(), Denial>, u64) {
+    let reply = session.apply(alloc, command);
+    (reply.answer, reply.calls)
+}
+
+#[test]
+fn opening_takes_one_call(rt: HostRuntime) -> Result<(), Fail> {
+    let device = empty_store(rt.alloc())?;
+    assert!(rt; device.calls() == 6);
+    let session = open(rt.alloc(), device)?.session;
+    assert!(rt; session.close().calls() == 7);
+    Ok(())
+}
+
+#[test]
+fn calls_of_each_command(rt: HostRuntime) -> Result<(), Fail> {
+    let load = load(rt.alloc())?;
+    let mut session = open(rt.alloc(), empty_store(rt.alloc())?)?.session;
+    assert!(rt; answer(rt.alloc(), &mut session, load) == (Ok(()), 11));
+    assert!(rt; answer(rt.alloc(), &mut session, Command::Build) == (Ok(()), 13));
+    assert!(rt; answer(rt.alloc(), &mut session, Command::Search(256)) == (Ok(()), 15));
+    Ok(())
+}
+
+#[test]
+fn search_steps_are_repeated(rt: HostRuntime) -> Result<(), Fail> {
+    let mut session = open(rt.alloc(), loaded_store(rt.alloc())?)?.session;
+    session.apply(rt.alloc(), Command::Search(256));
+    let mut device = session.close();
+    device.crash(&[3, 1, 4, 1, 5, 9, 2, 6]);
+    let opened = open(rt.alloc(), device)?;
+    assert!(rt; opened.replayed == 256 && counts(opened.session.state()) == (256, 1));
+    Ok(())
+}
+
+/// The loaded state, a plan of it and 256 search steps, as commands.
+fn commands(alloc: Global) -> Result<Vec<Command>, Fail> {
+    let mut commands = Vec::new(alloc);
+    commands.push(load(alloc)?)?;
+    commands.push(Command::Build)?;
+    commands.push(Command::Search(256))?;
+    Ok(commands)
+}
+
+#[test]
+fn a_run_answers_each_command(rt: HostRuntime) -> Result<(), Fail> {
+    let mut session = open(rt.alloc(), empty_store(rt.alloc())?)?.session;
+    let run = session.run(rt.alloc(), commands(rt.alloc())?)?;
+    assert_eq!(rt; run.replies.len(), 3);
+    for (reply, calls) in run.replies.iter().zip([11, 13, 15]) {
+        assert!(rt; (reply.answer, reply.calls) == (Ok(()), calls));
+    }
+    Ok(())
+}
+
+/// An add that is stopped between its write and its sync, and how many requests are there then.
+fn stopped_add(alloc: Global, choices: &[u32]) -> Result<usize, Fail> {
+    let mut device = loaded_store(alloc)?;
+    // The sync of the opening finishes, and the write.
+    device.fuse(2);
+    let mut session = open(alloc, device)?.session;
+    let spot = Spot {
+        x: 1,
+        y: 1,
+        earliest: 0,
+        latest: 9,
+        service: 0,
+    };
+    session.apply(alloc, Command::Add1 { demand: 1, spot });
+    let mut device = session.close();
+    device.crash(choices);
+    Ok(counts(open(alloc, device)?.session.state()).1)
+}
+
+#[test]
+fn an_add_may_be_lost_or_kept(rt: HostRuntime) -> Result<(), Fail> {
+    assert_eq!(rt; stopped_add(rt.alloc(), &[0, 0, 0])?, 1);
+    assert_eq!(rt; stopped_add(rt.alloc(), &[0, 0, 1])?, 2);
+    Ok(())
+}
+
+/// A session after so many searches of one step.
+fn searched(alloc: Global, times: u32) -> Result<Session<MemDevice>, Fail> {
+    let mut session = open(alloc, loaded_store(alloc)?)?.session;
+    for _ in 0..times {
+        session.apply(alloc, Command::Search(1));
+    }
+    Ok(session)
+}
+
+#[test]
+fn a_full_journal_becomes_a_snapshot(rt: HostRuntime) -> Result<(), Fail> {
+    let mut session = searched(rt.alloc(), 256)?;
+    assert!(rt; answer(rt.alloc(), &mut session, Command::Search(1)) == (Ok(()), 523));
+    let opened = open(rt.alloc(), session.close())?;
+    assert!(rt; opened.replayed == 0 && counts(opened.session.state()) == (257, 1));
+    Ok(())
+}
+
+/// A session whose device failed in a command, and what it answered.
+fn broken(alloc: Global) -> Result<(Session<MemDevice>, (Result<(), Denial>, u64)), Fail> {
+    let mut device = loaded_store(alloc)?;
+    // Opening is a sync and two reads, a command a write and a sync.
+    device.fail_once(4);
+    let mut session = open(alloc, device)?.session;
+    let failed = answer(alloc, &mut session, Command::Build);
+    Ok((session, failed))
+}
+
+#[test]
+fn a_session_breaks_with_its_device(rt: HostRuntime) -> Result<(), Fail> {
+    let (mut session, failed) = broken(rt.alloc())?;
+    assert!(rt; failed == (Err(Denial::DeviceFault), 8) && session.is_broken());
+    let next = answer(rt.alloc(), &mut session, Command::Search(1));
+    assert!(rt; next == (Err(Denial::Broken), 8));
+    Ok(())
+}
+
+#[test]
+fn a_broken_session_is_opened_again(rt: HostRuntime) -> Result<(), Fail> {
+    let (session, _failed) = broken(rt.alloc())?;
+    let opened = open(rt.alloc(), session.close())?;
+    assert!(rt; !opened.session.is_broken());
+    Ok(())
+}
+
+/// Why a device of zeros is not opened, and how many calls have finished.
+fn refused_of(alloc: Global, sectors: u64) -> Result<Option<(StoreFault, u64)>, Fail> {
+    Ok(refused(alloc, MemDevice::new(alloc, sectors)?))
+}
+
+#[test]
+fn what_is_no_store_is_refused(rt: HostRuntime) -> Result<(), Fail> {
+    assert!(rt; refused_of(rt.alloc(), 801)? == Some((StoreFault::NotFormatted, 0)));
+    assert!(rt; refused_of(rt.alloc(), 802)? == Some((StoreFault::NotFormatted, 1)));
+    assert!(rt; refused_of(rt.alloc(), 8449)? == Some((StoreFault::NotFormatted, 1)));
+    assert!(rt; refused_of(rt.alloc(), 8450)? == Some((StoreFault::NotFormatted, 1)));
+    Ok(())
+}
+
+#[test]
+fn a_record_that_the_state_refuses(rt: HostRuntime) -> Result<(), Fail> {
+    let mut device = loaded_store(rt.alloc())?;
+    let place = Place {
+        sequence: 1,
+        used: 0,
+    };
+    assert_eq!(rt; device.len(), SECTORS);
+    commit_record(&mut device, place, &Command::Withdraw(9))?;
+    let bad_field = StoreFault::Codec(CodecFault::BadField);
+    assert!(rt; refused(rt.alloc(), device) == Some((bad_field, 9)));
+    Ok(())
+}
+
+#[test]
+fn an_empty_state_refuses(rt: HostRuntime) -> Result<(), Fail> {
+    let mut session = open(rt.alloc(), empty_store(rt.alloc())?)?.session;
+    let no_instance = Denial::Core(Refusal::NoInstance);
+    let checkpoint = answer(rt.alloc(), &mut session, Command::Checkpoint);
+    assert!(rt; checkpoint == (Err(no_instance), 7));
+    assert!(rt; no_instance.name() == "NoInstance");
+    Ok(())
+}
+
+#[test]
+fn the_last_sequence_is_spent(rt: HostRuntime) -> Result<(), Fail> {
+    let mut device = MemDevice::new(rt.alloc(), SECTORS)?;
+    write_sector(&rt, &mut device, 0, &header(2, 1 << 60, 95))?;
+    write_sector(&rt, &mut device, 258, &sector_of(&LOADED))?;
+    let mut session = open(rt.alloc(), device)?.session;
+    let checkpoint = answer(rt.alloc(), &mut session, Command::Checkpoint);
+    assert!(rt; checkpoint == (Err(Denial::Spent), 3));
+    assert!(rt; answer(rt.alloc(), &mut session, Command::Build) == (Ok(()), 5));
+    Ok(())
+}
