@@ -11,13 +11,7 @@ mod pins;
 mod rules;
 mod scan;
 mod seats;
-#[cfg(test)]
-mod slow;
-#[cfg(test)]
-mod tests;
 mod timing;
-#[cfg(test)]
-mod words;
 
 pub use alone::route_fault;
 pub use audits::{audit, audit_solution};

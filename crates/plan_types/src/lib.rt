@@ -19,6 +19,3 @@ use std::alloc::AllocError;
 
 /// Why a call that needed memory gave up: an allocation was refused.
 pub type OutOfMemory = AllocError;
-
-#[cfg(test)]
-mod tests;

@@ -11,6 +11,3 @@ pub use cost::{plan_cost, routes_cost};
 pub use laws::schedules_agree;
 pub use schedule::{loads, route_distance, starts};
 pub use visits::{Visit, Visits};
-
-#[cfg(test)]
-mod tests;

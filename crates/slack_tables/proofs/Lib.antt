@@ -15,5 +15,4 @@ pub mod ScanLemmas
 pub mod SpanLemmas
 pub mod SpliceLemmas
 pub mod TableLemmas
-pub mod TestLemmas
 pub mod WalkLemmas

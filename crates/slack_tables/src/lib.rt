@@ -12,6 +12,3 @@ mod table;
 
 pub use scan::{Addition, best_places_are_one};
 pub use table::RouteTable;
-
-#[cfg(test)]
-mod tests;

@@ -275,25 +275,8 @@ fn drive_route(places: &mut [Place], problem: &Problem, route: &[u32])
     places[route.len() + 1] = open_place(driven_on(&at, &problem.depot));
 }
 
-/// The same in memory of its own.
-pub(crate) fn driven(
-    alloc: Global,
-    problem: &Problem,
-    route: &[u32],
-) -> Result<Vec<Place>, OutOfMemory>
-    requires { AreLiveOnce problem.now route.now }
-    ensures opened { IfOk result (λ places. AreOpen (place problem.now route.now) places.items) }
-    ensures len { IfOk result (λ places. length places.items ≡ length route.now + 2) }
-{
-    numbers_are_below_the_next();
-    let mut places = Vec::with_capacity(alloc, route.len() + 2)?;
-    places.resize(route.len() + 2, open_place(leaving(&problem.depot)))?;
-    drive_route(places.as_mut_slice(), problem, route);
-    Ok(places)
-}
-
 /// The request of a live name.
-pub(crate) fn live_request(problem: &Problem, name: u32) -> &Request
+fn live_request(problem: &Problem, name: u32) -> &Request
     requires { IsSome (request_named problem.now name) }
     ensures found { request_named problem.now name ≡ Some result.now }
     ensures request { IsRequest result.now }

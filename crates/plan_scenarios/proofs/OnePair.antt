@@ -1,4 +1,4 @@
--- The route of the tests: a pickup and its delivery.
+-- The route of the examples: a pickup and its delivery.
 use Rattle.std.proofs.Common.{◌≡◌, ℕ, [], ◌∷◌, refl}
 use Rattle.std.specs.List.{IsDistinct}
 use Rattle.std.proofs.lemmas.List.Elements.{All-from_recursion}

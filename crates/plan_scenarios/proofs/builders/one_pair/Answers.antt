@@ -1,5 +1,5 @@
-use Rattle.route_sched.proofs.OnePair.{pair_live}
-use Rattle.route_sched.proofs.tests.one_pair.Goals as goal
+use Rattle.plan_scenarios.proofs.OnePair.{pair_live}
+use Rattle.plan_scenarios.proofs.builders.one_pair.Goals as goal
 
 pub returns : goal.returns
 returns c =

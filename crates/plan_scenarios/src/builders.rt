@@ -1,0 +1,124 @@
+//! Stops, problems and routes that the examples share.
+ghost use Rattle.std.specs.Prelude.{◌≡◌, [], ◌∷◌, All, IfOk, IsTrue};
+ghost use Rattle.route_sched.specs.Route.{AreLiveOnce};
+
+use plan_audit::{Verdict, audit};
+use plan_types::limits::{MAX_FLEET, MAX_STOP_NUMBER};
+use plan_types::{Kind, Pins, Plan, Problem, Request, Route, Routes, Stop};
+use std::alloc::Global;
+use std::test::Fail;
+
+/// A stop that may be served from time 0 on.
+pub(crate) fn stop_at(
+    number: u32,
+    place: (i32, i32),
+    demand: i32,
+    latest: u32,
+    service: u32,
+) -> Stop
+    ensures { result.number ≡ number }
+{
+    Stop {
+        number,
+        x: place.0,
+        y: place.1,
+        demand,
+        earliest: 0,
+        latest,
+        service,
+    }
+}
+
+/// A request of one stop that takes no time.
+pub(crate) fn single(number: u32, place: (i32, i32), demand: i32, latest: u32) -> Request {
+    Request::Single(stop_at(number, place, demand, latest, 0))
+}
+
+/// A pickup of one good that has to be served at the latest then, and its delivery at the same place.
+pub(crate) fn pair_at(number: u32, place: (i32, i32), latest: u32) -> Request {
+    let pickup = stop_at(number, place, 1, latest, 0);
+    Request::Pair(pickup, stop_at(number.saturating_add(1), place, -1, 50, 0))
+}
+
+/// A problem without requests: the depot at (0, 0), where each vehicle has to be back at the latest then.
+pub(crate) fn depot_alone(
+    alloc: Global,
+    kind: Kind,
+    capacity: u32,
+    fleet: u32,
+    back: u32,
+) -> Result<Problem, Fail> {
+    let depot = stop_at(0, (0, 0), 0, back, 0);
+    Ok(Problem::new(alloc, kind, depot, capacity, fleet)?)
+}
+
+/// One pickup and its delivery, with a fleet of two.
+pub(crate) fn one_pair(
+    alloc: Global,
+    kind: Kind,
+    capacity: u32,
+    latest: u32,
+    back: u32,
+) -> Result<Problem, Fail>
+    ensures { IfOk result (λ problem. AreLiveOnce problem (1 ∷ 2 ∷ [])) }
+{
+    let depot = stop_at(0, (0, 0), 0, back, 0);
+    let mut problem = Problem::new(alloc, kind, depot, capacity, 2)?;
+    let pickup = stop_at(1, (3, 4), 4, 50, 2);
+    let delivery = stop_at(2, (6, 8), -4, latest, 2);
+    problem.put(Request::Pair(pickup, delivery))?;
+    Ok(problem)
+}
+
+/// Two pairs on two places, with a fleet of one. The second pickup may have to be served soon.
+pub(crate) fn two_pairs(alloc: Global, kind: Kind, latest: u32) -> Result<Problem, Fail> {
+    let mut problem = depot_alone(alloc, kind, 10, 1, 100)?;
+    problem.put(pair_at(1, (1, 1), 50))?;
+    problem.put(pair_at(3, (2, 2), latest))?;
+    Ok(problem)
+}
+
+/// As many pairs as a problem can have, all at the depot, and as many vehicles.
+pub(crate) fn most_pairs(alloc: Global) -> Result<Problem, Fail> {
+    let mut problem = depot_alone(alloc, Kind::LiLim, 1, MAX_FLEET, 100)?;
+    for pair in 0..MAX_STOP_NUMBER / 2 {
+        problem.put(pair_at(2 * pair + 1, (0, 0), 100))?;
+    }
+    Ok(problem)
+}
+
+/// A route of these stops, where 0 stands for none.
+pub(crate) fn route_of(alloc: Global, stops: &[u32]) -> Result<Route, Fail> {
+    let mut route = Vec::new(alloc);
+    for stop in stops {
+        if *stop > 0 {
+            route.push(*stop)?;
+        }
+    }
+    Ok(Route::from(route))
+}
+
+pub(crate) fn routes_of(alloc: Global, first: &[u32], second: &[u32]) -> Result<Routes, Fail> {
+    let first = route_of(alloc, first)?;
+    let second = route_of(alloc, second)?;
+    Ok(Routes::from(vec![in alloc; first, second]?))
+}
+
+pub(crate) fn one_route(alloc: Global, stops: &[u32]) -> Result<Plan, Fail> {
+    let route = route_of(alloc, stops)?;
+    let routes = Routes::from(vec![in alloc; route]?);
+    Ok(Plan { routes })
+}
+
+/// Whether the stops of the plan are live and stand once each.
+pub(crate) fn is_live_once(alloc: Global, problem: &Problem, plan: &Plan) -> Result<bool, Fail>
+    ensures { IfOk result (λ b. IsTrue b → All (AreLiveOnce problem.now) plan.now.routes) }
+{
+    let pins = Pins {
+        routes: Routes::new(alloc),
+    };
+    match audit(alloc, problem, &pins, plan)? {
+        Verdict::Pass(_) => Ok(true),
+        Verdict::Broken { rule, .. } => Ok(rule > 2),
+    }
+}
