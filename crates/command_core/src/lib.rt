@@ -28,6 +28,3 @@ pub use limits::{MAX_COUNT, MAX_DEVIATION, MAX_STEPS};
 pub use marks::unplanned_names;
 pub use refusals::Refusal;
 pub use states::{Job, State};
-
-#[cfg(test)]
-mod tests;

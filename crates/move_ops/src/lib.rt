@@ -27,10 +27,3 @@ pub use laws::{
 pub use removal::remove;
 pub use swap::exchange;
 pub use tables::Tables;
-
-#[cfg(test)]
-mod best_tests;
-#[cfg(test)]
-mod draft_tests;
-#[cfg(test)]
-mod tests;

@@ -28,6 +28,3 @@ pub fn pick(w: u32, m: u32) -> u32
 {
     ((u64::from(w) * u64::from(m)) >> 32) as u32
 }
-
-#[cfg(test)]
-mod tests;

@@ -1,5 +1,5 @@
 use Rattle.std.proofs.Common.{◌≤◌, ◌<◌, ℕ, slice_index_or}
-use Rattle.move_ops.proofs.best_tests.are_vehicles.Given as goal
+use Rattle.search_scenarios.proofs.moves.tables.are_vehicles.Given as goal
 
 -- those so far are vehicles
 abbrev pub invariant-loop-vehicle : goal.invariant-loop-vehicle

@@ -1,7 +1,7 @@
 use Rattle.std.proofs.Common.{◌≡◌, ◌<◌, ℕ, false}
 use Rattle.plan_audit.specs.Passes.{has}
 use Rattle.move_ops.specs.Insertion.{of_vehicle}
-use Rattle.move_ops.proofs.best_tests.differ_only_at.Given as goal
+use Rattle.search_scenarios.proofs.moves.tables.differ_only_at.Given as goal
 
 -- other vehicles so far have the same routes
 abbrev pub invariant-loop-vehicle : goal.invariant-loop-vehicle

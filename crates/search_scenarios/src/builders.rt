@@ -1,0 +1,202 @@
+//! Problems, plans and pins of the examples.
+ghost use Rattle.std.specs.Prelude.{◌≡◌, true, IfOk, IsTrue};
+ghost use Rattle.plan_audit.specs.Passes.{passes};
+
+use plan_audit::{Verdict, audit, tests_say_pass};
+use plan_types::{Kind, Pins, Plan, Problem, Request, Route, Routes, Stop};
+use std::alloc::Global;
+use std::test::Fail;
+
+/// The latest time that a window may have.
+pub(crate) const ANY_TIME: u32 = 100_000_000;
+
+pub(crate) fn stop_at(number: u32, place: (i32, i32), demand: i32, latest: u32) -> Stop {
+    Stop {
+        number,
+        x: place.0,
+        y: place.1,
+        demand,
+        earliest: 0,
+        latest,
+        service: 0,
+    }
+}
+
+/// Customers of these coordinates and demands, numbered from 1, without windows. The depot stands at (0, 0).
+fn customers(
+    alloc: Global,
+    capacity: u32,
+    fleet: u32,
+    customers: &[(i32, i32, i32)],
+) -> Result<Problem, Fail> {
+    let depot = stop_at(0, (0, 0), 0, ANY_TIME);
+    let mut problem = Problem::new(alloc, Kind::Vrp, depot, capacity, fleet)?;
+    let mut number: u32 = 0;
+    for (x, y, demand) in customers {
+        number = number.saturating_add(1);
+        problem.put(Request::Single(stop_at(number, (*x, *y), *demand, ANY_TIME)))?;
+    }
+    Ok(problem)
+}
+
+/// Two pairs on two places, with a fleet of one. The second pickup is reached in time only by way of the first place.
+fn pairs(alloc: Global) -> Result<Problem, Fail> {
+    let depot = stop_at(0, (0, 0), 0, 100);
+    let mut problem = Problem::new(alloc, Kind::LiLim, depot, 10, 1)?;
+    let pickup = stop_at(1, (1, 1), 1, 50);
+    problem.put(Request::Pair(pickup, stop_at(2, (1, 1), -1, 50)))?;
+    let pickup = stop_at(3, (2, 2), 1, 2);
+    problem.put(Request::Pair(pickup, stop_at(4, (2, 2), -1, 50)))?;
+    Ok(problem)
+}
+
+/// The two pairs, and one like the first, of stops 5 and 6.
+fn three_pairs(alloc: Global) -> Result<Problem, Fail> {
+    let mut problem = pairs(alloc)?;
+    let pickup = stop_at(5, (1, 1), 1, 50);
+    problem.put(Request::Pair(pickup, stop_at(6, (1, 1), -1, 50)))?;
+    Ok(problem)
+}
+
+/// The depot between two customers. From one to the other it is farther than over the depot, by rounded distances.
+fn opposite(alloc: Global, kind: Kind) -> Result<Problem, Fail> {
+    let depot = stop_at(0, (0, 0), 0, 100);
+    let mut problem = Problem::new(alloc, kind, depot, 10, 3)?;
+    problem.put(Request::Single(stop_at(1, (1, 1), 1, 100)))?;
+    problem.put(Request::Single(stop_at(2, (-1, -1), 1, 100)))?;
+    Ok(problem)
+}
+
+/// The last two numbers but one, as a pair.
+fn last_numbers(alloc: Global) -> Result<Problem, Fail> {
+    let depot = stop_at(0, (0, 0), 0, 100);
+    let mut problem = Problem::new(alloc, Kind::LiLim, depot, 10, 1)?;
+    let pickup = stop_at(39_998, (1, 1), 1, 50);
+    problem.put(Request::Pair(pickup, stop_at(39_999, (1, 1), -1, 50)))?;
+    Ok(problem)
+}
+
+/// The problem of an example.
+#[derive(Clone, Copy)]
+pub(crate) enum Given {
+    /// A capacity, a fleet, and what `customers` makes customers of.
+    Customers(u32, u32, &'static [(i32, i32, i32)]),
+    Pairs,
+    ThreePairs,
+    Opposite(Kind),
+    LastNumbers,
+}
+
+/// Four customers, with a fleet of four.
+pub(crate) const FOUR: Given = Given::Customers(
+    1_000,
+    4,
+    &[(0, 10, 1), (6, 8, 1), (6, 0, 1), (3, 4, 1)],
+);
+
+/// The same, with vehicles that carry one or two of them.
+pub(crate) const FOUR_BY_ONE: Given = Given::Customers(
+    1,
+    4,
+    &[(0, 10, 1), (6, 8, 1), (6, 0, 1), (3, 4, 1)],
+);
+
+pub(crate) const FOUR_BY_TWO: Given = Given::Customers(
+    2,
+    4,
+    &[(0, 10, 1), (6, 8, 1), (6, 0, 1), (3, 4, 1)],
+);
+
+pub(crate) fn problem_of(alloc: Global, given: Given) -> Result<Problem, Fail> {
+    match given {
+        Given::Customers(capacity, fleet, places) => customers(alloc, capacity, fleet, places),
+        Given::Pairs => pairs(alloc),
+        Given::ThreePairs => three_pairs(alloc),
+        Given::Opposite(kind) => opposite(alloc, kind),
+        Given::LastNumbers => last_numbers(alloc),
+    }
+}
+
+/// So many customers on a grid, 200 in a row.
+pub(crate) fn grid(
+    alloc: Global,
+    customers: u32,
+    capacity: u32,
+    fleet: u32,
+) -> Result<Problem, Fail> {
+    let depot = stop_at(0, (0, 0), 0, ANY_TIME);
+    let mut problem = Problem::new(alloc, Kind::Vrp, depot, capacity, fleet)?;
+    for before in 0..customers {
+        let place = ((before % 200) as i32, (before / 200) as i32);
+        let number = before.saturating_add(1);
+        problem.put(Request::Single(stop_at(number, place, 1, ANY_TIME)))?;
+    }
+    Ok(problem)
+}
+
+/// A plan whose first vehicle visits stops 1 to `stops`, and the others of the fleet none.
+pub(crate) fn one_route(alloc: Global, stops: u32, fleet: u32) -> Result<Plan, Fail> {
+    let mut route = Route::new(alloc);
+    for before in 0..stops {
+        route.push(before.saturating_add(1))?;
+    }
+    let mut routes = Routes::new(alloc);
+    routes.push(route)?;
+    for _ in 1..fleet {
+        routes.push(Route::new(alloc))?;
+    }
+    Ok(Plan { routes })
+}
+
+/// Lists of stops, each ended by a 0.
+fn lists_of(alloc: Global, stops: &[u32]) -> Result<Routes, Fail> {
+    let mut routes = Routes::new(alloc);
+    let mut route = Route::new(alloc);
+    for stop in stops {
+        if *stop > 0 {
+            route.push(*stop)?;
+        } else {
+            routes.push(route)?;
+            route = Route::new(alloc);
+        }
+    }
+    Ok(routes)
+}
+
+/// The plan of these routes, each ended by a 0.
+pub(crate) fn plan_of(alloc: Global, stops: &[u32]) -> Result<Plan, Fail> {
+    let routes = lists_of(alloc, stops)?;
+    Ok(Plan { routes })
+}
+
+/// These pins, each ended by a 0.
+pub(crate) fn pins_of(alloc: Global, stops: &[u32]) -> Result<Pins, Fail> {
+    let routes = lists_of(alloc, stops)?;
+    Ok(Pins { routes })
+}
+
+/// The stops of the routes, each route ended by a 0.
+pub(crate) fn stops_of(alloc: Global, routes: &Routes) -> Result<Vec<u32>, Fail> {
+    let mut stops = Vec::new(alloc);
+    for route in routes.as_slice() {
+        stops.extend_from_slice(route.as_slice())?;
+        stops.push(0)?;
+    }
+    Ok(stops)
+}
+
+pub(crate) fn is_passing(
+    alloc: Global,
+    problem: &Problem,
+    pins: &Pins,
+    plan: &Plan,
+) -> Result<bool, Fail>
+    ensures { IfOk result (λ b. IsTrue b
+        → passes problem.now pins.now.routes plan.now.routes ≡ true) }
+{
+    tests_say_pass();
+    match audit(alloc, problem, pins, plan)? {
+        Verdict::Pass(_) => Ok(true),
+        Verdict::Broken { .. } => Ok(false),
+    }
+}

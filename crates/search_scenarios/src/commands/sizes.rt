@@ -1,0 +1,104 @@
+//! Large states.
+ghost use Rattle.std.specs.Prelude.{◌≡◌, true};
+ghost use Rattle.plan_audit.specs.Passes.{passes};
+
+use super::{Step, after, applied};
+use crate::builders::{grid, is_passing, one_route};
+use command_core::{Command, Job, State, unplanned_names};
+use plan_types::Plan;
+use std::alloc::Global;
+use std::test::Fail;
+
+/// The job with another plan and working plan.
+fn with_plans(job: Job, plan: Plan, work: Plan) -> Job
+    requires plan { passes job.problem job.pins plan.routes ≡ true }
+    requires work { passes job.problem job.pins work.routes ≡ true }
+{
+    let Job {
+        problem,
+        pins,
+        deviation,
+        seed,
+        steps,
+        ..
+    } = job;
+    Job::from_parts(problem, pins, plan, work, deviation, seed, steps)
+}
+
+/// The job with this plan; the empty state where it does not pass.
+fn with_plan(alloc: Global, job: Job, plan: Plan) -> Result<State, Fail> {
+    if !is_passing(alloc, &job.problem, &job.pins, &plan)? {
+        return Ok(State::Empty);
+    }
+    let work = plan.copy()?;
+    Ok(State::Loaded(with_plans(job, plan, work)))
+}
+
+/// So many customers on a grid.
+fn loaded(alloc: Global, customers: u32, capacity: u32, fleet: u32) -> Result<State, Fail> {
+    let problem = grid(alloc, customers, capacity, fleet)?;
+    Ok(applied(alloc, &State::Empty, Command::Load(problem, 0))?)
+}
+
+/// As many requests as there can be but one and as many vehicles, and one route of all stops.
+fn largest(alloc: Global) -> Result<State, Fail> {
+    match loaded(alloc, 39_999, 1_000_000, 40_000)? {
+        State::Loaded(job) => with_plan(alloc, job, one_route(alloc, 39_999, 40_000)?),
+        State::Empty => Ok(State::Empty),
+    }
+}
+
+/// How many requests there are, the next number, and the steps made; zeros before the first Load.
+fn numbers(state: &State) -> (usize, u32, u64) {
+    match state {
+        State::Empty => (0, 0, 0),
+        State::Loaded(job) => (
+            job.problem.requests.len(),
+            job.problem.next_number,
+            job.steps,
+        ),
+    }
+}
+
+/// The names of the unplanned requests.
+fn unplanned(alloc: Global, state: &State) -> Result<Vec<u32>, Fail> {
+    match state {
+        State::Empty => Ok(Vec::new(alloc)),
+        State::Loaded(job) => {
+            let routes = job.plan.routes.as_slice();
+            Ok(unplanned_names(alloc, &job.problem, routes)?)
+        }
+    }
+}
+
+const ON_THE_LARGEST: [Step; 4] = [
+    Step::Pin(1, 39_999),
+    Step::Unpin(1),
+    Step::AddOne,
+    Step::Withdraw(20_000),
+];
+
+/// A second state like the largest.
+fn copied(alloc: Global) -> Result<State, Fail> {
+    let state = largest(alloc)?;
+    Ok(state.copy()?)
+}
+
+#[test]
+fn of_forty_thousand_stops(rt: HostRuntime) -> Result<(), Fail> {
+    let alloc = rt.alloc();
+    let state = after(alloc, copied(alloc)?, &ON_THE_LARGEST)?;
+    assert_eq!(rt; numbers(&state), (39_999, 40_001, 0));
+    let names = unplanned(alloc, &state)?;
+    assert_eq!(rt; names.as_slice(), [40_000].as_slice());
+    Ok(())
+}
+
+#[test]
+fn of_four_thousand_stops(rt: HostRuntime) -> Result<(), Fail> {
+    let alloc = rt.alloc();
+    let state = loaded(alloc, 4_000, 100, 50)?;
+    let state = after(alloc, state, &[Step::Build, Step::Search(1)])?;
+    assert_eq!(rt; numbers(&state), (4_000, 4_001, 1));
+    Ok(())
+}
