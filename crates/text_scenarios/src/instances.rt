@@ -39,7 +39,7 @@ type Figures = (Kind, u32, u32, u32, usize, i32);
 /// The place and the demand of a stop, the end of its window, and the number that names its request.
 type Spot = (i32, i32, i32, u32, Option<u32>);
 
-fn figures(problem: &Problem) -> Figures {
+fn figures_of(problem: &Problem) -> Figures {
     (
         problem.kind,
         problem.fleet,
@@ -50,7 +50,7 @@ fn figures(problem: &Problem) -> Figures {
     )
 }
 
-fn spot(problem: &Problem, number: u32) -> Option<Spot> {
+fn spot_of(problem: &Problem, number: u32) -> Option<Spot> {
     match problem.stop(number) {
         Some(stop) => {
             let name = problem.name_of(number);
@@ -68,9 +68,9 @@ fn reading(
     stops: (u32, u32),
 ) -> Result<(Figures, Option<Spot>, Option<Spot>), Fail> {
     let problem = read_problem(alloc, kind, text)?;
-    let one = spot(&problem, stops.0);
-    let other = spot(&problem, stops.1);
-    Ok((figures(&problem), one, other))
+    let one = spot_of(&problem, stops.0);
+    let other = spot_of(&problem, stops.1);
+    Ok((figures_of(&problem), one, other))
 }
 
 #[test]
