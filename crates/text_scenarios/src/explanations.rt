@@ -38,7 +38,7 @@ fn explained(alloc: Global, kind: Kind, instance: &[u8], solution: &[u8]) -> Res
 
 #[test]
 fn tells_figures_of_stops(rt: HostRuntime) -> Result<(), Fail> {
-    let rows: [(&[u8], &[u8], &str); 6] = [
+    let rows: [(&[u8], &[u8], &str); 3] = [
         (
             ONE_PAIR,
             b"Route #1: 1 2 9\nCost 20\n",
@@ -54,6 +54,17 @@ fn tells_figures_of_stops(rt: HostRuntime) -> Result<(), Fail> {
             b"Cost 0\n",
             "missing stop: stop 1 stands nowhere, and the other stop of its pair, stop 2, nowhere\n",
         ),
+    ];
+    for (instance, solution, want) in rows {
+        let told = explained(rt.alloc(), Kind::LiLim, instance, solution)?;
+        assert_eq!(rt; told.as_str(), want);
+    }
+    Ok(())
+}
+
+#[test]
+fn tells_figures_of_pairs(rt: HostRuntime) -> Result<(), Fail> {
+    let rows: [(&[u8], &[u8], &str); 3] = [
         (
             ONE_PAIR,
             b"Route #1: 2\nCost 20\n",

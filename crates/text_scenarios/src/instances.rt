@@ -1,5 +1,4 @@
 //! Instances as texts, of both formats.
-ghost use Rattle.std.specs.Prelude.{◌≤◌};
 
 use crate::builders::{ONE_PAIR, THREE_CUSTOMERS, read_problem};
 use instance_read::{ReadFault, ReadFaultKind, read_lilim, read_vrp};
@@ -40,7 +39,7 @@ type Figures = (Kind, u32, u32, u32, usize, i32);
 /// The place and the demand of a stop, the end of its window, and the number that names its request.
 type Spot = (i32, i32, i32, u32, Option<u32>);
 
-fn figures(problem: &Problem) -> Figures {
+fn figures_of(problem: &Problem) -> Figures {
     (
         problem.kind,
         problem.fleet,
@@ -51,7 +50,7 @@ fn figures(problem: &Problem) -> Figures {
     )
 }
 
-fn spot(problem: &Problem, number: u32) -> Option<Spot> {
+fn spot_of(problem: &Problem, number: u32) -> Option<Spot> {
     match problem.stop(number) {
         Some(stop) => {
             let name = problem.name_of(number);
@@ -69,9 +68,9 @@ fn reading(
     stops: (u32, u32),
 ) -> Result<(Figures, Option<Spot>, Option<Spot>), Fail> {
     let problem = read_problem(alloc, kind, text)?;
-    let one = spot(&problem, stops.0);
-    let other = spot(&problem, stops.1);
-    Ok((figures(&problem), one, other))
+    let one = spot_of(&problem, stops.0);
+    let other = spot_of(&problem, stops.1);
+    Ok((figures_of(&problem), one, other))
 }
 
 #[test]
@@ -121,69 +120,71 @@ fn reads_customers(rt: HostRuntime) -> Result<(), Fail> {
     Ok(())
 }
 
+/// Li-Lim texts, and the line and the kind of the first fault of each.
+const PAIR_FAULTS: [(&[u8], u64, ReadFaultKind); 22] = [
+    (b"", 1, ReadFaultKind::Truncated),
+    (b"\n \n", 3, ReadFaultKind::Truncated),
+    (b"2 10 1", 2, ReadFaultKind::Truncated),
+    (b"2 10 1\n", 2, ReadFaultKind::Truncated),
+    (
+        b"2 10 1\n0 0 0 0 0 100 0 0 0\n1 3 4 4 0 50 2 0 2\n",
+        3,
+        ReadFaultKind::PairMismatch,
+    ),
+    (
+        b"2 10 1\n0 0 0 0 0 100 0 0 0\n1 3 4 4 0 50 2 0 2\n2 6 8 -4 0 60 2 3 0\n",
+        3,
+        ReadFaultKind::PairMismatch,
+    ),
+    (b"2 x 1\n", 1, ReadFaultKind::BadNumber),
+    (b"2 x\n", 1, ReadFaultKind::FieldCount),
+    (b"0 x 1\n", 1, ReadFaultKind::BadNumber),
+    (b"40001 1 1\n", 1, ReadFaultKind::Range),
+    (b"1 1 1\n0 0 0 0 0 9 0 x\n", 2, ReadFaultKind::FieldCount),
+    (
+        b"1 1 1\n40001 0 0 0 0 9 0 0 x\n",
+        2,
+        ReadFaultKind::BadNumber,
+    ),
+    (
+        b"1 1 1\n40001 1000001 0 0 0 9 0 0 0\n",
+        2,
+        ReadFaultKind::TooManyStops,
+    ),
+    (b"1 1 1\n1 1000001 0 0 0 9 0 0 0\n", 2, ReadFaultKind::Range),
+    (b"1 1 1\n-1 0 0 0 0 9 0 0 0\n", 2, ReadFaultKind::Range),
+    (b"1 1 1\n1 0 0 0 9 8 0 0 0\n", 2, ReadFaultKind::TaskOrder),
+    (b"1 1 1\n0 0 0 0 9 8 0 0 0\n", 2, ReadFaultKind::EmptyWindow),
+    (
+        b"1 1 1\n0 0 0 0 0 9 0 0 0\n\n0 0 0 0 0 9 0 0 0\n",
+        4,
+        ReadFaultKind::TaskOrder,
+    ),
+    (
+        b"1 1 1\n0 0 0 0 0 9 0 0 0\n2 0 0 0 0 9 0 0 0\n\n3 0 0 0 x 9 0 0 0\n",
+        5,
+        ReadFaultKind::BadNumber,
+    ),
+    (
+        b"1 1 1\n0 0 0 0 0 9 0 0 0\n1 0 0 -1 0 9 0 0 2\n2 0 0 1 0 9 0 1 0\n",
+        3,
+        ReadFaultKind::PairMismatch,
+    ),
+    (
+        b"1 1 1\n0 0 0 0 0 9 0 0 0\n1 0 0 1 0 9 0 0 2\n2 0 0 -2 0 9 0 1 0\n",
+        3,
+        ReadFaultKind::PairMismatch,
+    ),
+    (
+        b"1 1 1\n0 0 0 0 0 9 0 0 0\n1 0 0 1 0 9 0 0 3\n2 0 0 -1 0 9 0 3 0\n3 0 0 1 0 9 0 0 0\n",
+        3,
+        ReadFaultKind::PairMismatch,
+    ),
+];
+
 #[test]
 fn tells_the_first_fault_of_pairs(rt: HostRuntime) {
-    let texts: [(&[u8], u64, ReadFaultKind); 22] = [
-        (b"", 1, ReadFaultKind::Truncated),
-        (b"\n \n", 3, ReadFaultKind::Truncated),
-        (b"2 10 1", 2, ReadFaultKind::Truncated),
-        (b"2 10 1\n", 2, ReadFaultKind::Truncated),
-        (
-            b"2 10 1\n0 0 0 0 0 100 0 0 0\n1 3 4 4 0 50 2 0 2\n",
-            3,
-            ReadFaultKind::PairMismatch,
-        ),
-        (
-            b"2 10 1\n0 0 0 0 0 100 0 0 0\n1 3 4 4 0 50 2 0 2\n2 6 8 -4 0 60 2 3 0\n",
-            3,
-            ReadFaultKind::PairMismatch,
-        ),
-        (b"2 x 1\n", 1, ReadFaultKind::BadNumber),
-        (b"2 x\n", 1, ReadFaultKind::FieldCount),
-        (b"0 x 1\n", 1, ReadFaultKind::BadNumber),
-        (b"40001 1 1\n", 1, ReadFaultKind::Range),
-        (b"1 1 1\n0 0 0 0 0 9 0 x\n", 2, ReadFaultKind::FieldCount),
-        (
-            b"1 1 1\n40001 0 0 0 0 9 0 0 x\n",
-            2,
-            ReadFaultKind::BadNumber,
-        ),
-        (
-            b"1 1 1\n40001 1000001 0 0 0 9 0 0 0\n",
-            2,
-            ReadFaultKind::TooManyStops,
-        ),
-        (b"1 1 1\n1 1000001 0 0 0 9 0 0 0\n", 2, ReadFaultKind::Range),
-        (b"1 1 1\n-1 0 0 0 0 9 0 0 0\n", 2, ReadFaultKind::Range),
-        (b"1 1 1\n1 0 0 0 9 8 0 0 0\n", 2, ReadFaultKind::TaskOrder),
-        (b"1 1 1\n0 0 0 0 9 8 0 0 0\n", 2, ReadFaultKind::EmptyWindow),
-        (
-            b"1 1 1\n0 0 0 0 0 9 0 0 0\n\n0 0 0 0 0 9 0 0 0\n",
-            4,
-            ReadFaultKind::TaskOrder,
-        ),
-        (
-            b"1 1 1\n0 0 0 0 0 9 0 0 0\n2 0 0 0 0 9 0 0 0\n\n3 0 0 0 x 9 0 0 0\n",
-            5,
-            ReadFaultKind::BadNumber,
-        ),
-        (
-            b"1 1 1\n0 0 0 0 0 9 0 0 0\n1 0 0 -1 0 9 0 0 2\n2 0 0 1 0 9 0 1 0\n",
-            3,
-            ReadFaultKind::PairMismatch,
-        ),
-        (
-            b"1 1 1\n0 0 0 0 0 9 0 0 0\n1 0 0 1 0 9 0 0 2\n2 0 0 -2 0 9 0 1 0\n",
-            3,
-            ReadFaultKind::PairMismatch,
-        ),
-        (
-            b"1 1 1\n0 0 0 0 0 9 0 0 0\n1 0 0 1 0 9 0 0 3\n2 0 0 -1 0 9 0 3 0\n3 0 0 1 0 9 0 0 0\n",
-            3,
-            ReadFaultKind::PairMismatch,
-        ),
-    ];
-    for (text, line, kind) in texts {
+    for (text, line, kind) in PAIR_FAULTS {
         let fault = read_lilim(rt.alloc(), text).err();
         assert_eq!(rt; fault, Some(ReadFault { line, kind }));
     }
@@ -198,92 +199,96 @@ fn names_faults(rt: HostRuntime) {
     assert_eq!(rt; fault.name(), "Truncated");
 }
 
+/// `.vrp` texts with a fault outside the sections.
+const KEY_FAULTS: [(&[u8], u64, ReadFaultKind); 23] = [
+    (b"", 1, ReadFaultKind::MissingKey),
+    (b"DIMENSION : 4\n\n", 3, ReadFaultKind::MissingKey),
+    (
+        b"DIMENSION : 4\nEOF\nDIMENSION : x\n",
+        2,
+        ReadFaultKind::MissingKey,
+    ),
+    (b"DIMENSION :\n", 1, ReadFaultKind::FieldCount),
+    (b"DIMENSION : x y\n", 1, ReadFaultKind::FieldCount),
+    (b"DIMENSION : x\n", 1, ReadFaultKind::BadNumber),
+    (b"DIMENSION : 4:5\n", 1, ReadFaultKind::BadNumber),
+    (b"DIMENSION : 40002\n", 1, ReadFaultKind::TooManyStops),
+    (b"DIMENSION : 1\n", 1, ReadFaultKind::Range),
+    (b"CAPACITY : 1000001\n", 1, ReadFaultKind::Range),
+    (b"CAPACITY : -1\n", 1, ReadFaultKind::Range),
+    (
+        b"DIMENSION : 4\n\nDIMENSION : 4 4\n",
+        3,
+        ReadFaultKind::FieldCount,
+    ),
+    (
+        b"DIMENSION : 4\n\nDIMENSION : 40002\n",
+        3,
+        ReadFaultKind::TooManyStops,
+    ),
+    (
+        b"DIMENSION : 4\n\ndimension : 4\n",
+        3,
+        ReadFaultKind::NodeRepeated,
+    ),
+    (b"TYPE :\n", 1, ReadFaultKind::Unsupported),
+    (b"TYPE : CVRP\nTYPE : TSP\n", 2, ReadFaultKind::Unsupported),
+    (
+        b"TYPE : CVRP\nTYPE : CVRP\n",
+        2,
+        ReadFaultKind::NodeRepeated,
+    ),
+    (b"EDGE_WEIGHT_TYPE : GEO\n", 1, ReadFaultKind::Unsupported),
+    (b"DISTANCE : 200\n", 1, ReadFaultKind::Unsupported),
+    (b"A NODE_COORD_SECTION\n", 1, ReadFaultKind::Unsupported),
+    (b"5_SECTION\n", 1, ReadFaultKind::Unsupported),
+    (b" 5 1 1\n", 1, ReadFaultKind::FieldCount),
+    (b"NODE_COORD_SECTION\n", 1, ReadFaultKind::MissingKey),
+];
+
 #[test]
 fn tells_the_first_fault_of_a_key(rt: HostRuntime) {
-    let texts: [(&[u8], u64, ReadFaultKind); 23] = [
-        (b"", 1, ReadFaultKind::MissingKey),
-        (b"DIMENSION : 4\n\n", 3, ReadFaultKind::MissingKey),
-        (
-            b"DIMENSION : 4\nEOF\nDIMENSION : x\n",
-            2,
-            ReadFaultKind::MissingKey,
-        ),
-        (b"DIMENSION :\n", 1, ReadFaultKind::FieldCount),
-        (b"DIMENSION : x y\n", 1, ReadFaultKind::FieldCount),
-        (b"DIMENSION : x\n", 1, ReadFaultKind::BadNumber),
-        (b"DIMENSION : 4:5\n", 1, ReadFaultKind::BadNumber),
-        (b"DIMENSION : 40002\n", 1, ReadFaultKind::TooManyStops),
-        (b"DIMENSION : 1\n", 1, ReadFaultKind::Range),
-        (b"CAPACITY : 1000001\n", 1, ReadFaultKind::Range),
-        (b"CAPACITY : -1\n", 1, ReadFaultKind::Range),
-        (
-            b"DIMENSION : 4\n\nDIMENSION : 4 4\n",
-            3,
-            ReadFaultKind::FieldCount,
-        ),
-        (
-            b"DIMENSION : 4\n\nDIMENSION : 40002\n",
-            3,
-            ReadFaultKind::TooManyStops,
-        ),
-        (
-            b"DIMENSION : 4\n\ndimension : 4\n",
-            3,
-            ReadFaultKind::NodeRepeated,
-        ),
-        (b"TYPE :\n", 1, ReadFaultKind::Unsupported),
-        (b"TYPE : CVRP\nTYPE : TSP\n", 2, ReadFaultKind::Unsupported),
-        (
-            b"TYPE : CVRP\nTYPE : CVRP\n",
-            2,
-            ReadFaultKind::NodeRepeated,
-        ),
-        (b"EDGE_WEIGHT_TYPE : GEO\n", 1, ReadFaultKind::Unsupported),
-        (b"DISTANCE : 200\n", 1, ReadFaultKind::Unsupported),
-        (b"A NODE_COORD_SECTION\n", 1, ReadFaultKind::Unsupported),
-        (b"5_SECTION\n", 1, ReadFaultKind::Unsupported),
-        (b" 5 1 1\n", 1, ReadFaultKind::FieldCount),
-        (b"NODE_COORD_SECTION\n", 1, ReadFaultKind::MissingKey),
-    ];
-    for (text, line, kind) in texts {
+    for (text, line, kind) in KEY_FAULTS {
         let fault = read_vrp(rt.alloc(), text).err();
         assert_eq!(rt; fault, Some(ReadFault { line, kind }));
     }
 }
 
+/// `.vrp` texts with a fault in a section.
+const SECTION_FAULTS: [(&[u8], u64, ReadFaultKind); 8] = [
+    (
+        b"DIMENSION : 2\nNODE_COORD_SECTION\n1 30.5 1000001\n",
+        3,
+        ReadFaultKind::BadNumber,
+    ),
+    (
+        b"DIMENSION : 2\nNODE_COORD_SECTION\n1 0 0\n1 1000001 0\n",
+        4,
+        ReadFaultKind::Range,
+    ),
+    (
+        b"DIMENSION : 2\nNODE_COORD_SECTION\n1 0 0\n1 0 0\n",
+        4,
+        ReadFaultKind::NodeRepeated,
+    ),
+    (
+        b"DIMENSION : 2\nDEMAND_SECTION\n0 0\n",
+        3,
+        ReadFaultKind::Range,
+    ),
+    (
+        b"DIMENSION : 2\nDEMAND_SECTION\nEOF\n",
+        3,
+        ReadFaultKind::FieldCount,
+    ),
+    (b"DEPOT_SECTION\n2 -1 3\n", 2, ReadFaultKind::FieldCount),
+    (b"DEPOT_SECTION\n2 x\n", 2, ReadFaultKind::BadNumber),
+    (b"DEPOT_SECTION\n1 2\n", 2, ReadFaultKind::DepotNotFirst),
+];
+
 #[test]
 fn tells_the_first_fault_of_a_section(rt: HostRuntime) {
-    let texts: [(&[u8], u64, ReadFaultKind); 8] = [
-        (
-            b"DIMENSION : 2\nNODE_COORD_SECTION\n1 30.5 1000001\n",
-            3,
-            ReadFaultKind::BadNumber,
-        ),
-        (
-            b"DIMENSION : 2\nNODE_COORD_SECTION\n1 0 0\n1 1000001 0\n",
-            4,
-            ReadFaultKind::Range,
-        ),
-        (
-            b"DIMENSION : 2\nNODE_COORD_SECTION\n1 0 0\n1 0 0\n",
-            4,
-            ReadFaultKind::NodeRepeated,
-        ),
-        (
-            b"DIMENSION : 2\nDEMAND_SECTION\n0 0\n",
-            3,
-            ReadFaultKind::Range,
-        ),
-        (
-            b"DIMENSION : 2\nDEMAND_SECTION\nEOF\n",
-            3,
-            ReadFaultKind::FieldCount,
-        ),
-        (b"DEPOT_SECTION\n2 -1 3\n", 2, ReadFaultKind::FieldCount),
-        (b"DEPOT_SECTION\n2 x\n", 2, ReadFaultKind::BadNumber),
-        (b"DEPOT_SECTION\n1 2\n", 2, ReadFaultKind::DepotNotFirst),
-    ];
-    for (text, line, kind) in texts {
+    for (text, line, kind) in SECTION_FAULTS {
         let fault = read_vrp(rt.alloc(), text).err();
         assert_eq!(rt; fault, Some(ReadFault { line, kind }));
     }
@@ -329,13 +334,11 @@ fn tells_the_line_of_a_long_number(rt: HostRuntime) -> Result<(), Fail> {
     Ok(())
 }
 
-/// A Li-Lim text of this many pairs, in which stop 2k is the delivery of stop 2k-1.
-fn lilim_of_pairs(alloc: Global, pairs: u32) -> Result<Vec<u8>, AllocError>
-    requires { pairs ≤ 20000 }
-{
+/// A Li-Lim text of as many pairs as a problem can have, in which stop 2k is the delivery of stop 2k-1.
+fn lilim_of_most_pairs(alloc: Global) -> Result<Vec<u8>, AllocError> {
     let mut text = Vec::new(alloc);
     text.extend_from_slice(b"40000 1000000 1\n0 0 0 0 0 100000000 0 0 0\n")?;
-    for pair in 0..pairs {
+    for pair in 0..STOPS / 2 {
         let pickup = 2 * pair + 1;
         let delivery = pickup + 1;
         let tasks = format!(in alloc;
@@ -355,19 +358,8 @@ enum Section {
     Demands,
 }
 
-fn put_section(
-    alloc: Global,
-    text: &mut Vec<u8>,
-    section: Section,
-    nodes: u32,
-) -> Result<(), AllocError>
-    requires { nodes ≤ 40001 }
-{
-    text.extend_from_slice(match section {
-        Section::Nodes => b"NODE_COORD_SECTION\n".as_slice(),
-        Section::Demands => b"DEMAND_SECTION\n",
-    })?;
-    for before in 0..nodes {
+fn put_section(alloc: Global, text: &mut Vec<u8>, section: Section) -> Result<(), AllocError> {
+    for before in 0..=STOPS {
         let node = before + 1;
         let line = match section {
             Section::Nodes => format!(in alloc; "{node} {node} -{node}\n")?,
@@ -378,23 +370,22 @@ fn put_section(
     Ok(())
 }
 
-/// A `.vrp` text of so many customers.
-fn vrp_of_customers(alloc: Global, customers: u32) -> Result<Vec<u8>, AllocError>
-    requires { customers ≤ 40000 }
-{
-    let nodes = customers + 1;
+/// A `.vrp` text of as many customers as a problem can have.
+fn vrp_of_most_customers(alloc: Global) -> Result<Vec<u8>, AllocError> {
     let mut text = Vec::new(alloc);
-    text.extend_from_slice(format!(in alloc; "DIMENSION : {nodes}\n")?.as_bytes())?;
-    text.extend_from_slice(b"CAPACITY : 1000000\nEDGE_WEIGHT_TYPE : EUC_2D\n")?;
-    put_section(alloc, &mut text, Section::Nodes, nodes)?;
-    put_section(alloc, &mut text, Section::Demands, nodes)?;
+    text.extend_from_slice(
+        b"DIMENSION : 40001\nCAPACITY : 1000000\nEDGE_WEIGHT_TYPE : EUC_2D\nNODE_COORD_SECTION\n",
+    )?;
+    put_section(alloc, &mut text, Section::Nodes)?;
+    text.extend_from_slice(b"DEMAND_SECTION\n")?;
+    put_section(alloc, &mut text, Section::Demands)?;
     text.extend_from_slice(b"DEPOT_SECTION\n1\n-1\nEOF\n")?;
     Ok(text)
 }
 
 #[test]
 fn reads_the_most_tasks(rt: HostRuntime) -> Result<(), Fail> {
-    let text = lilim_of_pairs(rt.alloc(), STOPS / 2)?;
+    let text = lilim_of_most_pairs(rt.alloc())?;
     let told = reading(rt.alloc(), Kind::LiLim, &text, (39_999, 40_000))?;
     let figures = (Kind::LiLim, 40_000, 1_000_000, 40_001, 20_000, 0);
     let pickup = Some((19_999, -19_999, 7, 100_000_000, Some(39_999)));
@@ -405,7 +396,7 @@ fn reads_the_most_tasks(rt: HostRuntime) -> Result<(), Fail> {
 
 #[test]
 fn reads_the_most_customers(rt: HostRuntime) -> Result<(), Fail> {
-    let text = vrp_of_customers(rt.alloc(), STOPS)?;
+    let text = vrp_of_most_customers(rt.alloc())?;
     let told = reading(rt.alloc(), Kind::Vrp, &text, (1, 40_000))?;
     let figures = (Kind::Vrp, 40_000, 1_000_000, 40_001, 40_000, 0);
     let first = Some((2, -2, 2, 100_000_000, Some(1)));

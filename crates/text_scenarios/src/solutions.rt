@@ -281,24 +281,55 @@ fn reads_the_most_routes(rt: HostRuntime) -> Result<(), Fail> {
     Ok(())
 }
 
-#[test]
-fn writes_the_most_customers_of_a_route(rt: HostRuntime) -> Result<(), Fail> {
-    let numbers = numbers(rt.alloc())?;
-    let problem = customers(rt.alloc())?;
-    assert!(rt; rise_and_live(&problem, &numbers));
-    let routes = one_route(rt.alloc(), &numbers)?;
-    let text = write_sol(rt.alloc(), &problem, &Plan { routes })?;
-    assert!(rt; text.as_slice() == text_of_one_route(rt.alloc())?.as_slice());
-    Ok(())
+/// The problem of all customers, and their numbers.
+fn all_customers(alloc: Global) -> Result<(Problem, Vec<u32>), Fail>
+    ensures { IfOk result (λ made. AreLiveOnce made.0 made.1.items) }
+{
+    let problem = customers(alloc)?;
+    let numbers = numbers(alloc)?;
+    if rise_and_live(&problem, &numbers) {
+        Ok((problem, numbers))
+    } else {
+        Err(Fail::from("a customer is missing"))
+    }
+}
+
+/// How all customers are put into routes.
+#[derive(Clone, Copy)]
+enum Shape {
+    OneRoute,
+    OwnRoutes,
+}
+
+fn routes_of(alloc: Global, shape: Shape, numbers: &[u32]) -> Result<Routes, AllocError>
+    ensures { IfOk result (λ routes. concat routes ≡ numbers.now) }
+{
+    match shape {
+        Shape::OneRoute => one_route(alloc, numbers),
+        Shape::OwnRoutes => own_routes(alloc, numbers),
+    }
+}
+
+fn text_of(alloc: Global, shape: Shape) -> Result<Vec<u8>, AllocError> {
+    match shape {
+        Shape::OneRoute => text_of_one_route(alloc),
+        Shape::OwnRoutes => text_of_own_routes(alloc),
+    }
+}
+
+/// What is written of these routes.
+fn written(alloc: Global, shape: Shape) -> Result<Vec<u8>, Fail> {
+    let made = all_customers(alloc)?;
+    let routes = routes_of(alloc, shape, &made.1)?;
+    Ok(write_sol(alloc, &made.0, &Plan { routes })?)
 }
 
 #[test]
-fn writes_the_most_routes(rt: HostRuntime) -> Result<(), Fail> {
-    let numbers = numbers(rt.alloc())?;
-    let problem = customers(rt.alloc())?;
-    assert!(rt; rise_and_live(&problem, &numbers));
-    let routes = own_routes(rt.alloc(), &numbers)?;
-    let text = write_sol(rt.alloc(), &problem, &Plan { routes })?;
-    assert!(rt; text.as_slice() == text_of_own_routes(rt.alloc())?.as_slice());
+fn writes_the_most_customers(rt: HostRuntime) -> Result<(), Fail> {
+    for shape in [Shape::OneRoute, Shape::OwnRoutes] {
+        let text = written(rt.alloc(), shape)?;
+        let want = text_of(rt.alloc(), shape)?;
+        assert!(rt; text.as_slice() == want.as_slice());
+    }
     Ok(())
 }
