@@ -100,25 +100,48 @@ fn a_format_that_is_stopped_with_its_header(rt: HostRuntime) -> Result<(), Fail>
     Ok(())
 }
 
+/// Commits a search.
+fn commit_search(
+    rt: &impl Abort,
+    device: &mut MemDevice,
+    place: Place,
+) -> Result<Place, StoreFault> {
+    assert!(rt; SECTORS <= device.len());
+    assert!(rt; place.sequence == 1 && place.used < 256);
+    commit_record(device, place, &Command::Search(256))
+}
+
+/// Commits a pin.
+fn commit_pin(rt: &impl Abort, device: &mut MemDevice, place: Place) -> Result<Place, StoreFault> {
+    assert!(rt; SECTORS <= device.len());
+    assert!(rt; place.sequence == 1 && place.used < 256);
+    commit_record(device, place, &Command::Pin(1, 2))
+}
+
+/// The place of a store of no state.
+const FIRST: Place = Place {
+    sequence: 1,
+    used: 0,
+};
+
 /// A store with two records, and where its journal goes on.
-fn with_records(alloc: Global) -> Result<(MemDevice, Place), Fail> {
-    let mut device = MemDevice::new(alloc, SECTORS)?;
-    let place = format(alloc, &mut device)?;
-    let place = commit_record(&mut device, place, &Command::Search(256))?;
-    let place = commit_record(&mut device, place, &Command::Pin(1, 2))?;
+fn with_records(rt: &(impl Abort + AllocGlobal)) -> Result<(MemDevice, Place), Fail> {
+    let mut device = empty_store(rt.alloc())?;
+    let place = commit_search(rt, &mut device, FIRST)?;
+    let place = commit_pin(rt, &mut device, place)?;
     Ok((device, place))
 }
 
 #[test]
 fn records_follow_one_another(rt: HostRuntime) -> Result<(), Fail> {
-    let (device, place) = with_records(rt.alloc())?;
+    let (device, place) = with_records(&rt)?;
     assert!(rt; (place.sequence, place.used, device.calls()) == (1, 2, 10));
     Ok(())
 }
 
 #[test]
 fn a_record_is_written_to_its_sector(rt: HostRuntime) -> Result<(), Fail> {
-    let (mut device, _place) = with_records(rt.alloc())?;
+    let (mut device, _place) = with_records(&rt)?;
     let wanted = sector_of(b"\x00\x00\x00\x00\x00\x00\x00\x01\x00\x00\x00\x00\x07\x01\x00");
     assert!(rt; read_sector(&rt, &mut device, 2) == Some(wanted));
     Ok(())
@@ -126,7 +149,7 @@ fn a_record_is_written_to_its_sector(rt: HostRuntime) -> Result<(), Fail> {
 
 #[test]
 fn records_are_loaded(rt: HostRuntime) -> Result<(), Fail> {
-    let (mut device, place) = with_records(rt.alloc())?;
+    let (mut device, place) = with_records(&rt)?;
     let loaded = load_latest(rt.alloc(), &mut device)?;
     assert!(rt; loaded.place == place);
     let commands = loaded.commands.as_slice();
@@ -134,25 +157,35 @@ fn records_are_loaded(rt: HostRuntime) -> Result<(), Fail> {
     Ok(())
 }
 
+/// Commits a snapshot of no state.
+fn commit_empty(
+    rt: &(impl Abort + AllocGlobal),
+    device: &mut MemDevice,
+    place: Place,
+) -> Result<Place, StoreFault> {
+    assert!(rt; SECTORS <= device.len());
+    assert!(rt; place.sequence == 1);
+    commit_snapshot(rt.alloc(), device, place, &State::Empty)
+}
+
 /// A store with a record, then a snapshot, and where its journal goes on.
-fn with_snapshot(alloc: Global) -> Result<(MemDevice, Place), Fail> {
-    let mut device = MemDevice::new(alloc, SECTORS)?;
-    let place = format(alloc, &mut device)?;
-    let place = commit_record(&mut device, place, &Command::Build)?;
-    let place = commit_snapshot(alloc, &mut device, place, &State::Empty)?;
+fn with_snapshot(rt: &(impl Abort + AllocGlobal)) -> Result<(MemDevice, Place), Fail> {
+    let mut device = empty_store(rt.alloc())?;
+    let place = commit_search(rt, &mut device, FIRST)?;
+    let place = commit_empty(rt, &mut device, place)?;
     Ok((device, place))
 }
 
 #[test]
 fn a_snapshot_has_its_sequence(rt: HostRuntime) -> Result<(), Fail> {
-    let (device, place) = with_snapshot(rt.alloc())?;
+    let (device, place) = with_snapshot(&rt)?;
     assert!(rt; (place.sequence, place.used, device.calls()) == (2, 0, 12));
     Ok(())
 }
 
 #[test]
 fn a_record_of_the_old_sequence_is_left(rt: HostRuntime) -> Result<(), Fail> {
-    let (mut device, place) = with_snapshot(rt.alloc())?;
+    let (mut device, place) = with_snapshot(&rt)?;
     let loaded = load_latest(rt.alloc(), &mut device)?;
     assert!(rt; loaded.place == place && loaded.commands.is_empty());
     Ok(())
