@@ -70,37 +70,48 @@ fn measured<R: Print + Clock>(
     name: &str,
     tries: u32,
 ) -> io::Result<State> {
-    match fastest(rt, alloc, &state, command, tries)? {
-        Ok((new, nanos)) => {
-            print_millis(rt, name, nanos)?;
+    match timed(rt, alloc, &state, command)? {
+        (nanos, Ok(new)) => {
+            print_millis(rt, name, least(rt, alloc, &state, command, tries, nanos)?)?;
             Ok(new)
         }
-        Err(refusal) => {
+        (_, Err(refusal)) => {
             println!(rt; "  {name}: {refusal}")?;
             Ok(state)
         }
     }
 }
 
-/// The state after the command, with the nanoseconds of the fastest try.
-fn fastest<R: Clock>(
+/// What the command makes, with the nanoseconds that it took.
+fn timed<R: Clock>(
+    rt: &R,
+    alloc: Global,
+    state: &State,
+    command: &Command,
+) -> io::Result<(u64, Result<State, Refusal>)> {
+    let begin = Instant::now(rt)?;
+    let made = apply(alloc, state, command);
+    Ok((nanos_since(rt, begin)?, made))
+}
+
+/// The nanoseconds of the fastest of so many tries, of which the first took `nanos`.
+fn least<R: Clock>(
     rt: &R,
     alloc: Global,
     state: &State,
     command: &Command,
     tries: u32,
-) -> io::Result<Result<(State, u64), Refusal>> {
-    let mut least = u64::MAX;
-    let mut new = State::Empty;
-    for _ in 0..tries {
-        let begin = Instant::now(rt)?;
-        match apply(alloc, state, command) {
-            Ok(after) => new = after,
-            Err(refusal) => return Ok(Err(refusal)),
-        }
-        least = least.min(nanos_since(rt, begin)?);
+    nanos: u64,
+) -> io::Result<u64> {
+    let mut least = nanos;
+    for _ in 1..tries {
+        least = least.min(nanos_of(rt, alloc, state, command)?);
     }
-    Ok(Ok((new, least)))
+    Ok(least)
+}
+
+fn nanos_of<R: Clock>(rt: &R, alloc: Global, state: &State, command: &Command) -> io::Result<u64> {
+    Ok(timed(rt, alloc, state, command)?.0)
 }
 
 fn print_millis<R: Print>(rt: &R, name: &str, nanos: u64) -> io::Result<()> {

@@ -6,6 +6,7 @@
 
 mod audits;
 mod best;
+mod codec;
 mod commands;
 mod device;
 mod figures;
@@ -24,7 +25,7 @@ use std::rt::{Clock, Files};
 use std::{env, io};
 
 /// The words of each measurement.
-const USAGE: [&str; 8] = [
+const USAGE: [&str; 9] = [
     device::USAGE,
     root::USAGE,
     insert::USAGE,
@@ -33,6 +34,7 @@ const USAGE: [&str; 8] = [
     search::USAGE,
     best::USAGE,
     commands::USAGE,
+    codec::USAGE,
 ];
 
 fn main(rt: HostRuntime) -> io::Result<()> {
@@ -71,6 +73,7 @@ fn measure_changes<R: Print + Clock + Files + AllocGlobal>(
         "search" => search::measure(rt, alloc, words),
         "best" => best::measure(rt, alloc, words),
         "commands" => commands::measure(rt, alloc, words),
+        "codec" => codec::measure(rt, alloc, words),
         _ => print_usage(rt),
     }
 }

@@ -1,6 +1,6 @@
 use Rattle.std.proofs.Common.{All, List, ℕ, sym, subst}
 use Rattle.route_sched.specs.Route.{AreLiveOnce}
-use Rattle.bench_codec.proofs.pins_pass.Goals as goal
+use Rattle.bench_planner.proofs.codec.pins_pass.Goals as goal
 
 pub are_feasible-requires : goal.are_feasible-requires
 are_feasible-requires c =

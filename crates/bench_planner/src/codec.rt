@@ -1,21 +1,27 @@
-//! Measures `encode_state` and `decode_state` over states of several sizes in one run: the bytes of the fastest of many calls in a
-//! microsecond, which is megabytes a second. A plain copy of the same bytes stands beside them, and what the auditor takes of decoding.
+//! Measures `encode_state` and `decode_state` over states of several sizes in one run: the bytes of the fastest of many
+//! calls in a microsecond, which is megabytes a second. A plain copy of the same bytes stands beside them, and what the
+//! auditor takes of decoding.
 //!
-//! The word is about how many bytes are encoded, and decoded, at each size, as `bench_codec 200000000`. Without words it says of each
-//! state, the largest among them, whether it decodes and encodes to the same bytes.
-#![tactic(auto)]
+//! The word is about how many bytes are encoded, and decoded, at each size, as `codec 200000000`. Without it this says of
+//! each state, the largest among them, whether it decodes and encodes to the same bytes.
 
 ghost use Rattle.std.specs.Prelude.{All};
 ghost use Rattle.route_sched.specs.Route.{AreLiveOnce};
 
+use crate::figures::nanos_since;
+use crate::instances::spread;
+use crate::words::number_at;
 use command_core::{Job, State};
 use plan_audit::{Verdict, audit, pins_are_live_once, route_fault};
 use plan_types::{OutOfMemory, Problem, Route};
 use state_codec::{decode_state, encode_state};
 use std::alloc::Global;
+use std::io;
 use std::rt::Clock;
 use std::time::Instant;
-use std::{env, io};
+
+/// Its words.
+pub(crate) const USAGE: &str = "codec [BYTES]";
 
 /// How the states are made: all stops are planned, so many a vehicle, of which the first ones are pinned.
 #[derive(Clone, Copy)]
@@ -76,21 +82,19 @@ const NEVER: Times = Times {
     audit: u64::MAX,
 };
 
-fn main(rt: HostRuntime) -> io::Result<()> {
-    let bytes = match env::args(&rt)?.nth(1) {
-        Some(word) => word.as_str().parse().unwrap_or(0),
-        None => 0,
-    };
+/// Prints whether the bytes of each state are its encoding, and megabytes a second.
+pub(crate) fn measure<R: Print + Clock>(rt: &R, alloc: Global, words: &[String]) -> io::Result<()> {
+    let bytes = number_at(words, 0).unwrap_or(0);
     for shape in SHAPES {
-        match text_of(rt.alloc(), &shape) {
-            Some(text) => report(&rt, rt.alloc(), &shape, text.as_slice(), bytes)?,
+        match text_of(alloc, &shape) {
+            Some(text) => report(rt, alloc, &shape, text.as_slice(), bytes)?,
             None => println!(rt; "no state of {} stops could be made", shape.stops)?,
         }
     }
     Ok(())
 }
 
-/// Prints whether the bytes are a state's, and megabytes a second.
+/// Prints whether the bytes are a state's, and measures where bytes are asked for.
 fn report<R: Print + Clock>(
     rt: &R,
     alloc: Global,
@@ -98,39 +102,55 @@ fn report<R: Print + Clock>(
     text: &[u8],
     bytes: u64,
 ) -> io::Result<()> {
-    let len = u64::try_from(text.len()).unwrap_or(0);
     let Ok(state) = decode_state(alloc, text) else {
         return println!(rt; "the state of {} stops was refused", shape.stops);
     };
-    if !is_encoded(alloc, &state, text) {
+    report_state(rt, alloc, shape, &state, text, bytes)
+}
+
+/// The same of the state that the bytes tell.
+fn report_state<R: Print + Clock>(
+    rt: &R,
+    alloc: Global,
+    shape: &Shape,
+    state: &State,
+    text: &[u8],
+    bytes: u64,
+) -> io::Result<()> {
+    if !is_text(encode_state(alloc, state), text) {
         return println!(rt; "the state of {} stops is not as it was", shape.stops);
     }
-    println!(rt;
-        "{} stops ({}): {len} bytes decode, and the state encodes to the same",
-        shape.stops, shape.name
-    )?;
+    let len = text.len() as u64;
+    print_same(rt, shape, len)?;
     let calls = bytes / len.max(1);
     if calls == 0 {
         return Ok(());
     }
-    let times = measure(rt, alloc, &state, text, calls)?;
-    let read = times.decode.saturating_sub(times.audit);
+    let times = timed(rt, alloc, state, text, calls)?;
+    print_rates(rt, len, &times)
+}
+
+fn print_same<R: Print>(rt: &R, shape: &Shape, len: u64) -> io::Result<()> {
     println!(rt;
-        "  copy {}, encode {}, decode {}, decode without the auditor {} MB/s; the auditor {} us",
-        rate(len, times.copy),
-        rate(len, times.encode),
-        rate(len, times.decode),
-        rate(len, read),
-        times.audit / 1_000
+        "{} stops ({}): {len} bytes decode, and the state encodes to the same",
+        shape.stops, shape.name
+    )
+}
+
+/// Prints megabytes a second.
+fn print_rates<R: Print>(rt: &R, len: u64, times: &Times) -> io::Result<()> {
+    let copy = rate(len, times.copy);
+    let encode = rate(len, times.encode);
+    let decode = rate(len, times.decode);
+    let read = rate(len, times.decode.saturating_sub(times.audit));
+    let audit = times.audit / 1_000;
+    println!(rt;
+        "  copy {copy}, encode {encode}, decode {decode}, decode without the auditor {read} MB/s; the auditor {audit} us"
     )
 }
 
 fn rate(bytes: u64, nanos: u64) -> u64 {
     bytes.saturating_mul(1_000) / nanos.max(1)
-}
-
-fn is_encoded(alloc: Global, state: &State, text: &[u8]) -> bool {
-    is_text(encode_state(alloc, state), text)
 }
 
 /// Whether these bytes were made. Each call's are compared, so that none is left out.
@@ -141,7 +161,7 @@ fn is_text(made: Result<Vec<u8>, OutOfMemory>, text: &[u8]) -> bool {
     }
 }
 
-fn measure<R: Clock>(
+fn timed<R: Clock>(
     rt: &R,
     alloc: Global,
     state: &State,
@@ -150,7 +170,7 @@ fn measure<R: Clock>(
 ) -> io::Result<Times> {
     let mut best = NEVER;
     for _ in 0..calls {
-        let now = measure_once(rt, alloc, state, text)?;
+        let now = timed_once(rt, alloc, state, text)?;
         best = Times {
             copy: best.copy.min(now.copy),
             encode: best.encode.min(now.encode),
@@ -162,35 +182,49 @@ fn measure<R: Clock>(
 }
 
 /// One call of each kind.
-fn measure_once<R: Clock>(rt: &R, alloc: Global, state: &State, text: &[u8]) -> io::Result<Times> {
-    let begin = Instant::now(rt)?;
-    let copied = Vec::from_slice(alloc, text);
-    let copy = nanos_since(rt, begin)?;
-    let begin = Instant::now(rt)?;
-    let encoded = encode_state(alloc, state);
-    let encode = nanos_since(rt, begin)?;
-    let begin = Instant::now(rt)?;
-    let decoded = decode_state(alloc, text);
-    let decode = nanos_since(rt, begin)?;
-    let begin = Instant::now(rt)?;
-    let passed = match state {
-        State::Loaded(job) => passes(alloc, job),
-        State::Empty => true,
-    };
-    let audit = nanos_since(rt, begin)?;
-    if !passed || !is_text(copied, text) || !is_text(encoded, text) || decoded.is_err() {
-        return Ok(NEVER);
-    }
+fn timed_once<R: Clock>(rt: &R, alloc: Global, state: &State, text: &[u8]) -> io::Result<Times> {
     Ok(Times {
-        copy,
-        encode,
-        decode,
-        audit,
+        copy: copy_nanos(rt, alloc, text)?,
+        encode: encode_nanos(rt, alloc, state, text)?,
+        decode: decode_nanos(rt, alloc, text)?,
+        audit: audit_nanos(rt, alloc, state)?,
     })
 }
 
-fn nanos_since<R: Clock>(rt: &R, begin: Instant) -> io::Result<u64> {
-    Ok(u64::try_from(begin.elapsed(rt)?.as_nanos()).unwrap_or(u64::MAX))
+fn copy_nanos<R: Clock>(rt: &R, alloc: Global, text: &[u8]) -> io::Result<u64> {
+    let begin = Instant::now(rt)?;
+    let copied = Vec::from_slice(alloc, text);
+    let nanos = nanos_since(rt, begin)?;
+    Ok(counted(nanos, is_text(copied, text)))
+}
+
+fn encode_nanos<R: Clock>(rt: &R, alloc: Global, state: &State, text: &[u8]) -> io::Result<u64> {
+    let begin = Instant::now(rt)?;
+    let encoded = encode_state(alloc, state);
+    let nanos = nanos_since(rt, begin)?;
+    Ok(counted(nanos, is_text(encoded, text)))
+}
+
+fn decode_nanos<R: Clock>(rt: &R, alloc: Global, text: &[u8]) -> io::Result<u64> {
+    let begin = Instant::now(rt)?;
+    let decoded = decode_state(alloc, text);
+    let nanos = nanos_since(rt, begin)?;
+    Ok(counted(nanos, decoded.is_ok()))
+}
+
+fn audit_nanos<R: Clock>(rt: &R, alloc: Global, state: &State) -> io::Result<u64> {
+    let begin = Instant::now(rt)?;
+    let has_passed = match state {
+        State::Loaded(job) => passes(alloc, job),
+        State::Empty => true,
+    };
+    let nanos = nanos_since(rt, begin)?;
+    Ok(counted(nanos, has_passed))
+}
+
+/// The time of a call that gave what it has to, and a time that is never the least of another call.
+fn counted(nanos: u64, is_right: bool) -> u64 {
+    if is_right { nanos } else { u64::MAX }
 }
 
 /// What decoding asks the auditor: both plans, and each pin alone.
@@ -227,7 +261,7 @@ fn text_of(alloc: Global, shape: &Shape) -> Option<Vec<u8>> {
     put_head(&mut out, shape, fleet)?;
     put_requests(&mut out, shape)?;
     for vehicle in 0..fleet {
-        put_u32(&mut out, shape.pinned)?;
+        put_all(&mut out, &[shape.pinned])?;
         put_route(&mut out, shape, vehicle)?;
     }
     for vehicle in 0..fleet {
@@ -240,26 +274,18 @@ fn put_head(out: &mut Vec<u8>, shape: &Shape, fleet: u32) -> Option<()> {
     // A loaded state of a Li-Lim instance, seed 0 and no steps.
     out.extend_from_slice(&[1, 1]).ok()?;
     out.extend_from_slice(&[0; 16]).ok()?;
-    put_u32(out, 1_000_000)?;
-    put_u32(out, fleet)?;
-    put_u32(out, shape.stops.saturating_add(1))?;
+    put_all(out, &[1_000_000, fleet, shape.stops.saturating_add(1)])?;
     // The depot, and no deviation.
-    put_u32(out, 0)?;
-    put_u32(out, 0)?;
-    put_u32(out, 0)?;
-    put_u32(out, 100_000_000)?;
-    put_u32(out, 0)
+    put_all(out, &[0, 0, 0, 100_000_000, 0])
 }
 
 fn put_requests(out: &mut Vec<u8>, shape: &Shape) -> Option<()> {
     let count = shape.stops / shape.form.max(1);
-    put_u32(out, count)?;
+    put_all(out, &[count])?;
     for index in 0..count {
         let number = index.saturating_mul(shape.form).saturating_add(1);
         if shape.form == 2 {
-            out.push(2).ok()?;
-            put_stop(out, number, 1)?;
-            put_stop(out, number.saturating_add(1), u32::MAX)?;
+            put_pair(out, number)?;
         } else {
             out.push(1).ok()?;
             put_stop(out, number, 1)?;
@@ -268,27 +294,31 @@ fn put_requests(out: &mut Vec<u8>, shape: &Shape) -> Option<()> {
     Some(())
 }
 
+fn put_pair(out: &mut Vec<u8>, number: u32) -> Option<()> {
+    out.push(2).ok()?;
+    put_stop(out, number, 1)?;
+    put_stop(out, number.saturating_add(1), u32::MAX)
+}
+
 /// A stop on a spread of places, with a wide window. A demand of -1 is the greatest number.
 fn put_stop(out: &mut Vec<u8>, number: u32, demand: u32) -> Option<()> {
-    put_u32(out, number)?;
-    put_u32(out, number.wrapping_mul(7_919) % 1_000)?;
-    put_u32(out, number.wrapping_mul(104_729) % 1_000)?;
-    put_u32(out, demand)?;
-    put_u32(out, 0)?;
-    put_u32(out, 100_000_000)?;
-    put_u32(out, 10)
+    let (x, y) = spread(number);
+    put_all(out, &[number, x, y, demand, 0, 100_000_000, 10])
 }
 
 /// The stops of a vehicle, behind those of the vehicles before it.
 fn put_route(out: &mut Vec<u8>, shape: &Shape, vehicle: u32) -> Option<()> {
-    put_u32(out, shape.route)?;
+    put_all(out, &[shape.route])?;
     let first = vehicle.saturating_mul(shape.route).saturating_add(1);
     for place in 0..shape.route {
-        put_u32(out, first.saturating_add(place))?;
+        put_all(out, &[first.saturating_add(place)])?;
     }
     Some(())
 }
 
-fn put_u32(out: &mut Vec<u8>, n: u32) -> Option<()> {
-    out.extend_from_slice(&n.to_be_bytes()).ok()
+fn put_all(out: &mut Vec<u8>, numbers: &[u32]) -> Option<()> {
+    for number in numbers {
+        out.extend_from_slice(&number.to_be_bytes()).ok()?;
+    }
+    Some(())
 }
