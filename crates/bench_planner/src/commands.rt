@@ -90,8 +90,13 @@ fn timed<R: Clock>(
     command: &Command,
 ) -> io::Result<(u64, Result<State, Refusal>)> {
     let begin = Instant::now(rt)?;
-    let made = apply(alloc, state, command);
+    let made = applied(alloc, state, command);
     Ok((nanos_since(rt, begin)?, made))
+}
+
+/// The command alone: a caller that needs nothing of what `apply` promises is proved sooner without it.
+fn applied(alloc: Global, state: &State, command: &Command) -> Result<State, Refusal> {
+    apply(alloc, state, command)
 }
 
 /// The nanoseconds of the fastest of so many tries, of which the first took `nanos`.
