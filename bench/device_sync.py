@@ -2,7 +2,7 @@
 """What a sync of a device over a file costs: one sector is written and synced 2,000 times.
 
 Measures fsync (`sync_all`) beside fdatasync (`sync_data`) on a file of 8,450 sectors, by turns of 100, so that both meet the
-same load. Where `bench_device` is built (by `rt run` in its folder), a `FileDevice` does the same.
+same load. Where `bench_planner` is built (by `rt run` in its folder), a `FileDevice` does the same.
 
     bench/device_sync.py [FOLDER]
 """
@@ -16,7 +16,7 @@ import tempfile
 import time
 
 TOP = pathlib.Path(__file__).resolve().parent.parent
-PROGRAM = TOP / "crates" / "bench_device" / "out" / "bench_device"
+PROGRAM = TOP / "crates" / "bench_planner" / "out" / "bench_planner"
 SECTOR = 512
 SECTORS = 8450
 SYNCS = 2000
@@ -52,10 +52,10 @@ def main():
             report(sync.__name__, turns)
         if PROGRAM.exists():
             start = time.perf_counter()
-            subprocess.run([PROGRAM, temporary.name, str(SECTORS), str(SYNCS)], check=True)
+            subprocess.run([PROGRAM, "device", temporary.name, str(SECTORS), str(SYNCS)], check=True)
             print(f"FileDevice: {SYNCS / (time.perf_counter() - start):.0f} syncs a second")
         else:
-            print("FileDevice: not measured, since bench_device is not built")
+            print("FileDevice: not measured, since bench_planner is not built")
 
 
 if __name__ == "__main__":

@@ -3,7 +3,7 @@
 
 OTHER is a program with two commands: `gen KIND STOPS SEED` writes an instance of KIND, lilim or vrp, to standard output, and
 `search KIND INSTANCE STEPS SEED DEVIATION` builds a plan of a file by best insertion, makes so many steps, and ends with a line such as
-`steps 1000 seconds 0.01 rate 100000 cost 0 6 1217`. Its final cost has to be ours, to the number. `bench_search` is built by `rt run` in
+`steps 1000 seconds 0.01 rate 100000 cost 0 6 1217`. Its final cost has to be ours, to the number. `bench_planner` is built by `rt run` in
 its folder. The two run in turn, each as often as RUNS says, and the fastest of each counts.
 
     bench/search_speed.py OTHER [STOPS..]
@@ -16,7 +16,7 @@ import sys
 import tempfile
 
 TOP = pathlib.Path(__file__).resolve().parent.parent
-PROGRAM = TOP / "crates" / "bench_search" / "out" / "bench_search"
+PROGRAM = TOP / "crates" / "bench_planner" / "out" / "bench_planner"
 RUNS = 3
 SIZES = [100, 400, 1000, 4000]
 SEED = 5
@@ -30,7 +30,7 @@ def output(*words):
 
 def ours(kind, path, steps, deviation):
     """Nanoseconds a step, and the final cost."""
-    text = output(PROGRAM, kind, path, steps, SEED, deviation)
+    text = output(PROGRAM, "search", kind, path, steps, SEED, deviation)
     nanos = int(re.search(r"steps, (\d+) ns each", text).group(1))
     return nanos, re.search(r"incumbent: cost (.*)", text).group(1)
 

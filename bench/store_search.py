@@ -3,7 +3,7 @@
 
 OTHER is a program that writes an instance: `gen KIND STOPS SEED`. Through the store each 256 steps are a command that is synced before its line is
 told. The time of opening, loading and building is taken off: it is measured by a session without the search. In memory the same steps are
-made by `bench_search`, which is built by `rt run` in its folder, and the program by `./planner`.
+made by `bench_planner`, which is built by `rt run` in its folder, and the program by `./planner`.
 
     bench/store_search.py OTHER [STEPS]
 """
@@ -17,7 +17,7 @@ import time
 
 TOP = pathlib.Path(__file__).resolve().parent.parent
 PROGRAM = TOP / "crates" / "planner" / "out" / "planner"
-IN_MEMORY = TOP / "crates" / "bench_search" / "out" / "bench_search"
+IN_MEMORY = TOP / "crates" / "bench_planner" / "out" / "bench_planner"
 SIZES = [400, 1000, 4000]
 SEED = 5
 STEPS = 100_000
@@ -46,7 +46,7 @@ def report(folder, name, instance, steps):
     whole, text = session(folder, instance, b"build\nsearch %d\n" % steps)
     last = text.strip().split("\n")[-2]
     again, repeated = opened(folder)
-    output = subprocess.run([IN_MEMORY, "lilim", instance, str(steps), str(SEED), "0"], check=True, capture_output=True, text=True).stdout
+    output = subprocess.run([IN_MEMORY, "search", "lilim", instance, str(steps), str(SEED), "0"], check=True, capture_output=True, text=True).stdout
     nanos = int(re.search(r"steps, (\d+) ns each", output).group(1))
     stored = steps / max(whole - without, 1e-9)
     print(

@@ -1,11 +1,11 @@
 #!/bin/sh
 # Checks which calls of the system a device over a file makes, and in which order: `create` sets the length, and syncs the
 # file and its folder; each write is one write at its offset, and each sync is the file's own. Wants strace, and
-# `bench_device` built (by `rt run` in its folder).
+# `bench_planner` built (by `rt run` in its folder).
 set -u
 
 top=$(CDPATH='' cd -- "$(dirname -- "$0")/.." && pwd -P) || exit 1
-program=$top/crates/bench_device/out/bench_device
+program=$top/crates/bench_planner/out/bench_planner
 if ! command -v strace >/dev/null; then
     echo "device_calls: skipped, since strace is not there"
     exit 0
@@ -22,7 +22,7 @@ folder=$(mktemp -d) || exit 1
 trap 'rm -rf -- "$folder"' EXIT
 
 strace -o "$folder/calls" -e trace=open,openat,ftruncate,fsync,fdatasync,pwrite64,pread64,write,read \
-    "$program" "$folder/new.disk" 4 3 || exit 1
+    "$program" device "$folder/new.disk" 4 3 || exit 1
 
 # Names the files for their descriptors, and leaves out what was opened before the device.
 awk -v folder="$folder" '

@@ -1,0 +1,86 @@
+//! Plans that are built by best insertion, and what they cost.
+
+ghost use Rattle.std.specs.Prelude.{◌≡◌, true, IfOk, IfSome};
+ghost use Rattle.plan_audit.specs.Passes.{passes};
+
+use move_ops::{best_insertion, insert_at};
+use plan_audit::{Verdict, audit, tests_say_pass};
+use plan_types::{Cost, OutOfMemory, Pins, Plan, Problem, Route, Routes};
+use std::alloc::Global;
+
+/// What the plan costs, where it passes.
+pub(crate) fn cost(
+    alloc: Global,
+    problem: &Problem,
+    pins: &Pins,
+    plan: &Plan,
+) -> Result<Option<Cost>, OutOfMemory>
+    ensures { IfOk result (λ o. IfSome o
+        (λ _. passes problem.now pins.now.routes plan.now.routes ≡ true)) }
+{
+    tests_say_pass();
+    match audit(alloc, problem, pins, plan)? {
+        Verdict::Pass(cost) => Ok(Some(cost)),
+        Verdict::Broken { .. } => Ok(None),
+    }
+}
+
+/// No stop is pinned.
+pub(crate) fn no_pins(alloc: Global) -> Pins {
+    Pins {
+        routes: Routes::new(alloc),
+    }
+}
+
+/// Whether a plan of `built` leaves out the request at this place: each tenth, or none.
+pub(crate) fn is_left_out(index: usize, leaves_out: bool) -> bool {
+    leaves_out && index % 10 == 9
+}
+
+/// The requests by rising name, each at its best insertion; but each tenth where `leaves_out` says so.
+pub(crate) fn built(
+    alloc: Global,
+    problem: &Problem,
+    pins: &Pins,
+    leaves_out: bool,
+) -> Result<Plan, OutOfMemory> {
+    let mut plan = empty(alloc, problem.fleet)?;
+    for index in 0..problem.requests.len() {
+        let Some((name, _)) = problem.requests.get_index(index) else {
+            return Ok(plan);
+        };
+        if is_left_out(index, leaves_out) {
+            continue;
+        }
+        if let Some(new) = inserted(alloc, problem, pins, &plan, *name)? {
+            plan = new;
+        }
+    }
+    Ok(plan)
+}
+
+/// A plan of so many vehicles without stops.
+fn empty(alloc: Global, fleet: u32) -> Result<Plan, OutOfMemory> {
+    let mut routes = Routes::new(alloc);
+    for _ in 0..fleet {
+        routes.push(Route::new(alloc))?;
+    }
+    Ok(Plan { routes })
+}
+
+/// The plan with the request at its best insertion, where there is one.
+fn inserted(
+    alloc: Global,
+    problem: &Problem,
+    pins: &Pins,
+    plan: &Plan,
+    name: u32,
+) -> Result<Option<Plan>, OutOfMemory> {
+    if cost(alloc, problem, pins, plan)?.is_none() {
+        return Ok(None);
+    }
+    match best_insertion(alloc, problem, pins, plan, name)? {
+        Some(place) => insert_at(alloc, problem, pins, plan, name, place),
+        None => Ok(None),
+    }
+}
