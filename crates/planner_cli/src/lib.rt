@@ -25,6 +25,3 @@ pub use audit::audit_text;
 pub use program::run_words;
 pub use streams::{Failed, Sink, Source, Watched};
 pub use words::{Invocation, Paths, Task, read_words};
-
-#[cfg(test)]
-mod tests;
