@@ -1,11 +1,10 @@
 -- what public contracts reach
 pub mod Answer
 pub mod AnswerText
-pub mod Asked
-pub mod Served
-pub mod Streams
+pub use Rattle.command_line.specs.Asked
+pub use Rattle.command_serving.specs.Served
+pub use Rattle.command_serving.specs.Streams
 -- of private functions alone
-pub mod CommandLine
 pub mod Drawn
 pub mod Examined
 pub mod Explained
@@ -13,5 +12,3 @@ pub mod Files
 pub mod Listed
 pub mod Solving
 pub mod Telling
-pub mod Input
-pub mod Serving

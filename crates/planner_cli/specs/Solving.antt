@@ -8,7 +8,7 @@ use Rattle.plan_solve.specs.Solved.{Fails, IsSolution}
 use Rattle.plan_solve.specs.declared.faults.SolveFault.{SolveFault}
 use Rattle.plan_solve.specs.declared.faults.SolveFault.TheVariants as fault
 use Rattle.planner_cli.specs.AnswerText.{fault_text}
-use Rattle.planner_cli.specs.Asked.{TaskAsked}
+use Rattle.command_line.specs.Asked.{TaskAsked}
 use Rattle.planner_cli.specs.Files.{Gave}
 use Rattle.planner_cli.specs.Telling.{TellsUnread, line}
 

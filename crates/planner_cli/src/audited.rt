@@ -5,7 +5,7 @@ ghost use Rattle.planner_cli.specs.Files.{AreBothRead, IsUnread, TellsFiles};
 
 use crate::audit::audit_text;
 use crate::telling::{tell_audit, tell_unread};
-use crate::words::Paths;
+use command_line::Paths;
 use std::alloc::Global;
 use std::io;
 use std::io::{ErrorKind, Write};

@@ -10,7 +10,7 @@ use crate::audit::{Examined, answer_of, examine};
 use crate::audited::read_both;
 use crate::status::OUT_OF_MEMORY;
 use crate::telling::{tell_unread, write_line};
-use crate::words::Paths;
+use command_line::Paths;
 use plan_explain::{explain_instance_fault, explain_solution_fault, explain_verdict};
 use plan_types::{Kind, OutOfMemory};
 use std::alloc::Global;

@@ -9,7 +9,7 @@ ghost use Rattle.planner_cli.specs.Listed.{IsPair, NamesNone, TellsLine, TellsLi
 use crate::audited::audit_read;
 use crate::status::{DONE, REFUSED};
 use crate::telling::{tell_unread, write_line};
-use crate::words::Paths;
+use command_line::Paths;
 use plan_types::Kind;
 use std::alloc::Global;
 use std::io::Write;

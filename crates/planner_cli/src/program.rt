@@ -1,7 +1,7 @@
 //! What the program does with its words: files are read, answers are printed.
 ghost use Rattle.std.specs.Prelude.{◌≡◌, ◌≤◌, IfOk, IsSome, false, drop, map};
 ghost use Rattle.clap.specs.Words.{kind_of};
-ghost use Rattle.planner_cli.specs.Asked.{ArePositional, IsUsageStatus, asked_by, asks_help, usage_status_of};
+ghost use Rattle.command_line.specs.Asked.{ArePositional, IsUsageStatus, asked_by, asks_help, usage_status_of};
 ghost use Rattle.plan_types.specs.declared.requests.Kind.TheVariants.{LiLim};
 ghost use Rattle.planner_cli.specs.Telling.{TellsAudit, example_instance, example_solution, is_usage_printed};
 
@@ -14,9 +14,9 @@ use crate::solved::solve_read;
 use crate::status::{DONE, OUT_OF_MEMORY, USAGE};
 use crate::stores::{format_store, run_store};
 use crate::telling::{status_of, tell_audit};
-use crate::words::{Invocation, Paths, Task, read_words};
 use clap::Error;
 use clap::error::ErrorKind;
+use command_line::{Invocation, Paths, Task, read_words};
 use plan_types::Kind;
 use sector_disk::Start;
 use std::alloc::Global;

@@ -1,12 +1,12 @@
 //! The solving of an instance in a file.
 ghost use Rattle.std.specs.Prelude.{◌≤◌, IfOk};
 ghost use Rattle.std.specs.IoError.{error_kind};
-ghost use Rattle.planner_cli.specs.Asked.{task_of};
+ghost use Rattle.command_line.specs.Asked.{task_of};
 ghost use Rattle.planner_cli.specs.Solving.{IsToldFault, TellsSolved, TellsTask};
 
 use crate::status::{BROKEN, DONE, FILE, OUT_OF_MEMORY, REFUSED};
 use crate::telling::{tell_unread, write_line};
-use crate::words::Task;
+use command_line::Task;
 use command_text::Text;
 use plan_solve::{SolveFault, solve};
 use std::alloc::Global;

@@ -1,11 +1,10 @@
 //! Stores in files: `format`, and `run` over standard input.
 ghost use Rattle.std.specs.Prelude.{◌≤◌, IfOk};
 
-use crate::answering::{ServeFault, serve};
 use crate::status::{DONE, FILE};
-use crate::streams::Watched;
 use crate::telling::{tell_file_fault, tell_format, tell_store_fault};
 use checkpoint::format;
+use command_serving::{ServeFault, Watched, serve};
 use recover::{Opened, Session};
 use sector_disk::{FileDevice, Sectors, Start};
 use std::alloc::Global;

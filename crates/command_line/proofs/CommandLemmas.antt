@@ -1,0 +1,921 @@
+-- What the program's command makes of words that do not begin with a hyphen.
+use Rattle.std.proofs.Common.{◌≡◌, ◌∙◌, ◌⊎◌, ◌==◌, ◌&&◌, ◌||◌, Result, Ok, Err, IsErrAnd, option_map, subst, ℕ, Bool, true, false, not, refl, sym, ap, ap₂, List, [], ◌∷◌, ◌++◌, Option, Some, None, codes, Bor, inl, inr, true≢false, append_assoc, append-nil}
+use Rattle.std.specs.Prelude.{drop, fold}
+use Rattle.clap.specs.Words.{App, Kinds, Row, Rule, Shape, Text, HasKind, HasMatchesOf, app_of, fault_of, first_of, first_value, is_simple, is_simple_and_free, kind_of, found_of, rows_of, subcommand_name_of, subcommand_of, subcommand_rows_of, IsAmong}
+use Rattle.clap.specs.declared.parser.ArgMatches.{ArgMatches}
+use Rattle.clap.specs.declared.builder.Command.{Command}
+use Rattle.clap.specs.declared.error.Error.{Error}
+use Rattle.clap.specs.declared.parser.matches.Found.{Found}
+use Rattle.clap.specs.declared.parser.matches.ArgMatches.TheViews.{out-ArgMatches, out-SubCommand}
+use Rattle.std.specs.Box.{box_value}
+use Rattle.clap.specs.Walk.{Held, Names, Walk, idle, value, arg_by_index, finished, nothing_held, settled, subcommand_or_other, stop_after, subcommand_met, to_positional, walk, walk_from, walked}
+use Rattle.clap.specs.Simple.{built, built_leaf, entered, names_of, rows_at}
+use Rattle.clap.specs.Faults.{built_fault, check_fault, defaults_fault, level_fault, other_fault, settle_fault, step_fault, turn_fault, walk_fault}
+use Rattle.clap.specs.declared.error.kind.ErrorKind.TheVariants as kind
+use Rattle.clap.specs.declared.error.kind.ErrorKind.{ErrorKind}
+use Rattle.plan_types.specs.declared.requests.Kind.{Kind}
+use Rattle.plan_types.specs.declared.requests.Kind.TheVariants.{LiLim, Vrp}
+use Rattle.std.specs.Str.{bytes_eq}
+use Rattle.std.specs.Prelude.{if◌then◌else◌}
+use Rattle.clap.specs.Kinds.{or_else}
+use Rattle.std.specs.List.{list_any}
+use Rattle.std.proofs.lemmas.Slice.Eq.{bytes_eq-Decides}
+use Rattle.clap.proofs.WalkLemmas.{first_value-rows, list_any-map}
+use Rattle.clap.proofs.OnLiterals.{clap_on_literals}
+use Rattle.command_line.specs.declared.words.Invocation.{Invocation}
+use Rattle.command_line.specs.Asked.{IsRefusal, ArePositional, Asked, PathsAsked, Reads, TaskAsked, asked_by, asked_with, asks_help, audit, audits, draw, explain, format, is_positional_word, kind_named, list_asked, list_from, list_in, paths_asked, paths_from, paths_in, run, seed_named, seed_or_none, solve, steps_named, store_asked, store_in, task_asked, task_from, task_in, task_with, told_by, told_of, usage_status_of}
+use Rattle.command_line.specs.CommandLine.{IsKindNames, IsPlannerCommand, audits_app, paths_app, planner_app, solve_app, store_app}
+
+-- ---- a word that does not begin with a hyphen is a value
+
+is_no_hyphen : (b : Bool) → not b ≡ true → b ≡ false
+is_no_hyphen true e = absurd (true≢false (sym e))
+is_no_hyphen false e = refl
+
+word_is_value : (c : List Rule) (position : ℕ) (w : Text) (h : Held) → is_positional_word w ≡ true → subcommand_or_other c None idle position w h ≡ (h, value)
+word_is_value c position [] h p = refl
+word_is_value c position (b ∷ []) h p = by (b == 45) refl
+  where
+    by : (t : Bool) → (b == 45) ≡ t → subcommand_or_other c None idle position (b ∷ []) h ≡ (h, value)
+    by true e = rw (e, e) refl
+    by false e = rw (e, e) refl
+word_is_value c position (b ∷ d ∷ bs) h p = let e : (b == 45) ≡ false = is_no_hyphen (b == 45) p in rw (e, e) refl
+
+word_passes : (s : Shape) (w : Text) (h : Held) → is_positional_word w ≡ true → other_fault s None w h ≡ []
+word_passes s [] h p = refl
+word_passes s (b ∷ []) h p = by (b == 45) refl
+  where
+    by : (t : Bool) → (b == 45) ≡ t → other_fault s None (b ∷ []) h ≡ []
+    by true e = rw (e, e) refl
+    by false e = rw (e, e) refl
+word_passes s (b ∷ d ∷ bs) h p = let e : (b == 45) ≡ false = is_no_hyphen (b == 45) p in rw (e, e) refl
+
+-- where the walk stands between two words
+abbrev standing : Held → ℕ → Walk
+standing h position = record { held = h; waiting = idle; position = position; is_trailing = false; stopped = None }
+
+abbrev after_value : List Rule → Held → ℕ → Text → Walk
+after_value c h position w = to_positional c (arg_by_index c position) w (standing h position) h
+
+walked-value : (c : List Rule) (h : Held) (position : ℕ) (w : Text) → is_positional_word w ≡ true → walked c [] (standing h position) w ≡ after_value c h position w
+unfolding walked
+walked-value c h position w p = rw (word_is_value c position w h p) refl
+
+turn_fault-value : (s : Shape) (h : Held) (position : ℕ) (w : Text) → is_positional_word w ≡ true → turn_fault s [] (standing h position) w ≡ step_fault s position h value
+turn_fault-value s h position w p = rw (word_passes s w h p, word_is_value s.rules position w h p) refl
+
+-- ---- after the subcommand's name
+
+abbrev stopped_at : Text → List Text → Walk
+stopped_at name words = record { held = nothing_held; waiting = idle; position = 1; is_trailing = false; stopped = Some (name, words) }
+
+stopped_fault : (s : Shape) (names : Names) (name : Text) (before words : List Text) → walk_fault s names (stopped_at name before) words ≡ []
+unfolding walk_fault walked
+stopped_fault s names name before [] = refl
+stopped_fault s names name before (w ∷ words) = stopped_fault s names name (before ++ w ∷ []) words
+
+stopped_walk : (c : List Rule) (names : Names) (name : Text) (before words : List Text) → fold (walked c names) (stopped_at name before) words ≡ stopped_at name (before ++ words)
+unfolding walked
+stopped_walk c names name before [] = ap (stopped_at name) (sym (append-nil before))
+stopped_walk c names name before (w ∷ words) = stopped_walk c names name (before ++ w ∷ []) words ∙ ap (stopped_at name) (append_assoc before (w ∷ []) words)
+
+or_else-nil : (kinds : Kinds) → or_else kinds [] ≡ kinds
+or_else-nil [] = refl
+or_else-nil (k ∷ ks) = refl
+
+-- ---- the two levels
+
+abbrev the_app : Bor (List (Bor Text)) → App
+the_app names = built (planner_app names)
+
+pub no_words : (names : Bor (List (Bor Text))) → built_fault (the_app names) nothing_held [] ≡ []
+unfolding clap_on_literals
+no_words names = refl
+
+-- ---- the words `KIND INSTANCE SOLUTION`
+
+-- such a command, as built
+abbrev paths_shape : Text → Bor (List (Bor Text)) → Shape
+paths_shape name names = built_leaf (paths_app name names).top
+
+abbrev paths_fault : Text → Bor (List (Bor Text)) → List Text → Kinds
+paths_fault name names words = level_fault (paths_shape name names) [] nothing_held words false []
+
+abbrev missing : Kinds
+missing = kind.MissingRequiredArgument ∷ []
+
+module _ (name : Text) (names : Bor (List (Bor Text))) where
+  abbrev paths_rules : List Rule
+  paths_rules = (paths_shape name names).rules
+
+  -- what is held after one, two and three values
+  abbrev held_kind : Text → Held
+  held_kind k = (after_value paths_rules nothing_held 1 k).held
+
+  abbrev held_instance : Text → Text → Held
+  held_instance k i = (after_value paths_rules (held_kind k) 2 i).held
+
+  abbrev held_solution : Text → Text → Text → Held
+  held_solution k i s = (after_value paths_rules (held_instance k i) 3 s).held
+
+  -- the kind is checked once the next word or the end comes
+  abbrev kind_fault : Text → Kinds
+  kind_fault k = settle_fault paths_rules false (held_kind k)
+
+  no_values : paths_fault name names [] ≡ missing
+  unfolding clap_on_literals
+  no_values = refl
+
+  kind_walked : (k : Text) → is_positional_word k ≡ true → walked paths_rules [] (standing nothing_held 1) k ≡ standing (held_kind k) 2
+  kind_walked k p = walked-value paths_rules nothing_held 1 k p
+
+  instance_walked : (k i : Text) → is_positional_word i ≡ true → walked paths_rules [] (standing (held_kind k) 2) i ≡ standing (held_instance k i) 3
+  instance_walked k i p = walked-value paths_rules (held_kind k) 2 i p
+
+  solution_walked : (k i s : Text) → is_positional_word s ≡ true → walked paths_rules [] (standing (held_instance k i) 3) s ≡ standing (held_solution k i s) 4
+  solution_walked k i s p = walked-value paths_rules (held_instance k i) 3 s p
+
+  kind_turn : (k : Text) → is_positional_word k ≡ true → turn_fault (paths_shape name names) [] (standing nothing_held 1) k ≡ []
+  kind_turn k p = turn_fault-value (paths_shape name names) nothing_held 1 k p
+
+  instance_turn : (k i : Text) → is_positional_word i ≡ true → turn_fault (paths_shape name names) [] (standing (held_kind k) 2) i ≡ kind_fault k
+  instance_turn k i p = turn_fault-value (paths_shape name names) (held_kind k) 2 i p
+
+  solution_turn : (k i s : Text) → is_positional_word s ≡ true → turn_fault (paths_shape name names) [] (standing (held_instance k i) 3) s ≡ []
+  solution_turn k i s p = turn_fault-value (paths_shape name names) (held_instance k i) 3 s p
+
+  stray_turn : (k i s x : Text) → is_positional_word x ≡ true → turn_fault (paths_shape name names) [] (standing (held_solution k i s) 4) x ≡ kind.UnknownArgument ∷ []
+  stray_turn k i s x p = turn_fault-value (paths_shape name names) (held_solution k i s) 4 x p
+
+  one_value : (k : Text) → is_positional_word k ≡ true → paths_fault name names (k ∷ []) ≡ or_else (kind_fault k) missing
+  unfolding walk_fault defaults_fault
+  one_value k p = rw (kind_walked k p, kind_turn k p) refl
+
+  two_values : (k i : Text) → is_positional_word k ≡ true → is_positional_word i ≡ true → paths_fault name names (k ∷ i ∷ []) ≡ or_else (or_else (kind_fault k) []) missing
+  unfolding walk_fault defaults_fault
+  two_values k i p q = rw (kind_walked k p, kind_turn k p, instance_walked k i q, instance_turn k i q) refl
+
+  three_values : (k i s : Text) → is_positional_word k ≡ true → is_positional_word i ≡ true → is_positional_word s ≡ true → paths_fault name names (k ∷ i ∷ s ∷ []) ≡ or_else (or_else (kind_fault k) []) []
+  unfolding walk_fault defaults_fault
+  three_values k i s p q r = rw (kind_walked k p, kind_turn k p, instance_walked k i q, instance_turn k i q, solution_walked k i s r, solution_turn k i s r) refl
+
+  -- those of the words are passed over that no walk reads
+  four_values : (k i s x : Text) (rest : List Text) → is_positional_word k ≡ true → is_positional_word i ≡ true → is_positional_word s ≡ true → is_positional_word x ≡ true
+      → walk_fault (paths_shape name names) [] (walk_from nothing_held) (k ∷ i ∷ s ∷ x ∷ rest) ≡ or_else (kind_fault k) (kind.UnknownArgument ∷ [])
+  unfolding walk_fault
+  four_values k i s x rest p q r t = rw (kind_turn k p, kind_walked k p, instance_turn k i q, instance_walked k i q, solution_turn k i s r, solution_walked k i s r, stray_turn k i s x t) refl
+
+  three_rows : (k i s : Text) → is_positional_word k ≡ true → is_positional_word i ≡ true → is_positional_word s ≡ true
+      → paths_in (rows_at (paths_shape name names) (k ∷ i ∷ s ∷ [])).1 ≡ paths_asked (k ∷ i ∷ s ∷ [])
+  three_rows k i s p q r = rw (kind_walked k p, instance_walked k i q, solution_walked k i s r) refl
+
+-- ---- the words `KIND LIST` of `audits`
+
+abbrev audits_shape : Bor (List (Bor Text)) → Shape
+audits_shape names = built_leaf (audits_app names).top
+
+abbrev audits_fault : Bor (List (Bor Text)) → List Text → Kinds
+audits_fault names words = level_fault (audits_shape names) [] nothing_held words false []
+
+module _ (names : Bor (List (Bor Text))) where
+  abbrev audits_rules : List Rule
+  audits_rules = (audits_shape names).rules
+
+  abbrev held_first : Text → Held
+  held_first k = (after_value audits_rules nothing_held 1 k).held
+
+  abbrev held_list : Text → Text → Held
+  held_list k l = (after_value audits_rules (held_first k) 2 l).held
+
+  abbrev first_fault : Text → Kinds
+  first_fault k = settle_fault audits_rules false (held_first k)
+
+  no_list : audits_fault names [] ≡ missing
+  unfolding clap_on_literals
+  no_list = refl
+
+  first_walked : (k : Text) → is_positional_word k ≡ true → walked audits_rules [] (standing nothing_held 1) k ≡ standing (held_first k) 2
+  first_walked k p = walked-value audits_rules nothing_held 1 k p
+
+  list_walked : (k l : Text) → is_positional_word l ≡ true → walked audits_rules [] (standing (held_first k) 2) l ≡ standing (held_list k l) 3
+  list_walked k l p = walked-value audits_rules (held_first k) 2 l p
+
+  first_turn : (k : Text) → is_positional_word k ≡ true → turn_fault (audits_shape names) [] (standing nothing_held 1) k ≡ []
+  first_turn k p = turn_fault-value (audits_shape names) nothing_held 1 k p
+
+  list_turn : (k l : Text) → is_positional_word l ≡ true → turn_fault (audits_shape names) [] (standing (held_first k) 2) l ≡ first_fault k
+  list_turn k l p = turn_fault-value (audits_shape names) (held_first k) 2 l p
+
+  stray_list_turn : (k l x : Text) → is_positional_word x ≡ true → turn_fault (audits_shape names) [] (standing (held_list k l) 3) x ≡ kind.UnknownArgument ∷ []
+  stray_list_turn k l x p = turn_fault-value (audits_shape names) (held_list k l) 3 x p
+
+  one_of_list : (k : Text) → is_positional_word k ≡ true → audits_fault names (k ∷ []) ≡ or_else (first_fault k) missing
+  unfolding walk_fault defaults_fault
+  one_of_list k p = rw (first_walked k p, first_turn k p) refl
+
+  two_of_list : (k l : Text) → is_positional_word k ≡ true → is_positional_word l ≡ true → audits_fault names (k ∷ l ∷ []) ≡ or_else (or_else (first_fault k) []) []
+  unfolding walk_fault defaults_fault
+  two_of_list k l p q = rw (first_walked k p, first_turn k p, list_walked k l q, list_turn k l q) refl
+
+  three_of_list : (k l x : Text) (rest : List Text) → is_positional_word k ≡ true → is_positional_word l ≡ true → is_positional_word x ≡ true
+      → walk_fault (audits_shape names) [] (walk_from nothing_held) (k ∷ l ∷ x ∷ rest) ≡ or_else (first_fault k) (kind.UnknownArgument ∷ [])
+  unfolding walk_fault
+  three_of_list k l x rest p q t = rw (first_turn k p, first_walked k p, list_turn k l q, list_walked k l q, stray_list_turn k l x t) refl
+
+  list_rows : (k l : Text) → is_positional_word k ≡ true → is_positional_word l ≡ true → list_in (rows_at (audits_shape names) (k ∷ l ∷ [])).1 ≡ list_asked (k ∷ l ∷ [])
+  list_rows k l p q = rw (first_walked k p, list_walked k l q) refl
+
+-- ---- the words `KIND INSTANCE STEPS [SEED]` of `solve`
+
+abbrev solve_shape : Bor (List (Bor Text)) → Shape
+solve_shape names = built_leaf (solve_app names).top
+
+abbrev solve_fault : Bor (List (Bor Text)) → List Text → Kinds
+solve_fault names words = level_fault (solve_shape names) [] nothing_held words false []
+
+module _ (names : Bor (List (Bor Text))) where
+  abbrev solve_rules : List Rule
+  solve_rules = (solve_shape names).rules
+
+  abbrev task_kind : Text → Held
+  task_kind k = (after_value solve_rules nothing_held 1 k).held
+
+  abbrev task_instance : Text → Text → Held
+  task_instance k i = (after_value solve_rules (task_kind k) 2 i).held
+
+  abbrev task_steps : Text → Text → Text → Held
+  task_steps k i n = (after_value solve_rules (task_instance k i) 3 n).held
+
+  abbrev task_seed : Text → Text → Text → Text → Held
+  task_seed k i n s = (after_value solve_rules (task_steps k i n) 4 s).held
+
+  abbrev task_fault : Text → Kinds
+  task_fault k = settle_fault solve_rules false (task_kind k)
+
+  no_task : solve_fault names [] ≡ missing
+  unfolding clap_on_literals
+  no_task = refl
+
+  task_kind_walked : (k : Text) → is_positional_word k ≡ true → walked solve_rules [] (standing nothing_held 1) k ≡ standing (task_kind k) 2
+  task_kind_walked k p = walked-value solve_rules nothing_held 1 k p
+
+  task_instance_walked : (k i : Text) → is_positional_word i ≡ true → walked solve_rules [] (standing (task_kind k) 2) i ≡ standing (task_instance k i) 3
+  task_instance_walked k i p = walked-value solve_rules (task_kind k) 2 i p
+
+  task_steps_walked : (k i n : Text) → is_positional_word n ≡ true → walked solve_rules [] (standing (task_instance k i) 3) n ≡ standing (task_steps k i n) 4
+  task_steps_walked k i n p = walked-value solve_rules (task_instance k i) 3 n p
+
+  task_seed_walked : (k i n s : Text) → is_positional_word s ≡ true → walked solve_rules [] (standing (task_steps k i n) 4) s ≡ standing (task_seed k i n s) 5
+  task_seed_walked k i n s p = walked-value solve_rules (task_steps k i n) 4 s p
+
+  task_kind_turn : (k : Text) → is_positional_word k ≡ true → turn_fault (solve_shape names) [] (standing nothing_held 1) k ≡ []
+  task_kind_turn k p = turn_fault-value (solve_shape names) nothing_held 1 k p
+
+  task_instance_turn : (k i : Text) → is_positional_word i ≡ true → turn_fault (solve_shape names) [] (standing (task_kind k) 2) i ≡ task_fault k
+  task_instance_turn k i p = turn_fault-value (solve_shape names) (task_kind k) 2 i p
+
+  task_steps_turn : (k i n : Text) → is_positional_word n ≡ true → turn_fault (solve_shape names) [] (standing (task_instance k i) 3) n ≡ []
+  task_steps_turn k i n p = turn_fault-value (solve_shape names) (task_instance k i) 3 n p
+
+  task_seed_turn : (k i n s : Text) → is_positional_word s ≡ true → turn_fault (solve_shape names) [] (standing (task_steps k i n) 4) s ≡ []
+  task_seed_turn k i n s p = turn_fault-value (solve_shape names) (task_steps k i n) 4 s p
+
+  stray_task_turn : (k i n s x : Text) → is_positional_word x ≡ true → turn_fault (solve_shape names) [] (standing (task_seed k i n s) 5) x ≡ kind.UnknownArgument ∷ []
+  stray_task_turn k i n s x p = turn_fault-value (solve_shape names) (task_seed k i n s) 5 x p
+
+  one_of_task : (k : Text) → is_positional_word k ≡ true → solve_fault names (k ∷ []) ≡ or_else (task_fault k) missing
+  unfolding walk_fault defaults_fault
+  one_of_task k p = rw (task_kind_walked k p, task_kind_turn k p) refl
+
+  two_of_task : (k i : Text) → is_positional_word k ≡ true → is_positional_word i ≡ true → solve_fault names (k ∷ i ∷ []) ≡ or_else (or_else (task_fault k) []) missing
+  unfolding walk_fault defaults_fault
+  two_of_task k i p q = rw (task_kind_walked k p, task_kind_turn k p, task_instance_walked k i q, task_instance_turn k i q) refl
+
+  three_of_task : (k i n : Text) → is_positional_word k ≡ true → is_positional_word i ≡ true → is_positional_word n ≡ true → solve_fault names (k ∷ i ∷ n ∷ []) ≡ or_else (or_else (task_fault k) []) []
+  unfolding walk_fault defaults_fault
+  three_of_task k i n p q r = rw (task_kind_walked k p, task_kind_turn k p, task_instance_walked k i q, task_instance_turn k i q, task_steps_walked k i n r, task_steps_turn k i n r) refl
+
+  -- what a walk that ends so may still fail by
+  abbrev task_rest : Held → Kinds
+  task_rest h =
+      or_else [] (or_else (settle_fault solve_rules (solve_shape names).args_override_self h)
+      (or_else (defaults_fault (settled solve_rules h).rows solve_rules) (check_fault (solve_shape names) (finished solve_rules h) false)))
+
+  seeded_fault : (k i n s : Text) → is_positional_word k ≡ true → is_positional_word i ≡ true → is_positional_word n ≡ true → is_positional_word s ≡ true
+      → walk_fault (solve_shape names) [] (walk_from nothing_held) (k ∷ i ∷ n ∷ s ∷ []) ≡ or_else (task_fault k) []
+  unfolding walk_fault
+  seeded_fault k i n s p q r t =
+      rw (
+        task_kind_turn k p,
+        task_kind_walked k p,
+        task_instance_turn k i q,
+        task_instance_walked k i q,
+        task_steps_turn k i n r,
+        task_steps_walked k i n r,
+        task_seed_turn k i n s t,
+      ) refl
+
+  seeded_walk : (k i n s : Text) → is_positional_word k ≡ true → is_positional_word i ≡ true → is_positional_word n ≡ true → is_positional_word s ≡ true
+      → walk solve_rules [] nothing_held (k ∷ i ∷ n ∷ s ∷ []) ≡ standing (task_seed k i n s) 5
+  seeded_walk k i n s p q r t = rw (task_kind_walked k p, task_instance_walked k i q, task_steps_walked k i n r, task_seed_walked k i n s t) refl
+
+  seeded_rest : (k i n s : Text) → task_rest (task_seed k i n s) ≡ []
+  unfolding defaults_fault
+  seeded_rest k i n s = refl
+
+  four_of_task : (k i n s : Text) → is_positional_word k ≡ true → is_positional_word i ≡ true → is_positional_word n ≡ true → is_positional_word s ≡ true
+      → solve_fault names (k ∷ i ∷ n ∷ s ∷ []) ≡ or_else (or_else (task_fault k) []) []
+  four_of_task k i n s p q r t =
+      ap₂ {C = Kinds} (λ (f : Kinds) (w : Walk). or_else f (task_rest w.held)) (seeded_fault k i n s p q r t) (seeded_walk k i n s p q r t)
+      ∙ ap (or_else (or_else (task_fault k) [])) (seeded_rest k i n s)
+
+  five_of_task : (k i n s x : Text) (rest : List Text) → is_positional_word k ≡ true → is_positional_word i ≡ true → is_positional_word n ≡ true → is_positional_word s ≡ true → is_positional_word x ≡ true
+      → walk_fault (solve_shape names) [] (walk_from nothing_held) (k ∷ i ∷ n ∷ s ∷ x ∷ rest) ≡ or_else (task_fault k) (kind.UnknownArgument ∷ [])
+  unfolding walk_fault
+  five_of_task k i n s x rest p q r t u =
+      rw (
+        task_kind_turn k p,
+        task_kind_walked k p,
+        task_instance_turn k i q,
+        task_instance_walked k i q,
+        task_steps_turn k i n r,
+        task_steps_walked k i n r,
+        task_seed_turn k i n s t,
+        task_seed_walked k i n s t,
+        stray_task_turn k i n s x u,
+      ) refl
+
+  task_rows : (k i n : Text) → is_positional_word k ≡ true → is_positional_word i ≡ true → is_positional_word n ≡ true → task_in (rows_at (solve_shape names) (k ∷ i ∷ n ∷ [])).1 ≡ task_asked (k ∷ i ∷ n ∷ [])
+  task_rows k i n p q r = rw (task_kind_walked k p, task_instance_walked k i q, task_steps_walked k i n r) refl
+
+  seeded_rows : (k i n s : Text) → is_positional_word k ≡ true → is_positional_word i ≡ true → is_positional_word n ≡ true → is_positional_word s ≡ true
+      → task_in (rows_at (solve_shape names) (k ∷ i ∷ n ∷ s ∷ [])).1 ≡ task_asked (k ∷ i ∷ n ∷ s ∷ [])
+  seeded_rows k i n s p q r t = rw (task_kind_walked k p, task_instance_walked k i q, task_steps_walked k i n r, task_seed_walked k i n s t) refl
+
+-- ---- what the parse of the words tells
+
+-- each kind is a mistake's
+abbrev AreMistakes : Kinds → Type 0
+AreMistakes [] = Unit {0}
+AreMistakes (k ∷ ks) = (usage_status_of k ≡ 64) × AreMistakes ks
+
+abbrev IsFault : Kinds → Type 0
+IsFault [] = ⊥
+IsFault (k ∷ ks) = (usage_status_of k ≡ 64) × AreMistakes ks
+
+abbrev IsSomeKind : Kinds → Type 0
+IsSomeKind [] = ⊥
+IsSomeKind (k ∷ ks) = Unit {0}
+
+-- the words pass and ask for what the matches say, or they ask for nothing, and fail by a mistake or for help
+abbrev pub IsJudged : Type 0 → Kinds → Option Asked → Option Asked → Type 0
+IsJudged Help faults asked told = ((faults ≡ []) × (asked ≡ told)) ⊎ ((IsFault faults ⊎ (Help × IsSomeKind faults)) × (asked ≡ None))
+
+fault_then : (a b : Kinds) → AreMistakes a → IsFault b → IsFault (or_else a b)
+fault_then [] b m h = h
+fault_then (k ∷ ks) b m h = m
+
+fault_first : (a b : Kinds) → IsFault a → IsFault (or_else a b)
+fault_first [] b h = absurd h
+fault_first (k ∷ ks) b h = h
+
+-- the fault of a kind by the tests of the two names
+abbrev unless_named : Bool → Bool → Kinds
+unless_named true b = []
+unless_named false true = []
+unless_named false false = kind.InvalidValue ∷ []
+
+named_by : Bool → Bool → Option Kind
+named_by true b = Some LiLim
+named_by false true = Some Vrp
+named_by false false = None
+
+accepted_by : (a b : Bool) → or_else (if (a || (b || false)) then [] else kind.InvalidValue ∷ []) [] ≡ unless_named a b
+accepted_by true b = refl
+accepted_by false true = refl
+accepted_by false false = refl
+
+accepts_names : (names : Bor (List (Bor Text))) (k : Text) → IsKindNames names → list_any (λ name. bytes_eq name.now k) names.now ≡ (bytes_eq (codes "lilim") k || (bytes_eq (codes "vrp") k || false))
+accepts_names names k kinds = list_any-map (λ t. bytes_eq t k) (λ (n : Bor Text). n.now) names.now ∙ ap (list_any (λ t. bytes_eq t k)) kinds
+
+-- the fault of a word that is to name a kind
+abbrev fault_of_kind : Text → Kinds
+fault_of_kind k = unless_named (bytes_eq (codes "lilim") k) (bytes_eq (codes "vrp") k)
+
+known_fault : (names : Bor (List (Bor Text))) (k : Text) → IsKindNames names → or_else (if list_any (λ name. bytes_eq name.now k) names.now then [] else kind.InvalidValue ∷ []) [] ≡ fault_of_kind k
+known_fault names k kinds = ap (λ b. or_else (if b then [] else kind.InvalidValue ∷ []) []) (accepts_names names k kinds) ∙ accepted_by (bytes_eq (codes "lilim") k) (bytes_eq (codes "vrp") k)
+
+mistakes_by : (a b : Bool) → AreMistakes (unless_named a b)
+mistakes_by true b = tt
+mistakes_by false true = tt
+mistakes_by false false = (refl, tt)
+
+kind_mistakes : (fault : Kinds) (k : Text) → fault ≡ fault_of_kind k → AreMistakes fault
+kind_mistakes fault k is = subst AreMistakes (sym is) (mistakes_by (bytes_eq (codes "lilim") k) (bytes_eq (codes "vrp") k))
+
+mistakes_nil : (a : Kinds) → AreMistakes a → AreMistakes (or_else a [])
+mistakes_nil a h = subst AreMistakes (sym (or_else-nil a)) h
+
+-- words of the right number are judged by their kind
+judged_kind : (Help : Type 0) (a b : Bool) (faults : Kinds) (asked told : Option Asked) → faults ≡ unless_named a b → ((if a then Some LiLim else (if b then Some Vrp else None)) ≡ None → asked ≡ None)
+    → asked ≡ told → IsJudged Help faults asked told
+judged_kind Help true b faults asked told f e same = inl (f, same)
+judged_kind Help false true faults asked told f e same = inl (f, same)
+judged_kind Help false false faults asked told f e same = inr (inl (subst IsFault (sym f) (refl, tt)), e refl)
+
+failed : (Help : Type 0) (faults known : Kinds) (told : Option Asked) → faults ≡ known → IsFault known → IsJudged Help faults None told
+failed Help faults known told e h = inr (inl (subst IsFault (sym e) h), refl)
+
+both_true : (a b : Bool) → (a && b) ≡ true → (a ≡ true) × (b ≡ true)
+both_true true b h = (refl, h)
+both_true false b h = absurd (true≢false (sym h))
+
+judged_paths : (Help : Type 0) (does : PathsAsked → Asked) (name : Text) (names : Bor (List (Bor Text))) (words : List Text) → IsKindNames names → ArePositional words
+    → IsJudged Help (paths_fault name names words) (option_map does (paths_asked words)) (option_map does (paths_in (rows_at (paths_shape name names) words).1))
+judged_paths Help does name names [] kinds p = failed Help _ missing _ (no_values name names) (refl, tt)
+judged_paths Help does name names (k ∷ []) kinds p =
+    failed Help _ _ _ (one_value name names k (both_true _ _ p).0) (fault_then (kind_fault name names k) missing (kind_mistakes _ k (known_fault names k kinds)) (refl, tt))
+judged_paths Help does name names (k ∷ i ∷ []) kinds p =
+    failed Help _ _ _ (two_values name names k i (both_true _ _ p).0 (both_true _ _ (both_true _ _ p).1).0)
+    (fault_then (or_else (kind_fault name names k) []) missing (mistakes_nil (kind_fault name names k) (kind_mistakes _ k (known_fault names k kinds))) (refl, tt))
+judged_paths Help does name names (k ∷ i ∷ s ∷ []) kinds p =
+    let pk = both_true (is_positional_word k) _ p in
+    let pi = both_true (is_positional_word i) _ pk.1 in
+    let ps = both_true (is_positional_word s) _ pi.1 in
+    judged_kind Help (bytes_eq (codes "lilim") k) (bytes_eq (codes "vrp") k) _ _ _
+    (three_values name names k i s pk.0 pi.0 ps.0 ∙ or_else-nil _ ∙ or_else-nil _ ∙ known_fault names k kinds)
+    (λ none. ap (λ o. option_map does (option_map (λ k. record { kind = k; instance = i; solution = s }) o)) none)
+    (sym (ap (option_map does) (three_rows name names k i s pk.0 pi.0 ps.0)))
+judged_paths Help does name names (k ∷ i ∷ s ∷ x ∷ rest) kinds p =
+    let pk = both_true (is_positional_word k) _ p in
+    let pi = both_true (is_positional_word i) _ pk.1 in
+    let ps = both_true (is_positional_word s) _ pi.1 in
+    let px = both_true (is_positional_word x) _ ps.1 in
+    inr (
+      inl (fault_first _ _ (subst IsFault (sym (four_values name names k i s x rest pk.0 pi.0 ps.0 px.0))
+          (fault_then (kind_fault name names k) (kind.UnknownArgument ∷ []) (kind_mistakes _ k (known_fault names k kinds)) (refl, tt)))),
+      refl,
+    )
+
+judged_list : (Help : Type 0) (names : Bor (List (Bor Text))) (words : List Text) → IsKindNames names → ArePositional words
+    → IsJudged Help (audits_fault names words) (list_asked words) (list_in (rows_at (audits_shape names) words).1)
+judged_list Help names [] kinds p = failed Help _ missing _ (no_list names) (refl, tt)
+judged_list Help names (k ∷ []) kinds p =
+    failed Help _ _ _ (one_of_list names k (both_true _ _ p).0) (fault_then (first_fault names k) missing (kind_mistakes _ k (known_fault names k kinds)) (refl, tt))
+judged_list Help names (k ∷ l ∷ []) kinds p =
+    let pk = both_true (is_positional_word k) _ p in
+    let pl = both_true (is_positional_word l) _ pk.1 in
+    judged_kind Help (bytes_eq (codes "lilim") k) (bytes_eq (codes "vrp") k) _ _ _ (two_of_list names k l pk.0 pl.0 ∙ or_else-nil _ ∙ or_else-nil _ ∙ known_fault names k kinds)
+    (λ none. ap (λ o. option_map (λ k. audits k l) o) none) (sym (list_rows names k l pk.0 pl.0))
+judged_list Help names (k ∷ l ∷ x ∷ rest) kinds p =
+    let pk = both_true (is_positional_word k) _ p in
+    let pl = both_true (is_positional_word l) _ pk.1 in
+    let px = both_true (is_positional_word x) _ pl.1 in
+    inr (
+      inl (fault_first _ _ (subst IsFault (sym (three_of_list names k l x rest pk.0 pl.0 px.0))
+          (fault_then (first_fault names k) (kind.UnknownArgument ∷ []) (kind_mistakes _ k (known_fault names k kinds)) (refl, tt)))),
+      refl,
+    )
+
+-- no task without a kind
+no_kind_no_task : (o : Option Kind) (i : Text) (n s : Option ℕ) → o ≡ None → option_map solve (task_from o i n s) ≡ None
+no_kind_no_task o i n s none = ap (λ o. option_map solve (task_from o i n s)) none
+
+judged_task : (Help : Type 0) (names : Bor (List (Bor Text))) (words : List Text) → IsKindNames names → ArePositional words
+    → IsJudged Help (solve_fault names words) (option_map solve (task_asked words)) (option_map solve (task_in (rows_at (solve_shape names) words).1))
+judged_task Help names [] kinds p = failed Help _ missing _ (no_task names) (refl, tt)
+judged_task Help names (k ∷ []) kinds p =
+    failed Help _ _ _ (one_of_task names k (both_true _ _ p).0) (fault_then (task_fault names k) missing (kind_mistakes _ k (known_fault names k kinds)) (refl, tt))
+judged_task Help names (k ∷ i ∷ []) kinds p =
+    failed Help _ _ _ (two_of_task names k i (both_true _ _ p).0 (both_true _ _ (both_true _ _ p).1).0)
+    (fault_then (or_else (task_fault names k) []) missing (mistakes_nil (task_fault names k) (kind_mistakes _ k (known_fault names k kinds))) (refl, tt))
+judged_task Help names (k ∷ i ∷ n ∷ []) kinds p =
+    let pk = both_true (is_positional_word k) _ p in
+    let pi = both_true (is_positional_word i) _ pk.1 in
+    let pn = both_true (is_positional_word n) _ pi.1 in
+    judged_kind Help (bytes_eq (codes "lilim") k) (bytes_eq (codes "vrp") k) _ _ _
+    (three_of_task names k i n pk.0 pi.0 pn.0 ∙ or_else-nil _ ∙ or_else-nil _ ∙ known_fault names k kinds) (no_kind_no_task (kind_named k) i (steps_named n) (Some 0))
+    (sym (ap (option_map solve) (task_rows names k i n pk.0 pi.0 pn.0)))
+judged_task Help names (k ∷ i ∷ n ∷ s ∷ []) kinds p =
+    let pk = both_true (is_positional_word k) _ p in
+    let pi = both_true (is_positional_word i) _ pk.1 in
+    let pn = both_true (is_positional_word n) _ pi.1 in
+    let ps = both_true (is_positional_word s) _ pn.1 in
+    judged_kind Help (bytes_eq (codes "lilim") k) (bytes_eq (codes "vrp") k) _ _ _
+    (four_of_task names k i n s pk.0 pi.0 pn.0 ps.0 ∙ or_else-nil _ ∙ or_else-nil _ ∙ known_fault names k kinds) (no_kind_no_task (kind_named k) i (steps_named n) (seed_named s))
+    (sym (ap (option_map solve) (seeded_rows names k i n s pk.0 pi.0 pn.0 ps.0)))
+judged_task Help names (k ∷ i ∷ n ∷ s ∷ x ∷ rest) kinds p =
+    let pk = both_true (is_positional_word k) _ p in
+    let pi = both_true (is_positional_word i) _ pk.1 in
+    let pn = both_true (is_positional_word n) _ pi.1 in
+    let ps = both_true (is_positional_word s) _ pn.1 in
+    let px = both_true (is_positional_word x) _ ps.1 in
+    inr (
+      inl (fault_first _ _ (subst IsFault (sym (five_of_task names k i n s x rest pk.0 pi.0 pn.0 ps.0 px.0))
+          (fault_then (task_fault names k) (kind.UnknownArgument ∷ []) (kind_mistakes _ k (known_fault names k kinds)) (refl, tt)))),
+      refl,
+    )
+
+-- ---- the word of `format` and `run`
+
+-- such a command, as built
+abbrev store_shape : Text → Shape
+store_shape name = built_leaf (store_app name).top
+
+abbrev store_fault : Text → List Text → Kinds
+store_fault name words = level_fault (store_shape name) [] nothing_held words false []
+
+abbrev held_store : Text → Text → Held
+held_store name w = (after_value (store_shape name).rules nothing_held 1 w).held
+
+no_store : (name : Text) → store_fault name [] ≡ missing
+unfolding clap_on_literals
+no_store name = refl
+
+store_walked : (name w : Text) → is_positional_word w ≡ true → walked (store_shape name).rules [] (standing nothing_held 1) w ≡ standing (held_store name w) 2
+store_walked name w p = walked-value (store_shape name).rules nothing_held 1 w p
+
+store_turn : (name w : Text) → is_positional_word w ≡ true → turn_fault (store_shape name) [] (standing nothing_held 1) w ≡ []
+store_turn name w p = turn_fault-value (store_shape name) nothing_held 1 w p
+
+stray_store_turn : (name w x : Text) → is_positional_word x ≡ true → turn_fault (store_shape name) [] (standing (held_store name w) 2) x ≡ kind.UnknownArgument ∷ []
+stray_store_turn name w x p = turn_fault-value (store_shape name) (held_store name w) 2 x p
+
+one_store : (name w : Text) → is_positional_word w ≡ true → store_fault name (w ∷ []) ≡ []
+unfolding walk_fault defaults_fault
+one_store name w p = rw (store_walked name w p, store_turn name w p) refl
+
+two_stores : (name w x : Text) (rest : List Text) → is_positional_word w ≡ true → is_positional_word x ≡ true
+    → walk_fault (store_shape name) [] (walk_from nothing_held) (w ∷ x ∷ rest) ≡ kind.UnknownArgument ∷ []
+unfolding walk_fault
+two_stores name w x rest p q = rw (store_turn name w p, store_walked name w p, stray_store_turn name w x q) refl
+
+store_rows : (name w : Text) → is_positional_word w ≡ true → store_in (rows_at (store_shape name) (w ∷ [])).1 ≡ Some w
+store_rows name w p = rw (store_walked name w p) refl
+
+judged_store : (Help : Type 0) (does : Text → Asked) (name : Text) (words : List Text) → ArePositional words
+    → IsJudged Help (store_fault name words) (option_map does (store_asked words)) (option_map does (store_in (rows_at (store_shape name) words).1))
+judged_store Help does name [] p = failed Help _ missing _ (no_store name) (refl, tt)
+judged_store Help does name (w ∷ []) p =
+    let pw = both_true (is_positional_word w) _ p in
+    inl (one_store name w pw.0, sym (ap (option_map does) (store_rows name w pw.0)))
+judged_store Help does name (w ∷ x ∷ rest) p =
+    let pw = both_true (is_positional_word w) _ p in
+    let px = both_true (is_positional_word x) _ pw.1 in
+    inr (inl (fault_first _ _ (subst IsFault (sym (two_stores name w x rest pw.0 px.0)) (refl, tt))), refl)
+
+-- ---- the subcommands
+
+-- the first word is a subcommand, `help`, or a word too many
+abbrev stop_in : Bor (List (Bor Text)) → List Text → Option (Text × List Row)
+stop_in names words = entered (the_app names) (stop_after (the_app names).top.rules (names_of (the_app names)) words)
+
+module _ (names : Bor (List (Bor Text))) (words : List Text) where
+  abbrev top_walk : Text → Walk
+  top_walk name = fold (walked (the_app names).top.rules (names_of (the_app names))) (stopped_at name []) words
+
+  top_walked : (name : Text) → top_walk name ≡ stopped_at name words
+  top_walked name = stopped_walk (the_app names).top.rules (names_of (the_app names)) name [] words
+
+  top_fault : (name : Text) → walk_fault (the_app names).top (names_of (the_app names)) (stopped_at name []) words ≡ []
+  top_fault name = stopped_fault (the_app names).top (names_of (the_app names)) name [] words
+
+  audit_words_fault : built_fault (the_app names) nothing_held (codes "audit" ∷ words) ≡ paths_fault (codes "audit") names words
+  unfolding clap_on_literals
+  audit_words_fault = rw (top_walked (codes "audit"), top_fault (codes "audit")) (or_else-nil (paths_fault (codes "audit") names words))
+
+  audit_stop : told_of (stop_in names (codes "audit" ∷ words)) ≡ option_map audit (paths_in (rows_at (paths_shape (codes "audit") names) words).1)
+  unfolding clap_on_literals
+  audit_stop = ap (λ (w : Walk). told_of (entered (the_app names) w.stopped)) (top_walked (codes "audit"))
+
+  audits_words_fault : built_fault (the_app names) nothing_held (codes "audits" ∷ words) ≡ audits_fault names words
+  unfolding clap_on_literals
+  audits_words_fault = rw (top_walked (codes "audits"), top_fault (codes "audits")) (or_else-nil (audits_fault names words))
+
+  audits_stop : told_of (stop_in names (codes "audits" ∷ words)) ≡ list_in (rows_at (audits_shape names) words).1
+  unfolding clap_on_literals
+  audits_stop = ap (λ (w : Walk). told_of (entered (the_app names) w.stopped)) (top_walked (codes "audits"))
+
+  explain_words_fault : built_fault (the_app names) nothing_held (codes "explain" ∷ words) ≡ paths_fault (codes "explain") names words
+  unfolding clap_on_literals
+  explain_words_fault = rw (top_walked (codes "explain"), top_fault (codes "explain")) (or_else-nil (paths_fault (codes "explain") names words))
+
+  explain_stop : told_of (stop_in names (codes "explain" ∷ words)) ≡ option_map explain (paths_in (rows_at (paths_shape (codes "explain") names) words).1)
+  unfolding clap_on_literals
+  explain_stop = ap (λ (w : Walk). told_of (entered (the_app names) w.stopped)) (top_walked (codes "explain"))
+
+  draw_words_fault : built_fault (the_app names) nothing_held (codes "draw" ∷ words) ≡ paths_fault (codes "draw") names words
+  unfolding clap_on_literals
+  draw_words_fault = rw (top_walked (codes "draw"), top_fault (codes "draw")) (or_else-nil (paths_fault (codes "draw") names words))
+
+  draw_stop : told_of (stop_in names (codes "draw" ∷ words)) ≡ option_map draw (paths_in (rows_at (paths_shape (codes "draw") names) words).1)
+  unfolding clap_on_literals
+  draw_stop = ap (λ (w : Walk). told_of (entered (the_app names) w.stopped)) (top_walked (codes "draw"))
+
+  solve_words_fault : built_fault (the_app names) nothing_held (codes "solve" ∷ words) ≡ solve_fault names words
+  unfolding clap_on_literals
+  solve_words_fault = rw (top_walked (codes "solve"), top_fault (codes "solve")) (or_else-nil (solve_fault names words))
+
+  solve_stop : told_of (stop_in names (codes "solve" ∷ words)) ≡ option_map solve (task_in (rows_at (solve_shape names) words).1)
+  unfolding clap_on_literals
+  solve_stop = ap (λ (w : Walk). told_of (entered (the_app names) w.stopped)) (top_walked (codes "solve"))
+
+  format_words_fault : built_fault (the_app names) nothing_held (codes "format" ∷ words) ≡ store_fault (codes "format") words
+  unfolding clap_on_literals
+  format_words_fault = rw (top_walked (codes "format"), top_fault (codes "format")) (or_else-nil (store_fault (codes "format") words))
+
+  format_stop : told_of (stop_in names (codes "format" ∷ words)) ≡ option_map format (store_in (rows_at (store_shape (codes "format")) words).1)
+  unfolding clap_on_literals
+  format_stop = ap (λ (w : Walk). told_of (entered (the_app names) w.stopped)) (top_walked (codes "format"))
+
+  run_words_fault : built_fault (the_app names) nothing_held (codes "run" ∷ words) ≡ store_fault (codes "run") words
+  unfolding clap_on_literals
+  run_words_fault = rw (top_walked (codes "run"), top_fault (codes "run")) (or_else-nil (store_fault (codes "run") words))
+
+  run_stop : told_of (stop_in names (codes "run" ∷ words)) ≡ option_map run (store_in (rows_at (store_shape (codes "run")) words).1)
+  unfolding clap_on_literals
+  run_stop = ap (λ (w : Walk). told_of (entered (the_app names) w.stopped)) (top_walked (codes "run"))
+
+help_fault : (names : Bor (List (Bor Text))) (words : List Text) → IsSomeKind (built_fault (the_app names) nothing_held (codes "help" ∷ words))
+unfolding clap_on_literals
+help_fault names words = tt
+
+abbrev all_names : Names
+all_names =
+    (codes "audit", []) ∷ (codes "audits", []) ∷ (codes "explain", []) ∷ (codes "draw", []) ∷ (codes "solve", []) ∷ (codes "format", []) ∷ (codes "run", []) ∷ (codes "help", []) ∷ []
+
+-- the word is no subcommand's name
+record IsOther (w : Text) : Type 0 where
+  positional : is_positional_word w ≡ true
+  no_audit : bytes_eq (codes "audit") w ≡ false
+  no_audits : bytes_eq (codes "audits") w ≡ false
+  no_explain : bytes_eq (codes "explain") w ≡ false
+  no_draw : bytes_eq (codes "draw") w ≡ false
+  no_solve : bytes_eq (codes "solve") w ≡ false
+  no_format : bytes_eq (codes "format") w ≡ false
+  no_run : bytes_eq (codes "run") w ≡ false
+
+no_subcommand : (w : Text) → IsOther w → bytes_eq (codes "help") w ≡ false → subcommand_met all_names idle w ≡ None
+no_subcommand w o h = rw (o.no_audit, o.no_audits, o.no_explain, o.no_draw, o.no_solve, o.no_format, o.no_run, h) refl
+
+turn_fault-stray : (s : Shape) (w : Text) → IsOther w → bytes_eq (codes "help") w ≡ false → turn_fault s all_names (standing nothing_held 1) w ≡ step_fault s 1 nothing_held value
+turn_fault-stray s w o h = rw (no_subcommand w o h, word_passes s w nothing_held o.positional, word_is_value s.rules 1 w nothing_held o.positional) refl
+
+stray_first : (names : Bor (List (Bor Text))) (w : Text) (words : List Text) → IsOther w → bytes_eq (codes "help") w ≡ false
+    → IsFault (walk_fault (the_app names).top all_names (walk_from nothing_held) (w ∷ words))
+unfolding walk_fault
+stray_first names w words o h = fault_first _ _ (subst IsFault (sym (turn_fault-stray (the_app names).top w o h)) (refl, (refl, tt)))
+
+judged_other : (names : Bor (List (Bor Text))) (w : Text) (words : List Text) (is_help : Bool) → bytes_eq (codes "help") w ≡ is_help → IsOther w
+    → IsFault (built_fault (the_app names) nothing_held (w ∷ words)) ⊎ ((asks_help (w ∷ words) ≡ true) × IsSomeKind (built_fault (the_app names) nothing_held (w ∷ words)))
+judged_other names w words true h o =
+    let is : codes "help" ≡ w = (bytes_eq-Decides (codes "help") w).0 h in
+    inr (h, subst (λ (v : Text). IsSomeKind (built_fault (the_app names) nothing_held (v ∷ words))) is (help_fault names words))
+judged_other names w words false h o = inl (fault_first _ _ (stray_first names w words o h))
+
+-- the words that follow a subcommand's name are judged
+judged_named : (names : Bor (List (Bor Text))) (Help : Type 0) (name w : Text) (words : List Text) (fault : Kinds) (asked told : Option Asked) → name ≡ w
+    → built_fault (the_app names) nothing_held (name ∷ words) ≡ fault → told_of (stop_in names (name ∷ words)) ≡ told → IsJudged Help fault asked told
+    → IsJudged Help (built_fault (the_app names) nothing_held (w ∷ words)) asked (told_of (stop_in names (w ∷ words)))
+judged_named names Help name w words fault asked told is f t j =
+    subst (λ (v : Text). IsJudged Help (built_fault (the_app names) nothing_held (v ∷ words)) asked (told_of (stop_in names (v ∷ words)))) is
+    (subst (λ x. IsJudged Help x asked (told_of (stop_in names (name ∷ words)))) (sym f) (subst (λ x. IsJudged Help fault asked x) (sym t) j))
+
+-- what the words behind the first one ask for, by whether it is the name of each subcommand
+abbrev asked_if : List Text → Bool → Bool → Bool → Bool → Bool → Bool → Bool → Option Asked
+asked_if words is_audit is_audits is_explain is_draw is_solve is_format is_run =
+    if is_audit then option_map audit (paths_asked words)
+    else (if is_audits then list_asked words
+    else (if is_explain then option_map explain (paths_asked words)
+    else (if is_draw then option_map draw (paths_asked words)
+    else (if is_solve then option_map solve (task_asked words)
+    else (if is_format then option_map format (store_asked words)
+    else (if is_run then option_map run (store_asked words) else None))))))
+
+judged_first : (names : Bor (List (Bor Text))) (w : Text) (words : List Text) (is_audit is_audits is_explain is_draw is_solve is_format is_run : Bool)
+    → bytes_eq (codes "audit") w ≡ is_audit → bytes_eq (codes "audits") w ≡ is_audits → bytes_eq (codes "explain") w ≡ is_explain → bytes_eq (codes "draw") w ≡ is_draw
+    → bytes_eq (codes "solve") w ≡ is_solve → bytes_eq (codes "format") w ≡ is_format → bytes_eq (codes "run") w ≡ is_run → IsKindNames names → ArePositional (w ∷ words)
+    → IsJudged (asks_help (w ∷ words) ≡ true) (built_fault (the_app names) nothing_held (w ∷ words)) (asked_if words is_audit is_audits is_explain is_draw is_solve is_format is_run)
+    (told_of (stop_in names (w ∷ words)))
+judged_first names w words true is_audits is_explain is_draw is_solve is_format is_run e1 e2 e3 e4 e5 e6 e7 kinds p =
+    let rest = (both_true _ _ p).1 in
+    judged_named names _ (codes "audit") w words _ _ _ ((bytes_eq-Decides (codes "audit") w).0 e1) (audit_words_fault names words) (audit_stop names words)
+    (judged_paths _ audit (codes "audit") names words kinds rest)
+judged_first names w words false true is_explain is_draw is_solve is_format is_run e1 e2 e3 e4 e5 e6 e7 kinds p =
+    let rest = (both_true _ _ p).1 in
+    judged_named names _ (codes "audits") w words _ _ _ ((bytes_eq-Decides (codes "audits") w).0 e2) (audits_words_fault names words) (audits_stop names words)
+    (judged_list _ names words kinds rest)
+judged_first names w words false false true is_draw is_solve is_format is_run e1 e2 e3 e4 e5 e6 e7 kinds p =
+    let rest = (both_true _ _ p).1 in
+    judged_named names _ (codes "explain") w words _ _ _ ((bytes_eq-Decides (codes "explain") w).0 e3) (explain_words_fault names words) (explain_stop names words)
+    (judged_paths _ explain (codes "explain") names words kinds rest)
+judged_first names w words false false false true is_solve is_format is_run e1 e2 e3 e4 e5 e6 e7 kinds p =
+    let rest = (both_true _ _ p).1 in
+    judged_named names _ (codes "draw") w words _ _ _ ((bytes_eq-Decides (codes "draw") w).0 e4) (draw_words_fault names words) (draw_stop names words)
+    (judged_paths _ draw (codes "draw") names words kinds rest)
+judged_first names w words false false false false true is_format is_run e1 e2 e3 e4 e5 e6 e7 kinds p =
+    let rest = (both_true _ _ p).1 in
+    judged_named names _ (codes "solve") w words _ _ _ ((bytes_eq-Decides (codes "solve") w).0 e5) (solve_words_fault names words) (solve_stop names words)
+    (judged_task _ names words kinds rest)
+judged_first names w words false false false false false true is_run e1 e2 e3 e4 e5 e6 e7 kinds p =
+    let rest = (both_true _ _ p).1 in
+    judged_named names _ (codes "format") w words _ _ _ ((bytes_eq-Decides (codes "format") w).0 e6) (format_words_fault names words) (format_stop names words)
+    (judged_store _ format (codes "format") words rest)
+judged_first names w words false false false false false false true e1 e2 e3 e4 e5 e6 e7 kinds p =
+    let rest = (both_true _ _ p).1 in
+    judged_named names _ (codes "run") w words _ _ _ ((bytes_eq-Decides (codes "run") w).0 e7) (run_words_fault names words) (run_stop names words)
+    (judged_store _ run (codes "run") words rest)
+judged_first names w words false false false false false false false e1 e2 e3 e4 e5 e6 e7 kinds p =
+    inr (
+      judged_other names w words (bytes_eq (codes "help") w) refl (record {
+        positional = (both_true _ _ p).0;
+        no_audit = e1;
+        no_audits = e2;
+        no_explain = e3;
+        no_draw = e4;
+        no_solve = e5;
+        no_format = e6;
+        no_run = e7;
+      }),
+      refl,
+    )
+
+-- the parse of words that do not begin with a hyphen
+pub judged_words : (names : Bor (List (Bor Text))) (words : List Text) → IsKindNames names → ArePositional words
+    → IsJudged (asks_help words ≡ true) (built_fault (the_app names) nothing_held words) (asked_by words) (told_of (stop_in names words))
+judged_words names [] kinds p = inl (no_words names, refl)
+judged_words names (w ∷ words) kinds p =
+    judged_first names w words (bytes_eq (codes "audit") w) (bytes_eq (codes "audits") w) (bytes_eq (codes "explain") w) (bytes_eq (codes "draw") w) (bytes_eq (codes "solve") w)
+    (bytes_eq (codes "format") w) (bytes_eq (codes "run") w) refl refl refl refl refl refl refl kinds p
+
+-- ---- the values of words
+
+pub value_is : (f : Found) (id : Text) (o : Option Text) → o ≡ first_value f id → first_of id (rows_of f) ≡ o
+value_is f id o e = sym (e ∙ first_value-rows f id)
+
+unnamed_kind : (k : Text) (i s : Option Text) → kind_named k ≡ None → paths_from (Some k) i s ≡ None
+unnamed_kind k None s e = refl
+unnamed_kind k (Some i) None e = refl
+unnamed_kind k (Some i) (Some s) e = rw e refl
+
+module _ (f : Found) where
+  pub three_found : (k i s : Text) (kind : Kind) → Some k ≡ first_value f (codes "KIND") → Some i ≡ first_value f (codes "INSTANCE") → Some s ≡ first_value f (codes "SOLUTION") → Some kind ≡ kind_named k
+      → Some (record { kind = kind; instance = i; solution = s }) ≡ paths_in (rows_of f)
+  three_found k i s kind ek ei es named =
+      let named' : kind_named k ≡ Some kind = sym named in
+      rw (value_is f (codes "KIND") (Some k) ek, value_is f (codes "INSTANCE") (Some i) ei, value_is f (codes "SOLUTION") (Some s) es, named') refl
+
+  pub no_kind_word : None ≡ first_value f (codes "KIND") → None ≡ paths_in (rows_of f)
+  no_kind_word ek = rw (value_is f (codes "KIND") None ek) refl
+
+  pub no_kind : (k : Text) → Some k ≡ first_value f (codes "KIND") → None ≡ kind_named k → None ≡ paths_in (rows_of f)
+  no_kind k ek unnamed = sym (rw (value_is f (codes "KIND") (Some k) ek) (unnamed_kind k _ _ (sym unnamed)))
+
+  pub no_instance : (k : Text) → Some k ≡ first_value f (codes "KIND") → None ≡ first_value f (codes "INSTANCE") → None ≡ paths_in (rows_of f)
+  no_instance k ek ei = rw (value_is f (codes "KIND") (Some k) ek, value_is f (codes "INSTANCE") None ei) refl
+
+  pub no_solution : (k i : Text) → Some k ≡ first_value f (codes "KIND") → Some i ≡ first_value f (codes "INSTANCE") → None ≡ first_value f (codes "SOLUTION") → None ≡ paths_in (rows_of f)
+  no_solution k i ek ei es = rw (value_is f (codes "KIND") (Some k) ek, value_is f (codes "INSTANCE") (Some i) ei, value_is f (codes "SOLUTION") None es) refl
+
+  -- of `audits`
+  unnamed_list : (k : Text) (l : Option Text) → kind_named k ≡ None → list_from (Some k) l ≡ None
+  unnamed_list k None e = refl
+  unnamed_list k (Some l) e = rw e refl
+
+  pub no_list_kind : None ≡ first_value f (codes "KIND") → None ≡ list_in (rows_of f)
+  no_list_kind ek = rw (value_is f (codes "KIND") None ek) refl
+
+  pub no_kind_of_list : (k : Text) → Some k ≡ first_value f (codes "KIND") → None ≡ kind_named k → None ≡ list_in (rows_of f)
+  no_kind_of_list k ek unnamed = sym (rw (value_is f (codes "KIND") (Some k) ek) (unnamed_list k _ (sym unnamed)))
+
+  pub no_list_path : (k : Text) → Some k ≡ first_value f (codes "KIND") → None ≡ first_value f (codes "LIST") → None ≡ list_in (rows_of f)
+  no_list_path k ek el = rw (value_is f (codes "KIND") (Some k) ek, value_is f (codes "LIST") None el) refl
+
+  pub list_found : (k l : Text) (kind : Kind) → Some k ≡ first_value f (codes "KIND") → Some l ≡ first_value f (codes "LIST") → Some kind ≡ kind_named k → Some (audits kind l) ≡ list_in (rows_of f)
+  list_found k l kind ek el named =
+      let named' : kind_named k ≡ Some kind = sym named in
+      rw (value_is f (codes "KIND") (Some k) ek, value_is f (codes "LIST") (Some l) el, named') refl
+
+  -- of `solve`
+  abbrev IsValue : Text → Option Text → Type 0
+  IsValue id o = o ≡ first_value f id
+
+  pub task_is : (k i n : Option Text) → IsValue (codes "KIND") k → IsValue (codes "INSTANCE") i → IsValue (codes "STEPS") n → task_in (rows_of f) ≡ task_with k i n (first_of (codes "SEED") (rows_of f))
+  task_is k i n ek ei en = rw (value_is f (codes "KIND") k ek, value_is f (codes "INSTANCE") i ei, value_is f (codes "STEPS") n en) refl
+
+-- words that ask for no task
+pub no_task_kind : (i n s : Option Text) → task_with None i n s ≡ None
+no_task_kind i n s = refl
+
+pub no_kind_of_task : (k : Text) (i n s : Option Text) → kind_named k ≡ None → task_with (Some k) i n s ≡ None
+no_kind_of_task k None n s e = refl
+no_kind_of_task k (Some i) None s e = refl
+no_kind_of_task k (Some i) (Some n) s e = ap (λ o. task_from o i (steps_named n) (seed_or_none s)) e
+
+pub no_task_instance : (k : Text) (n s : Option Text) → task_with (Some k) None n s ≡ None
+no_task_instance k n s = refl
+
+pub no_task_steps : (k i : Text) (s : Option Text) → task_with (Some k) (Some i) None s ≡ None
+no_task_steps k i s = refl
+
+no_steps_from : (o : Option Kind) (i : Text) (s : Option ℕ) → task_from o i None s ≡ None
+no_steps_from None i s = refl
+no_steps_from (Some k) i s = refl
+
+pub bad_steps : (k i n : Text) (s : Option Text) → steps_named n ≡ None → task_with (Some k) (Some i) (Some n) s ≡ None
+bad_steps k i n s e = ap (λ o. task_from (kind_named k) i o (seed_or_none s)) e ∙ no_steps_from (kind_named k) i (seed_or_none s)
+
+no_seed_from : (o : Option Kind) (i : Text) (n : Option ℕ) → task_from o i n None ≡ None
+no_seed_from None i n = refl
+no_seed_from (Some k) i None = refl
+no_seed_from (Some k) i (Some n) = refl
+
+pub bad_seed : (k i n : Text) (s : Option Text) → seed_or_none s ≡ None → task_with (Some k) (Some i) (Some n) s ≡ None
+bad_seed k i n s e = ap (λ o. task_from (kind_named k) i (steps_named n) o) e ∙ no_seed_from (kind_named k) i (steps_named n)
+
+pub task_found : (k i n : Text) (s : Option Text) (kind : Kind) (steps seed : ℕ) → kind_named k ≡ Some kind → steps_named n ≡ Some steps → seed_or_none s ≡ Some seed
+    → task_with (Some k) (Some i) (Some n) s ≡ Some (record { kind = kind; instance = i; steps = steps; seed = seed })
+task_found k i n s kind steps seed ek en es =
+    ap (λ o. task_from o i (steps_named n) (seed_or_none s)) ek ∙ (ap (λ o. task_from (Some kind) i o (seed_or_none s)) en ∙ ap (λ o. task_from (Some kind) i (Some steps) o) es)
+
+-- ---- the parse
+
+simple_app : (names : Bor (List (Bor Text))) → is_simple_and_free (planner_app names) ≡ true
+simple_app names = refl
+
+is_simple_app : (names : Bor (List (Bor Text))) → is_simple (planner_app names) ≡ true
+is_simple_app names = refl
+
+pub is_simple_command : (command : Command) → IsPlannerCommand command → is_simple_and_free (app_of command) ≡ true
+is_simple_command command h = ap is_simple_and_free h.app ∙ simple_app h.names
+
+judged_app : (names : Bor (List (Bor Text))) (texts : List Text) → IsKindNames names → ArePositional (drop 1 texts)
+    → IsJudged (asks_help (drop 1 texts) ≡ true) (fault_of (planner_app names) texts) (asked_by (drop 1 texts)) (told_of (subcommand_of (planner_app names) texts))
+judged_app names texts kinds p = judged_words names (drop 1 texts) kinds p
+
+pub judged : (command : Command) (texts : List Text) → IsPlannerCommand command → ArePositional (drop 1 texts)
+    → IsJudged (asks_help (drop 1 texts) ≡ true) (fault_of (app_of command) texts) (asked_by (drop 1 texts)) (told_of (subcommand_of (app_of command) texts))
+judged command texts h p =
+    subst (λ (a : App). IsJudged (asks_help (drop 1 texts) ≡ true) (fault_of a texts) (asked_by (drop 1 texts)) (told_of (subcommand_of a texts))) (sym h.app)
+    (judged_app h.names texts h.kinds p)
+
+mistakes : (faults : Kinds) → IsFault faults → AreMistakes faults
+mistakes [] h = absurd h
+mistakes (k ∷ ks) h = h
+
+mistake_among : (k : ErrorKind) (faults : Kinds) → AreMistakes faults → IsAmong k faults → usage_status_of k ≡ 64
+mistake_among k [] h a = absurd a
+mistake_among k (x ∷ xs) h (inl e) = ap usage_status_of e ∙ h.0
+mistake_among k (x ∷ xs) h (inr a) = mistake_among k xs h.1 a
+
+pub refused : (words : List Text) (faults : Kinds) (told : Option Asked) (e : Error) → IsJudged (asks_help words ≡ true) faults (asked_by words) told → HasKind faults e → IsRefusal words e
+refused words faults told e (inl passed) has =
+    let in_none : HasKind [] e = subst (λ (f : Kinds). HasKind f e) passed.0 has in
+    elim in_none [ inl m ↦ inl m | inr none ↦ absurd none ]
+refused words faults told e (inr failing) has =
+    elim has [
+      | inl m ↦ inl m
+      | inr among ↦ inr (
+        failing.1,
+        elim failing.0 [
+          | inl fault ↦ inr (mistake_among (kind_of e) faults (mistakes faults fault) among)
+          | inr help ↦ inl help.0
+        ],
+      )
+    ]
+
+nothing_failed : (faults : Kinds) → faults ≡ [] → IsSomeKind faults → ⊥
+nothing_failed faults none h = subst IsSomeKind none h
+
+pub accepted : (Help : Type 0) (faults : Kinds) (asked told : Option Asked) → IsJudged Help faults asked told → faults ≡ [] → asked ≡ told
+accepted Help faults asked told (inl passed) none = passed.1
+accepted Help faults asked told (inr failing) none =
+    elim failing.0 [ inl fault ↦ absurd (subst IsFault none fault) | inr help ↦ absurd (nothing_failed faults none help.1) ]
+
+-- what a parse that gives matches says of the words
+pub parsed : (command : Command) (texts : List Text) (m : ArgMatches) → IsPlannerCommand command → ArePositional (drop 1 texts) → (is_simple_and_free (app_of command) ≡ true → fault_of (app_of command) texts ≡ [])
+    → HasMatchesOf (app_of command) texts m → asked_by (drop 1 texts) ≡ told_of (subcommand_rows_of m)
+parsed command texts m h p no_fault matches =
+    accepted _ _ _ _ (judged command texts h p) (no_fault (is_simple_command command h)) ∙ ap told_of (sym (matches (ap is_simple h.app ∙ is_simple_app h.names)).1)
+
+-- `?` passes the error up as it is
+pub passed_up : (words : List Text) (r : Result Invocation Error) (e : Error) → IsErrAnd r (λ y. y ≡ e) → IsRefusal words e → Reads words r
+passed_up words (Ok x) e is h = absurd is
+passed_up words (Err y) e is h = subst (λ (z : Error). IsRefusal words z) (sym is) h
+
+-- ---- the subcommand's name and its rows
+
+abbrev pair_with : {B : Type 0} → (B → Text) → (B → List Row) → Option B → Option (Text × List Row)
+pair_with f g o = option_map {U = Text × List Row} (λ b. (f b, g b)) o
+
+paired : {B : Type 0} (o : Option B) (f : B → Text) (g : B → List Row) (n : Text) (r : List Row) → Some n ≡ option_map f o → Some r ≡ option_map (λ (p : Text × List Row). p.1) (pair_with f g o)
+    → pair_with f g o ≡ Some (n, r)
+paired None f g n r en er = cc
+paired (Some b) f g n r en er =
+    let e : f b ≡ n = cc in
+    let e' : g b ≡ r = cc in
+    rw (e, e') refl
+
+pub told_name : (m : ArgMatches) (n : Text) (r : List Row) → Some n ≡ subcommand_name_of m → Some r ≡ option_map (λ (p : Text × List Row). p.1) (subcommand_rows_of m) → told_by n r ≡ told_of (subcommand_rows_of m)
+told_name m n r en er =
+    sym (ap told_of (paired (out-ArgMatches m).subcommand (λ b. (out-SubCommand (box_value b)).name.now) (λ b. rows_of (found_of (out-SubCommand (box_value b)).matches)) n r en er))

@@ -1,0 +1,29 @@
+-- The subcommands are added in turn to a command that tells its version.
+use Rattle.std.proofs.Common.{◌≡◌, ◌∙◌, ap, codes, Bor, List, true}
+use Rattle.std.proofs.lemmas.Result.{IfOk-weaker}
+use Rattle.clap.specs.Simple.{app_of_fields, on_top}
+use Rattle.clap.specs.Words.{App, Shape, Text, app_of, new_app, with_subcommand}
+use Rattle.clap.specs.declared.builder.command.Command.{Command}
+use Rattle.command_line.specs.CommandLine.{IsKindNames, audits_app, paths_app, planner_app, solve_app, store_app, versioned_app}
+use Rattle.command_line.proofs.words.planner_command.Goals as goal
+
+pub returns : goal.returns
+returns c =
+    let names : Bor (List (Bor Text)) = c.kind_names-kinds.result in
+    let kinds : IsKindNames names = c.kind_names-kinds.ensures in
+    let new_is : app_of c.about.result ≡ new_app (codes "planner") = ap app_of_fields c.about.ensures ∙ c.new.ensures.app in
+    let none_is : app_of c.after_help-planner.result ≡ versioned_app (codes "planner") =
+    ap app_of_fields c.after_help-planner.ensures ∙ (ap app_of_fields c.version.ensures ∙ ap (on_top (λ (s : Shape). record s { has_version = true })) new_is) in
+    let audit = with_subcommand (versioned_app (codes "planner")) (paths_app (codes "audit") names).top in
+    let audits = with_subcommand audit (audits_app names).top in
+    let explain = with_subcommand audits (paths_app (codes "explain") names).top in
+    let draw = with_subcommand explain (paths_app (codes "draw") names).top in
+    let solve = with_subcommand draw (solve_app names).top in
+    let one = c.in_ok-planner.ensures (versioned_app (codes "planner")) (paths_app (codes "audit") names) none_is c.in_ok-audit.ensures in
+    let two = c.in_ok-planner-2.ensures audit (audits_app names) one c.in_ok-audits_command.ensures in
+    let three = c.in_ok-planner-3.ensures audits (paths_app (codes "explain") names) two c.in_ok-explain.ensures in
+    let four = c.in_ok-planner-4.ensures explain (paths_app (codes "draw") names) three c.in_ok-draw.ensures in
+    let five = c.in_ok-planner-5.ensures draw (solve_app names) four c.in_ok-solve_command.ensures in
+    let six = c.in_ok-with_command.ensures solve (store_app (codes "format")) five c.in_ok-format.ensures in
+    IfOk-weaker c.with_command-7.result _ _ (λ (command : Command) (is : app_of command ≡ planner_app names). record { names = names; kinds = kinds; app = is })
+    (c.with_command-7.ensures (with_subcommand solve (store_app (codes "format")).top) (store_app (codes "run")) six c.in_ok-run.ensures)

@@ -1,0 +1,197 @@
+-- What the words of the command line ask for, those after the program's name.
+use Rattle.std.specs.Prelude.{◌≡◌, ◌==◌, ◌⊎◌, ℕ, Bool, true, false, not, List, [], ◌∷◌, codes, Option, Some, None, Result, MatchResult, if◌then◌else◌, option_and_then, option_map}
+use Rattle.std.specs.List.{list_all}
+use Rattle.std.specs.Str.{bytes_eq}
+use Rattle.clap.specs.Words.{Row, Text, first_of, kind_of}
+use Rattle.clap.specs.declared.error.Error.{Error}
+use Rattle.clap.specs.declared.error.kind.ErrorKind.TheVariants.{DisplayHelp, DisplayVersion, OutOfMemory}
+use Rattle.clap.specs.declared.error.kind.ErrorKind.{ErrorKind}
+use Rattle.plan_types.specs.declared.requests.Kind.{Kind}
+use Rattle.plan_types.specs.declared.requests.Kind.TheVariants.{LiLim, Vrp}
+use Rattle.command_text.specs.Asking.{field_in}
+use Rattle.text_lines.specs.Numbers.{below, digits_of}
+use Rattle.command_line.specs.declared.words.Paths.{Paths}
+use Rattle.command_line.specs.declared.words.Invocation.{Invocation}
+use Rattle.command_line.specs.declared.words.Invocation.TheVariants.{Audit, Audits, BuiltIn, Draw, Explain, Format, Run, Solve}
+use Rattle.command_line.specs.declared.words.Task.{Task}
+
+-- two files of a kind of instance, by their paths
+pub record PathsAsked : Type 0 where
+  pub kind : Kind
+  pub instance : Text
+  pub solution : Text
+
+-- an instance's file, and a search
+pub record TaskAsked : Type 0 where
+  pub kind : Kind
+  pub instance : Text
+  pub steps : ℕ
+  pub seed : ℕ
+
+-- The audit of the two built-in texts, or of two files; the audits of a list; the audit of two files with what it rests on, or the picture
+-- of the solution; the solving of an instance; a store made in a file, or commands over one.
+pub data Asked : Type 0 where
+  built_in : Asked
+  audit : PathsAsked → Asked
+  audits : Kind → Text → Asked
+  explain : PathsAsked → Asked
+  draw : PathsAsked → Asked
+  solve : TaskAsked → Asked
+  format : Text → Asked
+  run : Text → Asked
+
+abbrev pub paths_of : Paths → PathsAsked
+paths_of paths = record { kind = paths.kind; instance = paths.instance.now; solution = paths.solution.now }
+
+abbrev pub task_of : Task → TaskAsked
+task_of task = record { kind = task.kind; instance = task.instance.now; steps = task.steps; seed = task.seed }
+
+abbrev pub asked_of : Invocation → Asked
+asked_of BuiltIn = built_in
+asked_of (Audit paths) = audit (paths_of paths)
+asked_of (Audits kind list) = audits kind list.now
+asked_of (Explain paths) = explain (paths_of paths)
+asked_of (Draw paths) = draw (paths_of paths)
+asked_of (Solve task) = solve (task_of task)
+asked_of (Format store) = format store.now
+asked_of (Run store) = run store.now
+
+-- the kind of instance that a word names
+abbrev pub kind_named : Text → Option Kind
+kind_named word = if bytes_eq (codes "lilim") word then Some LiLim else (if bytes_eq (codes "vrp") word then Some Vrp else None)
+
+-- a number of steps, in digits alone
+abbrev pub steps_named : Text → Option ℕ
+steps_named word = below 1000000001 (digits_of word)
+
+-- a seed, as a line of commands names one, with no minus
+abbrev pub seed_named : Text → Option ℕ
+seed_named [] = None
+seed_named (b ∷ bs) = if b == 45 then None else option_and_then (λ f. f.unsigned) (field_in (b ∷ bs))
+
+-- the seed where none is named is 0
+abbrev pub seed_or_none : Option Text → Option ℕ
+seed_or_none None = Some 0
+seed_or_none (Some word) = seed_named word
+
+-- `KIND INSTANCE SOLUTION`
+abbrev pub paths_asked : List Text → Option PathsAsked
+paths_asked (kind ∷ instance ∷ solution ∷ []) = option_map (λ k. record { kind = k; instance = instance; solution = solution }) (kind_named kind)
+paths_asked _ = None
+
+-- `KIND LIST`
+abbrev pub list_asked : List Text → Option Asked
+list_asked (kind ∷ list ∷ []) = option_map (λ k. audits k list) (kind_named kind)
+list_asked _ = None
+
+abbrev pub task_from : Option Kind → Text → Option ℕ → Option ℕ → Option TaskAsked
+task_from (Some kind) instance (Some steps) (Some seed) = Some (record { kind = kind; instance = instance; steps = steps; seed = seed })
+task_from _ _ _ _ = None
+
+-- `KIND INSTANCE STEPS [SEED]`
+abbrev pub task_asked : List Text → Option TaskAsked
+task_asked (kind ∷ instance ∷ steps ∷ []) = task_from (kind_named kind) instance (steps_named steps) (Some 0)
+task_asked (kind ∷ instance ∷ steps ∷ seed ∷ []) = task_from (kind_named kind) instance (steps_named steps) (seed_named seed)
+task_asked _ = None
+
+-- `STORE`
+abbrev pub store_asked : List Text → Option Text
+store_asked (store ∷ []) = Some store
+store_asked _ = None
+
+-- what the command of this name asks for with these words; no other has this name
+abbrev pub asked_with : List Text → Text → Option Asked
+asked_with words command = if bytes_eq (codes "audit") command then option_map audit (paths_asked words)
+    else (if bytes_eq (codes "audits") command then list_asked words
+    else (if bytes_eq (codes "explain") command then option_map explain (paths_asked words)
+    else (if bytes_eq (codes "draw") command then option_map draw (paths_asked words)
+    else (if bytes_eq (codes "solve") command then option_map solve (task_asked words)
+    else (if bytes_eq (codes "format") command then option_map format (store_asked words)
+    else (if bytes_eq (codes "run") command then option_map run (store_asked words) else None))))))
+
+-- no words, or a command with its own
+abbrev pub asked_by : List Text → Option Asked
+asked_by [] = Some built_in
+asked_by (command ∷ words) = asked_with words command
+
+-- what the values of `KIND INSTANCE SOLUTION` ask for
+abbrev pub paths_from : Option Text → Option Text → Option Text → Option PathsAsked
+paths_from (Some kind) (Some instance) (Some solution) = paths_asked (kind ∷ instance ∷ solution ∷ [])
+paths_from _ _ _ = None
+
+abbrev pub paths_in : List Row → Option PathsAsked
+paths_in rows = paths_from (first_of (codes "KIND") rows) (first_of (codes "INSTANCE") rows) (first_of (codes "SOLUTION") rows)
+
+-- those of `KIND LIST`
+abbrev pub list_from : Option Text → Option Text → Option Asked
+list_from (Some kind) (Some list) = list_asked (kind ∷ list ∷ [])
+list_from _ _ = None
+
+abbrev pub list_in : List Row → Option Asked
+list_in rows = list_from (first_of (codes "KIND") rows) (first_of (codes "LIST") rows)
+
+-- those of `KIND INSTANCE STEPS [SEED]`
+abbrev pub task_with : Option Text → Option Text → Option Text → Option Text → Option TaskAsked
+task_with (Some kind) (Some instance) (Some steps) seed = task_from (kind_named kind) instance (steps_named steps) (seed_or_none seed)
+task_with _ _ _ _ = None
+
+abbrev pub task_in : List Row → Option TaskAsked
+task_in rows = task_with (first_of (codes "KIND") rows) (first_of (codes "INSTANCE") rows) (first_of (codes "STEPS") rows) (first_of (codes "SEED") rows)
+
+-- the value of `STORE`
+abbrev pub store_in : List Row → Option Text
+store_in rows = first_of (codes "STORE") rows
+
+-- what `format` or `run` asks for
+abbrev pub told_of_store : Text → List Row → Option Asked
+told_of_store name rows = if bytes_eq (codes "format") name then option_map format (store_in rows) else option_map run (store_in rows)
+
+-- what a subcommand asks for that takes no solution; there is no other one than these
+abbrev pub told_by_other : Text → List Row → Option Asked
+told_by_other name rows =
+    if bytes_eq (codes "audits") name then list_in rows
+    else (if bytes_eq (codes "solve") name then option_map solve (task_in rows) else told_of_store name rows)
+
+-- what the subcommand of this name asks for
+abbrev pub told_by : Text → List Row → Option Asked
+told_by name rows = if bytes_eq (codes "audit") name then option_map audit (paths_in rows)
+    else (if bytes_eq (codes "explain") name then option_map explain (paths_in rows)
+    else (if bytes_eq (codes "draw") name then option_map draw (paths_in rows) else told_by_other name rows))
+
+-- what the subcommand asks for
+abbrev pub told_of : Option (Text × List Row) → Option Asked
+told_of None = Some built_in
+told_of (Some found) = told_by found.0 found.1
+
+-- the word does not begin with a hyphen, or has this byte alone
+abbrev pub is_positional_word : Text → Bool
+is_positional_word (b ∷ c ∷ bs) = not (b == 45)
+is_positional_word _ = true
+
+abbrev pub ArePositional : List Text → Type 0
+ArePositional words = list_all is_positional_word words ≡ true
+
+-- help is asked for (the version only by a word that begins with a hyphen)
+abbrev pub asks_help : List Text → Bool
+asks_help [] = false
+asks_help (command ∷ words) = bytes_eq (codes "help") command
+
+-- the status that tells an error of the words: none for help or the version that was asked for, and one of its own for want of memory
+abbrev pub usage_status_of : ErrorKind → ℕ
+usage_status_of DisplayHelp = 0
+usage_status_of DisplayVersion = 0
+usage_status_of OutOfMemory = 4
+usage_status_of _ = 64
+
+-- an error other than for want of memory comes only where the words ask for nothing, and is told as a mistake but where
+-- they ask for help
+abbrev pub IsRefusal : List Text → Error → Type 0
+IsRefusal words error = (kind_of error ≡ OutOfMemory) ⊎ ((asked_by words ≡ None) × ((asks_help words ≡ true) ⊎ (usage_status_of (kind_of error) ≡ 64)))
+
+-- what is read is what the words ask for
+abbrev pub Reads : List Text → Result Invocation Error → Type 0
+Reads words r = MatchResult r (λ invocation. asked_by words ≡ Some (asked_of invocation)) (IsRefusal words)
+
+-- a status of words that ask for nothing: of their own, or of what could not be printed and of want of memory
+abbrev pub IsUsageStatus : ℕ → Type 0
+IsUsageStatus status = (status ≡ 64) ⊎ ((status ≡ 3) ⊎ (status ≡ 4))

@@ -1,0 +1,350 @@
+//! The words of the command line.
+ghost use Rattle.std.specs.Prelude.{◌≡◌, IfOk, codes, drop, map, option_and_then, option_map};
+ghost use Rattle.clap.specs.Words.{App, Rule, app_of, first_of, found_of, kind_of, rows_of, subcommand_rows_of, with_rule, with_subcommand};
+ghost use Rattle.command_text.specs.Asking.{field_in};
+ghost use Rattle.command_line.specs.Asked.{ArePositional, Reads, asked_of, paths_in, paths_of, kind_named, list_in, seed_named, seed_or_none, steps_named, store_in, task_in, task_of, told_by, told_by_other, told_of, told_of_store};
+ghost use Rattle.command_line.specs.CommandLine.{IsKindNames, IsLeafCommand, IsPlannerCommand, IsWord, audits_app, paths_app, kind_rule, solve_app, store_app, word_rule};
+
+use crate::help::{
+    ABOUT, AUDIT_ABOUT, AUDIT_ANSWERS, AUDITS_ABOUT, AUDITS_ANSWERS, DRAW_ABOUT, DRAW_ANSWERS,
+    EXPLAIN_ABOUT, EXPLAIN_ANSWERS, FORMAT_ABOUT, FORMAT_ANSWERS, RUN_ABOUT, RUN_ANSWERS,
+    SOLVE_ABOUT, SOLVE_ANSWERS, STATUSES, VERSION,
+};
+use clap::error::ErrorKind;
+use clap::{Arg, ArgMatches, Command, Error};
+use plan_types::{Kind, OutOfMemory};
+use std::alloc::Global;
+use std::convert::AsStr;
+use text_lines::{Number, digits_to_u32};
+
+/// An instance and a solution, by the paths of their files as they stand.
+#[derive(Clone, Copy, Debug)]
+pub struct Paths<'a> {
+    pub kind: Kind,
+    pub instance: &'a str,
+    pub solution: &'a str,
+}
+
+/// An instance, by the path of its file as it stands, and a search from the plan that is built of it.
+#[derive(Clone, Copy, Debug)]
+pub struct Task<'a> {
+    pub kind: Kind,
+    pub instance: &'a str,
+    /// How many steps the search makes, 0..=1,000,000,000.
+    pub steps: u32,
+    pub seed: u64,
+}
+
+/// What the words of the command line ask for.
+#[derive(Clone, Copy, Debug)]
+pub enum Invocation<'a> {
+    /// No words: the audit of the two texts that are built in.
+    BuiltIn,
+    /// `audit KIND INSTANCE SOLUTION`: the audit of two files.
+    Audit(Paths<'a>),
+    /// `audits KIND LIST`: the audits of the pairs of files that the lines of this file name.
+    Audits { kind: Kind, list: &'a str },
+    /// `explain KIND INSTANCE SOLUTION`: the audit of two files, and what it rests on.
+    Explain(Paths<'a>),
+    /// `draw KIND INSTANCE SOLUTION`: the picture of a solution.
+    Draw(Paths<'a>),
+    /// `solve KIND INSTANCE STEPS [SEED]`: a solution of the instance in this file.
+    Solve(Task<'a>),
+    /// `format STORE`: an empty store in the file of this path.
+    Format { store: &'a str },
+    /// `run STORE`: the commands of standard input, over the store in this file.
+    Run { store: &'a str },
+}
+
+/// The greatest number of steps.
+const MAX_STEPS: u32 = 1_000_000_000;
+
+static KIND_WORDS: [&str; 2] = ["lilim", "vrp"];
+
+/// Reads the words of the command line, the program's name first.
+///
+/// An error is clap's: its text is what the user sees, on standard output where help was asked for.
+pub fn read_words<'a, S: AsStr>(alloc: Global, words: &'a [S]) -> Result<Invocation<'a>, Error>
+    ensures { let asked = drop 1 (map S.text words.entry.now) in
+        ArePositional asked → Reads asked result }
+{
+    let matches = planner_command(alloc)?.try_get_matches_from(words)?;
+    match asked_words(&matches) {
+        Some(invocation) => Ok(invocation),
+        None => Err(bad_number(alloc)?),
+    }
+}
+
+/// The error for words that the parser let pass: a number is none, or too great.
+fn bad_number(alloc: Global) -> Result<Error, OutOfMemory>
+    ensures { IfOk result (λ error. kind_of error ≡ ErrorKind.InvalidValue) }
+{
+    planner_command(alloc)?.error(
+        ErrorKind::InvalidValue,
+        "STEPS is 0 to 1000000000 and SEED 0 to 18446744073709551615, in digits alone",
+    )
+}
+
+fn planner_command<'a>(alloc: Global) -> Result<Command<'a>, OutOfMemory>
+    ensures { IfOk result IsPlannerCommand }
+{
+    let kinds = kind_names();
+    let planner = Command::new(alloc, "planner")
+        .about(ABOUT)
+        .version(VERSION)
+        .after_help(STATUSES);
+    let audit = paths_command(alloc, "audit", AUDIT_ABOUT, AUDIT_ANSWERS, kinds)?;
+    let planner = with_command(planner, audit)?;
+    let planner = with_command(planner, audits_command(alloc, kinds)?)?;
+    let explain = paths_command(alloc, "explain", EXPLAIN_ABOUT, EXPLAIN_ANSWERS, kinds)?;
+    let planner = with_command(planner, explain)?;
+    let draw = paths_command(alloc, "draw", DRAW_ABOUT, DRAW_ANSWERS, kinds)?;
+    let planner = with_command(planner, draw)?;
+    let planner = with_command(planner, solve_command(alloc, kinds)?)?;
+    let format = store_command(alloc, "format", FORMAT_ABOUT, FORMAT_ANSWERS)?;
+    let run = store_command(alloc, "run", RUN_ABOUT, RUN_ANSWERS)?;
+    with_command(with_command(planner, format)?, run)
+}
+
+/// The words that name a kind of instance.
+fn kind_names<'a>() -> &'a [&'a str]
+    ensures { IsKindNames result }
+{
+    KIND_WORDS.as_slice()
+}
+
+/// A command whose one word is the path of a store.
+fn store_command<'a>(
+    alloc: Global,
+    name: &'a str,
+    about: &'a str,
+    answers: &'a str,
+) -> Result<Command<'a>, OutOfMemory>
+    ensures { IfOk result (IsLeafCommand (store_app name.entry.now)) }
+{
+    let command = Command::new(alloc, name).about(about).after_help(answers);
+    with_word(command, word(alloc, "STORE", "The file of the store"))
+}
+
+/// A command of the words `KIND INSTANCE SOLUTION`.
+fn paths_command<'a>(
+    alloc: Global,
+    name: &'a str,
+    about: &'a str,
+    answers: &'a str,
+    kinds: &'a [&'a str],
+) -> Result<Command<'a>, OutOfMemory>
+    ensures { IfOk result (IsLeafCommand (paths_app name.entry.now kinds.entry)) }
+{
+    let command = Command::new(alloc, name).about(about).after_help(answers);
+    let command = with_word(command, kind_word(alloc, kinds))?;
+    let command = with_word(command, word(alloc, "INSTANCE", "The file of the instance"))?;
+    with_word(command, word(alloc, "SOLUTION", "The file of the solution"))
+}
+
+fn audits_command<'a>(alloc: Global, kinds: &'a [&'a str]) -> Result<Command<'a>, OutOfMemory>
+    ensures { IfOk result (IsLeafCommand (audits_app kinds.entry)) }
+{
+    let command = Command::new(alloc, "audits")
+        .about(AUDITS_ABOUT)
+        .after_help(AUDITS_ANSWERS);
+    let command = with_word(command, kind_word(alloc, kinds))?;
+    with_word(
+        command,
+        word(alloc, "LIST", "The file of the list; - is standard input"),
+    )
+}
+
+fn solve_command<'a>(alloc: Global, kinds: &'a [&'a str]) -> Result<Command<'a>, OutOfMemory>
+    ensures { IfOk result (IsLeafCommand (solve_app kinds.entry)) }
+{
+    let command = Command::new(alloc, "solve")
+        .about(SOLVE_ABOUT)
+        .after_help(SOLVE_ANSWERS);
+    let command = with_word(command, kind_word(alloc, kinds))?;
+    let command = with_word(command, word(alloc, "INSTANCE", "The file of the instance"))?;
+    let command = with_word(
+        command,
+        word(alloc, "STEPS", "How many steps the search makes"),
+    )?;
+    let seed = Arg::new(alloc, "SEED").help("What the search draws its numbers by; 0 without it");
+    with_word(command, seed)
+}
+
+/// The word that names a kind of instance.
+fn kind_word<'a>(alloc: Global, kinds: &'a [&'a str]) -> Arg<'a>
+    ensures { IsWord (kind_rule kinds.entry) result }
+{
+    word(alloc, "KIND", "The format of the instance").value_parser(kinds)
+}
+
+/// A word that has to stand there.
+fn word<'a>(alloc: Global, name: &'a str, help: &'a str) -> Arg<'a>
+    ensures { IsWord (word_rule name.entry.now) result }
+{
+    Arg::new(alloc, name).required(true).help(help)
+}
+
+/// The command with one more word.
+fn with_word<'a>(command: Command<'a>, word: Arg<'a>) -> Result<Command<'a>, OutOfMemory>
+    ensures { (a : App) (r : Rule) → IsLeafCommand a command.entry → IsWord r word.entry
+        → IfOk result (IsLeafCommand (with_rule a r)) }
+{
+    command.arg(word)
+}
+
+/// The command with one more subcommand.
+fn with_command<'a>(above: Command<'a>, command: Command<'a>) -> Result<Command<'a>, OutOfMemory>
+    ensures { (a b : App) → app_of above.entry ≡ a → IsLeafCommand b command.entry
+        → IfOk result (λ new. app_of new ≡ with_subcommand a b.top) }
+{
+    above.subcommand(command)
+}
+
+/// `None` where a word is missing or names no kind, or no number.
+fn asked_words<'a>(matches: &ArgMatches<'a>) -> Option<Invocation<'a>>
+    ensures { option_map asked_of result ≡ told_of (subcommand_rows_of matches.now) }
+{
+    match matches.subcommand() {
+        Some((name, words)) => command_words(name, words),
+        None => Some(Invocation::BuiltIn),
+    }
+}
+
+/// What the words behind a command's name ask for.
+fn command_words<'a>(name: &str, words: &ArgMatches<'a>) -> Option<Invocation<'a>>
+    ensures { option_map asked_of result ≡ told_by name.now (rows_of (found_of words.now)) }
+{
+    match name {
+        "audit" => Some(Invocation::Audit(paths_words(words)?)),
+        "explain" => Some(Invocation::Explain(paths_words(words)?)),
+        "draw" => Some(Invocation::Draw(paths_words(words)?)),
+        _ => other_words(name, words),
+    }
+}
+
+/// What the words behind the name of a command ask for that takes no solution.
+fn other_words<'a>(name: &str, words: &ArgMatches<'a>) -> Option<Invocation<'a>>
+    ensures { option_map asked_of result ≡ told_by_other name.now (rows_of (found_of words.now)) }
+{
+    match name {
+        "audits" => list_words(words),
+        "solve" => Some(Invocation::Solve(task_words(words)?)),
+        _ => store_words(name, words),
+    }
+}
+
+/// What the words behind `format` or `run` ask for.
+fn store_words<'a>(name: &str, words: &ArgMatches<'a>) -> Option<Invocation<'a>>
+    ensures { option_map asked_of result ≡ told_of_store name.now (rows_of (found_of words.now)) }
+{
+    match name {
+        "format" => Some(Invocation::Format {
+            store: store_word(words)?,
+        }),
+        _ => Some(Invocation::Run {
+            store: store_word(words)?,
+        }),
+    }
+}
+
+/// The path of the store, or `None` where it is missing.
+fn store_word<'a>(matches: &ArgMatches<'a>) -> Option<&'a str>
+    ensures { option_map (λ store. store.now) result ≡ store_in (rows_of (found_of matches.now)) }
+{
+    matches.get_str("STORE")
+}
+
+/// `None` where a word is missing or names no kind.
+fn paths_words<'a>(matches: &ArgMatches<'a>) -> Option<Paths<'a>>
+    ensures { option_map paths_of result ≡ paths_in (rows_of (found_of matches.now)) }
+{
+    let kind = kind_of_word(matches.get_str("KIND")?)?;
+    let instance = matches.get_str("INSTANCE")?;
+    let solution = matches.get_str("SOLUTION")?;
+    Some(Paths {
+        kind,
+        instance,
+        solution,
+    })
+}
+
+/// `None` where a word is missing or names no kind.
+fn list_words<'a>(matches: &ArgMatches<'a>) -> Option<Invocation<'a>>
+    ensures { option_map asked_of result ≡ list_in (rows_of (found_of matches.now)) }
+{
+    let kind = kind_of_word(matches.get_str("KIND")?)?;
+    let list = matches.get_str("LIST")?;
+    Some(Invocation::Audits { kind, list })
+}
+
+/// `None` where a word is missing or names no kind, or no number.
+fn task_words<'a>(matches: &ArgMatches<'a>) -> Option<Task<'a>>
+    ensures { option_map task_of result ≡ task_in (rows_of (found_of matches.now)) }
+{
+    let kind = kind_of_word(matches.get_str("KIND")?)?;
+    let instance = matches.get_str("INSTANCE")?;
+    let steps = steps_of_word(matches.get_str("STEPS")?)?;
+    let seed = seed_of_words(matches)?;
+    Some(Task {
+        kind,
+        instance,
+        steps,
+        seed,
+    })
+}
+
+fn kind_of_word(word: &str) -> Option<Kind>
+    ensures { result ≡ kind_named word.now }
+{
+    match word {
+        "lilim" => Some(Kind::LiLim),
+        "vrp" => Some(Kind::Vrp),
+        _ => None,
+    }
+}
+
+fn steps_of_word(word: &str) -> Option<u32>
+    ensures { result ≡ steps_named word.now }
+{
+    let steps = digits_to_u32(word.as_bytes())?;
+    if steps > MAX_STEPS {
+        return None;
+    }
+    Some(steps)
+}
+
+/// The seed that is named, or 0 where none is.
+fn seed_of_words(matches: &ArgMatches<'_>) -> Option<u64>
+    ensures { result
+        ≡ seed_or_none (first_of (codes "SEED") (rows_of (found_of matches.now))) }
+{
+    match matches.get_str("SEED") {
+        Some(word) => seed_of_word(word),
+        None => Some(0),
+    }
+}
+
+fn seed_of_word(word: &str) -> Option<u64>
+    ensures { result ≡ seed_named word.now }
+{
+    seed_named(word.as_bytes())
+}
+
+fn seed_named(word: &[u8]) -> Option<u64>
+    ensures { result ≡ seed_named word.now }
+{
+    match word {
+        [] | [b'-', ..] => None,
+        _ => unsigned(word),
+    }
+}
+
+fn unsigned(word: &[u8]) -> Option<u64>
+    ensures { result ≡ option_and_then (λ f. f.unsigned) (field_in word.now) }
+{
+    match Number::parse_integer(word) {
+        Some(number) => number.to_u64(),
+        None => None,
+    }
+}

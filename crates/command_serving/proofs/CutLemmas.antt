@@ -1,0 +1,186 @@
+-- How an input that is known goes on by what was taken of it.
+use Rattle.std.proofs.Common.{◌≡◌, ◌∙◌, ℕ, ◌+◌, ◌≤◌, ◌<◌, Bool, true, false, List, [], ◌∷◌, ◌++◌, ◌⊎◌, inl, inr, Option, Some, None, Contains, length, take, drop, refl, sym, ap, subst, arith, append_assoc, append-nil, length-append}
+use Rattle.std.specs.Prelude.{OnSome, if◌then◌else◌}
+use Rattle.std.specs.Io.KnownBytes.{Consumes, IsAtEnd, Keeps, prepend_known}
+use Rattle.std.specs.Str.Lines.{strip_carriage_return}
+use Rattle.std.proofs.KnownBytes.{Consumes-trans}
+use Rattle.std.proofs.lemmas.List.Elements.{Contains-append_cases}
+use Rattle.text_lines.specs.Lines.{HasNoFeed}
+use Rattle.command_text.specs.Asking.{asked}
+use Rattle.command_text.specs.Cutting.{announced, ends, pieces_of}
+use Rattle.command_text.specs.Laws.{PiecesEnd, PiecesFollow, cut_at, piece_at}
+use Rattle.command_text.specs.declared.asked.Asked.{Asked}
+use Rattle.command_serving.specs.Input.{Counts, Cuts, CutsNext, IsLast, IsLineSoFar, IsPartOf, IsTextPart, Loads, Moves, MovesShown, TakesMore, TakesPart, TakesShown, TakesText}
+use Rattle.command_serving.specs.declared.input.LoadText.TheVariants.{Short}
+use Rattle.command_serving.specs.declared.input.Part.{Part}
+use Rattle.command_serving.specs.declared.input.LineSoFar.{LineSoFar}
+use Rattle.command_serving.specs.declared.input.TextSoFar.{TextSoFar}
+use lib.Seq.{drop-nil}
+use Rattle.command_serving.specs.declared.input.Part.TheVariants.{End, Feed, More}
+
+known_before : (old mid new : Option (List ℕ)) (seen : List ℕ) → Consumes old mid seen → OnSome mid (IsAtEnd new) → OnSome old (IsAtEnd new)
+known_before None mid new seen moves end = tt
+known_before (Some xs) None new seen moves end = absurd moves
+known_before (Some xs) (Some ys) new seen moves end = end
+
+-- ---- parts of a line
+
+no_feed_on : (a b : List ℕ) → HasNoFeed a → HasNoFeed b → HasNoFeed (a ++ b)
+no_feed_on a b p q h = at (Contains-append_cases a b 10 h)
+  where
+    at : Contains a 10 ⊎ Contains b 10 → ⊥
+    at (inl x) = p x
+    at (inr y) = q y
+
+pub part_more : (old mid new : Option (List ℕ)) (before after : LineSoFar) (n : ℕ) → IsPartOf old mid before → TakesPart mid new before after (More n) → IsPartOf old new after
+part_more old mid new before after n p t = record {
+  seen = p.seen ++ t.bytes;
+  free = no_feed_on p.seen t.bytes p.free t.free;
+  moves = Consumes-trans old mid new p.seen t.bytes p.moves t.moves;
+  kept = t.line p.seen p.kept;
+}
+
+module _ (ended : PiecesFollow) (last : PiecesEnd) (none : pieces_of [] ≡ []) where
+  feed_cuts : (line : List ℕ) → HasNoFeed line → (old new : Option (List ℕ)) → Consumes old new (line ++ 10 ∷ []) → Cuts (asked (strip_carriage_return line)) old new
+  feed_cuts line free None new moves = tt
+  feed_cuts line free (Some xs) None moves = absurd moves
+  feed_cuts line free (Some xs) (Some ys) moves = ap pieces_of (moves ∙ append_assoc line (10 ∷ []) ys) ∙ ended line ys free
+
+  pub part_feed : (old mid new : Option (List ℕ)) (before after : LineSoFar) (n : ℕ) (a : Asked) → IsPartOf old mid before → TakesPart mid new before after (Feed n)
+      → ((line : List ℕ) → IsLineSoFar line after → a ≡ asked (strip_carriage_return line)) → Cuts a old new
+  part_feed old mid new before after n a p t asks =
+      let line : List ℕ = p.seen ++ t.bytes in
+      let moves : Consumes old new (p.seen ++ (t.bytes ++ 10 ∷ [])) = Consumes-trans old mid new p.seen (t.bytes ++ 10 ∷ []) p.moves t.moves in
+      subst (λ b. Cuts b old new) (sym (asks line (t.line p.seen p.kept)))
+      (feed_cuts line (no_feed_on p.seen t.bytes p.free t.free) old new (subst (Consumes old new) (sym (append_assoc p.seen t.bytes (10 ∷ []))) moves))
+
+  nothing_behind : (a : Asked) → piece_at a [] ∷ [] ≡ cut_at a []
+  nothing_behind a = sym (ap (λ ps. record { asked = a; text = take (announced a) [] } ∷ ps) (at (ends (piece_at a []))))
+    where
+      at : (b : Bool) → (if b then [] else pieces_of (drop (announced a) [])) ≡ []
+      at true = refl
+      at false = ap pieces_of (drop-nil (announced a)) ∙ none
+
+  last_cuts : (line : List ℕ) (next : Option Asked) → HasNoFeed line → IsLast line next → (old new : Option (List ℕ)) → Consumes old new line → OnSome old (IsAtEnd new) → CutsNext next old new
+  last_cuts line None free is None new moves end = tt
+  last_cuts line None free is (Some xs) None moves end = absurd moves
+  last_cuts line None free is (Some xs) (Some ys) moves end = moves ∙ ap (λ l. l ++ ys) is ∙ end
+  last_cuts line (Some a) free is None new moves end = tt
+  last_cuts line (Some a) free is (Some xs) None moves end = absurd moves
+  last_cuts line (Some a) free is (Some xs) (Some ys) moves end =
+      ap pieces_of (moves ∙ ap (λ l. line ++ l) end ∙ append-nil line) ∙ last line free is.0 ∙ ap (λ b. piece_at b [] ∷ []) (sym is.1) ∙ nothing_behind a ∙ ap (cut_at a) (sym end)
+
+  pub part_last : (old mid new : Option (List ℕ)) (before after : LineSoFar) (next : Option Asked) → IsPartOf old mid before → TakesPart mid new before after End
+      → ((line : List ℕ) → IsLineSoFar line after → IsLast line next) → CutsNext next old new
+  part_last old mid new before after next p t asks = ends_by t.bytes t.moves (t.line p.seen p.kept)
+    where
+      ends_by : (bytes : List ℕ) → (bytes ≡ []) × Consumes mid new [] × OnSome mid (IsAtEnd new) → IsLineSoFar (p.seen ++ bytes) after → CutsNext next old new
+      ends_by bytes moves line =
+          let same : p.seen ++ bytes ≡ p.seen = ap (λ b. p.seen ++ b) moves.0 ∙ append-nil p.seen in
+          let is : IsLast p.seen next = asks p.seen (subst (λ l. IsLineSoFar l after) same line) in
+          let all : Consumes old new p.seen = subst (Consumes old new) (append-nil p.seen) (Consumes-trans old mid new p.seen [] p.moves moves.1) in
+          last_cuts p.seen next p.free is old new all (known_before old mid new p.seen p.moves moves.2)
+
+-- at the end the line stays
+pub kept_at_end : (mid new : Option (List ℕ)) (before after : LineSoFar) (seen : List ℕ) → IsLineSoFar seen before → TakesPart mid new before after End → length after.kept.items ≡ length before.kept.items
+kept_at_end mid new before after seen kept t =
+    ap length ((t.line seen kept).0 ∙ ap (λ b. take 1026 (seen ++ b)) t.moves.0 ∙ ap (take 1026) (append-nil seen) ∙ sym kept.0)
+
+pub on_some : {X : Type 0} (o : Option X) (P Q : Type 0) → OnSome o P → (P → Q) → OnSome o Q
+on_some None P Q p on = tt
+on_some (Some x) P Q p on = on p
+
+-- ---- what was read ahead
+
+-- what was taken of it is what the input lost
+front_taken : (rest known : Option (List ℕ)) (all front behind : List ℕ) → Keeps known (prepend_known all rest) → all ≡ front ++ behind → Consumes known (prepend_known behind rest) front
+front_taken rest None all front behind keeps is = tt
+front_taken None (Some xs) all front behind keeps is = absurd keeps
+front_taken (Some ys) (Some xs) all front behind keeps is = sym keeps ∙ ap (λ l. l ++ ys) is ∙ append_assoc front behind ys
+
+none_behind : (rest known : Option (List ℕ)) (all : List ℕ) → Keeps known (prepend_known all rest) → IsAtEnd rest → (behind : List ℕ) → behind ≡ [] → OnSome known (IsAtEnd (prepend_known behind rest))
+none_behind rest None all keeps end behind is = tt
+none_behind None (Some xs) all keeps end behind is = absurd keeps
+none_behind (Some ys) (Some xs) all keeps end behind is = ap (λ l. l ++ ys) is ∙ end
+
+module _ (rest known : Option (List ℕ)) (all behind : List ℕ) (keeps : Keeps known (prepend_known all rest)) where
+  moves_on : (part : Part) (bytes : List ℕ) → (all ≡ [] → IsAtEnd rest) → MovesShown part all behind bytes → Moves part known (prepend_known behind rest) bytes
+  moves_on (More n) bytes end moves = front_taken rest known all bytes behind keeps moves.0
+  moves_on (Feed n) bytes end moves = front_taken rest known all (bytes ++ 10 ∷ []) behind keeps moves.0
+  moves_on End bytes end moves =
+      (moves.0, front_taken rest known all [] behind keeps (moves.1 ∙ sym moves.2), none_behind rest known all keeps (end moves.1) behind moves.2)
+
+  pub part_taken : (before after : LineSoFar) (part : Part) → (all ≡ [] → IsAtEnd rest) → TakesShown all behind before after part → TakesPart known (prepend_known behind rest) before after part
+  part_taken before after part end t = record { bytes = t.bytes; free = t.free; moves = moves_on part t.bytes end t.moves; line = t.line }
+
+counts_by : (rest known : Option (List ℕ)) (all front behind : List ℕ) (left later : ℕ) → Keeps known (prepend_known all rest) → all ≡ front ++ behind → left ≤ later + length front → Counts known left (prepend_known behind rest) later
+counts_by rest None all front behind left later keeps is most = tt
+counts_by None (Some xs) all front behind left later keeps is most = absurd keeps
+counts_by (Some ys) (Some xs) all front behind left later keeps is most =
+    let whole : length xs ≡ length (all ++ ys) = ap length (sym keeps) in
+    let parts : length (all ++ ys) ≡ length all + length ys = length-append all ys in
+    let front_len : length all ≡ length front + length behind = ap length is ∙ length-append front behind in
+    let later_len : length (behind ++ ys) ≡ length behind + length ys = length-append behind ys in
+    omega (arith, whole, parts, front_len, later_len, most)
+
+pub counts_part : (rest known : Option (List ℕ)) (all behind : List ℕ) (before after : LineSoFar) (part : Part) (n left later : ℕ) → Keeps known (prepend_known all rest) → TakesShown all behind before after part
+    → (part ≡ More n) ⊎ (part ≡ Feed n) → left ≤ later + n → Counts known left (prepend_known behind rest) later
+counts_part rest known all behind before after part n left later keeps t (inl is) most =
+    let moves = subst (λ p. MovesShown p all behind t.bytes) is t.moves in
+    counts_by rest known all t.bytes behind left later keeps moves.0 (omega (arith, most, moves.1))
+counts_part rest known all behind before after part n left later keeps t (inr is) most =
+    let moves = subst (λ p. MovesShown p all behind t.bytes) is t.moves in
+    let more : length (t.bytes ++ 10 ∷ []) ≡ length t.bytes + 1 = length-append t.bytes (10 ∷ []) in
+    counts_by rest known all (t.bytes ++ 10 ∷ []) behind left later keeps moves.0 (omega (arith, most, moves.1, more))
+
+pub counts_end : (rest known : Option (List ℕ)) (all behind : List ℕ) (before after : LineSoFar) (left : ℕ) → Keeps known (prepend_known all rest) → TakesShown all behind before after End
+    → Counts known left (prepend_known behind rest) left
+counts_end rest known all behind before after left keeps t = counts_by rest known all [] behind left left keeps (t.moves.1 ∙ sym t.moves.2) (omega arith)
+
+-- nothing was taken
+pub counts_kept : (known later : Option (List ℕ)) (left : ℕ) → Keeps known later → Counts known left later left
+counts_kept None later left keeps = tt
+counts_kept (Some xs) None left keeps = absurd keeps
+counts_kept (Some xs) (Some ys) left keeps = omega (arith, ap length keeps)
+
+pub counts_on : (a b c : Option (List ℕ)) (m n k : ℕ) → Counts a m b n → Counts b n c k → Counts a m c k
+counts_on None b c m n k p q = tt
+counts_on (Some xs) None c m n k p q = absurd p
+counts_on (Some xs) (Some ys) None m n k p q = absurd q
+counts_on (Some xs) (Some ys) (Some zs) m n k p q = omega (arith, p, q)
+
+-- ---- the bytes of a text
+
+pub more_taken : (rest known : Option (List ℕ)) (all behind : List ℕ) (before after : TextSoFar) (n : ℕ) (some : Bool) → Keeps known (prepend_known all rest) → (all ≡ [] → IsAtEnd rest)
+    → TakesText all behind before after n → (some ≡ true → 0 < n) → (some ≡ false → n ≡ 0) → TakesMore known (prepend_known behind rest) before after some
+more_taken rest known all behind before after n some keeps end t more none = record {
+  bytes = t.bytes;
+  moves = front_taken rest known all t.bytes behind keeps t.moves;
+  text = t.text;
+  less = λ is. omega (arith, t.left, more is);
+  end = λ is wanted.
+      let zero : n ≡ 0 = none is in
+      let empty : all ≡ [] = no_item all (omega (arith, t.most, zero, wanted)) in
+      let nothing : t.bytes ≡ [] = no_item t.bytes (t.count ∙ zero) in
+      let same : behind ≡ [] = sym (t.moves ∙ ap (λ l. l ++ behind) nothing) ∙ empty in
+      (nothing, none_behind rest known all keeps (end empty) behind same);
+}
+  where
+    no_item : (xs : List ℕ) → length xs ≡ 0 → xs ≡ []
+    no_item [] e = refl
+    no_item (x ∷ xs) e = absurd (omega (arith, e))
+
+pub counts_text : (rest known : Option (List ℕ)) (all behind : List ℕ) (before after : TextSoFar) (n left later : ℕ) → Keeps known (prepend_known all rest) → TakesText all behind before after n
+    → left ≤ later + n → Counts known left (prepend_known behind rest) later
+counts_text rest known all behind before after n left later keeps t most = counts_by rest known all t.bytes behind left later keeps t.moves (omega (arith, most, t.count))
+
+pub text_more : (len : ℕ) (old mid new : Option (List ℕ)) (before after : TextSoFar) → IsTextPart len old mid before → TakesMore mid new before after true → IsTextPart len old new after
+text_more len old mid new before after p t = record { seen = p.seen ++ t.bytes; moves = Consumes-trans old mid new p.seen t.bytes p.moves t.moves; kept = t.text len p.seen p.kept }
+
+-- the input ended before the text did
+pub text_short : (len : ℕ) (old mid new : Option (List ℕ)) (before after : TextSoFar) → IsTextPart len old mid before → 0 < before.left → TakesMore mid new before after false → Loads len old new Short
+text_short len old mid new before after p wanted t =
+    let ended = t.end refl wanted in
+    let all : Consumes old new (p.seen ++ t.bytes) = Consumes-trans old mid new p.seen t.bytes p.moves t.moves in
+    let same : p.seen ++ t.bytes ≡ p.seen = ap (λ b. p.seen ++ b) ended.0 ∙ append-nil p.seen in
+    (p.seen, subst (Consumes old new) same all, omega (arith, p.kept.0, wanted), known_before old mid new p.seen p.moves ended.1)

@@ -1,0 +1,6 @@
+pub mod AskedLemmas
+pub mod CutLemmas
+pub mod InputLemmas
+pub mod ReplyLemmas
+pub mod ServingLemmas
+pub mod StreamLemmas

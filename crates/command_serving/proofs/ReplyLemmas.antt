@@ -1,0 +1,176 @@
+-- What is answered to loads, and to lines that change nothing.
+use Rattle.std.proofs.Common.{◌≡◌, ◌∙◌, ℕ, Bool, true, false, List, [], ◌∷◌, ◌++◌, inl, inr, None, Result, Ok, Err, refl, sym, ap, subst, append-nil, arith}
+use Rattle.plan_types.specs.Instance.{Instance}
+use Rattle.instance_read.specs.Faults.{no_memory}
+use Rattle.instance_read.specs.declared.faults.ReadFault.{ReadFault}
+use Rattle.command_core.specs.Job.{JobValue}
+use Rattle.command_core.specs.Refusing.{refusal}
+use Rattle.command_core.specs.declared.commands.Command.TheVariants as command
+use Rattle.command_core.specs.declared.refusals.Refusal.TheVariants as core
+use Rattle.command_core.specs.declared.states.State.{State}
+use Rattle.command_core.specs.declared.states.State.TheVariants.{Empty, Loaded}
+use Rattle.command_text.specs.Answering.{Fate, Done, NoMemory, Failed, Reply, Serving, answered, by_fate, load, next_fate, plain, printed, shown, told, tried, unless_broken, with_text}
+use Rattle.command_text.specs.Answering.{Spent as SpentFate}
+use Rattle.command_text.specs.Answers.{answer_text, line}
+use Rattle.command_text.specs.Readings.{IsUnlessMemory}
+use Rattle.command_text.specs.Showing.{print_text, show_text}
+use Rattle.route_sched.specs.Cost.{unplanned_count}
+use Rattle.sol_text.specs.declared.faults.WriteSolFault.{WriteSolFault}
+use Rattle.sol_text.specs.declared.faults.WriteSolFault.TheVariants as write
+use Rattle.std.specs.Prelude.{◌<◌, ◌==◌, IsErrOf, IsOkUnless}
+use Rattle.std.proofs.lemmas.Bool.{eqb-false, eqb-true}
+use Rattle.command_text.specs.declared.answers.Answer.{Answer}
+use Rattle.command_text.specs.declared.answers.Answer.TheVariants as answer
+use Rattle.recover.specs.Sessions.{SessionValue}
+use Rattle.command_serving.specs.Served.{Tells, as_serving}
+use Rattle.command_serving.specs.Serving.{HasNoJob, load_reply, silent}
+use Rattle.command_serving.proofs.ServingLemmas.{answered_is, carried_tried, tells_as}
+
+-- ---- what a session says that is not broken, or is
+
+pub when_broken : (s : Serving) (r : Reply) → s.is_broken ≡ true → unless_broken s r ≡ answered s answer.Broken
+when_broken s r e = rw e refl
+
+pub when_whole : (s : Serving) (r : Reply) → s.is_broken ≡ false → unless_broken s r ≡ r
+when_whole s r e = rw e refl
+
+-- an answer that leaves the session as it is, after these fates
+pub tells_fate : {D : Type 0} (s : SessionValue D) (f : Serving → Reply) (fates : List Fate) (a : Answer) → ((later : List Fate) → f (as_serving s (fates ++ later)) ≡ answered (as_serving s later) a)
+    → Tells s f (line (answer_text a)) s silent
+tells_fate s f fates a says = record { fates = fates; commands = []; says = λ later. says later ∙ answered_is (as_serving s later) a; state = refl; few = omega arith }
+
+-- a text, and `ok` behind it
+pub tells_text : {D : Type 0} (s : SessionValue D) (f : Serving → Reply) (text : List ℕ) → ((later : List Fate) → f (as_serving s (Done ∷ later)) ≡ with_text text (answered (as_serving s later) answer.Ok))
+    → Tells s f (text ++ line (answer_text answer.Ok)) s silent
+tells_text s f text says = record {
+  fates = Done ∷ [];
+  commands = [];
+  says = λ later. says later ∙ ap (λ (t : List ℕ). record { text = t; commands = []; left = as_serving s later }) (sym (append-nil (text ++ line (answer_text answer.Ok))));
+  state = refl;
+  few = omega arith;
+}
+
+-- ---- a session without a job
+
+pub no_job : (g : Serving → State → Reply) (s : Serving) (a : Answer) → ((t : Serving) → g t Empty ≡ answered t (answer.Refused core.NoInstance)) → HasNoJob s.is_broken s.state a
+    → unless_broken s (g s s.state) ≡ answered s a
+no_job g s a empty (inl broken) = when_broken s (g s s.state) broken.0 ∙ ap (answered s) (sym broken.1)
+no_job g s a empty (inr none) = when_whole s (g s s.state) none.0 ∙ ap (g s) none.1 ∙ empty s ∙ ap (answered s) (sym none.2)
+
+pub with_job : (g : Serving → State → Reply) (s : Serving) (j : JobValue) → s.is_broken ≡ false → s.state ≡ Loaded j → unless_broken s (g s s.state) ≡ g s (Loaded j)
+with_job g s j whole is = when_whole s (g s s.state) whole ∙ ap (g s) is
+
+-- ---- a load
+
+load_accepted : (state : State) (p : Instance) (seed : ℕ) → refusal state (command.Load p seed) ≡ None
+load_accepted Empty p seed = refl
+load_accepted (Loaded j) p seed = refl
+
+by_fates : (state : State) (b : Bool) (fates : List Fate) (p : Instance) (seed : ℕ)
+    → load (next_fate fates) (record { state = state; is_broken = b; fates = fates }) seed (Ok p)
+    ≡ by_fate (next_fate fates) (tried (record { state = state; is_broken = b; fates = fates })) (command.Load p seed) (λ t. answered t answer.Ok)
+by_fates state b [] p seed = refl
+by_fates state b (Done ∷ fates) p seed = refl
+by_fates state b (NoMemory ∷ fates) p seed = refl
+by_fates state b (SpentFate ∷ fates) p seed = refl
+by_fates state b (Failed ∷ fates) p seed = refl
+
+-- a text that spells a problem is answered as the command is
+load_is : (s : Serving) (p : Instance) (seed : ℕ) → s.is_broken ≡ false → load (next_fate s.fates) s seed (Ok p) ≡ plain s (command.Load p seed)
+load_is s p seed e = by_fates s.state s.is_broken s.fates p seed ∙ sym (carried_tried s (command.Load p seed) (λ t. answered t answer.Ok) e (load_accepted s.state p seed))
+
+pub load_spelled : {D : Type 0} (old new : SessionValue D) (p : Instance) (seed : ℕ) (text : List ℕ) (found : Result Instance ReadFault) → old.is_broken ≡ false → Ok p ≡ found
+    → Tells old (λ s. plain s (command.Load p seed)) text new silent → Tells old (load_reply seed found) text new silent
+load_spelled old new p seed text found e is leads =
+    tells_as old new (λ s. plain s (command.Load p seed)) (load_reply seed found) silent text
+    (λ fates. when_whole (as_serving old fates) (load (next_fate fates) (as_serving old fates) seed found) e
+    ∙ ap (load (next_fate fates) (as_serving old fates) seed) (sym is) ∙ load_is (as_serving old fates) p seed e) leads
+
+pub load_faulty : {D : Type 0} (old : SessionValue D) (seed : ℕ) (fault : ReadFault) (found : Result Instance ReadFault) → old.is_broken ≡ false → Err fault ≡ found
+    → Tells old (load_reply seed found) (line (answer_text (answer.Read fault))) old silent
+load_faulty old seed fault found e is =
+    tells_fate old (load_reply seed found) (Done ∷ []) (answer.Read fault)
+    (λ later. when_whole (as_serving old (Done ∷ later)) (load Done (as_serving old (Done ∷ later)) seed found) e ∙ ap (load Done (as_serving old (Done ∷ later)) seed) (sym is))
+
+pub load_dropped : {D : Type 0} (old : SessionValue D) (seed : ℕ) (found : Result Instance ReadFault) → old.is_broken ≡ false
+    → Tells old (load_reply seed found) (line (answer_text (answer.Refused core.OutOfMemory))) old silent
+load_dropped old seed found e =
+    tells_fate old (load_reply seed found) (NoMemory ∷ []) (answer.Refused core.OutOfMemory)
+    (λ later. when_whole (as_serving old (NoMemory ∷ later)) (load NoMemory (as_serving old (NoMemory ∷ later)) seed found) e)
+
+pub load_broken : {D : Type 0} (old : SessionValue D) (seed : ℕ) (found : Result Instance ReadFault) → old.is_broken ≡ true
+    → Tells old (load_reply seed found) (line (answer_text answer.Broken)) old silent
+load_broken old seed found e =
+    tells_fate old (load_reply seed found) [] answer.Broken (λ later. when_broken (as_serving old later) (load (next_fate later) (as_serving old later) seed found) e)
+
+-- a text that was read as faulty, or not for want of memory
+pub loaded_err : {D : Type 0} (old : SessionValue D) (seed : ℕ) (fault : ReadFault) (found : Result Instance ReadFault) → old.is_broken ≡ false → IsUnlessMemory (Err fault) found
+    → Tells old (load_reply seed found) (line (answer_text (answer.Read fault))) old silent
+loaded_err old seed fault found e (inl is) = load_faulty old seed fault found e is
+loaded_err old seed fault found e (inr none) =
+    let is : fault ≡ no_memory = cc in
+    subst (λ f. Tells old (load_reply seed found) (line (answer_text (answer.Read f))) old silent) (sym is) (load_dropped old seed found e)
+
+-- a text that was read
+pub loaded_ok : {D : Type 0} (old new : SessionValue D) (p : Instance) (seed : ℕ) (text : List ℕ) (found : Result Instance ReadFault) → old.is_broken ≡ false → IsUnlessMemory (Ok p) found
+    → Tells old (λ s. plain s (command.Load p seed)) text new silent → Tells old (load_reply seed found) text new silent
+loaded_ok old new p seed text found e (inl is) leads = load_spelled old new p seed text found e is leads
+loaded_ok old new p seed text found e (inr none) leads = absurd cc
+
+-- ---- a text to tell
+
+pub tells_none : {D : Type 0} (g : Serving → State → Reply) (s : SessionValue D) (a : Answer) → ((t : Serving) → g t Empty ≡ answered t (answer.Refused core.NoInstance))
+    → HasNoJob s.is_broken s.state a → Tells s (λ t. unless_broken t (g t t.state)) (line (answer_text a)) s silent
+tells_none g s a empty none = tells_fate s (λ t. unless_broken t (g t t.state)) [] a (λ later. no_job g (as_serving s later) a empty none)
+
+module _ {D : Type 0} (s : SessionValue D) (j : JobValue) (whole : s.is_broken ≡ false) (is : s.state ≡ Loaded j) where
+  pub show_done : Tells s (λ t. unless_broken t (shown t t.state)) (show_text j ++ line (answer_text answer.Ok)) s silent
+  show_done = tells_text s (λ t. unless_broken t (shown t t.state)) (show_text j) (λ later. with_job shown (as_serving s (Done ∷ later)) j whole is)
+
+  pub show_unmade : Tells s (λ t. unless_broken t (shown t t.state)) (line (answer_text (answer.Refused core.OutOfMemory))) s silent
+  show_unmade = tells_fate s (λ t. unless_broken t (shown t t.state)) (NoMemory ∷ []) (answer.Refused core.OutOfMemory) (λ later. with_job shown (as_serving s (NoMemory ∷ later)) j whole is)
+
+  planned_is : (t : Serving) → (unplanned_count j.problem j.plan == 0) ≡ true → printed t (Loaded j) ≡ told (next_fate t.fates) (tried t) (print_text j)
+  planned_is t e = rw e refl
+
+  unplanned_is : (t : Serving) → (unplanned_count j.problem j.plan == 0) ≡ false → printed t (Loaded j) ≡ answered t answer.Unplanned
+  unplanned_is t e = rw e refl
+
+  pub print_done : (unplanned_count j.problem j.plan == 0) ≡ true → Tells s (λ t. unless_broken t (printed t t.state)) (print_text j ++ line (answer_text answer.Ok)) s silent
+  print_done e =
+      tells_text s (λ t. unless_broken t (printed t t.state)) (print_text j)
+      (λ later. with_job printed (as_serving s (Done ∷ later)) j whole is ∙ planned_is (as_serving s (Done ∷ later)) e)
+
+  pub print_unmade : (unplanned_count j.problem j.plan == 0) ≡ true → Tells s (λ t. unless_broken t (printed t t.state)) (line (answer_text (answer.Refused core.OutOfMemory))) s silent
+  print_unmade e =
+      tells_fate s (λ t. unless_broken t (printed t t.state)) (NoMemory ∷ []) (answer.Refused core.OutOfMemory)
+      (λ later. with_job printed (as_serving s (NoMemory ∷ later)) j whole is ∙ planned_is (as_serving s (NoMemory ∷ later)) e)
+
+  pub print_unplanned : (unplanned_count j.problem j.plan == 0) ≡ false → Tells s (λ t. unless_broken t (printed t t.state)) (line (answer_text answer.Unplanned)) s silent
+  print_unplanned e =
+      tells_fate s (λ t. unless_broken t (printed t t.state)) [] answer.Unplanned (λ later. with_job printed (as_serving s later) j whole is ∙ unplanned_is (as_serving s later) e)
+
+-- all are planned where the text was made or memory ran out, and some is not where that is told
+module _ {T : Type 0} (n : ℕ) (r : Result T WriteSolFault) (some : 0 < n → IsErrOf r (write.Unplanned n)) (none : n ≡ 0 → IsOkUnless r write.OutOfMemory) where
+  pub planned_ok : (x : T) → r ≡ Ok x → (n == 0) ≡ true
+  planned_ok x e = at (n == 0) refl
+    where
+      at : (b : Bool) → (n == 0) ≡ b → (n == 0) ≡ true
+      at true is = is
+      at false is = let more : r ≡ Err (write.Unplanned n) = some (omega (arith, eqb-false n 0 is)) in absurd cc
+
+  pub planned_unmade : r ≡ Err write.OutOfMemory → (n == 0) ≡ true
+  planned_unmade e = at (n == 0) refl
+    where
+      at : (b : Bool) → (n == 0) ≡ b → (n == 0) ≡ true
+      at true is = is
+      at false is = let more : r ≡ Err (write.Unplanned n) = some (omega (arith, eqb-false n 0 is)) in absurd cc
+
+  pub unplanned_told : (k : ℕ) → r ≡ Err (write.Unplanned k) → (n == 0) ≡ false
+  unplanned_told k e = at (n == 0) refl
+    where
+      at : (b : Bool) → (n == 0) ≡ b → (n == 0) ≡ false
+      at true is =
+          let other : write.Unplanned k ≡ write.OutOfMemory = subst (λ q. IsOkUnless q write.OutOfMemory) e (none (eqb-true n 0 is)) in
+          absurd cc
+      at false is = is

@@ -1,0 +1,16 @@
+-- The session's answer is what the reply to the command says.
+use Rattle.std.proofs.Common.{subst, sym}
+use Rattle.command_text.specs.Answering.{plain}
+use Rattle.command_text.specs.Answers.{answer_text, line}
+use Rattle.command_serving.specs.Served.{Tells}
+use Rattle.command_serving.specs.Serving.{silent}
+use Rattle.command_serving.proofs.ServingLemmas.{plain_err, plain_ok}
+use Rattle.command_serving.proofs.answering.applied.Goals as goal
+
+pub returns-in-Ok : goal.returns-in-Ok
+returns-in-Ok g c = plain_ok c.args.session.now c.apply.new.self c.args.command c.apply.result.answer c.apply.ensures.answer c.apply.ensures.makes c.in-Ok.field-0 c.in-Ok.is
+
+pub returns-in-Err : goal.returns-in-Err
+returns-in-Err g c =
+    subst (λ a. Tells c.args.session.now (λ s. plain s c.args.command) (line (answer_text a)) c.apply.new.self silent) (sym c.denied.ensures)
+    (plain_err c.args.session.now c.apply.new.self c.args.command c.apply.result.answer c.apply.ensures.answer c.apply.ensures.makes c.in-Err.denial c.in-Err.is)

@@ -1,0 +1,29 @@
+-- Nothing is read yet, so what is left of the input is what the reader has.
+use Rattle.std.proofs.Common.{◌≡◌, ◌∙◌, Some, ap, subst, length}
+use Rattle.std.proofs.lemmas.Result.{IfErr-weaker}
+use Rattle.std.proofs.KnownBytes.{prepend_known-nil}
+use Rattle.std.specs.Io.KnownBytes.{prepend_known}
+use Rattle.command_serving.specs.Input.{Counts, left_of}
+use Rattle.command_serving.specs.Served.{HasCause}
+use Rattle.command_serving.specs.Serving.{IsCause}
+use Rattle.command_serving.proofs.AskedLemmas.{cause_of, whole_input}
+use Rattle.command_serving.proofs.answering.serve.Goals as goal
+
+pub returns-clause-serves : goal.returns-clause-serves
+returns-clause-serves g c = λ reading input is known.
+    let reader = g.R.Source.remaining c.args.reader.now in
+    let start : left_of g.R.Source.remaining c.new-input.result c.args.reader.now ≡ Some input = ap (λ a. prepend_known a reader) c.new-input.ensures.ahead ∙ prepend_known-nil reader ∙ known in
+    c.serve_lines.ensures.serves reading input is start
+
+pub returns-clause-cause : goal.returns-clause-cause
+returns-clause-cause g c = λ input known.
+    let reader = g.R.Source.remaining c.args.reader.now in
+    let start : left_of g.R.Source.remaining c.new-input.result c.args.reader.now ≡ Some input = ap (λ a. prepend_known a reader) c.new-input.ensures.ahead ∙ prepend_known-nil reader ∙ known in
+    let rest = left_of g.R.Source.remaining c.serve_lines.new.input c.serve_lines.new.reader in
+    let left = c.serve_lines.new.input.left in
+    let read = g.R.Source.has_failed c.serve_lines.new.reader in
+    let written = g.W.Sink.has_failed c.serve_lines.new.writer in
+    let counted = subst (λ k. Counts k 1000000000000 rest left) start
+    (subst (λ l. Counts (left_of g.R.Source.remaining c.new-input.result c.args.reader.now) l rest left) c.new-input.ensures.left c.serve_lines.ensures.counted) in
+    IfErr-weaker c.serve_lines.result (λ f. IsCause f read written left) (λ f. HasCause f read written (length input))
+    (λ f cause. cause_of f read written left (length input) (λ none. whole_input input rest left counted none) cause) c.serve_lines.ensures.cause

@@ -1,0 +1,141 @@
+-- By what the line asks for.
+use Rattle.std.proofs.Common.{refl, subst, sym}
+use Rattle.std.proofs.lemmas.Result.{err_from_is_err_and}
+use Rattle.command_core.specs.declared.refusals.Refusal.TheVariants as core
+use Rattle.command_text.specs.Answering.{answered, plain, refused, unless_broken}
+use Rattle.command_text.specs.Answers.{answer_text, line}
+use Rattle.command_text.specs.Laws.{cut_at}
+use Rattle.command_text.specs.declared.answers.Answer.TheVariants as answer
+use Rattle.command_text.specs.declared.asked.Asked.TheVariants as asked
+use Rattle.command_serving.specs.Input.{left_of}
+use Rattle.command_serving.specs.Serving.{GoesOn, ServesOn, silent}
+use Rattle.command_serving.specs.declared.answering.Goes.TheVariants.{On}
+use Rattle.command_serving.proofs.AskedLemmas.{cut_at_once, line_ends, line_on, load_on, nothing_on}
+use Rattle.command_serving.proofs.ServingLemmas.{answers_told, tells_same}
+use Rattle.command_serving.proofs.answering.serve_asked.Goals as goal
+
+pub returns-in-BadLoad-clause-serves : goal.returns-in-BadLoad-clause-serves
+returns-in-BadLoad-clause-serves g c = λ reading rest is known.
+    let old = c.args.session.now in
+    let new = c.args.session.now in
+    let before = g.W.Sink.contents c.args.writer.now in
+    let after = g.W.Sink.contents c.tell.new.writer in
+    let left = left_of g.R.Source.remaining c.args.input.now c.args.reader.now in
+    subst (λ a. GoesOn c.once-in-BadLoad.result reading old (cut_at a rest) before after new left) (sym c.in-BadLoad.is)
+    (line_ends reading asked.BadLoad rest old new before after left c.once-in-BadLoad.result c.tell.result c.once-in-BadLoad.ensures refl known
+    (answers_told c.tell.result old new (λ s. answered s answer.BadLine) silent (line (answer_text answer.BadLine)) before after (tells_same old (λ s. answered s answer.BadLine) answer.BadLine (λ fates. refl)) c.tell.ensures.bytes))
+
+pub returns-in-LoadRange-clause-serves : goal.returns-in-LoadRange-clause-serves
+returns-in-LoadRange-clause-serves g c = λ reading rest is known.
+    let old = c.args.session.now in
+    let new = c.args.session.now in
+    let before = g.W.Sink.contents c.args.writer.now in
+    let after = g.W.Sink.contents c.tell-in-LoadRange.new.writer in
+    let left = left_of g.R.Source.remaining c.args.input.now c.args.reader.now in
+    subst (λ a. GoesOn c.once-in-LoadRange.result reading old (cut_at a rest) before after new left) (sym c.in-LoadRange.is)
+    (line_ends reading asked.LoadRange rest old new before after left c.once-in-LoadRange.result c.tell-in-LoadRange.result c.once-in-LoadRange.ensures refl known
+    (answers_told c.tell-in-LoadRange.result old new (λ s. answered s (answer.Refused core.Range)) silent (line (answer_text (answer.Refused core.Range))) before after (tells_same old (λ s. answered s (answer.Refused core.Range)) (answer.Refused core.Range) (λ fates. refl)) c.tell-in-LoadRange.ensures.bytes))
+
+pub returns-in-BadLine-clause-serves : goal.returns-in-BadLine-clause-serves
+returns-in-BadLine-clause-serves g c = λ reading rest is known.
+    let old = c.args.session.now in
+    let new = c.args.session.now in
+    let before = g.W.Sink.contents c.args.writer.now in
+    let after = g.W.Sink.contents c.tell-in-BadLine.new.writer in
+    let left = left_of g.R.Source.remaining c.args.input.now c.args.reader.now in
+    subst (λ a. GoesOn c.once-in-BadLine.result reading old (cut_at a rest) before after new left) (sym c.in-BadLine.is)
+    (line_on reading asked.BadLine rest old new before after left c.once-in-BadLine.result c.tell-in-BadLine.result c.once-in-BadLine.ensures refl known
+    (answers_told c.tell-in-BadLine.result old new (λ s. answered s answer.BadLine) silent (line (answer_text answer.BadLine)) before after (tells_same old (λ s. answered s answer.BadLine) answer.BadLine (λ fates. refl)) c.tell-in-BadLine.ensures.bytes))
+
+pub returns-in-Refused-clause-serves : goal.returns-in-Refused-clause-serves
+returns-in-Refused-clause-serves g c = λ reading rest is known.
+    let old = c.args.session.now in
+    let new = c.args.session.now in
+    let before = g.W.Sink.contents c.args.writer.now in
+    let after = g.W.Sink.contents c.tell-in-Refused.new.writer in
+    let left = left_of g.R.Source.remaining c.args.input.now c.args.reader.now in
+    subst (λ a. GoesOn c.once-in-Refused.result reading old (cut_at a rest) before after new left) (sym c.in-Refused.is)
+    (line_on reading (asked.Refused c.in-Refused.refusal) rest old new before after left c.once-in-Refused.result c.tell-in-Refused.result c.once-in-Refused.ensures refl known
+    (answers_told c.tell-in-Refused.result old new (λ s. unless_broken s (refused s s.state c.in-Refused.refusal)) silent (line (answer_text c.refused.result)) before after c.refused.ensures c.tell-in-Refused.ensures.bytes))
+
+pub returns-in-Plain-clause-serves : goal.returns-in-Plain-clause-serves
+returns-in-Plain-clause-serves g c = λ reading rest is known.
+    let old = c.args.session.now in
+    let new = c.applied.new.session in
+    let before = g.W.Sink.contents c.args.writer.now in
+    let after = g.W.Sink.contents c.tell-in-Plain.new.writer in
+    let left = left_of g.R.Source.remaining c.args.input.now c.args.reader.now in
+    subst (λ a. GoesOn c.once-in-Plain.result reading old (cut_at a rest) before after new left) (sym c.in-Plain.is)
+    (line_on reading (asked.Plain c.in-Plain.command) rest old new before after left c.once-in-Plain.result c.tell-in-Plain.result c.once-in-Plain.ensures refl known
+    (answers_told c.tell-in-Plain.result old new (λ s. plain s c.in-Plain.command) silent (line (answer_text c.applied.result)) before after c.applied.ensures c.tell-in-Plain.ensures.bytes))
+
+pub returns-in-Search-clause-serves : goal.returns-in-Search-clause-serves
+returns-in-Search-clause-serves g c = λ reading rest is known.
+    let old = c.args.session.now in
+    let new = c.serve_search.new.session in
+    let before = g.W.Sink.contents c.args.writer.now in
+    let after = g.W.Sink.contents c.serve_search.new.writer in
+    let left = left_of g.R.Source.remaining c.args.input.now c.args.reader.now in
+    subst (λ a. GoesOn c.once-in-Search.result reading old (cut_at a rest) before after new left) (sym c.in-Search.is)
+    (line_on reading (asked.Search c.in-Search.steps) rest old new before after left c.once-in-Search.result c.serve_search.result c.once-in-Search.ensures refl known
+    (c.serve_search.ensures.answers))
+
+pub returns-in-Reach-clause-serves : goal.returns-in-Reach-clause-serves
+returns-in-Reach-clause-serves g c = λ reading rest is known.
+    let old = c.args.session.now in
+    let new = c.serve_reach.new.session in
+    let before = g.W.Sink.contents c.args.writer.now in
+    let after = g.W.Sink.contents c.serve_reach.new.writer in
+    let left = left_of g.R.Source.remaining c.args.input.now c.args.reader.now in
+    subst (λ a. GoesOn c.once-in-Reach.result reading old (cut_at a rest) before after new left) (sym c.in-Reach.is)
+    (line_on reading (asked.Reach c.in-Reach.goal) rest old new before after left c.once-in-Reach.result c.serve_reach.result c.once-in-Reach.ensures refl known
+    (c.serve_reach.ensures.answers))
+
+pub returns-in-Print-clause-serves : goal.returns-in-Print-clause-serves
+returns-in-Print-clause-serves g c = λ reading rest is known.
+    let old = c.args.session.now in
+    let new = c.args.session.now in
+    let before = g.W.Sink.contents c.args.writer.now in
+    let after = g.W.Sink.contents c.serve_print.new.writer in
+    let left = left_of g.R.Source.remaining c.args.input.now c.args.reader.now in
+    subst (λ a. GoesOn c.once-in-Print.result reading old (cut_at a rest) before after new left) (sym c.in-Print.is)
+    (line_on reading asked.Print rest old new before after left c.once-in-Print.result c.serve_print.result c.once-in-Print.ensures refl known
+    (c.serve_print.ensures.answers))
+
+pub returns-in-Show-clause-serves : goal.returns-in-Show-clause-serves
+returns-in-Show-clause-serves g c = λ reading rest is known.
+    let old = c.args.session.now in
+    let new = c.args.session.now in
+    let before = g.W.Sink.contents c.args.writer.now in
+    let after = g.W.Sink.contents c.serve_show.new.writer in
+    let left = left_of g.R.Source.remaining c.args.input.now c.args.reader.now in
+    subst (λ a. GoesOn c.once-in-Show.result reading old (cut_at a rest) before after new left) (sym c.in-Show.is)
+    (line_on reading asked.Show rest old new before after left c.once-in-Show.result c.serve_show.result c.once-in-Show.ensures refl known
+    (c.serve_show.ensures.answers))
+
+pub returns-in-Nothing-clause-serves : goal.returns-in-Nothing-clause-serves
+returns-in-Nothing-clause-serves g c = λ reading rest is known.
+    let old = c.args.session.now in
+    let before = g.W.Sink.contents c.args.writer.now in
+    let left = left_of g.R.Source.remaining c.args.input.now c.args.reader.now in
+    subst (λ a. ServesOn reading old (cut_at a rest) before before old On left) (sym c.in-Nothing.is) (nothing_on reading rest old before left known)
+
+pub returns-in_err-text-in-Load-clause-serves : goal.returns-in_err-text-in-Load-clause-serves
+returns-in_err-text-in-Load-clause-serves g c = λ reading rest is known.
+    let old = c.args.session.now in
+    let before = g.W.Sink.contents c.args.writer.now in
+    let left = left_of g.R.Source.remaining c.load_text.new.self c.load_text.new.reader in
+    let told = err_from_is_err_and c.from_residual.result c.from_residual.ensures.1 in
+    subst (λ r. GoesOn r reading old (cut_at c.args.asked rest) before before old left) (sym told.1) (cut_at_once reading old (cut_at c.args.asked rest) before)
+
+pub returns-in_ok-text-in-Load-clause-serves : goal.returns-in_ok-text-in-Load-clause-serves
+returns-in_ok-text-in-Load-clause-serves g c = λ reading rest is known.
+    let old = c.args.session.now in
+    let new = c.serve_load.new.session in
+    let before = g.W.Sink.contents c.args.writer.now in
+    let after = g.W.Sink.contents c.serve_load.new.writer in
+    let first = left_of g.R.Source.remaining c.args.input.now c.args.reader.now in
+    let left = left_of g.R.Source.remaining c.load_text.new.self c.load_text.new.reader in
+    subst (λ a. GoesOn c.once.result reading old (cut_at a rest) before after new left) (sym c.in-Load.is)
+    (load_on reading c.in-Load.kind c.in-Load.seed c.in-Load.len old new before after c.once.result c.serve_load.result rest c.in_ok-text-in-Load.text c.goes_behind-goes.result first left known c.in_ok-text-in-Load.ensures.loads
+    c.goes_behind-goes.ensures c.once.ensures (λ bytes. c.serve_load.ensures.answers reading bytes is))

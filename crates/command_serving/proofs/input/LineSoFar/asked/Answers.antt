@@ -1,0 +1,24 @@
+-- A line that was kept whole is read, and one that is longer is a bad one.
+use Rattle.std.proofs.Common.{◌∙◌, ◌≤◌, ◌<◌, length, true, false, ap, sym, rules}
+use Rattle.command_text.specs.Asking.{asked}
+use Rattle.std.specs.Str.Lines.{strip_carriage_return}
+use Rattle.command_serving.proofs.InputLemmas.{asked_kept, asked_too_long}
+use Rattle.command_serving.proofs.input.LineSoFar.asked.Goals as goal
+
+pub returns-then-len-lt-KEPT : goal.returns-then-len-lt-KEPT
+returns-then-len-lt-KEPT c = λ line is.
+    let kept = c.args.self.now.kept.items in
+    let short : length kept < 1026 = search rules in
+    c.read_line.ensures ∙ ap asked c.without_return.ensures ∙ ap (λ l. asked (strip_carriage_return l)) c.as_slice.ensures.value ∙ asked_kept kept line is.0 short
+
+pub returns-then-is_load : goal.returns-then-is_load
+returns-then-is_load c = λ line is.
+    let kept = c.args.self.now.kept.items in
+    let long : 1026 ≤ length kept = search rules in
+    asked_too_long kept line true is.0 long (sym c.if-is_load.true ∙ c.is_load.ensures line is.1)
+
+pub returns-else-is_load : goal.returns-else-is_load
+returns-else-is_load c = λ line is.
+    let kept = c.args.self.now.kept.items in
+    let long : 1026 ≤ length kept = search rules in
+    asked_too_long kept line false is.0 long (sym c.if-is_load.false ∙ c.is_load.ensures line is.1)

@@ -1,0 +1,67 @@
+-- What an input is answered, what it makes of a session, and what stands where the serving ends before the input.
+use Rattle.std.specs.Prelude.{◌≡◌, ◌≤◌, ◌++◌, ◌^◌, ◌⊎◌, ℕ, Bool, true, List, [], length, take, Option, Some, None}
+use Rattle.std.specs.Io.KnownBytes.{Appends}
+use Rattle.command_core.specs.Runs.{after}
+use Rattle.command_core.specs.declared.commands.Command.{Command}
+use Rattle.command_text.specs.Answering.{Fate, Reply, Serving, joined, searched, served}
+use Rattle.command_text.specs.Cutting.{Piece, pieces_of}
+use Rattle.command_text.specs.Readings.{Reading}
+use Rattle.command_serving.specs.declared.answering.ServeFault.{ServeFault}
+use Rattle.command_serving.specs.declared.answering.ServeFault.TheVariants as fault
+use Rattle.recover.specs.Sessions.{SessionValue}
+
+-- a session, with what becomes of its tries
+abbrev pub as_serving : {D : Type 0} → SessionValue D → List Fate → Serving
+as_serving s fates = record { state = s.state; is_broken = s.is_broken; fates = fates }
+
+-- The tries had some fates, one each. What was written is what the session answers to the input by them; the state is that after the
+-- commands that it then carries out; and it is broken where it was, or where a try failed.
+pub record IsServed {D : Type 0} (reading : Reading) (old : SessionValue D) (input : List ℕ) (before after_it : Option (List ℕ)) (new : SessionValue D) : Type 0 where
+  pub fates : List Fate
+  pub written : Appends before after_it (served reading (as_serving old fates) (pieces_of input)).text
+  pub left : (served reading (as_serving old fates) (pieces_of input)).left ≡ as_serving new []
+  pub state : new.state ≡ after old.state (served reading (as_serving old fates) (pieces_of input)).commands
+
+-- a text and commands, and then a reply
+abbrev pub preceded : List ℕ → List Command → Reply → Reply
+preceded text commands r = record { text = text ++ r.text; commands = commands ++ r.commands; left = r.left }
+
+-- The session went from old to new, with this text: what `from` says of old is, after it, what `to` says of new, where the tries
+-- so far ended by some fates, and whatever becomes of the later ones.
+pub record Leads {D : Type 0} (old : SessionValue D) (from : Serving → Reply) (text : List ℕ) (new : SessionValue D) (to : Serving → Reply) : Type 0 where
+  pub fates : List Fate
+  pub commands : List Command
+  pub says : (later : List Fate) → from (as_serving old (fates ++ later)) ≡ preceded text commands (to (as_serving new later))
+  pub state : new.state ≡ after old.state commands
+
+-- so it did by one command at most
+pub record Tells {D : Type 0} (old : SessionValue D) (from : Serving → Reply) (text : List ℕ) (new : SessionValue D) (to : Serving → Reply) : Type 0 where
+  pub fates : List Fate
+  pub commands : List Command
+  pub says : (later : List Fate) → from (as_serving old (fates ++ later)) ≡ preceded text commands (to (as_serving new later))
+  pub state : new.state ≡ after old.state commands
+  pub few : length commands ≤ 1
+
+-- what is still to be answered: these counts of a search, if one is under way, and then these pieces
+abbrev pub still : Reading → Option (List ℕ) → List Piece → Serving → Reply
+still reading None pieces s = served reading s pieces
+still reading (Some counts) pieces s = let r = searched s counts in joined r (served reading r.left pieces)
+
+-- The serving ended within the pieces, with one answer written in part or not at all. Those before it were written, and the session was then at
+-- `told`; it may have carried out the command that the last answer tells.
+pub record IsCutShort {D : Type 0} (reading : Reading) (old : SessionValue D) (pieces : List Piece) (before after_it : Option (List ℕ)) (new : SessionValue D) : Type 0 where
+  pub counts : Option (List ℕ)
+  pub behind : List Piece
+  pub told : SessionValue D
+  pub text : List ℕ
+  pub answered : Leads old (λ s. served reading s pieces) text told (still reading counts behind)
+  pub last : List ℕ
+  pub later : Serving → Reply
+  pub tells : Tells told (still reading counts behind) last new later
+  pub len : ℕ
+  pub written : Appends before after_it (text ++ take len last)
+
+-- Why the serving ended: the reader failed, or so many bytes are no longer read; the writer failed.
+abbrev pub HasCause : ServeFault → Bool → Bool → ℕ → Type 0
+HasCause fault.ReadFault reader_failed writer_failed len = (reader_failed ≡ true) ⊎ (10 ^ 12 ≤ len)
+HasCause fault.WriteFault reader_failed writer_failed len = writer_failed ≡ true

@@ -1,0 +1,112 @@
+-- What a session did and what was written, as replies say it.
+use Rattle.std.specs.Prelude.{◌≡◌, ◌++◌, ◌⊎◌, ℕ, Bool, true, false, List, [], take, Option, Some, Result, MatchResult}
+use Rattle.std.specs.Io.KnownBytes.{Appends}
+use Rattle.command_text.specs.Answering.{Reply, Serving, at_line, answered, load, next_fate, searched, served, unless_broken}
+use Rattle.command_text.specs.declared.answers.Answer.{Answer}
+use Rattle.command_text.specs.declared.answers.Answer.TheVariants as answer
+use Rattle.command_core.specs.declared.refusals.Refusal.TheVariants as refusal
+use Rattle.plan_types.specs.Instance.{Instance}
+use Rattle.instance_read.specs.declared.faults.ReadFault.{ReadFault}
+use Rattle.command_core.specs.declared.states.State.{State}
+use Rattle.command_core.specs.declared.states.State.TheVariants.{Empty}
+use Rattle.recover.specs.Sessions.{SessionValue}
+use Rattle.command_serving.specs.Served.{IsCutShort, Leads, Tells}
+use Rattle.command_serving.specs.declared.answering.ServeFault.{ServeFault}
+use Rattle.command_serving.specs.declared.answering.ServeFault.TheVariants as fault
+use Rattle.command_text.specs.Cutting.{Piece, pieces_of}
+use Rattle.recover.specs.declared.denials.Denial.{Denial}
+use Rattle.recover.specs.declared.denials.Denial.TheVariants as denial
+use Rattle.command_text.specs.Readings.{Reading}
+use Rattle.plan_types.specs.declared.requests.Kind.{Kind}
+use Rattle.command_serving.specs.declared.answering.Goes.{Goes}
+use Rattle.command_serving.specs.declared.answering.Goes.TheVariants.{On, ToEnd}
+use Rattle.command_serving.specs.declared.input.LoadText.{LoadText}
+use Rattle.command_serving.specs.declared.input.LoadText.TheVariants.{Whole, Dropped, Short}
+
+-- nothing more
+abbrev pub silent : Serving → Reply
+silent s = record { text = []; commands = []; left = s }
+
+-- the text was written
+pub record Serves {D : Type 0} (old : SessionValue D) (from : Serving → Reply) (before after : Option (List ℕ)) (new : SessionValue D) (to : Serving → Reply) : Type 0 where
+  pub text : List ℕ
+  pub leads : Leads old from text new to
+  pub written : Appends before after text
+
+-- one answer was written in part or not at all
+pub record CutAtOnce {D : Type 0} (old : SessionValue D) (from : Serving → Reply) (before after : Option (List ℕ)) (new : SessionValue D) : Type 0 where
+  pub last : List ℕ
+  pub later : Serving → Reply
+  pub tells : Tells old from last new later
+  pub len : ℕ
+  pub written : Appends before after (take len last)
+
+-- so it was behind what a search has told
+pub record CutWithin {D : Type 0} (old : SessionValue D) (from : Serving → Reply) (before after : Option (List ℕ)) (new : SessionValue D) : Type 0 where
+  pub counts : List ℕ
+  pub told : SessionValue D
+  pub text : List ℕ
+  pub answered : Leads old from text told (λ s. searched s counts)
+  pub last : List ℕ
+  pub later : Serving → Reply
+  pub tells : Tells told (λ s. searched s counts) last new later
+  pub len : ℕ
+  pub written : Appends before after (text ++ take len last)
+
+abbrev pub CutOff : {D : Type 0} → SessionValue D → (Serving → Reply) → Option (List ℕ) → Option (List ℕ) → SessionValue D → Type 0
+CutOff old from before after new = CutAtOnce old from before after new ⊎ CutWithin old from before after new
+
+-- the text was written, or the serving cut off
+abbrev pub Answers : {D T E : Type 0} → Result T E → SessionValue D → (Serving → Reply) → Option (List ℕ) → Option (List ℕ) → SessionValue D → (Serving → Reply) → Type 0
+Answers r old from before after new to = MatchResult r (λ _. Serves old from before after new to) (λ _. CutOff old from before after new)
+
+-- what is answered to a denial
+abbrev pub denied : Denial → Answer
+denied denial.Broken = answer.Broken
+denied (denial.Core r) = answer.Refused r
+denied denial.Spent = answer.Spent
+denied denial.OutOfMemory = answer.Refused refusal.OutOfMemory
+denied denial.DeviceFault = answer.DeviceFault
+
+-- how far the search is
+abbrev pub at_line_of : {D : Type 0} → SessionValue D → List ℕ
+at_line_of s = at_line s.state
+
+-- the session is broken, or it has no instance, and this is the answer that tells it
+abbrev pub HasNoJob : Bool → State → Answer → Type 0
+HasNoJob is_broken state a = ((is_broken ≡ true) × (a ≡ answer.Broken)) ⊎ ((is_broken ≡ false) × (state ≡ Empty) × (a ≡ answer.Refused refusal.NoInstance))
+
+-- the answer to a load, by what its text spells
+abbrev pub load_reply : ℕ → Result Instance ReadFault → Serving → Reply
+load_reply seed found s = unless_broken s (load (next_fate s.fates) s seed found)
+
+-- the answer to a load whose bytes came so; the bytes themselves, where no memory was found for them
+abbrev pub load_told : LoadText → Reading → Kind → ℕ → List ℕ → Serving → Reply
+load_told Short reading kind seed bytes s = answered s answer.Truncated
+load_told Dropped reading kind seed bytes s = load_reply seed (reading kind bytes) s
+load_told (Whole text) reading kind seed bytes s = load_reply seed (reading kind text.items) s
+
+abbrev pub goes_behind : LoadText → Goes
+goes_behind Short = ToEnd
+goes_behind _ = On
+
+-- what is still answered where the serving goes on with what is left, or ends
+abbrev pub goes_on : Reading → Goes → List ℕ → Serving → Reply
+goes_on reading On left s = served reading s (pieces_of left)
+goes_on reading ToEnd left s = silent s
+
+-- these pieces were served, as far as what is left of an input that is known
+pub record ServesOn {D : Type 0} (reading : Reading) (old : SessionValue D) (pieces : List Piece) (before after : Option (List ℕ)) (new : SessionValue D) (goes : Goes) (known : Option (List ℕ)) : Type 0 where
+  pub left : List ℕ
+  pub is_known : known ≡ Some left
+  pub serves : Serves old (λ s. served reading s pieces) before after new (goes_on reading goes left)
+
+-- these pieces were served, or cut short
+abbrev pub GoesOn : {D : Type 0} → Result Goes ServeFault → Reading → SessionValue D → List Piece → Option (List ℕ) → Option (List ℕ) → SessionValue D → Option (List ℕ) → Type 0
+GoesOn r reading old pieces before after new known =
+    MatchResult r (λ goes. ServesOn reading old pieces before after new goes known) (λ _. IsCutShort reading old pieces before after new)
+
+-- why it was cut short, by how many bytes are still read
+abbrev pub IsCause : ServeFault → Bool → Bool → ℕ → Type 0
+IsCause fault.ReadFault reader_failed writer_failed left = (reader_failed ≡ true) ⊎ (left ≡ 0)
+IsCause fault.WriteFault reader_failed writer_failed left = writer_failed ≡ true

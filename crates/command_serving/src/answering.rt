@@ -1,0 +1,438 @@
+//! Commands by lines of text, over a session.
+ghost use Rattle.std.specs.Prelude.{◌≡◌, ◌≤◌, ◌++◌, IfErr, IfOk, OnErr, MatchResult, ℕ, List, Result, Ok, Err, Some, true, false, length};
+ghost use Rattle.std.specs.Io.KnownBytes.{Appends};
+ghost use Rattle.plan_types.specs.Instance.{Instance};
+ghost use Rattle.instance_read.specs.declared.faults.ReadFault.{ReadFault};
+ghost use Rattle.command_text.specs.Answering.{counts_of, plain, printed, refused, searched, searched_or, search_steps, reach_steps, shown, unless_broken};
+ghost use Rattle.command_text.specs.Cutting.{pieces_of};
+ghost use Rattle.command_text.specs.Laws.{cut_at};
+ghost use Rattle.command_text.specs.Readings.{IsReading, Reading};
+ghost use Rattle.command_text.specs.Answers.{answer_text, line};
+ghost use Rattle.command_core.specs.declared.states.State.TheVariants.{Loaded};
+ghost use Rattle.command_serving.specs.Input.{Counts, left_of};
+ghost use Rattle.command_serving.specs.Streams.{Puts};
+ghost use Rattle.command_serving.specs.Served.{HasCause, IsCutShort, IsServed, Tells};
+ghost use Rattle.command_serving.specs.Serving.{Answers, GoesOn, HasNoJob, IsCause, at_line_of, denied, goes_behind, load_reply, load_told, silent};
+ghost use Rattle.command_serving.specs.declared.answering.ServeFault.TheVariants.{WriteFault};
+
+use crate::input::{Input, LoadText, Unread};
+use crate::streams::{Failed, Sink, Source};
+use command_core::{Command, Job, Refusal, State};
+use command_text::{
+    Answer, Asked, at_line, next_count, pieces_follow, print, reach_steps, read_instance,
+    search_steps, show, states_follow,
+};
+use plan_types::Kind;
+use recover::{Denial, Session};
+use sector_disk::Sectors;
+use sol_text::WriteSolFault;
+use std::alloc::Global;
+use thiserror::Error;
+
+/// Why the serving ended before the input did.
+#[derive(Clone, Copy, Debug, PartialEq, Eq, Error)]
+pub enum ServeFault {
+    #[error("the input can't be read, or is too long")]
+    ReadFault,
+    #[error("an answer can't be written")]
+    WriteFault,
+}
+
+impl From<Unread> for ServeFault {
+    ghost use Rattle.std.specs.Prelude.{◌≡◌};
+    ghost use Rattle.command_serving.specs.declared.answering.ServeFault.TheVariants as serve_fault;
+
+    ghost from_gives = { λ _ fault. fault ≡ serve_fault.ReadFault };
+
+    fn from(_: Unread) -> ServeFault {
+        ServeFault::ReadFault
+    }
+}
+
+impl From<Failed> for ServeFault {
+    ghost use Rattle.std.specs.Prelude.{◌≡◌};
+    ghost use Rattle.command_serving.specs.declared.answering.ServeFault.TheVariants as serve_fault;
+
+    ghost from_gives = { λ _ fault. fault ≡ serve_fault.WriteFault };
+
+    fn from(_: Failed) -> ServeFault {
+        ServeFault::WriteFault
+    }
+}
+
+/// Whether there is more to serve.
+#[derive(Clone, Copy, PartialEq, Eq)]
+enum Goes {
+    On,
+    ToEnd,
+}
+
+/// Does what each line of the input asks for, and writes its answer, until the input ends, or a `load` line leaves open how many bytes
+/// follow it. It ends before that where the reader or the writer fails, or 10^12 bytes were read. Takes no memory to read lines.
+///
+/// `ok` and `at` stand behind the last sync of what they acknowledge. Where the bytes of the input are known and all are served, what is
+/// written is the answer to them, and the session has carried out just the commands that it says, up to a failed device. Behind a fault the
+/// state is that after the commands answered, or with the one whose answer was being written.
+pub fn serve<D: Sectors, R: Source, W: Sink>(
+    alloc: Global,
+    session: &mut Session<D>,
+    reader: &mut R,
+    writer: &mut W,
+) -> Result<(), ServeFault>
+    ensures serves { (reading : Reading) (input : List ℕ) → IsReading reading
+        → R.remaining reader.old ≡ Some input → let before = W.contents writer.old in
+        let after = W.contents writer.new in
+        MatchResult result (λ _. IsServed reading session.old input before after session.new)
+        (λ _. IsCutShort reading session.old (pieces_of input) before after session.new) }
+    ensures cause { (input : List ℕ) → R.remaining reader.old ≡ Some input
+        → IfErr result (λ fault. HasCause fault (R.has_failed reader.new)
+        (W.has_failed writer.new) (length input)) }
+{
+    let mut input = Input::new(alloc);
+    serve_lines(alloc, session, reader, &mut input, writer)
+}
+
+/// Serves the lines that the input has left.
+fn serve_lines<D: Sectors, R: Source, W: Sink>(
+    alloc: Global,
+    session: &mut Session<D>,
+    reader: &mut R,
+    input: &mut Input,
+    writer: &mut W,
+) -> Result<(), ServeFault>
+    ensures serves { (reading : Reading) (bytes : List ℕ) → IsReading reading
+        → left_of R.remaining input.old reader.old ≡ Some bytes → let before = W.contents writer.old in
+        let after = W.contents writer.new in
+        MatchResult result (λ _. IsServed reading session.old bytes before after session.new)
+        (λ _. IsCutShort reading session.old (pieces_of bytes) before after session.new) }
+    ensures cause { IfErr result (λ fault. IsCause fault (R.has_failed reader.new)
+        (W.has_failed writer.new) input.new.left) }
+    ensures counted { Counts (left_of R.remaining input.old reader.old) input.old.left
+        (left_of R.remaining input.new reader.new) input.new.left }
+{
+    pieces_follow();
+    states_follow();
+    loop {
+        let Some(asked) = input.next_asked(reader)? else {
+            return Ok(());
+        };
+        match serve_asked(alloc, session, reader, input, writer, asked)? {
+            Goes::On => {}
+            Goes::ToEnd => return Ok(()),
+        }
+    }
+}
+
+fn serve_asked<D: Sectors, R: Source, W: Sink>(
+    alloc: Global,
+    session: &mut Session<D>,
+    reader: &mut R,
+    input: &mut Input,
+    writer: &mut W,
+    asked: Asked,
+) -> Result<Goes, ServeFault>
+    ensures serves { (reading : Reading) (rest : List ℕ) → IsReading reading
+        → left_of R.remaining input.old reader.old ≡ Some rest
+        → GoesOn result reading session.old (cut_at asked rest)
+        (W.contents writer.old) (W.contents writer.new) session.new
+        (left_of R.remaining input.new reader.new) }
+    ensures cause { IfErr result (λ fault. IsCause fault (R.has_failed reader.new)
+        (W.has_failed writer.new) input.new.left) }
+    ensures counted { Counts (left_of R.remaining input.old reader.old) input.old.left
+        (left_of R.remaining input.new reader.new) input.new.left }
+    ensures less { input.new.left ≤ input.old.left }
+{
+    match asked {
+        Asked::Load { kind, seed, len } => {
+            let text = input.load_text(reader, len as usize)?;
+            let goes = goes_behind(&text);
+            once(serve_load(alloc, session, writer, kind, seed, text), goes)
+        }
+        Asked::BadLoad => once(tell(writer, Answer::BadLine), Goes::ToEnd),
+        Asked::LoadRange => once(tell(writer, Answer::Refused(Refusal::Range)), Goes::ToEnd),
+        Asked::Nothing => Ok(Goes::On),
+        Asked::BadLine => once(tell(writer, Answer::BadLine), Goes::On),
+        Asked::Refused(refusal) => once(tell(writer, refused(session, refusal)), Goes::On),
+        Asked::Plain(command) => once(tell(writer, applied(alloc, session, command)), Goes::On),
+        Asked::Search(steps) => once(serve_search(alloc, session, writer, steps), Goes::On),
+        Asked::Reach(goal) => once(serve_reach(alloc, session, writer, goal), Goes::On),
+        Asked::Print => once(serve_print(alloc, session, writer), Goes::On),
+        Asked::Show => once(serve_show(alloc, session, writer), Goes::On),
+    }
+}
+
+/// Whether there is more to serve, once an answer is written.
+fn once(written: Result<(), Failed>, goes: Goes) -> Result<Goes, ServeFault>
+    ensures { MatchResult written (λ _. result ≡ Ok goes) (λ _. result ≡ Err WriteFault) }
+{
+    match written {
+        Ok(()) => Ok(goes),
+        Err(Failed) => Err(ServeFault::WriteFault),
+    }
+}
+
+/// Writes a text and hands it on.
+fn put<W: Sink>(writer: &mut W, text: &[u8]) -> Result<(), Failed>
+    ensures bytes { Puts (W.contents writer.old) (W.contents writer.new) result text.now }
+    ensures failed { OnErr result (W.has_failed writer.new ≡ true) }
+{
+    writer.put(text)?;
+    writer.flush()
+}
+
+/// Writes a line and hands it on.
+fn put_line<W: Sink>(writer: &mut W, text: &[u8]) -> Result<(), Failed>
+    ensures bytes { Puts (W.contents writer.old) (W.contents writer.new) result (line text.now) }
+    ensures failed { OnErr result (W.has_failed writer.new ≡ true) }
+{
+    writer.put(text)?;
+    put(writer, b"\n")
+}
+
+/// Writes the last line of an answer.
+fn tell<W: Sink>(writer: &mut W, answer: Answer) -> Result<(), Failed>
+    ensures bytes { Puts (W.contents writer.old) (W.contents writer.new) result
+        (line (answer_text answer)) }
+    ensures failed { OnErr result (W.has_failed writer.new ≡ true) }
+{
+    put_line(writer, answer.line().as_bytes())
+}
+
+/// Writes the lines of an answer, and `ok` behind them.
+fn tell_text<W: Sink>(writer: &mut W, text: &[u8]) -> Result<(), Failed>
+    ensures bytes { Puts (W.contents writer.old) (W.contents writer.new) result
+        (text.now ++ line (answer_text Answer.Ok)) }
+    ensures failed { OnErr result (W.has_failed writer.new ≡ true) }
+{
+    writer.put(text)?;
+    tell(writer, Answer::Ok)
+}
+
+/// Carries the command out. `Ok` comes after its last sync.
+fn applied<D: Sectors>(alloc: Global, session: &mut Session<D>, command: Command) -> Answer
+    ensures { Tells session.old (λ s. plain s command)
+        (line (answer_text result)) session.new silent }
+{
+    match session.apply(alloc, command).answer {
+        Ok(()) => Answer::Ok,
+        Err(denial) => denied(denial),
+    }
+}
+
+fn denied(denial: Denial) -> Answer
+    ensures { result ≡ denied denial }
+{
+    match denial {
+        Denial::Broken => Answer::Broken,
+        Denial::Core(refusal) => Answer::Refused(refusal),
+        Denial::Spent => Answer::Spent,
+        Denial::OutOfMemory => Answer::Refused(Refusal::OutOfMemory),
+        Denial::DeviceFault => Answer::DeviceFault,
+    }
+}
+
+/// What is answered to a command with a number that no field holds.
+fn refused<D: Sectors>(session: &Session<D>, refusal: Refusal) -> Answer
+    ensures { Tells session.now (λ s. unless_broken s (refused s s.state refusal))
+        (line (answer_text result)) session.now silent }
+{
+    if session.is_broken() {
+        return Answer::Broken;
+    }
+    match session.state() {
+        State::Empty => Answer::Refused(Refusal::NoInstance),
+        State::Loaded(_) => Answer::Refused(refusal),
+    }
+}
+
+/// The job of a session that is not broken and has an instance, or the answer that tells that it is none.
+fn job_of<D: Sectors>(session: &Session<D>) -> Result<&Job, Answer>
+    ensures job { IfOk result (λ job. (session.now.is_broken ≡ false)
+        × (session.now.state ≡ Loaded job.now)) }
+    ensures none { IfErr result (HasNoJob session.now.is_broken session.now.state) }
+{
+    if session.is_broken() {
+        return Err(Answer::Broken);
+    }
+    match session.state() {
+        State::Loaded(job) => Ok(job),
+        State::Empty => Err(Answer::Refused(Refusal::NoInstance)),
+    }
+}
+
+/// Whether there is more to serve behind the text of a `load`.
+fn goes_behind(text: &LoadText) -> Goes
+    ensures { result ≡ goes_behind text.now }
+{
+    match text {
+        LoadText::Short => Goes::ToEnd,
+        LoadText::Dropped | LoadText::Whole(_) => Goes::On,
+    }
+}
+
+fn serve_load<D: Sectors, W: Sink>(
+    alloc: Global,
+    session: &mut Session<D>,
+    writer: &mut W,
+    kind: Kind,
+    seed: u64,
+    text: LoadText,
+) -> Result<(), Failed>
+    ensures answers { (reading : Reading) (bytes : List ℕ) → IsReading reading
+        → Answers result session.old (load_told text reading kind seed bytes)
+        (W.contents writer.old) (W.contents writer.new) session.new silent }
+    ensures failed { OnErr result (W.has_failed writer.new ≡ true) }
+{
+    match text {
+        LoadText::Short => tell(writer, Answer::Truncated),
+        LoadText::Dropped => tell(writer, dropped(session)),
+        LoadText::Whole(text) => tell(writer, loaded(alloc, session, kind, seed, &text)),
+    }
+}
+
+/// What is answered to a text for which no memory was found.
+fn dropped<D: Sectors>(session: &Session<D>) -> Answer
+    ensures { (seed : ℕ) (found : Result Instance ReadFault)
+        → Tells session.now (load_reply seed found) (line (answer_text result)) session.now silent }
+{
+    if session.is_broken() {
+        Answer::Broken
+    } else {
+        Answer::Refused(Refusal::OutOfMemory)
+    }
+}
+
+/// Reads the instance and begins anew with it.
+fn loaded<D: Sectors>(
+    alloc: Global,
+    session: &mut Session<D>,
+    kind: Kind,
+    seed: u64,
+    text: &[u8],
+) -> Answer
+    ensures { (reading : Reading) → IsReading reading
+        → Tells session.old (load_reply seed (reading kind text.now))
+        (line (answer_text result)) session.new silent }
+{
+    if session.is_broken() {
+        return Answer::Broken;
+    }
+    match read_instance(alloc, kind, text) {
+        Ok(problem) => applied(alloc, session, Command::Load(problem, seed)),
+        Err(fault) => Answer::Read(fault),
+    }
+}
+
+fn serve_search<D: Sectors, W: Sink>(
+    alloc: Global,
+    session: &mut Session<D>,
+    writer: &mut W,
+    steps: u32,
+) -> Result<(), Failed>
+    ensures answers { Answers result session.old
+        (λ s. unless_broken s (searched_or s (search_steps s.state steps)))
+        (W.contents writer.old) (W.contents writer.new) session.new silent }
+    ensures failed { OnErr result (W.has_failed writer.new ≡ true) }
+{
+    if session.is_broken() {
+        return tell(writer, Answer::Broken);
+    }
+    match search_steps(session.state(), steps) {
+        Ok(steps) => search(alloc, session, writer, steps),
+        Err(refusal) => tell(writer, Answer::Refused(refusal)),
+    }
+}
+
+fn serve_reach<D: Sectors, W: Sink>(
+    alloc: Global,
+    session: &mut Session<D>,
+    writer: &mut W,
+    goal: u64,
+) -> Result<(), Failed>
+    ensures answers { Answers result session.old
+        (λ s. unless_broken s (searched_or s (reach_steps s.state goal)))
+        (W.contents writer.old) (W.contents writer.new) session.new silent }
+    ensures failed { OnErr result (W.has_failed writer.new ≡ true) }
+{
+    if session.is_broken() {
+        return tell(writer, Answer::Broken);
+    }
+    match reach_steps(session.state(), goal) {
+        Ok(steps) => search(alloc, session, writer, steps),
+        Err(refusal) => tell(writer, Answer::Refused(refusal)),
+    }
+}
+
+/// Searches piece by piece, each told once it is acknowledged.
+fn search<D: Sectors, W: Sink>(
+    alloc: Global,
+    session: &mut Session<D>,
+    writer: &mut W,
+    steps: u32,
+) -> Result<(), Failed>
+    ensures answers { Answers result session.old (λ s. searched s (counts_of steps))
+        (W.contents writer.old) (W.contents writer.new) session.new silent }
+    ensures failed { OnErr result (W.has_failed writer.new ≡ true) }
+{
+    let mut left = steps;
+    while left > 0 {
+        let count = next_count(left);
+        if let Err(denial) = session.apply(alloc, Command::Search(count)).answer {
+            return tell(writer, denied(denial));
+        }
+        left -= u32::from(count);
+        tell_progress(session, writer)?;
+    }
+    tell(writer, Answer::Ok)
+}
+
+/// Writes how far the search is.
+fn tell_progress<D: Sectors, W: Sink>(session: &Session<D>, writer: &mut W) -> Result<(), Failed>
+    ensures bytes { Puts (W.contents writer.old) (W.contents writer.new) result
+        (at_line_of session.now) }
+    ensures failed { OnErr result (W.has_failed writer.new ≡ true) }
+{
+    match session.state() {
+        State::Loaded(job) => put_line(writer, at_line(job).as_bytes()),
+        State::Empty => Ok(()),
+    }
+}
+
+fn serve_print<D: Sectors, W: Sink>(
+    alloc: Global,
+    session: &Session<D>,
+    writer: &mut W,
+) -> Result<(), Failed>
+    ensures answers { Answers result session.now (λ s. unless_broken s (printed s s.state))
+        (W.contents writer.old) (W.contents writer.new) session.now silent }
+    ensures failed { OnErr result (W.has_failed writer.new ≡ true) }
+{
+    let job = match job_of(session) {
+        Ok(job) => job,
+        Err(answer) => return tell(writer, answer),
+    };
+    match print(alloc, job) {
+        Ok(text) => tell_text(writer, text.as_bytes()),
+        Err(WriteSolFault::Unplanned(_)) => tell(writer, Answer::Unplanned),
+        Err(WriteSolFault::OutOfMemory) => tell(writer, Answer::Refused(Refusal::OutOfMemory)),
+    }
+}
+
+fn serve_show<D: Sectors, W: Sink>(
+    alloc: Global,
+    session: &Session<D>,
+    writer: &mut W,
+) -> Result<(), Failed>
+    ensures answers { Answers result session.now (λ s. unless_broken s (shown s s.state))
+        (W.contents writer.old) (W.contents writer.new) session.now silent }
+    ensures failed { OnErr result (W.has_failed writer.new ≡ true) }
+{
+    let job = match job_of(session) {
+        Ok(job) => job,
+        Err(answer) => return tell(writer, answer),
+    };
+    match show(alloc, job) {
+        Ok(text) => tell_text(writer, text.as_bytes()),
+        Err(_) => tell(writer, Answer::Refused(Refusal::OutOfMemory)),
+    }
+}

@@ -1,0 +1,162 @@
+//! Where commands come from and answers go: readers and writers that tell whether they have failed.
+ghost use Rattle.std.specs.Prelude.{◌≡◌, ◌<◌, ◌≤◌, ℕ, List, Option, Bool, true, false, Some, IfOk, IfSome, IsNone, OnErr, length, take};
+ghost use Rattle.std.specs.Io.{ReadsAtMost};
+ghost use Rattle.std.specs.Io.KnownBytes.{Appends, Keeps, ReadConsumes};
+ghost use Rattle.command_serving.specs.Streams.{Puts, ReadsSome, WritesSome};
+
+use std::io::{ErrorKind, Read, Write};
+
+/// A call of a reader or a writer failed.
+#[derive(Clone, Copy, Debug, PartialEq, Eq)]
+pub struct Failed;
+
+/// What commands are read from.
+pub trait Source {
+    // The bytes that are still to come, where they are known.
+    ghost remaining: { Self → Option (List ℕ) };
+
+    // Whether a call has failed.
+    ghost has_failed: { Self → Bool };
+
+    /// Reads into the block, and says how many bytes. None come only at the end, or where the block is empty.
+    fn read_some(&mut self, block: &mut [u8]) -> Result<usize, Failed>
+        ensures bound { ReadsAtMost result block.new }
+        ensures bytes { ReadConsumes (remaining self.old) (remaining self.new) result block.new }
+        ensures failed { OnErr result (has_failed self.new ≡ true) };
+}
+
+/// What answers are written to.
+pub trait Sink {
+    // The bytes that it holds, where they are known.
+    ghost contents: { Self → Option (List ℕ) };
+
+    // Whether a call has failed.
+    ghost has_failed: { Self → Bool };
+
+    /// Writes a text, or where a call fails a first part of it.
+    fn put(&mut self, text: &[u8]) -> Result<(), Failed>
+        ensures bytes { Puts (contents self.old) (contents self.new) result text.now }
+        ensures failed { OnErr result (has_failed self.new ≡ true) };
+
+    /// Hands on what was written.
+    fn flush(&mut self) -> Result<(), Failed>
+        ensures bytes { Keeps (contents self.old) (contents self.new) }
+        ensures failed { OnErr result (has_failed self.new ≡ true) };
+}
+
+/// A reader or a writer, and whether a call of it has failed.
+#[derive(Drop)]
+pub struct Watched<T> {
+    inner: T,
+    has_failed: bool,
+}
+
+impl<T> Watched<T> {
+    /// No call has failed yet.
+    pub fn new(inner: T) -> Watched<T>
+        ensures inner { result.inner ≡ inner }
+        ensures has_failed { result.has_failed ≡ false }
+    {
+        Watched {
+            inner,
+            has_failed: false,
+        }
+    }
+
+    /// The reader or writer itself.
+    pub fn into_inner(self) -> T
+        ensures { result ≡ self.inner }
+    {
+        self.inner
+    }
+}
+
+/// A call that a signal came between is made again.
+impl<R: Read> Source for Watched<R> {
+    ghost remaining = { λ r. R.remaining r.inner };
+
+    ghost has_failed = { λ r. r.has_failed };
+
+    fn read_some(&mut self, block: &mut [u8]) -> Result<usize, Failed> {
+        match read_once(&mut self.inner, block) {
+            Some(len) => Ok(len),
+            None => {
+                self.has_failed = true;
+                Err(Failed)
+            }
+        }
+    }
+}
+
+/// A call that a signal came between is made again. One that takes no byte of some has failed.
+impl<W: Write> Sink for Watched<W> {
+    ghost contents = { λ w. W.contents w.inner };
+
+    ghost has_failed = { λ w. w.has_failed };
+
+    fn put(&mut self, text: &[u8]) -> Result<(), Failed> {
+        let mut written = 0;
+        while written < text.len() {
+            match write_once(&mut self.inner, &text[written..]) {
+                Some(len) => written += len,
+                None => {
+                    self.has_failed = true;
+                    return Err(Failed);
+                }
+            }
+        }
+        Ok(())
+    }
+
+    fn flush(&mut self) -> Result<(), Failed> {
+        if self.inner.flush().is_err() {
+            self.has_failed = true;
+            return Err(Failed);
+        }
+        Ok(())
+    }
+}
+
+/// It can't fail.
+impl Source for &[u8] {
+    ghost remaining = { λ s. Some s.now };
+
+    ghost has_failed = { λ _. false };
+
+    fn read_some(&mut self, block: &mut [u8]) -> Result<usize, Failed> {
+        let all: &[u8] = *self;
+        let len = all.len().min(block.len());
+        block[..len].copy_from_slice(&all[..len]);
+        *self = &all[len..];
+        Ok(len)
+    }
+}
+
+/// Reads, and gives nothing where the reader fails.
+fn read_once<R: Read>(reader: &mut R, block: &mut [u8]) -> Option<usize>
+    ensures { ReadsSome (R.remaining reader.old) (R.remaining reader.new) result block.new }
+{
+    for _ in 0..u64::MAX {
+        match reader.read(block) {
+            Ok(len) => return Some(len),
+            Err(error) if error.kind() == ErrorKind::Interrupted => {}
+            Err(_) => return None,
+        }
+    }
+    None
+}
+
+/// Writes some bytes of a text that has some, and gives nothing where the writer fails.
+fn write_once<W: Write>(writer: &mut W, text: &[u8]) -> Option<usize>
+    ensures { WritesSome (W.contents writer.old) (W.contents writer.new) result text.now }
+{
+    for _ in 0..u64::MAX {
+        match writer.write(text) {
+            Ok(0) => return None,
+            Ok(len) => return Some(len),
+            Err(error) if error.kind() == ErrorKind::Interrupted => {}
+            Err(_) => return None,
+        }
+    }
+    None
+}
