@@ -270,6 +270,13 @@ fn shows_pins_routes_and_unplanned(rt: HostRuntime) -> Result<(), Fail> {
     Ok(())
 }
 
+fn is_printed(alloc: Global, state: &State, text: &[u8]) -> Result<bool, Fail> {
+    match print(alloc, job_of(state)?) {
+        Ok(printed) => Ok(printed.as_bytes() == text),
+        Err(_) => Ok(false),
+    }
+}
+
 const SEARCH_MOVES: [Move; 3] = [
     (
         b"build",
@@ -292,8 +299,7 @@ const SEARCH_MOVES: [Move; 3] = [
 fn shows_a_search(rt: HostRuntime) -> Result<(), Fail> {
     let state = loaded(rt.alloc(), Kind::Vrp, THREE_CUSTOMERS)?;
     let state = check_moves(&rt, state, &SEARCH_MOVES)?;
-    let printed = print(rt.alloc(), job_of(&state)?).ok().ok_or("a solution")?;
-    assert!(rt; printed.as_bytes() == b"Route #1: 2 1\nRoute #2: 3\nCost 30\n".as_slice());
+    assert!(rt; is_printed(rt.alloc(), &state, b"Route #1: 2 1\nRoute #2: 3\nCost 30\n")?);
     Ok(())
 }
 
