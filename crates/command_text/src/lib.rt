@@ -18,6 +18,3 @@ pub use instances::read_instance;
 pub use laws::{pieces_follow, states_follow};
 pub use showing::{Text, print, show};
 pub use steps::{next_count, reach_steps, search_steps};
-
-#[cfg(test)]
-mod tests;

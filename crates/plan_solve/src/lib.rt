@@ -9,6 +9,3 @@ mod solving;
 pub use faults::SolveFault;
 pub use laws::{solving_is_commands, what_is_solved_passes_the_audit};
 pub use solving::solve;
-
-#[cfg(test)]
-mod tests;

@@ -18,6 +18,3 @@ pub use audit::audit_text;
 pub use command_line::{Invocation, Paths, Task, read_words};
 pub use command_serving::{Failed, ServeFault, Sink, Source, Watched, serve};
 pub use program::run_words;
-
-#[cfg(test)]
-mod tests;

@@ -1,18 +1,21 @@
-//! Runs the program for each line of standard input, whose words are parted by `|`, and prints after each answer its status.
+//! Runs the program for each line of `words.txt`, whose words are parted by `|`, and prints after each answer its status. Standard input is what the
+//! word `run` reads.
 #![tactic(auto)]
 
 use planner_cli::run_words;
 use sector_disk::Unknown;
 use std::alloc::{AllocError, Global};
-use std::io;
+use std::{fs, io};
+
+const LISTS: &str = "words.txt";
 
 const SEPARATOR: char = '|';
 
 fn main(rt: HostRuntime) -> io::Result<()> {
-    for line in rt.lines(rt.alloc()) {
-        let line = line?;
-        println!(rt; "> {}", line.as_str())?;
-        let words = words_of(rt.alloc(), line.as_str())?;
+    let lists = fs::read_to_string(&rt, LISTS)?;
+    for list in lists.as_str().lines() {
+        println!(rt; "> {list}")?;
+        let words = words_of(rt.alloc(), list)?;
         let status = run_words(&rt, Unknown, &mut rt.stderr(), words.as_slice());
         println!(rt; "= {status}")?;
     }

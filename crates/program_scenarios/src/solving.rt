@@ -1,5 +1,6 @@
-use crate::{SolveFault, solve};
-use instance_read::{ReadFault, ReadFaultKind};
+//! Solving: `plan_solve`.
+
+use plan_solve::solve;
 use plan_types::Kind;
 use std::test::Fail;
 

@@ -1,0 +1,330 @@
+//! The text of commands: `command_text`.
+
+use command_core::{Command, Job, Refusal, State, apply};
+use command_text::{
+    Answer, Asked, FirstWord, at_line, next_count, print, reach_steps, read_instance, read_line,
+    search_steps, show,
+};
+use instance_read::{ReadFault, ReadFaultKind};
+use plan_types::Kind;
+use std::alloc::Global;
+use std::process::Abort;
+use std::test::Fail;
+
+/// Two pairs, each of which alone can be served with the other.
+const TWO_PAIRS: &[u8] =
+    b"1 10 1\n0 0 0 0 0 100 0 0 0\n1 1 1 1 0 50 0 0 2\n2 1 1 -1 0 50 0 1 0\n3 2 2 1 0 2 0 0 4\n4 2 2 -1 0 50 0 3 0\n";
+
+const THREE_CUSTOMERS: &[u8] =
+    b"NAME : t3\nTYPE : CVRP\nDIMENSION : 4\nEDGE_WEIGHT_TYPE : EUC_2D\nCAPACITY : 10\nNODE_COORD_SECTION\n1 0 0\n2 3 4\n3 6 8\n4 0 5\nDEMAND_SECTION\n1 0\n2 6\n3 4\n4 5\nDEPOT_SECTION\n1\n-1\nEOF\n";
+
+/// What is asked for, in a word, and the first number of it.
+fn summary(asked: &Asked) -> (&'static str, u64) {
+    match asked {
+        Asked::Nothing => ("nothing", 0),
+        Asked::BadLine => ("bad line", 0),
+        Asked::BadLoad => ("bad load", 0),
+        Asked::LoadRange => ("load range", 0),
+        Asked::Load { len, .. } => ("load", u64::from(*len)),
+        Asked::Plain(command) => command_summary(command),
+        Asked::Refused(refusal) => (refusal.name(), 0),
+        Asked::Search(steps) => ("search", u64::from(*steps)),
+        Asked::Reach(goal) => ("reach", *goal),
+        Asked::Print => ("print", 0),
+        Asked::Show => ("show", 0),
+    }
+}
+
+fn command_summary(command: &Command) -> (&'static str, u64) {
+    match command {
+        Command::Load(_, seed) => ("the command", *seed),
+        Command::Add { demand, .. } => ("add", u64::from(*demand)),
+        Command::Add1 { demand, .. } => ("add1", u64::from(*demand)),
+        Command::Withdraw(name) => ("withdraw", u64::from(*name)),
+        Command::Pin(vehicle, _) => ("pin", u64::from(*vehicle)),
+        Command::Unpin(vehicle) => ("unpin", u64::from(*vehicle)),
+        Command::Build => ("build", 0),
+        Command::Search(_) => ("the command", 0),
+        Command::Checkpoint => ("checkpoint", 0),
+        Command::Deviation(deviation) => ("deviation", u64::from(*deviation)),
+    }
+}
+
+/// A line, the word for what it asks, and the first number of that.
+type Reading = (&'static [u8], &'static str, u64);
+
+const READINGS: [Reading; 46] = [
+    (b"", "nothing", 0),
+    (b" \t ", "nothing", 0),
+    (b"\r", "bad line", 0),
+    (b"build", "build", 0),
+    (b"\tbuild\t ", "build", 0),
+    (b"build\r", "bad line", 0),
+    (b"Build", "bad line", 0),
+    (b"build 1", "bad line", 0),
+    (b"jump", "bad line", 0),
+    (b"checkpoint", "checkpoint", 0),
+    (b"print", "print", 0),
+    (b"show now", "bad line", 0),
+    (b"show", "show", 0),
+    (b"search 1", "search", 1),
+    (b"search 1000000000", "search", 1_000_000_000),
+    (b"search 1000000001", "Range", 0),
+    (b"search 0", "Range", 0),
+    (b"search -0", "Range", 0),
+    (b"search -1", "Range", 0),
+    (b"search +1", "bad line", 0),
+    (b"search 1.0", "bad line", 0),
+    (b"search", "bad line", 0),
+    (b"search 00000000000000000007", "search", 7),
+    (b"search 000000000000000000007", "bad line", 0),
+    (b"search -00000000000000000007", "Range", 0),
+    (b"search 18446744073709551616", "Range", 0),
+    (b"reach -0", "reach", 0),
+    (b"reach 1152921504606846976", "reach", 1 << 60),
+    (b"reach 1152921504606846977", "Range", 0),
+    (b"deviation 4294967296", "Range", 0),
+    (b"deviation 1000000001", "deviation", 1_000_000_001),
+    (b"withdraw -1", "NoSuchRequest", 0),
+    (b"withdraw 4294967296", "NoSuchRequest", 0),
+    (b"pin 1 -1", "NoSuchPlace", 0),
+    (b"pin\t3  4", "pin", 3),
+    (b"unpin 99999999999999999999", "NoSuchPlace", 0),
+    (b"unpin -0", "unpin", 0),
+    (b"add 1 0 0 0 9 0 1 1 0 9 0", "add", 1),
+    (b"add 1 0 0 0 9 0 1 1 0 9", "bad line", 0),
+    (b"add 1 0 0 0 9 0 1 1 0 9 0 0", "bad line", 0),
+    (b"add 1 2147483648 0 0 9 0 1 1 0 9 0", "Range", 0),
+    (b"add1 1 -2147483648 0 9 8 0", "add1", 1),
+    (b"add1 -1 0 0 9 8 0", "Range", 0),
+    (
+        b"load lilim 18446744073709551615 16777216",
+        "load",
+        16_777_216,
+    ),
+    (b"load vrp 0 16777217", "load range", 0),
+    (b"load LILIM 0 66", "bad load", 0),
+];
+
+fn is_read_as(line: &[u8], word: &str, number: u64) -> bool {
+    let (found, first) = summary(&read_line(line));
+    found == word && first == number
+}
+
+fn check_readings<R: Abort>(rt: &R, readings: &[Reading]) {
+    for (line, word, number) in readings {
+        assert!(rt; is_read_as(line, word, *number), "{line:?}");
+    }
+}
+
+#[test]
+fn reads_lines(rt: HostRuntime) {
+    check_readings(&rt, &READINGS);
+}
+
+#[test]
+fn reads_the_longest_line(rt: HostRuntime) -> Result<(), Fail> {
+    let mut line = vec![in rt.alloc(); b' '; 1024]?;
+    assert!(rt; is_read_as(&line, "nothing", 0));
+    line.push(b' ')?;
+    assert!(rt; is_read_as(&line, "bad line", 0));
+    Ok(())
+}
+
+/// What may stand behind `load`, and whether that is the first word then.
+const ENDS: [(&[u8], bool); 6] = [
+    (b"", true),
+    (b"\r", true),
+    (b"\r\r", false),
+    (b"\r ", false),
+    (b"s", false),
+    (b"\tx", true),
+];
+
+fn check_ends<R: Abort>(rt: &R, word: FirstWord, ends: &[(&[u8], bool)]) {
+    for (end, is_load) in ends {
+        assert!(rt; word.take(end).is_load() == *is_load, "{end:?}");
+    }
+}
+
+#[test]
+fn tells_a_load_in_a_line_that_is_too_long(rt: HostRuntime) -> Result<(), Fail> {
+    let mut line = vec![in rt.alloc(); b' '; 1025]?;
+    line.extend_from_slice(b"load")?;
+    assert!(rt; is_read_as(&line, "bad load", 0));
+    check_ends(&rt, FirstWord::new().take(&line), &ENDS);
+    Ok(())
+}
+
+const NUMBER_FAULT: ReadFault = ReadFault {
+    line: u64::MAX,
+    kind: ReadFaultKind::PairMismatch,
+};
+
+const NO_MEMORY: ReadFault = ReadFault {
+    line: 0,
+    kind: ReadFaultKind::OutOfMemory,
+};
+
+const ANSWERS: [(Answer, &[u8]); 10] = [
+    (Answer::Ok, b"ok"),
+    (Answer::BadLine, b"no BadLine"),
+    (Answer::Truncated, b"no Truncated"),
+    (Answer::Broken, b"no Broken"),
+    (Answer::Refused(Refusal::NoSuchRequest), b"no NoSuchRequest"),
+    (
+        Answer::Read(NUMBER_FAULT),
+        b"no PairMismatch 18446744073709551615",
+    ),
+    (Answer::Read(NO_MEMORY), b"no OutOfMemory"),
+    (Answer::Unplanned, b"no Unplanned"),
+    (Answer::Spent, b"no Spent"),
+    (Answer::DeviceFault, b"fault device"),
+];
+
+fn check_answers<R: Abort>(rt: &R, answers: &[(Answer, &[u8])]) {
+    for (answer, text) in answers {
+        assert!(rt; answer.line().as_bytes() == *text, "{text:?}");
+    }
+}
+
+#[test]
+fn writes_answers(rt: HostRuntime) {
+    check_answers(&rt, &ANSWERS);
+}
+
+fn loaded(alloc: Global, kind: Kind, text: &[u8]) -> Result<State, Fail> {
+    let problem = read_instance(alloc, kind, text).ok().ok_or("a problem")?;
+    let load = Command::Load(problem, 0);
+    Ok(apply(alloc, &State::Empty, &load).ok().ok_or("a load")?)
+}
+
+fn command_of(line: &[u8]) -> Result<Command, Fail> {
+    match read_line(line) {
+        Asked::Plain(command) => Ok(command),
+        Asked::Search(steps) if steps > 0 => Ok(Command::Search(next_count(steps))),
+        _ => Err("a command".into()),
+    }
+}
+
+/// What a line makes of a state.
+fn after(alloc: Global, state: &State, line: &[u8]) -> Result<State, Fail> {
+    let command = command_of(line)?;
+    Ok(apply(alloc, state, &command).ok().ok_or("accepted")?)
+}
+
+fn job_of(state: &State) -> Result<&Job, Fail> {
+    match state {
+        State::Loaded(job) => Ok(job),
+        State::Empty => Err("a job".into()),
+    }
+}
+
+/// A line, how far the search is then, and what is shown.
+type Move = (&'static [u8], &'static [u8], &'static [u8]);
+
+fn is_shown(alloc: Global, state: &State, at: &[u8], text: &[u8]) -> Result<bool, Fail> {
+    let job = job_of(state)?;
+    let shown = show(alloc, job)?;
+    Ok(at_line(job).as_bytes() == at && shown.as_bytes() == text)
+}
+
+/// What the lines make of a state, each of which has to be shown as is said.
+fn check_moves<R: Abort + AllocGlobal>(rt: &R, from: State, moves: &[Move]) -> Result<State, Fail> {
+    let mut state = from;
+    for (line, at, text) in moves {
+        state = after(rt.alloc(), &state, line)?;
+        assert!(rt; is_shown(rt.alloc(), &state, at, text)?, "{line:?}");
+    }
+    Ok(state)
+}
+
+const PIN_MOVES: [Move; 4] = [
+    (
+        b"build",
+        b"at 0 0 1 4",
+        b"requests 2 next 5\nsteps 0 place 0\nvehicle 1: 1 3 4 2\ncost 0 1 4\n",
+    ),
+    (
+        b"pin 1 4",
+        b"at 0 0 1 4",
+        b"requests 2 next 5\nsteps 0 place 0\npin 1: 1 3 4 2\nvehicle 1: 1 3 4 2\ncost 0 1 4\n",
+    ),
+    (
+        b"unpin 1",
+        b"at 0 0 1 4",
+        b"requests 2 next 5\nsteps 0 place 0\nvehicle 1: 1 3 4 2\ncost 0 1 4\n",
+    ),
+    (
+        b"withdraw 1",
+        b"at 0 1 0 0",
+        b"requests 1 next 5\nsteps 0 place 0\nunplanned 3\ncost 1 0 0\n",
+    ),
+];
+
+#[test]
+fn shows_pins_routes_and_unplanned(rt: HostRuntime) -> Result<(), Fail> {
+    let state = loaded(rt.alloc(), Kind::LiLim, TWO_PAIRS)?;
+    let state = check_moves(&rt, state, &PIN_MOVES)?;
+    assert!(rt; print(rt.alloc(), job_of(&state)?).is_err());
+    Ok(())
+}
+
+fn is_printed(alloc: Global, state: &State, text: &[u8]) -> Result<bool, Fail> {
+    match print(alloc, job_of(state)?) {
+        Ok(printed) => Ok(printed.as_bytes() == text),
+        Err(_) => Ok(false),
+    }
+}
+
+const SEARCH_MOVES: [Move; 3] = [
+    (
+        b"build",
+        b"at 0 0 0 30",
+        b"requests 3 next 4\nsteps 0 place 0\nvehicle 1: 2 1\nvehicle 2: 3\ncost 0 0 30\n",
+    ),
+    (
+        b"search 1",
+        b"at 1 0 0 30",
+        b"requests 3 next 4\nsteps 1 place 16\nvehicle 1: 2 1\nvehicle 2: 3\ncost 0 0 30\n",
+    ),
+    (
+        b"deviation 7",
+        b"at 1 0 0 30",
+        b"requests 3 next 4\nsteps 1 place 16\nvehicle 1: 2 1\nvehicle 2: 3\ncost 0 0 30\ndeviation 7\nwork 0 0 30\n",
+    ),
+];
+
+#[test]
+fn shows_a_search(rt: HostRuntime) -> Result<(), Fail> {
+    let state = loaded(rt.alloc(), Kind::Vrp, THREE_CUSTOMERS)?;
+    let state = check_moves(&rt, state, &SEARCH_MOVES)?;
+    assert!(rt; is_printed(rt.alloc(), &state, b"Route #1: 2 1\nRoute #2: 3\nCost 30\n")?);
+    Ok(())
+}
+
+/// The three customers behind 200 steps.
+fn searched(alloc: Global) -> Result<State, Fail> {
+    let state = loaded(alloc, Kind::Vrp, THREE_CUSTOMERS)?;
+    after(alloc, &state, b"search 200")
+}
+
+#[test]
+fn counts_the_steps_to_reach(rt: HostRuntime) -> Result<(), Fail> {
+    let state = searched(rt.alloc())?;
+    assert!(rt; reach_steps(&state, 456) == Ok(256));
+    assert!(rt; reach_steps(&state, 10) == Ok(0));
+    assert!(rt; reach_steps(&state, 1_000_000_200) == Ok(1_000_000_000));
+    assert!(rt; reach_steps(&state, 1_000_000_201) == Err(Refusal::Range));
+    Ok(())
+}
+
+#[test]
+fn counts_the_steps_to_search(rt: HostRuntime) -> Result<(), Fail> {
+    let state = searched(rt.alloc())?;
+    assert!(rt; search_steps(&state, 300) == Ok(300));
+    assert!(rt; search_steps(&State::Empty, 300) == Err(Refusal::NoInstance));
+    assert!(rt; next_count(300) == 256);
+    assert!(rt; next_count(44) == 44);
+    Ok(())
+}
