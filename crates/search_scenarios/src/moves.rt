@@ -327,26 +327,37 @@ fn moved(
     }
 }
 
-/// The plan after the example's move, or nothing where there is none; a lone 9 where the plan given does not pass.
-fn after(alloc: Global, example: &Example) -> Result<Vec<u32>, Fail> {
+/// The plan after the move, or nothing where there is none; a lone 9 where the plan given does not pass.
+fn after(
+    alloc: Global,
+    problem: &Problem,
+    pins: &Pins,
+    plan: &Plan,
+    made: Move,
+) -> Result<Vec<u32>, Fail> {
+    if !is_passing(alloc, problem, pins, plan)? {
+        return Ok(vec![in alloc; 9]?);
+    }
+    match moved(alloc, problem, pins, plan, made)? {
+        Some(new) => stops_of(alloc, &new.routes),
+        None => Ok(Vec::new(alloc)),
+    }
+}
+
+/// What the example's move makes of its plan.
+fn told(alloc: Global, example: &Example) -> Result<Vec<u32>, Fail> {
     let (given, pins, plan, made, _) = *example;
     let problem = problem_of(alloc, given)?;
     let pins = pins_of(alloc, pins)?;
     let plan = plan_of(alloc, plan)?;
-    if !is_passing(alloc, &problem, &pins, &plan)? {
-        return Ok(vec![in alloc; 9]?);
-    }
-    match moved(alloc, &problem, &pins, &plan, made)? {
-        Some(new) => stops_of(alloc, &new.routes),
-        None => Ok(Vec::new(alloc)),
-    }
+    after(alloc, &problem, &pins, &plan, made)
 }
 
 /// The place of the first example that does not hold.
 fn first_broken(alloc: Global, examples: &[Example]) -> Result<Option<usize>, Fail> {
     for index in 0..examples.len() {
         let example = &examples[index];
-        if after(alloc, example)?.as_slice() != example.4 {
+        if told(alloc, example)?.as_slice() != example.4 {
             return Ok(Some(index));
         }
     }
