@@ -23,6 +23,3 @@ pub use laws::{images_hold_one_thing, images_hold_or_have_a_cause};
 pub use loads::{Loaded, load_latest, load_latest_v1};
 pub use making::{format, format_with};
 pub use places::Place;
-
-#[cfg(test)]
-mod tests;

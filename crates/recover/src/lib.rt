@@ -11,8 +11,6 @@ mod replies;
 mod runs;
 mod sessions;
 mod stops;
-#[cfg(test)]
-mod tests;
 
 pub use denials::Denial;
 pub use laws::{

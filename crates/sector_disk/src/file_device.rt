@@ -255,6 +255,3 @@ impl<S: Start, F: FileCalls> Sectors for FileDevice<S, F> {
         course_since_earlier (course_of S.Start.disk S.Start.shown F.FileCalls.entries d) t u m
         image le left };
 }
-
-#[cfg(test)]
-mod tests;

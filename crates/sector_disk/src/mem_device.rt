@@ -478,6 +478,3 @@ impl Sectors for MemDevice {
     ghost since_earlier = { λ d t u m image _ le left.
         course_since_earlier (course_of (memory d)) t u m image le left };
 }
-
-#[cfg(test)]
-mod tests;

@@ -22,6 +22,3 @@ pub use laws::{
 pub use records::{decode_record, decode_record_v1, encode_record};
 pub use states::{decode_state, decode_state_v1};
 pub use writing::encode_state;
-
-#[cfg(test)]
-mod tests;
