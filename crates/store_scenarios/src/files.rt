@@ -45,9 +45,11 @@ fn a_file_is_opened_again(rt: HostRuntime) -> Result<(), Fail> {
     fill_end(&rt, path)?;
     let mut device = FileDevice::at(&rt, path, Unknown)?;
     assert!(rt; device.len() == 802);
-    let mut bytes = [1; 1536];
-    device.read(799, &mut bytes)?;
-    assert!(rt; bytes[..512] == [0; 512] && bytes[512..] == [7; 1024]);
+    let mut zeros = [1; 512];
+    device.read(799, &mut zeros)?;
+    let mut sevens = [1; 1024];
+    device.read(800, &mut sevens)?;
+    assert!(rt; zeros == [0; 512] && sevens == [7; 1024]);
     Ok(fs::remove_file(&rt, path)?)
 }
 
