@@ -81,9 +81,27 @@ fn serve_opened<D: Sectors + Drop, I: Read, W: Write>(
     } = opened;
     writeln!(output, "opened {replayed}")?;
     output.flush()?;
+    let served = serve_session(alloc, &mut session, input, output);
+    tell_served(served, output)
+}
+
+/// Does what the input asks for.
+fn serve_session<D: Sectors, I: Read, W: Write>(
+    alloc: Global,
+    session: &mut Session<D>,
+    input: &mut I,
+    output: &mut W,
+) -> Result<(), ServeFault> {
     let mut commands = Watched::new(input);
-    let mut answers = Watched::new(output.by_ref());
-    match serve(alloc, &mut session, &mut commands, &mut answers) {
+    let mut answers = Watched::new(output);
+    serve(alloc, session, &mut commands, &mut answers)
+}
+
+/// Tells an input that can't be read, and gives the status of what was served.
+fn tell_served<W: Write>(served: Result<(), ServeFault>, output: &mut W) -> io::Result<u8>
+    ensures { IfOk result (λ status. status ≤ 4) }
+{
+    match served {
         Ok(()) => Ok(DONE),
         Err(ServeFault::ReadFault) => {
             writeln!(output, "cannot read input")?;
