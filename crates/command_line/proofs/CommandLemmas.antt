@@ -23,7 +23,7 @@ use Rattle.std.proofs.lemmas.Slice.Eq.{bytes_eq-Decides}
 use Rattle.clap.proofs.WalkLemmas.{first_value-rows, list_any-map}
 use Rattle.clap.proofs.OnLiterals.{clap_on_literals}
 use Rattle.command_line.specs.declared.words.Invocation.{Invocation}
-use Rattle.command_line.specs.Asked.{IsRefusal, ArePositional, Asked, PathsAsked, Reads, TaskAsked, asked_by, asked_with, asks_help, audit, audits, draw, explain, format, is_positional_word, kind_named, list_asked, list_from, list_in, paths_asked, paths_from, paths_in, run, seed_named, seed_or_none, solve, steps_named, store_asked, store_in, task_asked, task_from, task_in, task_with, told_by, told_of, usage_status_of}
+use Rattle.command_line.specs.Asked.{IsRefusal, ArePositional, Asked, PathsAsked, Reads, asked_by, asks_help, audit, audits, draw, explain, format, is_positional_word, kind_named, list_asked, list_from, list_in, paths_asked, paths_from, paths_in, run, seed_named, seed_or_none, solve, steps_named, store_asked, store_in, task_asked, task_from, task_in, task_with, told_by, told_of, usage_status_of}
 use Rattle.command_line.specs.CommandLine.{IsKindNames, IsPlannerCommand, audits_app, paths_app, planner_app, solve_app, store_app}
 
 -- ---- a word that does not begin with a hyphen is a value

@@ -1,8 +1,8 @@
 -- The command with its two words.
-use Rattle.std.proofs.Common.{◌≡◌, ◌∙◌, ap, codes, rules}
+use Rattle.std.proofs.Common.{◌∙◌, ap, codes}
 use Rattle.clap.specs.Simple.{app_of_fields}
-use Rattle.clap.specs.Words.{app_of, new_app, new_rule, with_rule}
-use Rattle.command_line.specs.CommandLine.{IsLeafCommand, IsWord, kind_app, kind_rule, word_rule}
+use Rattle.clap.specs.Words.{new_app}
+use Rattle.command_line.specs.CommandLine.{IsLeafCommand, kind_app, kind_rule, word_rule}
 use Rattle.command_line.proofs.words.audits_command.Goals as goal
 
 pub returns : goal.returns

@@ -2,7 +2,7 @@
 use Rattle.std.proofs.Common.{◌≡◌, ◌∙◌, ap, codes, Bor, List, true}
 use Rattle.std.proofs.lemmas.Result.{IfOk-weaker}
 use Rattle.clap.specs.Simple.{app_of_fields, on_top}
-use Rattle.clap.specs.Words.{App, Shape, Text, app_of, new_app, with_subcommand}
+use Rattle.clap.specs.Words.{Shape, Text, app_of, new_app, with_subcommand}
 use Rattle.clap.specs.declared.builder.command.Command.{Command}
 use Rattle.command_line.specs.CommandLine.{IsKindNames, audits_app, paths_app, planner_app, solve_app, store_app, versioned_app}
 use Rattle.command_line.proofs.words.planner_command.Goals as goal

@@ -1,7 +1,7 @@
 -- The command with its four words, the last of which may be left out.
-use Rattle.std.proofs.Common.{◌≡◌, ◌∙◌, ap, codes, rules}
+use Rattle.std.proofs.Common.{◌∙◌, ap, codes, rules}
 use Rattle.clap.specs.Simple.{app_of_fields}
-use Rattle.clap.specs.Words.{app_of, new_app, new_rule, with_rule}
+use Rattle.clap.specs.Words.{new_app, new_rule, with_rule}
 use Rattle.command_line.specs.CommandLine.{IsLeafCommand, IsWord, kind_app, kind_rule, word_rule}
 use Rattle.command_line.proofs.words.solve_command.Goals as goal
 
