@@ -1,5 +1,5 @@
 -- What an instance's text and a solution's text are, and what is told of them.
-use Rattle.std.specs.Prelude.{◌≢◌, ℕ, List, codes}
+use Rattle.std.specs.Prelude.{ℕ, List, codes}
 use Rattle.plan_types.specs.Instance.{Instance, IsInstance}
 use Rattle.plan_types.specs.declared.requests.Kind.{Kind}
 use Rattle.plan_audit.specs.declared.rules.Verdict.{Verdict}

@@ -1,5 +1,5 @@
 -- Each line adds its own, and behind the last one all is told.
-use Rattle.std.proofs.Common.{◌≡◌, ◌∷◌, [], List, ℕ, rules, arith}
+use Rattle.std.proofs.Common.{◌≡◌, ◌∷◌, [], rules, arith}
 use Rattle.planner_cli.proofs.TellLemmas.{all_told, left_as, line_told, nothing_told, status_as}
 use Rattle.planner_cli.proofs.listed.audit_lines.Goals as goal
 

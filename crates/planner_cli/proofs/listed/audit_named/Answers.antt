@@ -1,5 +1,5 @@
 -- The pair of the line with what is told of it, or that it names none.
-use Rattle.std.proofs.Common.{◌≡◌, ◌++◌, ◌∷◌, [], List, ℕ, codes, inl, inr, refl, rules, subst}
+use Rattle.std.proofs.Common.{◌++◌, ◌∷◌, [], codes, inl, inr, refl, rules, subst}
 use Rattle.std.specs.Io.KnownBytes.{Appends}
 use Rattle.std.proofs.KnownBytes.{Appends-trans}
 use Rattle.std.proofs.lemmas.Result.{IfOk-weaker}
