@@ -1,9 +1,12 @@
 //! What an image holds, found sector by sector as the format's table has it.
 
 use checkpoint::{Loaded, Place, StoreFault};
-use command_core::Command;
+use command_core::{Command, State};
 use state_codec::{CodecFault, decode_record, decode_state};
 use std::alloc::Global;
+
+/// The name and the version.
+const MAGIC: &[u8] = b"PDRSTORE\x00\x00\x00\x02";
 
 /// A sector of an image; zeros where it has none.
 fn sector_of(image: &[u8], i: u32) -> [u8; 512] {
@@ -27,23 +30,27 @@ fn number_in(bytes: &[u8]) -> u64 {
 /// What one of the header sectors says, where it is valid.
 fn header_of(image: &[u8], i: u32) -> Option<(u64, u64)> {
     let sector = sector_of(image, i);
+    if image.len() < 4_326_400
+        || !sector.starts_with(MAGIC)
+        || !sector[28..].iter().all(|byte| *byte == 0)
+    {
+        return None;
+    }
     let (sequence, length) = (number_in(&sector[12..20]), number_in(&sector[20..28]));
-    let is_header = sector.starts_with(b"PDRSTORE\x00\x00\x00\x02")
-        && sector[28..].iter().all(|byte| *byte == 0);
-    let is_valid = image.len() >= 4_326_400
-        && sequence % 2 == u64::from(i)
-        && (1..=1 << 60).contains(&sequence)
-        && (1..=2_097_152).contains(&length);
-    if is_header && is_valid {
+    if is_valid(sequence, length) && sequence % 2 == u64::from(i) {
         Some((sequence, length))
     } else {
         None
     }
 }
 
+fn is_valid(sequence: u64, length: u64) -> bool {
+    (1..=1 << 60).contains(&sequence) && (1..=2_097_152).contains(&length)
+}
+
 fn has_other_version(image: &[u8], i: u32) -> bool {
     let sector = sector_of(image, i);
-    sector.starts_with(b"PDRSTORE") && !sector.starts_with(b"PDRSTORE\x00\x00\x00\x02")
+    sector.starts_with(b"PDRSTORE") && !sector.starts_with(MAGIC)
 }
 
 /// The commands of the records of a sequence, with the sectors behind them looked through.
@@ -65,28 +72,36 @@ fn journal_of(alloc: Global, image: &[u8], sequence: u64) -> Result<Vec<Command>
     Ok(commands)
 }
 
-/// What the image holds, or why it holds nothing.
-pub(crate) fn held(alloc: Global, image: &[u8]) -> Result<Loaded, StoreFault> {
-    let (sequence, length) = match (header_of(image, 0), header_of(image, 1)) {
-        (Some(even), Some(odd)) => even.max(odd),
-        (Some(header), None) | (None, Some(header)) => header,
-        (None, None) => {
-            if has_other_version(image, 0) || has_other_version(image, 1) {
-                return Err(StoreFault::BadVersion);
-            }
-            return Err(StoreFault::NotFormatted);
+/// The sequence and the length of the latest valid header.
+fn latest_header_of(image: &[u8]) -> Result<(u64, u64), StoreFault> {
+    match (header_of(image, 0), header_of(image, 1)) {
+        (Some(even), Some(odd)) => Ok(even.max(odd)),
+        (Some(header), None) | (None, Some(header)) => Ok(header),
+        (None, None) if has_other_version(image, 0) || has_other_version(image, 1) => {
+            Err(StoreFault::BadVersion)
         }
-    };
+        (None, None) => Err(StoreFault::NotFormatted),
+    }
+}
+
+/// The state in the half of a sequence.
+fn state_of(alloc: Global, image: &[u8], sequence: u64, length: u64) -> Result<State, StoreFault> {
     let first = if sequence % 2 == 0 { 258 } else { 4354 };
     let mut snapshot = Vec::new(alloc);
     for byte in image.iter().skip(512 * first).take(length as usize) {
         snapshot.push(*byte)?;
     }
-    let state = match decode_state(alloc, &snapshot) {
-        Ok(state) => state,
-        Err(CodecFault::OutOfMemory) => return Err(StoreFault::OutOfMemory),
-        Err(fault) => return Err(StoreFault::Codec(fault)),
-    };
+    match decode_state(alloc, &snapshot) {
+        Ok(state) => Ok(state),
+        Err(CodecFault::OutOfMemory) => Err(StoreFault::OutOfMemory),
+        Err(fault) => Err(StoreFault::Codec(fault)),
+    }
+}
+
+/// What the image holds, or why it holds nothing.
+pub(crate) fn held(alloc: Global, image: &[u8]) -> Result<Loaded, StoreFault> {
+    let (sequence, length) = latest_header_of(image)?;
+    let state = state_of(alloc, image, sequence, length)?;
     let commands = journal_of(alloc, image, sequence)?;
     let used = u32::try_from(commands.len()).unwrap_or(u32::MAX);
     Ok(Loaded {

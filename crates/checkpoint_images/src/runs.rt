@@ -2,11 +2,11 @@
 
 use crate::images::held;
 use crate::trouble::Trouble;
-use checkpoint::{Place, StoreFault, commit_record, commit_snapshot, format, load_latest};
+use checkpoint::{Loaded, Place, StoreFault, commit_record, commit_snapshot, format, load_latest};
 use command_core::{Command, Refusal, Spot, State, apply};
 use plan_types::{Kind, Problem, Stop};
 use sector_disk::{MemDevice, Sectors};
-use std::alloc::Global;
+use std::alloc::{AllocError, Global};
 
 pub(crate) const SECTORS: usize = 8450;
 
@@ -30,9 +30,7 @@ pub(crate) fn agreed(alloc: Global, device: &mut MemDevice) -> Result<(u64, u32)
     let image = image_of(alloc, device)?;
     let slow = held(alloc, &image);
     let fast = load_latest(alloc, device);
-    let first = format!(in alloc; "{slow:?}")?;
-    let second = format!(in alloc; "{fast:?}")?;
-    if first.as_str() != second.as_str() {
+    if !are_told_alike(alloc, &slow, &fast)? {
         return Err(Trouble::Differ);
     }
     match fast {
@@ -40,6 +38,16 @@ pub(crate) fn agreed(alloc: Global, device: &mut MemDevice) -> Result<(u64, u32)
         Err(StoreFault::NotFormatted) => Ok((0, 0)),
         Err(_) => Ok((0, 1)),
     }
+}
+
+fn are_told_alike(
+    alloc: Global,
+    slow: &Result<Loaded, StoreFault>,
+    fast: &Result<Loaded, StoreFault>,
+) -> Result<bool, AllocError> {
+    let slow = format!(in alloc; "{slow:?}")?;
+    let fast = format!(in alloc; "{fast:?}")?;
+    Ok(slow.as_str() == fast.as_str())
 }
 
 /// A format, two records, a snapshot of the empty state and one more record: 16 device calls.
@@ -55,6 +63,22 @@ pub(crate) fn small_run(alloc: Global, device: &mut MemDevice) -> Result<Place, 
 
 /// A state with 40 requests of one stop: 1,238 bytes.
 pub(crate) fn larger_state(alloc: Global) -> Result<State, Refusal> {
+    let mut state = empty_problem(alloc)?;
+    for x in 0..40 {
+        let spot = Spot {
+            x,
+            y: 0,
+            earliest: 0,
+            latest: 100,
+            service: 0,
+        };
+        state = apply(alloc, &state, &Command::Add1 { demand: 1, spot })?;
+    }
+    Ok(state)
+}
+
+/// A problem without requests, just loaded.
+fn empty_problem(alloc: Global) -> Result<State, Refusal> {
     let depot = Stop {
         number: 0,
         x: 0,
@@ -67,16 +91,5 @@ pub(crate) fn larger_state(alloc: Global) -> Result<State, Refusal> {
     let Ok(problem) = Problem::new(alloc, Kind::LiLim, depot, 10, 1) else {
         return Err(Refusal::OutOfMemory);
     };
-    let mut state = apply(alloc, &State::Empty, &Command::Load(problem, 0))?;
-    for x in 0..40 {
-        let spot = Spot {
-            x,
-            y: 0,
-            earliest: 0,
-            latest: 100,
-            service: 0,
-        };
-        state = apply(alloc, &state, &Command::Add1 { demand: 1, spot })?;
-    }
-    Ok(state)
+    apply(alloc, &State::Empty, &Command::Load(problem, 0))
 }
