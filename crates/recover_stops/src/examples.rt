@@ -108,11 +108,15 @@ pub(crate) fn states_of(alloc: Global, commands: &[Command]) -> io::Result<Vec<V
     let mut states = Vec::new(alloc);
     states.push(encode_state(alloc, &state)?)?;
     for command in commands {
-        state = match apply(alloc, &state, command) {
-            Ok(next) => next,
-            Err(_) => return Err(failed()),
-        };
+        state = applied(alloc, &state, command)?;
         states.push(encode_state(alloc, &state)?)?;
     }
     Ok(states)
+}
+
+fn applied(alloc: Global, state: &State, command: &Command) -> io::Result<State> {
+    match apply(alloc, state, command) {
+        Ok(next) => Ok(next),
+        Err(_) => Err(failed()),
+    }
 }

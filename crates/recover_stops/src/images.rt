@@ -59,15 +59,19 @@ impl<'a> Image<'a> {
     pub(crate) fn print<R: Print>(&self, rt: &R, alloc: Global, name: &str) -> io::Result<()> {
         match Session::open(alloc, self.device(alloc)?) {
             Err((fault, _)) => println!(rt; "{name}: {fault:?}"),
-            Ok(opened) => {
-                let bytes = encode_state(alloc, opened.session.state())?;
-                let same = bytes.as_slice() == self.snapshot;
-                println!(rt;
-                    "{name}: {}, the same {same}",
-                    kind_of(opened.session.state())
-                )
-            }
+            Ok(opened) => self.print_state(rt, alloc, name, opened.session.state()),
         }
+    }
+
+    fn print_state<R: Print>(
+        &self,
+        rt: &R,
+        alloc: Global,
+        name: &str,
+        state: &State,
+    ) -> io::Result<()> {
+        let same = encode_state(alloc, state)?.as_slice() == self.snapshot;
+        println!(rt; "{name}: {}, the same {same}", kind_of(state))
     }
 
     /// Whether opening it is refused, and prints as this fault.
@@ -116,6 +120,20 @@ fn with_routes(alloc: Global, demand: u8, numbers: &[u8]) -> io::Result<Vec<u8>>
 /// Opens stores whose snapshots are cut, too long, or of other routes.
 pub(crate) fn print_snapshots<R: Print>(rt: &R, alloc: Global) -> io::Result<()> {
     Image::of(&LOADED).print(rt, alloc, "whole")?;
+    print_cuts(rt, alloc)?;
+    print_longer(rt, alloc)?;
+    print_routes(rt, alloc)?;
+    print_first_bytes(rt, alloc)
+}
+
+fn print_cuts<R: Print>(rt: &R, alloc: Global) -> io::Result<()> {
+    let truncated = truncated_cuts(alloc)?;
+    println!(rt; "cut to 1 to 94 bytes: {truncated} are Codec(Truncated)")?;
+    Image::of(&[]).print(rt, alloc, "cut to none")
+}
+
+/// How many of the snapshots of 1 to 94 bytes are refused as cut.
+fn truncated_cuts(alloc: Global) -> io::Result<u32> {
     let mut truncated: u32 = 0;
     for length in 1..95 {
         let image = Image::of(&LOADED[..length]);
@@ -123,44 +141,62 @@ pub(crate) fn print_snapshots<R: Print>(rt: &R, alloc: Global) -> io::Result<()>
             truncated = truncated.saturating_add(1);
         }
     }
-    println!(rt; "cut to 1 to 94 bytes: {truncated} are Codec(Truncated)")?;
-    Image::of(&[]).print(rt, alloc, "cut to none")?;
+    Ok(truncated)
+}
+
+fn print_longer<R: Print>(rt: &R, alloc: Global) -> io::Result<()> {
     let mut longer = LOADED.to_vec(alloc)?;
     longer.push(0)?;
-    Image::of(&longer).print(rt, alloc, "one byte more")?;
-    let rows: [(&str, u8, &[u8]); 4] = [
-        ("route [1]", 6, &[0, 1, 1, 1, 1]),
-        ("demand above the capacity", 11, &[0, 1, 1, 1, 1]),
-        ("route [1 1]", 6, &[0, 2, 1, 1, 2, 1, 1]),
-        ("pin above the route", 6, &[1, 0, 0]),
-    ];
-    for (name, demand, numbers) in rows {
-        let bytes = with_routes(alloc, demand, numbers)?;
+    Image::of(&longer).print(rt, alloc, "one byte more")
+}
+
+/// A name, the customer's demand, and the numbers behind the requests.
+const ROUTES: [(&str, u8, &[u8]); 4] = [
+    ("route [1]", 6, &[0, 1, 1, 1, 1]),
+    ("demand above the capacity", 11, &[0, 1, 1, 1, 1]),
+    ("route [1 1]", 6, &[0, 2, 1, 1, 2, 1, 1]),
+    ("pin above the route", 6, &[1, 0, 0]),
+];
+
+fn print_routes<R: Print>(rt: &R, alloc: Global) -> io::Result<()> {
+    for (name, demand, numbers) in &ROUTES {
+        let bytes = with_routes(alloc, *demand, numbers)?;
         Image::of(&bytes).print(rt, alloc, name)?;
     }
-    for first in [0, 1, 2] {
+    Ok(())
+}
+
+fn print_first_bytes<R: Print>(rt: &R, alloc: Global) -> io::Result<()> {
+    for first in 0..3 {
         Image::of(&[first]).print(rt, alloc, "one byte")?;
     }
     Ok(())
 }
 
+/// A name, the header's sector, version and length of the snapshot, and the sequence of a record where none is due.
+type Header = (&'static str, u64, u8, u32, u8);
+
+const HEADERS: [Header; 7] = [
+    ("sequence 2 in sector 1", 1, 2, 95, 0),
+    ("version 9", 0, 9, 95, 0),
+    ("version 1", 0, 1, 95, 0),
+    ("length 2097153", 0, 2, 2_097_153, 0),
+    ("record 5 of sequence 1", 0, 2, 95, 1),
+    ("record 5 of sequence 2", 0, 2, 95, 2),
+    ("record 5 of sequence 3", 0, 2, 95, 3),
+];
+
 /// Opens stores with other headers, and with a record where none is due.
 pub(crate) fn print_headers<R: Print>(rt: &R, alloc: Global) -> io::Result<()> {
-    let rows = [
-        ("sequence 2 in sector 1", 1, 2, 95, 0),
-        ("version 9", 0, 9, 95, 0),
-        ("version 1", 0, 1, 95, 0),
-        ("length 2097153", 0, 2, 2_097_153, 0),
-        ("record 5 of sequence 1", 0, 2, 95, 1),
-        ("record 5 of sequence 2", 0, 2, 95, 2),
-        ("record 5 of sequence 3", 0, 2, 95, 3),
-    ];
-    for (name, sector, version, length, stray) in rows {
-        let mut image = Image::of(&LOADED);
-        image.sector = sector;
-        image.version = version;
-        image.length = length;
-        image.stray = stray;
+    for (name, sector, version, length, stray) in &HEADERS {
+        let image = Image {
+            sector: *sector,
+            version: *version,
+            sequence: 2,
+            length: *length,
+            snapshot: &LOADED,
+            stray: *stray,
+        };
         image.print(rt, alloc, name)?;
     }
     Ok(())

@@ -38,19 +38,10 @@ impl Refused {
 
 /// A session over a new store; none where it was refused memory and can be had once more.
 fn begun(alloc: Global) -> io::Result<Result<Session<MemDevice>, Refused>> {
-    let Ok(mut device) = MemDevice::new(alloc, SECTORS) else {
-        return Ok(Err(Refused::Before));
+    let device = match formatted(alloc) {
+        Ok(device) => device,
+        Err(refused) => return Ok(Err(refused)),
     };
-    match format(alloc, &mut device) {
-        Ok(_) => {}
-        Err(FormatFault::TooSmall) => return Ok(Err(Refused::Otherwise)),
-        Err(FormatFault::OutOfMemory | FormatFault::DeviceFault) => {
-            return Ok(Err(match format(alloc, &mut device) {
-                Ok(_) => Refused::Before,
-                Err(_) => Refused::Otherwise,
-            }));
-        }
-    }
     match Session::open(alloc, device) {
         Ok(opened) => Ok(Ok(opened.session)),
         Err((StoreFault::OutOfMemory | StoreFault::DeviceFault, device)) => {
@@ -61,22 +52,52 @@ fn begun(alloc: Global) -> io::Result<Result<Session<MemDevice>, Refused>> {
     }
 }
 
-/// Carries out the five commands. An error is want of memory in this program itself.
-pub(crate) fn run_once(alloc: Global) -> io::Result<Refused> {
-    let mut session = match begun(alloc)? {
-        Ok(session) => session,
-        Err(refused) => return Ok(refused),
+/// A device with a new store.
+fn formatted(alloc: Global) -> Result<MemDevice, Refused> {
+    let Ok(mut device) = MemDevice::new(alloc, SECTORS) else {
+        return Err(Refused::Before);
     };
-    let mut done: usize = 0;
-    for command in five_commands(alloc)? {
-        match answer(alloc, &mut session, command) {
-            Ok(()) => done = done.saturating_add(1),
-            Err(denial) => return after(alloc, session, denial, done),
+    match format(alloc, &mut device) {
+        Ok(_) => Ok(device),
+        Err(FormatFault::TooSmall) => Err(Refused::Otherwise),
+        Err(FormatFault::OutOfMemory | FormatFault::DeviceFault) => {
+            Err(found(Refused::Before, format(alloc, &mut device).is_ok()))
         }
     }
-    let states = states_of(alloc, &five_commands(alloc)?)?;
-    let is_done = done == 5 && is_after(alloc, &session, &states, done)?;
-    Ok(found(Refused::Nowhere, is_done))
+}
+
+/// Carries out the five commands. An error is want of memory in this program itself.
+pub(crate) fn run_once(alloc: Global) -> io::Result<Refused> {
+    match begun(alloc)? {
+        Ok(session) => carried_out(alloc, session),
+        Err(refused) => Ok(refused),
+    }
+}
+
+fn carried_out(alloc: Global, mut session: Session<MemDevice>) -> io::Result<Refused> {
+    match first_denial(alloc, &mut session)? {
+        (done, Some(denial)) => after(alloc, session, denial, done),
+        (done, None) => {
+            let states = states_of(alloc, &five_commands(alloc)?)?;
+            let is_done = done == 5 && is_after(alloc, &session, &states, done)?;
+            Ok(found(Refused::Nowhere, is_done))
+        }
+    }
+}
+
+/// How many of the five commands are carried out before the first that is denied, and its denial.
+fn first_denial(
+    alloc: Global,
+    session: &mut Session<MemDevice>,
+) -> io::Result<(usize, Option<Denial>)> {
+    let mut done: usize = 0;
+    for command in five_commands(alloc)? {
+        if let Err(denial) = answer(alloc, session, command) {
+            return Ok((done, Some(denial)));
+        }
+        done = done.saturating_add(1);
+    }
+    Ok((done, None))
 }
 
 /// What a denial of the command number `done` leaves.
@@ -104,12 +125,20 @@ fn carried_on(
     states: &[Vec<u8>],
     done: usize,
 ) -> io::Result<Refused> {
-    for command in five_commands(alloc)?.into_iter().skip(done) {
-        if answer(alloc, &mut session, command).is_err() {
-            return Ok(Refused::Otherwise);
+    let is_done = are_accepted(alloc, &mut session, done)? && is_after(alloc, &session, states, 5)?;
+    Ok(found(Refused::Command, is_done))
+}
+
+/// Whether the commands from this number on are accepted, one after another.
+fn are_accepted(alloc: Global, session: &mut Session<MemDevice>, first: usize) -> io::Result<bool> {
+    let mut number: usize = 0;
+    for command in five_commands(alloc)? {
+        if number >= first && answer(alloc, session, command).is_err() {
+            return Ok(false);
         }
+        number = number.saturating_add(1);
     }
-    Ok(found(Refused::Command, is_after(alloc, &session, states, 5)?))
+    Ok(true)
 }
 
 /// Opens the device of a session that is broken.

@@ -74,14 +74,25 @@ impl Ended {
         let replies = session.run(alloc, commands)?.replies;
         let mut device = session.close();
         device.crash(choices);
-        let opened = open(alloc, device)?;
+        Ended::with(alloc, &replies, &open(alloc, device)?)
+    }
+
+    fn with(alloc: Global, replies: &[Reply], opened: &Opened<MemDevice>) -> io::Result<Ended> {
         Ok(Ended {
-            acknowledged: count_of(&replies, Ok(())),
-            faults: count_of(&replies, Err(Denial::DeviceFault)),
-            refused: count_of(&replies, Err(Denial::Broken)),
+            acknowledged: count_of(replies, Ok(())),
+            faults: count_of(replies, Err(Denial::DeviceFault)),
+            refused: count_of(replies, Err(Denial::Broken)),
             bytes: encode_state(alloc, opened.session.state())?,
             replayed: opened.replayed,
         })
+    }
+
+    /// Prints how the run with a failing call ended, and how many commands the state has.
+    pub(crate) fn print<R: Print>(&self, rt: &R, call: u64, place: usize) -> io::Result<()> {
+        println!(rt;
+            "{call}: {} {} {}; {place}",
+            self.acknowledged, self.faults, self.refused
+        )
     }
 }
 
@@ -141,15 +152,19 @@ pub(crate) struct Tally {
 impl Tally {
     pub(crate) fn add(&mut self, ended: &Ended, states: &[Vec<u8>]) {
         self.acknowledged = ended.acknowledged;
+        self.count(ended, states);
+        if ended.replayed > 0 {
+            self.replayed = self.replayed.saturating_add(1);
+        }
+    }
+
+    fn count(&mut self, ended: &Ended, states: &[Vec<u8>]) {
         if is_state(states, ended.acknowledged, &ended.bytes) {
             self.same = self.same.saturating_add(1);
         } else if is_state(states, ended.acknowledged.saturating_add(1), &ended.bytes) {
             self.one_more = self.one_more.saturating_add(1);
         } else {
             self.other = self.other.saturating_add(1);
-        }
-        if ended.replayed > 0 {
-            self.replayed = self.replayed.saturating_add(1);
         }
     }
 
