@@ -1,5 +1,5 @@
 -- Changes of a draft that make another plan of it.
-use Rattle.std.proofs.Common.{◌≡◌, ℕ, ◌≤◌, true, List, [], ◌∷◌, All, length, sym, ap, ◌∙◌, arith}
+use Rattle.std.proofs.Common.{◌≡◌, ℕ, ◌≤◌, true, List, [], ◌∷◌, All, length, map, sym, ap, subst, ◌∙◌, arith}
 use Rattle.std.specs.List.{AllByRecursion, list_all}
 use Rattle.std.proofs.lemmas.Bool.{and_parts}
 use Rattle.std.proofs.lemmas.List.{length-map}
@@ -7,7 +7,7 @@ use Rattle.std.proofs.lemmas.List.Elements.{All-from_recursion}
 use Rattle.plan_types.specs.Instance.{Instance, IsInstance}
 use Rattle.route_sched.specs.Cost.{unplanned_count}
 use Rattle.route_sched.specs.Route.{AreLiveOnce, IsPlan}
-use Rattle.slack_tables.specs.Course.{route_of}
+use Rattle.slack_tables.specs.Course.{Course, route_of}
 use Rattle.slack_tables.specs.Insertion.{KeepsLimits}
 use Rattle.plan_audit.specs.Laws.{KeepsPins}
 use Rattle.plan_audit.specs.Locality.{PassesAreLocal, TestsSayFeasible}
@@ -27,6 +27,11 @@ few_tours local p pins d is =
     let most = f.1 in
     let g = length-map d.tours route_of in
     omega arith
+
+-- the vehicles of changes are among those that have tours
+pub vehicles_within : (tours : List Course) (cs : List Change) → AllByRecursion (λ c. (1 ≤ c.vehicle) × (c.vehicle ≤ length (map route_of tours))) cs → All (λ (c : Change). (1 ≤ c.vehicle) × (c.vehicle ≤ length tours)) cs
+vehicles_within tours cs within =
+    All-from_recursion (λ (c : Change). (1 ≤ c.vehicle) × (c.vehicle ≤ length tours)) cs (subst (λ n. AllByRecursion (λ (c : Change). (1 ≤ c.vehicle) × (c.vehicle ≤ n)) cs) (length-map tours route_of) within)
 
 keeps_all : (p : Instance) → IsInstance p → (cs : List Change) → list_all (λ c. feasible_alone p c.route) cs ≡ true → AllByRecursion (λ c. KeepsLimits p c.route) cs
 keeps_all p valid [] all = tt

@@ -1,6 +1,6 @@
 -- A request put into a route that is feasible alone: the new route is feasible alone too exactly where it keeps the limits of load and time.
 use Rattle.std.proofs.Common.{◌≡◌, ℕ, zero, suc, ◌+◌, ◌-◌, ◌<◌, ◌≤◌, ◌≤ℤ◌, ◌<ℤ◌, ℤ, pos, ◌-ℤ◌, nat_le, nat_eq, eqb, ◌&&◌, ◌||◌, Bool, true, false, not, int_lt, List, [], ◌∷◌, ◌++◌, length, length-append, take, drop, Option, Some, None, IsSome, refl, sym, ap, subst, ◌∙◌, inl, inr, arith, rules, T}
-use Rattle.std.specs.Prelude.{unsigned_abs}
+use Rattle.std.specs.Prelude.{unsigned_abs, ◌↔◌}
 use Rattle.std.specs.List.{list_all, range_with_len, insert}
 use Rattle.std.specs.Option.{option_map_or}
 use Rattle.std.specs.Map.{lookup}
@@ -340,3 +340,30 @@ idle_limits p valid (n ∷ ns) none = absurd (omega arith)
 -- a route that is feasible alone keeps the limits
 pub route_limits : (p : Instance) → IsInstance p → (route : List ℕ) → feasible_alone p route ≡ true → KeepsLimits p route
 route_limits p valid route feasible = limits_kept p route (λ lilim none. idle_limits p valid route none) (kept_alone p route feasible)
+
+-- ---- a route is judged by its pairs and by the limits
+not_both : (a x y k : Bool) → a ≡ (x && y) → a ≡ false → a ≡ (x && (y && k))
+not_both a false y k is none = none
+not_both a true false k is none = none
+not_both a true true k is none = absurd (cc)
+
+pub unpaired : (p : Instance) (route : List ℕ) (a : Bool) → a ≡ (has_whole_pairs p route && picks_up_first p route) → a ≡ false → a ≡ feasible_alone p route
+unfolding feasible_alone
+unpaired p route a is none = not_both a (has_whole_pairs p route) (picks_up_first p route) (keeps p route) is none
+
+whole_alone : (p : Instance) (route : List ℕ) → has_whole_pairs p route ≡ true → picks_up_first p route ≡ true → KeepsLimits p route → feasible_alone p route ≡ true
+unfolding feasible_alone
+whole_alone p route whole first limits =
+    and_from (has_whole_pairs p route) (picks_up_first p route && keeps p route) whole (and_from (picks_up_first p route) (keeps p route) first (kept_limits p route limits))
+
+-- where the pairs are whole and picked up first, the limits decide
+pub paired : (p : Instance) → IsInstance p → (route : List ℕ) (a b : Bool) → a ≡ (has_whole_pairs p route && picks_up_first p route) → a ≡ true → (b ≡ true) ↔ KeepsLimits p route → b ≡ feasible_alone p route
+paired p valid route a b is pairs limits = by b refl (feasible_alone p route) refl
+  where
+    by : (x : Bool) → b ≡ x → (y : Bool) → feasible_alone p route ≡ y → b ≡ feasible_alone p route
+    by true e true f = e ∙ sym f
+    by false e false f = e ∙ sym f
+    by true e false f =
+        let both = and_parts (has_whole_pairs p route) (picks_up_first p route) (sym is ∙ pairs) in
+        let h : feasible_alone p route ≡ true = whole_alone p route both.0 both.1 (limits.0 e) in absurd (cc)
+    by false e true f = let h : b ≡ true = limits.1 (route_limits p valid route f) in absurd (cc)

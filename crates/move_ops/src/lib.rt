@@ -9,6 +9,7 @@ mod draft;
 mod insert;
 mod laws;
 mod lists;
+mod pairing;
 mod removal;
 mod seats;
 mod swap;

@@ -3,7 +3,9 @@ ghost use Rattle.std.specs.Prelude.{◌≡◌, ◌≤◌, ◌<◌, IfOk, OnOk, S
 ghost use Rattle.route_sched.specs.Route.{AreLiveOnce};
 ghost use Rattle.slack_tables.specs.Insertion.{KeepsLimits};
 ghost use Rattle.slack_tables.specs.Course.{course_of, route_of};
+ghost use Rattle.plan_audit.specs.Passes.{feasible_alone};
 
+use crate::pairing::are_paired;
 use plan_types::{OutOfMemory, Problem};
 use slack_tables::RouteTable;
 use std::alloc::Global;
@@ -44,8 +46,14 @@ impl Tour {
         Ok(Tour { stops, table })
     }
 
-    /// The tour of another route, in the memory of this one as far as that goes.
-    pub(crate) fn remade(self, problem: &Problem, route: &[u32]) -> Result<Tour, OutOfMemory>
+    /// The tour of another route, in the memory of this one as far as that goes. It takes least time where `near` has most of its stops
+    /// in the same order.
+    pub(crate) fn remade(
+        self,
+        problem: &Problem,
+        near: &Tour,
+        route: &[u32],
+    ) -> Result<Tour, OutOfMemory>
         requires route { AreLiveOnce problem.now route.now }
         requires limits { KeepsLimits problem.now route.now }
         ensures course { IfOk result (λ tour. tour ≡ course_of problem.now route.now) }
@@ -55,10 +63,20 @@ impl Tour {
             mut stops,
             mut table,
         } = self;
-        table.rebuild(problem, route)?;
+        table.rebuild(problem, &near.table, route)?;
         stops.clear();
         stops.extend_from_slice(route)?;
         Ok(Tour { stops, table })
+    }
+
+    /// Whether a route is feasible alone. It takes least time where this tour has most of its stops in the same order.
+    pub(crate) fn is_feasible(&self, problem: &Problem, route: &[u32]) -> bool
+        requires { AreLiveOnce problem.now route.now }
+        ensures { result ≡ feasible_alone problem.now route.now }
+    {
+        // That the problem keeps its limits is known where a field of it is read.
+        let _fleet = problem.fleet;
+        are_paired(problem, route) && self.table.keeps_limits(problem, route)
     }
 
     pub(crate) fn stop_count(&self) -> usize

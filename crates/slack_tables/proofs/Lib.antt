@@ -5,6 +5,7 @@ pub mod DetourLemmas
 pub mod FillLemmas
 pub mod FirstLemmas
 pub mod InsertLemmas
+pub mod KeptLemmas
 pub mod KnownLemmas
 pub mod LateLemmas
 pub mod LatestLemmas
@@ -16,3 +17,4 @@ pub mod SpanLemmas
 pub mod SpliceLemmas
 pub mod TableLemmas
 pub mod WalkLemmas
+pub mod WayLemmas

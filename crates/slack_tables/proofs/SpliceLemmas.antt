@@ -21,7 +21,7 @@ use Rattle.slack_tables.proofs.AlongLemmas.{start-next, load-next, length-next, 
 pub int_le-true : (x y : ℤ) → int_le x y ≡ true → x ≤ℤ y
 int_le-true x y h = record { le = subst T (sym h) tt }
 
-int_le-false : (x y : ℤ) → int_le x y ≡ false → x ≤ℤ y → ⊥
+pub int_le-false : (x y : ℤ) → int_le x y ≡ false → x ≤ℤ y → ⊥
 int_le-false x y h le = subst T h (le.le)
 
 in_time-true : (kind : Kind) (t u : ℕ) → is_in_time kind t u ≡ true → kind ≡ LiLim → t ≤ u
@@ -74,7 +74,7 @@ module _ (limits : Limits) (stops : ℕ → Stop) where
         window = λ lilim. (let le : a.start ≤ a.stop.latest = in_time-true limits.kind _ _ (both.second) lilim in rw (← is.start, ← is.stop) le);
       }
 
-  keeps-false : (k : ℕ) (a : Progress) → IsAt stops k a → keeps limits a ≡ false → Keeps k → ⊥
+  pub keeps-false : (k : ℕ) (a : Progress) → IsAt stops k a → keeps limits a ≡ false → Keeps k → ⊥
   keeps-false k a is h keep = by (and-false _ _ h)
     where
       by : (int_le a.load (pos limits.capacity) ≡ false) ⊎ (is_in_time limits.kind a.start a.stop.latest ≡ false) → ⊥

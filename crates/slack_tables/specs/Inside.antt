@@ -1,5 +1,5 @@
 -- The fields of a `RouteTable`.
-use Rattle.std.specs.Prelude.{◌≡◌, ℕ, ◌+◌, ◌-◌, ◌<◌, ◌≤◌, ◌≤ℤ◌, pos, All, List, map, length, take, drop, slice_index_or}
+use Rattle.std.specs.Prelude.{◌≡◌, ℕ, ◌+◌, ◌-◌, ◌<◌, ◌≤◌, ◌≤ℤ◌, pos, All, List, map, length, take, drop, slice_index_or, Option, MatchOption}
 use Rattle.plan_types.specs.Instance.{Instance}
 use Rattle.plan_types.specs.declared.requests.Stop.{Stop}
 use Rattle.plan_types.specs.declared.requests.Kind.{Kind}
@@ -7,10 +7,12 @@ use Rattle.plan_types.specs.declared.requests.Kind.TheVariants.{LiLim}
 use Rattle.slack_tables.specs.Course.{Course, course_of}
 use Rattle.slack_tables.specs.Along.{stop_on, start_along, load_along}
 use Rattle.slack_tables.specs.Driven.{IsSmallPlace}
-use Rattle.slack_tables.specs.Places.{IsKnown}
+use Rattle.slack_tables.specs.Places.{IsAt, IsKnown}
+use Rattle.slack_tables.specs.Opened.{IsWithin}
 use Rattle.slack_tables.specs.Span.{IsSpan}
 use Rattle.slack_tables.specs.declared.progress.Limits.{Limits}
 use Rattle.slack_tables.specs.declared.progress.Place.{Place}
+use Rattle.slack_tables.specs.declared.progress.Progress.{Progress}
 use Rattle.slack_tables.specs.declared.table.RouteTable.TheInside.{Inside}
 
 -- the stops between the depot's two places
@@ -24,10 +26,14 @@ course_from limits depot places = record { kind = limits.kind; capacity = limits
 abbrev pub course_within : Inside → Course
 course_within a = course_from a.limits a.depot a.places.items
 
--- the places of the course, up to the one of the return, keep the limits
+-- the places up to the last one keep the limits
 pub record IsInLimits (kind : Kind) (capacity : ℕ) (at : ℕ → Stop) (last : ℕ) : Type 0 where
   pub load : (k : ℕ) → 1 ≤ k → k ≤ last → load_along at k ≤ℤ pos capacity
   pub window : kind ≡ LiLim → (k : ℕ) → 1 ≤ k → k ≤ last → start_along at k ≤ (at k).latest
+
+-- the vehicle came to place n and kept the limits up to there, or they are not kept
+abbrev pub IsDriven : Limits → (ℕ → Stop) → ℕ → Option Progress → Type 0
+IsDriven limits stops n o = MatchOption o (¬ IsInLimits limits.kind limits.capacity stops n) (λ at. IsInLimits limits.kind limits.capacity stops n × IsAt stops n at × IsWithin n at)
 
 -- each place tells what is known of it
 pub record AreKnown (c : Course) (places : List Place) : Type 0 where

@@ -9,6 +9,7 @@ mod scan;
 mod slack;
 mod span;
 mod table;
+mod ways;
 
 pub use scan::{Addition, best_places_are_one};
 pub use table::RouteTable;

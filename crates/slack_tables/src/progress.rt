@@ -2,9 +2,10 @@
 
 ghost use Rattle.std.specs.Prelude.{◌≡◌, ◌≤◌, ◌+◌, ◌^◌, pos, ◌+ℤ◌, ◌-ℤ◌, unsigned_abs, map, length, nat_le, IfSome, All};
 ghost use Rattle.plan_types.specs.Limits.{IsVisit};
+ghost use Rattle.slack_tables.specs.Legs.{AreLinked};
 ghost use Rattle.slack_tables.specs.Driven.{driven_on, is_in_time, keeps, stepped, walked, bears, joined, IsNear, IsSmall, IsSmallPlace};
 
-use nint_dist::dist;
+use crate::ways::way;
 use plan_types::{Kind, Stop};
 
 /// What a vehicle must keep at each place: its capacity, and in a problem of kind `LiLim` the windows.
@@ -45,7 +46,7 @@ pub(crate) fn step(limits: Limits, from: &Progress, stop: &Stop) -> Option<Progr
     ensures value { result ≡ stepped limits from.now stop.now }
     ensures near { IfSome result (λ at. IsNear from.now at 1) }
 {
-    let at = driven_on(from, stop);
+    let at = driven_on(&[], 0, from, stop);
     if keeps(limits, &at) { Some(at) } else { None }
 }
 
@@ -80,20 +81,22 @@ pub(crate) fn join(limits: Limits, from: &Progress, tail: &Place) -> Option<i64>
     }
 }
 
-/// After the way to another stop: who arrives early waits.
-pub(crate) fn driven_on(from: &Progress, stop: &Stop) -> Progress
+/// After the way to another stop: who arrives early waits. The way is taken from `known` where that has it behind its place `seen`.
+#[inline(always)]
+pub(crate) fn driven_on(known: &[Place], seen: usize, from: &Progress, stop: &Stop) -> Progress
+    requires known { AreLinked known.now }
     requires from { IsSmall (2 ^ 58) from.now }
     requires to { IsVisit stop.now }
     ensures value { result ≡ driven_on from.now stop.now }
     ensures near { IsNear from.now result 1 }
 {
-    let leg = u64::from(dist(&from.stop, stop));
-    let arrival = from.start + u64::from(from.stop.service) + leg;
+    let way = way(known, seen, &from.stop, stop);
+    let arrival = from.start + u64::from(from.stop.service) + way;
     Progress {
         stop: *stop,
         start: arrival.max(u64::from(stop.earliest)),
         load: load_behind(from.load, stop.demand),
-        distance: from.distance + leg,
+        distance: from.distance + way,
     }
 }
 

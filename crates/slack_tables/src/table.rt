@@ -1,6 +1,6 @@
 //! The table of a route.
 
-ghost use Rattle.std.specs.Prelude.{◌≡◌, ◌+◌, ◌<◌, ◌≤◌, Some, IsSome, IfOk, OnOk, OnErr, length, slice_index_or};
+ghost use Rattle.std.specs.Prelude.{◌≡◌, ◌↔◌, ◌+◌, ◌<◌, ◌≤◌, Some, true, IsSome, IfOk, OnOk, OnErr, length, slice_index_or};
 ghost use Rattle.plan_types.specs.Limits.{IsStop};
 ghost use Rattle.plan_types.specs.Request.{IsRequest};
 ghost use Rattle.plan_types.specs.Instance.{IsInstance, stop_at};
@@ -8,13 +8,15 @@ ghost use Rattle.route_sched.specs.Route.{AreLiveOnce, IsLive, place};
 ghost use Rattle.slack_tables.specs.Insertion.{request_named, KeepsLimits};
 ghost use Rattle.slack_tables.specs.declared.progress.Place.{Place};
 ghost use Rattle.slack_tables.specs.Opened.{leaving, open_place, AreOpen};
-ghost use Rattle.slack_tables.specs.Inside.{IsMade};
+ghost use Rattle.slack_tables.specs.Inside.{IsDriven, IsMade};
+ghost use Rattle.slack_tables.specs.Legs.{AreLinked};
 
 use crate::insertion::{pair_added, single_added};
-use crate::progress::{Limits, Place, Progress, driven_on};
+use crate::progress::{Limits, Place, Progress, driven_on, keeps};
 use crate::scan::{Addition, best_pair, best_single};
 use crate::slack::fill_slack;
 use crate::span::Span;
+use crate::ways::place_seen;
 use plan_types::{
     Kind, OutOfMemory, Problem, Request, Stop, numbers_are_below_the_next,
     requests_are_found_by_stop,
@@ -63,7 +65,7 @@ impl RouteTable {
     {
         numbers_are_below_the_next();
         let mut places = Vec::with_capacity(alloc, route.len() + 2)?;
-        remake(&mut places, problem, route)?;
+        remake(&mut places, problem, &[], route)?;
         let span = Span::of(places.as_slice());
         Ok(RouteTable {
             limits: Limits {
@@ -77,15 +79,21 @@ impl RouteTable {
     }
 
     /// Makes this the table of another route, in the memory that it has as far as that goes. Where it
-    /// can't get more it stays as it was.
-    pub fn rebuild(&mut self, problem: &Problem, route: &[u32]) -> Result<(), OutOfMemory>
+    /// can't get more it stays as it was. It takes least time where `near` is the table of a route that
+    /// has most stops in the same order.
+    pub fn rebuild(
+        &mut self,
+        problem: &Problem,
+        near: &RouteTable,
+        route: &[u32],
+    ) -> Result<(), OutOfMemory>
         requires route { AreLiveOnce problem.now route.now }
         requires limits { KeepsLimits problem.now route.now }
         ensures course { OnOk result (self.new ≡ course_of problem.now route.now) }
         ensures route { OnOk result (route_of self.new ≡ route.now) }
         ensures refused { OnErr result (self.new ≡ self.old) }
     {
-        remake(&mut self.places, problem, route)?;
+        remake(&mut self.places, problem, near.places.as_slice(), route)?;
         self.limits = Limits {
             kind: problem.kind,
             capacity: problem.capacity,
@@ -93,6 +101,15 @@ impl RouteTable {
         self.depot = problem.depot;
         self.span = Span::of(self.places.as_slice());
         Ok(())
+    }
+
+    /// Whether a route keeps the capacity and the windows. It takes least time where this is the table of a
+    /// route that has most stops in the same order.
+    pub fn keeps_limits(&self, problem: &Problem, route: &[u32]) -> bool
+        requires route { AreLiveOnce problem.now route.now }
+        ensures { (result ≡ true) ↔ KeepsLimits problem.now route.now }
+    {
+        keeps_limits(problem, self.places.as_slice(), route)
     }
 
     /// How many stops the route has.
@@ -235,7 +252,13 @@ fn load_at(place: &Place) -> i64
 }
 
 /// The places of a route that keeps the limits, in place of those that stand there.
-fn remake(places: &mut Vec<Place>, problem: &Problem, route: &[u32]) -> Result<(), OutOfMemory>
+fn remake(
+    places: &mut Vec<Place>,
+    problem: &Problem,
+    known: &[Place],
+    route: &[u32],
+) -> Result<(), OutOfMemory>
+    requires known { AreLinked known.now }
     requires route { AreLiveOnce problem.now route.now }
     requires limits { KeepsLimits problem.now route.now }
     ensures made { OnOk result (IsMade problem.now route.now places.new.items) }
@@ -243,36 +266,86 @@ fn remake(places: &mut Vec<Place>, problem: &Problem, route: &[u32]) -> Result<(
 {
     numbers_are_below_the_next();
     places.resize(route.len() + 2, open_place(leaving(&problem.depot)))?;
-    fill(places.as_mut_slice(), problem, route);
+    fill(places.as_mut_slice(), problem, known, route);
     Ok(())
 }
 
 /// What is known of each place of a route that keeps the limits.
-fn fill(places: &mut [Place], problem: &Problem, route: &[u32])
+fn fill(places: &mut [Place], problem: &Problem, known: &[Place], route: &[u32])
+    requires known { AreLinked known.now }
     requires route { AreLiveOnce problem.now route.now }
     requires limits { KeepsLimits problem.now route.now }
     requires count { length places.old ≡ length route.now + 2 }
     requires few { length route.now ≤ 40001 }
     ensures { IsMade problem.now route.now places.new }
 {
-    drive_route(places, problem, route);
+    drive_route(places, problem, known, route);
     fill_slack(problem.kind, places);
 }
 
 /// The places of a route as the vehicle comes to them, with nothing known of what is behind.
-fn drive_route(places: &mut [Place], problem: &Problem, route: &[u32])
+fn drive_route(places: &mut [Place], problem: &Problem, known: &[Place], route: &[u32])
+    requires known { AreLinked known.now }
     requires route { AreLiveOnce problem.now route.now }
     requires count { length places.old ≡ length route.now + 2 }
     requires few { length route.now ≤ 40001 }
     ensures { AreOpen (place problem.now route.now) places.new }
 {
     let mut at = leaving(&problem.depot);
+    let mut seen = 0;
     places[0] = open_place(at);
     for k in 0..route.len() {
-        at = driven_on(&at, live_stop(problem, route[k]));
+        let stop = live_stop(problem, route[k]);
+        at = driven_on(known, seen, &at, stop);
+        seen = place_seen(known, seen, stop);
         places[k + 1] = open_place(at);
     }
-    places[route.len() + 1] = open_place(driven_on(&at, &problem.depot));
+    places[route.len() + 1] = open_place(driven_on(known, seen, &at, &problem.depot));
+}
+
+/// Whether a route keeps the limits.
+fn keeps_limits(problem: &Problem, known: &[Place], route: &[u32]) -> bool
+    requires known { AreLinked known.now }
+    requires route { AreLiveOnce problem.now route.now }
+    ensures { (result ≡ true) ↔ KeepsLimits problem.now route.now }
+{
+    numbers_are_below_the_next();
+    let limits = Limits {
+        kind: problem.kind,
+        capacity: problem.capacity,
+    };
+    match drive_stops(limits, known, problem, route) {
+        Some(last) => {
+            let seen = known.len().saturating_sub(2);
+            keeps(limits, &driven_on(known, seen, &last, &problem.depot))
+        }
+        None => false,
+    }
+}
+
+/// Where the vehicle is at the last stop of a route, if it keeps the limits up to there.
+fn drive_stops(
+    limits: Limits,
+    known: &[Place],
+    problem: &Problem,
+    route: &[u32],
+) -> Option<Progress>
+    requires known { AreLinked known.now }
+    requires route { AreLiveOnce problem.now route.now }
+    requires few { length route.now ≤ 40001 }
+    ensures { IsDriven limits (place problem.now route.now) (length route.now) result }
+{
+    let mut at = leaving(&problem.depot);
+    let mut seen = 0;
+    for k in 0..route.len() {
+        let stop = live_stop(problem, route[k]);
+        at = driven_on(known, seen, &at, stop);
+        if !keeps(limits, &at) {
+            return None;
+        }
+        seen = place_seen(known, seen, stop);
+    }
+    Some(at)
 }
 
 /// The request of a live name.

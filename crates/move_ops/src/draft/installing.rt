@@ -94,7 +94,7 @@ impl Draft {
     {
         let mut driven = u128::from(self.cost.distance);
         for change in changes {
-            let tour = self.new_tour(problem, change.route.as_slice())?;
+            let tour = self.new_tour(problem, change.vehicle, change.route.as_slice())?;
             driven += u128::from(tour.table().distance());
             driven -= u128::from(self.distance_of(problem, change.vehicle));
             self.set_tour(change.vehicle, tour)?;
@@ -112,8 +112,15 @@ impl Draft {
         self.tours[(vehicle - 1) as usize].table().distance()
     }
 
-    // The tour of a route, in memory that is left of others where there is some.
-    pub(crate) fn new_tour(&mut self, problem: &Problem, route: &[u32]) -> Result<Tour, OutOfMemory>
+    // The tour of another route for a vehicle, in memory that is left of others where there is some.
+    pub(crate) fn new_tour(
+        &mut self,
+        problem: &Problem,
+        vehicle: u32,
+        route: &[u32],
+    ) -> Result<Tour, OutOfMemory>
+        requires from_one { 1 ≤ vehicle }
+        requires within { vehicle ≤ length self.old.tours }
         requires route { AreLiveOnce problem.now route.now }
         requires limits { KeepsLimits problem.now route.now }
         ensures course { IfOk result (λ tour. tour ≡ course_of problem.now route.now) }
@@ -121,7 +128,10 @@ impl Draft {
         ensures same { self.new ≡ self.old }
     {
         match self.spare.pop() {
-            Some(tour) => tour.remade(problem, route),
+            Some(tour) => {
+                let near = &self.tours[(vehicle - 1) as usize];
+                tour.remade(problem, near, route)
+            }
             None => Tour::build(*self.tours.allocator(), problem, route),
         }
     }

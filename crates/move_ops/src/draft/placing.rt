@@ -69,7 +69,7 @@ impl Draft {
         let (vehicle, pickup, delivery) = place;
         let alloc = *self.tours.allocator();
         let route = inserted(alloc, request, pickup, delivery, self.route(vehicle))?;
-        let tour = self.new_tour(problem, route.as_slice())?;
+        let tour = self.new_tour(problem, vehicle as u32, route.as_slice())?;
         let cost = self.cost_with(problem, vehicle, &tour, self.cost.unplanned - 1);
         self.set_tour(vehicle as u32, tour)?;
         self.cost = cost;

@@ -10,7 +10,7 @@ ghost use Rattle.move_ops.specs.Drafts.{draft_of, base_of, IsDraftOf, IsMade};
 use super::Draft;
 use crate::changes::{Change, are_all_feasible};
 use crate::cross::joined;
-use crate::lists::{is_feasible, of_vehicle};
+use crate::lists::of_vehicle;
 use crate::swap::{counterparts, have_same_form};
 use plan_audit::{passes_are_local, plans_are_local, tests_say_feasible};
 use plan_types::{
@@ -72,7 +72,7 @@ impl Draft {
             return Ok(None);
         }
         let changes = self.exchanges(first, second)?;
-        if !are_all_feasible(problem, &changes) {
+        if !are_all_feasible(problem, &self.tours, &changes) {
             return Ok(None);
         }
         Ok(Some(changes))
@@ -188,10 +188,10 @@ impl Draft {
         let alloc = *self.tours.allocator();
         let first = joined(alloc, self.route(a), a_cut, self.route(b), b_cut)?;
         let second = joined(alloc, self.route(b), b_cut, self.route(a), a_cut)?;
-        if !is_feasible(problem, first.as_slice()) {
+        if !self.tours[(a - 1) as usize].is_feasible(problem, first.as_slice()) {
             return Ok(None);
         }
-        if !is_feasible(problem, second.as_slice()) {
+        if !self.tours[(b - 1) as usize].is_feasible(problem, second.as_slice()) {
             return Ok(None);
         }
         let mut changes = Vec::with_capacity(alloc, 2)?;

@@ -132,7 +132,7 @@ impl Draft {
         }
         let vehicles = self.vehicles_of(problem, names)?;
         let changes = self.removals(problem, names, &vehicles)?;
-        if !are_all_feasible(problem, &changes) {
+        if !are_all_feasible(problem, &self.tours, &changes) {
             return Ok(None);
         }
         Ok(Some(changes))

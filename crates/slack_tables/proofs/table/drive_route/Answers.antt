@@ -27,7 +27,7 @@ loop-k-preserved c =
     let is = c.loop-k.invariant in
     let long = is.long in
     let few = c.requires.few in
-    let stop = place-stop p c.args.route.now k (get_or c.args.route.now k 0) _ refl c.live_stop.ensures.found c.live_stop.ensures.number c.live_stop.ensures.stop in
+    let stop = place-stop p c.args.route.now k (get_or c.args.route.now k 0) _ refl c.live_stop-stop.ensures.found c.live_stop-stop.ensures.number c.live_stop-stop.ensures.stop in
     let at = at-more stops k _ _ _ is.at (sym stop) c.driven_on-at.ensures.value in
     let within = within-next k _ _ is.within c.driven_on-at.ensures.near in
     record {

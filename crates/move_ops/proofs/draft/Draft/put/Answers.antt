@@ -29,6 +29,15 @@ new_tour-requires-clause-limits c =
 pub overflow_cast-vehicle : goal.overflow_cast-vehicle
 overflow_cast-vehicle c = let low = few c.requests_are_found_by_stop.ensures c.requests_stand_by_name.ensures c.passes_are_local.ensures c.tests_say_feasible.ensures c.best_insertions_are_least.ensures c.numbers_are_below_the_next.ensures.stops c.args.problem.now c.args.pins.now.routes c.args.self.now c.requires.is c.args.request.now c.requires.request c.args.place c.requires.best in omega arith
 
+pub new_tour-requires-clause-from_one : goal.new_tour-requires-clause-from_one
+new_tour-requires-clause-from_one c = from c.requests_are_found_by_stop.ensures c.requests_stand_by_name.ensures c.passes_are_local.ensures c.tests_say_feasible.ensures c.best_insertions_are_least.ensures c.numbers_are_below_the_next.ensures.stops c.args.problem.now c.args.pins.now.routes c.args.self.now c.requires.is c.args.request.now c.requires.request c.args.place c.requires.best
+
+pub new_tour-requires-clause-within : goal.new_tour-requires-clause-within
+new_tour-requires-clause-within c = within c.requests_are_found_by_stop.ensures c.requests_stand_by_name.ensures c.passes_are_local.ensures c.tests_say_feasible.ensures c.best_insertions_are_least.ensures c.numbers_are_below_the_next.ensures.stops c.args.problem.now c.args.pins.now.routes c.args.self.now c.requires.is c.args.request.now c.requires.request c.args.place c.requires.best
+
+pub overflow_cast-vehicle-2 : goal.overflow_cast-vehicle-2
+overflow_cast-vehicle-2 c = let low = few c.requests_are_found_by_stop.ensures c.requests_stand_by_name.ensures c.passes_are_local.ensures c.tests_say_feasible.ensures c.best_insertions_are_least.ensures c.numbers_are_below_the_next.ensures.stops c.args.problem.now c.args.pins.now.routes c.args.self.now c.requires.is c.args.request.now c.requires.request c.args.place c.requires.best in omega arith
+
 pub set_tour-requires-clause-from_one : goal.set_tour-requires-clause-from_one
 set_tour-requires-clause-from_one c = from c.requests_are_found_by_stop.ensures c.requests_stand_by_name.ensures c.passes_are_local.ensures c.tests_say_feasible.ensures c.best_insertions_are_least.ensures c.numbers_are_below_the_next.ensures.stops c.args.problem.now c.args.pins.now.routes c.args.self.now c.requires.is c.args.request.now c.requires.request c.args.place c.requires.best
 

@@ -1,4 +1,4 @@
-use Rattle.std.proofs.Common.{rules, ◌≡◌, ◌+◌, ℕ, List, true, false, not, All, Some, filter, sym, ap, subst, ◌∙◌, arith}
+use Rattle.std.proofs.Common.{rules, ◌≡◌, ◌≤◌, length, ◌+◌, ℕ, List, true, false, not, All, Some, filter, sym, ap, subst, ◌∙◌, arith}
 use Rattle.std.specs.List.{list_all}
 use Rattle.std.proofs.lemmas.List.{length-map}
 use Rattle.route_sched.specs.Route.{AreLiveOnce}
@@ -7,15 +7,16 @@ use Rattle.route_sched.specs.Cost.{unplanned_count}
 use Rattle.plan_audit.specs.Passes.{feasible_alone}
 use Rattle.move_ops.specs.Moves.{is_movable_name, is_of_named, without_named}
 use Rattle.move_ops.specs.Changes.{AreChanges, distinct_count}
-use Rattle.move_ops.specs.Drafts.{draft_of}
+use Rattle.slack_tables.specs.Course.{Course}
+use Rattle.move_ops.specs.Drafts.{Drafted, draft_of}
 use Rattle.move_ops.specs.declared.changes.Change.{Change}
 use Rattle.move_ops.proofs.Removing.{left_plan, left_pinned, left_once, removed_is}
-use Rattle.move_ops.proofs.Applying.{asked, judge, made}
+use Rattle.move_ops.proofs.Applying.{asked, judge, made, vehicles_within}
 use Rattle.move_ops.proofs.Leaving.{taken_out}
 use Rattle.move_ops.proofs.draft.Draft.removing.Goals as goal
 
-pub are_all_feasible-requires : goal.are_all_feasible-requires
-are_all_feasible-requires c =
+pub are_all_feasible-requires-clause-once : goal.are_all_feasible-requires-clause-once
+are_all_feasible-requires-clause-once c =
     let p = c.args.problem.now in
     let pins = c.args.pins.now.routes in
     let d = c.args.self.now in
@@ -28,7 +29,18 @@ are_all_feasible-requires c =
     let once = left_once c.requests_stand_by_name.ensures c.passes_are_local.ensures c.plans_are_local.ensures c.tests_say_feasible.ensures p pins routes is.valid is.draft c.args.names.now movable in
     let long = length-map routes (filter (λ m. not (is_of_named p c.args.names.now m))) in
     let are : AreChanges routes others c.in_ok-changes.changes.items = c.in_ok-changes.ensures in
-    subst (λ (l : List Change). All (λ x. AreLiveOnce p x.route) l) (sym c.deref-2.ensures.value) (asked c.passes_are_local.ensures c.tests_say_feasible.ensures p pins d is others plan once pinned long c.in_ok-changes.changes.items are)
+    subst (λ (l : List Change). All (λ x. AreLiveOnce p x.route) l) (sym c.deref-3.ensures.value) (asked c.passes_are_local.ensures c.tests_say_feasible.ensures p pins d is others plan once pinned long c.in_ok-changes.changes.items are)
+
+pub are_all_feasible-requires-clause-within : goal.are_all_feasible-requires-clause-within
+are_all_feasible-requires-clause-within c =
+    let p = c.args.problem.now in
+    let d = c.args.self.now in
+    let routes = draft_of d in
+    let others : List (List ℕ) = without_named p c.args.names.now routes in
+    let are : AreChanges routes others c.in_ok-changes.changes.items = c.in_ok-changes.ensures in
+    let tours : c.deref-2.result.now ≡ d.tours = c.deref-2.ensures.value ∙ ap (λ (x : Drafted). x.tours) c.self.view_is in
+    subst (λ (t : List Course). All (λ (x : Change). (1 ≤ x.vehicle) × (x.vehicle ≤ length t)) c.deref-3.result.now) (sym tours)
+    (subst (λ (l : List Change). All (λ (x : Change). (1 ≤ x.vehicle) × (x.vehicle ≤ length d.tours)) l) (sym c.deref-3.ensures.value) (vehicles_within d.tours c.in_ok-changes.changes.items are.within))
 
 pub returns-then-not-are_all_feasible-clause-routes : goal.returns-then-not-are_all_feasible-clause-routes
 returns-then-not-are_all_feasible-clause-routes c =
@@ -45,7 +57,7 @@ returns-then-not-are_all_feasible-clause-routes c =
     let long = length-map routes (filter (λ m. not (is_of_named p c.args.names.now m))) in
     let are : AreChanges routes others c.in_ok-changes.changes.items = c.in_ok-changes.ensures in
     let fails : c.are_all_feasible.result ≡ false = search rules in
-    sym (removed_is c.requests_stand_by_name.ensures c.passes_are_local.ensures c.plans_are_local.ensures c.tests_say_feasible.ensures p pins routes is.valid is.draft c.args.names.now movable false (sym fails ∙ (c.are_all_feasible.ensures ∙ ap (list_all (λ (x : Change). feasible_alone p x.route)) c.deref-2.ensures.value ∙ judge c.passes_are_local.ensures c.tests_say_feasible.ensures p pins d is others plan once pinned long c.in_ok-changes.changes.items are)))
+    sym (removed_is c.requests_stand_by_name.ensures c.passes_are_local.ensures c.plans_are_local.ensures c.tests_say_feasible.ensures p pins routes is.valid is.draft c.args.names.now movable false (sym fails ∙ (c.are_all_feasible.ensures ∙ ap (list_all (λ (x : Change). feasible_alone p x.route)) c.deref-3.ensures.value ∙ judge c.passes_are_local.ensures c.tests_say_feasible.ensures p pins d is others plan once pinned long c.in_ok-changes.changes.items are)))
 
 pub returns-clause-routes : goal.returns-clause-routes
 returns-clause-routes c =
@@ -62,7 +74,7 @@ returns-clause-routes c =
     let long = length-map routes (filter (λ m. not (is_of_named p c.args.names.now m))) in
     let are : AreChanges routes others c.in_ok-changes.changes.items = c.in_ok-changes.ensures in
     let holds : c.are_all_feasible.result ≡ true = search rules in
-    ap (λ (l : List (List ℕ)). Some l) are.plan ∙ sym (removed_is c.requests_stand_by_name.ensures c.passes_are_local.ensures c.plans_are_local.ensures c.tests_say_feasible.ensures p pins routes is.valid is.draft c.args.names.now movable true (sym holds ∙ (c.are_all_feasible.ensures ∙ ap (list_all (λ (x : Change). feasible_alone p x.route)) c.deref-2.ensures.value ∙ judge c.passes_are_local.ensures c.tests_say_feasible.ensures p pins d is others plan once pinned long c.in_ok-changes.changes.items are)))
+    ap (λ (l : List (List ℕ)). Some l) are.plan ∙ sym (removed_is c.requests_stand_by_name.ensures c.passes_are_local.ensures c.plans_are_local.ensures c.tests_say_feasible.ensures p pins routes is.valid is.draft c.args.names.now movable true (sym holds ∙ (c.are_all_feasible.ensures ∙ ap (list_all (λ (x : Change). feasible_alone p x.route)) c.deref-3.ensures.value ∙ judge c.passes_are_local.ensures c.tests_say_feasible.ensures p pins d is others plan once pinned long c.in_ok-changes.changes.items are)))
 
 pub returns-clause-change : goal.returns-clause-change
 returns-clause-change c =
@@ -82,7 +94,7 @@ returns-clause-change c =
     let cost = ap (λ (k : Cost). k.unplanned) is.cost in
     let taken = taken_out c.requests_are_found_by_stop.ensures c.requests_stand_by_name.ensures p is.valid routes pins c.args.names.now movable in
     let count : ◌≡◌ {A = ℕ} (d.cost.unplanned + distinct_count c.args.names.now) (unplanned_count p others) = omega arith in
-    made c.passes_are_local.ensures c.tests_say_feasible.ensures p pins d is others plan once pinned long c.in_ok-changes.changes.items are (d.cost.unplanned + distinct_count c.args.names.now) count (sym holds ∙ (c.are_all_feasible.ensures ∙ ap (list_all (λ (x : Change). feasible_alone p x.route)) c.deref-2.ensures.value))
+    made c.passes_are_local.ensures c.tests_say_feasible.ensures p pins d is others plan once pinned long c.in_ok-changes.changes.items are (d.cost.unplanned + distinct_count c.args.names.now) count (sym holds ∙ (c.are_all_feasible.ensures ∙ ap (list_all (λ (x : Change). feasible_alone p x.route)) c.deref-3.ensures.value))
 
 pub returns-clause-named : goal.returns-clause-named
 returns-clause-named c =

@@ -1,0 +1,64 @@
+//! Ways between stops, taken from a table that has them, since a root takes longer than a look.
+
+ghost use Rattle.std.specs.Prelude.{◌≡◌, ◌≤◌, IfSome, IsTrue};
+ghost use Rattle.plan_types.specs.Limits.{IsVisit};
+ghost use Rattle.nint_dist.specs.Distance.{distance};
+ghost use Rattle.slack_tables.specs.Legs.{AreLinked};
+
+use crate::progress::Place;
+use nint_dist::{dist, distances_are_nearest_roots};
+use plan_types::Stop;
+
+/// The way from a stop to another, where the table may have it behind its place `seen`.
+#[inline(always)]
+pub(crate) fn way(places: &[Place], seen: usize, from: &Stop, to: &Stop) -> u64
+    requires places { AreLinked places.now }
+    requires from { IsVisit from.now }
+    requires to { IsVisit to.now }
+    ensures value { result ≡ distance from.now to.now }
+    ensures bound { result ≤ 2828427 }
+{
+    distances_are_nearest_roots();
+    match known_way(places, seen, from, to) {
+        Some(way) => way,
+        None => u64::from(dist(from, to)),
+    }
+}
+
+/// The way behind place `seen`, where it is between two such places.
+#[inline(always)]
+fn known_way(places: &[Place], seen: usize, from: &Stop, to: &Stop) -> Option<u64>
+    requires places { AreLinked places.now }
+    requires from { IsVisit from.now }
+    requires to { IsVisit to.now }
+    ensures value { IfSome result (λ way. way ≡ distance from.now to.now) }
+{
+    let next = seen.checked_add(1)?;
+    if places.len() <= next {
+        return None;
+    }
+    let here = &places[seen].at;
+    let there = &places[next].at;
+    if stands_at(&here.stop, from) && stands_at(&there.stop, to) {
+        return Some(there.distance - here.distance);
+    }
+    None
+}
+
+/// Whether two stops have one place on the map.
+fn stands_at(stop: &Stop, other: &Stop) -> bool
+    ensures { IsTrue result → (stop.now.x ≡ other.now.x) × (stop.now.y ≡ other.now.y) }
+{
+    stop.x == other.x && stop.y == other.y
+}
+
+/// The first place from `seen` on where the table has the stop, or `seen` itself where it has it nowhere there.
+#[inline(always)]
+pub(crate) fn place_seen(places: &[Place], seen: usize, stop: &Stop) -> usize {
+    for k in seen..places.len() {
+        if places[k].at.stop.number == stop.number {
+            return k;
+        }
+    }
+    seen
+}
