@@ -1,9 +1,10 @@
 //! Plans that are built by best insertion, and what they cost.
 
-ghost use Rattle.std.specs.Prelude.{◌≡◌, true, IfOk, IfSome};
+ghost use Rattle.std.specs.Prelude.{◌≡◌, true, IfOk, IfSome, OnOk};
 ghost use Rattle.plan_audit.specs.Passes.{passes};
+ghost use Rattle.move_ops.specs.Drafts.{IsDraftOf};
 
-use move_ops::{best_insertion, insert_at};
+use move_ops::Draft;
 use plan_audit::{Verdict, audit, tests_say_pass};
 use plan_types::{Cost, OutOfMemory, Pins, Plan, Problem, Route, Routes};
 use std::alloc::Global;
@@ -44,19 +45,43 @@ pub(crate) fn built(
     pins: &Pins,
     leaves_out: bool,
 ) -> Result<Plan, OutOfMemory> {
-    let mut plan = empty(alloc, problem.fleet)?;
+    let plan = empty(alloc, problem.fleet)?;
+    if cost(alloc, problem, pins, &plan)?.is_none() {
+        return Ok(plan);
+    }
+    let mut draft = Draft::build(alloc, problem, pins, &plan)?;
+    place(problem, pins, &mut draft, leaves_out)?;
+    draft.plan(alloc)
+}
+
+/// Puts the requests into the draft, each where it is best then.
+fn place(
+    problem: &Problem,
+    pins: &Pins,
+    draft: &mut Draft,
+    leaves_out: bool,
+) -> Result<(), OutOfMemory>
+    requires { IsDraftOf problem.now pins.now.routes draft.old }
+{
     for index in 0..problem.requests.len() {
         let Some((name, _)) = problem.requests.get_index(index) else {
-            return Ok(plan);
+            return Ok(());
         };
-        if is_left_out(index, leaves_out) {
-            continue;
-        }
-        if let Some(new) = inserted(alloc, problem, pins, &plan, *name)? {
-            plan = new;
+        if !is_left_out(index, leaves_out) {
+            put(problem, pins, draft, *name)?;
         }
     }
-    Ok(plan)
+    Ok(())
+}
+
+/// Puts a request in where it is best. What its vehicle had before is not kept.
+fn put(problem: &Problem, pins: &Pins, draft: &mut Draft, name: u32) -> Result<(), OutOfMemory>
+    requires { IsDraftOf problem.now pins.now.routes draft.old }
+    ensures { OnOk result (IsDraftOf problem.now pins.now.routes draft.new) }
+{
+    draft.place(problem, pins, name)?;
+    draft.take();
+    Ok(())
 }
 
 /// A plan of so many vehicles without stops.
@@ -66,21 +91,4 @@ fn empty(alloc: Global, fleet: u32) -> Result<Plan, OutOfMemory> {
         routes.push(Route::new(alloc))?;
     }
     Ok(Plan { routes })
-}
-
-/// The plan with the request at its best insertion, where there is one.
-fn inserted(
-    alloc: Global,
-    problem: &Problem,
-    pins: &Pins,
-    plan: &Plan,
-    name: u32,
-) -> Result<Option<Plan>, OutOfMemory> {
-    if cost(alloc, problem, pins, plan)?.is_none() {
-        return Ok(None);
-    }
-    match best_insertion(alloc, problem, pins, plan, name)? {
-        Some(place) => insert_at(alloc, problem, pins, plan, name, place),
-        None => Ok(None),
-    }
 }

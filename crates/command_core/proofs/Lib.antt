@@ -9,7 +9,6 @@ pub mod NumberLemmas
 pub mod PassLemmas
 pub mod PinLemmas
 pub mod PlacedLemmas
-pub mod PlacingLemmas
 pub mod RunLemmas
 pub mod SearchLemmas
 pub mod TakeLemmas

@@ -14,7 +14,7 @@ use Rattle.seeded_search.specs.Steps.{placed, placed_all}
 use Rattle.command_core.proofs.CountLemmas.{none_some, some_same, one_here, times, times-append, times_split, had_stands, stands_had, times_replaced, found, count_less}
 
 -- what a chain of options gives
-pub and_then_some : {X Y : Type 0} (f : X → Option Y) (o : Option X) (y : Y) → option_and_then f o ≡ Some y → (x : X) × (o ≡ Some x) × (f x ≡ Some y)
+and_then_some : {X Y : Type 0} (f : X → Option Y) (o : Option X) (y : Y) → option_and_then f o ≡ Some y → (x : X) × (o ≡ Some x) × (f x ≡ Some y)
 and_then_some f None y is = absurd (none_some y is)
 and_then_some f (Some x) y is = (x, refl, is)
 
@@ -97,7 +97,7 @@ module _ (p : Instance) (pins routes : List (List ℕ)) (r : Request) (x : Place
           by true e = absurd (let h : is_planned new s ≡ false = not-true (is_planned new s) none in let g : true ≡ false = sym (planned_kept s e) ∙ h in cc)
 
 -- a chain of tests and look-ups gives the plan
-pub put_in_gives : (p : Instance) (pins routes : List (List ℕ)) (name : ℕ) (x : Place) (y : List (List ℕ)) → put_in p pins routes name x ≡ Some y
+put_in_gives : (p : Instance) (pins routes : List (List ℕ)) (name : ℕ) (x : Place) (y : List (List ℕ)) → put_in p pins routes name x ≡ Some y
     → (r : Request) × (request_named p name ≡ Some r) × (is_planned routes r ≡ false) × (is_place_of pins routes r x ≡ true) × (passes p pins y ≡ true) × (y ≡ with_request_at routes r x)
 put_in_gives p pins routes name x y is =
     let t = and_then_some _ (request_named p name) y is in

@@ -19,13 +19,7 @@ pub(crate) fn build(alloc: Global, job: &Job) -> Result<Job, Refusal>
 {
     effects_keep_facts();
     let names = unplanned_names(alloc, &job.problem, job.plan.routes.as_slice())?;
-    let plan = placed_all(
-        alloc,
-        &job.problem,
-        &job.pins,
-        job.plan.copy()?,
-        names.as_slice(),
-    )?;
+    let plan = placed_all(alloc, &job.problem, &job.pins, &job.plan, names.as_slice())?;
     let work = plan.copy()?;
     Ok(Job {
         problem: job.problem.copy()?,

@@ -11,5 +11,5 @@ invariant_of-result c =
     let j = c.args.job.now in
     let is : IsJob j = subst (λ (i : JobValue). IsJob i) c.job.view_is c.job.invariant in
     let new : IsJob (built j) = c.effects_keep_facts.ensures.one (Loaded j) Build is tt refl in
-    let same : built j ≡ job_of (record { problem = c.in_ok-copy-2.field-0; pins = c.in_ok-copy-3.field-0; plan = c.in_ok-plan.plan; work = c.in_ok-work.work; deviation = c.job.inside.deviation; seed = c.job.inside.seed; steps = c.job.inside.steps }) = search rules in
+    let same : built j ≡ job_of (record { problem = c.in_ok-copy.field-0; pins = c.in_ok-copy-2.field-0; plan = c.in_ok-plan.plan; work = c.in_ok-work.work; deviation = c.job.inside.deviation; seed = c.job.inside.seed; steps = c.job.inside.steps }) = search rules in
     subst (λ (i : JobValue). IsJob i) same new
