@@ -7,8 +7,8 @@ pub mod Choosing
 pub mod Collecting
 pub mod Costs
 pub mod Counting
-pub mod Drafting
 pub mod Crossing
+pub mod Drafting
 pub mod Exchanging
 pub mod Fitting
 pub mod Fronts
@@ -23,4 +23,5 @@ pub mod Putting
 pub mod Refreshing
 pub mod Removing
 pub mod Replacing
+pub mod Seating
 pub mod Times

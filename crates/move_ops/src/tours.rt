@@ -1,9 +1,10 @@
 //! The tours of a plan: built of its routes, asked for stops, and what they cost.
-ghost use Rattle.std.specs.Prelude.{◌≡◌, ◌≤◌, [], true, ℕ, Some, IfOk, length, slice_get};
+ghost use Rattle.std.specs.Prelude.{◌≡◌, ◌≤◌, [], true, ℕ, IfOk, length};
 ghost use Rattle.plan_audit.specs.Passes.{passes};
 ghost use Rattle.route_sched.specs.Cost.{has_stop, used_count, vehicle_count};
 ghost use Rattle.move_ops.specs.Changes.{IsVehicleWith};
 ghost use Rattle.move_ops.specs.Drafts.{AreIdleBehind};
+ghost use Rattle.move_ops.specs.Kept.{AreSeats};
 ghost use Rattle.move_ops.specs.Tables.{plan_of, tables_of};
 
 use crate::lists::is_in;
@@ -35,17 +36,24 @@ pub(crate) fn tours_of(
     Ok(tours)
 }
 
-/// Where to look for the stops of these tours, by number. None is known to be in no route yet.
+/// Where to look for the stops of these tours, by number.
 pub(crate) fn seats_of(alloc: Global, tours: &[Tour], len: usize) -> Result<Vec<u32>, OutOfMemory>
-    ensures { IfOk result (λ seats. (n : ℕ) → slice_get seats.items n ≡ Some 0 → ⊥) }
+    ensures { IfOk result (λ seats. AreSeats seats.items (plan_of tours.now)) }
 {
-    let mut seats = vec![in alloc; 1; len]?;
+    let mut seats = vec![in alloc; 0; len]?;
+    seat_tours(&mut seats, tours);
+    Ok(seats)
+}
+
+fn seat_tours(seats: &mut [u32], tours: &[Tour])
+    ensures seats { AreSeats seats.new (plan_of tours.now) }
+    ensures len { length seats.new ≡ length seats.old }
+{
     let mut vehicle = 1;
     for tour in tours {
-        seat(&mut seats, tour.stops(), vehicle);
+        seat(seats, tour.stops(), vehicle);
         vehicle = next(vehicle);
     }
-    Ok(seats)
 }
 
 fn next(vehicle: u32) -> u32

@@ -336,10 +336,13 @@ fn rebuilt(
     let Some(mut table) = table_of(alloc, problem, first)? else {
         return Ok(None);
     };
+    let Some(near) = table_of(alloc, problem, first)? else {
+        return Ok(None);
+    };
     let Some(route) = fitting_route(alloc, problem, second)? else {
         return Ok(None);
     };
-    table.rebuild(problem, route.as_slice())?;
+    table.rebuild(problem, &near, route.as_slice())?;
     Ok(Some((table.stop_count(), table.distance())))
 }
 
