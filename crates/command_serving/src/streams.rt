@@ -4,6 +4,7 @@ ghost use Rattle.std.specs.Io.{ReadsAtMost};
 ghost use Rattle.std.specs.Io.KnownBytes.{Appends, Keeps, ReadConsumes};
 ghost use Rattle.command_serving.specs.Streams.{Puts, ReadsSome, WritesSome};
 
+use std::io;
 use std::io::{ErrorKind, Read, Write};
 
 /// A call of a reader or a writer failed.
@@ -44,7 +45,7 @@ pub trait Sink {
         ensures failed { OnErr result (has_failed self.new ≡ true) };
 }
 
-/// A reader or a writer, and whether a call of it has failed.
+/// A reader or a writer, and whether a call of it as a source or a sink has failed.
 #[derive(Drop)]
 pub struct Watched<T> {
     inner: T,
@@ -114,6 +115,19 @@ impl<W: Write> Sink for Watched<W> {
             return Err(Failed);
         }
         Ok(())
+    }
+}
+
+/// Hands each call on, and notes nothing: what came of it is told to the caller.
+impl<W: Write> Write for Watched<W> {
+    ghost contents = { λ w. W.contents w.inner };
+
+    fn write(&mut self, buf: &[u8]) -> io::Result<usize> {
+        self.inner.write(buf)
+    }
+
+    fn flush(&mut self) -> io::Result<()> {
+        self.inner.flush()
     }
 }
 
