@@ -9,6 +9,8 @@ pub mod Drawn
 pub mod Examined
 pub mod Explained
 pub mod Files
+pub mod Formatting
 pub mod Listed
+pub mod Running
 pub mod Solving
 pub mod Telling

@@ -17,6 +17,7 @@ use crate::telling::{status_of, tell_audit};
 use clap::Error;
 use clap::error::ErrorKind;
 use command_line::{Invocation, Paths, Task, read_words};
+use command_serving::Watched;
 use plan_types::Kind;
 use sector_disk::Start;
 use std::alloc::Global;
@@ -69,7 +70,10 @@ where
         Invocation::Draw(paths) => draw_files(rt, paths, &mut output, errors),
         Invocation::Solve(task) => solve_file(rt, task, &mut output, errors),
         Invocation::Format { store } => format_store(rt, start, store, &mut output),
-        Invocation::Run { store } => run_store(rt, start, store, &mut rt.reader(), &mut output),
+        Invocation::Run { store } => {
+            let mut commands = Watched::new(rt.reader());
+            run_store(rt, start, store, &mut commands, &mut Watched::new(output))
+        }
     })
 }
 

@@ -1,12 +1,16 @@
 //! Stores in files: `format`, and `run` over standard input.
-ghost use Rattle.std.specs.Prelude.{◌≤◌, IfOk};
+ghost use Rattle.std.specs.Prelude.{◌≡◌, ◌≤◌, Err, IfOk, OnErr};
+ghost use Rattle.command_serving.specs.declared.answering.ServeFault.TheVariants.{ReadFault, WriteFault};
+ghost use Rattle.sector_disk.specs.FileDevice.{IsUnused};
+ghost use Rattle.planner_cli.specs.Formatting.{FormatsStore};
+ghost use Rattle.planner_cli.specs.Running.{RunsDevice, RunsSession, RunsStore, TellsServed};
 
 use crate::status::{DONE, FILE};
 use crate::telling::{tell_file_fault, tell_format, tell_store_fault};
 use checkpoint::format;
 use command_serving::{ServeFault, Watched, serve};
 use recover::{Opened, Session};
-use sector_disk::{FileDevice, Sectors, Start};
+use sector_disk::{FileCalls, FileDevice, HostFile, Sectors, Start};
 use std::alloc::Global;
 use std::fs::File;
 use std::io;
@@ -25,7 +29,10 @@ pub(crate) fn format_store<R, T: Start, W: Write>(
 ) -> io::Result<u8>
 where
     R: Files<File = File> + AllocGlobal,
-    ensures { IfOk result (λ status. status ≤ 4) }
+    ensures status { IfOk result (λ status. status ≤ 4) }
+    ensures formats { IfOk result (FormatsStore ⟦<FileDevice<T> as Sectors>⟧
+        (IsUnused ⟦<HostFile as FileCalls>⟧.entries) store.now
+        (W.contents output.old) (W.contents output.new)) }
 {
     match FileDevice::create(rt, store, STORE_SECTORS, start) {
         Ok(mut device) => tell_format(output, format(rt.alloc(), &mut device).err()),
@@ -38,12 +45,16 @@ pub(crate) fn run_store<R, T: Start, I: Read, W: Write>(
     rt: &R,
     start: T,
     store: &str,
-    input: &mut I,
-    output: &mut W,
+    input: &mut Watched<I>,
+    output: &mut Watched<W>,
 ) -> io::Result<u8>
 where
     R: Files<File = File> + AllocGlobal,
-    ensures { IfOk result (λ status. status ≤ 4) }
+    ensures status { IfOk result (λ status. status ≤ 4) }
+    ensures runs { IfOk result (RunsStore ⟦<FileDevice<T> as Sectors>⟧
+        (IsUnused ⟦<HostFile as FileCalls>⟧.entries) store.now (I.remaining input.old.inner)
+        (W.contents output.old.inner) (W.contents output.new.inner)
+        input.new.has_failed output.new.has_failed) }
 {
     match FileDevice::at(rt, store, start) {
         Ok(device) => run_device(rt.alloc(), device, input, output),
@@ -55,10 +66,13 @@ where
 fn run_device<D: Sectors + Drop, I: Read, W: Write>(
     alloc: Global,
     device: D,
-    input: &mut I,
-    output: &mut W,
+    input: &mut Watched<I>,
+    output: &mut Watched<W>,
 ) -> io::Result<u8>
-    ensures { IfOk result (λ status. status ≤ 4) }
+    ensures status { IfOk result (λ status. status ≤ 4) }
+    ensures runs { IfOk result (RunsDevice D.Sectors device (I.remaining input.old.inner)
+        (W.contents output.old.inner) (W.contents output.new.inner)
+        input.new.has_failed output.new.has_failed) }
 {
     match Session::open(alloc, device) {
         Ok(opened) => serve_opened(alloc, opened, input, output),
@@ -70,10 +84,13 @@ fn run_device<D: Sectors + Drop, I: Read, W: Write>(
 fn serve_opened<D: Sectors + Drop, I: Read, W: Write>(
     alloc: Global,
     opened: Opened<D>,
-    input: &mut I,
-    output: &mut W,
+    input: &mut Watched<I>,
+    output: &mut Watched<W>,
 ) -> io::Result<u8>
-    ensures { IfOk result (λ status. status ≤ 4) }
+    ensures status { IfOk result (λ status. status ≤ 4) }
+    ensures runs { IfOk result (RunsSession opened.session opened.replayed (I.remaining input.old.inner)
+        (W.contents output.old.inner) (W.contents output.new.inner)
+        input.new.has_failed output.new.has_failed) }
 {
     let Opened {
         mut session,
@@ -81,25 +98,17 @@ fn serve_opened<D: Sectors + Drop, I: Read, W: Write>(
     } = opened;
     writeln!(output, "opened {replayed}")?;
     output.flush()?;
-    let served = serve_session(alloc, &mut session, input, output);
+    let served = serve(alloc, &mut session, input, output);
     tell_served(served, output)
-}
-
-/// Does what the input asks for.
-fn serve_session<D: Sectors, I: Read, W: Write>(
-    alloc: Global,
-    session: &mut Session<D>,
-    input: &mut I,
-    output: &mut W,
-) -> Result<(), ServeFault> {
-    let mut commands = Watched::new(input);
-    let mut answers = Watched::new(output);
-    serve(alloc, session, &mut commands, &mut answers)
 }
 
 /// Tells an input that can't be read, and gives the status of what was served.
 fn tell_served<W: Write>(served: Result<(), ServeFault>, output: &mut W) -> io::Result<u8>
-    ensures { IfOk result (λ status. status ≤ 4) }
+    ensures status { IfOk result (λ status. status ≤ 4) }
+    ensures told { IfOk result (TellsServed served
+        (W.contents output.old) (W.contents output.new)) }
+    ensures fails { OnErr result (served ≡ Err ReadFault) }
+    ensures kept { served ≡ Err WriteFault → output.new ≡ output.old }
 {
     match served {
         Ok(()) => Ok(DONE),

@@ -1,0 +1,10 @@
+-- The device over the file, or why there is none.
+use Rattle.std.proofs.Common.{inl, inr}
+use Rattle.std.proofs.lemmas.Result.{IfOk-weaker}
+use Rattle.planner_cli.proofs.stores.run_store.Goals as goal
+
+pub returns-in-Ok-clause-runs : goal.returns-in-Ok-clause-runs
+returns-in-Ok-clause-runs g c = IfOk-weaker c.run_device.result _ _ (λ status runs. inl (c.in-Ok.device, c.in-Ok.ensures.unused, runs)) c.run_device.ensures.runs
+
+pub returns-in-Err-clause-runs : goal.returns-in-Err-clause-runs
+returns-in-Err-clause-runs g c = IfOk-weaker c.tell_file_fault.result _ _ (λ status told. inr (c.in-Err.fault, told.0, told.1)) c.tell_file_fault.ensures

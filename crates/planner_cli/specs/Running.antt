@@ -1,0 +1,91 @@
+-- What the word `run` does: it opens a store, tells how many search steps were repeated, and serves the input over it.
+use Rattle.std.specs.Prelude.{◌≡◌, ◌⊎◌, ℕ, ◌+◌, ◌<◌, Bool, false, List, [], ◌++◌, length, codes, decimal, Option, Some, Result, Ok, Err, IfErr, MatchResult, ⊤}
+use Rattle.std.specs.Io.KnownBytes.{Appends}
+use Rattle.checkpoint.specs.Holdless.{IsOfLoad, UnlessUnread}
+use Rattle.checkpoint.specs.Refused.{faults_of_store}
+use Rattle.checkpoint.specs.declared.faults.StoreFault.{StoreFault}
+use Rattle.checkpoint.specs.declared.faults.StoreFault.TheVariants.{NotFormatted}
+use Rattle.command_core.specs.Runs.{IsState}
+use Rattle.command_serving.specs.Served.{HasCause, IsCutShort, IsServed}
+use Rattle.command_serving.specs.declared.answering.ServeFault.{ServeFault}
+use Rattle.command_serving.specs.declared.answering.ServeFault.TheVariants as serve
+use Rattle.command_text.specs.Cutting.{pieces_of}
+use Rattle.command_text.specs.Readings.{IsReading, Reading}
+use Rattle.planner_cli.specs.Telling.{line, open_line, open_status, store_line, store_status}
+use Rattle.recover.specs.Applying.{IsBetween}
+use Rattle.recover.specs.Opening.{IsReplayed, Opens, StandsForNone}
+use Rattle.recover.specs.Sessions.{SessionValue}
+use Rattle.recover.specs.StandsFor.{StandsFor}
+use Rattle.sector_disk.specs.Sectors.{Throughout}
+use Rattle.sector_disk.specs.declared.file_device.FileFault.{FileFault}
+use Rattle.sector_disk.specs.declared.sectors.Sectors as sectors
+
+-- An input whose bytes are known was served, or the serving cut short, and for this cause, as `serve` says it.
+pub record Serves {D : Type 0} (served : Result ⊤ ServeFault) (old : SessionValue D) (input : List ℕ) (before after : Option (List ℕ)) (reader_failed writer_failed : Bool) (new : SessionValue D) : Type 0 where
+  pub serves : (reading : Reading) → IsReading reading → MatchResult served (λ _. IsServed reading old input before after new) (λ _. IsCutShort reading old (pieces_of input) before after new)
+  pub cause : IfErr served (λ fault. HasCause fault reader_failed writer_failed (length input))
+
+-- what is told behind the answers
+abbrev pub served_line : {T : Type 0} → Result T ServeFault → List ℕ
+served_line (Ok done) = []
+served_line (Err serve.ReadFault) = line (codes "cannot read input")
+served_line (Err serve.WriteFault) = []
+
+abbrev pub served_status : {T : Type 0} → Result T ServeFault → ℕ
+served_status (Ok done) = 0
+served_status (Err serve.ReadFault) = 3
+served_status (Err serve.WriteFault) = 3
+
+abbrev pub TellsServed : {T : Type 0} → Result T ServeFault → Option (List ℕ) → Option (List ℕ) → ℕ → Type 0
+TellsServed served before after status = (status ≡ served_status served) × Appends before after (served_line served)
+
+-- how many search steps were repeated
+abbrev pub opened_line : ℕ → List ℕ
+opened_line replayed = line (codes "opened " ++ decimal replayed)
+
+-- Over a session that was opened: first it is told how many steps were repeated, then stand the answers to the input, and behind them that
+-- the input can't be read, if so it was. `known` are the bytes of the input, where they are known.
+pub record RunsSession {D : Type 0} (old : SessionValue D) (replayed : ℕ) (known before after : Option (List ℕ)) (reader_failed writer_failed : Bool) (status : ℕ) : Type 0 where
+  pub opened : Option (List ℕ)
+  pub tells_opened : Appends before opened (opened_line replayed)
+  pub served : Result ⊤ ServeFault
+  pub answered : Option (List ℕ)
+  pub new : SessionValue D
+  pub serves : (input : List ℕ) → known ≡ Some input → Serves served old input opened answered reader_failed writer_failed new
+  pub tells : TellsServed served answered after status
+
+module _ {D : Type 0} (on : sectors.Ghosts D) where
+  -- Opening the device gave this session: it has the state that the image stands for which reads gave, and is whole.
+  pub record IsOpened (device : D) (session : SessionValue D) (replayed : ℕ) : Type 0 where
+    pub given : on.honest session.device → StandsFor (on.seen device) session.state
+    pub opens : on.honest session.device → Opens (on.seen device) (Ok session.state)
+    pub replays : on.honest session.device → IsReplayed (on.seen device) session.state session.place replayed
+    pub stands : on.honest session.device → (image : List ℕ) → on.possible session.device image → StandsFor image session.state
+    pub moments : on.honest session.device
+        → Throughout on.clock on.possible_since device session.device (λ m image. IsBetween (on.calls device) (on.calls device + 1) m image × on.possible device image)
+    pub honest : on.honest session.device → on.honest device
+    pub facts : IsState session.state
+    pub whole : session.is_broken ≡ false
+    pub finished : on.calls session.device ≡ on.calls device + 1
+    pub faults : on.faults session.device ≡ on.faults device
+    pub same_len : on.len session.device ≡ on.len device
+
+  -- Opening the device was refused: its image stands for no state, or could not be read.
+  pub record IsRefused (device after : D) (fault : StoreFault) : Type 0 where
+    pub refused : on.honest after → UnlessUnread (StandsForNone (on.seen device)) fault
+    pub opens : on.honest after → Opens (on.seen device) (Err fault)
+    pub fails : IsOfLoad fault
+    pub small : on.len device < 802 → (fault ≡ NotFormatted) × (after ≡ device)
+    pub faults : on.faults after ≡ faults_of_store fault (on.faults device)
+
+  -- The store on the device is opened and the input served over it, or it is told why it can't be opened.
+  abbrev pub RunsDevice : D → Option (List ℕ) → Option (List ℕ) → Option (List ℕ) → Bool → Bool → ℕ → Type 0
+  RunsDevice device known before after reader_failed writer_failed status =
+      ((session : SessionValue D) × (replayed : ℕ) × IsOpened device session replayed × RunsSession session replayed known before after reader_failed writer_failed status)
+      ⊎ ((fault : StoreFault) × (later : D) × IsRefused device later fault × (status ≡ store_status fault) × Appends before after (store_line fault))
+
+  -- The same for the device over a file, or it is told why there is none. `IsNew` is what is known of the device.
+  abbrev pub RunsStore : (D → Type 0) → List ℕ → Option (List ℕ) → Option (List ℕ) → Option (List ℕ) → Bool → Bool → ℕ → Type 0
+  RunsStore IsNew path known before after reader_failed writer_failed status =
+      ((device : D) × IsNew device × RunsDevice device known before after reader_failed writer_failed status)
+      ⊎ ((fault : FileFault) × (status ≡ open_status fault) × Appends before after (open_line path fault))
