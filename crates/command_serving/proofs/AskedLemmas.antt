@@ -16,7 +16,7 @@ use Rattle.command_text.specs.declared.asked.Asked.TheVariants.{Load, Nothing}
 use Rattle.recover.specs.Sessions.{SessionValue}
 use Rattle.command_serving.specs.Input.{Counts, Cuts, Loads}
 use Rattle.command_serving.specs.Served.{HasCause, IsCutShort, IsServed, Leads, Tells, as_serving, preceded, still}
-use Rattle.command_serving.specs.Serving.{Answers, CutOff, GoesOn, IsCause, Serves, ServesOn, goes_behind, goes_on, load_told, silent}
+use Rattle.command_serving.specs.Serving.{Answers, CutOff, GoesOn, IsCause, Serves, ServesOn, goes_behind, goes_on, load_told, pieces_behind, silent, still_searched}
 use Rattle.command_serving.specs.declared.answering.Goes.{Goes}
 use Rattle.command_serving.specs.declared.answering.ServeFault.{ServeFault}
 use Rattle.command_serving.specs.declared.answering.Goes.TheVariants.{On, ToEnd}
@@ -117,28 +117,54 @@ module _ {D : Type 0} (reading : Reading) (old new : SessionValue D) (p : Piece)
     few = l.few;
   }
 
+  -- what is left of a search, and the pieces behind it
+  rest_is : (later : Option (List ℕ)) (s : Serving) → with_rest (still_searched later) s ≡ still reading later ps s
+  rest_is None s = refl
+  rest_is (Some counts) s = refl
+
+  tells_still : (told : SessionValue D) (f : Serving → Reply) (later : Option (List ℕ)) (t : List ℕ) → Tells told f t new (with_rest (still_searched later)) → Tells told f t new (still reading later ps)
+  tells_still told f later t l = record {
+    fates = l.fates;
+    commands = l.commands;
+    says = λ fates. l.says fates ∙ ap (preceded t l.commands) (rest_is later (as_serving new fates));
+    state = l.state;
+    few = l.few;
+  }
+
   pub asked_cut : CutOff old asks x y new → IsCutShort reading old (p ∷ ps) x y new
   asked_cut (inl c) = record {
     counts = None;
+    front = [];
     behind = p ∷ ps;
+    split = refl;
     told = old;
     text = [];
     answered = leads_nothing old (λ s. served reading s (p ∷ ps));
+    later_counts = c.later;
+    begun = p ∷ [];
+    later_behind = ps;
+    later_split = refl;
+    one = omega arith;
     last = c.last;
-    later = with_rest c.later;
-    tells = tells_first c.later c.last c.tells;
+    tells = tells_still old (λ s. served reading s (p ∷ ps)) c.later c.last (tells_first (still_searched c.later) c.last c.tells);
     len = c.len;
     written = c.written;
   }
   asked_cut (inr c) = record {
     counts = Some c.counts;
+    front = p ∷ [];
     behind = ps;
+    split = refl;
     told = c.told;
     text = c.text;
     answered = leads_first c.told (λ s. searched s c.counts) c.text c.answered;
+    later_counts = c.later;
+    begun = [];
+    later_behind = ps;
+    later_split = refl;
+    one = omega arith;
     last = c.last;
-    later = with_rest c.later;
-    tells = tells_within c.told (λ s. searched s c.counts) c.later c.last c.tells;
+    tells = tells_still c.told (with_rest (λ s. searched s c.counts)) c.later c.last (tells_within c.told (λ s. searched s c.counts) (still_searched c.later) c.last c.tells);
     len = c.len;
     written = c.written;
   }
@@ -150,6 +176,8 @@ line_served_on : {D : Type 0} (reading : Reading) (a : Asked) (rest : List ℕ) 
 line_served_on reading a rest old new x y known cut is serves = record {
   left = rest;
   is_known = is;
+  front = record { asked = a; text = [] } ∷ [];
+  split = cut;
   serves = subst (λ ps. Serves old (λ s. served reading s ps) x y new (λ s. served reading s (pieces_of rest))) (sym cut)
       (asked_serves reading old new (record { asked = a; text = [] }) (pieces_of rest) x y serves);
 }
@@ -159,6 +187,8 @@ line_served_last : {D : Type 0} (reading : Reading) (a : Asked) (rest : List ℕ
 line_served_last reading a rest old new x y known cut is serves = record {
   left = rest;
   is_known = is;
+  front = record { asked = a; text = [] } ∷ [];
+  split = cut;
   serves = subst (λ ps. Serves old (λ s. served reading s ps) x y new silent) (sym cut)
       (ended_serves reading old new (λ s. served reading s (record { asked = a; text = [] } ∷ [])) x y (asked_serves reading old new (record { asked = a; text = [] }) [] x y serves));
 }
@@ -218,15 +248,17 @@ module _ {D : Type 0} (reading : Reading) (kind : Kind) (seed len : ℕ) (old ne
   told_of : {E : Type 0} (told : Result ⊤ E) (to : Goes) (bytes : List ℕ) (ps : List Piece) (rest left : List ℕ) → MatchResult told (λ _. r ≡ Ok to) (λ _. r ≡ Err fault.WriteFault)
       → cut_at (Load kind seed len) rest ≡ load_of bytes ∷ ps → Answers told old (λ s. asked_reply reading s (Load kind seed len) bytes (is_short (load_of bytes))) x y new silent
       → (Serves old (λ s. served reading s (load_of bytes ∷ ps)) x y new (λ s. served reading s ps) → Serves old (λ s. served reading s (load_of bytes ∷ ps)) x y new (goes_on reading to left))
-      → GoesOn r reading old (cut_at (Load kind seed len) rest) x y new (Some left)
-  told_of (Ok done) to bytes ps rest left is cut answers on =
+      → ps ≡ pieces_behind to left → GoesOn r reading old (cut_at (Load kind seed len) rest) x y new (Some left)
+  told_of (Ok done) to bytes ps rest left is cut answers on behind =
       subst (λ r. GoesOn r reading old (cut_at (Load kind seed len) rest) x y new (Some left)) (sym is)
       (record {
         left = left;
         is_known = refl;
+        front = load_of bytes ∷ [];
+        split = cut ∙ ap (λ qs. load_of bytes ∷ qs) behind;
         serves = subst (λ qs. Serves old (λ s. served reading s qs) x y new (goes_on reading to left)) (sym cut) (on (asked_serves reading old new (load_of bytes) ps x y answers));
       })
-  told_of (Err failed) to bytes ps rest left is cut answers on =
+  told_of (Err failed) to bytes ps rest left is cut answers on behind =
       subst (λ r. GoesOn r reading old (cut_at (Load kind seed len) rest) x y new (Some left)) (sym is)
       (subst (λ qs. IsCutShort reading old qs x y new) (sym cut) (asked_cut reading old new (load_of bytes) ps x y answers))
 
@@ -237,7 +269,7 @@ module _ {D : Type 0} (reading : Reading) (kind : Kind) (seed len : ℕ) (old ne
         told_of told On bytes (pieces_of left) rest left once (ap (cut_at (Load kind seed len)) moves ∙ load_cut kind seed len bytes left is)
         (answers_as told old new (load_told Dropped reading kind seed bytes) (λ s. asked_reply reading s (Load kind seed len) bytes (is_short (load_of bytes))) silent x y
         (same_reply bytes false (not_short len bytes is) (load_told Dropped reading kind seed bytes) (λ s. refl)) answers)
-        (λ serves. serves)
+        (λ serves. serves) refl
 
     short_on : (bytes rest left : List ℕ) → rest ≡ bytes ++ left → left ≡ [] → length bytes < len → MatchResult told (λ _. r ≡ Ok ToEnd) (λ _. r ≡ Err fault.WriteFault)
         → Answers told old (load_told Short reading kind seed bytes) x y new silent → GoesOn r reading old (cut_at (Load kind seed len) rest) x y new (Some left)
@@ -245,7 +277,7 @@ module _ {D : Type 0} (reading : Reading) (kind : Kind) (seed len : ℕ) (old ne
         told_of told ToEnd bytes [] rest left once (ap (cut_at (Load kind seed len)) (moves ∙ ap (λ l. bytes ++ l) end ∙ append-nil bytes) ∙ short_cut kind seed len bytes less)
         (answers_as told old new (load_told Short reading kind seed bytes) (λ s. asked_reply reading s (Load kind seed len) bytes (is_short (load_of bytes))) silent x y
         (same_reply bytes true (lt-ltb (length bytes) len less) (load_told Short reading kind seed bytes) (λ s. refl)) answers)
-        (λ serves. ended_serves reading old new (λ s. served reading s (load_of bytes ∷ [])) x y serves)
+        (λ serves. ended_serves reading old new (λ s. served reading s (load_of bytes ∷ [])) x y serves) refl
 
     load_by : (rest : List ℕ) (text : LoadText) (known : Option (List ℕ)) → Loads len (Some rest) known text → MatchResult told (λ _. r ≡ Ok (goes_behind text)) (λ _. r ≡ Err fault.WriteFault)
         → ((bytes : List ℕ) → Answers told old (load_told text reading kind seed bytes) x y new silent) → GoesOn r reading old (cut_at (Load kind seed len) rest) x y new known
@@ -283,8 +315,11 @@ nothing_on reading rest s o known is = line_served_on reading Nothing rest s s o
 
 -- ---- line by line
 
+joined_split : (all front more behind rest : List Piece) → all ≡ front ++ behind → behind ≡ more ++ rest → all ≡ (front ++ more) ++ rest
+joined_split all front more behind rest first second = first ∙ ap (λ ps. front ++ ps) second ∙ sym (append_assoc front more rest)
+
 pub input_begun : {D : Type 0} (reading : Reading) (s : SessionValue D) (input : List ℕ) (o known : Option (List ℕ)) → known ≡ Some input → ServesOn reading s (pieces_of input) o o s On known
-input_begun reading s input o known is = record { left = input; is_known = is; serves = serves_nothing s (λ t. served reading t (pieces_of input)) o }
+input_begun reading s input o known is = record { left = input; is_known = is; front = []; split = refl; serves = serves_nothing s (λ t. served reading t (pieces_of input)) o }
 
 -- the next line is cut off what is left
 cut_known : (a : Asked) (left : List ℕ) (known next : Option (List ℕ)) → known ≡ Some left → Cuts a known next → (rest : List ℕ) × (next ≡ Some rest) × (pieces_of left ≡ cut_at a rest)
@@ -300,6 +335,8 @@ module _ {D : Type 0} (reading : Reading) (old mid new : SessionValue D) (pieces
       record {
         left = q.left;
         is_known = q.is_known;
+        front = p.front ++ q.front;
+        split = joined_split pieces p.front q.front (pieces_of p.left) (pieces_behind goes q.left) p.split (cut.2 ∙ q.split);
         serves = serves_on old mid new (λ s. served reading s pieces) (λ s. served reading s (pieces_of p.left)) (goes_on reading goes q.left) x y z p.serves
             (subst (λ ps. Serves mid (λ s. served reading s ps) y z new (goes_on reading goes q.left)) (sym cut.2) q.serves);
       }
@@ -314,16 +351,22 @@ module _ {D : Type 0} (reading : Reading) (old mid new : SessionValue D) (pieces
 -- ---- cut short
 
 -- nothing was under way
-pub cut_between : {D : Type 0} (reading : Reading) (old mid : SessionValue D) (pieces behind : List Piece) (x y : Option (List ℕ)) → Serves old (λ s. served reading s pieces) x y mid (λ s. served reading s behind)
-    → IsCutShort reading old pieces x y mid
-cut_between reading old mid pieces behind x y serves = record {
+pub cut_between : {D : Type 0} (reading : Reading) (old mid : SessionValue D) (pieces front behind : List Piece) (x y : Option (List ℕ)) → pieces ≡ front ++ behind
+    → Serves old (λ s. served reading s pieces) x y mid (λ s. served reading s behind) → IsCutShort reading old pieces x y mid
+cut_between reading old mid pieces front behind x y split serves = record {
   counts = None;
+  front = front;
   behind = behind;
+  split = split;
   told = mid;
   text = serves.text;
   answered = serves.leads;
+  later_counts = None;
+  begun = [];
+  later_behind = behind;
+  later_split = refl;
+  one = omega arith;
   last = [];
-  later = λ s. served reading s behind;
   tells = tells_nothing mid (λ s. served reading s behind);
   len = 0;
   written = subst (Appends x y) (sym (append-nil serves.text)) serves.written;
@@ -331,19 +374,25 @@ cut_between reading old mid pieces behind x y serves = record {
 
 -- nothing was served
 pub cut_at_once : {D : Type 0} (reading : Reading) (old : SessionValue D) (pieces : List Piece) (x : Option (List ℕ)) → IsCutShort reading old pieces x x old
-cut_at_once reading old pieces x = cut_between reading old old pieces pieces x x (serves_nothing old (λ s. served reading s pieces) x)
+cut_at_once reading old pieces x = cut_between reading old old pieces [] pieces x x refl (serves_nothing old (λ s. served reading s pieces) x)
 
 -- behind what was served
-cut_behind : {D : Type 0} (reading : Reading) (old mid new : SessionValue D) (pieces behind : List Piece) (x y z : Option (List ℕ)) → Serves old (λ s. served reading s pieces) x y mid (λ s. served reading s behind)
-    → IsCutShort reading mid behind y z new → IsCutShort reading old pieces x z new
-cut_behind reading old mid new pieces behind x y z serves c = record {
+cut_behind : {D : Type 0} (reading : Reading) (old mid new : SessionValue D) (pieces front behind : List Piece) (x y z : Option (List ℕ)) → pieces ≡ front ++ behind
+    → Serves old (λ s. served reading s pieces) x y mid (λ s. served reading s behind) → IsCutShort reading mid behind y z new → IsCutShort reading old pieces x z new
+cut_behind reading old mid new pieces front behind x y z split serves c = record {
   counts = c.counts;
+  front = front ++ c.front;
   behind = c.behind;
+  split = joined_split pieces front c.front behind c.behind split c.split;
   told = c.told;
   text = serves.text ++ c.text;
   answered = leads_on old mid c.told (λ s. served reading s pieces) (λ s. served reading s behind) (still reading c.counts c.behind) serves.text c.text serves.leads c.answered;
+  later_counts = c.later_counts;
+  begun = c.begun;
+  later_behind = c.later_behind;
+  later_split = c.later_split;
+  one = c.one;
   last = c.last;
-  later = c.later;
   tells = c.tells;
   len = c.len;
   written = subst (Appends x z) (sym (append_assoc serves.text c.text (take c.len c.last))) (Appends-trans x y z serves.text (c.text ++ take c.len c.last) serves.written c.written);
@@ -354,7 +403,7 @@ module _ {D : Type 0} (reading : Reading) (old mid new : SessionValue D) (pieces
       → ((rest : List ℕ) → next ≡ Some rest → IsCutShort reading mid (cut_at a rest) y z new) → IsCutShort reading old pieces x z new
   line_cut a known next p cuts more =
       let cut = cut_known a p.left known next p.is_known cuts in
-      cut_behind reading old mid new pieces (pieces_of p.left) x y z p.serves (subst (λ ps. IsCutShort reading mid ps y z new) (sym cut.2) (more cut.0 cut.1))
+      cut_behind reading old mid new pieces p.front (pieces_of p.left) x y z p.split p.serves (subst (λ ps. IsCutShort reading mid ps y z new) (sym cut.2) (more cut.0 cut.1))
 
 -- ---- causes
 

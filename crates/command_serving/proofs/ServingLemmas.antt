@@ -23,7 +23,7 @@ use Rattle.recover.specs.declared.denials.Denial.TheVariants.{Broken, Core, Devi
 use Rattle.command_core.specs.Runs.{after}
 use Rattle.command_serving.specs.Streams.{Puts}
 use Rattle.command_serving.specs.Served.{Leads, Tells, as_serving, preceded}
-use Rattle.command_serving.specs.Serving.{Answers, Serves, denied, silent}
+use Rattle.command_serving.specs.Serving.{Answers, Serves, denied, silent, still_searched}
 
 -- ---- replies that follow one another
 
@@ -79,21 +79,23 @@ serves_as a b f f' g x y same p = record { text = p.text; leads = leads_as a b f
 pub serves_told : {D : Type 0} (a b : SessionValue D) (f g : Serving → Reply) (t : List ℕ) (x y : Option (List ℕ)) → Tells a f t b g → Appends x y t → Serves a f x y b g
 serves_told a b f g t x y p written = record { text = t; leads = leads_told a b f g t p; written = written }
 
-pub answers_told : {D T E : Type 0} (r : Result T E) (a b : SessionValue D) (f g : Serving → Reply) (t : List ℕ) (x y : Option (List ℕ)) → Tells a f t b g → Puts x y r t → Answers r a f x y b g
-answers_told (Ok done) a b f g t x y p written = serves_told a b f g t x y p written
-answers_told (Err fault) a b f g t x y p part = inl (record { last = t; later = g; tells = p; len = part.len; written = part.written })
+pub answers_told : {D T E : Type 0} (r : Result T E) (a b : SessionValue D) (f : Serving → Reply) (later : Option (List ℕ)) (t : List ℕ) (x y : Option (List ℕ)) → Tells a f t b (still_searched later) → Puts x y r t
+    → Answers r a f x y b (still_searched later)
+answers_told (Ok done) a b f later t x y p written = serves_told a b f (still_searched later) t x y p written
+answers_told (Err fault) a b f later t x y p part = inl (record { last = t; later = later; tells = p; len = part.len; written = part.written })
 
 -- behind what a search has told so far
-pub answers_behind : {D T E : Type 0} (r : Result T E) (a b c : SessionValue D) (f g : Serving → Reply) (counts t : List ℕ) (x y z : Option (List ℕ)) → Serves a f x y b (λ s. searched s counts)
-    → Tells b (λ s. searched s counts) t c g → Puts y z r t → Answers r a f x z c g
-answers_behind (Ok done) a b c f g counts t x y z p q written = serves_on a b c f (λ s. searched s counts) g x y z p (serves_told b c (λ s. searched s counts) g t y z q written)
-answers_behind (Err fault) a b c f g counts t x y z p q part = inr (record {
+pub answers_behind : {D T E : Type 0} (r : Result T E) (a b c : SessionValue D) (f : Serving → Reply) (later : Option (List ℕ)) (counts t : List ℕ) (x y z : Option (List ℕ)) → Serves a f x y b (λ s. searched s counts)
+    → Tells b (λ s. searched s counts) t c (still_searched later) → Puts y z r t → Answers r a f x z c (still_searched later)
+answers_behind (Ok done) a b c f later counts t x y z p q written =
+    serves_on a b c f (λ s. searched s counts) (still_searched later) x y z p (serves_told b c (λ s. searched s counts) (still_searched later) t y z q written)
+answers_behind (Err fault) a b c f later counts t x y z p q part = inr (record {
   counts = counts;
   told = b;
   text = p.text;
   answered = p.leads;
   last = t;
-  later = g;
+  later = later;
   tells = q;
   len = part.len;
   written = Appends-trans x y z p.text (take part.len t) p.written part.written;
@@ -101,7 +103,7 @@ answers_behind (Err fault) a b c f g counts t x y z p q part = inr (record {
 
 pub answers_as : {D T E : Type 0} (r : Result T E) (a b : SessionValue D) (f f' g : Serving → Reply) (x y : Option (List ℕ)) → ((fates : List Fate) → f' (as_serving a fates) ≡ f (as_serving a fates)) → Answers r a f x y b g → Answers r a f' x y b g
 answers_as (Ok done) a b f f' g x y same p = serves_as a b f f' g x y same p
-answers_as (Err fault) a b f f' g x y same (inl p) = inl (record { last = p.last; later = p.later; tells = tells_as a b f f' p.later p.last same p.tells; len = p.len; written = p.written })
+answers_as (Err fault) a b f f' g x y same (inl p) = inl (record { last = p.last; later = p.later; tells = tells_as a b f f' (still_searched p.later) p.last same p.tells; len = p.len; written = p.written })
 answers_as (Err fault) a b f f' g x y same (inr p) = inr (record {
   counts = p.counts;
   told = p.told;

@@ -48,16 +48,24 @@ still reading None pieces s = served reading s pieces
 still reading (Some counts) pieces s = let r = searched s counts in joined r (served reading r.left pieces)
 
 -- The serving ended within the pieces, with one answer written in part or not at all. Those before it were written, and the session was then at
--- `told`; it may have carried out the command that the last answer tells.
+-- `told`, with a search and the last pieces still to be answered. It may have carried out the command that the last answer tells: what would be
+-- answered behind that one is what the session says now to the rest of the search and the pieces.
 pub record IsCutShort {D : Type 0} (reading : Reading) (old : SessionValue D) (pieces : List Piece) (before after_it : Option (List ℕ)) (new : SessionValue D) : Type 0 where
   pub counts : Option (List ℕ)
+  pub front : List Piece
   pub behind : List Piece
+  pub split : pieces ≡ front ++ behind
   pub told : SessionValue D
   pub text : List ℕ
   pub answered : Leads old (λ s. served reading s pieces) text told (still reading counts behind)
+  pub later_counts : Option (List ℕ)
+  -- the piece that the last answer begins, if it begins one
+  pub begun : List Piece
+  pub later_behind : List Piece
+  pub later_split : behind ≡ begun ++ later_behind
+  pub one : length begun ≤ 1
   pub last : List ℕ
-  pub later : Serving → Reply
-  pub tells : Tells told (still reading counts behind) last new later
+  pub tells : Tells told (still reading counts behind) last new (still reading later_counts later_behind)
   pub len : ℕ
   pub written : Appends before after_it (text ++ take len last)
 

@@ -1,5 +1,5 @@
 -- What a session did and what was written, as replies say it.
-use Rattle.std.specs.Prelude.{◌≡◌, ◌++◌, ◌⊎◌, ℕ, Bool, true, false, List, [], take, Option, Some, Result, MatchResult}
+use Rattle.std.specs.Prelude.{◌≡◌, ◌++◌, ◌⊎◌, ℕ, Bool, true, false, List, [], take, Option, Some, None, Result, MatchResult}
 use Rattle.std.specs.Io.KnownBytes.{Appends}
 use Rattle.command_text.specs.Answering.{Reply, Serving, at_line, answered, load, next_fate, searched, served, unless_broken}
 use Rattle.command_text.specs.declared.answers.Answer.{Answer}
@@ -33,11 +33,16 @@ pub record Serves {D : Type 0} (old : SessionValue D) (from : Serving → Reply)
   pub leads : Leads old from text new to
   pub written : Appends before after text
 
+-- what a search of these counts still answers, if one is under way
+abbrev pub still_searched : Option (List ℕ) → Serving → Reply
+still_searched None = silent
+still_searched (Some counts) = λ s. searched s counts
+
 -- one answer was written in part or not at all
 pub record CutAtOnce {D : Type 0} (old : SessionValue D) (from : Serving → Reply) (before after : Option (List ℕ)) (new : SessionValue D) : Type 0 where
   pub last : List ℕ
-  pub later : Serving → Reply
-  pub tells : Tells old from last new later
+  pub later : Option (List ℕ)
+  pub tells : Tells old from last new (still_searched later)
   pub len : ℕ
   pub written : Appends before after (take len last)
 
@@ -48,8 +53,8 @@ pub record CutWithin {D : Type 0} (old : SessionValue D) (from : Serving → Rep
   pub text : List ℕ
   pub answered : Leads old from text told (λ s. searched s counts)
   pub last : List ℕ
-  pub later : Serving → Reply
-  pub tells : Tells told (λ s. searched s counts) last new later
+  pub later : Option (List ℕ)
+  pub tells : Tells told (λ s. searched s counts) last new (still_searched later)
   pub len : ℕ
   pub written : Appends before after (text ++ take len last)
 
@@ -95,10 +100,17 @@ abbrev pub goes_on : Reading → Goes → List ℕ → Serving → Reply
 goes_on reading On left s = served reading s (pieces_of left)
 goes_on reading ToEnd left s = silent s
 
+-- the pieces that are still to be answered then
+abbrev pub pieces_behind : Goes → List ℕ → List Piece
+pieces_behind On left = pieces_of left
+pieces_behind ToEnd left = []
+
 -- these pieces were served, as far as what is left of an input that is known
 pub record ServesOn {D : Type 0} (reading : Reading) (old : SessionValue D) (pieces : List Piece) (before after : Option (List ℕ)) (new : SessionValue D) (goes : Goes) (known : Option (List ℕ)) : Type 0 where
   pub left : List ℕ
   pub is_known : known ≡ Some left
+  pub front : List Piece
+  pub split : pieces ≡ front ++ pieces_behind goes left
   pub serves : Serves old (λ s. served reading s pieces) before after new (goes_on reading goes left)
 
 -- these pieces were served, or cut short

@@ -1,11 +1,14 @@
 -- What is told line by line.
-use Rattle.std.proofs.Common.{◌≡◌, ◌∙◌, ℕ, Bool, List, [], ◌∷◌, ◌++◌, Option, Some, None, Result, Ok, Err, refl, sym, ap, subst, arith, append_assoc, append-nil}
-use Rattle.std.specs.Prelude.{IfErr, max}
+use Rattle.std.proofs.Common.{◌≡◌, ◌∙◌, ◌<◌, ℕ, Bool, List, [], ◌∷◌, ◌++◌, Option, Some, None, Result, Ok, Err, refl, sym, ap, subst, arith, append_assoc, append-nil}
+use Rattle.std.specs.Prelude.{◌≢◌, ◌↔◌, IfErr, IsErrOf, max}
 use Rattle.std.specs.Borrow.{Bor}
+use Rattle.std.specs.Result.{result_err}
 use Rattle.std.specs.Io.KnownBytes.{Appends, Keeps}
 use Rattle.std.specs.declared.io.ErrorKind.{ErrorKind}
 use Rattle.std.proofs.KnownBytes.{Appends-nil, Appends-trans}
 use Rattle.plan_types.specs.declared.requests.Kind.{Kind}
+use Rattle.checkpoint.specs.declared.faults.FormatFault.{FormatFault}
+use Rattle.checkpoint.specs.declared.faults.FormatFault.TheVariants.{TooSmall}
 use Rattle.command_serving.specs.Served.{HasCause}
 use Rattle.command_serving.specs.declared.answering.ServeFault.{ServeFault}
 use Rattle.command_serving.specs.declared.answering.ServeFault.TheVariants as fault
@@ -23,6 +26,11 @@ pub cause_behind : {T : Type 0} (served : Result T ServeFault) (reader writer la
 cause_behind (Ok done) reader writer later len kept cause = tt
 cause_behind (Err fault.ReadFault) reader writer later len kept cause = cause
 cause_behind (Err fault.WriteFault) reader writer later len kept cause = kept refl ∙ cause
+
+-- a device of a store's sectors is not too small
+pub not_too_small : {T : Type 0} (made : Result T FormatFault) (len : ℕ) → IsErrOf made TooSmall ↔ (len < 8450) → len ≡ 8450 → result_err made ≢ Some TooSmall
+not_too_small (Ok x) len small is told = absurd cc
+not_too_small (Err f) len small is told = let same : f ≡ TooSmall = cc in absurd (omega (arith, is, small.0 (ap (λ x. Err x) same)))
 
 -- two paths with tabs behind them, and what follows
 pub tabs : (i s a : List ℕ) → (i ++ 9 ∷ (s ++ 9 ∷ [])) ++ a ≡ i ++ 9 ∷ (s ++ 9 ∷ a)

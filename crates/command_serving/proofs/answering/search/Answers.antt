@@ -1,5 +1,5 @@
 -- Piece by piece, what is left of the search is what the reply still says.
-use Rattle.std.proofs.Common.{subst, sym, ◌≡◌, ◌-◌, Err, rules}
+use Rattle.std.proofs.Common.{subst, sym, ◌≡◌, ◌-◌, Err, rules, None, Some}
 use Rattle.std.specs.Prelude.{⊤}
 use Rattle.std.proofs.lemmas.Result.{err_from_is_err_and}
 use Rattle.command_text.specs.Answering.{counts_of, searched}
@@ -22,7 +22,7 @@ returns-in-Err-clause-answers g c =
     let after = g.W.Sink.contents c.tell.new.writer in
     let tells = piece_denied mid c.apply.new.self c.next_count-count.result c.loop-left.left (counts_of (c.loop-left.left - c.next_count-count.result)) c.apply.result.answer c.in-Err.denial c.next_count-count.ensures.counts
     c.apply.ensures.answer c.apply.ensures.makes c.in-Err.is in
-    answers_behind c.tell.result old mid c.apply.new.self (λ s. searched s (counts_of c.args.steps)) silent (counts_of c.loop-left.left) (line (answer_text c.denied.result)) before sofar after c.loop-left.invariant
+    answers_behind c.tell.result old mid c.apply.new.self (λ s. searched s (counts_of c.args.steps)) None (counts_of c.loop-left.left) (line (answer_text c.denied.result)) before sofar after c.loop-left.invariant
     (subst (λ a. Tells mid (λ s. searched s (counts_of c.loop-left.left)) (line (answer_text a)) c.apply.new.self silent) (sym c.denied.ensures) tells) c.tell.ensures.bytes
 
 pub loop-left-preserved : goal.loop-left-preserved
@@ -48,7 +48,7 @@ returns-clause-answers g c =
     let sofar = g.W.Sink.contents c.loop-left.writer in
     let after = g.W.Sink.contents c.tell-2.new.writer in
     let none : c.loop-left.left ≡ 0 = search rules in
-    answers_behind c.tell-2.result old mid mid (λ s. searched s (counts_of c.args.steps)) silent (counts_of c.loop-left.left) (line (answer_text answer.Ok)) before sofar after c.loop-left.invariant
+    answers_behind c.tell-2.result old mid mid (λ s. searched s (counts_of c.args.steps)) None (counts_of c.loop-left.left) (line (answer_text answer.Ok)) before sofar after c.loop-left.invariant
     (search_ended mid c.loop-left.left none) c.tell-2.ensures.bytes
 
 pub returns-in_err-tell_progress-clause-answers : goal.returns-in_err-tell_progress-clause-answers
@@ -63,5 +63,5 @@ returns-in_err-tell_progress-clause-answers g c =
     let tells = piece_done mid c.apply.new.self c.next_count-count.result c.loop-left.left (counts_of left) c.apply.result.answer c.in_default.field-0 c.next_count-count.ensures.counts
     c.apply.ensures.answer c.apply.ensures.makes c.in_default.is in
     subst (λ r. Answers r old (λ s. searched s (counts_of c.args.steps)) before after c.apply.new.self silent) (sym told.1)
-    (answers_behind {T = ⊤} (Err told.0) old mid c.apply.new.self (λ s. searched s (counts_of c.args.steps)) (λ s. searched s (counts_of left)) (counts_of c.loop-left.left) (at_line_of c.apply.new.self) before sofar after
+    (answers_behind {T = ⊤} (Err told.0) old mid c.apply.new.self (λ s. searched s (counts_of c.args.steps)) (Some (counts_of left)) (counts_of c.loop-left.left) (at_line_of c.apply.new.self) before sofar after
     c.loop-left.invariant tells c.in_err-tell_progress.ensures.bytes)

@@ -1,5 +1,5 @@
 -- By what the line asks for.
-use Rattle.std.proofs.Common.{refl, subst, sym}
+use Rattle.std.proofs.Common.{refl, subst, sym, None}
 use Rattle.std.proofs.lemmas.Result.{err_from_is_err_and}
 use Rattle.command_core.specs.declared.refusals.Refusal.TheVariants as core
 use Rattle.command_text.specs.Answering.{answered, plain, refused, unless_broken}
@@ -8,7 +8,7 @@ use Rattle.command_text.specs.Laws.{cut_at}
 use Rattle.command_text.specs.declared.answers.Answer.TheVariants as answer
 use Rattle.command_text.specs.declared.asked.Asked.TheVariants as asked
 use Rattle.command_serving.specs.Input.{left_of}
-use Rattle.command_serving.specs.Serving.{GoesOn, ServesOn, silent}
+use Rattle.command_serving.specs.Serving.{GoesOn, ServesOn}
 use Rattle.command_serving.specs.declared.answering.Goes.TheVariants.{On}
 use Rattle.command_serving.proofs.AskedLemmas.{cut_at_once, line_ends, line_on, load_on, nothing_on}
 use Rattle.command_serving.proofs.ServingLemmas.{answers_told, tells_same}
@@ -23,7 +23,7 @@ returns-in-BadLoad-clause-serves g c = λ reading rest is known.
     let left = left_of g.R.Source.remaining c.args.input.now c.args.reader.now in
     subst (λ a. GoesOn c.once-in-BadLoad.result reading old (cut_at a rest) before after new left) (sym c.in-BadLoad.is)
     (line_ends reading asked.BadLoad rest old new before after left c.once-in-BadLoad.result c.tell.result c.once-in-BadLoad.ensures refl known
-    (answers_told c.tell.result old new (λ s. answered s answer.BadLine) silent (line (answer_text answer.BadLine)) before after (tells_same old (λ s. answered s answer.BadLine) answer.BadLine (λ fates. refl)) c.tell.ensures.bytes))
+    (answers_told c.tell.result old new (λ s. answered s answer.BadLine) None (line (answer_text answer.BadLine)) before after (tells_same old (λ s. answered s answer.BadLine) answer.BadLine (λ fates. refl)) c.tell.ensures.bytes))
 
 pub returns-in-LoadRange-clause-serves : goal.returns-in-LoadRange-clause-serves
 returns-in-LoadRange-clause-serves g c = λ reading rest is known.
@@ -34,7 +34,7 @@ returns-in-LoadRange-clause-serves g c = λ reading rest is known.
     let left = left_of g.R.Source.remaining c.args.input.now c.args.reader.now in
     subst (λ a. GoesOn c.once-in-LoadRange.result reading old (cut_at a rest) before after new left) (sym c.in-LoadRange.is)
     (line_ends reading asked.LoadRange rest old new before after left c.once-in-LoadRange.result c.tell-in-LoadRange.result c.once-in-LoadRange.ensures refl known
-    (answers_told c.tell-in-LoadRange.result old new (λ s. answered s (answer.Refused core.Range)) silent (line (answer_text (answer.Refused core.Range))) before after (tells_same old (λ s. answered s (answer.Refused core.Range)) (answer.Refused core.Range) (λ fates. refl)) c.tell-in-LoadRange.ensures.bytes))
+    (answers_told c.tell-in-LoadRange.result old new (λ s. answered s (answer.Refused core.Range)) None (line (answer_text (answer.Refused core.Range))) before after (tells_same old (λ s. answered s (answer.Refused core.Range)) (answer.Refused core.Range) (λ fates. refl)) c.tell-in-LoadRange.ensures.bytes))
 
 pub returns-in-BadLine-clause-serves : goal.returns-in-BadLine-clause-serves
 returns-in-BadLine-clause-serves g c = λ reading rest is known.
@@ -45,7 +45,7 @@ returns-in-BadLine-clause-serves g c = λ reading rest is known.
     let left = left_of g.R.Source.remaining c.args.input.now c.args.reader.now in
     subst (λ a. GoesOn c.once-in-BadLine.result reading old (cut_at a rest) before after new left) (sym c.in-BadLine.is)
     (line_on reading asked.BadLine rest old new before after left c.once-in-BadLine.result c.tell-in-BadLine.result c.once-in-BadLine.ensures refl known
-    (answers_told c.tell-in-BadLine.result old new (λ s. answered s answer.BadLine) silent (line (answer_text answer.BadLine)) before after (tells_same old (λ s. answered s answer.BadLine) answer.BadLine (λ fates. refl)) c.tell-in-BadLine.ensures.bytes))
+    (answers_told c.tell-in-BadLine.result old new (λ s. answered s answer.BadLine) None (line (answer_text answer.BadLine)) before after (tells_same old (λ s. answered s answer.BadLine) answer.BadLine (λ fates. refl)) c.tell-in-BadLine.ensures.bytes))
 
 pub returns-in-Refused-clause-serves : goal.returns-in-Refused-clause-serves
 returns-in-Refused-clause-serves g c = λ reading rest is known.
@@ -56,7 +56,7 @@ returns-in-Refused-clause-serves g c = λ reading rest is known.
     let left = left_of g.R.Source.remaining c.args.input.now c.args.reader.now in
     subst (λ a. GoesOn c.once-in-Refused.result reading old (cut_at a rest) before after new left) (sym c.in-Refused.is)
     (line_on reading (asked.Refused c.in-Refused.refusal) rest old new before after left c.once-in-Refused.result c.tell-in-Refused.result c.once-in-Refused.ensures refl known
-    (answers_told c.tell-in-Refused.result old new (λ s. unless_broken s (refused s s.state c.in-Refused.refusal)) silent (line (answer_text c.refused.result)) before after c.refused.ensures c.tell-in-Refused.ensures.bytes))
+    (answers_told c.tell-in-Refused.result old new (λ s. unless_broken s (refused s s.state c.in-Refused.refusal)) None (line (answer_text c.refused.result)) before after c.refused.ensures c.tell-in-Refused.ensures.bytes))
 
 pub returns-in-Plain-clause-serves : goal.returns-in-Plain-clause-serves
 returns-in-Plain-clause-serves g c = λ reading rest is known.
@@ -67,7 +67,7 @@ returns-in-Plain-clause-serves g c = λ reading rest is known.
     let left = left_of g.R.Source.remaining c.args.input.now c.args.reader.now in
     subst (λ a. GoesOn c.once-in-Plain.result reading old (cut_at a rest) before after new left) (sym c.in-Plain.is)
     (line_on reading (asked.Plain c.in-Plain.command) rest old new before after left c.once-in-Plain.result c.tell-in-Plain.result c.once-in-Plain.ensures refl known
-    (answers_told c.tell-in-Plain.result old new (λ s. plain s c.in-Plain.command) silent (line (answer_text c.applied.result)) before after c.applied.ensures c.tell-in-Plain.ensures.bytes))
+    (answers_told c.tell-in-Plain.result old new (λ s. plain s c.in-Plain.command) None (line (answer_text c.applied.result)) before after c.applied.ensures c.tell-in-Plain.ensures.bytes))
 
 pub returns-in-Search-clause-serves : goal.returns-in-Search-clause-serves
 returns-in-Search-clause-serves g c = λ reading rest is known.

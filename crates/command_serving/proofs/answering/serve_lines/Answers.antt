@@ -27,7 +27,7 @@ returns-in_err-asked-clause-serves g c = λ reading bytes is known.
     let so_far = c.loop-asked.invariant.0 reading bytes is known in
     let told = err_from_is_err_and c.from_residual.result c.from_residual.ensures.1 in
     subst (λ r. MatchResult r (λ _. IsServed reading old bytes before after new) (λ _. IsCutShort reading old (pieces_of bytes) before after new)) (sym told.1)
-    (cut_between reading old new (pieces_of bytes) (pieces_of so_far.left) before after so_far.serves)
+    (cut_between reading old new (pieces_of bytes) so_far.front (pieces_of so_far.left) before after so_far.split so_far.serves)
 
 pub returns-in_default-clause-serves : goal.returns-in_default-clause-serves
 returns-in_default-clause-serves g c = λ reading bytes is known.

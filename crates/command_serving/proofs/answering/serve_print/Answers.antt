@@ -1,5 +1,5 @@
 -- By whether there is a job, whether all is planned, and whether memory was found for the text.
-use Rattle.std.proofs.Common.{rules, ◌≡◌, ◌++◌, Err, refl, subst}
+use Rattle.std.proofs.Common.{rules, ◌≡◌, ◌++◌, Err, refl, subst, None}
 use Rattle.command_core.specs.declared.refusals.Refusal.TheVariants as core
 use Rattle.command_text.specs.Answering.{printed, unless_broken}
 use Rattle.command_text.specs.Answers.{answer_text, line}
@@ -7,7 +7,6 @@ use Rattle.command_text.specs.Showing.{print_text}
 use Rattle.command_text.specs.declared.answers.Answer.TheVariants as answer
 use Rattle.route_sched.specs.Cost.{unplanned_count}
 use Rattle.sol_text.specs.declared.faults.WriteSolFault.TheVariants as write
-use Rattle.command_serving.specs.Serving.{silent}
 use Rattle.command_serving.specs.Streams.{Puts}
 use Rattle.command_serving.proofs.ReplyLemmas.{planned_ok, planned_unmade, print_done, print_unmade, print_unplanned, tells_none, unplanned_told}
 use Rattle.command_serving.proofs.ServingLemmas.{answers_told}
@@ -16,7 +15,7 @@ use Rattle.command_serving.proofs.answering.serve_print.Goals as goal
 pub returns-in-Err-clause-answers : goal.returns-in-Err-clause-answers
 returns-in-Err-clause-answers g c =
     let session = c.args.session.now in
-    answers_told c.tell.result session session (λ s. unless_broken s (printed s s.state)) silent (line (answer_text c.in-Err.answer)) (g.W.Sink.contents c.args.writer.now) (g.W.Sink.contents c.tell.new.writer)
+    answers_told c.tell.result session session (λ s. unless_broken s (printed s s.state)) None (line (answer_text c.in-Err.answer)) (g.W.Sink.contents c.args.writer.now) (g.W.Sink.contents c.tell.new.writer)
     (tells_none printed session c.in-Err.answer (λ t. refl) c.in-Err.ensures.none) c.tell.ensures.bytes
 
 pub returns-in-Ok-print-clause-answers : goal.returns-in-Ok-print-clause-answers
@@ -27,7 +26,7 @@ returns-in-Ok-print-clause-answers g c =
     let after = g.W.Sink.contents c.tell_text.new.writer in
     let bytes : c.as_bytes.result.now ≡ print_text job = search rules in
     let planned = planned_ok (unplanned_count job.problem job.plan) c.print.result c.print.ensures.unplanned c.print.ensures.planned c.in-Ok-print.text c.in-Ok-print.is in
-    answers_told c.tell_text.result session session (λ s. unless_broken s (printed s s.state)) silent (print_text job ++ line (answer_text answer.Ok)) before after
+    answers_told c.tell_text.result session session (λ s. unless_broken s (printed s s.state)) None (print_text job ++ line (answer_text answer.Ok)) before after
     (print_done session job c.in-Ok.ensures.job.0 c.in-Ok.ensures.job.1 planned) (subst (λ t. Puts before after c.tell_text.result (t ++ line (answer_text answer.Ok))) bytes c.tell_text.ensures.bytes)
 
 pub returns-in-Err-Unplanned-clause-answers : goal.returns-in-Err-Unplanned-clause-answers
@@ -36,7 +35,7 @@ returns-in-Err-Unplanned-clause-answers g c =
     let job = c.in-Ok.job.now in
     let is : c.print.result ≡ Err (write.Unplanned c.in-Err-Unplanned.field-0-0) = search rules in
     let unplanned = unplanned_told (unplanned_count job.problem job.plan) c.print.result c.print.ensures.unplanned c.print.ensures.planned c.in-Err-Unplanned.field-0-0 is in
-    answers_told c.tell-in-Err-Unplanned.result session session (λ s. unless_broken s (printed s s.state)) silent (line (answer_text answer.Unplanned)) (g.W.Sink.contents c.args.writer.now) (g.W.Sink.contents c.tell-in-Err-Unplanned.new.writer)
+    answers_told c.tell-in-Err-Unplanned.result session session (λ s. unless_broken s (printed s s.state)) None (line (answer_text answer.Unplanned)) (g.W.Sink.contents c.args.writer.now) (g.W.Sink.contents c.tell-in-Err-Unplanned.new.writer)
     (print_unplanned session job c.in-Ok.ensures.job.0 c.in-Ok.ensures.job.1 unplanned) c.tell-in-Err-Unplanned.ensures.bytes
 
 pub returns-in-Err-OutOfMemory-clause-answers : goal.returns-in-Err-OutOfMemory-clause-answers
@@ -45,5 +44,5 @@ returns-in-Err-OutOfMemory-clause-answers g c =
     let job = c.in-Ok.job.now in
     let is : c.print.result ≡ Err write.OutOfMemory = search rules in
     let planned = planned_unmade (unplanned_count job.problem job.plan) c.print.result c.print.ensures.unplanned c.print.ensures.planned is in
-    answers_told c.tell-in-Err-OutOfMemory.result session session (λ s. unless_broken s (printed s s.state)) silent (line (answer_text (answer.Refused core.OutOfMemory))) (g.W.Sink.contents c.args.writer.now) (g.W.Sink.contents c.tell-in-Err-OutOfMemory.new.writer)
+    answers_told c.tell-in-Err-OutOfMemory.result session session (λ s. unless_broken s (printed s s.state)) None (line (answer_text (answer.Refused core.OutOfMemory))) (g.W.Sink.contents c.args.writer.now) (g.W.Sink.contents c.tell-in-Err-OutOfMemory.new.writer)
     (print_unmade session job c.in-Ok.ensures.job.0 c.in-Ok.ensures.job.1 planned) c.tell-in-Err-OutOfMemory.ensures.bytes

@@ -1,5 +1,5 @@
 -- What opening the device gave, and what was served over it or told.
-use Rattle.std.proofs.Common.{inl, inr}
+use Rattle.std.proofs.Common.{inl}
 use Rattle.std.proofs.lemmas.Result.{IfOk-weaker}
 use Rattle.planner_cli.proofs.stores.run_device.Goals as goal
 
@@ -26,6 +26,3 @@ returns-in-Ok-clause-runs g c =
       },
       runs,
     )) c.serve_opened.ensures.runs
-
-pub returns-in-Err-clause-runs : goal.returns-in-Err-clause-runs
-returns-in-Err-clause-runs g c = ?
