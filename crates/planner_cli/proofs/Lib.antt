@@ -1,2 +1,3 @@
+pub mod AnyLemmas
 pub mod SpelledLemmas
 pub mod TellLemmas

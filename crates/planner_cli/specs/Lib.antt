@@ -14,3 +14,4 @@ pub mod Listed
 pub mod Running
 pub mod Solving
 pub mod Telling
+pub mod Whatever

@@ -1,9 +1,10 @@
 //! What the program does with its words: files are read, answers are printed.
 ghost use Rattle.std.specs.Prelude.{◌≡◌, ◌≤◌, IfOk, IsSome, false, drop, map};
 ghost use Rattle.clap.specs.Words.{kind_of};
-ghost use Rattle.command_line.specs.Asked.{ArePositional, IsUsageStatus, asked_by, asks_help, usage_status_of};
+ghost use Rattle.command_line.specs.Asked.{ArePositional, IsUsageStatus, asked_by, asks_help, task_of, usage_status_of};
 ghost use Rattle.plan_types.specs.declared.requests.Kind.TheVariants.{LiLim};
 ghost use Rattle.planner_cli.specs.Telling.{TellsAudit, example_instance, example_solution, is_usage_printed};
+ghost use Rattle.planner_cli.specs.Whatever.{TellsAnyDrawn, TellsAnyExplained, TellsAnyFiles, TellsAnyList, TellsAnyTask};
 
 use crate::audit::audit_text;
 use crate::audited::audit_read;
@@ -124,7 +125,9 @@ fn audit_example<W: Write>(alloc: Global, output: &mut W) -> io::Result<u8>
 fn audit_files<R, W: Write>(rt: &R, paths: Paths, output: &mut W) -> io::Result<u8>
 where
     R: Files + Eprint + AllocGlobal,
-    ensures { IfOk result (λ status. status ≤ 4) }
+    ensures status { IfOk result (λ status. status ≤ 4) }
+    ensures told { IfOk result (TellsAnyFiles paths.entry.kind paths.entry.instance.now
+        paths.entry.solution.now (W.contents output.old) (W.contents output.new)) }
 {
     let read = |path: &str| read_file(rt, path);
     audit_read(rt.alloc(), paths, &read, output)
@@ -134,7 +137,9 @@ where
 fn audit_list<R, W: Write>(rt: &R, kind: Kind, list: &str, output: &mut W) -> io::Result<u8>
 where
     R: Files + Eprint + AllocGlobal,
-    ensures { IfOk result (λ status. status ≤ 4) }
+    ensures status { IfOk result (λ status. status ≤ 4) }
+    ensures told { IfOk result (TellsAnyList kind list.now
+        (W.contents output.old) (W.contents output.new)) }
 {
     let read = |path: &str| read_file(rt, path);
     audits_read(rt.alloc(), kind, list, &read, output)
@@ -144,7 +149,9 @@ where
 fn explain_files<R, W: Write>(rt: &R, paths: Paths, output: &mut W) -> io::Result<u8>
 where
     R: Files + Eprint + AllocGlobal,
-    ensures { IfOk result (λ status. status ≤ 4) }
+    ensures status { IfOk result (λ status. status ≤ 4) }
+    ensures told { IfOk result (TellsAnyExplained paths.entry.kind paths.entry.instance.now
+        paths.entry.solution.now (W.contents output.old) (W.contents output.new)) }
 {
     let read = |path: &str| read_file(rt, path);
     explain_read(rt.alloc(), paths, &read, output)
@@ -159,7 +166,10 @@ fn draw_files<R, W: Write, E: Write>(
 ) -> io::Result<u8>
 where
     R: Files + Eprint + AllocGlobal,
-    ensures { IfOk result (λ status. status ≤ 4) }
+    ensures status { IfOk result (λ status. status ≤ 4) }
+    ensures told { IfOk result (TellsAnyDrawn paths.entry.kind paths.entry.instance.now
+        paths.entry.solution.now (W.contents output.old) (W.contents output.new)
+        (E.contents errors.old) (E.contents errors.new)) }
 {
     let read = |path: &str| read_file(rt, path);
     draw_read(rt.alloc(), paths, &read, output, errors)
@@ -174,7 +184,10 @@ fn solve_file<R, W: Write, E: Write>(
 ) -> io::Result<u8>
 where
     R: Files + Eprint + AllocGlobal,
-    ensures { IfOk result (λ status. status ≤ 4) }
+    ensures status { IfOk result (λ status. status ≤ 4) }
+    ensures told { IfOk result (TellsAnyTask (task_of task.entry)
+        (W.contents output.old) (W.contents output.new)
+        (E.contents errors.old) (E.contents errors.new)) }
 {
     let read = |path: &str| read_file(rt, path);
     solve_read(rt.alloc(), task, &read, output, errors)
