@@ -1,2 +1,3 @@
 mod Distances
 mod Roots
+mod Triangle

@@ -1,5 +1,5 @@
 -- The distance of two stops (TSPLIB95, EUC_2D).
-use Rattle.std.specs.Prelude.{ℕ, ◌+◌, ◌*◌, ◌-ℤ◌, unsigned_abs}
+use Rattle.std.specs.Prelude.{ℕ, ◌+◌, ◌*◌, ◌≤◌, ◌-ℤ◌, unsigned_abs}
 use Rattle.plan_types.specs.Limits.{IsCoordinate}
 use Rattle.plan_types.specs.declared.requests.Stop.{Stop}
 use Rattle.nint_dist.specs.NearestRoot.{IsNearestRoot, nearest_root}
@@ -19,3 +19,7 @@ distance a b = nearest_root (squared_distance a b)
 
 abbrev pub DistancesAreNearestRoots : Type 0
 DistancesAreNearestRoots = (a b : Stop) → IsNearestRoot (squared_distance a b) (distance a b)
+
+-- a way over a third stop is shorter by one at most
+abbrev pub DetoursSaveAtMostOne : Type 0
+DetoursSaveAtMostOne = (a b c : Stop) → distance a b ≤ distance a c + distance c b + 1

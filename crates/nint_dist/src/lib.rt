@@ -3,7 +3,7 @@
 
 ghost use Rattle.std.specs.Prelude.{◌≡◌, ◌+◌, ◌*◌, ◌≤◌, ◌-ℤ◌, unsigned_abs};
 ghost use Rattle.plan_types.specs.Limits.{IsCoordinate};
-ghost use Rattle.nint_dist.specs.Distance.{IsPlaced, distance, squared_distance, DistancesAreNearestRoots};
+ghost use Rattle.nint_dist.specs.Distance.{IsPlaced, distance, squared_distance, DistancesAreNearestRoots, DetoursSaveAtMostOne};
 ghost use Rattle.nint_dist.specs.NearestRoot.{IsNearestRoot};
 
 mod root;
@@ -31,6 +31,12 @@ pub fn dist(a: &Stop, b: &Stop) -> u32
 /// The law that each distance is the nearest root of the squared one, whether it was computed or not.
 pub fn distances_are_nearest_roots()
     ensures { DistancesAreNearestRoots }
+{}
+
+/// The law that a way over a third stop is shorter than the direct one by 1 at most, as far as rounded
+/// distances break the triangle inequality.
+pub fn detours_save_at_most_one()
+    ensures { DetoursSaveAtMostOne }
 {}
 
 /// How far two coordinates are apart.
