@@ -20,7 +20,7 @@ use Rattle.slack_tables.proofs.AlongLemmas.{start-next, length-next}
 use Rattle.slack_tables.proofs.CourseLemmas.{long-on}
 use Rattle.slack_tables.proofs.InsertLemmas.{limits_of, single-added, pair-added}
 
-first-same : (C D : Addition → Type 0) → ((a : Addition) → C a → D a) → ((a : Addition) → D a → C a) → (o : Option Addition) → IsFirstOf C o → IsFirstOf D o
+pub first-same : (C D : Addition → Type 0) → ((a : Addition) → C a → D a) → ((a : Addition) → D a → C a) → (o : Option Addition) → IsFirstOf C o → IsFirstOf D o
 first-same C D to from None never = λ a is. never a (from a is)
 first-same C D to from (Some b) first = (to b first.0, λ a is. first.1 a (from a is))
 

@@ -130,13 +130,13 @@ module _ (limits : Limits) (places : List Place) (p q : Stop) (i : ℕ) (d : Pla
       let onward : on.onward ≡ distance p (get_or places i d).at.stop = is.onward ∙ (ap (λ s. distance s (get_or places (i + 1 - 1) d).at.stop) stop ∙ ap (λ k. distance p (get_or places k d).at.stop) there) in
       omega arith
 
-  module _ (least : List ℤ) (is : AreLeast least places q) (bound : ℤ) where
+  module _ (least : List ℤ) (is : AreLeast i least places q) (bound : ℤ) where
     -- each delivery further on comes to the bound
     pub dear-behind : (k far base : ℕ) → i ≤ k → k < length least → far ≤ reach → base ≡ (get_or places i d).at.distance → bound ≤ℤ ((pos far -ℤ pos base) +ℤ get_or least k (pos 0)) → (j : ℕ) (x : ℤ) → k + 2 ≤ j → j ≤ length places → with_pair limits places p q i j d ≡ Some x → bound ≤ℤ x
     dear-behind k far base order known is_far is_base hopeless j x behind last some =
         let back : j - 2 + 2 ≡ j = omega arith in
         let cost = apart-is (j - 2) x (omega arith) (omega arith) (subst (λ n. with_pair limits places p q i n d ≡ Some x) (sym back) some) in
-        let le = is.lower k (j - 2) d known (omega arith) (omega arith) in
+        let le = is.lower k (j - 2) d order known (omega arith) (omega arith) in
         omega (arith, ints)
 
     -- and each at all, by ways from below

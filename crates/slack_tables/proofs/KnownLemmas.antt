@@ -32,7 +32,7 @@ most-small x y n p q = omega (arith, ints, clamps)
 
 module _ (kind : Kind) (capacity : ℕ) (stops : ℕ → Stop) (last : ℕ) (limits : IsInLimits kind capacity stops last) where
   -- the schedule's own start goes on
-  goes_on : (k : ℕ) → GoesOnAlong kind stops last k (start_along stops k)
+  pub goes_on : (k : ℕ) → GoesOnAlong kind stops last k (start_along stops k)
   goes_on k = λ lilim j h l.
       let far : j ≡ k + (j - k) = omega arith in
       let spliced : start_along stops (k + (j - k)) ≡ moved_along stops k (start_along stops k) (k + (j - k)) = spliced-start stops stops k k (λ i. refl) (j - k) in

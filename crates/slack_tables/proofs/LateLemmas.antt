@@ -1,18 +1,19 @@
--- Who comes to a place after a stop's latest time comes to none behind it in time, nor does who waits for a window beyond that time.
-use Rattle.std.proofs.Common.{◌≡◌, ℕ, zero, suc, ◌+◌, ◌-◌, ◌<◌, ◌≤◌, ◌⊎◌, Bool, true, false, cond, ◌&&◌, int_le, pos, ◌-ℤ◌, List, get_or, length, map, Option, Some, None, refl, sym, ap, ◌∙◌, arith, subst, inl, inr}
+-- Who comes to a place after a stop's latest time comes to none behind it in time.
+use Rattle.std.proofs.Common.{◌≡◌, ℕ, zero, suc, ◌+◌, ◌-◌, ◌<◌, ◌≤◌, Bool, true, false, cond, ◌&&◌, int_le, pos, List, get_or, length, map, Option, Some, None, refl, sym, ap, ◌∙◌, arith, subst}
 use Rattle.std.specs.Prelude.{slice_range}
 use Rattle.std.specs.Option.{option_and_then}
-use Rattle.std.proofs.lemmas.Bool.{leb-true, leb-false, cases_lt}
+use Rattle.std.proofs.lemmas.Bool.{leb-true, leb-false}
 use Rattle.plan_types.specs.declared.requests.Stop.{Stop}
 use Rattle.plan_types.specs.declared.requests.Kind.{Kind}
 use Rattle.plan_types.specs.declared.requests.Kind.TheVariants.{LiLim, Vrp}
-use Rattle.slack_tables.specs.Driven.{driven_on, is_in_time, keeps, bears, stepped, walked, joined, with_pair}
+use Rattle.nint_dist.specs.Distance.{distance}
+use Rattle.slack_tables.specs.Driven.{driven_on, is_in_time, keeps, stepped, walked, joined, with_pair}
 use Rattle.slack_tables.specs.Legs.{AreRising}
 use Rattle.slack_tables.specs.Walk.{walk_to}
 use Rattle.slack_tables.specs.declared.progress.Limits.{Limits}
 use Rattle.slack_tables.specs.declared.progress.Progress.{Progress}
 use Rattle.slack_tables.specs.declared.progress.Place.{Place}
-use Rattle.slack_tables.proofs.WalkLemmas.{walk-first, walk-more, pair-over}
+use Rattle.slack_tables.proofs.WalkLemmas.{walk-more}
 
 rises-by : (places : List Place) → AreRising places → (d : Place) (n k : ℕ) → k + n < length places → (get_or places k d).at.start ≤ (get_or places (k + n) d).at.start
 rises-by places rising d zero k h = let same : k + 0 ≡ k = omega arith in subst (λ m. (get_or places k d).at.start ≤ (get_or places m d).at.start) (sym same) (omega arith)
@@ -31,7 +32,7 @@ late-too : (kind : Kind) (t u latest : ℕ) → t ≤ u → is_in_time kind t la
 late-too LiLim t u latest le late there = let after = leb-false _ _ late in let before = leb-true _ _ there in absurd (omega arith)
 late-too Vrp t u latest le late there = absurd (cc)
 
-late-stop : (limits : Limits) (a : Progress) (s : Stop) (t : ℕ) → is_in_time limits.kind t s.latest ≡ false → t ≤ a.start → stepped limits a s ≡ None
+pub late-stop : (limits : Limits) (a : Progress) (s : Stop) (t : ℕ) → is_in_time limits.kind t s.latest ≡ false → t ≤ a.start → stepped limits a s ≡ None
 late-stop limits a s t late le = by (int_le (driven_on a s).load (pos limits.capacity)) (is_in_time limits.kind (driven_on a s).start s.latest) refl
   where
     by : (k l : Bool) → is_in_time limits.kind (driven_on a s).start s.latest ≡ l → cond (k && l) (Some (driven_on a s)) None ≡ None
@@ -44,42 +45,59 @@ late-pickup limits places p q d rising i k j one order within late =
     ap (λ o. option_and_then (λ at. joined limits at (get_or places (j - 1) d)) (option_and_then (λ at. stepped limits at q) (option_and_then (λ at. walked limits at (map (λ e. e.at.stop) (slice_range places k (j - 1)))) o)))
     (late-stop limits (get_or places (k - 1) d).at p (get_or places (i - 1) d).at.start late (rises-to places rising d (i - 1) (k - 1) (omega arith) (omega arith)))
 
-step-start : (limits : Limits) (a b : Progress) (s : Stop) → stepped limits a s ≡ Some b → (s.earliest ≤ b.start) × (a.start ≤ b.start)
+pub step-start : (limits : Limits) (a b : Progress) (s : Stop) → stepped limits a s ≡ Some b → (s.earliest ≤ b.start) × (a.start ≤ b.start)
 step-start limits a b s is = by (keeps limits (driven_on a s)) is
   where
     by : (k : Bool) → cond k (Some (driven_on a s)) None ≡ Some b → (s.earliest ≤ b.start) × (a.start ≤ b.start)
     by true is = let same : driven_on a s ≡ b = cc in let start = ap (λ (x : Progress). x.start) same in (omega arith, omega arith)
     by false is = absurd (cc)
 
-joined-none : (limits : Limits) (b : Progress) (tail : Place) → stepped limits b tail.at.stop ≡ None → joined limits b tail ≡ None
-joined-none limits b tail none = ap (λ o. option_and_then (λ at. cond (bears limits at tail) (Some (pos at.distance -ℤ pos tail.at.distance)) None) o) none
+-- who goes on to a stop is there no earlier than the way takes, and in time
+pub step-after : (limits : Limits) (a b : Progress) (s : Stop) → limits.kind ≡ LiLim → stepped limits a s ≡ Some b → (b.stop ≡ s) × (a.start + a.stop.service + distance a.stop s ≤ b.start) × (b.start ≤ s.latest)
+step-after limits a b s lilim is = by (int_le (driven_on a s).load (pos limits.capacity)) (is_in_time limits.kind (driven_on a s).start s.latest) refl is
+  where
+    by : (k l : Bool) → is_in_time limits.kind (driven_on a s).start s.latest ≡ l → cond (k && l) (Some (driven_on a s)) None ≡ Some b → (b.stop ≡ s) × (a.start + a.stop.service + distance a.stop s ≤ b.start) × (b.start ≤ s.latest)
+    by true true there is =
+        let same : driven_on a s ≡ b = cc in
+        let start = ap (λ (x : Progress). x.start) same in
+        let in_time = leb-true _ _ (subst (λ k. is_in_time k (driven_on a s).start s.latest ≡ true) lilim there) in
+        (sym (ap (λ (x : Progress). x.stop) same), omega arith, omega arith)
+    by true false there is = absurd (cc)
+    by false l there is = absurd (cc)
 
-module _ (limits : Limits) (places : List Place) (p q : Stop) (i : ℕ) (d : Place) (over : is_in_time limits.kind p.earliest (get_or places i d).at.stop.latest ≡ false) where
-  -- place i comes too late behind the pickup
-  none-behind : (a : Progress) → p.earliest ≤ a.start → stepped limits a (get_or places (i + 1 - 1) d).at.stop ≡ None
-  none-behind a le =
-      let here : i + 1 - 1 ≡ i = omega arith in
-      ap (λ k. stepped limits a (get_or places k d).at.stop) here ∙ late-stop limits a (get_or places i d).at.stop p.earliest over le
+-- a delivery is too late wherever the vehicle goes on from here
+module _ (limits : Limits) (places : List Place) (p q : Stop) (i : ℕ) (d : Place) where
+  walk-rises : (j n : ℕ) → i < j → j + n ≤ length places + 1 → (a b : Progress) → walk_to limits places p i d j ≡ Some a → walk_to limits places p i d (j + n) ≡ Some b → a.start ≤ b.start
+  walk-rises j zero order within a b here there =
+      let same : j + 0 ≡ j = omega arith in
+      let one : Some a ≡ Some b = sym here ∙ (sym (ap (walk_to limits places p i d) same) ∙ there) in
+      let is : a ≡ b = cc in
+      let start = ap (λ (x : Progress). x.start) is in
+      omega arith
+  walk-rises j (suc n) order within a b here there = by (walk_to limits places p i d (j + n)) refl (λ e before. walk-rises j n order (omega arith) a e here before)
+    where
+      next : j + suc n ≡ j + n + 1
+      next = omega arith
 
-  next-to : (a : Progress) → p.earliest ≤ a.start → walk_to limits places p i d (i + 1) ≡ Some a → with_pair limits places p q i (i + 1) d ≡ None
+      last : option_and_then (λ at. stepped limits at (get_or places (j + n - 1) d).at.stop) (walk_to limits places p i d (j + n)) ≡ Some b
+      last = sym (walk-more limits places p i d (j + n) (omega arith) (omega arith)) ∙ (sym (ap (walk_to limits places p i d) next) ∙ there)
+
+      by : (o : Option Progress) → walk_to limits places p i d (j + n) ≡ o → ((e : Progress) → walk_to limits places p i d (j + n) ≡ Some e → a.start ≤ e.start) → a.start ≤ b.start
+      by None never _ = absurd (let none : None ≡ Some b = sym (ap (λ o. option_and_then (λ at. stepped limits at (get_or places (j + n - 1) d).at.stop) o) never) ∙ last in cc)
+      by (Some e) before each =
+          let so_far = each e before in
+          let step = (step-start limits e b (get_or places (j + n - 1) d).at.stop (sym (ap (λ o. option_and_then (λ at. stepped limits at (get_or places (j + n - 1) d).at.stop) o) before) ∙ last)).1 in
+          omega arith
+
+  pub late-delivery : (j k : ℕ) → i < j → j ≤ k → k ≤ length places → (a : Progress) → walk_to limits places p i d j ≡ Some a → is_in_time limits.kind a.start q.latest ≡ false → with_pair limits places p q i k d ≡ None
   unfolding walk_to
-  next-to a le here = ap (λ o. option_and_then (λ at. joined limits at (get_or places (i + 1 - 1) d)) (option_and_then (λ at. stepped limits at q) o)) here ∙ by (stepped limits a q) refl
+  late-delivery j k order behind within a here late = by (walk_to limits places p i d k) refl
     where
-      by : (o : Option Progress) → stepped limits a q ≡ o → option_and_then (λ at. joined limits at (get_or places (i + 1 - 1) d)) o ≡ None
-      by None _ = refl
-      by (Some b) is = let after = step-start limits a b q is in let start = after.1 in joined-none limits b (get_or places (i + 1 - 1) d) (none-behind b (omega arith))
+      far : j + (k - j) ≡ k
+      far = omega arith
 
-  pub early-pickup : (j : ℕ) → i + 1 ≤ j → j ≤ length places → with_pair limits places p q i j d ≡ None
-  early-pickup j behind last = by (stepped limits (get_or places (i - 1) d).at p) refl (cases_lt j (i + 2))
-    where
-      by : (o : Option Progress) → stepped limits (get_or places (i - 1) d).at p ≡ o → (j < i + 2) ⊎ (i + 2 ≤ j) → with_pair limits places p q i j d ≡ None
-      by None never _ = pair-over limits places p i d q (i + 1) j (omega arith) behind last (walk-first limits places p i d ∙ never)
-      by (Some a) here (inl near) =
-          let start = step-start limits (get_or places (i - 1) d).at a p here in
-          let same : i + 1 ≡ j = omega arith in
-          subst (λ k. with_pair limits places p q i k d ≡ None) same (next-to a start.0 (walk-first limits places p i d ∙ here))
-      by (Some a) here (inr further) =
-          let start = step-start limits (get_or places (i - 1) d).at a p here in
-          let more = walk-more limits places p i d (i + 1) (omega arith) (omega arith) in
-          let none = ap (λ o. option_and_then (λ at. stepped limits at (get_or places (i + 1 - 1) d).at.stop) o) (walk-first limits places p i d ∙ here) ∙ none-behind a start.0 in
-          pair-over limits places p i d q (i + 1 + 1) j (omega arith) (omega arith) last (more ∙ none)
+      by : (o : Option Progress) → walk_to limits places p i d k ≡ o → with_pair limits places p q i k d ≡ None
+      by None never = ap (λ o. option_and_then (λ at. joined limits at (get_or places (k - 1) d)) (option_and_then (λ at. stepped limits at q) o)) never
+      by (Some b) there =
+          let rises = walk-rises j (k - j) order (omega arith) a b here (ap (walk_to limits places p i d) far ∙ there) in
+          ap (λ o. option_and_then (λ at. joined limits at (get_or places (k - 1) d)) (option_and_then (λ at. stepped limits at q) o)) there ∙ ap (λ o. option_and_then (λ at. joined limits at (get_or places (k - 1) d)) o) (late-stop limits b q a.start late rises)

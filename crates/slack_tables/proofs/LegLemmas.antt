@@ -71,5 +71,8 @@ module _ (places : List Place) (s : Stop) (k : ℕ) (least : List ℤ) (x y : �
           let small_here : unsigned_abs y ≤ 2 ^ 60 = omega (arith, ints, clamps) in
           subst (λ n. unsigned_abs (get_or (set least k y) n (pos 0)) ≤ 2 ^ 60) same (subst (λ z. unsigned_abs z ≤ 2 ^ 60) (sym here) small_here)
 
-pub least-all : (places : List Place) (s : Stop) (least : List ℤ) → AreLeastFrom places s 0 least → AreLeast least places s
-least-all places s least is = record { lower = λ k m d h l r. is.lower k m d (omega arith) h l r; small = λ k h. is.small k (omega arith) h }
+pub least-from : (places : List Place) (s : Stop) (first : ℕ) (least : List ℤ) → AreLeastFrom places s first least → AreLeast first least places s
+least-from places s first least is = record { lower = λ k m d f h l r. is.lower k m d f h l r; small = λ k f h. is.small k f h }
+
+pub least-later : (places : List Place) (s : Stop) (first later : ℕ) (least : List ℤ) → first ≤ later → AreLeast first least places s → AreLeast later least places s
+least-later places s first later least le is = record { lower = λ k m d f h l r. is.lower k m d (omega arith) h l r; small = λ k f h. is.small k (omega arith) h }

@@ -16,5 +16,6 @@ pub mod ScanLemmas
 pub mod SpanLemmas
 pub mod SpliceLemmas
 pub mod TableLemmas
+pub mod TightLemmas
 pub mod WalkLemmas
 pub mod WayLemmas

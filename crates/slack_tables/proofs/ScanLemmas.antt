@@ -123,8 +123,8 @@ module _ (limits : Limits) (places : List Place) (p q : Stop) (kept : ℕ) (d : 
   abbrev pub PairsSoFar : ℤ → ℕ → Best → Type 0
   PairsSoFar below n best = SoFar (PutsPair limits places p q kept d) by_pickup order_pair below n best.bound best.found
 
-  pub pairs-begin : (below : ℤ) (best : Best) → best ≡ none_below below → PairsSoFar below (kept + 1) best
-  pairs-begin below best made = subst (PairsSoFar below (kept + 1)) (sym made) (none-yet (PutsPair limits places p q kept d) by_pickup order_pair below (kept + 1) (λ a is lt. let behind = is.behind in omega arith))
+  pub pairs-begin : (below : ℤ) (n : ℕ) (best : Best) → n ≤ kept + 1 → best ≡ none_below below → PairsSoFar below n best
+  pairs-begin below n best few made = subst (PairsSoFar below n) (sym made) (none-yet (PutsPair limits places p q kept d) by_pickup order_pair below n (λ a is lt. let behind = is.behind in omega arith))
 
   at-pickup : (a : Addition) (i : ℕ) → PutsPair limits places p q kept d a → a.pickup ≡ i → PutsDelivery limits places p q i d a
   at-pickup a i is here = record { here = here; order = subst (λ k. k < a.delivery) here is.order; within = is.within; added = subst (λ k. with_pair limits places p q k a.delivery d ≡ Some a.distance) here is.added }
@@ -144,8 +144,8 @@ module _ (limits : Limits) (places : List Place) (p q : Stop) (kept : ℕ) (d : 
         (better-here (PutsPair limits places p q kept d) by_pickup order_pair below best.bound i best.found found so (of-pickup found i behind is.0.0) (is.0.0.here) is.0.1 (λ a it here under. is.1 a (at-pickup a i it here, under)))
 
   -- or where no later place of the pickup is left
-  pub pairs-stop : (below : ℤ) (i : ℕ) (best : Best) → PairsSoFar below i best → ((k j : ℕ) → i ≤ k → k ≤ length places → with_pair limits places p q k j d ≡ None) → IsFirstOf (AddsPair limits places p q kept below d) best.found
-  pairs-stop below i best so over = rest-dear (PutsPair limits places p q kept d) by_pickup order_pair below best.bound i best.found so (λ a is behind less. never-sum _ a.distance (over a.pickup a.delivery behind (let order = is.order in let within = is.within in omega arith)) is.added)
+  pub pairs-stop : (below : ℤ) (i : ℕ) (best : Best) → PairsSoFar below i best → ((k j : ℕ) → i ≤ k → k < j → j ≤ length places → with_pair limits places p q k j d ≡ None) → IsFirstOf (AddsPair limits places p q kept below d) best.found
+  pairs-stop below i best so over = rest-dear (PutsPair limits places p q kept d) by_pickup order_pair below best.bound i best.found so (λ a is behind less. never-sum _ a.distance (over a.pickup a.delivery behind is.order is.within) is.added)
 
   pub pairs-end : (below : ℤ) (i : ℕ) (best : Best) → PairsSoFar below i best → length places ≤ i → IsFirstOf (AddsPair limits places p q kept below d) best.found
   pairs-end below i best so end = all-seen (PutsPair limits places p q kept d) by_pickup order_pair below best.bound i best.found so (λ a is. let within = is.within in let order = is.order in omega arith)

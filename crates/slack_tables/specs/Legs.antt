@@ -16,7 +16,7 @@ AreRising places = (k : ℕ) (d : Place) → k + 1 < length places → (slice_in
 abbrev pub detour_of : List Place → Stop → ℕ → Place → ℤ
 detour_of places s m d = pos ((slice_index_or places m d).at.distance + distance (slice_index_or places m d).at.stop s + distance (slice_index_or places (m + 1) d).at.stop s) -ℤ pos (slice_index_or places (m + 1) d).at.distance
 
--- no detour from place k on is less
-pub record AreLeast (least : List ℤ) (places : List Place) (s : Stop) : Type 0 where
-  pub lower : (k m : ℕ) (d : Place) → k < length least → k ≤ m → m + 1 < length places → slice_index_or least k (pos 0) ≤ℤ detour_of places s m d
-  pub small : (k : ℕ) → k < length least → unsigned_abs (slice_index_or least k (pos 0)) ≤ 2 ^ 60
+-- from place `first` on, no detour behind place k is less than its number
+pub record AreLeast (first : ℕ) (least : List ℤ) (places : List Place) (s : Stop) : Type 0 where
+  pub lower : (k m : ℕ) (d : Place) → first ≤ k → k < length least → k ≤ m → m + 1 < length places → slice_index_or least k (pos 0) ≤ℤ detour_of places s m d
+  pub small : (k : ℕ) → first ≤ k → k < length least → unsigned_abs (slice_index_or least k (pos 0)) ≤ 2 ^ 60

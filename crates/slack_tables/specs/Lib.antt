@@ -5,6 +5,7 @@ pub mod Insertion
 pub mod Latest
 -- what private functions do
 pub mod Along
+pub mod Closed
 pub mod Driven
 pub mod Filled
 pub mod Inside

@@ -59,17 +59,17 @@ fn detour(here: &Place, to: u64, from: u64, next: &Place) -> i64
     difference(here.at.distance + to + from, next.at.distance)
 }
 
-/// What no detour from each place on is less than.
-pub(crate) fn fill_least(least: &mut [i64], places: &[Place], stop: &Stop)
+/// What no detour from each place on is less than, from place `first` on.
+pub(crate) fn fill_least(least: &mut [i64], places: &[Place], stop: &Stop, first: usize)
     requires places { All IsSmallPlace places.now }
     requires count { length least.old ≡ length places.now }
-    requires some { 0 < length least.old }
-    ensures { AreLeast least.new places.now stop.now }
+    requires within { first < length least.old }
+    ensures { AreLeast first least.new places.now stop.now }
 {
     let last = least.len() - 1;
     least[last] = FAR;
     let mut from = least_leg_at(places, last, stop);
-    for k in (0..last).rev() {
+    for k in (first..last).rev() {
         let here = small_place(places, k);
         let next = small_place(places, k + 1);
         let to = least_leg_at(places, k, stop);
@@ -89,7 +89,7 @@ fn lesser(a: i64, b: i64) -> i64
 pub(crate) fn is_hopeless(least: &[i64], k: usize, reach: u64, base: u64, bound: i64) -> bool
     requires reach { reach ≤ 2 ^ 59 }
     requires base { base ≤ 2 ^ 59 }
-    requires least { (k : ℕ) → k < length least.now
+    requires least { k < length least.now
         → unsigned_abs (slice_index_or least.now k (pos 0)) ≤ 2 ^ 60 }
     ensures within { IsTrue result → k < length least.now }
     ensures dear { IsTrue result → bound ≤ℤ

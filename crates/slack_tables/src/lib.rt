@@ -1,6 +1,7 @@
 //! Tables of a route that tell, without driving it again, whether a request fits into it and how much longer it gets.
 #![tactic(auto)]
 
+mod closed;
 mod insertion;
 mod legs;
 mod progress;

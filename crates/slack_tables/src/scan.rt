@@ -1,23 +1,25 @@
 //! The places of a route at which a request adds the least distance.
 
-ghost use Rattle.std.specs.Prelude.{◌≡◌, ◌+◌, ◌^◌, ◌-◌, ◌≤◌, ◌<◌, ℕ, false, pos, ◌+ℤ◌, ◌-ℤ◌, ◌≤ℤ◌, All, IfSome, IsTrue, length, slice_index_or, unsigned_abs};
+ghost use Rattle.std.specs.Prelude.{◌≡◌, ◌+◌, ◌^◌, ◌-◌, ◌≤◌, ◌<◌, pos, ◌+ℤ◌, ◌-ℤ◌, ◌≤ℤ◌, All, IfSome, IsTrue, length, slice_index_or, unsigned_abs};
 ghost use Rattle.plan_types.specs.Limits.{IsVisit};
 ghost use Rattle.nint_dist.specs.Distance.{distance};
 ghost use Rattle.slack_tables.specs.declared.progress.Place.{Place};
 ghost use Rattle.slack_tables.specs.Best.{IsFirstOf, BestIsOne};
-ghost use Rattle.slack_tables.specs.Driven.{is_in_time, IsSmall, IsSmallPlace};
+ghost use Rattle.slack_tables.specs.Closed.{AreTight};
+ghost use Rattle.slack_tables.specs.Driven.{IsSmall, IsSmallPlace};
 ghost use Rattle.slack_tables.specs.Legs.{AreLeast, AreLinked, AreRising};
 ghost use Rattle.slack_tables.specs.Walk.{IsTrip, IsUnderway, IsNearWay};
 ghost use Rattle.slack_tables.specs.Span.{AreHome, AreLaden, IsSpan};
 ghost use Rattle.slack_tables.specs.Ride.{IsSmallRide, IsNearRide};
 ghost use Rattle.slack_tables.specs.Scan.{AddsSingle, AddsPair, AddsDelivery, AreDear, IsNearUnderway, served_single, picked_up, gone_on, none_below, offered, accepted};
 
+use crate::closed::{first_open, is_closed, is_past};
 use crate::legs::{ROOM, fill_least, is_hopeless, least_leg_at, leg_at, small_place};
 use crate::progress::{Limits, Place, Progress, difference, is_in_time};
 use crate::ride::{Detour, Ride, price, ride_of, ride_on, serve_below};
 use crate::span::Span;
 use nint_dist::dist;
-use plan_types::{Kind, Stop};
+use plan_types::Stop;
 
 /// Where a request is put into a route, and by how much the route gets longer.
 ///
@@ -164,6 +166,7 @@ pub(crate) fn best_pair(
     requires places { All IsSmallPlace places.now }
     requires ways { AreLinked places.now }
     requires rising { AreRising places.now }
+    requires tight { AreTight limits.kind places.now }
     requires few { length places.now ≤ 40003 }
     requires span { IsSpan span.now places.now }
     requires home { AreHome depot.now places.now }
@@ -176,6 +179,10 @@ pub(crate) fn best_pair(
     if span.is_far_pair(depot, pickup, delivery, below) {
         return None;
     }
+    let first = first_open(limits, places, pickup, kept);
+    if first == places.len() {
+        return None;
+    }
     let trip = Trip {
         limits,
         pickup: *pickup,
@@ -183,11 +190,11 @@ pub(crate) fn best_pair(
         across: u64::from(dist(pickup, delivery)),
     };
     if places.len() > ROOM {
-        return best_pickup(&trip, places, &[], kept, below);
+        return best_from(&trip, places, &[], first, below);
     }
     let mut least = [0; ROOM];
-    fill_least(&mut least[..places.len()], places, delivery);
-    best_pickup(&trip, places, &least[..places.len()], kept, below)
+    fill_least(&mut least[..places.len()], places, delivery, first);
+    best_from(&trip, places, &least[..places.len()], first, below)
 }
 
 /// A pair, the way from its pickup to its delivery, and what a vehicle must keep.
@@ -199,62 +206,77 @@ struct Trip {
     across: u64,
 }
 
-/// The best places of a pair, its pickup behind the first `kept` stops. From a place on that is
-/// reached after the pickup's latest time, none is in time.
-fn best_pickup(
+/// The best places of a pair, its pickup from place `first` on. From a place on that is reached after
+/// the pickup's latest time, none is in time.
+fn best_from(
     trip: &Trip,
     places: &[Place],
     least: &[i64],
-    kept: usize,
+    first: usize,
     below: i64,
 ) -> Option<Addition>
     requires trip { IsTrip trip.now }
     requires places { All IsSmallPlace places.now }
     requires ways { AreLinked places.now }
     requires rising { AreRising places.now }
+    requires tight { AreTight trip.now.limits.kind places.now }
     requires few { length places.now ≤ 40003 }
-    requires least { AreLeast least.now places.now trip.now.delivery }
-    requires kept { kept + 2 ≤ length places.now }
-    ensures { (d : Place) → IsFirstOf
-        (AddsPair trip.now.limits places.now trip.now.pickup trip.now.delivery kept below d)
-        result }
+    requires least { AreLeast first least.now places.now trip.now.delivery }
+    requires from_one { 1 ≤ first }
+    requires within { first < length places.now }
+    ensures { (d : Place) → IsFirstOf (AddsPair trip.now.limits places.now trip.now.pickup
+        trip.now.delivery (first - 1) below d) result }
 {
     let mut best = Best::none_below(below);
-    for i in kept + 1..places.len() {
-        let before = small_place(places, i - 1);
-        let latest = u64::from(trip.pickup.latest);
-        if !is_in_time(trip.limits.kind, before.at.start, latest) {
+    let mut to = least_leg_at(places, first - 1, &trip.pickup);
+    for i in first..places.len() {
+        if is_past(trip.limits, places, &trip.pickup, i) {
             return best.found;
         }
+        let from = least_leg_at(places, i, &trip.pickup);
         let bound = best.bound;
-        best.accept(best_at(trip, places, least, i, bound));
+        best.accept(best_at(trip, places, least, i, Detour { to, from }, bound));
+        to = from;
     }
     best.found
 }
 
-/// The best place of the delivery, where the pickup stands at place `i`. No root is taken where the
-/// stop behind is over before the pickup's window opens, nor where prices from below show that there
-/// is none below the bound.
-fn best_at(trip: &Trip, places: &[Place], least: &[i64], i: usize, below: i64) -> Option<Addition>
+/// The best place of the delivery, where the pickup stands at place `i` and the ways to it and on from
+/// it are no shorter than these. No root is taken where such ways show that the pickup is too late or
+/// that no price is below the bound.
+fn best_at(
+    trip: &Trip,
+    places: &[Place],
+    least: &[i64],
+    i: usize,
+    near: Detour,
+    below: i64,
+) -> Option<Addition>
     requires trip { IsTrip trip.now }
     requires places { All IsSmallPlace places.now }
     requires ways { AreLinked places.now }
+    requires tight { AreTight trip.now.limits.kind places.now }
     requires few { length places.now ≤ 40003 }
-    requires least { AreLeast least.now places.now trip.now.delivery }
+    requires least { AreLeast i least.now places.now trip.now.delivery }
     requires from_one { 1 ≤ i }
     requires within { i < length places.now }
+    requires to { (d : Place) → near.to
+        ≤ distance (slice_index_or places.now (i - 1) d).at.stop trip.now.pickup }
+    requires from { (d : Place) → near.from
+        ≤ distance (slice_index_or places.now i d).at.stop trip.now.pickup }
+    requires to_small { near.to ≤ 2 ^ 33 }
+    requires from_small { near.from ≤ 2 ^ 33 }
     ensures { (d : Place) → IsFirstOf
         (AddsDelivery trip.now.limits places.now trip.now.pickup trip.now.delivery i below d)
         result }
 {
+    if is_closed(trip.limits, places, &trip.pickup, i, near) {
+        return None;
+    }
+    if are_dear(trip, places, least, i, near, below) {
+        return None;
+    }
     let before = small_place(places, i - 1);
-    let next = small_place(places, i);
-    if is_over_before(trip.limits.kind, &next.at.stop, trip.pickup.earliest) {
-        return None;
-    }
-    if are_dear(trip, places, least, i, below) {
-        return None;
-    }
     let to = leg_at(places, i - 1, &trip.pickup);
     let onward = leg_at(places, i, &trip.pickup);
     let Some(first) = pick_up(trip, &before.at, to, onward) else {
@@ -263,33 +285,37 @@ fn best_at(trip: &Trip, places: &[Place], least: &[i64], i: usize, below: i64) -
     best_delivery(trip, places, least, i, first, below)
 }
 
-/// Whether a stop's latest time is over when another's window opens.
-fn is_over_before(kind: Kind, stop: &Stop, earliest: u32) -> bool
-    ensures { IsTrue result → is_in_time kind earliest stop.now.latest ≡ false }
-{
-    !is_in_time(kind, u64::from(earliest), u64::from(stop.latest))
-}
-
 /// Whether prices from below show that each place of the delivery adds `below` or more, where the
 /// pickup stands at place `i`.
-fn are_dear(trip: &Trip, places: &[Place], least: &[i64], i: usize, below: i64) -> bool
+fn are_dear(
+    trip: &Trip,
+    places: &[Place],
+    least: &[i64],
+    i: usize,
+    near: Detour,
+    below: i64,
+) -> bool
     requires trip { IsTrip trip.now }
     requires places { All IsSmallPlace places.now }
     requires ways { AreLinked places.now }
-    requires least { AreLeast least.now places.now trip.now.delivery }
+    requires least { AreLeast i least.now places.now trip.now.delivery }
     requires from_one { 1 ≤ i }
     requires within { i < length places.now }
+    requires to { (d : Place) → near.to
+        ≤ distance (slice_index_or places.now (i - 1) d).at.stop trip.now.pickup }
+    requires from { (d : Place) → near.from
+        ≤ distance (slice_index_or places.now i d).at.stop trip.now.pickup }
+    requires to_small { near.to ≤ 2 ^ 33 }
+    requires from_small { near.from ≤ 2 ^ 33 }
     ensures { IsTrue result → AreDear trip.now.limits places.now trip.now.pickup
         trip.now.delivery i below }
 {
     let before = small_place(places, i - 1);
     let next = small_place(places, i);
-    let to = least_leg_at(places, i - 1, &trip.pickup);
-    let onward = least_leg_at(places, i, &trip.pickup);
     let from = least_leg_at(places, i, &trip.delivery);
-    let reach = before.at.distance + to;
-    let near = reach + trip.across + from;
-    is_dear(least, i, near, reach + onward, next.at.distance, below)
+    let reach = before.at.distance + near.to;
+    let beside = reach + trip.across + from;
+    is_dear(least, i, beside, reach + near.from, next.at.distance, below)
 }
 
 /// Whether neither the delivery right behind the pickup at place `i` nor one further on adds less
@@ -298,8 +324,8 @@ fn is_dear(least: &[i64], i: usize, near: u64, apart: u64, base: u64, below: i64
     requires near { near ≤ 2 ^ 59 }
     requires apart { apart ≤ 2 ^ 59 }
     requires base { base ≤ 2 ^ 59 }
-    requires least { (k : ℕ) → k < length least.now
-        → unsigned_abs (slice_index_or least.now k (pos 0)) ≤ 2 ^ 60 }
+    requires least { i < length least.now
+        → unsigned_abs (slice_index_or least.now i (pos 0)) ≤ 2 ^ 60 }
     ensures near { IsTrue result → below ≤ℤ (pos near -ℤ pos base) }
     ensures within { IsTrue result → i < length least.now }
     ensures apart { IsTrue result
@@ -373,7 +399,8 @@ fn go_on(
     })
 }
 
-/// The best place of the delivery, where the pickup stands at place `i` and the vehicle is there.
+/// The best place of the delivery, where the pickup stands at place `i` and the vehicle is there. Once
+/// it is past the delivery's latest time, none is in time.
 fn best_delivery(
     trip: &Trip,
     places: &[Place],
@@ -386,7 +413,7 @@ fn best_delivery(
     requires places { All IsSmallPlace places.now }
     requires ways { AreLinked places.now }
     requires few { length places.now ≤ 40003 }
-    requires least { AreLeast least.now places.now trip.now.delivery }
+    requires least { AreLeast i least.now places.now trip.now.delivery }
     requires from_one { 1 ≤ i }
     requires within { i < length places.now }
     requires underway { (d : Place)
@@ -402,7 +429,11 @@ fn best_delivery(
     let reach = first.ride.distance + first.onward;
     let mut on = first;
     let mut best = Best::none_below(below);
+    let latest = u64::from(trip.delivery.latest);
     for j in i + 1..places.len() + 1 {
+        if !is_in_time(trip.limits.kind, on.ride.start, latest) {
+            return best.found;
+        }
         let tail = small_place(places, j - 1);
         let detour = Detour {
             to: on.to_delivery,

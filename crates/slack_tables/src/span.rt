@@ -145,7 +145,11 @@ impl Span {
         requires small { IsSmallSpan self.now }
         ensures { IsTrue result → IsFarSingle self.now depot.now stop.now below }
     {
-        let near = self.nearest(depot, stop);
+        let inside = self.least_inside(stop);
+        if self.inner(inside) < below {
+            return false;
+        }
+        let near = self.nearest(depot, stop, inside);
         self.floor(&near) >= below
     }
 
@@ -160,11 +164,26 @@ impl Span {
         requires small { IsSmallSpan self.now }
         ensures { IsTrue result → IsFarPair self.now depot.now pickup.now delivery.now below }
     {
-        let to_pickup = self.nearest(depot, pickup);
-        let to_delivery = self.nearest(depot, delivery);
+        let pickup_inside = self.least_inside(pickup);
+        let delivery_inside = self.least_inside(delivery);
+        if self.inner(pickup_inside) + self.inner(delivery_inside) < below {
+            return false;
+        }
+        let to_pickup = self.nearest(depot, pickup, pickup_inside);
+        let to_delivery = self.nearest(depot, delivery, delivery_inside);
         let across = least_between(pickup, delivery);
         self.floor(&to_pickup) + self.floor(&to_delivery) >= below
             && self.floor_of_pair(&to_pickup, &to_delivery, across) >= below
+    }
+
+    /// What a stop adds at least between two stops of the route.
+    fn inner(&self, inside: u64) -> i64
+        requires small { IsSmallSpan self.now }
+        requires inside { inside ≤ 2 ^ 33 }
+        ensures value { result ≡ pos (inside + inside) -ℤ self.now.longest }
+        ensures small { unsigned_abs result ≤ 2 ^ 53 }
+    {
+        difference(inside + inside, 0) - self.longest
     }
 
     /// What a stop adds at least.
@@ -175,9 +194,8 @@ impl Span {
         ensures floor { IsFloor self.now near.now result }
         ensures small { unsigned_abs result ≤ 2 ^ 53 }
     {
-        let inner = difference(near.inside + near.inside, 0) - self.longest;
         let outer = difference(near.inside + near.home, 0) - self.tips;
-        inner.min(outer)
+        self.inner(near.inside).min(outer)
     }
 
     /// What a pair adds at least whose stops are next to one another.
@@ -196,11 +214,13 @@ impl Span {
         inner.min(outer)
     }
 
-    fn nearest(&self, depot: &Stop, stop: &Stop) -> Nearest
+    fn nearest(&self, depot: &Stop, stop: &Stop, inside: u64) -> Nearest
+        requires below { (s : Stop) → IsInside self.now s → inside ≤ distance s stop.now }
+        requires bound { inside ≤ 2 ^ 33 }
         ensures { IsNearest self.now depot.now stop.now result }
     {
         Nearest {
-            inside: self.least_inside(stop),
+            inside,
             home: least_between(depot, stop),
         }
     }

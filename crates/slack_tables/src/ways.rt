@@ -52,10 +52,14 @@ fn stands_at(stop: &Stop, other: &Stop) -> bool
     stop.x == other.x && stop.y == other.y
 }
 
-/// The first place from `seen` on where the table has the stop, or `seen` itself where it has it nowhere there.
+/// How far a stop is looked for. A route that a move changed has most stops where they were or a few places on.
+const AHEAD: usize = 8;
+
+/// The first place from `seen` on where the table has the stop, or `seen` itself where it is not among the next few.
 #[inline(always)]
 pub(crate) fn place_seen(places: &[Place], seen: usize, stop: &Stop) -> usize {
-    for k in seen..places.len() {
+    let end = places.len().min(seen.saturating_add(AHEAD));
+    for k in seen..end {
         if places[k].at.stop.number == stop.number {
             return k;
         }

@@ -5,12 +5,13 @@ use mir.Val.{SFits}
 use Rattle.std.proofs.lemmas.Int.{to_z-of_z}
 use Rattle.nint_dist.specs.Distance.{distance}
 use Rattle.slack_tables.specs.Legs.{detour_of}
-use Rattle.slack_tables.proofs.LegLemmas.{AreLeastFrom, detour-below, least-last, least-more, least-all}
+use Rattle.slack_tables.proofs.LegLemmas.{AreLeastFrom, detour-below, least-last, least-more, least-from}
 use Rattle.slack_tables.proofs.legs.fill_least.Goals as goal
 
 pub loop-k-init : goal.loop-k-init
 loop-k-init c = record {
-  least = least-last c.args.places.now c.args.stop.now c.args.least.now _ c.requires.count c.requires.some (omega arith);
+  behind = let within = c.requires.within in omega arith;
+  least = least-last c.args.places.now c.args.stop.now c.args.least.now _ c.requires.count (let within = c.requires.within in omega arith) (omega arith);
   from = c.least_leg_at-from.ensures.value;
   bound = c.least_leg_at-from.ensures.bound;
 }
@@ -26,6 +27,7 @@ loop-k-preserved c =
     let made : c.lesser.result ≡ int_min c.detour.result (get_or c.loop-k.least (c.loop-k.k - 1 + 1) (pos 0)) =
     c.lesser.ensures ∙ (ap (λ x. int_min x (to_z w64 (of_z w64 (get_or c.loop-k.least (c.loop-k.k - 1 + 1) (pos 0))))) (to_z-of_z w64 c.detour.result fits_detour) ∙ ap (λ x. int_min c.detour.result x) (to_z-of_z w64 (get_or c.loop-k.least (c.loop-k.k - 1 + 1) (pos 0)) fits_next)) in
     record {
+      behind = let behind = is.behind in omega arith;
       least = subst (λ x. AreLeastFrom c.args.places.now c.args.stop.now (c.loop-k.k - 1) (set c.loop-k.least (c.loop-k.k - 1) x)) (sym (to_z-of_z w64 c.lesser.result fits))
           (least-more c.args.places.now c.args.stop.now (c.loop-k.k - 1) c.loop-k.least c.detour.result c.lesser.result (subst (λ k. AreLeastFrom c.args.places.now c.args.stop.now k c.loop-k.least) next is.least) (omega arith)
           (λ d. subst (λ x. x ≤ℤ detour_of c.args.places.now c.args.stop.now (c.loop-k.k - 1) d) (sym (c.detour.ensures.value)) (detour-below c.args.places.now c.args.stop.now (c.loop-k.k - 1) d _ _ c.least_leg_at-to.result c.loop-k.from (c.small_place-here.ensures.place d) (c.small_place-next.ensures.place d) (c.least_leg_at-to.ensures.value d) (subst (λ k. c.loop-k.from ≤ distance (get_or c.args.places.now k d).at.stop c.args.stop.now) next (is.from d))))
@@ -35,4 +37,4 @@ loop-k-preserved c =
     }
 
 pub returns : goal.returns
-returns c = least-all c.args.places.now c.args.stop.now c.loop-k.least (let first : c.loop-k.k ≡ 0 = omega arith in subst (λ k. AreLeastFrom c.args.places.now c.args.stop.now k c.loop-k.least) first c.loop-k.invariant.least)
+returns c = let behind = c.loop-k.invariant.behind in least-from c.args.places.now c.args.stop.now c.args.first c.loop-k.least (let first : c.loop-k.k ≡ c.args.first = omega arith in subst (λ k. AreLeastFrom c.args.places.now c.args.stop.now k c.loop-k.least) first c.loop-k.invariant.least)

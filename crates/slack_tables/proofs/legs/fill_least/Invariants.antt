@@ -6,6 +6,7 @@ use Rattle.slack_tables.proofs.legs.fill_least.Given as goal
 
 abbrev pub invariant-loop-k : goal.invariant-loop-k
 invariant-loop-k l = record {
+  behind : l.first ≤ l.k;
   least : AreLeastFrom l.places l.stop l.k l.least;
   from : (d : Place) → l.from ≤ distance (get_or l.places l.k d).at.stop l.stop;
   bound : l.from ≤ 2 ^ 33;

@@ -1,12 +1,10 @@
-use Rattle.std.proofs.Common.{◌≡◌, false, ◌∙◌, w64, refl, subst, sym, ap}
+use Rattle.std.proofs.Common.{◌∙◌, w64, refl, subst, sym, ap, arith}
 use mir.Val.{SFits}
 use Rattle.std.proofs.lemmas.Int.{to_z-of_z}
 use Rattle.nint_dist.specs.Distance.{distance}
 use Rattle.slack_tables.specs.Best.{IsFirstOf}
-use Rattle.slack_tables.specs.Driven.{is_in_time}
 use Rattle.slack_tables.specs.Scan.{AddsDelivery, AreDear}
 use Rattle.slack_tables.specs.declared.progress.Place.{Place}
-use Rattle.slack_tables.proofs.LateLemmas.{early-pickup}
 use Rattle.slack_tables.proofs.ScanLemmas.{deliveries-none, never-sum}
 use Rattle.slack_tables.proofs.WalkLemmas.{underway-begin, near-begin, not-begun}
 use Rattle.slack_tables.proofs.scan.best_at.Goals as goal
@@ -23,10 +21,9 @@ returns-then-are_dear c = λ d.
     let dear = subst (λ x. AreDear c.args.trip.now.limits c.args.places.now c.args.trip.now.pickup c.args.trip.now.delivery c.args.i x) (to_z-of_z w64 c.args.below below) (c.are_dear.ensures c.if-are_dear.true) in
     deliveries-none c.args.trip.now.limits c.args.places.now c.args.trip.now.pickup c.args.trip.now.delivery c.args.i d c.args.below (λ j x behind last some. dear j x d behind last some))
 
-pub returns-then-is_over_before : goal.returns-then-is_over_before
-returns-then-is_over_before c = λ d. deliveries-none c.args.trip.now.limits c.args.places.now c.args.trip.now.pickup c.args.trip.now.delivery c.args.i d c.args.below (λ j x behind last some.
-    (let over = subst (λ (e : Place). is_in_time c.args.trip.now.limits.kind c.args.trip.now.pickup.earliest e.at.stop.latest ≡ false) (c.small_place-next.ensures.place d) (c.is_over_before.ensures c.if-is_over_before.true) in
-    absurd (never-sum _ x (early-pickup c.args.trip.now.limits c.args.places.now c.args.trip.now.pickup c.args.trip.now.delivery c.args.i d over j behind last) some)))
+pub returns-then-is_closed : goal.returns-then-is_closed
+returns-then-is_closed c = λ d. deliveries-none c.args.trip.now.limits c.args.places.now c.args.trip.now.pickup c.args.trip.now.delivery c.args.i d c.args.below (λ j x behind last some.
+    absurd (never-sum _ x (c.is_closed.ensures c.if-is_closed.true c.args.trip.now.delivery j d (omega arith) last) some))
 
 pub returns-in_default : goal.returns-in_default
 returns-in_default c = λ d. deliveries-none c.args.trip.now.limits c.args.places.now c.args.trip.now.pickup c.args.trip.now.delivery c.args.i d c.args.below (λ j x behind last some.

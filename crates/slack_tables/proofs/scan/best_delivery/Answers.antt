@@ -1,4 +1,4 @@
-use Rattle.std.proofs.Common.{◌≡◌, ◌∙◌, ◌+◌, ◌-◌, w64, rules, arith, refl, subst, sym, ap}
+use Rattle.std.proofs.Common.{false, ◌≡◌, ◌∙◌, ◌+◌, ◌-◌, w64, rules, arith, refl, subst, sym, ap}
 use mir.Val.{SFits}
 use Rattle.std.proofs.lemmas.Int.{to_z-of_z}
 use Rattle.nint_dist.specs.Distance.{distance}
@@ -9,6 +9,8 @@ use Rattle.slack_tables.specs.declared.progress.Place.{Place}
 use Rattle.slack_tables.proofs.DetourLemmas.{first-reach, dear-behind}
 use Rattle.slack_tables.proofs.ScanLemmas.{deliveries-begin, delivery-more, deliveries-stop, never-sum, bits-below}
 use Rattle.slack_tables.proofs.WalkLemmas.{underway-more, near-more, near-small, not-last, over, offered-here}
+use Rattle.slack_tables.specs.Driven.{is_in_time}
+use Rattle.slack_tables.proofs.LateLemmas.{late-delivery}
 use Rattle.slack_tables.proofs.scan.best_delivery.Goals as goal
 
 pub loop-j-init : goal.loop-j-init
@@ -102,3 +104,12 @@ loop-j-preserved c =
       underway = λ d. underway-more c.args.trip.now.limits c.args.places.now c.args.trip.now.pickup c.args.trip.now.delivery c.args.i d c.loop-j.j c.loop-j.on order within (c.loop-j.invariant.underway d) c.requires.ways c.requires.from_one c.leg_at.result c.in-Some.next (c.leg_at.ensures.value d) (sym c.in-Some.is ∙ c.go_on.ensures.value d);
       near = λ d. near-more c.args.trip.now.limits c.args.places.now c.args.trip.now.pickup c.args.trip.now.delivery c.args.i d c.loop-j.j c.loop-j.on order within (c.loop-j.invariant.near d) c.requires.ways c.requires.from_one c.leg_at.result c.in-Some.next c.leg_at.ensures.bound (sym c.in-Some.is ∙ c.go_on.ensures.value d) c.in-Some.ensures.near;
     }
+
+pub returns-then-not-is_in_time : goal.returns-then-not-is_in_time
+returns-then-not-is_in_time c = λ d.
+    (let within = c.loop-j.invariant.within in
+    let order = c.loop-j.invariant.order in
+    let below : SFits w64 c.args.below = record { sfits = c.ranges.below.sfits } in
+    let late : is_in_time c.args.trip.now.limits.kind c.loop-j.on.ride.start c.args.trip.now.delivery.latest ≡ false = subst (λ n. is_in_time c.args.trip.now.limits.kind c.loop-j.on.ride.start n ≡ false) c.from-latest.ensures (sym c.is_in_time.ensures ∙ c.if-not-is_in_time.true) in
+    subst (λ x. IsFirstOf (AddsDelivery c.args.trip.now.limits c.args.places.now c.args.trip.now.pickup c.args.trip.now.delivery c.args.i x d) c.loop-j.best.found) (to_z-of_z w64 c.args.below below)
+    (deliveries-stop c.args.trip.now.limits c.args.places.now c.args.trip.now.pickup c.args.trip.now.delivery c.args.i d _ c.loop-j.j c.loop-j.best (c.loop-j.invariant.best d) (λ k x h l some. absurd (never-sum _ x (late-delivery c.args.trip.now.limits c.args.places.now c.args.trip.now.pickup c.args.trip.now.delivery c.args.i d c.loop-j.j k order h l _ (c.loop-j.invariant.underway d).walk late) some))))

@@ -1,21 +1,28 @@
-use Rattle.std.proofs.Common.{w64, subst}
+use Rattle.std.proofs.Common.{◌-◌, rules, w64, subst}
 use mir.Val.{SFits}
 use Rattle.std.proofs.lemmas.Int.{to_z-of_z}
 use Rattle.slack_tables.specs.Best.{IsFirstOf}
+use Rattle.slack_tables.specs.Closed.{AreClosed}
 use Rattle.slack_tables.specs.Scan.{AddsPair}
 use Rattle.slack_tables.specs.Span.{IsFarPair}
 use Rattle.slack_tables.proofs.SpanLemmas.{far-pair}
+use Rattle.slack_tables.proofs.TightLemmas.{none-open, open-only}
 use Rattle.slack_tables.proofs.scan.best_pair.Goals as goal
+
+pub returns-then-first-places : goal.returns-then-first-places
+returns-then-first-places c = λ d. none-open c.args.limits c.args.places.now c.args.pickup.now c.args.delivery.now c.args.kept _ d (subst (AreClosed c.args.limits c.args.places.now c.args.pickup.now c.args.kept) (search rules) c.first_open-first.ensures.closed)
 
 pub returns-then-places-gt-ROOM : goal.returns-then-places-gt-ROOM
 returns-then-places-gt-ROOM c = λ d.
     (let below : SFits w64 c.args.below = record { sfits = c.ranges.below.sfits } in
-    subst (λ x. IsFirstOf (AddsPair c.args.limits c.args.places.now c.args.pickup.now c.args.delivery.now c.args.kept x d) c.best_pickup.result) (to_z-of_z w64 c.args.below below) (c.best_pickup.ensures d))
+    open-only c.args.limits c.args.places.now c.args.pickup.now c.args.delivery.now c.args.kept c.first_open-first.result _ d _ c.first_open-first.ensures.behind c.first_open-first.ensures.closed
+    (subst (λ x. IsFirstOf (AddsPair c.args.limits c.args.places.now c.args.pickup.now c.args.delivery.now (c.first_open-first.result - 1) x d) c.best_from.result) (to_z-of_z w64 c.args.below below) (c.best_from.ensures d)))
 
 pub returns : goal.returns
 returns c = λ d.
     (let below : SFits w64 c.args.below = record { sfits = c.ranges.below.sfits } in
-    subst (λ x. IsFirstOf (AddsPair c.args.limits c.args.places.now c.args.pickup.now c.args.delivery.now c.args.kept x d) c.best_pickup-2.result) (to_z-of_z w64 c.args.below below) (c.best_pickup-2.ensures d))
+    open-only c.args.limits c.args.places.now c.args.pickup.now c.args.delivery.now c.args.kept c.first_open-first.result _ d _ c.first_open-first.ensures.behind c.first_open-first.ensures.closed
+    (subst (λ x. IsFirstOf (AddsPair c.args.limits c.args.places.now c.args.pickup.now c.args.delivery.now (c.first_open-first.result - 1) x d) c.best_from-2.result) (to_z-of_z w64 c.args.below below) (c.best_from-2.ensures d)))
 
 pub returns-then-is_far_pair : goal.returns-then-is_far_pair
 returns-then-is_far_pair c = λ d.

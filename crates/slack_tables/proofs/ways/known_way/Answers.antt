@@ -1,4 +1,4 @@
-use Rattle.std.proofs.Common.{rules, ◌≡◌, ◌+◌, ◌-◌, arith, refl}
+use Rattle.std.proofs.Common.{rules, ◌≡◌, ◌+◌, arith, refl}
 use Rattle.slack_tables.proofs.WayLemmas.{way_is}
 use Rattle.slack_tables.proofs.ways.known_way.Goals as goal
 

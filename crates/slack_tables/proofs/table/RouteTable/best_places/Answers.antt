@@ -16,6 +16,8 @@ use Rattle.slack_tables.specs.Opened.{leaving, open_place}
 use Rattle.slack_tables.specs.declared.progress.Place.{Place}
 use Rattle.slack_tables.proofs.InsertLemmas.{limits_of}
 use Rattle.slack_tables.proofs.BestLemmas.{single-best, pair-best, linked, rising}
+use Rattle.slack_tables.specs.Closed.{AreTight}
+use Rattle.slack_tables.proofs.TightLemmas.{tight}
 use Rattle.slack_tables.proofs.table.RouteTable.best_places.Goals as goal
 
 pub best_single-requires-clause-stop : goal.best_single-requires-clause-stop
@@ -39,6 +41,9 @@ pub best_pair-requires-clause-rising : goal.best_pair-requires-clause-rising
 best_pair-requires-clause-rising c =
     let table : AreKnown c.args.self.now c.self.inside.places.items = subst (λ q. AreKnown q c.self.inside.places.items) c.self.view_is c.self.invariant.0 in
     subst (λ xs. AreRising xs) (sym c.as_slice-places.ensures.value) (rising c.args.self.now c.self.inside.places.items table)
+
+pub best_pair-requires-clause-tight : goal.best_pair-requires-clause-tight
+best_pair-requires-clause-tight c = subst (λ xs. AreTight c.self.inside.limits.kind xs) (sym c.as_slice-places.ensures.value) (tight (course_within c.self.inside) c.self.inside.places.items c.self.invariant.0)
 
 pub returns-in-Single : goal.returns-in-Single
 returns-in-Single c = λ p name valid is named.

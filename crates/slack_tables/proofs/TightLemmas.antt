@@ -1,0 +1,218 @@
+-- Who is too late for a place of a table by more than 1 is too late for what is behind it, whatever stop comes in between.
+use Rattle.std.proofs.Common.{◌≡◌, ℕ, zero, suc, ◌+◌, ◌-◌, ◌<◌, ◌≤◌, ◌⊎◌, min, max, Bool, true, false, cond, ◌&&◌, ◌||◌, int_le, ℤ, pos, ◌-ℤ◌, ◌+ℤ◌, List, get_or, length, Option, Some, None, refl, sym, ap, ◌∙◌, arith, subst, inl, inr}
+use Rattle.std.specs.Prelude.{nat_lt}
+use Rattle.std.specs.Option.{option_and_then}
+use Rattle.std.proofs.lemmas.Bool.{leb-true, ltb-true, cases_lt}
+use Rattle.plan_types.specs.declared.requests.Stop.{Stop}
+use Rattle.plan_types.specs.declared.requests.Kind.{Kind}
+use Rattle.plan_types.specs.declared.requests.Kind.TheVariants.{LiLim, Vrp}
+use Rattle.nint_dist.specs.Distance.{distance, DetoursSaveAtMostOne}
+use Rattle.slack_tables.specs.Along.{stay, stop_on, start_along, GoesOnAlong}
+use Rattle.slack_tables.specs.Best.{IsFirstOf}
+use Rattle.slack_tables.specs.Closed.{due_of, is_due_before, comes_late, AreTight, IsClosed, AreClosed}
+use Rattle.slack_tables.specs.Course.{Course}
+use Rattle.slack_tables.specs.Driven.{is_in_time, bears, stepped, joined, with_pair}
+use Rattle.slack_tables.specs.Inside.{AreKnown}
+use Rattle.slack_tables.specs.Legs.{AreRising}
+use Rattle.slack_tables.specs.Scan.{AddsPair}
+use Rattle.slack_tables.specs.Walk.{walk_to}
+use Rattle.slack_tables.specs.declared.progress.Limits.{Limits}
+use Rattle.slack_tables.specs.declared.progress.Progress.{Progress}
+use Rattle.slack_tables.specs.declared.progress.Place.{Place}
+use Rattle.slack_tables.specs.declared.scan.Addition.{Addition}
+use Rattle.slack_tables.proofs.AlongLemmas.{start-next}
+use Rattle.slack_tables.proofs.BestLemmas.{first-same}
+use Rattle.slack_tables.proofs.KnownLemmas.{goes_on}
+use Rattle.slack_tables.proofs.LateLemmas.{step-start, step-after, late-pickup}
+use Rattle.slack_tables.proofs.LatestLemmas.{IsBound, bound-before}
+use Rattle.slack_tables.proofs.ScanLemmas.{never-sum}
+use Rattle.slack_tables.proofs.WalkLemmas.{walk-first, walk-more, distance-back}
+
+-- the places of a table are tight
+pub tight : (c : Course) (places : List Place) → AreKnown c places → AreTight c.kind places
+unfolding IsBound
+tight c places table = λ lilim k d h.
+    let long = table.long in
+    let here = table.known k d (omega arith) in
+    let next = table.known (k + 1) d h in
+    let start = start-next (stop_on c) k in
+    let visit = (table.small (k + 1) d h).at.visit in
+    let late : (get_or places (k + 1) d).at.stop.latest ≡ (stop_on c (k + 1)).latest = ap (λ (s : Stop). s.latest) (next.at.stop) in
+    let few = visit.latest in
+    let latest : (stop_on c (k + 1)).latest ≤ 100000000 = omega arith in
+    let window = table.limits.window lilim (k + 1) (omega arith) (omega arith) in
+    let fits : start_along (stop_on c) (k + 1) ≤ (get_or places (k + 1) d).latest_start = (next.latest_start lilim (start_along (stop_on c) (k + 1)) (omega arith)).0 (goes_on c.kind c.capacity (stop_on c) (length c.stops + 1) table.limits (k + 1)) in
+    let bound = bound-before c.kind (stop_on c) (length c.stops + 1) k (get_or places (k + 1) d).latest_start (start_along (stop_on c) (k + 1)) lilim (omega arith) (λ u v. next.latest_start lilim u v) (omega arith) fits window latest (omega arith) in
+    let goes : GoesOnAlong c.kind (stop_on c) (length c.stops + 1) k (min (get_or places (k + 1) d).latest_start (stop_on c (k + 1)).latest - stay (stop_on c) k) = (bound (min (get_or places (k + 1) d).latest_start (stop_on c (k + 1)).latest - stay (stop_on c) k) (omega arith)).1 (omega arith) in
+    let less = (here.latest_start lilim (min (get_or places (k + 1) d).latest_start (stop_on c (k + 1)).latest - stay (stop_on c) k) (omega arith)).0 goes in
+    let service : (get_or places k d).at.stop.service ≡ (stop_on c k).service = ap (λ (s : Stop). s.service) (here.at.stop) in
+    let way : distance (get_or places k d).at.stop (get_or places (k + 1) d).at.stop ≡ distance (stop_on c k) (stop_on c (k + 1)) = rw (here.at.stop, next.at.stop) refl in
+    omega arith
+
+module _ (limits : Limits) (places : List Place) (d : Place) (lilim : limits.kind ≡ LiLim) (are : AreTight limits.kind places) (law : DetoursSaveAtMostOne) where
+  -- too late for place k by more than 1
+  abbrev pub IsLateFor : Progress → ℕ → Type 0
+  IsLateFor a k = due_of (get_or places k d) + 1 < a.start + a.stop.service + distance a.stop (get_or places k d).at.stop
+
+  late-on : (a b : Progress) (k : ℕ) → k + 1 < length places → IsLateFor a k → stepped limits a (get_or places k d).at.stop ≡ Some b → IsLateFor b (k + 1)
+  late-on a b k within late is =
+      let after = step-after limits a b (get_or places k d).at.stop lilim is in
+      let stop = after.0 in
+      let arrival = after.1 in
+      let in_time = after.2 in
+      let next = are lilim k d within in
+      let service : b.stop.service ≡ (get_or places k d).at.stop.service = ap (λ (s : Stop). s.service) stop in
+      let way : distance b.stop (get_or places (k + 1) d).at.stop ≡ distance (get_or places k d).at.stop (get_or places (k + 1) d).at.stop = ap (λ s. distance s (get_or places (k + 1) d).at.stop) stop in
+      omega arith
+
+  late-between : (a b : Progress) (k : ℕ) (q : Stop) → IsLateFor a k → stepped limits a q ≡ Some b → joined limits b (get_or places k d) ≡ None
+  late-between a b k q late is = by (stepped limits b (get_or places k d).at.stop) refl
+    where
+      tail : Place
+      tail = get_or places k d
+
+      over : (c : Progress) → stepped limits b tail.at.stop ≡ Some c → tail.latest_start < c.start
+      over c there =
+          let first = step-after limits a b q lilim is in
+          let stop = first.0 in
+          let here = first.1 in
+          let second = step-after limits b c tail.at.stop lilim there in
+          let arrival = second.1 in
+          let in_time = second.2 in
+          let way : distance b.stop tail.at.stop ≡ distance q tail.at.stop = ap (λ s. distance s tail.at.stop) stop in
+          let saved = law a.stop tail.at.stop q in
+          omega arith
+
+      kept : (c : Progress) → tail.latest_start < c.start → (m l : Bool) → is_in_time limits.kind c.start tail.latest_start ≡ l → cond (m && l) (Some (pos c.distance -ℤ pos tail.at.distance)) None ≡ None
+      kept c less false l there = refl
+      kept c less true false there = refl
+      kept c less true true there = let le = leb-true _ _ (subst (λ k. is_in_time k c.start tail.latest_start ≡ true) lilim there) in absurd (omega arith)
+
+      by : (o : Option Progress) → stepped limits b tail.at.stop ≡ o → option_and_then (λ at. cond (bears limits at tail) (Some (pos at.distance -ℤ pos tail.at.distance)) None) o ≡ None
+      by None never = refl
+      by (Some c) there = kept c (over c there) (int_le (c.load -ℤ tail.at.load +ℤ tail.most_load) (pos limits.capacity)) (is_in_time limits.kind c.start tail.latest_start) refl
+
+  module _ (p : Stop) (i : ℕ) (first : (a : Progress) → stepped limits (get_or places (i - 1) d).at p ≡ Some a → IsLateFor a i) where
+    walk-late : (n : ℕ) (a : Progress) → i + n < length places → walk_to limits places p i d (i + 1 + n) ≡ Some a → IsLateFor a (i + n)
+    walk-late zero a within is =
+        let none : i + 1 + 0 ≡ i + 1 = omega arith in
+        let same : i + 0 ≡ i = omega arith in
+        subst (IsLateFor a) (sym same) (first a (sym (walk-first limits places p i d) ∙ (sym (ap (walk_to limits places p i d) none) ∙ is)))
+    walk-late (suc n) a within is = by (walk_to limits places p i d (i + 1 + n)) refl (λ b before. walk-late n b (omega arith) before)
+      where
+        next : i + 1 + suc n ≡ i + 1 + n + 1
+        next = omega arith
+
+        last : option_and_then (λ at. stepped limits at (get_or places (i + 1 + n - 1) d).at.stop) (walk_to limits places p i d (i + 1 + n)) ≡ Some a
+        last = sym (walk-more limits places p i d (i + 1 + n) (omega arith) (omega arith)) ∙ (sym (ap (walk_to limits places p i d) next) ∙ is)
+
+        by : (o : Option Progress) → walk_to limits places p i d (i + 1 + n) ≡ o → ((b : Progress) → walk_to limits places p i d (i + 1 + n) ≡ Some b → IsLateFor b (i + n)) → IsLateFor a (i + suc n)
+        by None never _ = absurd (let none : None ≡ Some a = sym (ap (λ o. option_and_then (λ at. stepped limits at (get_or places (i + 1 + n - 1) d).at.stop) o) never) ∙ last in cc)
+        by (Some b) before late =
+            let here : i + 1 + n - 1 ≡ i + n = omega arith in
+            let there : i + n + 1 ≡ i + suc n = omega arith in
+            let step : stepped limits b (get_or places (i + 1 + n - 1) d).at.stop ≡ Some a = sym (ap (λ o. option_and_then (λ at. stepped limits at (get_or places (i + 1 + n - 1) d).at.stop) o) before) ∙ last in
+            subst (IsLateFor a) there (late-on b a (i + n) (omega arith) (late b before) (sym (ap (λ k. stepped limits b (get_or places k d).at.stop) here) ∙ step))
+
+    -- no delivery behind keeps the limits
+    pub closed-by : (q : Stop) (j : ℕ) → i < j → j ≤ length places → with_pair limits places p q i j d ≡ None
+    unfolding walk_to
+    closed-by q j order within = by (walk_to limits places p i d j) refl
+      where
+        far : i + 1 + (j - (i + 1)) ≡ j
+        far = omega arith
+
+        here : i + (j - (i + 1)) ≡ j - 1
+        here = omega arith
+
+        after : (a : Progress) → IsLateFor a (j - 1) → (o : Option Progress) → stepped limits a q ≡ o → option_and_then (λ at. joined limits at (get_or places (j - 1) d)) o ≡ None
+        after a late None never = refl
+        after a late (Some b) is = late-between a b (j - 1) q late is
+
+        by : (o : Option Progress) → walk_to limits places p i d j ≡ o → option_and_then (λ at. joined limits at (get_or places (j - 1) d)) (option_and_then (λ at. stepped limits at q) o) ≡ None
+        by None never = refl
+        by (Some a) there = after a (subst (IsLateFor a) here (walk-late (j - (i + 1)) a (omega arith) (ap (walk_to limits places p i d) far ∙ there))) (stepped limits a q) refl
+
+-- ---- what the code asks
+module _ (limits : Limits) (places : List Place) (p : Stop) (i : ℕ) (are : AreTight limits.kind places) (law : DetoursSaveAtMostOne) where
+  -- a place that has to be started before the pickup's window opens
+  pub closed-due : (e : Place) → ((d : Place) → e ≡ get_or places i d) → is_due_before limits.kind e p.earliest ≡ true → IsClosed limits places p i
+  closed-due e is early = by limits.kind refl
+    where
+      by : (k : Kind) → limits.kind ≡ k → IsClosed limits places p i
+      by LiLim lilim = λ q j d. closed-by limits places d lilim are law p i
+          (λ a step.
+          (let due = ltb-true _ _ (subst (λ k. is_due_before k e p.earliest ≡ true) lilim early) in
+          let same : due_of e ≡ due_of (get_or places i d) = ap due_of (is d) in
+          let start = (step-start limits (get_or places (i - 1) d).at a p step).0 in
+          omega arith)) q j
+      by Vrp vrp = absurd (let no : false ≡ true = subst (λ k. is_due_before k e p.earliest ≡ true) vrp early in cc)
+
+  -- a pickup that is late by ways from below, or makes the place behind it late
+  pub closed-late : limits.kind ≡ LiLim → (before next : Place) (to from : ℕ) → ((d : Place) → before ≡ get_or places (i - 1) d) → ((d : Place) → next ≡ get_or places i d) → ((d : Place) → to ≤ distance (get_or places (i - 1) d).at.stop p) → ((d : Place) → from ≤ distance (get_or places i d).at.stop p) → comes_late before next p to from ≡ true → IsClosed limits places p i
+  closed-late lilim before next to from is_before is_next is_to is_from late = λ q j d. closed-by limits places d lilim are law p i (first d) q j
+    where
+      start : ℕ
+      start = max (before.at.start + before.at.stop.service + to) p.earliest
+
+      first : (d : Place) (a : Progress) → stepped limits (get_or places (i - 1) d).at p ≡ Some a → due_of (get_or places i d) + 1 < a.start + a.stop.service + distance a.stop (get_or places i d).at.stop
+      first d a step = by (nat_lt p.latest start) (nat_lt (due_of next + 1) (start + p.service + from)) refl refl late
+        where
+          there : start ≤ a.start
+          there =
+              let window = (step-start limits (get_or places (i - 1) d).at a p step).0 in
+              let arrival = (step-after limits (get_or places (i - 1) d).at a p lilim step).1 in
+              let left : before.at.start ≡ (get_or places (i - 1) d).at.start = ap (λ (e : Place). e.at.start) (is_before d) in
+              let stay : before.at.stop.service ≡ (get_or places (i - 1) d).at.stop.service = ap (λ (e : Place). e.at.stop.service) (is_before d) in
+              let way = is_to d in
+              omega arith
+
+          by : (k l : Bool) → nat_lt p.latest start ≡ k → nat_lt (due_of next + 1) (start + p.service + from) ≡ l → (k || l) ≡ true → due_of (get_or places i d) + 1 < a.start + a.stop.service + distance a.stop (get_or places i d).at.stop
+          by true l over _ _ =
+              let less = ltb-true _ _ over in
+              let le = there in
+              let in_time = (step-after limits (get_or places (i - 1) d).at a p lilim step).2 in
+              absurd (omega arith)
+          by false true _ over _ =
+              let less = ltb-true _ _ over in
+              let le = there in
+              let stop = (step-after limits (get_or places (i - 1) d).at a p lilim step).0 in
+              let same : due_of next ≡ due_of (get_or places i d) = ap due_of (is_next d) in
+              let service : a.stop.service ≡ p.service = ap (λ (s : Stop). s.service) stop in
+              let way : distance a.stop (get_or places i d).at.stop ≡ distance (get_or places i d).at.stop p = ap (λ s. distance s (get_or places i d).at.stop) stop ∙ distance-back p (get_or places i d).at.stop in
+              let le_way = is_from d in
+              omega arith
+          by false false _ _ neither = absurd (cc)
+
+-- ---- one place after another
+pub closed-begin : (limits : Limits) (places : List Place) (p : Stop) (m : ℕ) → AreClosed limits places p m (m + 1)
+closed-begin limits places p m = λ i behind before. absurd (omega arith)
+
+pub closed-more : (limits : Limits) (places : List Place) (p : Stop) (m n : ℕ) → AreClosed limits places p m n → IsClosed limits places p n → AreClosed limits places p m (n + 1)
+closed-more limits places p m n are is = λ i behind before. by i behind before (cases_lt i n)
+  where
+    by : (i : ℕ) → m < i → i < n + 1 → (i < n) ⊎ (n ≤ i) → IsClosed limits places p i
+    by i behind before (inl less) = are i behind less
+    by i behind before (inr last) = let same : n ≡ i = omega arith in subst (IsClosed limits places p) same is
+
+pub closed-join : (limits : Limits) (places : List Place) (p : Stop) (m n o : ℕ) → AreClosed limits places p m n → AreClosed limits places p (n - 1) o → AreClosed limits places p m o
+closed-join limits places p m n o are rest = λ i behind before. by i behind before (cases_lt i n)
+  where
+    by : (i : ℕ) → m < i → i < o → (i < n) ⊎ (n ≤ i) → IsClosed limits places p i
+    by i behind before (inl less) = are i behind less
+    by i behind before (inr more) = rest i (omega arith) before
+
+-- behind a place that is started after the pickup's latest time
+pub closed-past : (limits : Limits) (places : List Place) (p : Stop) (i : ℕ) (e : Place) → AreRising places → 1 ≤ i → ((d : Place) → e ≡ get_or places (i - 1) d) → is_in_time limits.kind e.at.start p.latest ≡ false → AreClosed limits places p (i - 1) (length places)
+closed-past limits places p i e rising one is late = λ k behind before q j d _ _. late-pickup limits places p q d rising i k j one (omega arith) (omega arith) (subst (λ (e : Place). is_in_time limits.kind e.at.start p.latest ≡ false) (is d) late)
+
+-- ---- what is closed adds nothing
+pub open-only : (limits : Limits) (places : List Place) (p q : Stop) (kept first : ℕ) (below : ℤ) (d : Place) (o : Option Addition) → kept < first → AreClosed limits places p kept first → IsFirstOf (AddsPair limits places p q (first - 1) below d) o → IsFirstOf (AddsPair limits places p q kept below d) o
+open-only limits places p q kept first below d o later closed is = first-same _ _ (λ a adds. (record { behind = let behind = adds.0.behind in omega arith; order = adds.0.order; within = adds.0.within; added = adds.0.added }, adds.1)) (λ a adds. (record { behind = by a adds (cases_lt a.pickup first); order = adds.0.order; within = adds.0.within; added = adds.0.added }, adds.1)) o is
+  where
+    by : (a : Addition) → AddsPair limits places p q kept below d a → (a.pickup < first) ⊎ (first ≤ a.pickup) → first - 1 < a.pickup
+    by a adds (inl before) = absurd (never-sum _ a.distance (closed a.pickup adds.0.behind before q a.delivery d adds.0.order adds.0.within) adds.0.added)
+    by a adds (inr behind) = omega arith
+
+pub none-open : (limits : Limits) (places : List Place) (p q : Stop) (kept : ℕ) (below : ℤ) (d : Place) → AreClosed limits places p kept (length places) → IsFirstOf (AddsPair limits places p q kept below d) None
+none-open limits places p q kept below d closed = λ a adds. never-sum _ a.distance (closed a.pickup adds.0.behind (let order = adds.0.order in let within = adds.0.within in omega arith) q a.delivery d adds.0.order adds.0.within) adds.0.added

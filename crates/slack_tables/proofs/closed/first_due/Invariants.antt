@@ -1,0 +1,9 @@
+use Rattle.std.proofs.Common.{◌<◌}
+use Rattle.slack_tables.specs.Closed.{AreClosed}
+use Rattle.slack_tables.proofs.closed.first_due.Given as goal
+
+abbrev pub invariant-loop-i : goal.invariant-loop-i
+invariant-loop-i l = record {
+  behind : l.kept < l.i;
+  closed : AreClosed l.limits l.places l.pickup l.kept l.i;
+}

@@ -1,0 +1,46 @@
+use Rattle.std.proofs.Common.{w64, rules, arith, subst, ◌≡◌, ◌+◌, ◌-◌, ◌≤◌, get_or}
+use mir.Val.{SFits}
+use Rattle.std.proofs.lemmas.Int.{to_z-of_z}
+use Rattle.nint_dist.specs.Distance.{distance}
+use Rattle.slack_tables.specs.Best.{IsFirstOf}
+use Rattle.slack_tables.specs.Scan.{AddsPair, AddsDelivery}
+use Rattle.slack_tables.proofs.LegLemmas.{least-later}
+use Rattle.slack_tables.proofs.ScanLemmas.{pairs-begin, pair-more, pairs-end, pairs-stop}
+use Rattle.slack_tables.proofs.scan.best_from.Goals as goal
+
+pub loop-i-init : goal.loop-i-init
+loop-i-init c = record {
+  behind = omega arith;
+  to = c.least_leg_at-to.ensures.value;
+  bound = c.least_leg_at-to.ensures.bound;
+  best = λ d. pairs-begin c.args.trip.now.limits c.args.places.now c.args.trip.now.pickup c.args.trip.now.delivery (c.args.first - 1) d _ c.args.first _ (let one = c.requires.from_one in omega arith) c.none_below-best.ensures;
+}
+
+pub best_at-requires-clause-least : goal.best_at-requires-clause-least
+best_at-requires-clause-least c = least-later c.args.places.now c.args.trip.now.delivery c.args.first c.loop-i.i c.args.least.now c.loop-i.invariant.behind c.requires.least
+
+pub loop-i-preserved : goal.loop-i-preserved
+loop-i-preserved c =
+    let bound : SFits w64 c.loop-i.best.bound = search rules in
+    let one = c.requires.from_one in
+    let behind = c.loop-i.invariant.behind in
+    let here : c.loop-i.i ≡ c.loop-i.i + 1 - 1 = omega arith in
+    record {
+      behind = omega arith;
+      to = λ d. subst (λ k. c.least_leg_at-from.result ≤ distance (get_or c.args.places.now k d).at.stop c.args.trip.now.pickup) here (c.least_leg_at-from.ensures.value d);
+      bound = c.least_leg_at-from.ensures.bound;
+      best = λ d. pair-more c.args.trip.now.limits c.args.places.now c.args.trip.now.pickup c.args.trip.now.delivery (c.args.first - 1) d _ c.loop-i.i c.loop-i.best (c.loop-i.invariant.best d) _ _ (omega arith) (subst (λ x. IsFirstOf (AddsDelivery c.args.trip.now.limits c.args.places.now c.args.trip.now.pickup c.args.trip.now.delivery c.loop-i.i x d) c.best_at.result) (to_z-of_z w64 c.loop-i.best.bound bound) (c.best_at.ensures d)) c.accept.ensures;
+    }
+
+pub returns : goal.returns
+returns c = λ d.
+    (let fits : SFits w64 c.args.below = record { sfits = c.ranges.below.sfits } in
+    subst (λ x. IsFirstOf (AddsPair c.args.trip.now.limits c.args.places.now c.args.trip.now.pickup c.args.trip.now.delivery (c.args.first - 1) x d) c.loop-i.best.found) (to_z-of_z w64 c.args.below fits) (pairs-end c.args.trip.now.limits c.args.places.now c.args.trip.now.pickup c.args.trip.now.delivery (c.args.first - 1) d _ c.loop-i.i c.loop-i.best (c.loop-i.invariant.best d) (omega arith)))
+
+pub returns-then-is_past : goal.returns-then-is_past
+returns-then-is_past c = λ d.
+    (let below : SFits w64 c.args.below = record { sfits = c.ranges.below.sfits } in
+    let one = c.requires.from_one in
+    let behind = c.loop-i.invariant.behind in
+    subst (λ x. IsFirstOf (AddsPair c.args.trip.now.limits c.args.places.now c.args.trip.now.pickup c.args.trip.now.delivery (c.args.first - 1) x d) c.loop-i.best.found) (to_z-of_z w64 c.args.below below)
+    (pairs-stop c.args.trip.now.limits c.args.places.now c.args.trip.now.pickup c.args.trip.now.delivery (c.args.first - 1) d _ c.loop-i.i c.loop-i.best (c.loop-i.invariant.best d) (λ k j h o l. c.is_past.ensures c.if-is_past.true k (omega arith) (omega arith) c.args.trip.now.delivery j d o l)))
