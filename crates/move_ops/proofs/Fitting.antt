@@ -18,6 +18,7 @@ use Rattle.plan_types.specs.declared.requests.Kind.TheVariants.{LiLim, Vrp}
 use Rattle.route_sched.specs.Route.{place}
 use Rattle.route_sched.specs.Schedule.{start, load}
 use Rattle.plan_audit.specs.Passes.{has, has_whole_pairs, picks_up_first, keeps_capacity, keeps_windows, is_back_in_time, keeps_times, feasible_alone}
+use Rattle.move_ops.specs.Pairing.{are_paired}
 use Rattle.nint_dist.specs.Distance.{distance}
 use Rattle.nint_dist.specs.NearestRoot.{nearest_root, whole_root}
 use Rattle.slack_tables.specs.Insertion.{KeepsLimits, ArePlaces, inserted}
@@ -39,12 +40,12 @@ often_had (m ∷ ns) n some = elim (eqb_tells n m) [
   | inr t ↦ (let e = none_here n m t.0 in rw t.0 (often_had ns n (omega arith)))
 ]
 
-all_by_times : (test : ℕ → Bool) (ns : List ℕ) → ((n : ℕ) → 1 ≤ times n ns → test n ≡ true) → list_all test ns ≡ true
+pub all_by_times : (test : ℕ → Bool) (ns : List ℕ) → ((n : ℕ) → 1 ≤ times n ns → test n ≡ true) → list_all test ns ≡ true
 all_by_times test [] each = refl
 all_by_times test (n ∷ ns) each =
     and_from (test n) (list_all test ns) (each n (let e = one_here n n refl in omega arith)) (all_by_times test ns (λ m some. each m (omega arith)))
 
-times_by_all : (test : ℕ → Bool) (ns : List ℕ) (n : ℕ) → list_all test ns ≡ true → 1 ≤ times n ns → test n ≡ true
+pub times_by_all : (test : ℕ → Bool) (ns : List ℕ) (n : ℕ) → list_all test ns ≡ true → 1 ≤ times n ns → test n ≡ true
 times_by_all test [] n all some = absurd (omega arith)
 times_by_all test (m ∷ ns) n all some =
     let both = and_parts (test m) (list_all test ns) all in
@@ -69,14 +70,14 @@ true_range test a (suc n) each =
     (true_range test (a + 1) n (λ i from to. each i (omega arith) (omega arith)))
 
 -- ---- what is told of a number that may be there
-there_whole : (ns : List ℕ) (o : Option ℕ) → ((m : ℕ) → o ≡ Some m → has ns m ≡ true) → option_map_or (has ns) o true ≡ true
+pub there_whole : (ns : List ℕ) (o : Option ℕ) → ((m : ℕ) → o ≡ Some m → has ns m ≡ true) → option_map_or (has ns) o true ≡ true
 there_whole ns None each = refl
 there_whole ns (Some m) each = each m refl
 
-whole_there : (ns : List ℕ) (o : Option ℕ) (m : ℕ) → o ≡ Some m → option_map_or (has ns) o true ≡ true → has ns m ≡ true
+pub whole_there : (ns : List ℕ) (o : Option ℕ) (m : ℕ) → o ≡ Some m → option_map_or (has ns) o true ≡ true → has ns m ≡ true
 whole_there ns o m is whole = rw is at whole
 
-none_ahead : (ns : List ℕ) (o : Option ℕ) → ((m : ℕ) → o ≡ Some m → times m ns ≡ 0) → not (option_map_or (has ns) o false) ≡ true
+pub none_ahead : (ns : List ℕ) (o : Option ℕ) → ((m : ℕ) → o ≡ Some m → times m ns ≡ 0) → not (option_map_or (has ns) o false) ≡ true
 none_ahead ns None each = refl
 none_ahead ns (Some m) each = by (has ns m) refl
   where
@@ -84,7 +85,7 @@ none_ahead ns (Some m) each = by (has ns m) refl
     by false e = refl
     by true e = (let h = had_often ns m e in let none = each m refl in absurd (omega arith))
 
-ahead_none : (ns : List ℕ) (o : Option ℕ) (m : ℕ) → o ≡ Some m → not (option_map_or (has ns) o false) ≡ true → times m ns ≡ 0
+pub ahead_none : (ns : List ℕ) (o : Option ℕ) (m : ℕ) → o ≡ Some m → not (option_map_or (has ns) o false) ≡ true → times m ns ≡ 0
 ahead_none ns o m is clear = elim (cases_lt 0 (times m ns)) [
   | inl some ↦ (let h = often_had ns m (omega arith) in let k : not (has ns m) ≡ true = rw is at clear in absurd (both_ways (has ns m) (not-true (has ns m) k) h))
   | inr none ↦ omega arith
@@ -148,7 +149,7 @@ module _ (p : Instance) (route : List ℕ) where
           (or_right (eqb (length route) 0) (nat_le (start p route (length route + 1)) p.depot.latest) (le-leb (start p route (length route + 1)) p.depot.latest (limits.return is)))
 
 -- ---- pairs
-partner_numbers : (q : Request) (n m : ℕ) → partner_in n q ≡ Some m → 1 ≤ times m (numbers_of q)
+pub partner_numbers : (q : Request) (n m : ℕ) → partner_in n q ≡ Some m → 1 ≤ times m (numbers_of q)
 partner_numbers (Single s) n m is = absurd (none_some m is)
 partner_numbers (Pair a b) n m is = elim (eqb_tells a.number n) [
   | inl t ↦ (let first : Some b.number ≡ Some m = rw t.0 at is in let e = one_here m b.number (sym (some_same b.number m first)) in omega arith)
@@ -347,7 +348,7 @@ not_both a false y k is none = none
 not_both a true false k is none = none
 not_both a true true k is none = absurd (cc)
 
-pub unpaired : (p : Instance) (route : List ℕ) (a : Bool) → a ≡ (has_whole_pairs p route && picks_up_first p route) → a ≡ false → a ≡ feasible_alone p route
+unpaired : (p : Instance) (route : List ℕ) (a : Bool) → a ≡ are_paired p route → a ≡ false → a ≡ feasible_alone p route
 unfolding feasible_alone
 unpaired p route a is none = not_both a (has_whole_pairs p route) (picks_up_first p route) (keeps p route) is none
 
@@ -356,14 +357,22 @@ unfolding feasible_alone
 whole_alone p route whole first limits =
     and_from (has_whole_pairs p route) (picks_up_first p route && keeps p route) whole (and_from (picks_up_first p route) (keeps p route) first (kept_limits p route limits))
 
--- where the pairs are whole and picked up first, the limits decide
-pub paired : (p : Instance) → IsInstance p → (route : List ℕ) (a b : Bool) → a ≡ (has_whole_pairs p route && picks_up_first p route) → a ≡ true → (b ≡ true) ↔ KeepsLimits p route → b ≡ feasible_alone p route
-paired p valid route a b is pairs limits = by b refl (feasible_alone p route) refl
+-- where the limits are kept, the pairs decide
+pub within_limits : (p : Instance) → (route : List ℕ) (a b : Bool) → a ≡ are_paired p route → b ≡ true → (b ≡ true) ↔ KeepsLimits p route → a ≡ feasible_alone p route
+within_limits p route true b is kept limits =
+    let both = and_parts (has_whole_pairs p route) (picks_up_first p route) (sym is) in
+    sym (whole_alone p route both.0 both.1 (limits.0 kept))
+within_limits p route false b is kept limits = unpaired p route false is refl
+
+-- and where they are not, nothing does
+pub outside_limits : (p : Instance) → IsInstance p → (route : List ℕ) (b : Bool) → b ≡ false → (b ≡ true) ↔ KeepsLimits p route → false ≡ feasible_alone p route
+outside_limits p valid route b broken limits = by (feasible_alone p route) refl
   where
-    by : (x : Bool) → b ≡ x → (y : Bool) → feasible_alone p route ≡ y → b ≡ feasible_alone p route
-    by true e true f = e ∙ sym f
-    by false e false f = e ∙ sym f
-    by true e false f =
-        let both = and_parts (has_whole_pairs p route) (picks_up_first p route) (sym is ∙ pairs) in
-        let h : feasible_alone p route ≡ true = whole_alone p route both.0 both.1 (limits.0 e) in absurd (cc)
-    by false e true f = let h : b ≡ true = limits.1 (route_limits p valid route f) in absurd (cc)
+    by : (y : Bool) → feasible_alone p route ≡ y → false ≡ feasible_alone p route
+    by false f = sym f
+    by true f = absurd (let h : b ≡ true = limits.1 (route_limits p valid route f) in both_ways b broken h)
+
+-- where the pairs are whole and picked up first, the limits decide
+pub paired : (p : Instance) → IsInstance p → (route : List ℕ) (b : Bool) → are_paired p route ≡ true → (b ≡ true) ↔ KeepsLimits p route → b ≡ feasible_alone p route
+paired p valid route true pairs limits = within_limits p route true true (sym pairs) refl limits
+paired p valid route false pairs limits = outside_limits p valid route false refl limits

@@ -15,6 +15,7 @@ pub mod Fronts
 pub mod Gathering
 pub mod Inserting
 pub mod Installing
+pub mod Keeping
 pub mod Leaving
 pub mod Places
 pub mod Placing

@@ -22,7 +22,7 @@ use Rattle.move_ops.proofs.Inserting.{numbers_of, nowhere}
 use Rattle.move_ops.proofs.Changing.{passes_where_feasible, each_once, pins_map}
 
 -- a number stands no more often among those that are kept
-times_kept : (n : ℕ) (keep : ℕ → Bool) (xs : List ℕ) → times n (filter keep xs) ≤ times n xs
+pub times_kept : (n : ℕ) (keep : ℕ → Bool) (xs : List ℕ) → times n (filter keep xs) ≤ times n xs
 times_kept n keep [] = omega arith
 times_kept n keep (x ∷ xs) = elim (cases_Bool (keep x)) [
   | inl t ↦ rw t (let h = times_kept n keep xs in omega arith)

@@ -8,4 +8,5 @@ pub mod Tables
 pub mod Changes
 pub mod Choosing
 pub mod Kept
+pub mod Pairing
 pub mod Refreshing

@@ -1,15 +1,16 @@
 //! Whether a route has the pairs of its stops whole, each pickup before its delivery.
-ghost use Rattle.std.specs.Prelude.{◌≡◌, ◌&&◌, not, true, false};
+ghost use Rattle.std.specs.Prelude.{◌≡◌, not, true, false};
 ghost use Rattle.std.specs.Option.{option_map_or};
 ghost use Rattle.plan_types.specs.Instance.{partner_at, pickup_at};
 ghost use Rattle.plan_audit.specs.Passes.{has, has_whole_pairs, picks_up_first};
+ghost use Rattle.move_ops.specs.Pairing.{are_paired};
 
 use crate::lists::is_in;
 use plan_types::Problem;
 
 /// Whether each pair of the route is whole, its pickup before its delivery.
 pub(crate) fn are_paired(problem: &Problem, route: &[u32]) -> bool
-    ensures { result ≡ (has_whole_pairs problem.now route.now && picks_up_first problem.now route.now) }
+    ensures { result ≡ are_paired problem.now route.now }
 {
     has_whole_pairs(problem, route) && picks_up_first(problem, route)
 }

@@ -1,9 +1,10 @@
 //! A route and its table.
-ghost use Rattle.std.specs.Prelude.{◌≡◌, ◌≤◌, ◌<◌, IfOk, OnOk, Some, slice_get, slice_set, length};
+ghost use Rattle.std.specs.Prelude.{◌≡◌, ◌≤◌, ◌<◌, true, IfOk, OnOk, Some, slice_get, slice_set, length};
 ghost use Rattle.route_sched.specs.Route.{AreLiveOnce};
 ghost use Rattle.slack_tables.specs.Insertion.{KeepsLimits};
 ghost use Rattle.slack_tables.specs.Course.{course_of, route_of};
 ghost use Rattle.plan_audit.specs.Passes.{feasible_alone};
+ghost use Rattle.move_ops.specs.Pairing.{are_paired};
 
 use crate::pairing::are_paired;
 use plan_types::{OutOfMemory, Problem};
@@ -76,7 +77,18 @@ impl Tour {
     {
         // That the problem keeps its limits is known where a field of it is read.
         let _fleet = problem.fleet;
-        are_paired(problem, route) && self.table.keeps_limits(problem, route)
+        self.table.keeps_limits(problem, route) && are_paired(problem, route)
+    }
+
+    /// The same of a route whose pairs are known to be whole, each pickup before its delivery.
+    pub(crate) fn keeps_limits(&self, problem: &Problem, route: &[u32]) -> bool
+        requires once { AreLiveOnce problem.now route.now }
+        requires pairs { are_paired problem.now route.now ≡ true }
+        ensures { result ≡ feasible_alone problem.now route.now }
+    {
+        // That the problem keeps its limits is known where a field of it is read.
+        let _fleet = problem.fleet;
+        self.table.keeps_limits(problem, route)
     }
 
     pub(crate) fn stop_count(&self) -> usize

@@ -11,7 +11,7 @@ ghost use Rattle.std.specs.Option.{option_map};
 ghost use Rattle.move_ops.specs.Drafts.{draft_of, base_of, IsDraftOf, IsMade};
 
 use super::Draft;
-use crate::changes::{Change, are_all_feasible};
+use crate::changes::{Change, keep_all_limits};
 use crate::lists::is_in;
 use crate::removal::{is_of_named, others};
 use crate::seats::unseat;
@@ -104,7 +104,7 @@ impl Draft {
         }
     }
 
-    // The routes without these requests, where the plan with them passes.
+    // The routes without these requests, where the plan with them passes. Their pairs stay whole, since a request's stops leave together.
     fn removing(
         &self,
         problem: &Problem,
@@ -132,7 +132,7 @@ impl Draft {
         }
         let vehicles = self.vehicles_of(problem, names)?;
         let changes = self.removals(problem, names, &vehicles)?;
-        if !are_all_feasible(problem, &self.tours, &changes) {
+        if !keep_all_limits(problem, &self.tours, &changes) {
             return Ok(None);
         }
         Ok(Some(changes))

@@ -13,10 +13,15 @@ use Rattle.move_ops.specs.declared.changes.Change.{Change}
 use Rattle.move_ops.proofs.Removing.{left_plan, left_pinned, left_once, removed_is}
 use Rattle.move_ops.proofs.Applying.{asked, judge, made, vehicles_within}
 use Rattle.move_ops.proofs.Leaving.{taken_out}
+use Rattle.move_ops.specs.Pairing.{are_paired}
+use Rattle.move_ops.proofs.Changing.{said_feasible}
+use Rattle.move_ops.proofs.Collecting.{all_changes}
+use Rattle.move_ops.proofs.Keeping.{left_paired}
+use Rattle.move_ops.proofs.Replacing.{parts}
 use Rattle.move_ops.proofs.draft.Draft.removing.Goals as goal
 
-pub are_all_feasible-requires-clause-once : goal.are_all_feasible-requires-clause-once
-are_all_feasible-requires-clause-once c =
+pub keep_all_limits-requires-clause-once : goal.keep_all_limits-requires-clause-once
+keep_all_limits-requires-clause-once c =
     let p = c.args.problem.now in
     let pins = c.args.pins.now.routes in
     let d = c.args.self.now in
@@ -31,8 +36,22 @@ are_all_feasible-requires-clause-once c =
     let are : AreChanges routes others c.in_ok-changes.changes.items = c.in_ok-changes.ensures in
     subst (λ (l : List Change). All (λ x. AreLiveOnce p x.route) l) (sym c.deref-3.ensures.value) (asked c.passes_are_local.ensures c.tests_say_feasible.ensures p pins d is others plan once pinned long c.in_ok-changes.changes.items are)
 
-pub are_all_feasible-requires-clause-within : goal.are_all_feasible-requires-clause-within
-are_all_feasible-requires-clause-within c =
+pub keep_all_limits-requires-clause-pairs : goal.keep_all_limits-requires-clause-pairs
+keep_all_limits-requires-clause-pairs c =
+    let p = c.args.problem.now in
+    let pins = c.args.pins.now.routes in
+    let d = c.args.self.now in
+    let is = c.requires in
+    let routes = draft_of d in
+    let others : List (List ℕ) = without_named p c.args.names.now routes in
+    let long = length-map routes (filter (λ m. not (is_of_named p c.args.names.now m))) in
+    let are : AreChanges routes others c.in_ok-changes.changes.items = c.in_ok-changes.ensures in
+    let feasible = said_feasible c.passes_are_local.ensures c.tests_say_feasible.ensures p pins routes is.draft routes ((parts c.passes_are_local.ensures p pins routes is.draft).feasible) in
+    let pairs = left_paired c.requests_are_found_by_stop.ensures c.requests_stand_by_name.ensures p is.valid c.args.names.now routes feasible in
+    subst (λ (l : List Change). All (λ x. are_paired p x.route ≡ true) l) (sym c.deref-3.ensures.value) (all_changes routes others c.in_ok-changes.changes.items are long (λ route. are_paired p route ≡ true) pairs)
+
+pub keep_all_limits-requires-clause-within : goal.keep_all_limits-requires-clause-within
+keep_all_limits-requires-clause-within c =
     let p = c.args.problem.now in
     let d = c.args.self.now in
     let routes = draft_of d in
@@ -42,8 +61,8 @@ are_all_feasible-requires-clause-within c =
     subst (λ (t : List Course). All (λ (x : Change). (1 ≤ x.vehicle) × (x.vehicle ≤ length t)) c.deref-3.result.now) (sym tours)
     (subst (λ (l : List Change). All (λ (x : Change). (1 ≤ x.vehicle) × (x.vehicle ≤ length d.tours)) l) (sym c.deref-3.ensures.value) (vehicles_within d.tours c.in_ok-changes.changes.items are.within))
 
-pub returns-then-not-are_all_feasible-clause-routes : goal.returns-then-not-are_all_feasible-clause-routes
-returns-then-not-are_all_feasible-clause-routes c =
+pub returns-then-not-keep_all_limits-clause-routes : goal.returns-then-not-keep_all_limits-clause-routes
+returns-then-not-keep_all_limits-clause-routes c =
     let p = c.args.problem.now in
     let pins = c.args.pins.now.routes in
     let d = c.args.self.now in
@@ -56,8 +75,8 @@ returns-then-not-are_all_feasible-clause-routes c =
     let once = left_once c.requests_stand_by_name.ensures c.passes_are_local.ensures c.plans_are_local.ensures c.tests_say_feasible.ensures p pins routes is.valid is.draft c.args.names.now movable in
     let long = length-map routes (filter (λ m. not (is_of_named p c.args.names.now m))) in
     let are : AreChanges routes others c.in_ok-changes.changes.items = c.in_ok-changes.ensures in
-    let fails : c.are_all_feasible.result ≡ false = search rules in
-    sym (removed_is c.requests_stand_by_name.ensures c.passes_are_local.ensures c.plans_are_local.ensures c.tests_say_feasible.ensures p pins routes is.valid is.draft c.args.names.now movable false (sym fails ∙ (c.are_all_feasible.ensures ∙ ap (list_all (λ (x : Change). feasible_alone p x.route)) c.deref-3.ensures.value ∙ judge c.passes_are_local.ensures c.tests_say_feasible.ensures p pins d is others plan once pinned long c.in_ok-changes.changes.items are)))
+    let fails : c.keep_all_limits.result ≡ false = search rules in
+    sym (removed_is c.requests_stand_by_name.ensures c.passes_are_local.ensures c.plans_are_local.ensures c.tests_say_feasible.ensures p pins routes is.valid is.draft c.args.names.now movable false (sym fails ∙ (c.keep_all_limits.ensures ∙ ap (list_all (λ (x : Change). feasible_alone p x.route)) c.deref-3.ensures.value ∙ judge c.passes_are_local.ensures c.tests_say_feasible.ensures p pins d is others plan once pinned long c.in_ok-changes.changes.items are)))
 
 pub returns-clause-routes : goal.returns-clause-routes
 returns-clause-routes c =
@@ -73,8 +92,8 @@ returns-clause-routes c =
     let once = left_once c.requests_stand_by_name.ensures c.passes_are_local.ensures c.plans_are_local.ensures c.tests_say_feasible.ensures p pins routes is.valid is.draft c.args.names.now movable in
     let long = length-map routes (filter (λ m. not (is_of_named p c.args.names.now m))) in
     let are : AreChanges routes others c.in_ok-changes.changes.items = c.in_ok-changes.ensures in
-    let holds : c.are_all_feasible.result ≡ true = search rules in
-    ap (λ (l : List (List ℕ)). Some l) are.plan ∙ sym (removed_is c.requests_stand_by_name.ensures c.passes_are_local.ensures c.plans_are_local.ensures c.tests_say_feasible.ensures p pins routes is.valid is.draft c.args.names.now movable true (sym holds ∙ (c.are_all_feasible.ensures ∙ ap (list_all (λ (x : Change). feasible_alone p x.route)) c.deref-3.ensures.value ∙ judge c.passes_are_local.ensures c.tests_say_feasible.ensures p pins d is others plan once pinned long c.in_ok-changes.changes.items are)))
+    let holds : c.keep_all_limits.result ≡ true = search rules in
+    ap (λ (l : List (List ℕ)). Some l) are.plan ∙ sym (removed_is c.requests_stand_by_name.ensures c.passes_are_local.ensures c.plans_are_local.ensures c.tests_say_feasible.ensures p pins routes is.valid is.draft c.args.names.now movable true (sym holds ∙ (c.keep_all_limits.ensures ∙ ap (list_all (λ (x : Change). feasible_alone p x.route)) c.deref-3.ensures.value ∙ judge c.passes_are_local.ensures c.tests_say_feasible.ensures p pins d is others plan once pinned long c.in_ok-changes.changes.items are)))
 
 pub returns-clause-change : goal.returns-clause-change
 returns-clause-change c =
@@ -90,11 +109,11 @@ returns-clause-change c =
     let once = left_once c.requests_stand_by_name.ensures c.passes_are_local.ensures c.plans_are_local.ensures c.tests_say_feasible.ensures p pins routes is.valid is.draft c.args.names.now movable in
     let long = length-map routes (filter (λ m. not (is_of_named p c.args.names.now m))) in
     let are : AreChanges routes others c.in_ok-changes.changes.items = c.in_ok-changes.ensures in
-    let holds : c.are_all_feasible.result ≡ true = search rules in
+    let holds : c.keep_all_limits.result ≡ true = search rules in
     let cost = ap (λ (k : Cost). k.unplanned) is.cost in
     let taken = taken_out c.requests_are_found_by_stop.ensures c.requests_stand_by_name.ensures p is.valid routes pins c.args.names.now movable in
     let count : ◌≡◌ {A = ℕ} (d.cost.unplanned + distinct_count c.args.names.now) (unplanned_count p others) = omega arith in
-    made c.passes_are_local.ensures c.tests_say_feasible.ensures p pins d is others plan once pinned long c.in_ok-changes.changes.items are (d.cost.unplanned + distinct_count c.args.names.now) count (sym holds ∙ (c.are_all_feasible.ensures ∙ ap (list_all (λ (x : Change). feasible_alone p x.route)) c.deref-3.ensures.value))
+    made c.passes_are_local.ensures c.tests_say_feasible.ensures p pins d is others plan once pinned long c.in_ok-changes.changes.items are (d.cost.unplanned + distinct_count c.args.names.now) count (sym holds ∙ (c.keep_all_limits.ensures ∙ ap (list_all (λ (x : Change). feasible_alone p x.route)) c.deref-3.ensures.value))
 
 pub returns-clause-named : goal.returns-clause-named
 returns-clause-named c =
