@@ -70,6 +70,20 @@ impl Tour {
         Ok(Tour { stops, table })
     }
 
+    /// A tour like another one, in the memory of this one as far as that goes.
+    pub(crate) fn copied(self, from: &Tour) -> Result<Tour, OutOfMemory>
+        ensures { IfOk result (λ tour. tour ≡ from.now) }
+    {
+        let Tour {
+            mut stops,
+            mut table,
+        } = self;
+        table.copy_from(&from.table)?;
+        stops.clear();
+        stops.extend_from_slice(&from.stops)?;
+        Ok(Tour { stops, table })
+    }
+
     /// Whether a route is feasible alone. It takes least time where this tour has most of its stops in the same order.
     pub(crate) fn is_feasible(&self, problem: &Problem, route: &[u32]) -> bool
         requires { AreLiveOnce problem.now route.now }

@@ -103,6 +103,22 @@ impl RouteTable {
         Ok(())
     }
 
+    /// Makes this a table like another one, in the memory that it has as far as that goes. Where it can't
+    /// get more it stays as it was.
+    pub fn copy_from(&mut self, other: &RouteTable) -> Result<(), OutOfMemory>
+        ensures ok { OnOk result (self.new ≡ other.now) }
+        ensures refused { OnErr result (self.new ≡ self.old) }
+    {
+        let places = other.places.as_slice();
+        self.places
+            .resize(places.len(), open_place(leaving(&other.depot)))?;
+        self.places.copy_from_slice(places);
+        self.limits = other.limits;
+        self.depot = other.depot;
+        self.span = other.span;
+        Ok(())
+    }
+
     /// Whether a route keeps the capacity and the windows. It takes least time where this is the table of a
     /// route that has most stops in the same order.
     pub fn keeps_limits(&self, problem: &Problem, route: &[u32]) -> bool

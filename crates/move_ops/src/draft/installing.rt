@@ -1,5 +1,5 @@
 // Other routes for vehicles of a draft.
-ghost use Rattle.std.specs.Prelude.{◌≡◌, ◌≤◌, ◌+◌, ◌^◌, All, IfSome, IfOk, OnOk, length};
+ghost use Rattle.std.specs.Prelude.{◌≡◌, ◌≤◌, ◌+◌, ◌-◌, ◌^◌, All, Some, IfSome, IfOk, OnOk, length, slice_get};
 ghost use Rattle.slack_tables.specs.Course.{course_of, route_of};
 ghost use Rattle.route_sched.specs.Cost.{total_length};
 ghost use Rattle.route_sched.specs.Route.{AreLiveOnce};
@@ -75,6 +75,7 @@ impl Draft {
     // Answers how far all vehicles drive then.
     fn set_routes(&mut self, problem: &Problem, changes: &[Change]) -> Result<u64, OutOfMemory>
         requires tables { AreTablesIn problem.now self.old.tours }
+        requires base { AreTablesIn problem.now (undone self.old.tours self.old.log) }
         requires within { All (λ c. (1 ≤ c.vehicle)
             × (c.vehicle ≤ length (draft_of self.old))) changes.now }
         requires once { All (λ c. AreLiveOnce problem.now c.route) changes.now }
@@ -119,6 +120,7 @@ impl Draft {
         vehicle: u32,
         route: &[u32],
     ) -> Result<Tour, OutOfMemory>
+        requires base { AreTablesIn problem.now (undone self.old.tours self.old.log) }
         requires from_one { 1 ≤ vehicle }
         requires within { vehicle ≤ length self.old.tours }
         requires route { AreLiveOnce problem.now route.now }
@@ -128,11 +130,45 @@ impl Draft {
         ensures same { self.new ≡ self.old }
     {
         match self.spare.pop() {
-            Some(tour) => {
-                let near = &self.tours[(vehicle - 1) as usize];
-                tour.remade(problem, near, route)
-            }
+            Some(tour) => self.remade_tour(problem, vehicle, tour, route),
             None => Tour::build(*self.tours.allocator(), problem, route),
         }
+    }
+
+    // The same in the memory of a tour. A move often gives a vehicle the route of the base back, whose table need not be computed again.
+    fn remade_tour(
+        &self,
+        problem: &Problem,
+        vehicle: u32,
+        tour: Tour,
+        route: &[u32],
+    ) -> Result<Tour, OutOfMemory>
+        requires base { AreTablesIn problem.now (undone self.now.tours self.now.log) }
+        requires from_one { 1 ≤ vehicle }
+        requires within { vehicle ≤ length self.now.tours }
+        requires route { AreLiveOnce problem.now route.now }
+        requires limits { KeepsLimits problem.now route.now }
+        ensures course { IfOk result (λ tour. tour ≡ course_of problem.now route.now) }
+        ensures route { IfOk result (λ tour. route_of tour ≡ route.now) }
+    {
+        match self.base_tour(vehicle) {
+            Some(base) if base.stops() == route => tour.copied(base),
+            _ => tour.remade(problem, &self.tours[(vehicle - 1) as usize], route),
+        }
+    }
+
+    // What a vehicle has in the base, where it was changed since.
+    fn base_tour(&self, vehicle: u32) -> Option<&Tour>
+        requires from_one { 1 ≤ vehicle }
+        requires within { vehicle ≤ length self.now.tours }
+        ensures { IfSome result (λ tour. slice_get (undone self.now.tours self.now.log) (vehicle - 1)
+            ≡ Some tour.now) }
+    {
+        for entry in &self.log {
+            if entry.0 == vehicle {
+                return Some(&entry.1);
+            }
+        }
+        None
     }
 }
