@@ -2,9 +2,11 @@
 ghost use Rattle.std.specs.Prelude.{◌≡◌, ◌≤◌, ◌<◌, true, IfOk, OnOk, Some, slice_get, slice_set, length};
 ghost use Rattle.route_sched.specs.Route.{AreLiveOnce};
 ghost use Rattle.slack_tables.specs.Insertion.{KeepsLimits};
-ghost use Rattle.slack_tables.specs.Course.{course_of, route_of};
+ghost use Rattle.slack_tables.specs.Course.{course_of, route_of, IsCourseIn};
 ghost use Rattle.plan_audit.specs.Passes.{feasible_alone};
 ghost use Rattle.move_ops.specs.Pairing.{are_paired};
+ghost use Rattle.move_ops.specs.Tables.{AreTablesIn};
+ghost use Rattle.plan_types.specs.Instance.{Instance};
 
 use crate::pairing::are_paired;
 use plan_types::{OutOfMemory, Problem};
@@ -55,6 +57,7 @@ impl Tour {
         near: &Tour,
         route: &[u32],
     ) -> Result<Tour, OutOfMemory>
+        requires near { IsCourseIn problem.now near.now }
         requires route { AreLiveOnce problem.now route.now }
         requires limits { KeepsLimits problem.now route.now }
         ensures course { IfOk result (λ tour. tour ≡ course_of problem.now route.now) }
@@ -86,7 +89,8 @@ impl Tour {
 
     /// Whether a route is feasible alone. It takes least time where this tour has most of its stops in the same order.
     pub(crate) fn is_feasible(&self, problem: &Problem, route: &[u32]) -> bool
-        requires { AreLiveOnce problem.now route.now }
+        requires course { IsCourseIn problem.now self.now }
+        requires once { AreLiveOnce problem.now route.now }
         ensures { result ≡ feasible_alone problem.now route.now }
     {
         // That the problem keeps its limits is known where a field of it is read.
@@ -96,6 +100,7 @@ impl Tour {
 
     /// The same of a route whose pairs are known to be whole, each pickup before its delivery.
     pub(crate) fn keeps_limits(&self, problem: &Problem, route: &[u32]) -> bool
+        requires course { IsCourseIn problem.now self.now }
         requires once { AreLiveOnce problem.now route.now }
         requires pairs { are_paired problem.now route.now ≡ true }
         ensures { result ≡ feasible_alone problem.now route.now }
@@ -124,6 +129,15 @@ impl Tour {
     {
         &self.table
     }
+}
+
+/// The tour of a vehicle. Vehicles count from 1.
+pub(crate) fn tour_of(tours: &[Tour], vehicle: u64) -> &Tour
+    requires from_one { 1 ≤ vehicle }
+    requires within { vehicle ≤ length tours.now }
+    ensures { (p : Instance) → AreTablesIn p tours.now → IsCourseIn p result.now }
+{
+    &tours[(vehicle - 1) as usize]
 }
 
 /// Lets a tour take the place of another, which is given back.

@@ -346,6 +346,23 @@ fn rebuilt(
     Ok(Some((table.stop_count(), table.distance())))
 }
 
+// The same by a table that was made for the first and then like one of the second.
+fn copied(
+    alloc: Global,
+    problem: &Problem,
+    first: &[u32],
+    second: &[u32],
+) -> Result<Option<(usize, u64)>, Fail> {
+    let Some(mut table) = table_of(alloc, problem, first)? else {
+        return Ok(None);
+    };
+    let Some(other) = table_of(alloc, problem, second)? else {
+        return Ok(None);
+    };
+    table.copy_from(&other)?;
+    Ok(Some((table.stop_count(), table.distance())))
+}
+
 // A longer route, then a shorter one and none.
 #[test]
 fn takes_another_route(rt: HostRuntime) -> Result<(), Fail> {
@@ -356,6 +373,7 @@ fn takes_another_route(rt: HostRuntime) -> Result<(), Fail> {
         ([1, 2].as_slice(), [].as_slice(), (0, 0)),
     ] {
         assert_eq!(rt; rebuilt(rt.alloc(), &problem, first, second)?, Some(want));
+        assert_eq!(rt; copied(rt.alloc(), &problem, first, second)?, Some(want));
     }
     Ok(())
 }

@@ -10,7 +10,7 @@ use Rattle.plan_types.specs.declared.requests.Kind.TheVariants.{LiLim}
 use Rattle.slack_tables.specs.Along.{stay, start_along, moved_along, load_along, GoesOnAlong}
 use Rattle.slack_tables.specs.Driven.{IsSmall, IsSmallPlace}
 use Rattle.slack_tables.specs.Filled.{stay_between, latest_before, EachIsTimely, LastMayStart, IsFilled}
-use Rattle.slack_tables.specs.Opened.{AreOpen}
+use Rattle.slack_tables.specs.Opened.{IsWithin, AreOpen}
 use Rattle.slack_tables.specs.Places.{IsAt, IsKnown}
 use Rattle.slack_tables.specs.Inside.{IsInLimits}
 use Rattle.slack_tables.specs.declared.progress.Place.{Place}
@@ -163,3 +163,6 @@ module _ (kind : Kind) (capacity : ℕ) (stops : ℕ → Stop) (last : ℕ) (lim
         at = subst (IsSmall (2 ^ 50)) (sym (same-at k d h)) ((opened k d (omega arith)).small.at);
         most_load = (fit (last - k) k d (omega arith)).1;
       }
+
+      pub within : (k : ℕ) (d : Place) → k ≤ last → IsWithin k (get_or new k d).at
+      within k d h = subst (IsWithin k) (sym (same-at k d h)) ((opened k d (omega arith)).within)

@@ -4,6 +4,7 @@ pub mod CourseLemmas
 pub mod DetourLemmas
 pub mod FillLemmas
 pub mod FirstLemmas
+pub mod FrontLemmas
 pub mod InsertLemmas
 pub mod KeptLemmas
 pub mod KnownLemmas

@@ -13,7 +13,7 @@ use Rattle.plan_types.specs.declared.requests.Stop.{Stop}
 use Rattle.route_sched.specs.Route.{AreLiveOnce, IsLive, place}
 use Rattle.slack_tables.specs.Driven.{driven_on, IsNear, IsSmall}
 use Rattle.slack_tables.specs.Places.{IsAt}
-use Rattle.slack_tables.specs.Opened.{leaving, open_place, IsWithin, IsOpen, AreOpen}
+use Rattle.slack_tables.specs.Opened.{leaving, open_place, IsWithin, IsOpen, AreOpen, AreOpenTo}
 use Rattle.slack_tables.specs.declared.progress.Progress.{Progress}
 use Rattle.slack_tables.specs.declared.progress.Place.{Place}
 use Rattle.slack_tables.proofs.AlongLemmas.{start-first, load-first, length-first}
@@ -71,7 +71,7 @@ small-within k a few is = record {
 open-is : (stops : ℕ → Stop) (k : ℕ) (a : Progress) → k ≤ 40003 → IsAt stops k a → IsWithin k a → IsOpen stops k (open_place a)
 open-is stops k a few at is =
     let small = small-within k a few is in
-    record { at = at; latest_start = refl; most_load = refl; small = record { at = small; most_load = small.load } }
+    record { at = at; latest_start = refl; most_load = refl; within = is; small = record { at = small; most_load = small.load } }
 
 pub open-more : (stops : ℕ → Stop) (places : List Place) (k : ℕ) (a : Progress) → AreOpen stops places → length places ≡ k → k ≤ 40003 → IsAt stops k a → IsWithin k a → AreOpen stops (places ++ open_place a ∷ [])
 open-more stops places k a opened long few at is = λ m d h. by m d (cases_lt m k) h
@@ -87,10 +87,7 @@ open-more stops places k a opened long few at is = λ m d h. by m d (cases_lt m 
 pub open-none : (stops : ℕ → Stop) → AreOpen stops []
 open-none stops = λ k d h. absurd (omega arith)
 
--- ---- the same by index: the places before n are open
-pub record AreOpenTo (stops : ℕ → Stop) (n : ℕ) (places : List Place) : Type 0 where
-  pub each : (k : ℕ) (d : Place) → k < n → k < length places → IsOpen stops k (get_or places k d)
-
+-- ---- the same by index
 pub open-to-none : (stops : ℕ → Stop) (places : List Place) → AreOpenTo stops 0 places
 open-to-none stops places = record { each = λ k d h _. absurd (omega arith) }
 

@@ -23,7 +23,7 @@ use Rattle.slack_tables.specs.Opened.{AreOpen}
 use Rattle.slack_tables.specs.Places.{IsKnown}
 use Rattle.slack_tables.specs.declared.progress.Place.{Place}
 use Rattle.slack_tables.proofs.CourseLemmas.{place-on, places-on, limits-to}
-use Rattle.slack_tables.proofs.KnownLemmas.{timely, last_may_start, known, small}
+use Rattle.slack_tables.proofs.KnownLemmas.{timely, last_may_start, known, small, within}
 
 module _ (p : Instance) (route : List ℕ) (valid : IsInstance p) (keeps : KeepsLimits p route) (old : List Place) (opened : AreOpen (place p route) old) (long : length old ≡ length route + 2) where
   limits : IsInLimits p.kind p.capacity (place p route) (length route + 1)
@@ -68,6 +68,7 @@ module _ (p : Instance) (route : List ℕ) (valid : IsInstance p) (keeps : Keeps
           long = omega arith;
           few = omega arith;
           small = λ k d h. small p.kind p.capacity (place p route) (length route + 1) limits old opened (omega arith) new filled k d (omega arith);
+          within = λ k d h. within p.kind p.capacity (place p route) (length route + 1) limits old opened (omega arith) new filled k d (omega arith);
           known = λ k d h. subst (λ n. IsKnown p.kind (stop_on (course_of p route)) (n + 1) k (get_or new k d)) (sym count) (subst (λ f. IsKnown p.kind f (length route + 1) k (get_or new k d)) on (known-at k d (omega arith)));
           limits = subst (λ n. IsInLimits p.kind p.capacity (stop_on (course_of p route)) (n + 1)) (sym count) (subst (λ f. IsInLimits p.kind p.capacity f (length route + 1)) on limits);
         }

@@ -19,6 +19,10 @@ use Rattle.slack_tables.specs.declared.table.RouteTable.TheInside.{Inside}
 abbrev pub stops_within : List Place → List Stop
 stops_within places = map (λ e. e.at.stop) (take (length places - 2) (drop 1 places))
 
+-- the limits of a problem
+abbrev pub limits_of : Instance → Limits
+limits_of p = record { kind = p.kind; capacity = p.capacity }
+
 -- what contracts see
 abbrev pub course_from : Limits → Stop → List Place → Course
 course_from limits depot places = record { kind = limits.kind; capacity = limits.capacity; depot = depot; stops = stops_within places }
@@ -40,6 +44,7 @@ pub record AreKnown (c : Course) (places : List Place) : Type 0 where
   pub long : length places ≡ length c.stops + 2
   pub few : length places ≤ 40003
   pub small : All IsSmallPlace places
+  pub within : (k : ℕ) (d : Place) → k < length places → IsWithin k (slice_index_or places k d).at
   pub known : (k : ℕ) (d : Place) → k < length places → IsKnown c.kind (stop_on c) (length c.stops + 1) k (slice_index_or places k d)
   pub limits : IsInLimits c.kind c.capacity (stop_on c) (length c.stops + 1)
 
@@ -49,4 +54,4 @@ IsTable a = AreKnown (course_within a) a.places.items × IsSpan a.span a.places.
 -- what is known of each place of a route
 pub record IsMade (p : Instance) (route : List ℕ) (places : List Place) : Type 0 where
   pub known : AreKnown (course_of p route) places
-  pub course : course_from (record { kind = p.kind; capacity = p.capacity }) p.depot places ≡ course_of p route
+  pub course : course_from (limits_of p) p.depot places ≡ course_of p route

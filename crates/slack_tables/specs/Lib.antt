@@ -8,6 +8,7 @@ pub mod Along
 pub mod Closed
 pub mod Driven
 pub mod Filled
+pub mod Front
 pub mod Inside
 pub mod Legs
 pub mod Opened

@@ -27,7 +27,12 @@ pub record IsOpen (stops : ℕ → Stop) (k : ℕ) (e : Place) : Type 0 where
   pub at : IsAt stops k e.at
   pub latest_start : e.latest_start ≡ 18446744073709551615
   pub most_load : e.most_load ≡ e.at.load
+  pub within : IsWithin k e.at
   pub small : IsSmallPlace e
 
 abbrev pub AreOpen : (ℕ → Stop) → List Place → Type 0
 AreOpen stops places = (k : ℕ) (d : Place) → k < length places → IsOpen stops k (slice_index_or places k d)
+
+-- the same of the places before n
+pub record AreOpenTo (stops : ℕ → Stop) (n : ℕ) (places : List Place) : Type 0 where
+  pub each : (k : ℕ) (d : Place) → k < n → k < length places → IsOpen stops k (slice_index_or places k d)

@@ -2,6 +2,7 @@
 #![tactic(auto)]
 
 mod closed;
+mod front;
 mod insertion;
 mod legs;
 mod progress;

@@ -8,9 +8,11 @@ ghost use Rattle.route_sched.specs.Route.{AreLiveOnce, IsLive, place};
 ghost use Rattle.slack_tables.specs.Insertion.{request_named, KeepsLimits};
 ghost use Rattle.slack_tables.specs.declared.progress.Place.{Place};
 ghost use Rattle.slack_tables.specs.Opened.{leaving, open_place, AreOpen};
-ghost use Rattle.slack_tables.specs.Inside.{IsDriven, IsMade};
+ghost use Rattle.slack_tables.specs.Front.{KnowsFronts};
+ghost use Rattle.slack_tables.specs.Inside.{limits_of, IsDriven, IsMade};
 ghost use Rattle.slack_tables.specs.Legs.{AreLinked};
 
+use crate::front::{behind_front, copy_front, same_front};
 use crate::insertion::{pair_added, single_added};
 use crate::progress::{Limits, Place, Progress, driven_on, keeps};
 use crate::scan::{Addition, best_pair, best_single};
@@ -68,10 +70,7 @@ impl RouteTable {
         remake(&mut places, problem, &[], route)?;
         let span = Span::of(places.as_slice());
         Ok(RouteTable {
-            limits: Limits {
-                kind: problem.kind,
-                capacity: problem.capacity,
-            },
+            limits: limits_of(problem),
             depot: problem.depot,
             places,
             span,
@@ -87,6 +86,7 @@ impl RouteTable {
         near: &RouteTable,
         route: &[u32],
     ) -> Result<(), OutOfMemory>
+        requires near { IsCourseIn problem.now near.now }
         requires route { AreLiveOnce problem.now route.now }
         requires limits { KeepsLimits problem.now route.now }
         ensures course { OnOk result (self.new ≡ course_of problem.now route.now) }
@@ -94,10 +94,7 @@ impl RouteTable {
         ensures refused { OnErr result (self.new ≡ self.old) }
     {
         remake(&mut self.places, problem, near.places.as_slice(), route)?;
-        self.limits = Limits {
-            kind: problem.kind,
-            capacity: problem.capacity,
-        };
+        self.limits = limits_of(problem);
         self.depot = problem.depot;
         self.span = Span::of(self.places.as_slice());
         Ok(())
@@ -122,6 +119,7 @@ impl RouteTable {
     /// Whether a route keeps the capacity and the windows. It takes least time where this is the table of a
     /// route that has most stops in the same order.
     pub fn keeps_limits(&self, problem: &Problem, route: &[u32]) -> bool
+        requires near { IsCourseIn problem.now self.now }
         requires route { AreLiveOnce problem.now route.now }
         ensures { (result ≡ true) ↔ KeepsLimits problem.now route.now }
     {
@@ -275,6 +273,7 @@ fn remake(
     route: &[u32],
 ) -> Result<(), OutOfMemory>
     requires known { AreLinked known.now }
+    requires fronts { KnowsFronts problem.now known.now }
     requires route { AreLiveOnce problem.now route.now }
     requires limits { KeepsLimits problem.now route.now }
     ensures made { OnOk result (IsMade problem.now route.now places.new.items) }
@@ -289,6 +288,7 @@ fn remake(
 /// What is known of each place of a route that keeps the limits.
 fn fill(places: &mut [Place], problem: &Problem, known: &[Place], route: &[u32])
     requires known { AreLinked known.now }
+    requires fronts { KnowsFronts problem.now known.now }
     requires route { AreLiveOnce problem.now route.now }
     requires limits { KeepsLimits problem.now route.now }
     requires count { length places.old ≡ length route.now + 2 }
@@ -302,15 +302,18 @@ fn fill(places: &mut [Place], problem: &Problem, known: &[Place], route: &[u32])
 /// The places of a route as the vehicle comes to them, with nothing known of what is behind.
 fn drive_route(places: &mut [Place], problem: &Problem, known: &[Place], route: &[u32])
     requires known { AreLinked known.now }
+    requires fronts { KnowsFronts problem.now known.now }
     requires route { AreLiveOnce problem.now route.now }
     requires count { length places.old ≡ length route.now + 2 }
     requires few { length route.now ≤ 40001 }
     ensures { AreOpen (place problem.now route.now) places.new }
 {
-    let mut at = leaving(&problem.depot);
-    let mut seen = 0;
-    places[0] = open_place(at);
-    for k in 0..route.len() {
+    let front = same_front(known, route);
+    places[0] = open_place(leaving(&problem.depot));
+    copy_front(places, known, front);
+    let mut at = behind_front(problem, known, front);
+    let mut seen = front;
+    for k in front..route.len() {
         let stop = live_stop(problem, route[k]);
         at = driven_on(known, seen, &at, stop);
         seen = place_seen(known, seen, stop);
@@ -322,15 +325,13 @@ fn drive_route(places: &mut [Place], problem: &Problem, known: &[Place], route: 
 /// Whether a route keeps the limits.
 fn keeps_limits(problem: &Problem, known: &[Place], route: &[u32]) -> bool
     requires known { AreLinked known.now }
+    requires fronts { KnowsFronts problem.now known.now }
     requires route { AreLiveOnce problem.now route.now }
     ensures { (result ≡ true) ↔ KeepsLimits problem.now route.now }
 {
     numbers_are_below_the_next();
-    let limits = Limits {
-        kind: problem.kind,
-        capacity: problem.capacity,
-    };
-    match drive_stops(limits, known, problem, route) {
+    let limits = limits_of(problem);
+    match drive_stops(problem, known, route) {
         Some(last) => {
             let seen = known.len().saturating_sub(2);
             keeps(limits, &driven_on(known, seen, &last, &problem.depot))
@@ -340,20 +341,18 @@ fn keeps_limits(problem: &Problem, known: &[Place], route: &[u32]) -> bool
 }
 
 /// Where the vehicle is at the last stop of a route, if it keeps the limits up to there.
-fn drive_stops(
-    limits: Limits,
-    known: &[Place],
-    problem: &Problem,
-    route: &[u32],
-) -> Option<Progress>
+fn drive_stops(problem: &Problem, known: &[Place], route: &[u32]) -> Option<Progress>
     requires known { AreLinked known.now }
+    requires fronts { KnowsFronts problem.now known.now }
     requires route { AreLiveOnce problem.now route.now }
     requires few { length route.now ≤ 40001 }
-    ensures { IsDriven limits (place problem.now route.now) (length route.now) result }
+    ensures { IsDriven (limits_of problem.now) (place problem.now route.now) (length route.now) result }
 {
-    let mut at = leaving(&problem.depot);
-    let mut seen = 0;
-    for k in 0..route.len() {
+    let limits = limits_of(problem);
+    let front = same_front(known, route);
+    let mut at = behind_front(problem, known, front);
+    let mut seen = front;
+    for k in front..route.len() {
         let stop = live_stop(problem, route[k]);
         at = driven_on(known, seen, &at, stop);
         if !keeps(limits, &at) {
@@ -384,8 +383,19 @@ fn live_stop(problem: &Problem, number: u32) -> &Stop
     problem.stop(number).unwrap()
 }
 
+/// What the vehicles of a problem must keep.
+fn limits_of(problem: &Problem) -> Limits
+    ensures value { result ≡ limits_of problem.now }
+    ensures valid { IsInstance problem.now }
+{
+    Limits {
+        kind: problem.kind,
+        capacity: problem.capacity,
+    }
+}
+
 /// At the depot, before the vehicle leaves it.
-fn leaving(depot: &Stop) -> Progress
+pub(crate) fn leaving(depot: &Stop) -> Progress
     ensures { result ≡ leaving depot.now }
 {
     Progress {
@@ -397,7 +407,7 @@ fn leaving(depot: &Stop) -> Progress
 }
 
 /// A place with nothing known of what is behind it.
-fn open_place(at: Progress) -> Place
+pub(crate) fn open_place(at: Progress) -> Place
     ensures { result ≡ open_place at }
 {
     Place {

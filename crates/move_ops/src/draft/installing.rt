@@ -13,7 +13,7 @@ ghost use Rattle.move_ops.specs.Drafts.{undone, draft_of, base_of, IsDraftOf, Is
 
 use super::Draft;
 use crate::changes::Change;
-use crate::tour::Tour;
+use crate::tour::{Tour, tour_of};
 use crate::tours::vehicle_count;
 use plan_audit::passes_are_local;
 use plan_types::{Cost, OutOfMemory, Pins, Problem, numbers_are_below_the_next};
@@ -120,6 +120,7 @@ impl Draft {
         vehicle: u32,
         route: &[u32],
     ) -> Result<Tour, OutOfMemory>
+        requires tables { AreTablesIn problem.now self.old.tours }
         requires base { AreTablesIn problem.now (undone self.old.tours self.old.log) }
         requires from_one { 1 ≤ vehicle }
         requires within { vehicle ≤ length self.old.tours }
@@ -143,6 +144,7 @@ impl Draft {
         tour: Tour,
         route: &[u32],
     ) -> Result<Tour, OutOfMemory>
+        requires tables { AreTablesIn problem.now self.now.tours }
         requires base { AreTablesIn problem.now (undone self.now.tours self.now.log) }
         requires from_one { 1 ≤ vehicle }
         requires within { vehicle ≤ length self.now.tours }
@@ -153,7 +155,7 @@ impl Draft {
     {
         match self.base_tour(vehicle) {
             Some(base) if base.stops() == route => tour.copied(base),
-            _ => tour.remade(problem, &self.tours[(vehicle - 1) as usize], route),
+            _ => tour.remade(problem, tour_of(&self.tours, u64::from(vehicle)), route),
         }
     }
 

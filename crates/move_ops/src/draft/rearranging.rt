@@ -12,6 +12,7 @@ use crate::changes::{Change, are_all_feasible};
 use crate::cross::joined;
 use crate::lists::of_vehicle;
 use crate::swap::{counterparts, have_same_form};
+use crate::tour::tour_of;
 use plan_audit::{passes_are_local, plans_are_local, tests_say_feasible};
 use plan_types::{
     OutOfMemory, Pins, Problem, Request, Route, requests_are_found_by_stop, requests_stand_by_name,
@@ -188,10 +189,10 @@ impl Draft {
         let alloc = *self.tours.allocator();
         let first = joined(alloc, self.route(a), a_cut, self.route(b), b_cut)?;
         let second = joined(alloc, self.route(b), b_cut, self.route(a), a_cut)?;
-        if !self.tours[(a - 1) as usize].is_feasible(problem, first.as_slice()) {
+        if !tour_of(&self.tours, a).is_feasible(problem, first.as_slice()) {
             return Ok(None);
         }
-        if !self.tours[(b - 1) as usize].is_feasible(problem, second.as_slice()) {
+        if !tour_of(&self.tours, b).is_feasible(problem, second.as_slice()) {
             return Ok(None);
         }
         let mut changes = Vec::with_capacity(alloc, 2)?;

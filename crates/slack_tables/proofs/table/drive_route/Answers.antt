@@ -1,22 +1,26 @@
 use Rattle.std.proofs.Common.{◌≡◌, ◌∙◌, ◌+◌, length, get_or, refl, sym, ap, subst, arith}
 use Rattle.std.proofs.Math.ListN.{length-set}
 use Rattle.route_sched.specs.Route.{place}
-use Rattle.slack_tables.specs.Opened.{IsWithin}
+use Rattle.slack_tables.specs.Opened.{IsWithin, AreOpenTo}
 use Rattle.slack_tables.specs.Places.{IsAt}
-use Rattle.slack_tables.proofs.OpenLemmas.{AreOpenTo, place-return, place-stop, place-first, at-begin, at-more, within-begin, within-next, open-to-none, open-to-more, open-to-all}
+use Rattle.slack_tables.proofs.OpenLemmas.{place-return, place-stop, place-first, at-begin, at-more, within-begin, within-next, open-to-none, open-to-more, open-to-all}
 use Rattle.slack_tables.proofs.table.drive_route.Goals as goal
 
 pub loop-k-init : goal.loop-k-init
 loop-k-init c =
     let p = c.args.problem.now in
-    let stops = place p c.args.route.now in
-    let at = at-begin stops c.problem.inside.depot c.leaving-at.result (place-first p c.args.route.now ∙ sym (ap (λ q. q.depot) c.problem.view_is)) c.leaving-at.ensures in
-    let within = within-begin c.problem.inside.depot c.leaving-at.result c.problem.invariant.valid.depot.visit c.leaving-at.ensures in
+    let route = c.args.route.now in
+    let stops = place p route in
+    let front = c.same_front-front.ensures.front in
+    let at = at-begin stops c.problem.inside.depot c.leaving.result (place-first p route ∙ sym (ap (λ q. q.depot) c.problem.view_is)) c.leaving.ensures in
+    let within = within-begin c.problem.inside.depot c.leaving.result c.problem.invariant.valid.depot.visit c.leaving.ensures in
+    let first = open-to-more stops 0 c.args.places.now _ _ (open-to-none stops c.args.places.now) (omega arith) (omega arith) at within c.open_place.ensures in
+    let come = c.behind_front-at.ensures route front in
     record {
-      long = length-set c.args.places.now 0 _ ∙ c.requires.count;
-      opened = open-to-more stops 0 c.args.places.now _ _ (open-to-none stops c.args.places.now) (omega arith) (omega arith) at within c.open_place.ensures;
-      at = at;
-      within = within;
+      long = c.copy_front.ensures.len ∙ (length-set c.args.places.now 0 _ ∙ c.requires.count);
+      opened = c.copy_front.ensures.opened p route c.requires.fronts front first;
+      at = come.at;
+      within = come.within;
     }
 
 pub loop-k-preserved : goal.loop-k-preserved

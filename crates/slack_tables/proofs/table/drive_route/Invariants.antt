@@ -1,8 +1,7 @@
-use Rattle.std.proofs.Common.{◌≡◌, ◌+◌, length}
+use Rattle.std.proofs.Common.{◌≡◌, ◌+◌, ◌≤◌, length}
 use Rattle.route_sched.specs.Route.{place}
-use Rattle.slack_tables.specs.Opened.{IsWithin}
+use Rattle.slack_tables.specs.Opened.{IsWithin, AreOpenTo}
 use Rattle.slack_tables.specs.Places.{IsAt}
-use Rattle.slack_tables.proofs.OpenLemmas.{AreOpenTo}
 use Rattle.slack_tables.proofs.table.drive_route.Given as goal
 
 -- the places so far, and where the vehicle is

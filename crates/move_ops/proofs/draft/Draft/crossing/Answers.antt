@@ -17,7 +17,7 @@ is_feasible-requires c =
     c.in_ok-first.ensures ∙ (ap (λ (l : List ℕ). joined l c.args.a_cut c.route-2.result.now c.args.b_cut) c.route.ensures ∙ ap (λ (l : List ℕ). joined (of_vehicle (draft_of c.args.self.now) c.args.a) c.args.a_cut l c.args.b_cut) c.route-2.ensures) in
     let is_second : c.in_ok-second.second ≡ joined (of_vehicle (draft_of c.args.self.now) c.args.b) c.args.b_cut (of_vehicle (draft_of c.args.self.now) c.args.a) c.args.a_cut =
     c.in_ok-second.ensures ∙ (ap (λ (l : List ℕ). joined l c.args.b_cut c.route-4.result.now c.args.a_cut) c.route-3.ensures ∙ ap (λ (l : List ℕ). joined (of_vehicle (draft_of c.args.self.now) c.args.b) c.args.b_cut l c.args.a_cut) c.route-4.ensures) in
-    subst (AreLiveOnce c.args.problem.now) (sym c.as_slice.ensures) (once_first c.passes_are_local.ensures c.tests_say_feasible.ensures c.args.problem.now c.args.pins.now.routes c.args.self.now c.requires c.args.a c.args.a_cut c.args.b c.args.b_cut c.if-a-b.false c.as_slice-kept.result.now c.as_slice-kept.ensures (sym a_ok ∙ c.is_cut.ensures) (sym b_ok ∙ c.is_cut-2.ensures) c.in_ok-first.first c.in_ok-second.second is_first is_second)
+    record { course = search rules; once = subst (AreLiveOnce c.args.problem.now) (sym c.as_slice.ensures) (once_first c.passes_are_local.ensures c.tests_say_feasible.ensures c.args.problem.now c.args.pins.now.routes c.args.self.now c.requires c.args.a c.args.a_cut c.args.b c.args.b_cut c.if-a-b.false c.as_slice-kept.result.now c.as_slice-kept.ensures (sym a_ok ∙ c.is_cut.ensures) (sym b_ok ∙ c.is_cut-2.ensures) c.in_ok-first.first c.in_ok-second.second is_first is_second) }
 
 pub returns-then-not-is_feasible-clause-routes : goal.returns-then-not-is_feasible-clause-routes
 returns-then-not-is_feasible-clause-routes c =
@@ -38,7 +38,7 @@ is_feasible-requires-2 c =
     c.in_ok-first.ensures ∙ (ap (λ (l : List ℕ). joined l c.args.a_cut c.route-2.result.now c.args.b_cut) c.route.ensures ∙ ap (λ (l : List ℕ). joined (of_vehicle (draft_of c.args.self.now) c.args.a) c.args.a_cut l c.args.b_cut) c.route-2.ensures) in
     let is_second : c.in_ok-second.second ≡ joined (of_vehicle (draft_of c.args.self.now) c.args.b) c.args.b_cut (of_vehicle (draft_of c.args.self.now) c.args.a) c.args.a_cut =
     c.in_ok-second.ensures ∙ (ap (λ (l : List ℕ). joined l c.args.b_cut c.route-4.result.now c.args.a_cut) c.route-3.ensures ∙ ap (λ (l : List ℕ). joined (of_vehicle (draft_of c.args.self.now) c.args.b) c.args.b_cut l c.args.a_cut) c.route-4.ensures) in
-    subst (AreLiveOnce c.args.problem.now) (sym c.as_slice-2.ensures) (once_second c.passes_are_local.ensures c.tests_say_feasible.ensures c.args.problem.now c.args.pins.now.routes c.args.self.now c.requires c.args.a c.args.a_cut c.args.b c.args.b_cut c.if-a-b.false c.as_slice-kept.result.now c.as_slice-kept.ensures (sym a_ok ∙ c.is_cut.ensures) (sym b_ok ∙ c.is_cut-2.ensures) c.in_ok-first.first c.in_ok-second.second is_first is_second)
+    record { course = search rules; once = subst (AreLiveOnce c.args.problem.now) (sym c.as_slice-2.ensures) (once_second c.passes_are_local.ensures c.tests_say_feasible.ensures c.args.problem.now c.args.pins.now.routes c.args.self.now c.requires c.args.a c.args.a_cut c.args.b c.args.b_cut c.if-a-b.false c.as_slice-kept.result.now c.as_slice-kept.ensures (sym a_ok ∙ c.is_cut.ensures) (sym b_ok ∙ c.is_cut-2.ensures) c.in_ok-first.first c.in_ok-second.second is_first is_second) }
 
 pub returns-then-not-is_feasible-2-clause-routes : goal.returns-then-not-is_feasible-2-clause-routes
 returns-then-not-is_feasible-2-clause-routes c =

@@ -1,0 +1,97 @@
+-- A route that begins as another one: up to there the vehicle is at the same places in the same way.
+use Rattle.std.proofs.Common.{◌≡◌, ◌∙◌, ℕ, zero, suc, ◌+◌, ◌≤◌, ◌<◌, ◌≤ℤ◌, ◌⊎◌, pos, List, [], get_or, length, refl, sym, ap, add-one, arith, subst, inl, inr}
+use Rattle.std.proofs.lemmas.Bool.{cases_lt}
+use Rattle.std.proofs.lemmas.List.{get_or-map, get_or_default, length-map}
+use Rattle.plan_types.specs.Instance.{Instance}
+use Rattle.plan_types.specs.Limits.{IsVisit}
+use Rattle.plan_types.specs.declared.requests.Stop.{Stop}
+use Rattle.plan_types.specs.declared.requests.Kind.{Kind}
+use Rattle.plan_types.specs.declared.requests.Kind.TheVariants.{LiLim}
+use Rattle.route_sched.specs.Route.{place, stop_numbered}
+use Rattle.slack_tables.specs.Along.{stop_on, start_along, load_along}
+use Rattle.slack_tables.specs.Course.{Course, route_of, IsCourseIn}
+use Rattle.slack_tables.specs.Front.{IsFront, HasCome, KnowsFronts}
+use Rattle.slack_tables.specs.Inside.{AreKnown, IsInLimits}
+use Rattle.slack_tables.specs.Opened.{leaving}
+use Rattle.slack_tables.specs.Places.{IsAt}
+use Rattle.slack_tables.specs.declared.progress.Place.{Place}
+use Rattle.slack_tables.specs.declared.progress.Progress.{Progress}
+use Rattle.slack_tables.proofs.AlongLemmas.{same-start, same-load, same-length}
+use Rattle.slack_tables.proofs.CourseLemmas.{places-on}
+use Rattle.slack_tables.proofs.KeptLemmas.{kept-none}
+use Rattle.slack_tables.proofs.OpenLemmas.{at-begin, within-begin, place-first}
+
+-- ---- two routes with the same stops up to place n
+module _ (a b : ℕ → Stop) (n : ℕ) (same : (k : ℕ) → k ≤ n → b k ≡ a k) where
+  at-same : (x : Progress) → IsAt a n x → IsAt b n x
+  at-same x is = record {
+    stop = is.stop ∙ sym (same n (omega arith));
+    start = is.start ∙ sym (same-start a b n same n (omega arith));
+    load = is.load ∙ sym (same-load a b n same n (omega arith));
+    distance = is.distance ∙ sym (same-length a b n same n (omega arith));
+  }
+
+  kept-same : (kind : Kind) (capacity : ℕ) → IsInLimits kind capacity a n → IsInLimits kind capacity b n
+  kept-same kind capacity is = record {
+    load = λ k h j. subst (λ x. x ≤ℤ pos capacity) (sym (same-load a b n same k j)) (is.load k h j);
+    window = λ lilim k h j. (let start = same-start a b n same k j in let stop : (b k).latest ≡ (a k).latest = ap (λ s. s.latest) (same k j) in let le = is.window lilim k h j in omega arith);
+  }
+
+-- ---- the table of a route
+module _ (p : Instance) (c : Course) (places : List Place) (table : AreKnown c places) (course : IsCourseIn p c) (route : List ℕ) (n : ℕ) (d : Place) (within : n + 1 < length places) (front : IsFront places route n) where
+  on : place p (route_of c) ≡ stop_on c
+  on = places-on p (route_of c) c course
+
+  -- the number at a place of the route is that of the table
+  same-number : (k : ℕ) → k < n → get_or route k 0 ≡ get_or (route_of c) k 0
+  same-number k h =
+      let long = table.long in
+      let stop : (get_or places (k + 1) d).at.stop ≡ stop_on c (k + 1) = (table.known (k + 1) d (omega arith)).at.stop in
+      let next : stop_on c (k + 1) ≡ get_or c.stops k c.depot = ap (stop_on c) (add-one k) in
+      let read : get_or (route_of c) k c.depot.number ≡ (get_or c.stops k c.depot).number = get_or-map (λ (s : Stop). s.number) c.stops k c.depot c.depot.number (omega arith) in
+      let default : get_or (route_of c) k 0 ≡ get_or (route_of c) k c.depot.number = get_or_default (route_of c) k 0 c.depot.number (omega (arith, length-map c.stops (λ (s : Stop). s.number))) in
+      sym (front k d h) ∙ (ap (λ s. s.number) (stop ∙ next) ∙ (sym read ∙ sym default))
+
+  same-place : (k : ℕ) → k ≤ n → place p route k ≡ stop_on c k
+  unfolding place
+  same-place k h = by k h ∙ ap (λ f. f k) on
+    where
+      by : (k : ℕ) → k ≤ n → place p route k ≡ place p (route_of c) k
+      by zero _ = refl
+      by (suc k) h = ap (stop_numbered p) (same-number k (omega arith))
+
+  has-come : HasCome p route n (get_or places n d).at
+  has-come =
+      let long = table.long in
+      record {
+        at = at-same (stop_on c) (place p route) n same-place (get_or places n d).at ((table.known n d (omega arith)).at);
+        within = table.within n d (omega arith);
+        kept = kept-same (stop_on c) (place p route) n same-place p.kind p.capacity (kept-fewer-to n (omega arith));
+      }
+    where
+      kind : c.kind ≡ p.kind
+      kind = sym (ap (λ (q : Course). q.kind) course)
+
+      capacity : c.capacity ≡ p.capacity
+      capacity = sym (ap (λ (q : Course). q.capacity) course)
+
+      kept-fewer-to : (m : ℕ) → m ≤ length c.stops + 1 → IsInLimits p.kind p.capacity (stop_on c) m
+      kept-fewer-to m h =
+          let is = table.limits in
+          let load : (k : ℕ) → 1 ≤ k → k ≤ m → load_along (stop_on c) k ≤ℤ pos c.capacity = λ k j l. is.load k j (omega arith) in
+          let window : c.kind ≡ LiLim → (k : ℕ) → 1 ≤ k → k ≤ m → start_along (stop_on c) k ≤ (stop_on c k).latest = λ lilim k j l. is.window lilim k j (omega arith) in
+          subst (λ x. IsInLimits x p.capacity (stop_on c) m) kind (subst (λ x. IsInLimits c.kind x (stop_on c) m) capacity (record { load = load; window = window }))
+
+pub knows-fronts : (p : Instance) (c : Course) (places : List Place) → AreKnown c places → IsCourseIn p c → KnowsFronts p places
+knows-fronts p c places table course = λ route n d within front. has-come p c places table course route n d within front
+
+pub knows-none : (p : Instance) → KnowsFronts p []
+knows-none p = λ route n d within front. absurd (omega arith)
+
+-- before its first stop
+pub come-begin : (p : Instance) (route : List ℕ) (n : ℕ) (depot : Stop) (a : Progress) → n ≡ 0 → depot ≡ p.depot → IsVisit depot → a ≡ leaving depot → HasCome p route n a
+come-begin p route n depot a none is visit made = subst (λ m. HasCome p route m a) (sym none) (record {
+  at = at-begin (place p route) depot a (place-first p route ∙ sym is) made;
+  within = within-begin depot a visit made;
+  kept = kept-none p.kind p.capacity (place p route);
+})

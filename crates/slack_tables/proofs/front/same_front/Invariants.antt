@@ -1,0 +1,5 @@
+use Rattle.slack_tables.specs.Front.{IsFront}
+use Rattle.slack_tables.proofs.front.same_front.Given as goal
+
+abbrev pub invariant-loop-k : goal.invariant-loop-k
+invariant-loop-k l = IsFront l.known l.route l.k

@@ -1,0 +1,54 @@
+//! Routes that begin as the one of a table: what it tells of their first places is not driven again.
+
+ghost use Rattle.std.specs.Prelude.{◌≡◌, ℕ, List, ◌+◌, ◌<◌, ◌≤◌, length};
+ghost use Rattle.plan_types.specs.Instance.{Instance};
+ghost use Rattle.route_sched.specs.Route.{place};
+ghost use Rattle.slack_tables.specs.Front.{IsFront, HasCome, KnowsFronts};
+ghost use Rattle.slack_tables.specs.Opened.{AreOpenTo};
+
+use crate::progress::{Place, Progress};
+use crate::table::{leaving, open_place};
+use plan_types::Problem;
+
+/// How many of the first stops of a route the table has at the same places.
+pub(crate) fn same_front(known: &[Place], route: &[u32]) -> usize
+    ensures within { result ≤ length route.now }
+    ensures known { 0 < result → result + 1 < length known.now }
+    ensures front { IsFront known.now route.now result }
+{
+    let end = route.len().min(known.len().saturating_sub(2));
+    for k in 0..end {
+        if known[k + 1].at.stop.number != route[k] {
+            return k;
+        }
+    }
+    end
+}
+
+/// Where the vehicle is behind so many stops that a route has at the table's places.
+pub(crate) fn behind_front(problem: &Problem, known: &[Place], front: usize) -> Progress
+    requires fronts { KnowsFronts problem.now known.now }
+    requires known { 0 < front → front + 1 < length known.now }
+    ensures { (route : List ℕ) → IsFront known.now route front
+        → HasCome problem.now route front result }
+{
+    if front == 0 {
+        return leaving(&problem.depot);
+    }
+    known[front].at
+}
+
+/// Gives the places of so many stops what the table tells of them, but nothing of what is behind.
+pub(crate) fn copy_front(places: &mut [Place], known: &[Place], front: usize)
+    requires places { front + 1 < length places.old }
+    requires known { 0 < front → front + 1 < length known.now }
+    requires few { front ≤ 40001 }
+    ensures len { length places.new ≡ length places.old }
+    ensures opened { (p : Instance) (route : List ℕ) → KnowsFronts p known.now
+        → IsFront known.now route front → AreOpenTo (place p route) 1 places.old
+        → AreOpenTo (place p route) (front + 1) places.new }
+{
+    for k in 0..front {
+        places[k + 1] = open_place(known[k + 1].at);
+    }
+}
