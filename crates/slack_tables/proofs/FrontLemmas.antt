@@ -1,5 +1,5 @@
 -- A route that begins as another one: up to there the vehicle is at the same places in the same way.
-use Rattle.std.proofs.Common.{◌≡◌, ◌∙◌, ℕ, zero, suc, ◌+◌, ◌≤◌, ◌<◌, ◌≤ℤ◌, ◌⊎◌, pos, List, [], get_or, length, refl, sym, ap, add-one, arith, subst, inl, inr}
+use Rattle.std.proofs.Common.{◌≡◌, ◌∙◌, ℕ, zero, suc, ◌+◌, ◌≤◌, ◌<◌, ◌≤ℤ◌, ◌⊎◌, pos, List, get_or, length, refl, sym, ap, add-one, arith, subst, inl, inr}
 use Rattle.std.proofs.lemmas.Bool.{cases_lt}
 use Rattle.std.proofs.lemmas.List.{get_or-map, get_or_default, length-map}
 use Rattle.plan_types.specs.Instance.{Instance}
@@ -84,9 +84,6 @@ module _ (p : Instance) (c : Course) (places : List Place) (table : AreKnown c p
 
 pub knows-fronts : (p : Instance) (c : Course) (places : List Place) → AreKnown c places → IsCourseIn p c → KnowsFronts p places
 knows-fronts p c places table course = λ route n d within front. has-come p c places table course route n d within front
-
-pub knows-none : (p : Instance) → KnowsFronts p []
-knows-none p = λ route n d within front. absurd (omega arith)
 
 -- before its first stop
 pub come-begin : (p : Instance) (route : List ℕ) (n : ℕ) (depot : Stop) (a : Progress) → n ≡ 0 → depot ≡ p.depot → IsVisit depot → a ≡ leaving depot → HasCome p route n a
