@@ -46,7 +46,8 @@ def compare(other, folder, kind, stops):
     """Runs both, prints a line for each deviation, and gives how many final costs differ."""
     path = pathlib.Path(folder) / f"{kind}-{stops}"
     path.write_text(output(other, "gen", kind, stops, SEED))
-    steps = max(100, 400_000 // stops)
+    # So many that to begin and end the search takes little of the time.
+    steps = max(4_000, 2_000_000 // stops)
     differing = 0
     for deviation in DEVIATIONS:
         runs = [(ours(kind, path, steps, deviation), theirs(other, kind, path, steps, deviation)) for _ in range(RUNS)]
