@@ -196,23 +196,11 @@ length_undone tours [] = refl
 length_undone tours (e ∷ log) = length-set (undone tours log) (e.0 - 1) e.1 ∙ length_undone tours log
 
 -- its oldest change tells it
-base_first : (tours : List Course) (e : ℕ × Course) (log : List (ℕ × Course)) (v : ℕ) → 1 ≤ v → v ≤ length tours → e.0 ≡ v → slice_get (undone tours (e ∷ log)) (v - 1) ≡ Some e.1
+pub base_first : (tours : List Course) (e : ℕ × Course) (log : List (ℕ × Course)) (v : ℕ) → 1 ≤ v → v ≤ length tours → e.0 ≡ v → slice_get (undone tours (e ∷ log)) (v - 1) ≡ Some e.1
 base_first tours e log v from within same = ap (λ k. slice_get (set (undone tours log) (k - 1) e.1) (v - 1)) same ∙ get_set (undone tours log) (v - 1) e.1 (omega (arith, length_undone tours log))
 
-base_later : (tours : List Course) (e : ℕ × Course) (log : List (ℕ × Course)) (v : ℕ) → 1 ≤ v → 1 ≤ e.0 → (e.0 ≡ v → ⊥) → slice_get (undone tours (e ∷ log)) (v - 1) ≡ slice_get (undone tours log) (v - 1)
+pub base_later : (tours : List Course) (e : ℕ × Course) (log : List (ℕ × Course)) (v : ℕ) → 1 ≤ v → 1 ≤ e.0 → (e.0 ≡ v → ⊥) → slice_get (undone tours (e ∷ log)) (v - 1) ≡ slice_get (undone tours log) (v - 1)
 base_later tours e log v from above other = get_set_other (undone tours log) (e.0 - 1) (v - 1) e.1 (λ same. other (omega arith))
-
-module _ (tours : List Course) (log : List (ℕ × Course)) (k v : ℕ) (e : ℕ × Course) (at : e ≡ get_or log k e) (below : k < length log) (from : 1 ≤ v) where
-  pub base_found : v ≤ length tours → e.0 ≡ v → slice_get (undone tours (drop k log)) (v - 1) ≡ Some e.1
-  base_found within same = ap (λ l. slice_get (undone tours l) (v - 1)) (drop_more log k e below ∙ ap (λ x. x ∷ drop (k + 1) log) (sym at)) ∙ base_first tours e (drop (k + 1) log) v from within same
-
-  pub base_skipped : 1 ≤ e.0 → (e.0 ≡ v → ⊥) → slice_get (undone tours (drop k log)) (v - 1) ≡ slice_get (undone tours (drop (k + 1) log)) (v - 1)
-  base_skipped above other = ap (λ l. slice_get (undone tours l) (v - 1)) (drop_more log k e below ∙ ap (λ x. x ∷ drop (k + 1) log) (sym at)) ∙ base_later tours e (drop (k + 1) log) v from above other
-
-pub within_at : (n : ℕ) (log : List (ℕ × Course)) (k : ℕ) (e : ℕ × Course) → AreWithin n log → k < length log → e ≡ get_or log k e → (1 ≤ e.0) × (e.0 ≤ n)
-within_at n [] k e all below at = absurd (omega arith)
-within_at n (x ∷ log) zero e all below at = subst (λ (y : ℕ × Course). (1 ≤ y.0) × (y.0 ≤ n)) (sym at) (all.0)
-within_at n (x ∷ log) (suc k) e all below at = within_at n log k e all.1 (omega arith) at
 
 got : (tours : List Course) (k : ℕ) (b d : Course) → slice_get tours k ≡ Some b → b ≡ get_or tours k d
 got [] k b d at = absurd (cc)

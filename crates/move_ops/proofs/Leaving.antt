@@ -1,5 +1,5 @@
 -- How many requests a plan leaves out when some are taken out, or two of them exchanged.
-use Rattle.std.proofs.Common.{◌≡◌, ℕ, ◌+◌, ◌<◌, ◌≤◌, ◌&&◌, ◌||◌, not, Bool, true, false, cond, eqb, List, [], ◌∷◌, map, filter, length, Option, Some, None, refl, sym, ap, subst, ◌∙◌, inl, inr, arith, nat_eq}
+use Rattle.std.proofs.Common.{◌≡◌, ℕ, zero, suc, ◌+◌, ◌<◌, ◌≤◌, ◌&&◌, ◌||◌, not, Bool, true, false, cond, eqb, List, [], ◌∷◌, map, filter, length, get_or, Option, Some, None, IsSome, refl, sym, ap, subst, ◌∙◌, inl, inr, arith, nat_eq}
 use Rattle.std.specs.List.{AllByRecursion, list_all, concat}
 use Rattle.std.specs.Map.{lookup}
 use Rattle.std.specs.Option.{option_map, option_map_or}
@@ -9,7 +9,7 @@ use Rattle.std.proofs.lemmas.List.Sums.{count_by-le-length}
 use Rattle.std.proofs.lemmas.Map.Steps.{length-le_from_distinct_below}
 use Rattle.plan_types.specs.Instance.{Instance, IsInstance, name_at, request_with, numbers_among}
 use Rattle.plan_types.specs.Laws.{NamedAreFound, RequestsStandByName}
-use Rattle.plan_types.specs.Request.{request_name}
+use Rattle.plan_types.specs.Request.{request_name, stop_in}
 use Rattle.plan_types.specs.declared.requests.Request.{Request}
 use Rattle.plan_types.specs.declared.requests.Request.TheVariants.{Single, Pair}
 use Rattle.route_sched.specs.Cost.{has_stop, is_planned, unplanned_count}
@@ -24,6 +24,19 @@ use Rattle.move_ops.proofs.Counting.{one_more_planned}
 use Rattle.move_ops.proofs.Drafting.{named_gone}
 use Rattle.move_ops.proofs.Exchanging.{named_so, counterpart_other, times_exchanged, first_for_second, second_for_first}
 use Rattle.move_ops.proofs.Removing.{found_has}
+
+-- ---- the stops of a name
+pub has_item : (ns : List ℕ) (k : ℕ) → k < length ns → has ns (get_or ns k 0) ≡ true
+has_item [] k below = absurd (omega arith)
+has_item (n ∷ ns) zero below = elim (eqb_tells n n) [ inl t ↦ rw t.0 refl | inr t ↦ absurd (t.1 refl) ]
+has_item (n ∷ ns) (suc k) below = later (eqb (get_or ns k 0) n) (has_item ns k (omega arith))
+  where
+    later : (a : Bool) → has ns (get_or ns k 0) ≡ true → (a || has ns (get_or ns k 0)) ≡ true
+    later true h = refl
+    later false h = h
+
+pub named_stop : NamedAreFound → (p : Instance) → IsInstance p → (names : List ℕ) (name : ℕ) (r : Request) → has names name ≡ true → lookup (nat_eq name) p.requests ≡ Some r → (n : ℕ) → IsSome (stop_in n r) → is_of_named p names n ≡ true
+named_stop found p valid names name r there at n some = ap (λ (o : Option ℕ). option_map_or (has names) o false) ((found p n name r valid at some).name) ∙ (ap (has names) (sym (named_so p.requests name r (valid.named) at)) ∙ there)
 
 -- ---- a number among those that are kept
 module _ (keep : ℕ → Bool) (n : ℕ) where

@@ -17,6 +17,7 @@ pub mod Inserting
 pub mod Installing
 pub mod Keeping
 pub mod Leaving
+pub mod Logging
 pub mod Places
 pub mod Placing
 pub mod Pricing
@@ -26,3 +27,4 @@ pub mod Removing
 pub mod Replacing
 pub mod Seating
 pub mod Times
+pub mod Touring

@@ -12,7 +12,7 @@ use Rattle.slack_tables.specs.Course.{Course, course_of, route_of}
 use Rattle.slack_tables.specs.Insertion.{inserted, KeepsLimits}
 use Rattle.plan_audit.specs.Locality.{PassesAreLocal, TestsSayFeasible}
 use Rattle.plan_audit.specs.Passes.{passes}
-use Rattle.move_ops.specs.Insertion.{Place, request_named, of_vehicle, with_request_at, are_places, best_insertion}
+use Rattle.move_ops.specs.Insertion.{Place, request_named, of_vehicle, with_request_at, with_route, are_places, best_insertion}
 use Rattle.move_ops.specs.Laws.{BestInsertionsAreLeast}
 use Rattle.move_ops.specs.Tables.{plan_of, AreTablesIn}
 use Rattle.move_ops.specs.Drafts.{Drafted, draft_of, IsDraftOf, placed}
@@ -50,6 +50,17 @@ module _ (law : NamedAreFound) (stand : RequestsStandByName) (local : PassesAreL
     pub keeps : KeepsLimits p route
     keeps = subst (KeepsLimits p) (sym is_route) (new_keeps law stand local says least below p pins (draft_of d) (is.valid) (is.draft) (request_name r) r named x best)
 
+    pub small_route : total_length p (with_route (draft_of d) x.0 route) ≤ 2 ^ 63
+    small_route =
+        subst (λ (l : List ℕ). total_length p (with_route (draft_of d) x.0 l) ≤ 2 ^ 63) (sym is_route)
+        (new_small law stand local says least below p pins (draft_of d) (is.valid) (is.draft) (request_name r) r named x best)
+
+    pub unplanned_route : d.cost.unplanned ≡ unplanned_count p (with_route (draft_of d) x.0 route) + 1
+    unplanned_route =
+        ap (λ c. c.unplanned) (is.cost)
+        ∙ (one_less law stand local says least below p pins (draft_of d) (is.valid) (is.draft) (request_name r) r named x best
+        ∙ ap (λ (l : List ℕ). unplanned_count p (with_route (draft_of d) x.0 l) + 1) (sym is_route))
+
     module _ (tour : Course) (made : tour ≡ course_of p route) (of_tour : route_of tour ≡ route) (new : List Course) (is_new : new ≡ set d.tours (x.0 - 1) tour) where
       pub plan_new : plan_of new ≡ with_request_at (draft_of d) r x
       plan_new = ap plan_of is_new ∙ (plan_with d.tours (x.0 - 1) tour ∙ ap (λ l. set (plan_of d.tours) (x.0 - 1) l) (of_tour ∙ is_route))
@@ -59,12 +70,6 @@ module _ (law : NamedAreFound) (stand : RequestsStandByName) (local : PassesAreL
 
       pub passes_new : passes p pins (plan_of new) ≡ true
       passes_new = ap (passes p pins) plan_new ∙ new_passes law stand local says least below p pins (draft_of d) (is.valid) (is.draft) (request_name r) r named x best
-
-      pub small_new : total_length p (plan_of new) ≤ 2 ^ 63
-      small_new = subst (λ (l : List (List ℕ)). total_length p l ≤ 2 ^ 63) (sym plan_new) (new_small law stand local says least below p pins (draft_of d) (is.valid) (is.draft) (request_name r) r named x best)
-
-      pub unplanned_new : d.cost.unplanned ≡ unplanned_count p (plan_of new) + 1
-      unplanned_new = ap (λ c. c.unplanned) (is.cost) ∙ (one_less law stand local says least below p pins (draft_of d) (is.valid) (is.draft) (request_name r) r named x best ∙ ap (λ l. unplanned_count p l + 1) (sym plan_new))
 
       pub placed_new : plan_of new ≡ placed p pins (draft_of d) (request_name r)
       placed_new = plan_new ∙ sym (placed_is law stand local says least below p pins (draft_of d) (is.valid) (is.draft) (request_name r) r named x best)

@@ -1,12 +1,14 @@
 -- Routes of a plan that others take the place of.
-use Rattle.std.specs.Prelude.{◌≡◌, ℕ, ◌+◌, ◌==◌, not, ◌≤◌, if◌then◌else◌, true, false, All, List, [], ◌∷◌, length}
+use Rattle.std.specs.Prelude.{◌≡◌, ℕ, ◌+◌, ◌==◌, not, ◌≤◌, if◌then◌else◌, true, false, All, List, [], ◌∷◌, length, map, Option, MatchOption}
 use Rattle.std.specs.List.{AllByRecursion}
 use Rattle.plan_types.specs.Instance.{Instance}
 use Rattle.route_sched.specs.Cost.{has_stop, unplanned_count}
 use Rattle.route_sched.specs.Route.{AreLiveOnce}
-use Rattle.plan_audit.specs.Passes.{has, passes}
+use Rattle.plan_audit.specs.Passes.{has, passes, feasible_alone}
+use Rattle.slack_tables.specs.Course.{Course, course_of, route_of, IsCourseIn}
 use Rattle.slack_tables.specs.Insertion.{KeepsLimits}
 use Rattle.move_ops.specs.Insertion.{with_route, of_vehicle}
+use Rattle.move_ops.specs.Moves.{without_named}
 use Rattle.move_ops.specs.declared.changes.Change.{Change}
 
 -- how many names there are, one that stands twice counted once
@@ -26,6 +28,29 @@ pub record IsChange (p : Instance) (pins routes : List (List ℕ)) (changes : Li
   pub keeps : All (λ c. KeepsLimits p c.route) changes
   pub passes : passes p pins (with_routes routes changes) ≡ true
   pub unplanned : left ≡ unplanned_count p (with_routes routes changes)
+
+-- other tours for vehicles, as changes of their routes
+abbrev pub changes_of : List (ℕ × Course) → List Change
+changes_of tours = map (λ t. record { vehicle = t.0; route = route_of t.1 }) tours
+
+-- each is the table of its route
+abbrev pub AreCourses : Instance → List (ℕ × Course) → Type 0
+AreCourses p tours = AllByRecursion (λ t. IsCourseIn p t.1) tours
+
+-- these are the tours of the changed routes
+pub record AreToursOf (p : Instance) (cs : List Change) (tours : List (ℕ × Course)) : Type 0 where
+  pub changes : changes_of tours ≡ cs
+  pub courses : AreCourses p tours
+
+-- the tour of a route, or none where the route is not feasible alone
+abbrev pub IsTourIfFeasible : Instance → List ℕ → Option Course → Type 0
+IsTourIfFeasible p route o = MatchOption o (feasible_alone p route ≡ false) (λ tour. (feasible_alone p route ≡ true) × (tour ≡ course_of p route) × (route_of tour ≡ route))
+
+-- tours without these requests, for a plan that leaves so many out before
+pub record IsRemoval (p : Instance) (pins routes : List (List ℕ)) (names : List ℕ) (left : ℕ) (tours : List (ℕ × Course)) : Type 0 where
+  pub plan : with_routes routes (changes_of tours) ≡ without_named p names routes
+  pub change : IsChange p pins routes (changes_of tours) (left + distinct_count names)
+  pub courses : AreCourses p tours
 
 -- these changes make the one plan of the other
 pub record AreChanges (old new : List (List ℕ)) (changes : List Change) : Type 0 where

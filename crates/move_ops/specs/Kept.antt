@@ -3,6 +3,7 @@ use Rattle.std.specs.Prelude.{◌≡◌, ◌≤◌, ℕ, false, List, length, So
 use Rattle.route_sched.specs.Cost.{has_stop}
 use Rattle.move_ops.specs.Tables.{plan_of}
 use Rattle.move_ops.specs.Drafts.{Drafted, AreIdleBehind}
+use Rattle.move_ops.specs.Logged.{AreOnce}
 use Rattle.move_ops.specs.Refreshing.{AreWithin}
 use Rattle.move_ops.specs.declared.draft.Draft.TheInside.{Inside}
 
@@ -16,5 +17,6 @@ drafted a = record { tours = a.tours.items; log = a.log.items; pinned = a.pinned
 pub record IsKept (a : Inside) : Type 0 where
   pub seats : AreSeats a.seats.items (plan_of a.tours.items)
   pub within : AreWithin (length a.tours.items) a.log.items
+  pub once : AreOnce a.log.items
   pub front : a.front ≤ length a.tours.items
   pub idle : AreIdleBehind a.front (plan_of a.tours.items)

@@ -8,5 +8,6 @@ pub mod Tables
 pub mod Changes
 pub mod Choosing
 pub mod Kept
+pub mod Logged
 pub mod Pairing
 pub mod Refreshing

@@ -3,7 +3,6 @@ ghost use Rattle.std.specs.Prelude.{◌≡◌, ◌≤◌, true, All, length};
 ghost use Rattle.std.specs.List.{list_all};
 ghost use Rattle.route_sched.specs.Route.{AreLiveOnce};
 ghost use Rattle.plan_audit.specs.Passes.{feasible_alone};
-ghost use Rattle.move_ops.specs.Pairing.{are_paired};
 ghost use Rattle.move_ops.specs.Tables.{AreTablesIn};
 
 use crate::tour::{Tour, tour_of};
@@ -26,23 +25,6 @@ pub(crate) fn are_all_feasible(problem: &Problem, tours: &[Tour], changes: &[Cha
     for change in changes {
         let tour = tour_of(tours, u64::from(change.vehicle));
         if !tour.is_feasible(problem, change.route.as_slice()) {
-            return false;
-        }
-    }
-    true
-}
-
-/// The same of routes whose pairs are known to be whole, each pickup before its delivery.
-pub(crate) fn keep_all_limits(problem: &Problem, tours: &[Tour], changes: &[Change]) -> bool
-    requires tables { AreTablesIn problem.now tours.now }
-    requires within { All (λ c. (1 ≤ c.vehicle) × (c.vehicle ≤ length tours.now)) changes.now }
-    requires once { All (λ c. AreLiveOnce problem.now c.route) changes.now }
-    requires pairs { All (λ c. are_paired problem.now c.route ≡ true) changes.now }
-    ensures { result ≡ list_all (λ c. feasible_alone problem.now c.route) changes.now }
-{
-    for change in changes {
-        let tour = tour_of(tours, u64::from(change.vehicle));
-        if !tour.keeps_limits(problem, change.route.as_slice()) {
             return false;
         }
     }

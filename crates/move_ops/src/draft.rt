@@ -1,5 +1,6 @@
 //! A plan that is changed in its place.
-ghost use Rattle.std.specs.Prelude.{◌≡◌, ◌≤◌, ◌<◌, ◌-◌, ◌==◌, not, true, false, ℕ, List, IfOk, OnOk, length, slice_set, slice_index_or};
+ghost use Rattle.std.specs.Prelude.{◌≡◌, ◌≤◌, ◌<◌, ◌-◌, ◌==◌, not, true, false, ℕ, List, Some, IfOk, OnOk, MatchOption, length, slice_get, slice_set, slice_index_or};
+ghost use Rattle.slack_tables.specs.Course.{Course};
 ghost use Rattle.plan_types.specs.Instance.{Instance};
 ghost use Rattle.plan_audit.specs.Passes.{passes};
 ghost use Rattle.route_sched.specs.Cost.{cost_of, has_stop, is_planned};
@@ -8,6 +9,7 @@ ghost use Rattle.move_ops.specs.Moves.{is_movable};
 ghost use Rattle.move_ops.specs.Changes.{IsVehicleWith};
 ghost use Rattle.move_ops.specs.Choosing.{IsReach};
 ghost use Rattle.move_ops.specs.Drafts.{AreIdleBehind, Drafted, undone, draft_of, base_of, IsDraftOf};
+ghost use Rattle.move_ops.specs.Logged.{is_logged, IsEntry};
 
 mod installing;
 mod placing;
@@ -32,9 +34,11 @@ pub struct Draft {
     tours: Vec<Tour>,
     // No vehicle behind the first so many has a stop.
     front: usize,
-    // What a vehicle had before a change, the newest last.
+    // What vehicles had in the base that were changed since, none twice.
     log: Vec<(u32, Tour)>,
+    // Memory for tours and for a route.
     spare: Vec<Tour>,
+    room: Vec<u32>,
     // By stop number: 0 where no route of the draft has it, else the vehicle where to look first.
     seats: Vec<u32>,
     // By stop number whether it is pinned.
@@ -81,6 +85,7 @@ impl Draft {
             front,
             log: Vec::new(alloc),
             spare: Vec::new(alloc),
+            room: Vec::new(alloc),
             seats,
             pinned,
             cost,
@@ -110,7 +115,8 @@ impl Draft {
             → IsDraftOf p pins self.new }
     {
         while self.is_changed() {
-            self.undo();
+            let newest = self.log.len() - 1;
+            self.undo(newest);
         }
         self.cost = self.base_cost;
     }
@@ -253,27 +259,47 @@ impl Draft {
         ensures cost { OnOk result (self.new.cost ≡ self.old.cost) }
         ensures base_cost { OnOk result (self.new.base_cost ≡ self.old.base_cost) }
     {
+        let is_first = self.entry_of(vehicle).is_none();
         seat(&mut self.seats, tour.stops(), vehicle);
         let old = swap(&mut self.tours, (vehicle - 1) as usize, tour);
         self.front = front_with(self.front, vehicle);
-        self.log.push((vehicle, old))?;
+        if is_first {
+            self.log.push((vehicle, old))?;
+        } else {
+            keep(&mut self.spare, old);
+        }
         Ok(())
     }
 
-    // Gives the vehicle that was changed last what it had before.
-    fn undo(&mut self)
+    // The place in the log of what a vehicle had in the base, where it was changed since.
+    fn entry_of(&self, vehicle: u32) -> Option<usize>
+        ensures { MatchOption result (is_logged self.now.log vehicle ≡ false)
+            (λ entry. IsEntry self.now.log vehicle entry) }
+    {
+        for entry in 0..self.log.len() {
+            if self.log[entry].0 == vehicle {
+                return Some(entry);
+            }
+        }
+        None
+    }
+
+    // Gives the vehicle of an entry of the log what it had in the base.
+    fn undo(&mut self, entry: usize)
+        requires { entry < length self.old.log }
+        ensures tours { (e : ℕ × Course) → slice_get self.old.log entry ≡ Some e
+            → self.new.tours ≡ slice_set self.old.tours (e.0 - 1) e.1 }
         ensures base { undone self.new.tours self.new.log ≡ undone self.old.tours self.old.log }
         ensures log { length self.new.log ≡ length self.old.log - 1 }
         ensures pinned { self.new.pinned ≡ self.old.pinned }
         ensures cost { self.new.cost ≡ self.old.cost }
         ensures base_cost { self.new.base_cost ≡ self.old.base_cost }
     {
-        if let Some((vehicle, tour)) = self.log.pop() {
-            seat(&mut self.seats, tour.stops(), vehicle);
-            let tried = swap(&mut self.tours, (vehicle - 1) as usize, tour);
-            self.front = front_with(self.front, vehicle);
-            keep(&mut self.spare, tried);
-        }
+        let (vehicle, tour) = self.log.remove(entry);
+        seat(&mut self.seats, tour.stops(), vehicle);
+        let tried = swap(&mut self.tours, (vehicle - 1) as usize, tour);
+        self.front = front_with(self.front, vehicle);
+        keep(&mut self.spare, tried);
     }
 
     // What the vehicle had that was changed last is not needed any more.

@@ -6,6 +6,7 @@ ghost use Rattle.slack_tables.specs.Course.{course_of, route_of, IsCourseIn};
 ghost use Rattle.plan_audit.specs.Passes.{feasible_alone};
 ghost use Rattle.move_ops.specs.Pairing.{are_paired};
 ghost use Rattle.move_ops.specs.Tables.{AreTablesIn};
+ghost use Rattle.move_ops.specs.Changes.{IsTourIfFeasible};
 ghost use Rattle.plan_types.specs.Instance.{Instance};
 
 use crate::pairing::are_paired;
@@ -73,20 +74,6 @@ impl Tour {
         Ok(Tour { stops, table })
     }
 
-    /// A tour like another one, in the memory of this one as far as that goes.
-    pub(crate) fn copied(self, from: &Tour) -> Result<Tour, OutOfMemory>
-        ensures { IfOk result (λ tour. tour ≡ from.now) }
-    {
-        let Tour {
-            mut stops,
-            mut table,
-        } = self;
-        table.copy_from(&from.table)?;
-        stops.clear();
-        stops.extend_from_slice(&from.stops)?;
-        Ok(Tour { stops, table })
-    }
-
     /// Whether a route is feasible alone. It takes least time where this tour has most of its stops in the same order.
     pub(crate) fn is_feasible(&self, problem: &Problem, route: &[u32]) -> bool
         requires course { IsCourseIn problem.now self.now }
@@ -98,16 +85,48 @@ impl Tour {
         self.table.keeps_limits(problem, route) && are_paired(problem, route)
     }
 
-    /// The same of a route whose pairs are known to be whole, each pickup before its delivery.
-    pub(crate) fn keeps_limits(&self, problem: &Problem, route: &[u32]) -> bool
-        requires course { IsCourseIn problem.now self.now }
+    /// The tour of another route whose pairs are known to be whole, each pickup before its delivery, in the memory of this one as far as that
+    /// goes; `None` where the route is not feasible alone. It takes least time where `near` has most of its stops in the same order.
+    pub(crate) fn remade_if_feasible(
+        self,
+        problem: &Problem,
+        near: &Tour,
+        route: &[u32],
+    ) -> Result<Option<Tour>, OutOfMemory>
+        requires near { IsCourseIn problem.now near.now }
         requires once { AreLiveOnce problem.now route.now }
         requires pairs { are_paired problem.now route.now ≡ true }
-        ensures { result ≡ feasible_alone problem.now route.now }
+        ensures { IfOk result (λ o. IsTourIfFeasible problem.now route.now o) }
     {
         // That the problem keeps its limits is known where a field of it is read.
         let _fleet = problem.fleet;
-        self.table.keeps_limits(problem, route)
+        let Tour { mut stops, table } = self;
+        let Some(table) = table.remade(problem, &near.table, route)? else {
+            return Ok(None);
+        };
+        stops.clear();
+        stops.extend_from_slice(route)?;
+        Ok(Some(Tour { stops, table }))
+    }
+
+    /// The same in memory of its own.
+    pub(crate) fn build_if_feasible(
+        alloc: Global,
+        problem: &Problem,
+        near: &Tour,
+        route: &[u32],
+    ) -> Result<Option<Tour>, OutOfMemory>
+        requires near { IsCourseIn problem.now near.now }
+        requires once { AreLiveOnce problem.now route.now }
+        requires pairs { are_paired problem.now route.now ≡ true }
+        ensures { IfOk result (λ o. IsTourIfFeasible problem.now route.now o) }
+    {
+        // That the problem keeps its limits is known where a field of it is read.
+        let _fleet = problem.fleet;
+        if !near.table.keeps_limits(problem, route) {
+            return Ok(None);
+        }
+        Ok(Some(Tour::build(alloc, problem, route)?))
     }
 
     pub(crate) fn stop_count(&self) -> usize

@@ -121,7 +121,7 @@ fn unplanned_name(problem: &Problem, draft: &Draft, index: usize) -> Option<u32>
 pub(crate) fn used_vehicles(alloc: Global, draft: &Draft) -> Result<Vec<u64>, OutOfMemory>
     ensures { IfOk result (λ used. used.items ≡ used_vehicles (draft_of draft.now)) }
 {
-    let mut used = Vec::new(alloc);
+    let mut used = Vec::with_capacity(alloc, draft.front() as usize)?;
     for index in 0..draft.front() {
         let vehicle = index + 1;
         if !draft.route(vehicle).is_empty() {

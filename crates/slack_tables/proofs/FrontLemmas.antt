@@ -1,6 +1,5 @@
 -- A route that begins as another one: up to there the vehicle is at the same places in the same way.
-use Rattle.std.proofs.Common.{◌≡◌, ◌∙◌, ℕ, zero, suc, ◌+◌, ◌≤◌, ◌<◌, ◌≤ℤ◌, ◌⊎◌, pos, List, get_or, length, refl, sym, ap, add-one, arith, subst, inl, inr}
-use Rattle.std.proofs.lemmas.Bool.{cases_lt}
+use Rattle.std.proofs.Common.{◌≡◌, ◌∙◌, ℕ, zero, suc, ◌+◌, ◌≤◌, ◌<◌, ◌≤ℤ◌, pos, List, get_or, length, refl, sym, ap, add-one, arith, subst}
 use Rattle.std.proofs.lemmas.List.{get_or-map, get_or_default, length-map}
 use Rattle.plan_types.specs.Instance.{Instance}
 use Rattle.plan_types.specs.Limits.{IsVisit}

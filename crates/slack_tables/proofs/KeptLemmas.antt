@@ -62,5 +62,11 @@ module _ (p : Instance) (route : List ℕ) (nothing : p.depot.demand ≡ pos 0) 
       by true h all = h
       by false h all = absurd (kept-never limits_in (place p route) (length route + 1) (length route + 1) a (omega arith) (omega arith) at (sym test ∙ h) all)
 
+  -- all places of a route keep the limits where the route does
+  pub kept-whole : (limits : Limits) → limits ≡ limits_in → (n : ℕ) → n ≡ length route + 1 → (b : Bool) → (b ≡ true) ↔ IsInLimits limits.kind limits.capacity (place p route) n → (b ≡ true) ↔ KeepsLimits p route
+  kept-whole limits same n long b is =
+      let there : (b ≡ true) ↔ IsInLimits p.kind p.capacity (place p route) (length route + 1) = subst (λ n. (b ≡ true) ↔ IsInLimits p.kind p.capacity (place p route) n) long (subst (λ (l : Limits). (b ≡ true) ↔ IsInLimits l.kind l.capacity (place p route) n) same is) in
+      (λ h. limits-from p route (there.0 h), λ keep. there.1 (limits-to p route nothing keep))
+
 pub small-driven : (route : List ℕ) (a : Progress) → length route ≤ 40001 → IsWithin (length route) a → IsSmall (2 ^ 58) a
 small-driven route a few is = let small = small-within (length route) a (omega arith) is in record { visit = small.visit; start = (let h = small.start in omega arith); load = (let h = small.load in omega arith); distance = (let h = small.distance in omega arith) }

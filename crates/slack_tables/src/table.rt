@@ -1,7 +1,8 @@
 //! The table of a route.
 
-ghost use Rattle.std.specs.Prelude.{◌≡◌, ◌↔◌, ◌+◌, ◌<◌, ◌≤◌, Some, true, IsSome, IfOk, OnOk, OnErr, length, slice_index_or};
+ghost use Rattle.std.specs.Prelude.{◌≡◌, ◌↔◌, ◌+◌, ◌-◌, ◌<◌, ◌≤◌, ℕ, Some, true, IsSome, IfOk, OnOk, OnErr, length, slice_index_or};
 ghost use Rattle.plan_types.specs.Limits.{IsStop};
+ghost use Rattle.plan_types.specs.declared.requests.Stop.{Stop};
 ghost use Rattle.plan_types.specs.Request.{IsRequest};
 ghost use Rattle.plan_types.specs.Instance.{IsInstance, stop_at};
 ghost use Rattle.route_sched.specs.Route.{AreLiveOnce, IsLive, place};
@@ -9,7 +10,7 @@ ghost use Rattle.slack_tables.specs.Insertion.{request_named, KeepsLimits};
 ghost use Rattle.slack_tables.specs.declared.progress.Place.{Place};
 ghost use Rattle.slack_tables.specs.Opened.{leaving, open_place, AreOpen};
 ghost use Rattle.slack_tables.specs.Front.{KnowsFronts};
-ghost use Rattle.slack_tables.specs.Inside.{limits_of, IsDriven, IsMade};
+ghost use Rattle.slack_tables.specs.Inside.{limits_of, IsInLimits, IsDriven, IsMade};
 ghost use Rattle.slack_tables.specs.Legs.{AreLinked};
 
 use crate::front::{behind_front, copy_front, same_front};
@@ -50,7 +51,7 @@ impl Model for RouteTable {
 }
 
 impl RouteTable {
-    ghost use Rattle.std.specs.Prelude.{ℕ, List, IsSomeAnd, IfSome};
+    ghost use Rattle.std.specs.Prelude.{List, IsSomeAnd, IfSome};
     ghost use Rattle.plan_types.specs.Instance.{Instance};
     ghost use Rattle.route_sched.specs.Schedule.{start, load, route_length};
     ghost use Rattle.slack_tables.specs.Latest.{IsLimitOfStarts};
@@ -100,20 +101,34 @@ impl RouteTable {
         Ok(())
     }
 
-    /// Makes this a table like another one, in the memory that it has as far as that goes. Where it can't
-    /// get more it stays as it was.
-    pub fn copy_from(&mut self, other: &RouteTable) -> Result<(), OutOfMemory>
-        ensures ok { OnOk result (self.new ≡ other.now) }
-        ensures refused { OnErr result (self.new ≡ self.old) }
+    /// The table of another route in the memory of this one, as far as that goes; `None` where the route
+    /// exceeds the capacity or a window. It takes least time where `near` is the table of a route that has
+    /// most stops in the same order.
+    ///
+    /// This drives the route once, where `keeps_limits` and `rebuild` drive it twice.
+    pub fn remade(
+        self,
+        problem: &Problem,
+        near: &RouteTable,
+        route: &[u32],
+    ) -> Result<Option<RouteTable>, OutOfMemory>
+        requires near { IsCourseIn problem.now near.now }
+        requires route { AreLiveOnce problem.now route.now }
+        ensures course { IfOk result (λ o. IfSome o (λ table. table ≡ course_of problem.now route.now)) }
+        ensures route { IfOk result (λ o. IfSome o (λ table. route_of table ≡ route.now)) }
+        ensures kept { IfOk result (λ o. (IsSome o) ↔ KeepsLimits problem.now route.now) }
     {
-        let places = other.places.as_slice();
-        self.places
-            .resize(places.len(), open_place(leaving(&other.depot)))?;
-        self.places.copy_from_slice(places);
-        self.limits = other.limits;
-        self.depot = other.depot;
-        self.span = other.span;
-        Ok(())
+        let RouteTable { mut places, .. } = self;
+        if !remake_kept(&mut places, problem, near.places.as_slice(), route)? {
+            return Ok(None);
+        }
+        let span = Span::of(places.as_slice());
+        Ok(Some(RouteTable {
+            limits: limits_of(problem),
+            depot: problem.depot,
+            places,
+            span,
+        }))
     }
 
     /// Whether a route keeps the capacity and the windows. It takes least time where this is the table of a
@@ -297,6 +312,55 @@ fn fill(places: &mut [Place], problem: &Problem, known: &[Place], route: &[u32])
 {
     drive_route(places, problem, known, route);
     fill_slack(problem.kind, places);
+}
+
+/// The places of a route in place of those that stand there, if it keeps the limits.
+fn remake_kept(
+    places: &mut Vec<Place>,
+    problem: &Problem,
+    known: &[Place],
+    route: &[u32],
+) -> Result<bool, OutOfMemory>
+    requires known { AreLinked known.now }
+    requires fronts { KnowsFronts problem.now known.now }
+    requires route { AreLiveOnce problem.now route.now }
+    ensures kept { IfOk result (λ kept. (kept ≡ true) ↔ KeepsLimits problem.now route.now) }
+    ensures made { IfOk result (λ kept. kept ≡ true → IsMade problem.now route.now places.new.items) }
+{
+    numbers_are_below_the_next();
+    places.resize(route.len() + 2, open_place(leaving(&problem.depot)))?;
+    Ok(fill_kept(places.as_mut_slice(), problem, known, route))
+}
+
+/// What is known of each place of a route, if it keeps the limits.
+fn fill_kept(places: &mut [Place], problem: &Problem, known: &[Place], route: &[u32]) -> bool
+    requires known { AreLinked known.now }
+    requires fronts { KnowsFronts problem.now known.now }
+    requires route { AreLiveOnce problem.now route.now }
+    requires count { length places.old ≡ length route.now + 2 }
+    requires few { length route.now ≤ 40001 }
+    ensures kept { (result ≡ true) ↔ KeepsLimits problem.now route.now }
+    ensures made { result ≡ true → IsMade problem.now route.now places.new }
+{
+    drive_route(places, problem, known, route);
+    if !are_kept(limits_of(problem), places) {
+        return false;
+    }
+    fill_slack(problem.kind, places);
+    true
+}
+
+/// Whether each place behind the depot keeps the limits.
+fn are_kept(limits: Limits, places: &[Place]) -> bool
+    ensures { (stops : ℕ → Stop) → AreOpen stops places.now
+        → (result ≡ true) ↔ IsInLimits limits.kind limits.capacity stops (length places.now - 1) }
+{
+    for k in 1..places.len() {
+        if !keeps(limits, &place_at(places, k).at) {
+            return false;
+        }
+    }
+    true
 }
 
 /// The places of a route as the vehicle comes to them, with nothing known of what is behind.

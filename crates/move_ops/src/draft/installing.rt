@@ -1,12 +1,16 @@
 // Other routes for vehicles of a draft.
-ghost use Rattle.std.specs.Prelude.{◌≡◌, ◌≤◌, ◌+◌, ◌-◌, ◌^◌, All, Some, IfSome, IfOk, OnOk, length, slice_get};
+ghost use Rattle.std.specs.Prelude.{◌≡◌, ◌≤◌, ◌+◌, ◌-◌, ◌^◌, true, false, All, Some, IfSome, IfOk, OnOk, MatchOption, length, slice_get};
+ghost use Rattle.std.specs.List.{list_all};
+ghost use Rattle.plan_audit.specs.Passes.{feasible_alone};
+ghost use Rattle.move_ops.specs.Pairing.{are_paired};
+ghost use Rattle.move_ops.specs.Refreshing.{AreWithin};
 ghost use Rattle.slack_tables.specs.Course.{course_of, route_of};
 ghost use Rattle.route_sched.specs.Cost.{total_length};
 ghost use Rattle.route_sched.specs.Route.{AreLiveOnce};
 ghost use Rattle.route_sched.specs.Schedule.{route_length};
 ghost use Rattle.move_ops.specs.Insertion.{of_vehicle};
 ghost use Rattle.slack_tables.specs.Insertion.{KeepsLimits};
-ghost use Rattle.move_ops.specs.Changes.{with_routes, IsChange};
+ghost use Rattle.move_ops.specs.Changes.{changes_of, with_routes, AreCourses, AreToursOf, IsChange, IsTourIfFeasible};
 ghost use Rattle.std.specs.Option.{option_map};
 ghost use Rattle.move_ops.specs.Tables.{AreTablesIn};
 ghost use Rattle.move_ops.specs.Drafts.{undone, draft_of, base_of, IsDraftOf, IsMade};
@@ -38,32 +42,34 @@ impl Draft {
     {
         match changes {
             Some(changes) => {
-                self.install(problem, pins, &changes, unplanned)?;
+                let tours = self.new_tours(problem, &changes)?;
+                self.install(problem, pins, tours, unplanned)?;
                 Ok(true)
             }
             None => Ok(false),
         }
     }
 
-    // Gives some vehicles other routes.
+    // Gives some vehicles other tours.
     pub(crate) fn install(
         &mut self,
         problem: &Problem,
         pins: &Pins,
-        changes: &[Change],
+        tours: Vec<(u32, Tour)>,
         unplanned: u64,
     ) -> Result<(), OutOfMemory>
         requires is { IsDraftOf problem.now pins.now.routes self.old }
+        requires courses { AreCourses problem.now tours.items }
         requires change { IsChange problem.now pins.now.routes
-            (draft_of self.old) changes.now unplanned }
+            (draft_of self.old) (changes_of tours.items) unplanned }
         ensures is { OnOk result (IsDraftOf problem.now pins.now.routes self.new) }
         ensures base { OnOk result (base_of self.new ≡ base_of self.old) }
         ensures draft { OnOk result (draft_of self.new
-            ≡ with_routes (draft_of self.old) changes.now) }
+            ≡ with_routes (draft_of self.old) (changes_of tours.items)) }
     {
         passes_are_local();
         numbers_are_below_the_next();
-        let distance = self.set_routes(problem, changes)?;
+        let distance = self.set_tours(problem, tours)?;
         self.cost = Cost {
             unplanned,
             vehicles: vehicle_count(problem.kind, &self.tours, self.front),
@@ -73,19 +79,16 @@ impl Draft {
     }
 
     // Answers how far all vehicles drive then.
-    fn set_routes(&mut self, problem: &Problem, changes: &[Change]) -> Result<u64, OutOfMemory>
+    fn set_tours(&mut self, problem: &Problem, tours: Vec<(u32, Tour)>) -> Result<u64, OutOfMemory>
         requires tables { AreTablesIn problem.now self.old.tours }
-        requires base { AreTablesIn problem.now (undone self.old.tours self.old.log) }
-        requires within { All (λ c. (1 ≤ c.vehicle)
-            × (c.vehicle ≤ length (draft_of self.old))) changes.now }
-        requires once { All (λ c. AreLiveOnce problem.now c.route) changes.now }
-        requires keeps { All (λ c. KeepsLimits problem.now c.route) changes.now }
+        requires within { AreWithin (length self.old.tours) tours.items }
+        requires courses { AreCourses problem.now tours.items }
         requires distance { self.old.cost.distance ≡ total_length problem.now (draft_of self.old) }
         requires small { total_length problem.now
-            (with_routes (draft_of self.old) changes.now) ≤ 2 ^ 63 }
+            (with_routes (draft_of self.old) (changes_of tours.items)) ≤ 2 ^ 63 }
         ensures tables { OnOk result (AreTablesIn problem.now self.new.tours) }
         ensures plan { OnOk result (draft_of self.new
-            ≡ with_routes (draft_of self.old) changes.now) }
+            ≡ with_routes (draft_of self.old) (changes_of tours.items)) }
         ensures base { OnOk result (undone self.new.tours self.new.log
             ≡ undone self.old.tours self.old.log) }
         ensures distance { IfOk result (λ distance.
@@ -94,13 +97,86 @@ impl Draft {
         ensures base_cost { OnOk result (self.new.base_cost ≡ self.old.base_cost) }
     {
         let mut driven = u128::from(self.cost.distance);
-        for change in changes {
-            let tour = self.new_tour(problem, change.vehicle, change.route.as_slice())?;
+        for (vehicle, tour) in tours {
             driven += u128::from(tour.table().distance());
-            driven -= u128::from(self.distance_of(problem, change.vehicle));
-            self.set_tour(change.vehicle, tour)?;
+            driven -= u128::from(self.distance_of(problem, vehicle));
+            self.set_tour(vehicle, tour)?;
         }
         Ok(driven as u64)
+    }
+
+    // The tours of changes, all of which keep the limits.
+    fn new_tours(
+        &mut self,
+        problem: &Problem,
+        changes: &[Change],
+    ) -> Result<Vec<(u32, Tour)>, OutOfMemory>
+        requires tables { AreTablesIn problem.now self.old.tours }
+        requires base { AreTablesIn problem.now (undone self.old.tours self.old.log) }
+        requires within { All (λ c. (1 ≤ c.vehicle)
+            × (c.vehicle ≤ length self.old.tours)) changes.now }
+        requires once { All (λ c. AreLiveOnce problem.now c.route) changes.now }
+        requires keeps { All (λ c. KeepsLimits problem.now c.route) changes.now }
+        ensures tours { IfOk result (λ tours. AreToursOf problem.now changes.now tours.items) }
+        ensures same { self.new ≡ self.old }
+    {
+        let mut tours = Vec::with_capacity(*self.tours.allocator(), changes.len())?;
+        for change in changes {
+            let tour = self.new_tour(problem, change.vehicle, change.route.as_slice())?;
+            tours.push((change.vehicle, tour))?;
+        }
+        Ok(tours)
+    }
+
+    // The tours of changes whose pairs are known to be whole, each pickup before its delivery; none where a route is not feasible alone.
+    pub(crate) fn feasible_tours(
+        &mut self,
+        problem: &Problem,
+        changes: &[Change],
+    ) -> Result<Option<Vec<(u32, Tour)>>, OutOfMemory>
+        requires tables { AreTablesIn problem.now self.old.tours }
+        requires within { All (λ c. (1 ≤ c.vehicle)
+            × (c.vehicle ≤ length self.old.tours)) changes.now }
+        requires once { All (λ c. AreLiveOnce problem.now c.route) changes.now }
+        requires pairs { All (λ c. are_paired problem.now c.route ≡ true) changes.now }
+        ensures tours { IfOk result (λ o. MatchOption o
+            (list_all (λ c. feasible_alone problem.now c.route) changes.now ≡ false)
+            (λ tours. (list_all (λ c. feasible_alone problem.now c.route) changes.now ≡ true)
+            × AreToursOf problem.now changes.now tours.items)) }
+        ensures same { self.new ≡ self.old }
+    {
+        let mut tours = Vec::with_capacity(*self.tours.allocator(), changes.len())?;
+        for change in changes {
+            let route = change.route.as_slice();
+            let Some(tour) = self.feasible_tour(problem, change.vehicle, route)? else {
+                return Ok(None);
+            };
+            tours.push((change.vehicle, tour))?;
+        }
+        Ok(Some(tours))
+    }
+
+    // The tour of another route for a vehicle, whose pairs are known to be whole, in memory that is left of others where there is some.
+    fn feasible_tour(
+        &mut self,
+        problem: &Problem,
+        vehicle: u32,
+        route: &[u32],
+    ) -> Result<Option<Tour>, OutOfMemory>
+        requires tables { AreTablesIn problem.now self.old.tours }
+        requires from_one { 1 ≤ vehicle }
+        requires within { vehicle ≤ length self.old.tours }
+        requires once { AreLiveOnce problem.now route.now }
+        requires pairs { are_paired problem.now route.now ≡ true }
+        ensures tour { IfOk result (λ o. IsTourIfFeasible problem.now route.now o) }
+        ensures same { self.new ≡ self.old }
+    {
+        let spare = self.spare.pop();
+        let near = tour_of(&self.tours, u64::from(vehicle));
+        match spare {
+            Some(tour) => tour.remade_if_feasible(problem, near, route),
+            None => Tour::build_if_feasible(*self.tours.allocator(), problem, near, route),
+        }
     }
 
     // How far a vehicle drives.
@@ -131,46 +207,8 @@ impl Draft {
         ensures same { self.new ≡ self.old }
     {
         match self.spare.pop() {
-            Some(tour) => self.remade_tour(problem, vehicle, tour, route),
+            Some(tour) => { tour.remade(problem, tour_of(&self.tours, u64::from(vehicle)), route) }
             None => Tour::build(*self.tours.allocator(), problem, route),
         }
-    }
-
-    // The same in the memory of a tour. A move often gives a vehicle the route of the base back, whose table need not be computed again.
-    fn remade_tour(
-        &self,
-        problem: &Problem,
-        vehicle: u32,
-        tour: Tour,
-        route: &[u32],
-    ) -> Result<Tour, OutOfMemory>
-        requires tables { AreTablesIn problem.now self.now.tours }
-        requires base { AreTablesIn problem.now (undone self.now.tours self.now.log) }
-        requires from_one { 1 ≤ vehicle }
-        requires within { vehicle ≤ length self.now.tours }
-        requires route { AreLiveOnce problem.now route.now }
-        requires limits { KeepsLimits problem.now route.now }
-        ensures course { IfOk result (λ tour. tour ≡ course_of problem.now route.now) }
-        ensures route { IfOk result (λ tour. route_of tour ≡ route.now) }
-    {
-        match self.base_tour(vehicle) {
-            Some(base) if base.stops() == route => tour.copied(base),
-            _ => tour.remade(problem, tour_of(&self.tours, u64::from(vehicle)), route),
-        }
-    }
-
-    // What a vehicle has in the base, where it was changed since.
-    fn base_tour(&self, vehicle: u32) -> Option<&Tour>
-        requires from_one { 1 ≤ vehicle }
-        requires within { vehicle ≤ length self.now.tours }
-        ensures { IfSome result (λ tour. slice_get (undone self.now.tours self.now.log) (vehicle - 1)
-            ≡ Some tour.now) }
-    {
-        for entry in &self.log {
-            if entry.0 == vehicle {
-                return Some(&entry.1);
-            }
-        }
-        None
     }
 }

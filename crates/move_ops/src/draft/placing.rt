@@ -1,15 +1,17 @@
 // Requests put into a draft.
-ghost use Rattle.std.specs.Prelude.{◌≡◌, ◌≤◌, ◌^◌, length, Some, OnOk};
+ghost use Rattle.std.specs.Prelude.{◌≡◌, ◌≤◌, ◌^◌, true, length, Some, IfOk, OnOk};
 ghost use Rattle.route_sched.specs.Cost.{cost_of, total_length, unplanned_count};
 ghost use Rattle.slack_tables.specs.Course.{course_of, route_of};
 ghost use Rattle.move_ops.specs.Tables.{AreTablesIn};
 ghost use Rattle.move_ops.specs.Changes.{used};
 ghost use Rattle.plan_types.specs.Request.{request_name};
-ghost use Rattle.move_ops.specs.Insertion.{best_insertion, request_named, with_route};
-ghost use Rattle.move_ops.specs.Drafts.{draft_of, base_of, IsDraftOf, placed};
+ghost use Rattle.move_ops.specs.Insertion.{are_places, best_insertion, inserted, request_named, with_route};
+ghost use Rattle.route_sched.specs.Route.{AreLiveOnce};
+ghost use Rattle.slack_tables.specs.Insertion.{KeepsLimits};
+ghost use Rattle.move_ops.specs.Logged.{HasRoute};
+ghost use Rattle.move_ops.specs.Drafts.{undone, draft_of, base_of, IsDraftOf, placed};
 
 use super::Draft;
-use crate::insert::inserted;
 use crate::laws::best_insertions_are_least;
 use crate::tables::best_of;
 use crate::tour::Tour;
@@ -18,6 +20,7 @@ use plan_types::{
     Cost, Kind, OutOfMemory, Pins, Problem, Request, numbers_are_below_the_next,
     requests_are_found_by_stop, requests_stand_by_name,
 };
+use std::mem;
 
 impl Draft {
     /// Puts a request into the draft where it is best. Without such a place, or where the name is of no live and unplanned request, the
@@ -67,13 +70,55 @@ impl Draft {
         requests_stand_by_name();
         numbers_are_below_the_next();
         let (vehicle, pickup, delivery) = place;
-        let alloc = *self.tours.allocator();
-        let route = inserted(alloc, request, pickup, delivery, self.route(vehicle))?;
-        let tour = self.new_tour(problem, vehicle as u32, route.as_slice())?;
-        let cost = self.cost_with(problem, vehicle, &tour, self.cost.unplanned - 1);
-        self.set_tour(vehicle as u32, tour)?;
-        self.cost = cost;
+        let mut route = mem::replace(&mut self.room, Vec::new(*self.tours.allocator()));
+        put_into(&mut route, request, pickup, delivery, self.route(vehicle))?;
+        let unplanned = self.cost.unplanned - 1;
+        self.cost = self.set_route(problem, vehicle as u32, &route, unplanned)?;
+        self.room = route;
         Ok(())
+    }
+
+    // Gives a vehicle another route; answers what the draft costs then, where it leaves so many requests out. The route that the vehicle has
+    // in the base, which a move often gives back, takes its tour with it.
+    fn set_route(
+        &mut self,
+        problem: &Problem,
+        vehicle: u32,
+        route: &[u32],
+        unplanned: u64,
+    ) -> Result<Cost, OutOfMemory>
+        requires tables { AreTablesIn problem.now self.old.tours }
+        requires base { AreTablesIn problem.now (undone self.old.tours self.old.log) }
+        requires cost { self.old.cost ≡ cost_of problem.now (draft_of self.old) }
+        requires from_one { 1 ≤ vehicle }
+        requires within { vehicle ≤ length self.old.tours }
+        requires route { AreLiveOnce problem.now route.now }
+        requires limits { KeepsLimits problem.now route.now }
+        requires small { total_length problem.now
+            (with_route (draft_of self.old) vehicle route.now) ≤ 2 ^ 63 }
+        requires unplanned { unplanned ≡ unplanned_count problem.now
+            (with_route (draft_of self.old) vehicle route.now) }
+        ensures cost { IfOk result (λ cost. cost ≡ cost_of problem.now
+            (with_route (draft_of self.old) vehicle route.now)) }
+        ensures set { OnOk result
+            (HasRoute problem.now self.old self.new vehicle route.now) }
+    {
+        if let Some(entry) = self.entry_of(vehicle) {
+            if self.log[entry].1.stops() == route {
+                let cost = self.cost_with(
+                    problem,
+                    u64::from(vehicle),
+                    &self.log[entry].1,
+                    unplanned,
+                );
+                self.undo(entry);
+                return Ok(cost);
+            }
+        }
+        let tour = self.new_tour(problem, vehicle, route)?;
+        let cost = self.cost_with(problem, u64::from(vehicle), &tour, unplanned);
+        self.set_tour(vehicle, tour)?;
+        Ok(cost)
     }
 
     // What the draft costs with another tour for this vehicle, where it then leaves so many requests out.
@@ -108,4 +153,28 @@ fn used(tour: &Tour) -> u64
     ensures { result ≡ used (route_of tour.now) }
 {
     u64::from(!tour.stops().is_empty())
+}
+
+// Makes a list the route with the request put in.
+fn put_into(
+    new: &mut Vec<u32>,
+    request: &Request,
+    pickup: u64,
+    delivery: u64,
+    route: &[u32],
+) -> Result<(), OutOfMemory>
+    requires { are_places request.now 0 (length route.now) pickup delivery ≡ true }
+    ensures { OnOk result (new.new.items
+        ≡ inserted request.now pickup delivery route.now) }
+{
+    new.clear();
+    new.extend_from_slice(route)?;
+    match request {
+        Request::Single(stop) => new.insert((pickup - 1) as usize, stop.number)?,
+        Request::Pair(first, second) => {
+            new.insert((pickup - 1) as usize, first.number)?;
+            new.insert((delivery - 1) as usize, second.number)?;
+        }
+    }
+    Ok(())
 }

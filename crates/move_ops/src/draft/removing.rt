@@ -1,7 +1,7 @@
 // Requests taken out of a draft.
 ghost use Rattle.std.specs.Prelude.{◌≡◌, ◌≤◌, ◌+◌, ◌∷◌, [], length, nat_eq, true, false, ℕ, IsSome, IfSome, IfOk, OnOk};
 ghost use Rattle.route_sched.specs.Cost.{has_stop};
-ghost use Rattle.move_ops.specs.Changes.{distinct_count, with_routes, AreChanges, AreIn, AreVehiclesOf, IsChange, Notes};
+ghost use Rattle.move_ops.specs.Changes.{changes_of, distinct_count, with_routes, AreChanges, AreCourses, AreIn, AreVehiclesOf, IsChange, IsRemoval, Notes};
 ghost use Rattle.move_ops.specs.Moves.{removed, without_named, is_of_named, is_movable_name};
 ghost use Rattle.std.specs.List.{concat, list_all, IsDistinct};
 ghost use Rattle.plan_types.specs.Instance.{IsInstance};
@@ -11,10 +11,11 @@ ghost use Rattle.std.specs.Option.{option_map};
 ghost use Rattle.move_ops.specs.Drafts.{draft_of, base_of, IsDraftOf, IsMade};
 
 use super::Draft;
-use crate::changes::{Change, keep_all_limits};
+use crate::changes::Change;
 use crate::lists::is_in;
-use crate::removal::{is_of_named, others};
+use crate::removal::others;
 use crate::seats::unseat;
+use crate::tour::Tour;
 use plan_audit::{passes_are_local, plans_are_local, tests_say_feasible};
 use plan_types::{
     OutOfMemory, Pins, Problem, Request, requests_are_found_by_stop, requests_stand_by_name,
@@ -36,34 +37,36 @@ impl Draft {
             self.old self.new) }
     {
         match self.removing(problem, pins, names)? {
-            Some(changes) => {
-                self.take_out(problem, pins, names, &changes)?;
+            Some(tours) => {
+                self.take_out(problem, pins, names, tours)?;
                 Ok(true)
             }
             None => Ok(false),
         }
     }
 
-    // Gives some vehicles the routes without these requests.
+    // Gives some vehicles the tours without these requests.
     fn take_out(
         &mut self,
         problem: &Problem,
         pins: &Pins,
         names: &[u32],
-        changes: &[Change],
+        tours: Vec<(u32, Tour)>,
     ) -> Result<(), OutOfMemory>
         requires is { IsDraftOf problem.now pins.now.routes self.old }
-        requires change { IsChange problem.now pins.now.routes (draft_of self.old) changes.now
+        requires courses { AreCourses problem.now tours.items }
+        requires change { IsChange problem.now pins.now.routes
+            (draft_of self.old) (changes_of tours.items)
             (self.old.cost.unplanned + distinct_count names.now) }
-        requires names { with_routes (draft_of self.old) changes.now
+        requires names { with_routes (draft_of self.old) (changes_of tours.items)
             ≡ without_named problem.now names.now (draft_of self.old) }
         ensures is { OnOk result (IsDraftOf problem.now pins.now.routes self.new) }
         ensures base { OnOk result (base_of self.new ≡ base_of self.old) }
         ensures draft { OnOk result (draft_of self.new
-            ≡ with_routes (draft_of self.old) changes.now) }
+            ≡ with_routes (draft_of self.old) (changes_of tours.items)) }
     {
         let unplanned = self.cost.unplanned + distinct_count(names);
-        self.install(problem, pins, changes, unplanned)?;
+        self.install(problem, pins, tours, unplanned)?;
         self.clear_named(problem, names);
         Ok(())
     }
@@ -74,53 +77,50 @@ impl Draft {
             → has_stop (draft_of self.old) n ≡ false }
         ensures { self.new ≡ self.old }
     {
+        requests_are_found_by_stop();
         for name in names {
-            self.clear_request(problem, names, *name);
-        }
-    }
-
-    fn clear_request(&mut self, problem: &Problem, names: &[u32], name: u32)
-        requires { (n : ℕ) → is_of_named problem.now names.now n ≡ true
-            → has_stop (draft_of self.old) n ≡ false }
-        ensures { self.new ≡ self.old }
-    {
-        match problem.requests.get(&name) {
-            Some(Request::Single(stop)) => self.clear(problem, names, stop.number),
-            Some(Request::Pair(pickup, delivery)) => {
-                self.clear(problem, names, pickup.number);
-                self.clear(problem, names, delivery.number);
+            if let Some(request) = problem.requests.get(name) {
+                self.clear_request(request);
             }
-            None => {}
         }
     }
 
-    fn clear(&mut self, problem: &Problem, names: &[u32], stop: u32)
-        requires { (n : ℕ) → is_of_named problem.now names.now n ≡ true
+    fn clear_request(&mut self, request: &Request)
+        requires { (n : ℕ) → IsSome (stop_in n request.now)
             → has_stop (draft_of self.old) n ≡ false }
         ensures { self.new ≡ self.old }
     {
-        if is_of_named(problem, names, stop) {
-            unseat(&mut self.seats, stop);
+        match request {
+            Request::Single(stop) => self.clear(stop.number),
+            Request::Pair(pickup, delivery) => {
+                self.clear(pickup.number);
+                self.clear(delivery.number);
+            }
         }
     }
 
-    // The routes without these requests, where the plan with them passes. Their pairs stay whole, since a request's stops leave together.
+    fn clear(&mut self, stop: u32)
+        requires { has_stop (draft_of self.old) stop ≡ false }
+        ensures { self.new ≡ self.old }
+    {
+        unseat(&mut self.seats, stop);
+    }
+
+    // The tours without these requests, where the plan with them passes. Its pairs are whole, since a request's stops leave together. Routes
+    // are judged as their tables are made, since hardly any removal breaks a limit.
     fn removing(
-        &self,
+        &mut self,
         problem: &Problem,
         pins: &Pins,
         names: &[u32],
-    ) -> Result<Option<Vec<Change>>, OutOfMemory>
-        requires { IsDraftOf problem.now pins.now.routes self.now }
+    ) -> Result<Option<Vec<(u32, Tour)>>, OutOfMemory>
+        requires { IsDraftOf problem.now pins.now.routes self.old }
         ensures routes { IfOk result
-            (λ o. option_map (λ cs. with_routes (draft_of self.now) cs.items) o
-            ≡ removed problem.now pins.now.routes (draft_of self.now) names.now) }
-        ensures named { IfOk result (λ o. IfSome o
-            (λ cs. with_routes (draft_of self.now) cs.items
-            ≡ without_named problem.now names.now (draft_of self.now))) }
-        ensures change { IfOk result
-            (λ o. IfSome o (λ cs. IsChange problem.now pins.now.routes (draft_of self.now) cs.items
-            (self.now.cost.unplanned + distinct_count names.now))) }
+            (λ o. option_map (λ ts. with_routes (draft_of self.old) (changes_of ts.items)) o
+            ≡ removed problem.now pins.now.routes (draft_of self.old) names.now) }
+        ensures tours { IfOk result (λ o. IfSome o (λ ts. IsRemoval problem.now pins.now.routes
+            (draft_of self.old) names.now self.old.cost.unplanned ts.items)) }
+        ensures same { OnOk result (self.new ≡ self.old) }
     {
         passes_are_local();
         plans_are_local();
@@ -132,10 +132,7 @@ impl Draft {
         }
         let vehicles = self.vehicles_of(problem, names)?;
         let changes = self.removals(problem, names, &vehicles)?;
-        if !keep_all_limits(problem, &self.tours, &changes) {
-            return Ok(None);
-        }
-        Ok(Some(changes))
+        self.feasible_tours(problem, &changes)
     }
 
     // The routes of these vehicles without the stops of the named requests.
@@ -172,7 +169,7 @@ impl Draft {
         ensures found { IfOk result (λ vehicles. AreVehiclesOf (draft_of self.now)
             (λ n. is_of_named problem.now names.now n ≡ true) vehicles.items) }
     {
-        let mut vehicles = Vec::new(*self.tours.allocator());
+        let mut vehicles = Vec::with_capacity(*self.tours.allocator(), names.len())?;
         for name in names {
             self.note_named(problem, *name, &mut vehicles)?;
         }

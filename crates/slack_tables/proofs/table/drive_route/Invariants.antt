@@ -1,4 +1,4 @@
-use Rattle.std.proofs.Common.{◌≡◌, ◌+◌, ◌≤◌, length}
+use Rattle.std.proofs.Common.{◌≡◌, ◌+◌, length}
 use Rattle.route_sched.specs.Route.{place}
 use Rattle.slack_tables.specs.Opened.{IsWithin, AreOpenTo}
 use Rattle.slack_tables.specs.Places.{IsAt}

@@ -5,7 +5,7 @@ use Rattle.move_ops.proofs.draft.Draft.drop_draft.Goals as goal
 
 pub returns-clause-is : goal.returns-clause-is
 returns-clause-is c =
-    let new = c.self.inside in
+    let new = c.self-2.inside in
     let none : length new.log.items ≡ 0 = search rules in
     let back : undone new.tours.items new.log.items ≡ undone c.args.self.now.tours c.args.self.now.log = search rules in
     let base_cost : new.base_cost ≡ c.args.self.now.base_cost = search rules in

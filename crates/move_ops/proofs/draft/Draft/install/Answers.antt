@@ -1,10 +1,15 @@
-use Rattle.std.proofs.Common.{rules, ◌≡◌, ℕ, List, true, sym, ap, subst, ◌∙◌}
+use Rattle.std.proofs.Common.{rules, ◌≡◌, ◌≤◌, ℕ, List, length, true, sym, ap, subst, ◌∙◌}
+use Rattle.std.specs.List.{AllByRecursion}
+use Rattle.std.proofs.lemmas.List.{length-map}
+use Rattle.std.proofs.lemmas.List.Elements.{recursion_from_All}
+use Rattle.move_ops.specs.declared.changes.Change.{Change}
+use Rattle.move_ops.proofs.Touring.{within_from}
 use Rattle.route_sched.specs.Cost.{cost_of, unplanned_count, vehicle_count, total_length}
 use Rattle.plan_types.specs.declared.plans.Cost.{Cost}
 use Rattle.plan_types.specs.declared.requests.Kind.{Kind}
 use Rattle.plan_audit.specs.Passes.{passes}
-use Rattle.slack_tables.specs.Course.{Course}
-use Rattle.move_ops.specs.Changes.{with_routes}
+use Rattle.slack_tables.specs.Course.{Course, route_of}
+use Rattle.move_ops.specs.Changes.{changes_of, with_routes}
 use Rattle.move_ops.specs.Tables.{plan_of, AreTablesIn}
 use Rattle.move_ops.specs.Drafts.{undone, draft_of}
 use Rattle.move_ops.proofs.Costs.{same_cost}
@@ -12,15 +17,22 @@ use Rattle.move_ops.proofs.Counting.{plan_small}
 use Rattle.move_ops.proofs.Drafting.{changed}
 use Rattle.move_ops.proofs.draft.Draft.install.Goals as goal
 
-pub set_routes-requires-clause-small : goal.set_routes-requires-clause-small
-set_routes-requires-clause-small c =
-    plan_small c.numbers_are_below_the_next.ensures.stops c.passes_are_local.ensures c.args.problem.now c.requires.is.valid c.args.pins.now.routes (with_routes (draft_of c.args.self.now) c.args.changes.now) c.requires.change.passes
+pub set_tours-requires-clause-small : goal.set_tours-requires-clause-small
+set_tours-requires-clause-small c =
+    plan_small c.numbers_are_below_the_next.ensures.stops c.passes_are_local.ensures c.args.problem.now c.requires.is.valid c.args.pins.now.routes (with_routes (draft_of c.args.self.now) (changes_of c.args.tours.items)) c.requires.change.passes
+
+pub set_tours-requires-clause-within : goal.set_tours-requires-clause-within
+set_tours-requires-clause-within c =
+    let d = c.args.self.now in
+    within_from (length d.tours) c.args.tours.items
+    (subst (λ n. AllByRecursion (λ (x : Change). (1 ≤ x.vehicle) × (x.vehicle ≤ n)) (changes_of c.args.tours.items)) (length-map d.tours route_of)
+    (recursion_from_All (λ (x : Change). (1 ≤ x.vehicle) × (x.vehicle ≤ length (draft_of d))) (changes_of c.args.tours.items) c.requires.change.within))
 
 pub returns-clause-is : goal.returns-clause-is
 returns-clause-is c =
     let p = c.args.problem.now in
     let new = c.self.inside in
-    let plan : plan_of new.tours.items ≡ with_routes (draft_of c.args.self.now) c.args.changes.now = search rules in
+    let plan : plan_of new.tours.items ≡ with_routes (draft_of c.args.self.now) (changes_of c.args.tours.items) = search rules in
     let tables : AreTablesIn p new.tours.items = search rules in
     let back : undone new.tours.items new.log.items ≡ undone c.args.self.now.tours c.args.self.now.log = search rules in
     let cost : Cost = record { unplanned = c.args.unplanned; vehicles = c.vehicle_count.result; distance = c.in_ok-distance.distance } in

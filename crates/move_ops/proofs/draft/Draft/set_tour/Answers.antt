@@ -1,13 +1,29 @@
-use Rattle.std.proofs.Common.{rules, ◌≡◌, ◌≤◌, ◌-◌, ◌++◌, ◌∷◌, [], ℕ, List, length, set, slice_get, ◌∙◌, sym, ap, subst, arith}
+use Rattle.std.proofs.Common.{rules, ◌≡◌, ◌≤◌, ◌-◌, ◌++◌, ◌∷◌, [], ℕ, List, true, false, length, set, slice_get, ◌∙◌, sym, ap, subst}
+use Rattle.std.specs.Option.{is_none, is_some}
 use Rattle.std.specs.Vec.{with_items}
-use Rattle.std.proofs.lemmas.List.{length-set, with_items_is}
+use Rattle.std.proofs.lemmas.List.{with_items_is}
 use Rattle.slack_tables.specs.Course.{Course}
 use Rattle.plan_audit.specs.Passes.{has}
-use Rattle.move_ops.specs.Tables.{plan_of}
-use Rattle.move_ops.specs.Kept.{AreSeats}
+use Rattle.move_ops.specs.Drafts.{undone}
+use Rattle.move_ops.specs.Logged.{is_logged, AreOnce}
 use Rattle.move_ops.specs.Refreshing.{AreWithin}
-use Rattle.move_ops.proofs.Drafting.{seats_with, within_more, front_with, undone_with}
+use Rattle.move_ops.proofs.Drafting.{within_more, undone_with}
+use Rattle.move_ops.proofs.Logging.{kept_with, logged, not_logged, once_more, undone_same}
 use Rattle.move_ops.proofs.draft.Draft.set_tour.Goals as goal
+
+pub invariant_of-self-in_err-push : goal.invariant_of-self-in_err-push
+invariant_of-self-in_err-push c =
+    let old = c.self.inside in
+    let seat_len : length old.seats.items ≡ old.seats.len = search rules in
+    let seated : c.deref_mut.result.now ≡ old.seats.items = search rules in
+    let new : c.swap-old.new.tours.items ≡ set old.tours.items (c.args.vehicle - 1) c.args.tour = search rules in
+    let held : (with_items old.seats c.seat.new.seats).items ≡ c.seat.new.seats = with_items_is old.seats c.seat.new.seats (c.seat.ensures.len ∙ (ap length seated ∙ seat_len)) in
+    let within : c.args.vehicle ≤ length old.tours.items = search rules in
+    let front = c.front_with-self-inside.ensures in
+    let log : c.push.new.self.items ≡ old.log.items = search rules in
+    kept_with old _ c.args.vehicle c.args.tour c.seat.new.seats c.self.invariant new held (λ n at. ap (λ l. has l n) (sym c.stops.ensures) ∙ c.seat.ensures.stops n at)
+    (λ n at. ap (λ l. slice_get l n) (sym seated) ∙ c.seat.ensures.others n at) c.requires.from_one within front.front front.vehicle front.least
+    (subst (λ (l : List (ℕ × Course)). AreWithin (length old.tours.items) l) (sym log) c.self.invariant.within) (subst AreOnce (sym log) c.self.invariant.once)
 
 pub invariant_of-self : goal.invariant_of-self
 invariant_of-self c =
@@ -17,35 +33,40 @@ invariant_of-self c =
     let new : c.swap-old.new.tours.items ≡ set old.tours.items (c.args.vehicle - 1) c.args.tour = search rules in
     let held : (with_items old.seats c.seat.new.seats).items ≡ c.seat.new.seats = with_items_is old.seats c.seat.new.seats (c.seat.ensures.len ∙ (ap length seated ∙ seat_len)) in
     let within : c.args.vehicle ≤ length old.tours.items = search rules in
-    let log : c.push.new.self.items ≡ old.log.items = search rules in
-    record {
-      seats = subst (λ (l : List ℕ). AreSeats l (plan_of c.swap-old.new.tours.items)) (sym held) (subst (λ (l : List Course). AreSeats c.seat.new.seats (plan_of l)) (sym new)
-          (seats_with old.seats.items c.seat.new.seats old.tours.items (c.args.vehicle - 1) c.args.tour c.self.invariant.seats (λ n at. ap (λ l. has l n) (sym c.stops.ensures) ∙ c.seat.ensures.stops n at) (λ n at. ap (λ l. slice_get l n) (sym seated) ∙ c.seat.ensures.others n at)));
-      within = subst (λ (k : ℕ). AreWithin k c.push.new.self.items) (sym (ap length new ∙ length-set old.tours.items (c.args.vehicle - 1) c.args.tour))
-          (subst (λ (l : List (ℕ × Course)). AreWithin (length old.tours.items) l) (sym log) c.self.invariant.within);
-      front = (let long = ap length new ∙ length-set old.tours.items (c.args.vehicle - 1) c.args.tour in let least = c.front_with-self-inside.ensures.least (length old.tours.items) c.self.invariant.front within in omega arith);
-      idle = front_with old.tours.items c.swap-old.new.tours.items c.args.vehicle c.args.tour old.front c.front_with-self-inside.result new c.requires.from_one c.self.invariant.idle c.front_with-self-inside.ensures.front c.front_with-self-inside.ensures.vehicle;
-    }
+    let front = c.front_with-self-inside.ensures in
+    let first : is_none c.entry_of.result ≡ true = search rules in
+    let view : c.self.inside.log.items ≡ c.args.self.now.log = search rules in
+    let none : is_logged old.log.items c.args.vehicle ≡ false = ap (λ (l : List (ℕ × Course)). is_logged l c.args.vehicle) view ∙ not_logged c.entry_of.result c.args.self.now.log c.args.vehicle c.entry_of.ensures first in
+    let log : c.push.new.self.items ≡ old.log.items ++ (c.args.vehicle, c.swap-old.result) ∷ [] = search rules in
+    kept_with old _ c.args.vehicle c.args.tour c.seat.new.seats c.self.invariant new held (λ n at. ap (λ l. has l n) (sym c.stops.ensures) ∙ c.seat.ensures.stops n at)
+    (λ n at. ap (λ l. slice_get l n) (sym seated) ∙ c.seat.ensures.others n at) c.requires.from_one within front.front front.vehicle front.least
+    (subst (λ (l : List (ℕ × Course)). AreWithin (length old.tours.items) l) (sym log) (within_more (length old.tours.items) old.log.items c.args.vehicle c.swap-old.result c.requires.from_one within c.self.invariant.within))
+    (subst AreOnce (sym log) (once_more old.log.items c.args.vehicle c.swap-old.result none c.self.invariant.once))
 
-pub invariant_of-self-2 : goal.invariant_of-self-2
-invariant_of-self-2 c =
+pub invariant_of-self-else-is_first : goal.invariant_of-self-else-is_first
+invariant_of-self-else-is_first c =
     let old = c.self.inside in
     let seat_len : length old.seats.items ≡ old.seats.len = search rules in
     let seated : c.deref_mut.result.now ≡ old.seats.items = search rules in
     let new : c.swap-old.new.tours.items ≡ set old.tours.items (c.args.vehicle - 1) c.args.tour = search rules in
     let held : (with_items old.seats c.seat.new.seats).items ≡ c.seat.new.seats = with_items_is old.seats c.seat.new.seats (c.seat.ensures.len ∙ (ap length seated ∙ seat_len)) in
     let within : c.args.vehicle ≤ length old.tours.items = search rules in
-    let log : c.push.new.self.items ≡ old.log.items ++ (c.args.vehicle, c.swap-old.result) ∷ [] = search rules in
-    record {
-      seats = subst (λ (l : List ℕ). AreSeats l (plan_of c.swap-old.new.tours.items)) (sym held) (subst (λ (l : List Course). AreSeats c.seat.new.seats (plan_of l)) (sym new)
-          (seats_with old.seats.items c.seat.new.seats old.tours.items (c.args.vehicle - 1) c.args.tour c.self.invariant.seats (λ n at. ap (λ l. has l n) (sym c.stops.ensures) ∙ c.seat.ensures.stops n at) (λ n at. ap (λ l. slice_get l n) (sym seated) ∙ c.seat.ensures.others n at)));
-      within = subst (λ (k : ℕ). AreWithin k c.push.new.self.items) (sym (ap length new ∙ length-set old.tours.items (c.args.vehicle - 1) c.args.tour))
-          (subst (λ (l : List (ℕ × Course)). AreWithin (length old.tours.items) l) (sym log) (within_more (length old.tours.items) old.log.items c.args.vehicle c.swap-old.result c.requires.from_one within c.self.invariant.within));
-      front = (let long = ap length new ∙ length-set old.tours.items (c.args.vehicle - 1) c.args.tour in let least = c.front_with-self-inside.ensures.least (length old.tours.items) c.self.invariant.front within in omega arith);
-      idle = front_with old.tours.items c.swap-old.new.tours.items c.args.vehicle c.args.tour old.front c.front_with-self-inside.result new c.requires.from_one c.self.invariant.idle c.front_with-self-inside.ensures.front c.front_with-self-inside.ensures.vehicle;
-    }
+    let front = c.front_with-self-inside.ensures in
+    kept_with old _ c.args.vehicle c.args.tour c.seat.new.seats c.self.invariant new held (λ n at. ap (λ l. has l n) (sym c.stops.ensures) ∙ c.seat.ensures.stops n at)
+    (λ n at. ap (λ l. slice_get l n) (sym seated) ∙ c.seat.ensures.others n at) c.requires.from_one within front.front front.vehicle front.least
+    c.self.invariant.within c.self.invariant.once
 
-pub returns-clause-base : goal.returns-clause-base
-returns-clause-base c =
+pub returns-in_ok-push-clause-base : goal.returns-in_ok-push-clause-base
+returns-in_ok-push-clause-base c =
     undone_with c.self.inside.tours.items c.swap-old.new.tours.items c.self.inside.log.items c.push.new.self.items c.args.vehicle c.args.tour c.swap-old.result (search rules) (search rules) (search rules)
     ∙ (search rules)
+
+pub returns-else-is_first-clause-base : goal.returns-else-is_first-clause-base
+returns-else-is_first-clause-base c =
+    let old = c.self.inside in
+    let new : c.swap-old.new.tours.items ≡ set old.tours.items (c.args.vehicle - 1) c.args.tour = search rules in
+    let some : is_some c.entry_of.result ≡ true = search rules in
+    let view : c.self.inside.log.items ≡ c.args.self.now.log = search rules in
+    let had : is_logged old.log.items c.args.vehicle ≡ true = ap (λ (l : List (ℕ × Course)). is_logged l c.args.vehicle) view ∙ logged c.entry_of.result c.args.self.now.log c.args.vehicle c.entry_of.ensures some in
+    let all : undone old.tours.items old.log.items ≡ undone c.args.self.now.tours c.args.self.now.log = search rules in
+    ap (λ (l : List Course). undone l old.log.items) new ∙ (undone_same old.tours.items old.log.items c.args.vehicle c.args.tour had ∙ all)

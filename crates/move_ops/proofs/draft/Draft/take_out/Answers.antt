@@ -1,6 +1,6 @@
 use Rattle.std.proofs.Common.{rules, ◌≡◌, ap, ◌∙◌, arith}
 use Rattle.plan_types.specs.declared.plans.Cost.{Cost}
-use Rattle.move_ops.specs.Changes.{with_routes}
+use Rattle.move_ops.specs.Changes.{changes_of, with_routes}
 use Rattle.move_ops.specs.Drafts.{draft_of}
 use Rattle.move_ops.proofs.Drafting.{named_gone}
 use Rattle.move_ops.proofs.Leaving.{few_left_out}
@@ -11,11 +11,11 @@ overflow_add-unplanned c =
     let cost : c.self.inside.cost ≡ c.args.self.now.cost = search rules in
     let held = ap (λ (k : Cost). k.unplanned) cost in
     let e = c.requires.change.unplanned in
-    let f = few_left_out c.args.problem.now c.requires.is.valid (with_routes (draft_of c.args.self.now) c.args.changes.now) in
+    let f = few_left_out c.args.problem.now c.requires.is.valid (with_routes (draft_of c.args.self.now) (changes_of c.args.tours.items)) in
     let g = c.distinct_count.ensures.count in
     omega arith
 
 pub clear_named-requires : goal.clear_named-requires
 clear_named-requires c =
-    let plan : draft_of c.install.new.self ≡ with_routes (draft_of c.args.self.now) c.args.changes.now = search rules in
+    let plan : draft_of c.install.new.self ≡ with_routes (draft_of c.args.self.now) (changes_of c.args.tours.items) = search rules in
     named_gone c.args.problem.now c.args.names.now (draft_of c.args.self.now) (draft_of c.install.new.self) (plan ∙ c.requires.names)

@@ -1,0 +1,171 @@
+-- The log of a draft, in which no vehicle stands twice.
+use Rattle.std.proofs.Common.{◌≡◌, ℕ, zero, suc, ◌+◌, ◌-◌, ◌<◌, ◌≤◌, ◌||◌, Bool, true, false, eqb, List, [], ◌∷◌, ◌++◌, length, drop, set, get_or, Option, None, Some, slice_get, refl, sym, ap, subst, ◌∙◌, inl, inr, arith}
+use Rattle.std.specs.Prelude.{MatchOption}
+use Rattle.std.specs.List.{remove}
+use Rattle.std.specs.Option.{is_none, is_some}
+use Rattle.std.proofs.lemmas.Bool.{or_cases}
+use Rattle.std.proofs.lemmas.Bool.Decides.{eqb_tells}
+use Rattle.std.proofs.lemmas.List.{drop_more, length-set}
+use Rattle.plan_audit.specs.Passes.{has}
+use Rattle.slack_tables.specs.Course.{Course, course_of, route_of}
+use Rattle.move_ops.specs.declared.draft.Draft.TheInside.{Inside}
+use Rattle.move_ops.specs.Drafts.{undone}
+use Rattle.move_ops.specs.Kept.{AreSeats, IsKept}
+use Rattle.move_ops.specs.Logged.{is_logged, AreOnce, IsEntry}
+use Rattle.move_ops.specs.Tables.{plan_of}
+use Rattle.move_ops.specs.Refreshing.{AreWithin}
+use Rattle.move_ops.proofs.Drafting.{base_first, base_later, front_with, seats_with}
+use Rattle.move_ops.proofs.Times.{none_some, some_same}
+
+-- ---- places of a list that are set
+set_twice : {X : Type 0} (xs : List X) (k : ℕ) (x y : X) → set (set xs k x) k y ≡ set xs k y
+set_twice [] k x y = refl
+set_twice (z ∷ xs) zero x y = refl
+set_twice (z ∷ xs) (suc k) x y = ap (λ l. z ∷ l) (set_twice xs k x y)
+
+set_apart : {X : Type 0} (xs : List X) (k j : ℕ) (x y : X) → (j ≡ k → ⊥) → set (set xs j y) k x ≡ set (set xs k x) j y
+set_apart [] k j x y apart = refl
+set_apart (z ∷ xs) zero zero x y apart = absurd (apart refl)
+set_apart (z ∷ xs) zero (suc j) x y apart = refl
+set_apart (z ∷ xs) (suc k) zero x y apart = refl
+set_apart (z ∷ xs) (suc k) (suc j) x y apart = ap (λ l. z ∷ l) (set_apart xs k j x y (λ same. apart (ap suc same)))
+
+-- ---- a vehicle that the log has
+set_over : (tours : List Course) (log : List (ℕ × Course)) (k : ℕ) (c x : Course) → set (undone (set tours k c) log) k x ≡ set (undone tours log) k x
+set_over tours [] k c x = set_twice tours k c x
+set_over tours (e ∷ log) k c x = elim (eqb_tells (e.0 - 1) k) [
+  | inl t ↦ (
+      let same : set (undone (set tours k c) (e ∷ log)) k x ≡ set (undone (set tours k c) log) k x =
+      ap (λ j. set (set (undone (set tours k c) log) j e.1) k x) (t.1) ∙ set_twice (undone (set tours k c) log) k e.1 x in
+      let there : set (undone tours (e ∷ log)) k x ≡ set (undone tours log) k x = ap (λ j. set (set (undone tours log) j e.1) k x) (t.1) ∙ set_twice (undone tours log) k e.1 x in
+      same ∙ (set_over tours log k c x ∙ sym there))
+  | inr t ↦
+      set_apart (undone (set tours k c) log) k (e.0 - 1) x e.1 (t.1)
+      ∙ (ap (λ l. set l (e.0 - 1) e.1) (set_over tours log k c x) ∙ sym (set_apart (undone tours log) k (e.0 - 1) x e.1 (t.1)))
+]
+
+-- another tour of it changes nothing in the base
+pub undone_same : (tours : List Course) (log : List (ℕ × Course)) (v : ℕ) (c : Course) → is_logged log v ≡ true → undone (set tours (v - 1) c) log ≡ undone tours log
+undone_same tours [] v c had = absurd (let h : false ≡ true = had in cc)
+undone_same tours (e ∷ log) v c had = elim (or_cases (eqb e.0 v) (is_logged log v) had) [
+  | inl here ↦ (
+      let is : e.0 ≡ v = elim (eqb_tells e.0 v) [ inl t ↦ t.1 | inr t ↦ absurd (let k : true ≡ false = sym here ∙ t.0 in cc) ] in
+      subst (λ (u : ℕ). set (undone (set tours (u - 1) c) log) (e.0 - 1) e.1 ≡ set (undone tours log) (e.0 - 1) e.1) is (set_over tours log (e.0 - 1) c e.1))
+  | inr later ↦ ap (λ l. set l (e.0 - 1) e.1) (undone_same tours log v c later)
+]
+
+or_none : (a b : Bool) → (a || b) ≡ false → (a ≡ false) × (b ≡ false)
+or_none true b h = absurd (let k : true ≡ false = h in cc)
+or_none false b h = (refl, h)
+
+both_none : (a b : Bool) → a ≡ false → b ≡ false → (a || b) ≡ false
+both_none a b h k = rw (h, k) refl
+
+-- a vehicle that it does not have is set below
+set_below : (tours : List Course) (log : List (ℕ × Course)) (n v : ℕ) (c : Course) → 1 ≤ v → AreWithin n log → is_logged log v ≡ false → undone (set tours (v - 1) c) log ≡ set (undone tours log) (v - 1) c
+set_below tours [] n v c from all none = refl
+set_below tours (e ∷ log) n v c from all none =
+    let parts = or_none (eqb e.0 v) (is_logged log v) none in
+    let low = all.0.0 in
+    let apart : e.0 ≡ v → ⊥ = λ same. elim (eqb_tells e.0 v) [ inl t ↦ absurd (let k : true ≡ false = sym (t.0) ∙ parts.0 in cc) | inr t ↦ t.1 same ] in
+    ap (λ l. set l (e.0 - 1) e.1) (set_below tours log n v c from all.1 parts.1)
+    ∙ sym (set_apart (undone tours log) (v - 1) (e.0 - 1) c e.1 (λ same. apart (omega arith)))
+
+-- ---- one entry less
+pub undone_without : (tours : List Course) (log : List (ℕ × Course)) (n k : ℕ) (e : ℕ × Course) → slice_get log k ≡ Some e → AreWithin n log → AreOnce log → undone (set tours (e.0 - 1) e.1) (remove log k) ≡ undone tours log
+undone_without tours [] n k e at all once = absurd (none_some e at)
+undone_without tours (x ∷ log) n zero e at all once =
+    let is : x ≡ e = some_same x e at in
+    subst (λ (y : ℕ × Course). undone (set tours (y.0 - 1) y.1) log ≡ set (undone tours log) (x.0 - 1) x.1) is (set_below tours log n x.0 x.1 all.0.0 all.1 once.0)
+undone_without tours (x ∷ log) n (suc k) e at all once = ap (λ l. set l (x.0 - 1) x.1) (undone_without tours log n k e at all.1 once.1)
+
+pub within_without : (n : ℕ) (log : List (ℕ × Course)) (k : ℕ) (e : ℕ × Course) → slice_get log k ≡ Some e → AreWithin n log → AreWithin n (remove log k) × ((1 ≤ e.0) × (e.0 ≤ n))
+within_without n [] k e at all = absurd (none_some e at)
+within_without n (x ∷ log) zero e at all = (all.1, subst (λ (y : ℕ × Course). (1 ≤ y.0) × (y.0 ≤ n)) (some_same x e at) all.0)
+within_without n (x ∷ log) (suc k) e at all = let rest = within_without n log k e at all.1 in ((all.0, rest.0), rest.1)
+
+logged_without : (log : List (ℕ × Course)) (k v : ℕ) → is_logged log v ≡ false → is_logged (remove log k) v ≡ false
+logged_without [] zero v none = none
+logged_without [] (suc k) v none = none
+logged_without (x ∷ log) zero v none = (or_none (eqb x.0 v) (is_logged log v) none).1
+logged_without (x ∷ log) (suc k) v none = let parts = or_none (eqb x.0 v) (is_logged log v) none in both_none (eqb x.0 v) (is_logged (remove log k) v) parts.0 (logged_without log k v parts.1)
+
+pub once_without : (log : List (ℕ × Course)) (k : ℕ) → AreOnce log → AreOnce (remove log k)
+once_without [] zero once = tt
+once_without [] (suc k) once = tt
+once_without (x ∷ log) zero once = once.1
+once_without (x ∷ log) (suc k) once = (logged_without log k x.0 once.0, once_without log k once.1)
+
+-- ---- the newest entry
+logged_more : (log : List (ℕ × Course)) (v : ℕ) (c : Course) (u : ℕ) → is_logged log u ≡ false → (v ≡ u → ⊥) → is_logged (log ++ (v, c) ∷ []) u ≡ false
+logged_more [] v c u none apart = both_none (eqb v u) false (elim (eqb_tells v u) [ inl t ↦ absurd (apart (t.1)) | inr t ↦ t.0 ]) refl
+logged_more (x ∷ log) v c u none apart = let parts = or_none (eqb x.0 u) (is_logged log u) none in both_none (eqb x.0 u) (is_logged (log ++ (v, c) ∷ []) u) parts.0 (logged_more log v c u parts.1 apart)
+
+pub once_more : (log : List (ℕ × Course)) (v : ℕ) (c : Course) → is_logged log v ≡ false → AreOnce log → AreOnce (log ++ (v, c) ∷ [])
+once_more [] v c none once = (refl, tt)
+once_more (x ∷ log) v c none once =
+    let parts = or_none (eqb x.0 v) (is_logged log v) none in
+    let apart : v ≡ x.0 → ⊥ = λ same. elim (eqb_tells x.0 v) [ inl t ↦ absurd (let k : true ≡ false = sym (t.0) ∙ parts.0 in cc) | inr t ↦ t.1 (sym same) ] in
+    (logged_more log v c x.0 once.0 apart, once_more log v c parts.1 once.1)
+
+logged_front : (log : List (ℕ × Course)) (e : ℕ × Course) (u : ℕ) → is_logged (log ++ e ∷ []) u ≡ false → is_logged log u ≡ false
+logged_front [] e u none = refl
+logged_front (x ∷ log) e u none = let parts = or_none (eqb x.0 u) (is_logged (log ++ e ∷ []) u) none in both_none (eqb x.0 u) (is_logged log u) parts.0 (logged_front log e u parts.1)
+
+pub once_front : (log : List (ℕ × Course)) (e : ℕ × Course) → AreOnce (log ++ e ∷ []) → AreOnce log
+once_front [] e once = tt
+once_front (x ∷ log) e once = (logged_front log e x.0 once.0, once_front log e once.1)
+
+-- ---- what a vehicle had in the base
+has_at : (log : List (ℕ × Course)) (k : ℕ) (e : ℕ × Course) → slice_get log k ≡ Some e → is_logged log e.0 ≡ true
+has_at [] k e at = absurd (none_some e at)
+has_at (x ∷ log) zero e at = subst (λ (y : ℕ × Course). is_logged (x ∷ log) y.0 ≡ true) (some_same x e at) (here x.0 (is_logged log x.0))
+  where
+    here : (v : ℕ) (b : Bool) → (eqb v v || b) ≡ true
+    here v b = elim (eqb_tells v v) [ inl t ↦ rw (t.0) refl | inr t ↦ absurd (t.1 refl) ]
+has_at (x ∷ log) (suc k) e at = or_true (eqb x.0 e.0) (is_logged log e.0) (has_at log k e at)
+  where
+    or_true : (a b : Bool) → b ≡ true → (a || b) ≡ true
+    or_true true b h = refl
+    or_true false b h = h
+
+pub base_at : (tours : List Course) (log : List (ℕ × Course)) (n k : ℕ) (e : ℕ × Course) → slice_get log k ≡ Some e → AreWithin n log → AreOnce log → e.0 ≤ length tours → slice_get (undone tours log) (e.0 - 1) ≡ Some e.1
+base_at tours [] n k e at all once within = absurd (none_some e at)
+base_at tours (x ∷ log) n zero e at all once within =
+    let is : x ≡ e = some_same x e at in
+    let low = (subst (λ (y : ℕ × Course). 1 ≤ y.0) is all.0.0) in
+    subst (λ (y : ℕ × Course). slice_get (undone tours (x ∷ log)) (e.0 - 1) ≡ Some y.1) is (base_first tours x log e.0 low within (ap (λ (y : ℕ × Course). y.0) is))
+base_at tours (x ∷ log) n (suc k) e at all once within =
+    let low = (within_without n log k e at all.1).1.0 in
+    let apart : x.0 ≡ e.0 → ⊥ = λ same. absurd (let h : false ≡ true = sym (once.0) ∙ subst (λ v. is_logged log v ≡ true) (sym same) (has_at log k e at) in cc) in
+    base_later tours x log e.0 low all.0.0 apart ∙ base_at tours log n k e at all.1 once.1 within
+
+-- ---- looked for entry by entry
+pub logged_later : (log : List (ℕ × Course)) (k v : ℕ) (x : ℕ × Course) → x ≡ get_or log k x → k < length log → (x.0 ≡ v → ⊥) → is_logged (drop (k + 1) log) v ≡ is_logged (drop k log) v
+logged_later log k v x at below apart =
+    let other : eqb x.0 v ≡ false = elim (eqb_tells x.0 v) [ inl t ↦ absurd (apart (t.1)) | inr t ↦ t.0 ] in
+    sym (ap (λ l. is_logged l v) (drop_more log k x below ∙ ap (λ (y : ℕ × Course). y ∷ drop (k + 1) log) (sym at)) ∙ ap (λ b. b || is_logged (drop (k + 1) log) v) other)
+
+pub not_logged : (o : Option ℕ) (log : List (ℕ × Course)) (v : ℕ) → MatchOption o (is_logged log v ≡ false) (λ k. IsEntry log v k) → is_none o ≡ true → is_logged log v ≡ false
+not_logged None log v told none = told
+not_logged (Some k) log v told none = absurd (let h : false ≡ true = none in cc)
+
+pub logged : (o : Option ℕ) (log : List (ℕ × Course)) (v : ℕ) → MatchOption o (is_logged log v ≡ false) (λ k. IsEntry log v k) → is_some o ≡ true → is_logged log v ≡ true
+logged None log v told some = absurd (let h : false ≡ true = some in cc)
+logged (Some k) log v told some = has_at log k (v, told.0) told.1
+
+-- ---- what a draft keeps where a vehicle gets another tour
+pub kept_with : (old new : Inside) (v : ℕ) (tour : Course) (seats : List ℕ) → IsKept old → new.tours.items ≡ set old.tours.items (v - 1) tour → new.seats.items ≡ seats
+    → ((n : ℕ) → slice_get seats n ≡ Some 0 → has (route_of tour) n ≡ false) → ((n : ℕ) → slice_get seats n ≡ Some 0 → slice_get old.seats.items n ≡ Some 0)
+    → 1 ≤ v → v ≤ length old.tours.items → old.front ≤ new.front → v ≤ new.front → ((k : ℕ) → old.front ≤ k → v ≤ k → new.front ≤ k)
+    → AreWithin (length old.tours.items) new.log.items → AreOnce new.log.items → IsKept new
+kept_with old new v tour seats kept is_tours is_seats out others from within low high least logs once =
+    let long = ap length is_tours ∙ length-set old.tours.items (v - 1) tour in
+    record {
+      seats = subst (λ (l : List ℕ). AreSeats l (plan_of new.tours.items)) (sym is_seats)
+          (subst (λ (l : List Course). AreSeats seats (plan_of l)) (sym is_tours) (seats_with old.seats.items seats old.tours.items (v - 1) tour kept.seats out others));
+      within = subst (λ (k : ℕ). AreWithin k new.log.items) (sym long) logs;
+      once = once;
+      front = (let most = least (length old.tours.items) kept.front within in omega arith);
+      idle = front_with old.tours.items new.tours.items v tour old.front new.front is_tours from kept.idle low high;
+    }

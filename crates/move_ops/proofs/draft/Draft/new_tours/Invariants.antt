@@ -1,0 +1,10 @@
+use Rattle.std.proofs.Common.{◌≡◌}
+use Rattle.move_ops.proofs.Touring.{AreToursTo}
+use Rattle.move_ops.proofs.draft.Draft.new_tours.Given as goal
+
+-- the tours so far
+abbrev pub invariant-loop-change : goal.invariant-loop-change
+invariant-loop-change l = record {
+  tours : AreToursTo l.problem l.changes l.change-index l.tours.items;
+  same : l.self ≡ l.fn.self;
+}
