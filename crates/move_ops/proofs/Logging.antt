@@ -7,7 +7,7 @@ use Rattle.std.proofs.lemmas.Bool.{or_cases}
 use Rattle.std.proofs.lemmas.Bool.Decides.{eqb_tells}
 use Rattle.std.proofs.lemmas.List.{drop_more, length-set}
 use Rattle.plan_audit.specs.Passes.{has}
-use Rattle.slack_tables.specs.Course.{Course, course_of, route_of}
+use Rattle.slack_tables.specs.Course.{Course, route_of}
 use Rattle.move_ops.specs.declared.draft.Draft.TheInside.{Inside}
 use Rattle.move_ops.specs.Drafts.{undone}
 use Rattle.move_ops.specs.Kept.{AreSeats, IsKept}

@@ -1,5 +1,5 @@
 -- Seats that are given tour after tour.
-use Rattle.std.proofs.Common.{◌≡◌, ◌∙◌, ℕ, ◌+◌, ◌<◌, ◌||◌, false, Some, List, [], drop, get_or, length, slice_get, sym, ap, subst, refl}
+use Rattle.std.proofs.Common.{◌≡◌, ◌∙◌, ℕ, ◌+◌, ◌<◌, ◌||◌, false, Some, List, [], drop, get_or, length, slice_get, sym, ap, subst}
 use Rattle.plan_audit.specs.Passes.{has}
 use Rattle.route_sched.specs.Cost.{has_stop}
 use Rattle.move_ops.specs.Kept.{AreSeats}

@@ -52,6 +52,10 @@ pub all_more : (test : Change → Bool) (cs : List Change) (k : ℕ) (x : Change
 all_more test cs k x at below t =
     sym (ap (list_all test) (drop_more cs k x below ∙ ap (λ (y : Change). y ∷ drop (k + 1) cs) (sym at)) ∙ ap (λ b. b && list_all test (drop (k + 1) cs)) t)
 
+pub all_broken : (test : Change → Bool) (cs : List Change) (k : ℕ) (x : Change) → x ≡ get_or cs k x → k < length cs → test x ≡ false → list_all test (drop k cs) ≡ false
+all_broken test cs k x at below f =
+    ap (list_all test) (drop_more cs k x below ∙ ap (λ (y : Change). y ∷ drop (k + 1) cs) (sym at)) ∙ ap (λ b. b && list_all test (drop (k + 1) cs)) f
+
 -- one tour more in its place
 pub routes_with : (tours new : List Course) (v : ℕ) (t : Course) (rest : List (ℕ × Course)) → new ≡ set tours (v - 1) t → with_routes (plan_of new) (changes_of rest) ≡ with_routes (plan_of tours) (changes_of ((v, t) ∷ rest))
 routes_with tours new v t rest is = ap (λ (l : List (List ℕ)). with_routes l (changes_of rest)) (ap plan_of is ∙ plan_with tours (v - 1) t)

@@ -1,5 +1,5 @@
 -- Routes of a plan that others take the place of.
-use Rattle.std.specs.Prelude.{◌≡◌, ℕ, ◌+◌, ◌==◌, not, ◌≤◌, if◌then◌else◌, true, false, All, List, [], ◌∷◌, length, map, Option, MatchOption}
+use Rattle.std.specs.Prelude.{◌≡◌, ℕ, ◌+◌, ◌==◌, not, ◌≤◌, if◌then◌else◌, true, false, All, List, [], ◌∷◌, length, filter, map, Option, MatchOption}
 use Rattle.std.specs.List.{AllByRecursion}
 use Rattle.plan_types.specs.Instance.{Instance}
 use Rattle.route_sched.specs.Cost.{has_stop, unplanned_count}
@@ -8,7 +8,7 @@ use Rattle.plan_audit.specs.Passes.{has, passes, feasible_alone}
 use Rattle.slack_tables.specs.Course.{Course, course_of, route_of, IsCourseIn}
 use Rattle.slack_tables.specs.Insertion.{KeepsLimits}
 use Rattle.move_ops.specs.Insertion.{with_route, of_vehicle}
-use Rattle.move_ops.specs.Moves.{without_named}
+use Rattle.move_ops.specs.Moves.{is_of_named, without_named}
 use Rattle.move_ops.specs.declared.changes.Change.{Change}
 
 -- how many names there are, one that stands twice counted once
@@ -28,6 +28,10 @@ pub record IsChange (p : Instance) (pins routes : List (List ℕ)) (changes : Li
   pub keeps : All (λ c. KeepsLimits p c.route) changes
   pub passes : passes p pins (with_routes routes changes) ≡ true
   pub unplanned : left ≡ unplanned_count p (with_routes routes changes)
+
+-- the routes of these vehicles without the stops of some requests
+abbrev pub removals : Instance → List ℕ → List (List ℕ) → List ℕ → List Change
+removals p names routes vs = map (λ v. record { vehicle = v; route = filter (λ n. not (is_of_named p names n)) (of_vehicle routes v) }) vs
 
 -- other tours for vehicles, as changes of their routes
 abbrev pub changes_of : List (ℕ × Course) → List Change

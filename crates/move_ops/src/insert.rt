@@ -1,8 +1,8 @@
 //! A request put into a route.
-ghost use Rattle.std.specs.Prelude.{◌≡◌, ◌≤◌, ◌+◌, ◌^◌, true, length, IfOk};
+ghost use Rattle.std.specs.Prelude.{◌≡◌, ◌≤◌, ◌+◌, ◌^◌, true, length, IfOk, OnOk};
 ghost use Rattle.std.specs.Option.{option_map};
 ghost use Rattle.plan_audit.specs.Passes.{passes};
-ghost use Rattle.move_ops.specs.Insertion.{put_at, inserted, are_places, is_place_of, put_in};
+ghost use Rattle.move_ops.specs.Insertion.{inserted, are_places, is_place_of, put_in};
 
 use crate::lists::{is_feasible, is_planned, of_vehicle, with_route};
 use plan_audit::{passes_are_local, tests_say_feasible};
@@ -80,7 +80,7 @@ fn are_places(request: &Request, kept: u64, stops: u64, pickup: u64, delivery: u
 }
 
 // The route with the request put in.
-pub(crate) fn inserted(
+fn inserted(
     alloc: Global,
     request: &Request,
     pickup: u64,
@@ -90,25 +90,31 @@ pub(crate) fn inserted(
     requires { are_places request.now 0 (length route.now) pickup delivery ≡ true }
     ensures { IfOk result (λ new. new ≡ inserted request.now pickup delivery route.now) }
 {
-    match request {
-        Request::Single(stop) => put_at(alloc, route, pickup, stop.number),
-        Request::Pair(first, second) => {
-            let begun = put_at(alloc, route, pickup, first.number)?;
-            put_at(alloc, begun.as_slice(), delivery, second.number)
-        }
-    }
+    let mut new = Vec::new(alloc);
+    put_into(&mut new, request, pickup, delivery, route)?;
+    Ok(Route::from(new))
 }
 
-// The route with one more stop, at this place.
-fn put_at(alloc: Global, route: &[u32], place: u64, stop: u32) -> Result<Route, OutOfMemory>
-    requires from_one { 1 ≤ place }
-    requires within { place ≤ length route.now + 1 }
-    ensures { IfOk result (λ new. new ≡ put_at route.now place stop) }
+/// Makes a list the route with the request put in.
+pub(crate) fn put_into(
+    new: &mut Vec<u32>,
+    request: &Request,
+    pickup: u64,
+    delivery: u64,
+    route: &[u32],
+) -> Result<(), OutOfMemory>
+    requires { are_places request.now 0 (length route.now) pickup delivery ≡ true }
+    ensures { OnOk result (new.new.items ≡ inserted request.now pickup delivery route.now) }
 {
-    let (front, rest) = route.split_at((place - 1) as usize);
-    let mut new = Route::with_capacity(alloc, route.len() + 1)?;
-    new.extend_from_slice(front)?;
-    new.push(stop)?;
-    new.extend_from_slice(rest)?;
-    Ok(new)
+    new.clear();
+    new.reserve(route.len() + 2)?;
+    new.extend_from_slice(route)?;
+    match request {
+        Request::Single(stop) => new.insert((pickup - 1) as usize, stop.number)?,
+        Request::Pair(first, second) => {
+            new.insert((pickup - 1) as usize, first.number)?;
+            new.insert((delivery - 1) as usize, second.number)?;
+        }
+    }
+    Ok(())
 }

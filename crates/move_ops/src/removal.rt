@@ -1,5 +1,5 @@
 //! Requests taken out of a plan.
-ghost use Rattle.std.specs.Prelude.{◌≡◌, true, false, not, filter, nat_eq, IfOk};
+ghost use Rattle.std.specs.Prelude.{◌≡◌, true, false, not, filter, nat_eq, IfOk, OnOk};
 ghost use Rattle.std.specs.List.{list_all};
 ghost use Rattle.std.specs.Map.{lookup};
 ghost use Rattle.std.specs.Option.{option_map, option_map_or};
@@ -94,7 +94,7 @@ fn without_named(
 }
 
 // The stops of other requests.
-pub(crate) fn others(
+fn others(
     alloc: Global,
     problem: &Problem,
     route: &[u32],
@@ -103,13 +103,29 @@ pub(crate) fn others(
     ensures { IfOk result (λ new. new ≡ filter
         (λ n. not (is_of_named problem.now names.now n)) route.now) }
 {
-    let mut new = Route::with_capacity(alloc, route.len())?;
+    let mut new = Vec::new(alloc);
+    keep_others(&mut new, problem, names, route)?;
+    Ok(Route::from(new))
+}
+
+/// Makes a list the stops of other requests.
+pub(crate) fn keep_others(
+    kept: &mut Vec<u32>,
+    problem: &Problem,
+    names: &[u32],
+    route: &[u32],
+) -> Result<(), OutOfMemory>
+    ensures { OnOk result (kept.new.items ≡ filter
+        (λ n. not (is_of_named problem.now names.now n)) route.now) }
+{
+    kept.clear();
+    kept.reserve(route.len())?;
     for stop in route {
         if !is_of_named(problem, names, *stop) {
-            new.push(*stop)?;
+            kept.push(*stop)?;
         }
     }
-    Ok(new)
+    Ok(())
 }
 
 pub(crate) fn is_of_named(problem: &Problem, names: &[u32], stop: u32) -> bool

@@ -1,7 +1,5 @@
 // Other routes for vehicles of a draft.
 ghost use Rattle.std.specs.Prelude.{◌≡◌, ◌≤◌, ◌+◌, ◌-◌, ◌^◌, true, false, All, Some, IfSome, IfOk, OnOk, MatchOption, length, slice_get};
-ghost use Rattle.std.specs.List.{list_all};
-ghost use Rattle.plan_audit.specs.Passes.{feasible_alone};
 ghost use Rattle.move_ops.specs.Pairing.{are_paired};
 ghost use Rattle.move_ops.specs.Refreshing.{AreWithin};
 ghost use Rattle.slack_tables.specs.Course.{course_of, route_of};
@@ -128,36 +126,8 @@ impl Draft {
         Ok(tours)
     }
 
-    // The tours of changes whose pairs are known to be whole, each pickup before its delivery; none where a route is not feasible alone.
-    pub(crate) fn feasible_tours(
-        &mut self,
-        problem: &Problem,
-        changes: &[Change],
-    ) -> Result<Option<Vec<(u32, Tour)>>, OutOfMemory>
-        requires tables { AreTablesIn problem.now self.old.tours }
-        requires within { All (λ c. (1 ≤ c.vehicle)
-            × (c.vehicle ≤ length self.old.tours)) changes.now }
-        requires once { All (λ c. AreLiveOnce problem.now c.route) changes.now }
-        requires pairs { All (λ c. are_paired problem.now c.route ≡ true) changes.now }
-        ensures tours { IfOk result (λ o. MatchOption o
-            (list_all (λ c. feasible_alone problem.now c.route) changes.now ≡ false)
-            (λ tours. (list_all (λ c. feasible_alone problem.now c.route) changes.now ≡ true)
-            × AreToursOf problem.now changes.now tours.items)) }
-        ensures same { self.new ≡ self.old }
-    {
-        let mut tours = Vec::with_capacity(*self.tours.allocator(), changes.len())?;
-        for change in changes {
-            let route = change.route.as_slice();
-            let Some(tour) = self.feasible_tour(problem, change.vehicle, route)? else {
-                return Ok(None);
-            };
-            tours.push((change.vehicle, tour))?;
-        }
-        Ok(Some(tours))
-    }
-
     // The tour of another route for a vehicle, whose pairs are known to be whole, in memory that is left of others where there is some.
-    fn feasible_tour(
+    pub(crate) fn feasible_tour(
         &mut self,
         problem: &Problem,
         vehicle: u32,

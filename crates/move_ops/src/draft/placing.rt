@@ -1,17 +1,18 @@
 // Requests put into a draft.
-ghost use Rattle.std.specs.Prelude.{◌≡◌, ◌≤◌, ◌^◌, true, length, Some, IfOk, OnOk};
+ghost use Rattle.std.specs.Prelude.{◌≡◌, ◌≤◌, ◌^◌, length, Some, IfOk, OnOk};
 ghost use Rattle.route_sched.specs.Cost.{cost_of, total_length, unplanned_count};
 ghost use Rattle.slack_tables.specs.Course.{course_of, route_of};
 ghost use Rattle.move_ops.specs.Tables.{AreTablesIn};
 ghost use Rattle.move_ops.specs.Changes.{used};
 ghost use Rattle.plan_types.specs.Request.{request_name};
-ghost use Rattle.move_ops.specs.Insertion.{are_places, best_insertion, inserted, request_named, with_route};
+ghost use Rattle.move_ops.specs.Insertion.{best_insertion, request_named, with_route};
 ghost use Rattle.route_sched.specs.Route.{AreLiveOnce};
 ghost use Rattle.slack_tables.specs.Insertion.{KeepsLimits};
 ghost use Rattle.move_ops.specs.Logged.{HasRoute};
 ghost use Rattle.move_ops.specs.Drafts.{undone, draft_of, base_of, IsDraftOf, placed};
 
 use super::Draft;
+use crate::insert::put_into;
 use crate::laws::best_insertions_are_least;
 use crate::tables::best_of;
 use crate::tour::Tour;
@@ -153,28 +154,4 @@ fn used(tour: &Tour) -> u64
     ensures { result ≡ used (route_of tour.now) }
 {
     u64::from(!tour.stops().is_empty())
-}
-
-// Makes a list the route with the request put in.
-fn put_into(
-    new: &mut Vec<u32>,
-    request: &Request,
-    pickup: u64,
-    delivery: u64,
-    route: &[u32],
-) -> Result<(), OutOfMemory>
-    requires { are_places request.now 0 (length route.now) pickup delivery ≡ true }
-    ensures { OnOk result (new.new.items
-        ≡ inserted request.now pickup delivery route.now) }
-{
-    new.clear();
-    new.extend_from_slice(route)?;
-    match request {
-        Request::Single(stop) => new.insert((pickup - 1) as usize, stop.number)?,
-        Request::Pair(first, second) => {
-            new.insert((pickup - 1) as usize, first.number)?;
-            new.insert((delivery - 1) as usize, second.number)?;
-        }
-    }
-    Ok(())
 }

@@ -1,25 +1,28 @@
 // Requests taken out of a draft.
-ghost use Rattle.std.specs.Prelude.{◌≡◌, ◌≤◌, ◌+◌, ◌∷◌, [], length, nat_eq, true, false, ℕ, IsSome, IfSome, IfOk, OnOk};
+ghost use Rattle.std.specs.Prelude.{◌≡◌, ◌≤◌, ◌+◌, ◌∷◌, [], length, nat_eq, true, false, ℕ, All, IsSome, IfSome, IfOk, OnOk, MatchOption};
 ghost use Rattle.route_sched.specs.Cost.{has_stop};
-ghost use Rattle.move_ops.specs.Changes.{changes_of, distinct_count, with_routes, AreChanges, AreCourses, AreIn, AreVehiclesOf, IsChange, IsRemoval, Notes};
+ghost use Rattle.move_ops.specs.Changes.{changes_of, distinct_count, removals, with_routes, AreCourses, AreIn, AreToursOf, AreVehiclesOf, IsChange, IsRemoval, Notes};
 ghost use Rattle.move_ops.specs.Moves.{removed, without_named, is_of_named, is_movable_name};
 ghost use Rattle.std.specs.List.{concat, list_all, IsDistinct};
 ghost use Rattle.plan_types.specs.Instance.{IsInstance};
 ghost use Rattle.plan_types.specs.Request.{stop_in};
-ghost use Rattle.plan_audit.specs.Passes.{has};
+ghost use Rattle.plan_audit.specs.Passes.{feasible_alone, has};
+ghost use Rattle.route_sched.specs.Route.{AreLiveOnce};
+ghost use Rattle.move_ops.specs.Pairing.{are_paired};
+ghost use Rattle.move_ops.specs.Tables.{AreTablesIn};
 ghost use Rattle.std.specs.Option.{option_map};
 ghost use Rattle.move_ops.specs.Drafts.{draft_of, base_of, IsDraftOf, IsMade};
 
 use super::Draft;
-use crate::changes::Change;
 use crate::lists::is_in;
-use crate::removal::others;
+use crate::removal::keep_others;
 use crate::seats::unseat;
 use crate::tour::Tour;
 use plan_audit::{passes_are_local, plans_are_local, tests_say_feasible};
 use plan_types::{
     OutOfMemory, Pins, Problem, Request, requests_are_found_by_stop, requests_stand_by_name,
 };
+use std::mem;
 
 impl Draft {
     /// Takes the requests out of the draft, as `remove` does of a plan; answers whether it did.
@@ -131,34 +134,45 @@ impl Draft {
             return Ok(None);
         }
         let vehicles = self.vehicles_of(problem, names)?;
-        let changes = self.removals(problem, names, &vehicles)?;
-        self.feasible_tours(problem, &changes)
+        self.tours_without(problem, names, &vehicles)
     }
 
-    // The routes of these vehicles without the stops of the named requests.
-    fn removals(
-        &self,
+    // The tours of these vehicles without the stops of the named requests, where pairs are known to stay whole; none where a route is not
+    // feasible alone then.
+    fn tours_without(
+        &mut self,
         problem: &Problem,
         names: &[u32],
         vehicles: &[u64],
-    ) -> Result<Vec<Change>, OutOfMemory>
-        requires few { length (draft_of self.now) ≤ 40000 }
-        requires within { AreIn (draft_of self.now) vehicles.now }
-        requires found { AreVehiclesOf (draft_of self.now)
-            (λ n. is_of_named problem.now names.now n ≡ true) vehicles.now }
-        ensures { IfOk result (λ changes. AreChanges (draft_of self.now)
-            (without_named problem.now names.now (draft_of self.now)) changes.items) }
+    ) -> Result<Option<Vec<(u32, Tour)>>, OutOfMemory>
+        requires tables { AreTablesIn problem.now self.old.tours }
+        requires few { length self.old.tours ≤ 40000 }
+        requires within { AreIn (draft_of self.old) vehicles.now }
+        requires once { All (λ c. AreLiveOnce problem.now c.route)
+            (removals problem.now names.now (draft_of self.old) vehicles.now) }
+        requires pairs { All (λ c. are_paired problem.now c.route ≡ true)
+            (removals problem.now names.now (draft_of self.old) vehicles.now) }
+        ensures tours { IfOk result (λ o. MatchOption o
+            (list_all (λ c. feasible_alone problem.now c.route)
+            (removals problem.now names.now (draft_of self.old) vehicles.now) ≡ false)
+            (λ tours. (list_all (λ c. feasible_alone problem.now c.route)
+            (removals problem.now names.now (draft_of self.old) vehicles.now) ≡ true)
+            × AreToursOf problem.now
+            (removals problem.now names.now (draft_of self.old) vehicles.now) tours.items)) }
+        ensures same { OnOk result (self.new ≡ self.old) }
     {
         let alloc = *self.tours.allocator();
-        let mut changes = Vec::with_capacity(alloc, vehicles.len())?;
+        let mut tours = Vec::with_capacity(alloc, vehicles.len())?;
+        let mut route = mem::replace(&mut self.room, Vec::new(alloc));
         for vehicle in vehicles {
-            let route = others(alloc, problem, self.route(*vehicle), names)?;
-            changes.push(Change {
-                vehicle: *vehicle as u32,
-                route,
-            })?;
+            keep_others(&mut route, problem, names, self.route(*vehicle))?;
+            let Some(tour) = self.feasible_tour(problem, *vehicle as u32, &route)? else {
+                return Ok(None);
+            };
+            tours.push((*vehicle as u32, tour))?;
         }
-        Ok(changes)
+        self.room = route;
+        Ok(Some(tours))
     }
 
     // The vehicles of the named requests' stops.

@@ -1,11 +1,8 @@
-use Rattle.std.proofs.Common.{rules, ◌≡◌, ◌≤◌, ◌+◌, ◌*◌, ◌-◌, ◌∷◌, [], List, length, set, sym, ap, subst, ◌∙◌, arith, length-append}
+use Rattle.std.proofs.Common.{rules, ◌≡◌, ◌-◌, ◌∷◌, [], length, sym, ap, subst, ◌∙◌, arith, length-append}
 use Rattle.std.specs.Vec.Iter.{into_iter_items}
-use Rattle.std.proofs.lemmas.List.{length-map, length-set}
-use Rattle.route_sched.specs.Cost.{total_length}
-use Rattle.route_sched.specs.Schedule.{route_length}
-use Rattle.move_ops.specs.Insertion.{of_vehicle}
+use Rattle.std.proofs.lemmas.List.{length-set}
 use Rattle.move_ops.proofs.Pricing.{length_moved, length_within}
-use Rattle.slack_tables.specs.Course.{Course, route_of, IsCourseIn}
+use Rattle.slack_tables.specs.Course.{route_of, IsCourseIn}
 use Rattle.move_ops.specs.Changes.{changes_of, with_routes, AreCourses}
 use Rattle.move_ops.specs.Drafts.{draft_of}
 use Rattle.move_ops.specs.Refreshing.{AreWithin}
