@@ -9,8 +9,8 @@ use Rattle.slack_tables.specs.Course.{Course}
 use Rattle.move_ops.specs.Insertion.{best_insertion, put_in, of_vehicle}
 use Rattle.move_ops.specs.Tables.{plan_of, AreTablesIn}
 
--- the draft's tables, what the vehicles had before each change since the base, the newest last, marks at the pinned stops, and what both
--- plans cost
+-- the draft's tables, what vehicles had before changes since the base, the newest last, marks at the pinned stops, and what both plans
+-- cost
 pub record Drafted : Type 0 where
   pub tours : List Course
   pub log : List (ℕ × Course)
