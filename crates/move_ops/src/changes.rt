@@ -1,5 +1,5 @@
 //! Routes of a plan that others take the place of.
-ghost use Rattle.std.specs.Prelude.{◌≡◌, ◌≤◌, true, All, length};
+ghost use Rattle.std.specs.Prelude.{◌≡◌, ◌≤◌, All, length};
 ghost use Rattle.std.specs.List.{list_all};
 ghost use Rattle.route_sched.specs.Route.{AreLiveOnce};
 ghost use Rattle.plan_audit.specs.Passes.{feasible_alone};

@@ -1,5 +1,5 @@
 //! A request put into a route.
-ghost use Rattle.std.specs.Prelude.{◌≡◌, ◌≤◌, ◌+◌, ◌^◌, true, length, IfOk, OnOk};
+ghost use Rattle.std.specs.Prelude.{◌≡◌, ◌≤◌, ◌^◌, true, length, IfOk, OnOk};
 ghost use Rattle.std.specs.Option.{option_map};
 ghost use Rattle.plan_audit.specs.Passes.{passes};
 ghost use Rattle.move_ops.specs.Insertion.{inserted, are_places, is_place_of, put_in};

@@ -1,5 +1,5 @@
 //! A route and its table.
-ghost use Rattle.std.specs.Prelude.{◌≡◌, ◌≤◌, ◌<◌, true, IfOk, OnOk, Some, slice_get, slice_set, length};
+ghost use Rattle.std.specs.Prelude.{◌≡◌, ◌≤◌, ◌<◌, true, IfOk, Some, slice_get, slice_set, length};
 ghost use Rattle.route_sched.specs.Route.{AreLiveOnce};
 ghost use Rattle.slack_tables.specs.Insertion.{KeepsLimits};
 ghost use Rattle.slack_tables.specs.Course.{course_of, route_of, IsCourseIn};

@@ -1,5 +1,5 @@
 // Other routes for vehicles of a draft.
-ghost use Rattle.std.specs.Prelude.{◌≡◌, ◌≤◌, ◌+◌, ◌-◌, ◌^◌, true, false, All, Some, IfSome, IfOk, OnOk, MatchOption, length, slice_get};
+ghost use Rattle.std.specs.Prelude.{◌≡◌, ◌≤◌, ◌^◌, true, All, IfSome, IfOk, OnOk, length};
 ghost use Rattle.move_ops.specs.Pairing.{are_paired};
 ghost use Rattle.move_ops.specs.Refreshing.{AreWithin};
 ghost use Rattle.slack_tables.specs.Course.{course_of, route_of};
@@ -110,7 +110,6 @@ impl Draft {
         changes: &[Change],
     ) -> Result<Vec<(u32, Tour)>, OutOfMemory>
         requires tables { AreTablesIn problem.now self.old.tours }
-        requires base { AreTablesIn problem.now (undone self.old.tours self.old.log) }
         requires within { All (λ c. (1 ≤ c.vehicle)
             × (c.vehicle ≤ length self.old.tours)) changes.now }
         requires once { All (λ c. AreLiveOnce problem.now c.route) changes.now }
@@ -167,7 +166,6 @@ impl Draft {
         route: &[u32],
     ) -> Result<Tour, OutOfMemory>
         requires tables { AreTablesIn problem.now self.old.tours }
-        requires base { AreTablesIn problem.now (undone self.old.tours self.old.log) }
         requires from_one { 1 ≤ vehicle }
         requires within { vehicle ≤ length self.old.tours }
         requires route { AreLiveOnce problem.now route.now }
