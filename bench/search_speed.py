@@ -4,20 +4,22 @@
 OTHER is a program with two commands: `gen KIND STOPS SEED` writes an instance of KIND, lilim or vrp, to standard output, and
 `search KIND INSTANCE STEPS SEED DEVIATION` builds a plan of a file by best insertion, makes so many steps, and ends with a line such as
 `steps 1000 seconds 0.01 rate 100000 cost 0 6 1217`. Its final cost has to be ours, to the number. `bench_planner` is built by `rt run` in
-its folder. The two run in turn, each as often as RUNS says, and the fastest of each counts.
+its folder. The two run in turn, as often as RUNS says. Times are the medians, and the ratio is the median of those of two runs that follow
+one another, since the clock of a machine may change from second to second.
 
     bench/search_speed.py OTHER [STOPS..]
 """
 
 import pathlib
 import re
+import statistics
 import subprocess
 import sys
 import tempfile
 
 TOP = pathlib.Path(__file__).resolve().parent.parent
 PROGRAM = TOP / "crates" / "bench_planner" / "out" / "bench_planner"
-RUNS = 3
+RUNS = 11
 SIZES = [100, 400, 1000, 4000]
 SEED = 5
 DEVIATIONS = [0, 50]
@@ -51,12 +53,13 @@ def compare(other, folder, kind, stops):
     differing = 0
     for deviation in DEVIATIONS:
         runs = [(ours(kind, path, steps, deviation), theirs(other, kind, path, steps, deviation)) for _ in range(RUNS)]
-        mine = min(run[0][0] for run in runs)
-        its = min(run[1][0] for run in runs)
+        mine = round(statistics.median(run[0][0] for run in runs))
+        its = round(statistics.median(run[1][0] for run in runs))
+        ratio = statistics.median(run[1][0] / run[0][0] for run in runs)
         costs = {cost for run in runs for _, cost in run}
         differing += len(costs) != 1
         verdict = "the same cost" if len(costs) == 1 else f"costs {sorted(costs)}"
-        print(f"{kind} {stops} stops, deviation {deviation}: {mine} ns a step, the other {its} ns, ratio {its / mine:.3f}, {verdict}")
+        print(f"{kind} {stops} stops, deviation {deviation}: {mine} ns a step, the other {its} ns, ratio {ratio:.3f}, {verdict}")
     return differing
 
 
