@@ -47,11 +47,11 @@ pub has_more : (xs : List ℕ) (k n : ℕ) → k < length xs → has (drop k xs)
 has_more xs k n below = ap (λ ys. has ys n) (drop_more xs k 0 below)
 
 -- ---- routes of which one changes
-or_false : (a b : Bool) → (a || b) ≡ false → (a ≡ false) × (b ≡ false)
+pub or_false : (a b : Bool) → (a || b) ≡ false → (a ≡ false) × (b ≡ false)
 or_false true b h = absurd (let k : true ≡ false = h in cc)
 or_false false b h = (refl, h)
 
-both_false : (a b : Bool) → a ≡ false → b ≡ false → (a || b) ≡ false
+pub both_false : (a b : Bool) → a ≡ false → b ≡ false → (a || b) ≡ false
 both_false a b h k = rw (h, k) refl
 
 append_false : (n : ℕ) (xs ys : List ℕ) → has (xs ++ ys) n ≡ false → (has xs n ≡ false) × (has ys n ≡ false)
@@ -241,7 +241,7 @@ tours_more tours k n d below =
 true_or : (a b : Bool) → a ≡ true → (a || b) ≡ true
 true_or a b h = rw h refl
 
-or_true : (a b : Bool) → b ≡ true → (a || b) ≡ true
+pub or_true : (a b : Bool) → b ≡ true → (a || b) ≡ true
 or_true true b h = refl
 or_true false b h = h
 

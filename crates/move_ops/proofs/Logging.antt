@@ -14,7 +14,7 @@ use Rattle.move_ops.specs.Kept.{AreSeats, IsKept}
 use Rattle.move_ops.specs.Logged.{is_logged, AreOnce, IsEntry}
 use Rattle.move_ops.specs.Tables.{plan_of}
 use Rattle.move_ops.specs.Refreshing.{AreWithin}
-use Rattle.move_ops.proofs.Drafting.{base_first, base_later, front_with, seats_with}
+use Rattle.move_ops.proofs.Drafting.{base_first, base_later, both_false, front_with, or_false, or_true, seats_with}
 use Rattle.move_ops.proofs.Times.{none_some, some_same}
 
 -- ---- places of a list that are set
@@ -54,18 +54,11 @@ undone_same tours (e ∷ log) v c had = elim (or_cases (eqb e.0 v) (is_logged lo
   | inr later ↦ ap (λ l. set l (e.0 - 1) e.1) (undone_same tours log v c later)
 ]
 
-or_none : (a b : Bool) → (a || b) ≡ false → (a ≡ false) × (b ≡ false)
-or_none true b h = absurd (let k : true ≡ false = h in cc)
-or_none false b h = (refl, h)
-
-both_none : (a b : Bool) → a ≡ false → b ≡ false → (a || b) ≡ false
-both_none a b h k = rw (h, k) refl
-
 -- a vehicle that it does not have is set below
 set_below : (tours : List Course) (log : List (ℕ × Course)) (n v : ℕ) (c : Course) → 1 ≤ v → AreWithin n log → is_logged log v ≡ false → undone (set tours (v - 1) c) log ≡ set (undone tours log) (v - 1) c
 set_below tours [] n v c from all none = refl
 set_below tours (e ∷ log) n v c from all none =
-    let parts = or_none (eqb e.0 v) (is_logged log v) none in
+    let parts = or_false (eqb e.0 v) (is_logged log v) none in
     let low = all.0.0 in
     let apart : e.0 ≡ v → ⊥ = λ same. elim (eqb_tells e.0 v) [ inl t ↦ absurd (let k : true ≡ false = sym (t.0) ∙ parts.0 in cc) | inr t ↦ t.1 same ] in
     ap (λ l. set l (e.0 - 1) e.1) (set_below tours log n v c from all.1 parts.1)
@@ -87,8 +80,8 @@ within_without n (x ∷ log) (suc k) e at all = let rest = within_without n log 
 logged_without : (log : List (ℕ × Course)) (k v : ℕ) → is_logged log v ≡ false → is_logged (remove log k) v ≡ false
 logged_without [] zero v none = none
 logged_without [] (suc k) v none = none
-logged_without (x ∷ log) zero v none = (or_none (eqb x.0 v) (is_logged log v) none).1
-logged_without (x ∷ log) (suc k) v none = let parts = or_none (eqb x.0 v) (is_logged log v) none in both_none (eqb x.0 v) (is_logged (remove log k) v) parts.0 (logged_without log k v parts.1)
+logged_without (x ∷ log) zero v none = (or_false (eqb x.0 v) (is_logged log v) none).1
+logged_without (x ∷ log) (suc k) v none = let parts = or_false (eqb x.0 v) (is_logged log v) none in both_false (eqb x.0 v) (is_logged (remove log k) v) parts.0 (logged_without log k v parts.1)
 
 pub once_without : (log : List (ℕ × Course)) (k : ℕ) → AreOnce log → AreOnce (remove log k)
 once_without [] zero once = tt
@@ -98,19 +91,19 @@ once_without (x ∷ log) (suc k) once = (logged_without log k x.0 once.0, once_w
 
 -- ---- the newest entry
 logged_more : (log : List (ℕ × Course)) (v : ℕ) (c : Course) (u : ℕ) → is_logged log u ≡ false → (v ≡ u → ⊥) → is_logged (log ++ (v, c) ∷ []) u ≡ false
-logged_more [] v c u none apart = both_none (eqb v u) false (elim (eqb_tells v u) [ inl t ↦ absurd (apart (t.1)) | inr t ↦ t.0 ]) refl
-logged_more (x ∷ log) v c u none apart = let parts = or_none (eqb x.0 u) (is_logged log u) none in both_none (eqb x.0 u) (is_logged (log ++ (v, c) ∷ []) u) parts.0 (logged_more log v c u parts.1 apart)
+logged_more [] v c u none apart = both_false (eqb v u) false (elim (eqb_tells v u) [ inl t ↦ absurd (apart (t.1)) | inr t ↦ t.0 ]) refl
+logged_more (x ∷ log) v c u none apart = let parts = or_false (eqb x.0 u) (is_logged log u) none in both_false (eqb x.0 u) (is_logged (log ++ (v, c) ∷ []) u) parts.0 (logged_more log v c u parts.1 apart)
 
 pub once_more : (log : List (ℕ × Course)) (v : ℕ) (c : Course) → is_logged log v ≡ false → AreOnce log → AreOnce (log ++ (v, c) ∷ [])
 once_more [] v c none once = (refl, tt)
 once_more (x ∷ log) v c none once =
-    let parts = or_none (eqb x.0 v) (is_logged log v) none in
+    let parts = or_false (eqb x.0 v) (is_logged log v) none in
     let apart : v ≡ x.0 → ⊥ = λ same. elim (eqb_tells x.0 v) [ inl t ↦ absurd (let k : true ≡ false = sym (t.0) ∙ parts.0 in cc) | inr t ↦ t.1 (sym same) ] in
     (logged_more log v c x.0 once.0 apart, once_more log v c parts.1 once.1)
 
 logged_front : (log : List (ℕ × Course)) (e : ℕ × Course) (u : ℕ) → is_logged (log ++ e ∷ []) u ≡ false → is_logged log u ≡ false
 logged_front [] e u none = refl
-logged_front (x ∷ log) e u none = let parts = or_none (eqb x.0 u) (is_logged (log ++ e ∷ []) u) none in both_none (eqb x.0 u) (is_logged log u) parts.0 (logged_front log e u parts.1)
+logged_front (x ∷ log) e u none = let parts = or_false (eqb x.0 u) (is_logged (log ++ e ∷ []) u) none in both_false (eqb x.0 u) (is_logged log u) parts.0 (logged_front log e u parts.1)
 
 pub once_front : (log : List (ℕ × Course)) (e : ℕ × Course) → AreOnce (log ++ e ∷ []) → AreOnce log
 once_front [] e once = tt
@@ -124,10 +117,6 @@ has_at (x ∷ log) zero e at = subst (λ (y : ℕ × Course). is_logged (x ∷ l
     here : (v : ℕ) (b : Bool) → (eqb v v || b) ≡ true
     here v b = elim (eqb_tells v v) [ inl t ↦ rw (t.0) refl | inr t ↦ absurd (t.1 refl) ]
 has_at (x ∷ log) (suc k) e at = or_true (eqb x.0 e.0) (is_logged log e.0) (has_at log k e at)
-  where
-    or_true : (a b : Bool) → b ≡ true → (a || b) ≡ true
-    or_true true b h = refl
-    or_true false b h = h
 
 pub base_at : (tours : List Course) (log : List (ℕ × Course)) (n k : ℕ) (e : ℕ × Course) → slice_get log k ≡ Some e → AreWithin n log → AreOnce log → e.0 ≤ length tours → slice_get (undone tours log) (e.0 - 1) ≡ Some e.1
 base_at tours [] n k e at all once within = absurd (none_some e at)

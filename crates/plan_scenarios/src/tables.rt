@@ -244,6 +244,17 @@ fn takes_the_largest_route(rt: HostRuntime) -> Result<(), Fail> {
     Ok(())
 }
 
+// To the customers and back, by a table that was made for no stop.
+#[test]
+fn becomes_the_largest_table(rt: HostRuntime) -> Result<(), Fail> {
+    let problem = most_customers(rt.alloc())?;
+    let route = numbers_to(rt.alloc(), 40_000)?;
+    let want = Some((40_000, 10));
+    assert_eq!(rt; rebuilt(rt.alloc(), &problem, &[], route.as_slice())?, want);
+    assert_eq!(rt; remade(rt.alloc(), &problem, &[], route.as_slice())?, want);
+    Ok(())
+}
+
 #[test]
 fn finds_the_best_places_of_a_pair(rt: HostRuntime) -> Result<(), Fail> {
     let problem = two_pairs(rt.alloc(), Kind::LiLim, 2)?;
