@@ -4,7 +4,7 @@
 Makes Li-Lim instances of 100 to 40,000 tasks and `.vrp` instances of 100 to 40,000 customers, each with a solution
 that passes, and runs `planner audit` on them. An audit with an empty solution, which is refused, reads the instance
 alone; its megabytes a second stand beside those of `wc -l` on the same file. The start of each process is measured by
-a run that has next to nothing to do, and is taken off. Where `bench_planner` is built (by `rt run` in its folder), the
+a run that has next to nothing to do, and is taken off. Where `run_benchmarks` is built (by `rt run` in its folder), the
 reader's own rate is printed too: of the fastest of many readings in one process, which keeps the memory of one for the
 next, so that neither the file nor the system's pages count.
 
@@ -22,7 +22,7 @@ import time
 
 TOP = pathlib.Path(__file__).resolve().parent.parent
 PROGRAM = TOP / "crates" / "planner" / "out" / "planner"
-READER = TOP / "crates" / "bench_planner" / "out" / "bench_planner"
+READER = TOP / "crates" / "run_benchmarks" / "out" / "run_benchmarks"
 # The C library's words for memory that is kept where it is given back.
 KEEPS_MEMORY = {"MALLOC_TRIM_THRESHOLD_": "1000000000", "MALLOC_MMAP_THRESHOLD_": "1000000000"}
 RUNS = 40

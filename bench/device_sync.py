@@ -2,7 +2,7 @@
 """What a sync of a device over a file costs: one sector is written and synced 2,000 times.
 
 Measures fsync (`sync_all`) beside fdatasync (`sync_data`) on a file of 8,450 sectors, by turns of 100, so that both meet the
-same load. Where `bench_planner` is built (by `rt run` in its folder), a `FileDevice` does the same.
+same load. Where `run_benchmarks` is built (by `rt run` in its folder), a `FileDevice` does the same.
 
     bench/device_sync.py [FOLDER]
 """
@@ -16,7 +16,7 @@ import tempfile
 import time
 
 TOP = pathlib.Path(__file__).resolve().parent.parent
-PROGRAM = TOP / "crates" / "bench_planner" / "out" / "bench_planner"
+PROGRAM = TOP / "crates" / "run_benchmarks" / "out" / "run_benchmarks"
 SECTOR = 512
 SECTORS = 8450
 SYNCS = 2000
@@ -55,7 +55,7 @@ def main():
             subprocess.run([PROGRAM, "device", temporary.name, str(SECTORS), str(SYNCS)], check=True)
             print(f"FileDevice: {SYNCS / (time.perf_counter() - start):.0f} syncs a second")
         else:
-            print("FileDevice: not measured, since bench_planner is not built")
+            print("FileDevice: not measured, since run_benchmarks is not built")
 
 
 if __name__ == "__main__":

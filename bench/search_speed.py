@@ -3,7 +3,7 @@
 
 OTHER is a program with two commands: `gen KIND STOPS SEED` writes an instance of KIND, lilim or vrp, to standard output, and
 `search KIND INSTANCE STEPS SEED DEVIATION` builds a plan of a file by best insertion, makes so many steps, and ends with a line such as
-`steps 1000 seconds 0.01 rate 100000 cost 0 6 1217`. Its final cost has to be ours, to the number. `bench_planner` is built by `rt run` in
+`steps 1000 seconds 0.01 rate 100000 cost 0 6 1217`. Its final cost has to be ours, to the number. `run_benchmarks` is built by `rt run` in
 its folder. The two run in turn, as often as RUNS says. Times are the medians, and the ratio is the median of those of two runs that follow
 one another, since the clock of a machine may change from second to second.
 
@@ -18,7 +18,7 @@ import sys
 import tempfile
 
 TOP = pathlib.Path(__file__).resolve().parent.parent
-PROGRAM = TOP / "crates" / "bench_planner" / "out" / "bench_planner"
+PROGRAM = TOP / "crates" / "run_benchmarks" / "out" / "run_benchmarks"
 RUNS = 11
 SIZES = [100, 400, 1000, 4000]
 SEED = 5

@@ -3,7 +3,7 @@
 
 OTHER is a program that writes an instance: `gen KIND STOPS SEED`. Through the store each 256 steps are a command that is synced before its line is
 told. The time of opening, loading and building is taken off: it is measured by a session without the search. In memory the same steps are
-made by `bench_planner`, which is built by `rt run` in its folder, and the program by `./planner`.
+made by `run_benchmarks`, which is built by `rt run` in its folder, and the program by `./planner`.
 
     bench/store_search.py OTHER [STEPS]
 """
@@ -17,7 +17,7 @@ import time
 
 TOP = pathlib.Path(__file__).resolve().parent.parent
 PROGRAM = TOP / "crates" / "planner" / "out" / "planner"
-IN_MEMORY = TOP / "crates" / "bench_planner" / "out" / "bench_planner"
+IN_MEMORY = TOP / "crates" / "run_benchmarks" / "out" / "run_benchmarks"
 SIZES = [400, 1000, 4000]
 SEED = 5
 STEPS = 100_000

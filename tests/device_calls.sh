@@ -1,11 +1,11 @@
 #!/bin/sh
 # Checks which calls of the system a device over a file makes, and in which order: `create` sets the length, and syncs the
 # file and its folder; each write is one write at its offset, and each sync is the file's own. Wants strace, and
-# `bench_planner` built (by `rt run` in its folder).
+# `run_benchmarks` built (by `rt run` in its folder).
 set -u
 
 top=$(CDPATH='' cd -- "$(dirname -- "$0")/.." && pwd -P) || exit 1
-program=$top/crates/bench_planner/out/bench_planner
+program=$top/crates/run_benchmarks/out/run_benchmarks
 if ! command -v strace >/dev/null; then
     echo "device_calls: skipped, since strace is not there"
     exit 0

@@ -1,12 +1,12 @@
 #!/usr/bin/env python3
 """What a session answers where one allocation is refused.
 
-Runs the five commands of `recover_stops` again and again, first with the first allocation of the whole program refused, then
+Runs the five commands of `run_stops` again and again, first with the first allocation of the whole program refused, then
 with the second one, and so on until none is refused. Each run has to end as promised: the first call that answers otherwise
 than with ample memory answers OutOfMemory and leaves all as it was, or DeviceFault where a write or a sync found no memory.
 The program compares the states itself and says so; where its own memory was refused it ends with status 1.
 
-Wants a C compiler, for the few lines that refuse an allocation, and `recover_stops` built (by `rt run` in its folder).
+Wants a C compiler, for the few lines that refuse an allocation, and `run_stops` built (by `rt run` in its folder).
 """
 
 import collections
@@ -17,7 +17,7 @@ import subprocess
 import sys
 import tempfile
 
-PROGRAM = pathlib.Path(__file__).resolve().parent.parent / "crates/recover_stops/out/recover_stops"
+PROGRAM = pathlib.Path(__file__).resolve().parent.parent / "crates/run_stops/out/run_stops"
 
 # Status and output that a refused allocation may have: status 1 where it is the program's own.
 MET = {"refused before the first command", "OutOfMemory", "DeviceFault"}

@@ -1,6 +1,6 @@
 #!/bin/sh
 # Checks what only the built program shows of its words: what goes to standard error, the status of the process, a word
-# that is not UTF-8, and an output that can't be written. What the words mean is run by crates/planner_words.
+# that is not UTF-8, and an output that can't be written. What the words mean is run by crates/run_words.
 set -u
 
 top=$(CDPATH='' cd -- "$(dirname -- "$0")/.." && pwd -P) || exit 1
@@ -30,7 +30,7 @@ expect() {
 
 cd -- "$top/examples" || exit 1
 for path in *.txt *.sol *.vrp; do
-    cmp -- "$path" "$top/crates/planner_words/data/$path" || fail "planner_words has another $path"
+    cmp -- "$path" "$top/crates/run_words/data/$path" || fail "run_words has another $path"
 done
 
 expect 0 'pass 0 1 20' ''

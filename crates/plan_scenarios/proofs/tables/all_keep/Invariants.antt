@@ -1,5 +1,0 @@
-use Rattle.plan_scenarios.proofs.TableLemmas.{KeepTo}
-use Rattle.plan_scenarios.proofs.tables.all_keep.Given as goal
-
-abbrev pub invariant-loop-visit : goal.invariant-loop-visit
-invariant-loop-visit l = KeepTo l.kind l.capacity l.visits l.visit-index
