@@ -7,8 +7,8 @@ use Rattle.plan_types.specs.Instance.{Instance}
 use Rattle.instance_read.specs.declared.faults.ReadFault.{ReadFault}
 use Rattle.instance_read.specs.declared.faults.ReadFaultKind.TheVariants.{MissingKey, Truncated}
 use Rattle.instance_read.specs.declared.vrp_draft.Draft.{Draft}
-use Rattle.instance_read.specs.declared.vrp_lines.Place.{Place}
-use Rattle.instance_read.specs.declared.vrp_lines.Place.TheVariants.{Outside}
+use Rattle.instance_read.specs.declared.vrp_lines.Section.{Section}
+use Rattle.instance_read.specs.declared.vrp_lines.Section.TheVariants.{Outside}
 use Rattle.instance_read.specs.Drafts.{IsDraft}
 use Rattle.instance_read.specs.Faults.{IsFirstFault, Tells}
 use Rattle.instance_read.specs.Rows.{Row, rows_of}
@@ -19,13 +19,13 @@ use Rattle.instance_read.proofs.VrpFaultLemmas.{has_no_fault, missing_first, tel
 use Rattle.instance_read.proofs.VrpProblemLemmas.{end_is, is_announced, lacks_is, problem_is}
 
 -- what reading these lines to their end gives
-abbrev pub IsRead : List Row → Draft → Place → Type 0
+abbrev pub IsRead : List Row → Draft → Section → Type 0
 IsRead rows draft place = Knows (placed_rows rows) draft × IsDraft draft × HasNoLineFault (placed_rows rows) × (place ≡ end_from None Outside rows)
 
 pub tells_first : (text : List ℕ) (rows : List Row) (f : ReadFault) → rows ≡ rows_of text → TellsLine (placed_rows rows) f → Tells (VrpFault text) f
 tells_first text rows f is h = let P : List Row → Type 0 = λ r. TellsLine (placed_rows r) f in tells_line text f (subst P is h)
 
-module _ (text : List ℕ) (rows : List Row) (draft : Draft) (place : Place) (is : rows ≡ rows_of text) (read : IsRead rows draft place) where
+module _ (text : List ℕ) (rows : List Row) (draft : Draft) (place : Section) (is : rows ≡ rows_of text) (read : IsRead rows draft place) where
   here : IsRead (rows_of text) draft place
   here = let P : List Row → Type 0 = λ r. IsRead r draft place in subst P is read
 

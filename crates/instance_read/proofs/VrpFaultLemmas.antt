@@ -5,8 +5,8 @@ use Rattle.text_lines.specs.Lines.{lines_of}
 use Rattle.instance_read.specs.declared.faults.ReadFault.{ReadFault}
 use Rattle.instance_read.specs.declared.faults.ReadFaultKind.{ReadFaultKind}
 use Rattle.instance_read.specs.declared.faults.ReadFaultKind.TheVariants.{BadNumber, Range, FieldCount, TaskOrder, PairMismatch, EmptyWindow, TooManyStops, MissingKey, Unsupported, DepotNotFirst, NodeRepeated, Truncated, OutOfMemory}
-use Rattle.instance_read.specs.declared.vrp_lines.Place.{Place}
-use Rattle.instance_read.specs.declared.vrp_lines.Place.TheVariants.{Outside}
+use Rattle.instance_read.specs.declared.vrp_lines.Section.{Section}
+use Rattle.instance_read.specs.declared.vrp_lines.Section.TheVariants.{Outside}
 use Rattle.instance_read.specs.Faults.{Class, OfLine, OfText, HasNone, IsFirstFault, IsNoLater, IsNoLaterPlace, Tells, rank}
 use Rattle.instance_read.specs.Rows.{Row, rows_of}
 use Rattle.instance_read.specs.Vrp.{VrpFault, end_line, is_inside, lacks_key, place_fault}
@@ -19,7 +19,7 @@ use Rattle.instance_read.proofs.WalkLemmas.{rows_above}
 abbrev rows_placed : List Placed → List Row
 rows_placed ps = map (λ p. p.row) ps
 
-placed_rows-are : (nodes : Option ℕ) (place : Place) (rows : List Row) → rows_placed (placed_from nodes place rows) ≡ rows
+placed_rows-are : (nodes : Option ℕ) (place : Section) (rows : List Row) → rows_placed (placed_from nodes place rows) ≡ rows
 placed_rows-are nodes place [] = ap rows_placed (placed_none nodes place)
 placed_rows-are nodes place (row ∷ rows) =
     ap rows_placed (placed_step nodes place row rows) ∙ ap (λ l. row ∷ l) (placed_rows-are (nodes_after nodes row place) (place_after nodes row place) rows)
