@@ -1,13 +1,13 @@
 //! How many steps a line makes.
 ghost use Rattle.std.specs.Prelude.{◌≡◌, ◌-◌, ◌≤◌, ◌<◌, ◌∷◌, ◌^◌};
-ghost use Rattle.command_text.specs.Answering.{counts_of, reach_steps, search_steps};
+ghost use Rattle.command_text.specs.Answering.{counts_of, steps_to_reach, steps_to_search};
 
 use crate::asked::MAX_SEARCH;
 use command_core::{MAX_COUNT, MAX_STEPS, Refusal, State};
 
 /// How many steps `search N` makes, or why the line is refused.
-pub fn search_steps(state: &State, steps: u32) -> Result<u32, Refusal>
-    ensures { result ≡ search_steps state.now steps }
+pub fn steps_to_search(state: &State, steps: u32) -> Result<u32, Refusal>
+    ensures { result ≡ steps_to_search state.now steps }
 {
     let State::Loaded(job) = state else {
         return Err(Refusal::NoInstance);
@@ -20,8 +20,8 @@ pub fn search_steps(state: &State, steps: u32) -> Result<u32, Refusal>
 }
 
 /// How many steps `reach N` makes, or why the line is refused.
-pub fn reach_steps(state: &State, goal: u64) -> Result<u32, Refusal>
-    ensures { result ≡ reach_steps state.now goal }
+pub fn steps_to_reach(state: &State, goal: u64) -> Result<u32, Refusal>
+    ensures { result ≡ steps_to_reach state.now goal }
 {
     let State::Loaded(job) = state else {
         return Err(Refusal::NoInstance);
