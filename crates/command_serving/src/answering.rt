@@ -9,7 +9,7 @@ ghost use Rattle.command_text.specs.Laws.{cut_at};
 ghost use Rattle.command_text.specs.Readings.{IsReading, Reading};
 ghost use Rattle.command_text.specs.Answers.{answer_text, line};
 ghost use Rattle.command_core.specs.declared.states.State.TheVariants.{Loaded};
-ghost use Rattle.command_serving.specs.Input.{Counts, left_of};
+ghost use Rattle.command_serving.specs.Input.{CountsTaken, left_of};
 ghost use Rattle.command_serving.specs.Streams.{Puts};
 ghost use Rattle.command_serving.specs.Served.{HasCause, IsCutShort, IsServed, Tells};
 ghost use Rattle.command_serving.specs.Serving.{Answers, GoesOn, HasNoJob, IsCause, at_line_of, denied, goes_behind, load_reply, load_told, silent};
@@ -107,7 +107,7 @@ fn serve_lines<D: Sectors, R: Source, W: Sink>(
         (λ _. IsCutShort reading session.old (pieces_of bytes) before after session.new) }
     ensures cause { IfErr result (λ fault. IsCause fault (R.has_failed reader.new)
         (W.has_failed writer.new) input.new.left) }
-    ensures counted { Counts (left_of R.remaining input.old reader.old) input.old.left
+    ensures counted { CountsTaken (left_of R.remaining input.old reader.old) input.old.left
         (left_of R.remaining input.new reader.new) input.new.left }
 {
     pieces_follow();
@@ -138,7 +138,7 @@ fn serve_asked<D: Sectors, R: Source, W: Sink>(
         (left_of R.remaining input.new reader.new) }
     ensures cause { IfErr result (λ fault. IsCause fault (R.has_failed reader.new)
         (W.has_failed writer.new) input.new.left) }
-    ensures counted { Counts (left_of R.remaining input.old reader.old) input.old.left
+    ensures counted { CountsTaken (left_of R.remaining input.old reader.old) input.old.left
         (left_of R.remaining input.new reader.new) input.new.left }
     ensures less { input.new.left ≤ input.old.left }
 {

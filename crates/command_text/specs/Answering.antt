@@ -65,8 +65,8 @@ abbrev pub with_command : Command → Reply → Reply
 with_command c r = record r { commands = c ∷ r.commands }
 
 -- two replies, one after the other
-abbrev pub joined : Reply → Reply → Reply
-joined r q = record { text = r.text ++ q.text; commands = r.commands ++ q.commands; left = q.left }
+abbrev pub joined_replies : Reply → Reply → Reply
+joined_replies r q = record { text = r.text ++ q.text; commands = r.commands ++ q.commands; left = q.left }
 
 -- a command that is accepted, by what becomes of it; `done` is what is answered once it is carried out
 abbrev pub by_fate : Fate → Serving → Command → (Serving → Reply) → Reply
@@ -169,7 +169,7 @@ reply reading s piece = asked_reply reading s piece.asked piece.text (is_short p
 -- the answers to all pieces, one after another
 unfoldable pub served : Reading → Serving → List Piece → Reply
 served reading s [] = record { text = []; commands = []; left = s }
-served reading s (piece ∷ pieces) = let r = reply reading s piece in joined r (served reading r.left pieces)
+served reading s (piece ∷ pieces) = let r = reply reading s piece in joined_replies r (served reading r.left pieces)
 
 -- a session that is not broken
 abbrev pub begun : State → List Fate → Serving

@@ -7,7 +7,7 @@ use Rattle.instance_read.specs.declared.faults.ReadFaultKind.{ReadFaultKind}
 use Rattle.instance_read.specs.declared.faults.ReadFaultKind.TheVariants.{BadNumber, Range, FieldCount, TaskOrder, PairMismatch, EmptyWindow, TooManyStops, MissingKey, Unsupported, DepotNotFirst, NodeRepeated, Truncated, OutOfMemory}
 use Rattle.instance_read.specs.declared.vrp_lines.Section.{Section}
 use Rattle.instance_read.specs.declared.vrp_lines.Section.TheVariants.{Outside}
-use Rattle.instance_read.specs.Faults.{Class, OfLine, OfText, HasNone, IsFirstFault, IsNoLater, IsNoLaterPlace, Tells, rank}
+use Rattle.instance_read.specs.Faults.{Class, OfLine, OfText, HasNone, IsFirstFault, IsNoLater, IsNoLaterPlace, TellsFirstFault, rank}
 use Rattle.instance_read.specs.Rows.{Row, rows_of}
 use Rattle.instance_read.specs.Vrp.{VrpFault, end_line, is_inside, lacks_key, place_fault}
 use Rattle.instance_read.specs.VrpLines.{Placed, end_place, nodes_after, place_after, placed_from, placed_of}
@@ -58,7 +58,7 @@ module _ (text : List ℕ) where
     pub first_line_fault : IsFirstFault (VrpFault text) f
     first_line_fault = (OfLine, (h.before, h.here, h.after, h.splits, sym h.line, h.kind.0), no_later)
 
-  pub tells_line : (f : ReadFault) → TellsLine (placed_of text) f → Tells (VrpFault text) f
+  pub tells_line : (f : ReadFault) → TellsLine (placed_of text) f → TellsFirstFault (VrpFault text) f
   tells_line f (inl memory) = inl memory
   tells_line f (inr first) = inr (first_line_fault f first)
 

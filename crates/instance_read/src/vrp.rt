@@ -3,7 +3,7 @@ ghost use Rattle.std.specs.Prelude.{◌≡◌, ◌+◌, IfOk, IfErr, None, lengt
 ghost use Rattle.std.specs.Option.{option_map_or};
 ghost use Rattle.text_lines.specs.Lines.{lines_of};
 ghost use Rattle.instance_read.specs.Drafts.{IsDraft};
-ghost use Rattle.instance_read.specs.Faults.{Tells};
+ghost use Rattle.instance_read.specs.Faults.{TellsFirstFault};
 ghost use Rattle.instance_read.specs.Vrp.{SpellsVrp, VrpFault, is_inside};
 ghost use Rattle.instance_read.specs.VrpLines.{end_from};
 ghost use Rattle.instance_read.specs.VrpWalk.{HasNoLineFault, Knows, TellsLine, draft_lacks_key, placed_rows};
@@ -31,7 +31,7 @@ use text_lines::Lines;
 /// `DepotNotFirst`.
 pub fn read_vrp(alloc: Global, text: &[u8]) -> Result<Problem, ReadFault>
     ensures value { IfOk result (SpellsVrp text.now) }
-    ensures fault { IfErr result (Tells (VrpFault text.now)) }
+    ensures fault { IfErr result (TellsFirstFault (VrpFault text.now)) }
 {
     let (draft, place) = read_lines(alloc, NumberedLines::new(text))?;
     if is_inside(place) {
