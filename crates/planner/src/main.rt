@@ -1,4 +1,4 @@
-//! Audits plans of pickup and delivery routing and of capacitated routing.
+//! The program: hands the words of its command line to `planner_cli`, which does all that they ask for.
 #![tactic(auto)]
 
 use planner_cli::{run_words, status};
