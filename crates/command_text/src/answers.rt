@@ -24,9 +24,9 @@ impl Model for Line {
 
     ghost Value = { List ℕ };
 
-    ghost use Rattle.command_text.specs.Lines.{written, IsWithin};
+    ghost use Rattle.command_text.specs.Lines.{used_bytes, IsWithin};
 
-    ghost view = { written };
+    ghost view = { used_bytes };
 
     ghost invariant = { IsWithin };
 }
