@@ -38,7 +38,7 @@ pub fn read_sol(alloc: Global, text: &[u8]) -> Result<Solution, SolFault>
     read_lines(alloc, text)
 }
 
-/// Reads line by line, up to the first fault or the cost line.
+// Reads line by line, up to the first fault or the cost line.
 fn read_lines(alloc: Global, text: &[u8]) -> Result<Solution, SolFault>
     ensures { Gives result (reading 0 (lines_of text.now)) }
 {
