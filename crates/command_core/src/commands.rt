@@ -1,3 +1,4 @@
+//! What a planner is asked to do.
 use plan_types::Problem;
 
 /// Where a new stop lies, and when and how long it is served: a stop but for its number and demand.
