@@ -1,4 +1,4 @@
-//! The whole picture.
+//! The whole picture: the verdict, the map, the table and the days.
 ghost use Rattle.std.specs.Prelude.{◌≡◌, ◌++◌, All, IfOk, OnOk};
 ghost use Rattle.route_sched.specs.Route.{AreLiveOnce};
 ghost use Rattle.plan_picture.specs.Picture.{broken_route, broken_stop, broken_text, cost_text, drawing, head_text, picture, verdict_text};
