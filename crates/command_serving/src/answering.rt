@@ -1,4 +1,6 @@
 //! Commands by lines of text, over a session: `serve`, and what it does for each kind of line.
+//!
+//! The module is not called `serve`, since a module and a function of one name are refused.
 ghost use Rattle.std.specs.Prelude.{◌≡◌, ◌≤◌, ◌++◌, IfErr, IfOk, OnErr, MatchResult, ℕ, List, Result, Ok, Err, Some, true, false, length};
 ghost use Rattle.std.specs.Io.KnownBytes.{Appends};
 ghost use Rattle.plan_types.specs.Instance.{Instance};

@@ -1,7 +1,7 @@
 //! An input as lines and the bytes that follow a line, in whatever pieces these come.
 //!
-//! Bytes are counted as they are taken, not as they are read ahead, so that where the serving ends does not depend on the
-//! pieces in which they come.
+//! Bytes are counted as they are taken, not as they are read ahead, so that where the serving ends does not depend
+//! on the pieces in which they come.
 ghost use Rattle.std.specs.Prelude.{◌≡◌, ◌≤◌, ◌<◌, ◌+◌, ◌-◌, ◌++◌, IfOk, MatchResult, OnErr, OnSome, ℕ, List, [], length};
 ghost use Rattle.std.specs.Str.Lines.{strip_carriage_return};
 ghost use Rattle.command_text.specs.Asking.{asked};

@@ -1,7 +1,7 @@
 //! Where commands come from and answers go: readers and writers that tell whether they have failed.
 //!
-//! Std's `Read` and `Write` don't say when a call may fail. A `Source` and a `Sink` tell whether one has, so that a fault
-//! has a cause which a contract can name. A slice of bytes is a source that never fails.
+//! Std's `Read` and `Write` don't say when a call may fail. A `Source` and a `Sink` tell whether one has, so that a
+//! fault has a cause which a contract can name. A slice of bytes is a source that never fails.
 ghost use Rattle.std.specs.Prelude.{◌≡◌, ◌<◌, ◌≤◌, ℕ, List, Option, Bool, true, false, Some, IfOk, IfSome, IsNone, OnErr, length, take};
 ghost use Rattle.std.specs.Io.{ReadsAtMost};
 ghost use Rattle.std.specs.Io.KnownBytes.{Appends, Keeps, ReadConsumes};

@@ -1,15 +1,15 @@
 //! The command text, without device and stream: what a line asks for, the bytes that answer it, and the definition of a
 //! whole input's answers. `command_serving` serves a session by it, `plan_solve` tells its steps by it.
 //!
-//! Entry functions: `read_line` for a line; `Answer::line`, `at_line`, `show` and `print` for an answer; `search_steps`,
-//! `reach_steps` and `next_count` for the pieces of a search.
+//! Entry functions: `read_line` for a line; `Answer::line`, `at_line`, `show` and `print` for an answer;
+//! `search_steps`, `reach_steps` and `next_count` for the pieces of a search.
 //!
 //! Source: this project's own.
 //!
 //! How it works: a line is a command's name and its numbers, parted by blanks. Many steps are cut into commands of
-//! at most 256, each of which is told by a line `at` once it is acknowledged. A number that no field holds is told apart
-//! where the line is read, before the state is asked. Answers that follow a command that was carried out take no memory:
-//! an `at` or `ok` that found none would tell a refusal of what was done.
+//! at most 256, each of which is told by a line `at` once it is acknowledged. A number that no field holds is told
+//! apart where the line is read, before the state is asked. Answers that follow a command that was carried out take
+//! no memory: an `at` or `ok` that found none would tell a refusal of what was done.
 //!
 //! What becomes of commands is a list of fates, one for each try, and not the number of the one that failed, so want of
 //! memory and a full store have their place; the plain case is the empty list. What a text spells is a function that is

@@ -4,9 +4,9 @@
 //!
 //! Source: SVG 2 for the elements; the picture is this project's own.
 //!
-//! How it works: places count from the least x and the greatest y and are multiplied by one whole number, so the text has
-//! no fraction. What the verdict tells as broken is drawn too: of a route the stops that the problem has, each where it
-//! stands first. The route that the verdict names has a broken line and a red row, its stop a ring.
+//! How it works: places count from the least x and the greatest y and are multiplied by one whole number, so the
+//! text has no fraction. What the verdict tells as broken is drawn too: of a route the stops that the problem has,
+//! each where it stands first. The route that the verdict names has a broken line and a red row, its stop a ring.
 //!
 //! Modules, in reading order:
 //! - `texts`: the fixed texts

@@ -17,13 +17,14 @@
 //! Said by `specs/Solved.antt` and `Audited.antt`. Proved:
 //! - `solve`, where it answers a text (`IsSolution`): it is that of the plan which loading, building and so many steps
 //!   give, no request is left out, and the lines were written
-//! - `solve`, where it refuses (`Fails`): the text's first fault, with nothing written, or how many requests are left out
+//! - `solve`, where it refuses (`Fails`): the text's first fault, with nothing written, or how many requests are
+//!   left out
 //! - `solving_is_commands`: the plan is what the commands of a store make of the instance, however the steps are cut
 //! - `what_is_solved_passes_the_audit`: both texts spell values, the solution is sound, serves each request, keeps the
 //!   fleet and prints the distance that it drives
 //!
-//! `OutOfMemory` may come at any time, and `WriteFault` once the text spells an instance: of std's writers no contract says
-//! when a call may fail.
+//! `OutOfMemory` may come at any time, and `WriteFault` once the text spells an instance: of std's writers no
+//! contract says when a call may fail.
 #![tactic(auto)]
 
 mod faults;
