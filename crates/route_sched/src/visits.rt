@@ -103,7 +103,7 @@ impl<'a> Iterator for Visits<'a> {
     }
 }
 
-/// The visit of a stop straight after another visit.
+// The visit of a stop straight after another visit.
 fn visit_behind(last: &Visit, stop: &Stop) -> Visit
     requires last { IsVisit last.now.stop }
     requires stop { IsVisit stop.now }
@@ -123,7 +123,7 @@ fn visit_behind(last: &Visit, stop: &Stop) -> Visit
     }
 }
 
-/// What the vehicle carries after a stop with this demand.
+// What the vehicle carries after a stop with this demand.
 fn load_behind(load: i64, demand: i32) -> i64
     requires { unsigned_abs load ≤ 2 ^ 60 }
     ensures value { result ≡ load +ℤ demand }
