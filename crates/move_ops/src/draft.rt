@@ -8,7 +8,7 @@
 //! What is kept beside the routes, so that a step does not grow with the fleet:
 //! - the front: no vehicle behind the first so many has a stop. Best insertions look at these vehicles and at
 //!   one behind them, which stands for all idle ones. A request that opens a vehicle takes the first idle
-//!   one, so few of these are empty;
+//!   one, so few vehicles before the front are empty;
 //! - the seat of each stop: 0 says that no route has it, which is an invariant; any other number is where to
 //!   look first, and what is found there is tested, so it may be stale;
 //! - the cost: distances are carried from change to change by the tables of the routes that change, the

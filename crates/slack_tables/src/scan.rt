@@ -351,11 +351,11 @@ fn is_dear(least: &[i64], i: usize, near: u64, apart: u64, base: u64, below: i64
 #[derive(Clone, Copy, Debug, PartialEq, Eq)]
 struct Underway {
     ride: Ride,
-    /// The service at the stop where it is.
+    // The service at the stop where it is.
     service: u32,
-    /// The way from there to the delivery.
+    // The way from there to the delivery.
     to_delivery: u64,
-    /// The way from there to the next place of the table.
+    // The way from there to the next place of the table.
     onward: u64,
 }
 
