@@ -1,4 +1,7 @@
 //! A list of stops as the only route: rules 3 to 8. Here no pair can be split.
+//!
+//! Without memory there is nowhere to keep the places of the stops, since a problem that is borrowed can't be
+//! marked; so each partner is looked for in the list. The auditor makes a list of seats instead.
 ghost use Rattle.std.specs.Prelude.{◌≡◌, ◌∷◌, [], ◌+◌, ◌<◌, ◌^◌, IfSome, MatchOption};
 ghost use Rattle.route_sched.specs.Route.{AreLiveOnce};
 ghost use Rattle.plan_audit.specs.Finding.{first_place, seat_of, missing_at, delivered_at};

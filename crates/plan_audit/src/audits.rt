@@ -18,7 +18,8 @@ use std::alloc::Global;
 
 /// Audits a plan with its pins: the least broken rule, by rule, route, place and stop, or pass with the cost; or want of
 /// memory. A plan may leave requests out and has no printed cost, so rule 11 is not asked. A vehicle for which there is
-/// no pin has an empty one; a pin for which there is no route is broken.
+/// no pin has an empty one; a pin for which there is no route is broken. A plan that has not as many routes as there are
+/// vehicles is told before its pins are asked.
 pub fn audit(
     alloc: Global,
     problem: &Problem,

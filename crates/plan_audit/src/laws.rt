@@ -48,7 +48,8 @@ pub fn routes_that_pass_are_feasible_alone()
     ensures { RoutesAreFeasible }
 {}
 
-/// The test `feasible_alone` of a route says that it is feasible alone, as the rules have it.
+/// The test `feasible_alone` of a route says that it is feasible alone, as the rules have it. Definitions of moves and
+/// commands ask this test and the next, since a definition that computes needs tests that compute.
 pub fn tests_say_feasible()
     ensures { TestsSayFeasible }
 {}

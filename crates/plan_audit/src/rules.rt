@@ -42,6 +42,7 @@ pub enum Verdict {
     /// The least broken rule, by rule, route, place and stop. Routes and places count from 1; a route, place or stop that
     /// the rule does not speak of is 0.
     Broken {
+        /// The rule's number, as it is printed; inside the auditor it is an enum.
         rule: u32,
         route: u64,
         place: u64,

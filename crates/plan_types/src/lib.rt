@@ -56,5 +56,6 @@ pub use problems::{Problem, PutFault};
 pub use requests::{Kind, Request, Stop};
 use std::alloc::AllocError;
 
-/// Why a call that needed memory gave up: an allocation was refused.
+/// Why a call that needed memory gave up: an allocation was refused. This is std's `AllocError`, so that `?` converts to
+/// it; where a fault type has a case for it, the case has this name.
 pub type OutOfMemory = AllocError;

@@ -54,7 +54,8 @@ pub(crate) struct Located {
 
 /// What is to be planned: a depot, a fleet of equal vehicles, and requests.
 ///
-/// Every number keeps its limits, no stop number stands twice, and the requests stand by name in rising order.
+/// Every number keeps its limits, no stop number stands twice, and the requests stand by name in rising order. Contracts
+/// see a record of the public fields, with the requests as a list of (name, request).
 #[derive(Debug, Drop)]
 pub struct Problem {
     pub kind: Kind,

@@ -1,4 +1,5 @@
-//! A vehicle's way along its route, place by place.
+//! A vehicle's way along its route, place by place, without memory: the auditor asks it and makes no list for
+//! a route.
 
 ghost use Rattle.std.specs.Prelude.{◌≡◌, ℕ, ◌+◌, ◌≤◌, ◌^◌, ◌+ℤ◌, unsigned_abs};
 ghost use Rattle.plan_types.specs.Limits.{IsVisit};

@@ -28,7 +28,7 @@
 //!
 //! The definition of a step knows nothing of the code: commands and the journal speak of `step` and `steps`
 //! alone. A step is a function of the plans, deviation, seed and number, so searches may be cut and run
-//! again.
+//! again. `proofs/StepExamples` computes one: 2-opt* makes 44 of 54 on a plan of four customers.
 //!
 //! Proved:
 //! - `words` are the words `16 step` to `16 step + 15` of the key stream under the seed, by the RFC's block

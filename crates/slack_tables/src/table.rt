@@ -204,7 +204,8 @@ impl RouteTable {
 
     /// By how much the route gets longer if a request is put into it, its pickup at place `i` and its
     /// delivery at place `j` of the new route, a single at `i`; `None` where the new route exceeds
-    /// the capacity or a window. Places count from 1. Takes no memory.
+    /// the capacity or a window. Places count from 1. Takes no memory. What it answers holds of a request that
+    /// is in the route already, too.
     ///
     /// The distance added can be negative, since rounded distances break the triangle inequality.
     pub fn try_insert(&self, problem: &Problem, name: u32, i: u64, j: u64) -> Option<i64>
