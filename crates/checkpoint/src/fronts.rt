@@ -3,7 +3,7 @@ ghost use Rattle.std.specs.Prelude.{◌≡◌, ◌≢◌, ◌+◌, ◌*◌, ◌%
 ghost use Rattle.sector_disk.specs.Image.{sector};
 ghost use Rattle.checkpoint.specs.Headers.{HasOtherVersion};
 ghost use Rattle.checkpoint.specs.Stores.{IsValid, Counts, begins_with};
-ghost use Rattle.checkpoint.specs.Reads.{IsFront, FitsLayout, IsAllowed, IsOfParity, HasRecords, IsClearFrom, HasStrayFrom};
+ghost use Rattle.checkpoint.specs.Reads.{IsImageFront, FitsLayout, IsAllowed, IsOfParity, HasRecords, IsClearFrom, HasStrayFrom};
 ghost use Rattle.checkpoint.specs.Holdless.{HasNoHeader, IsOfHeaders};
 ghost use Rattle.command_core.specs.declared.commands.Command.{Command};
 ghost use Rattle.state_codec.specs.Bytes.{record_bytes};
@@ -47,7 +47,7 @@ fn valid_header(layout: Layout, sectors: u64, front: &[u8], index: usize) -> Opt
     requires front { length front.now ≡ 512 * 258 }
     requires index { index < 2 }
     ensures fits { IfSome result (FitsLayout layout sectors) }
-    ensures valid { (image : List ℕ) → IsFront sectors front.now image
+    ensures valid { (image : List ℕ) → IsImageFront sectors front.now image
         → IsOfParity layout image index result }
 {
     match header_in(layout.version, &sector_at(front, index)) {
@@ -73,7 +73,7 @@ fn is_of_other_version(version: u32, sector: &[u8; SECTOR_SIZE]) -> bool
 fn no_header(layout: Layout, front: &[u8]) -> StoreFault
     requires front { length front.now ≡ 512 * 258 }
     ensures kind { IsOfHeaders result }
-    ensures told { (sectors : ℕ) (image : List ℕ) → 802 ≤ sectors → IsFront sectors front.now image
+    ensures told { (sectors : ℕ) (image : List ℕ) → 802 ≤ sectors → IsImageFront sectors front.now image
         → ((header : Header) → ¬ IsValid layout image header) → HasNoHeader layout image result }
 {
     if is_of_other_version(layout.version, &sector_at(front, 0)) {
@@ -95,7 +95,7 @@ pub(crate) fn current_header(
     requires room { 802 ≤ sectors }
     ensures kind { IfErr result IsOfHeaders }
     ensures fits { IfOk result (FitsLayout layout sectors) }
-    ensures found { (image : List ℕ) → IsFront sectors front.now image
+    ensures found { (image : List ℕ) → IsImageFront sectors front.now image
         → MatchResult result (λ header. Counts layout image header)
         (λ fault. HasNoHeader layout image fault) }
 {

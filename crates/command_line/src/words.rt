@@ -5,7 +5,7 @@
 ghost use Rattle.std.specs.Prelude.{◌≡◌, IfOk, codes, drop, map, option_and_then, option_map};
 ghost use Rattle.clap.specs.Words.{App, Rule, app_of, first_of, found_of, kind_of, rows_of, subcommand_rows_of, with_rule, with_subcommand};
 ghost use Rattle.command_text.specs.Asking.{field_in};
-ghost use Rattle.command_line.specs.Asked.{ArePositional, Reads, asked_of, paths_in, paths_of, kind_named, list_in, seed_named, seed_or_none, steps_named, store_in, task_in, task_of, told_by, told_by_other, told_of, told_of_store};
+ghost use Rattle.command_line.specs.Asked.{ArePositional, ReadsWords, asked_of, paths_in, paths_of, kind_named, list_in, seed_named, seed_or_none, steps_named, store_in, task_in, task_of, told_by, told_by_other, told_of, told_of_store};
 ghost use Rattle.command_line.specs.CommandLine.{IsKindNames, IsLeafCommand, IsPlannerCommand, IsWord, audits_app, paths_app, kind_rule, solve_app, store_app, word_rule};
 
 use crate::help::{
@@ -72,7 +72,7 @@ static KIND_WORDS: [&str; 2] = ["lilim", "vrp"];
 /// none or too great, and for want of memory.
 pub fn read_words<'a, S: AsStr>(alloc: Global, words: &'a [S]) -> Result<Invocation<'a>, Error>
     ensures { let asked = drop 1 (map S.text words.entry.now) in
-        ArePositional asked → Reads asked result }
+        ArePositional asked → ReadsWords asked result }
 {
     let matches = planner_command(alloc)?.try_get_matches_from(words)?;
     match asked_words(&matches) {

@@ -5,13 +5,13 @@ ghost use Rattle.std.specs.Prelude.{◌≡◌, ◌≤◌, ◌++◌, IfErr, IfOk,
 ghost use Rattle.std.specs.Io.KnownBytes.{Appends};
 ghost use Rattle.plan_types.specs.Instance.{Instance};
 ghost use Rattle.instance_read.specs.declared.faults.ReadFault.{ReadFault};
-ghost use Rattle.command_text.specs.Answering.{counts_of, plain, printed, refused, searched, searched_or, search_steps, reach_steps, shown, unless_broken};
+ghost use Rattle.command_text.specs.Answering.{counts_of, plain, printed, refused, searched, searched_or, steps_to_search, steps_to_reach, shown, unless_broken};
 ghost use Rattle.command_text.specs.Cutting.{pieces_of};
 ghost use Rattle.command_text.specs.Laws.{cut_at};
 ghost use Rattle.command_text.specs.Readings.{IsReading, Reading};
 ghost use Rattle.command_text.specs.Answers.{answer_text, line};
 ghost use Rattle.command_core.specs.declared.states.State.TheVariants.{Loaded};
-ghost use Rattle.command_serving.specs.Input.{Counts, left_of};
+ghost use Rattle.command_serving.specs.Input.{CountsTaken, left_of};
 ghost use Rattle.command_serving.specs.Streams.{Puts};
 ghost use Rattle.command_serving.specs.Served.{HasCause, IsCutShort, IsServed, Tells};
 ghost use Rattle.command_serving.specs.Serving.{Answers, GoesOn, HasNoJob, IsCause, at_line_of, denied, goes_behind, load_reply, load_told, silent};
@@ -21,8 +21,8 @@ use crate::input::{Input, LoadText, Unread};
 use crate::streams::{Failed, Sink, Source};
 use command_core::{Command, Job, Refusal, State};
 use command_text::{
-    Answer, Asked, at_line, next_count, pieces_follow, print, reach_steps, read_instance,
-    search_steps, show, states_follow,
+    Answer, Asked, at_line, next_count, pieces_follow, print, read_instance, show, states_follow,
+    steps_to_reach, steps_to_search,
 };
 use plan_types::Kind;
 use recover::{Denial, Session};
@@ -114,7 +114,7 @@ fn serve_lines<D: Sectors, R: Source, W: Sink>(
         (λ _. IsCutShort reading session.old (pieces_of bytes) before after session.new) }
     ensures cause { IfErr result (λ fault. IsCause fault (R.has_failed reader.new)
         (W.has_failed writer.new) input.new.left) }
-    ensures counted { Counts (left_of R.remaining input.old reader.old) input.old.left
+    ensures counted { CountsTaken (left_of R.remaining input.old reader.old) input.old.left
         (left_of R.remaining input.new reader.new) input.new.left }
 {
     pieces_follow();
@@ -145,7 +145,7 @@ fn serve_asked<D: Sectors, R: Source, W: Sink>(
         (left_of R.remaining input.new reader.new) }
     ensures cause { IfErr result (λ fault. IsCause fault (R.has_failed reader.new)
         (W.has_failed writer.new) input.new.left) }
-    ensures counted { Counts (left_of R.remaining input.old reader.old) input.old.left
+    ensures counted { CountsTaken (left_of R.remaining input.old reader.old) input.old.left
         (left_of R.remaining input.new reader.new) input.new.left }
     ensures less { input.new.left ≤ input.old.left }
 {
@@ -337,14 +337,14 @@ fn serve_search<D: Sectors, W: Sink>(
     steps: u32,
 ) -> Result<(), Failed>
     ensures answers { Answers result session.old
-        (λ s. unless_broken s (searched_or s (search_steps s.state steps)))
+        (λ s. unless_broken s (searched_or s (steps_to_search s.state steps)))
         (W.contents writer.old) (W.contents writer.new) session.new silent }
     ensures failed { OnErr result (W.has_failed writer.new ≡ true) }
 {
     if session.is_broken() {
         return tell(writer, Answer::Broken);
     }
-    match search_steps(session.state(), steps) {
+    match steps_to_search(session.state(), steps) {
         Ok(steps) => search(alloc, session, writer, steps),
         Err(refusal) => tell(writer, Answer::Refused(refusal)),
     }
@@ -357,14 +357,14 @@ fn serve_reach<D: Sectors, W: Sink>(
     goal: u64,
 ) -> Result<(), Failed>
     ensures answers { Answers result session.old
-        (λ s. unless_broken s (searched_or s (reach_steps s.state goal)))
+        (λ s. unless_broken s (searched_or s (steps_to_reach s.state goal)))
         (W.contents writer.old) (W.contents writer.new) session.new silent }
     ensures failed { OnErr result (W.has_failed writer.new ≡ true) }
 {
     if session.is_broken() {
         return tell(writer, Answer::Broken);
     }
-    match reach_steps(session.state(), goal) {
+    match steps_to_reach(session.state(), goal) {
         Ok(steps) => search(alloc, session, writer, steps),
         Err(refusal) => tell(writer, Answer::Refused(refusal)),
     }

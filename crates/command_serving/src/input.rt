@@ -5,7 +5,7 @@
 ghost use Rattle.std.specs.Prelude.{◌≡◌, ◌≤◌, ◌<◌, ◌+◌, ◌-◌, ◌++◌, IfOk, MatchResult, OnErr, OnSome, ℕ, List, [], length};
 ghost use Rattle.std.specs.Str.Lines.{strip_carriage_return};
 ghost use Rattle.command_text.specs.Asking.{asked};
-ghost use Rattle.command_serving.specs.Input.{Counts, CutsNext, EndsFree, IsLast, IsLineSoFar, IsTextSoFar, IsUnread, Loads, TakesLess, TakesMore, TakesPart, TakesShown, TakesText, left_of};
+ghost use Rattle.command_serving.specs.Input.{CountsTaken, CutsNext, EndsFree, IsLast, IsLineSoFar, IsTextSoFar, IsUnread, Loads, TakesLess, TakesMore, TakesPart, TakesShown, TakesText, left_of};
 
 use crate::ahead::Ahead;
 use crate::streams::{Failed, Source};
@@ -227,7 +227,7 @@ impl Input {
     pub(crate) fn next_asked<R: Source>(&mut self, reader: &mut R) -> Result<Option<Asked>, Unread>
         ensures cuts { IfOk result (λ next. CutsNext next
             (left_of R.remaining self.old reader.old) (left_of R.remaining self.new reader.new)) }
-        ensures counted { Counts (left_of R.remaining self.old reader.old) self.old.left
+        ensures counted { CountsTaken (left_of R.remaining self.old reader.old) self.old.left
             (left_of R.remaining self.new reader.new) self.new.left }
         ensures less { IfOk result (λ next. OnSome next (self.new.left < self.old.left)) }
         ensures unread { OnErr result (IsUnread (R.has_failed reader.new) self.new.left) }
@@ -247,7 +247,7 @@ impl Input {
     fn take_line<R: Source>(&mut self, reader: &mut R) -> Result<Part, Unread>
         ensures part { IfOk result (TakesPart (left_of R.remaining self.old reader.old)
             (left_of R.remaining self.new reader.new) self.old.line self.new.line) }
-        ensures counted { Counts (left_of R.remaining self.old reader.old) self.old.left
+        ensures counted { CountsTaken (left_of R.remaining self.old reader.old) self.old.left
             (left_of R.remaining self.new reader.new) self.new.left }
         ensures less { IfOk result (TakesLess self.old.left self.new.left) }
         ensures unread { OnErr result (IsUnread (R.has_failed reader.new) self.new.left) }
@@ -268,7 +268,7 @@ impl Input {
     ) -> Result<LoadText, Unread>
         ensures loads { IfOk result (Loads len (left_of R.remaining self.old reader.old)
             (left_of R.remaining self.new reader.new)) }
-        ensures counted { Counts (left_of R.remaining self.old reader.old) self.old.left
+        ensures counted { CountsTaken (left_of R.remaining self.old reader.old) self.old.left
             (left_of R.remaining self.new reader.new) self.new.left }
         ensures less { self.new.left ≤ self.old.left }
         ensures unread { OnErr result (IsUnread (R.has_failed reader.new) self.new.left) }
@@ -290,7 +290,7 @@ impl Input {
     fn take_more<R: Source>(&mut self, reader: &mut R, text: &mut TextSoFar) -> Result<bool, Unread>
         ensures more { IfOk result (TakesMore (left_of R.remaining self.old reader.old)
             (left_of R.remaining self.new reader.new) text.old text.new) }
-        ensures counted { Counts (left_of R.remaining self.old reader.old) self.old.left
+        ensures counted { CountsTaken (left_of R.remaining self.old reader.old) self.old.left
             (left_of R.remaining self.new reader.new) self.new.left }
         ensures less { self.new.left ≤ self.old.left }
         ensures unread { OnErr result (IsUnread (R.has_failed reader.new) self.new.left) }

@@ -53,4 +53,4 @@ pub use first_word::FirstWord;
 pub use instances::read_instance;
 pub use laws::{pieces_follow, states_follow};
 pub use showing::{Text, print, show};
-pub use steps::{next_count, reach_steps, search_steps};
+pub use steps::{next_count, steps_to_reach, steps_to_search};

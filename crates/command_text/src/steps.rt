@@ -1,6 +1,6 @@
 //! How many steps a line makes, and how they are cut into commands.
 ghost use Rattle.std.specs.Prelude.{◌≡◌, ◌-◌, ◌≤◌, ◌<◌, ◌∷◌, ◌^◌};
-ghost use Rattle.command_text.specs.Answering.{counts_of, reach_steps, search_steps};
+ghost use Rattle.command_text.specs.Answering.{counts_of, steps_to_reach, steps_to_search};
 
 use crate::asked::MAX_SEARCH;
 use command_core::{MAX_COUNT, MAX_STEPS, Refusal, State};
@@ -10,8 +10,8 @@ use command_core::{MAX_COUNT, MAX_STEPS, Refusal, State};
 /// # Errors
 ///
 /// `NoInstance` before the first `load`, `StepsSpent` where a state would have made more than 2^60.
-pub fn search_steps(state: &State, steps: u32) -> Result<u32, Refusal>
-    ensures { result ≡ search_steps state.now steps }
+pub fn steps_to_search(state: &State, steps: u32) -> Result<u32, Refusal>
+    ensures { result ≡ steps_to_search state.now steps }
 {
     let State::Loaded(job) = state else {
         return Err(Refusal::NoInstance);
@@ -28,8 +28,8 @@ pub fn search_steps(state: &State, steps: u32) -> Result<u32, Refusal>
 /// # Errors
 ///
 /// `NoInstance` before the first `load`, `Range` where more than 1,000,000,000 are lacking.
-pub fn reach_steps(state: &State, goal: u64) -> Result<u32, Refusal>
-    ensures { result ≡ reach_steps state.now goal }
+pub fn steps_to_reach(state: &State, goal: u64) -> Result<u32, Refusal>
+    ensures { result ≡ steps_to_reach state.now goal }
 {
     let State::Loaded(job) = state else {
         return Err(Refusal::NoInstance);

@@ -58,7 +58,7 @@ impl Key {
 
 /// Where a line stands.
 #[derive(Clone, Copy, PartialEq, Eq)]
-pub enum Place {
+pub enum Section {
     Outside,
     /// In the section of coordinates or of demands, of which so many lines are left, with this one.
     CoordinateLine(u32),
@@ -68,54 +68,54 @@ pub enum Place {
     AfterEnd,
 }
 
-impl Place {
+impl Section {
     ghost use Rattle.std.specs.Prelude.{◌+◌};
     ghost use Rattle.instance_read.specs.VrpLines.{coordinates_left, demands_left, depots_after, place_after_key};
 
     /// The place of the next line, where so many lines of the section of coordinates are left.
-    pub fn with_coordinates(left: u32) -> Place
+    pub fn with_coordinates(left: u32) -> Section
         ensures { result ≡ coordinates_left left }
     {
         if left == 0 {
-            Place::Outside
+            Section::Outside
         } else {
-            Place::CoordinateLine(left)
+            Section::CoordinateLine(left)
         }
     }
 
     /// The same of the section of demands.
-    pub fn with_demands(left: u32) -> Place
+    pub fn with_demands(left: u32) -> Section
         ensures { result ≡ demands_left left }
     {
         if left == 0 {
-            Place::Outside
+            Section::Outside
         } else {
-            Place::DemandLine(left)
+            Section::DemandLine(left)
         }
     }
 
     /// The place after a line of the list of depots, with so many words after those seen.
-    pub fn after_depots(seen: usize, words: usize) -> Place
+    pub fn after_depots(seen: usize, words: usize) -> Section
         requires { seen < 2 }
         ensures { result ≡ depots_after (seen + words) }
     {
         if words < 2 - seen {
-            Place::DepotLine(seen + words)
+            Section::DepotLine(seen + words)
         } else {
-            Place::Outside
+            Section::Outside
         }
     }
 
     /// The place after a line outside the sections, where so many nodes are announced.
-    pub fn after_key(nodes: Option<u32>, key: Key) -> Place
+    pub fn after_key(nodes: Option<u32>, key: Key) -> Section
         ensures { result ≡ place_after_key nodes key }
     {
         match (nodes, key) {
-            (Some(nodes), Key::Coordinates) => Place::with_coordinates(nodes),
-            (Some(nodes), Key::Demands) => Place::with_demands(nodes),
-            (_, Key::Depots) => Place::DepotLine(0),
-            (_, Key::End) => Place::AfterEnd,
-            _ => Place::Outside,
+            (Some(nodes), Key::Coordinates) => Section::with_coordinates(nodes),
+            (Some(nodes), Key::Demands) => Section::with_demands(nodes),
+            (_, Key::Depots) => Section::DepotLine(0),
+            (_, Key::End) => Section::AfterEnd,
+            _ => Section::Outside,
         }
     }
 }

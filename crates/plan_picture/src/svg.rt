@@ -3,7 +3,7 @@
 //! Route n has the colour `hsl(137 n mod 360, 75%, 30 + 4 (n mod 7)%)`, which is another one for 2,520 routes.
 ghost use Rattle.std.specs.Prelude.{◌≡◌, ◌++◌, [], OnOk, decimal};
 ghost use Rattle.std.specs.Fmt.{signed_decimal};
-ghost use Rattle.plan_picture.specs.Svg.{attribute, bar, broken_class, colour, named, placed};
+ghost use Rattle.plan_picture.specs.Svg.{attribute, bar, broken_class, colour, named, placed_tag};
 ghost use Rattle.plan_picture.specs.Texts.{fixed};
 
 use crate::frame::Point;
@@ -93,9 +93,9 @@ impl Svg {
     }
 
     /// A tag with the place where it stands, not closed yet.
-    #[tactic(auto, unfolding(crate::specs::Svg::placed))]
+    #[tactic(auto, unfolding(crate::specs::Svg::placed_tag))]
     pub(crate) fn put_placed(&mut self, text: Text, point: Point) -> Result<(), OutOfMemory>
-        ensures { OnOk result (self.new ≡ self.old ++ placed text point) }
+        ensures { OnOk result (self.new ≡ self.old ++ placed_tag text point) }
     {
         self.put(text)?;
         self.put_attribute(Text::X, point.x)?;

@@ -1,7 +1,7 @@
 //! From an instance's text to a solution's.
 ghost use Rattle.std.specs.Prelude.{◌≡◌, IfErr, IfOk, MatchResult, OnOk};
 ghost use Rattle.std.specs.Io.KnownBytes.{Appends};
-ghost use Rattle.instance_read.specs.Faults.{Tells};
+ghost use Rattle.instance_read.specs.Faults.{TellsFirstFault};
 ghost use Rattle.command_core.specs.Effects.{effect};
 ghost use Rattle.command_core.specs.declared.commands.Command.TheVariants.{Search};
 ghost use Rattle.command_text.specs.Answering.{at_line};
@@ -62,7 +62,7 @@ fn begin(alloc: Global, kind: Kind, instance: &[u8], seed: u64) -> Result<State,
 
 fn read(alloc: Global, kind: Kind, text: &[u8]) -> Result<Problem, ReadFault>
     ensures value { IfOk result (SpellsInstance kind text.now) }
-    ensures fault { IfErr result (Tells (InstanceFault kind text.now)) }
+    ensures fault { IfErr result (TellsFirstFault (InstanceFault kind text.now)) }
 {
     match kind {
         Kind::LiLim => read_lilim(alloc, text),

@@ -1,6 +1,6 @@
 //! The audit of two texts.
 ghost use Rattle.std.specs.Prelude.{◌≡◌, ◌≢◌, ◌≤◌, IfErr, IfOk};
-ghost use Rattle.instance_read.specs.Faults.{Tells};
+ghost use Rattle.instance_read.specs.Faults.{TellsFirstFault};
 ghost use Rattle.command_text.specs.Readings.{InstanceFault, SpellsInstance};
 ghost use Rattle.planner_cli.specs.Answer.{IsAnswer, JudgesSpelled, SaysSound, refused_answer, verdict_answer};
 ghost use Rattle.planner_cli.specs.Examined.{IsExamined, answer_of};
@@ -86,7 +86,7 @@ pub(crate) fn examine(
 
 fn read_instance(alloc: Global, kind: Kind, text: &[u8]) -> Result<Problem, ReadFault>
     ensures value { IfOk result (SpellsInstance kind text.now) }
-    ensures fault { IfErr result (Tells (InstanceFault kind text.now)) }
+    ensures fault { IfErr result (TellsFirstFault (InstanceFault kind text.now)) }
 {
     match kind {
         Kind::LiLim => read_lilim(alloc, text),

@@ -3,7 +3,7 @@ ghost use Rattle.std.specs.Prelude.{◌≡◌, ◌≤◌, IfOk, MatchOption, cod
 ghost use Rattle.std.specs.IoError.{error_kind};
 ghost use Rattle.std.specs.List.{position_or_len};
 ghost use Rattle.std.specs.Io.KnownBytes.{Appends};
-ghost use Rattle.planner_cli.specs.Telling.{line};
+ghost use Rattle.command_text.specs.Answers.{line};
 ghost use Rattle.planner_cli.specs.Listed.{IsPair, NamesNone, TellsLine, TellsLines, TellsList, is_path, is_tab, list_path, parts_of};
 
 use crate::audited::audit_read;

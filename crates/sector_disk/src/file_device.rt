@@ -178,9 +178,9 @@ fn sync_folder<R: Files<File = File>>(rt: &R, path: &str) -> io::Result<()> {
 }
 
 impl<S: Start, F: FileCalls> Sectors for FileDevice<S, F> {
-    ghost use Rattle.sector_disk.specs.Course.{seen_in, MayLeaveIn, clock_in, MayHaveLeftIn};
+    ghost use Rattle.sector_disk.specs.History.{seen_in, MayLeaveIn, clock_in, MayHaveLeftIn};
     ghost use Rattle.sector_disk.specs.FileRecord.{AnswersAsModel};
-    ghost use Rattle.sector_disk.specs.FileDevice.{device_len, device_calls, device_faults, course_of};
+    ghost use Rattle.sector_disk.specs.FileDevice.{device_len, device_calls, device_faults, history_of};
 
     ghost len = { device_len };
 
@@ -191,15 +191,15 @@ impl<S: Start, F: FileCalls> Sectors for FileDevice<S, F> {
     ghost honest = { λ d. AnswersAsModel d.sectors S.Start.disk S.Start.shown
         (F.FileCalls.entries d.file) };
 
-    ghost seen = { λ d. seen_in (course_of S.Start.disk S.Start.shown F.FileCalls.entries d) };
+    ghost seen = { λ d. seen_in (history_of S.Start.disk S.Start.shown F.FileCalls.entries d) };
 
     ghost possible = { λ d. MayLeaveIn
-        (course_of S.Start.disk S.Start.shown F.FileCalls.entries d) };
+        (history_of S.Start.disk S.Start.shown F.FileCalls.entries d) };
 
-    ghost clock = { λ d. clock_in (course_of S.Start.disk S.Start.shown F.FileCalls.entries d) };
+    ghost clock = { λ d. clock_in (history_of S.Start.disk S.Start.shown F.FileCalls.entries d) };
 
     ghost possible_since = { λ d.
-        MayHaveLeftIn (course_of S.Start.disk S.Start.shown F.FileCalls.entries d) };
+        MayHaveLeftIn (history_of S.Start.disk S.Start.shown F.FileCalls.entries d) };
 
     fn len(&self) -> u64 {
         self.sectors
@@ -242,7 +242,7 @@ impl<S: Start, F: FileCalls> Sectors for FileDevice<S, F> {
         Ok(())
     }
 
-    ghost use Rattle.sector_disk.specs.CourseLaws.{course_counts_now, course_only_now, course_since_earlier};
+    ghost use Rattle.sector_disk.specs.HistoryLaws.{history_counts_now, history_only_now, history_since_earlier};
     ghost use Rattle.sector_disk.specs.FileLaws.{file_reads_possible};
 
     ghost reads_possible = { λ d honest.
@@ -252,13 +252,13 @@ impl<S: Start, F: FileCalls> Sectors for FileDevice<S, F> {
     ghost image_size = { λ d image _ is_image. is_image.size };
 
     ghost counts_now = { λ d t image _ le is_image.
-        course_counts_now (course_of S.Start.disk S.Start.shown F.FileCalls.entries d) t image le
+        history_counts_now (history_of S.Start.disk S.Start.shown F.FileCalls.entries d) t image le
         is_image };
 
     ghost only_now = { λ d m image _ left.
-        course_only_now (course_of S.Start.disk S.Start.shown F.FileCalls.entries d) m image left };
+        history_only_now (history_of S.Start.disk S.Start.shown F.FileCalls.entries d) m image left };
 
     ghost since_earlier = { λ d t u m image _ le left.
-        course_since_earlier (course_of S.Start.disk S.Start.shown F.FileCalls.entries d) t u m
+        history_since_earlier (history_of S.Start.disk S.Start.shown F.FileCalls.entries d) t u m
         image le left };
 }

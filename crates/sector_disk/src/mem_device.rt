@@ -470,8 +470,8 @@ impl Sectors for MemDevice {
         self.try_sync()
     }
 
-    ghost use Rattle.sector_disk.specs.Memory.{course_of};
-    ghost use Rattle.sector_disk.specs.CourseLaws.{course_counts_now, course_only_now, course_since_earlier};
+    ghost use Rattle.sector_disk.specs.Memory.{history_of};
+    ghost use Rattle.sector_disk.specs.HistoryLaws.{history_counts_now, history_only_now, history_since_earlier};
     ghost use Rattle.sector_disk.specs.MemoryLaws.{memory_reads_possible};
 
     ghost reads_possible = { λ d _. memory_reads_possible (memory d) d.kept.whole d.kept.fit };
@@ -479,10 +479,10 @@ impl Sectors for MemDevice {
     ghost image_size = { λ d image _ is_image. is_image.size };
 
     ghost counts_now = { λ d t image _ le is_image.
-        course_counts_now (course_of (memory d)) t image le is_image };
+        history_counts_now (history_of (memory d)) t image le is_image };
 
-    ghost only_now = { λ d m image _ left. course_only_now (course_of (memory d)) m image left };
+    ghost only_now = { λ d m image _ left. history_only_now (history_of (memory d)) m image left };
 
     ghost since_earlier = { λ d t u m image _ le left.
-        course_since_earlier (course_of (memory d)) t u m image le left };
+        history_since_earlier (history_of (memory d)) t u m image le left };
 }

@@ -15,10 +15,10 @@
 ghost use Rattle.std.specs.Prelude.{◌≡◌, ◌+◌, ◌^◌, ◌-◌, ◌≤◌, ◌<◌, pos, ◌+ℤ◌, ◌-ℤ◌, ◌≤ℤ◌, All, IfSome, IsTrue, length, slice_index_or, unsigned_abs};
 ghost use Rattle.plan_types.specs.Limits.{IsVisit};
 ghost use Rattle.nint_dist.specs.Distance.{distance};
-ghost use Rattle.slack_tables.specs.declared.progress.Place.{Place};
+ghost use Rattle.slack_tables.specs.declared.progress.Row.{Row};
 ghost use Rattle.slack_tables.specs.Best.{IsFirstOf, BestIsOne};
 ghost use Rattle.slack_tables.specs.Closed.{AreTight};
-ghost use Rattle.slack_tables.specs.Driven.{IsSmall, IsSmallPlace};
+ghost use Rattle.slack_tables.specs.Driven.{IsSmall, IsSmallRow};
 ghost use Rattle.slack_tables.specs.Legs.{AreLeast, AreLinked, AreRising};
 ghost use Rattle.slack_tables.specs.Walk.{IsTrip, IsUnderway, IsNearWay};
 ghost use Rattle.slack_tables.specs.Span.{AreHome, AreLaden, IsSpan};
@@ -26,8 +26,8 @@ ghost use Rattle.slack_tables.specs.Ride.{IsSmallRide, IsNearRide};
 ghost use Rattle.slack_tables.specs.Scan.{AddsSingle, AddsPair, AddsDelivery, AreDear, IsNearUnderway, served_single, picked_up, gone_on, none_below, offered, accepted};
 
 use crate::closed::{first_open, is_closed, is_past};
-use crate::legs::{ROOM, fill_least, is_hopeless, least_leg_at, leg_at, small_place};
-use crate::progress::{Limits, Place, Progress, difference, is_in_time};
+use crate::legs::{ROOM, fill_least, is_hopeless, least_leg_at, leg_at, small_row};
+use crate::progress::{Limits, Progress, Row, difference, is_in_time};
 use crate::ride::{Detour, Ride, price, ride_of, ride_on, serve_below};
 use crate::span::Span;
 use nint_dist::dist;
@@ -96,20 +96,20 @@ impl Best {
 /// The best place of a single behind the first `kept` stops.
 pub(crate) fn best_single(
     limits: Limits,
-    places: &[Place],
+    places: &[Row],
     span: &Span,
     depot: &Stop,
     stop: &Stop,
     kept: usize,
     below: i64,
 ) -> Option<Addition>
-    requires places { All IsSmallPlace places.now }
+    requires places { All IsSmallRow places.now }
     requires laden { AreLaden places.now }
     requires span { IsSpan span.now places.now }
     requires home { AreHome depot.now places.now }
     requires stop { IsVisit stop.now }
     requires kept { kept + 2 ≤ length places.now }
-    ensures { (d : Place) → IsFirstOf (AddsSingle limits places.now stop.now kept below d) result }
+    ensures { (d : Row) → IsFirstOf (AddsSingle limits places.now stop.now kept below d) result }
 {
     if span.is_full(limits, stop) {
         return None;
@@ -133,26 +133,26 @@ pub(crate) fn best_single(
 // kept. The price by a detour from below is compared first, since it takes no root.
 fn single_at(
     limits: Limits,
-    places: &[Place],
+    places: &[Row],
     stop: &Stop,
     i: usize,
     least: Detour,
     below: i64,
 ) -> Option<i64>
-    requires places { All IsSmallPlace places.now }
+    requires places { All IsSmallRow places.now }
     requires stop { IsVisit stop.now }
     requires from_one { 1 ≤ i }
     requires within { i < length places.now }
-    requires to { (d : Place) → least.to
+    requires to { (d : Row) → least.to
         ≤ distance (slice_index_or places.now (i - 1) d).at.stop stop.now }
-    requires from { (d : Place) → least.from
+    requires from { (d : Row) → least.from
         ≤ distance (slice_index_or places.now i d).at.stop stop.now }
     requires to_small { least.to ≤ 2 ^ 33 }
     requires from_small { least.from ≤ 2 ^ 33 }
-    ensures { (d : Place) → result ≡ served_single below limits places.now stop.now i d }
+    ensures { (d : Row) → result ≡ served_single below limits places.now stop.now i d }
 {
-    let before = small_place(places, i - 1);
-    let tail = small_place(places, i);
+    let before = small_row(places, i - 1);
+    let tail = small_row(places, i);
     let ride = ride_of(&before.at);
     if price(&ride, least, tail) >= below {
         return None;
@@ -168,7 +168,7 @@ fn single_at(
 /// The best places of a pair, its pickup behind the first `kept` stops.
 pub(crate) fn best_pair(
     limits: Limits,
-    places: &[Place],
+    places: &[Row],
     span: &Span,
     depot: &Stop,
     pickup: &Stop,
@@ -176,7 +176,7 @@ pub(crate) fn best_pair(
     kept: usize,
     below: i64,
 ) -> Option<Addition>
-    requires places { All IsSmallPlace places.now }
+    requires places { All IsSmallRow places.now }
     requires ways { AreLinked places.now }
     requires rising { AreRising places.now }
     requires tight { AreTight limits.kind places.now }
@@ -186,7 +186,7 @@ pub(crate) fn best_pair(
     requires pickup { IsVisit pickup.now }
     requires delivery { IsVisit delivery.now }
     requires kept { kept + 2 ≤ length places.now }
-    ensures { (d : Place) → IsFirstOf
+    ensures { (d : Row) → IsFirstOf
         (AddsPair limits places.now pickup.now delivery.now kept below d) result }
 {
     if span.is_far_pair(depot, pickup, delivery, below) {
@@ -223,13 +223,13 @@ struct Trip {
 // the pickup's latest time, none is in time.
 fn best_from(
     trip: &Trip,
-    places: &[Place],
+    places: &[Row],
     least: &[i64],
     first: usize,
     below: i64,
 ) -> Option<Addition>
     requires trip { IsTrip trip.now }
-    requires places { All IsSmallPlace places.now }
+    requires places { All IsSmallRow places.now }
     requires ways { AreLinked places.now }
     requires rising { AreRising places.now }
     requires tight { AreTight trip.now.limits.kind places.now }
@@ -237,7 +237,7 @@ fn best_from(
     requires least { AreLeast first least.now places.now trip.now.delivery }
     requires from_one { 1 ≤ first }
     requires within { first < length places.now }
-    ensures { (d : Place) → IsFirstOf (AddsPair trip.now.limits places.now trip.now.pickup
+    ensures { (d : Row) → IsFirstOf (AddsPair trip.now.limits places.now trip.now.pickup
         trip.now.delivery (first - 1) below d) result }
 {
     let mut best = Best::none_below(below);
@@ -259,27 +259,27 @@ fn best_from(
 // that no price is below the bound.
 fn best_at(
     trip: &Trip,
-    places: &[Place],
+    places: &[Row],
     least: &[i64],
     i: usize,
     near: Detour,
     below: i64,
 ) -> Option<Addition>
     requires trip { IsTrip trip.now }
-    requires places { All IsSmallPlace places.now }
+    requires places { All IsSmallRow places.now }
     requires ways { AreLinked places.now }
     requires tight { AreTight trip.now.limits.kind places.now }
     requires few { length places.now ≤ 40003 }
     requires least { AreLeast i least.now places.now trip.now.delivery }
     requires from_one { 1 ≤ i }
     requires within { i < length places.now }
-    requires to { (d : Place) → near.to
+    requires to { (d : Row) → near.to
         ≤ distance (slice_index_or places.now (i - 1) d).at.stop trip.now.pickup }
-    requires from { (d : Place) → near.from
+    requires from { (d : Row) → near.from
         ≤ distance (slice_index_or places.now i d).at.stop trip.now.pickup }
     requires to_small { near.to ≤ 2 ^ 33 }
     requires from_small { near.from ≤ 2 ^ 33 }
-    ensures { (d : Place) → IsFirstOf
+    ensures { (d : Row) → IsFirstOf
         (AddsDelivery trip.now.limits places.now trip.now.pickup trip.now.delivery i below d)
         result }
 {
@@ -289,7 +289,7 @@ fn best_at(
     if are_dear(trip, places, least, i, near, below) {
         return None;
     }
-    let before = small_place(places, i - 1);
+    let before = small_row(places, i - 1);
     let to = leg_at(places, i - 1, &trip.pickup);
     let onward = leg_at(places, i, &trip.pickup);
     let Some(first) = pick_up(trip, &before.at, to, onward) else {
@@ -300,31 +300,24 @@ fn best_at(
 
 // Whether prices from below show that each place of the delivery adds `below` or more, where the
 // pickup stands at place `i`.
-fn are_dear(
-    trip: &Trip,
-    places: &[Place],
-    least: &[i64],
-    i: usize,
-    near: Detour,
-    below: i64,
-) -> bool
+fn are_dear(trip: &Trip, places: &[Row], least: &[i64], i: usize, near: Detour, below: i64) -> bool
     requires trip { IsTrip trip.now }
-    requires places { All IsSmallPlace places.now }
+    requires places { All IsSmallRow places.now }
     requires ways { AreLinked places.now }
     requires least { AreLeast i least.now places.now trip.now.delivery }
     requires from_one { 1 ≤ i }
     requires within { i < length places.now }
-    requires to { (d : Place) → near.to
+    requires to { (d : Row) → near.to
         ≤ distance (slice_index_or places.now (i - 1) d).at.stop trip.now.pickup }
-    requires from { (d : Place) → near.from
+    requires from { (d : Row) → near.from
         ≤ distance (slice_index_or places.now i d).at.stop trip.now.pickup }
     requires to_small { near.to ≤ 2 ^ 33 }
     requires from_small { near.from ≤ 2 ^ 33 }
     ensures { IsTrue result → AreDear trip.now.limits places.now trip.now.pickup
         trip.now.delivery i below }
 {
-    let before = small_place(places, i - 1);
-    let next = small_place(places, i);
+    let before = small_row(places, i - 1);
+    let next = small_row(places, i);
     let from = least_leg_at(places, i, &trip.delivery);
     let reach = before.at.distance + near.to;
     let beside = reach + trip.across + from;
@@ -385,7 +378,7 @@ fn pick_up(trip: &Trip, before: &Progress, to: u64, onward: u64) -> Option<Under
 fn go_on(
     limits: Limits,
     on: &Underway,
-    places: &[Place],
+    places: &[Row],
     j: usize,
     to_delivery: u64,
 ) -> Option<Underway>
@@ -394,7 +387,7 @@ fn go_on(
     requires from_two { 2 ≤ j }
     requires within { j ≤ length places.now }
     requires ways { AreLinked places.now }
-    ensures value { (d : Place) → result ≡ gone_on limits on.now places.now j to_delivery d }
+    ensures value { (d : Row) → result ≡ gone_on limits on.now places.now j to_delivery d }
     ensures near { IfSome result (λ next. IsNearRide on.now.ride on.now.onward next.ride) }
 {
     if j == places.len() {
@@ -416,28 +409,28 @@ fn go_on(
 // it is past the delivery's latest time, none is in time.
 fn best_delivery(
     trip: &Trip,
-    places: &[Place],
+    places: &[Row],
     least: &[i64],
     i: usize,
     first: Underway,
     below: i64,
 ) -> Option<Addition>
     requires trip { IsTrip trip.now }
-    requires places { All IsSmallPlace places.now }
+    requires places { All IsSmallRow places.now }
     requires ways { AreLinked places.now }
     requires few { length places.now ≤ 40003 }
     requires least { AreLeast i least.now places.now trip.now.delivery }
     requires from_one { 1 ≤ i }
     requires within { i < length places.now }
-    requires underway { (d : Place)
+    requires underway { (d : Row)
         → IsUnderway trip.now.limits places.now trip.now.pickup trip.now.delivery i
         (i + 1) d first }
-    requires near { (d : Place) → IsNearWay places.now (i + 1) d first }
-    ensures { (d : Place) → IsFirstOf
+    requires near { (d : Row) → IsNearWay places.now (i + 1) d first }
+    ensures { (d : Row) → IsFirstOf
         (AddsDelivery trip.now.limits places.now trip.now.pickup trip.now.delivery i below d)
         result }
 {
-    let next = small_place(places, i);
+    let next = small_row(places, i);
     let base = next.at.distance;
     let reach = first.ride.distance + first.onward;
     let mut on = first;
@@ -447,7 +440,7 @@ fn best_delivery(
         if !is_in_time(trip.limits.kind, on.ride.start, latest) {
             return best.found;
         }
-        let tail = small_place(places, j - 1);
+        let tail = small_row(places, j - 1);
         let detour = Detour {
             to: on.to_delivery,
             from: leg_at(places, j - 1, &trip.delivery),

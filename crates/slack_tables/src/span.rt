@@ -15,12 +15,12 @@
 ghost use Rattle.std.specs.Prelude.{◌≡◌, ◌+◌, ◌*◌, ◌^◌, ◌≤◌, ◌<◌, ℕ, ℤ, pos, ◌+ℤ◌, ◌-ℤ◌, ◌≤ℤ◌, ◌<ℤ◌, ◌-◌, IsTrue, All, length, slice_index_or, unsigned_abs};
 ghost use Rattle.plan_types.specs.declared.requests.Stop.{Stop};
 ghost use Rattle.nint_dist.specs.Distance.{distance};
-ghost use Rattle.slack_tables.specs.declared.progress.Place.{Place};
-ghost use Rattle.slack_tables.specs.Driven.{IsSmallPlace};
+ghost use Rattle.slack_tables.specs.declared.progress.Row.{Row};
+ghost use Rattle.slack_tables.specs.Driven.{IsSmallRow};
 ghost use Rattle.slack_tables.specs.Span.{IsInside, IsSmallSpan, IsSpanTo, AreEnds, IsSpan, IsNearest, IsFloor, IsFloorOfPair, IsFarSingle, IsFarPair, edge_of};
 
-use crate::legs::small_place;
-use crate::progress::{Limits, Place, difference};
+use crate::legs::small_row;
+use crate::progress::{Limits, Row, difference};
 use nint_dist::distances_are_nearest_roots;
 use plan_types::Stop;
 
@@ -46,29 +46,29 @@ struct Nearest {
 
 impl Span {
     /// The span of the places of a route.
-    pub(crate) fn of(places: &[Place]) -> Span
-        requires places { All IsSmallPlace places.now }
+    pub(crate) fn of(places: &[Row]) -> Span
+        requires places { All IsSmallRow places.now }
         requires count { 2 ≤ length places.now }
         ensures { IsSpan result places.now }
     {
         let mut span = Span::begun(places);
         for k in 2..places.len() - 1 {
-            let before = small_place(places, k - 1);
-            let here = small_place(places, k);
+            let before = small_row(places, k - 1);
+            let here = small_row(places, k);
             span = span.extended(before, here);
         }
         span
     }
 
     // The span of the first stop alone, with the ends of the route.
-    fn begun(places: &[Place]) -> Span
-        requires places { All IsSmallPlace places.now }
+    fn begun(places: &[Row]) -> Span
+        requires places { All IsSmallRow places.now }
         requires count { 2 ≤ length places.now }
         ensures within { IsSpanTo result places.now 2 }
         ensures ends { AreEnds result places.now }
     {
-        let first = small_place(places, 1);
-        let end = small_place(places, places.len() - 1);
+        let first = small_row(places, 1);
+        let end = small_row(places, places.len() - 1);
         Span {
             west: first.at.stop.x,
             east: first.at.stop.x,
@@ -81,9 +81,9 @@ impl Span {
     }
 
     // The span with one place more, behind one that is in it.
-    fn extended(&self, before: &Place, here: &Place) -> Span
-        requires before { IsSmallPlace before.now }
-        requires here { IsSmallPlace here.now }
+    fn extended(&self, before: &Row, here: &Row) -> Span
+        requires before { IsSmallRow before.now }
+        requires here { IsSmallRow here.now }
         requires small { IsSmallSpan self.now }
         ensures inside { IsInside result here.now.at.stop }
         ensures wider { (s : Stop) → IsInside self.now s → IsInside result s }
@@ -133,9 +133,9 @@ impl Span {
         self.north.max(stop.y)
     }
 
-    fn longer(&self, before: &Place, here: &Place) -> i64
-        requires before { IsSmallPlace before.now }
-        requires here { IsSmallPlace here.now }
+    fn longer(&self, before: &Row, here: &Row) -> i64
+        requires before { IsSmallRow before.now }
+        requires here { IsSmallRow here.now }
         requires small { IsSmallSpan self.now }
         ensures here { edge_of before.now here.now ≤ℤ result }
         ensures before { self.now.longest ≤ℤ result }
@@ -250,26 +250,26 @@ impl Span {
 }
 
 // The longer of the ways between the depot and the stops.
-fn tips(places: &[Place]) -> i64
-    requires places { All IsSmallPlace places.now }
+fn tips(places: &[Row]) -> i64
+    requires places { All IsSmallRow places.now }
     requires count { 2 ≤ length places.now }
-    ensures first { (d : Place) → edge_of (slice_index_or places.now 0 d)
+    ensures first { (d : Row) → edge_of (slice_index_or places.now 0 d)
         (slice_index_or places.now 1 d) ≤ℤ result }
-    ensures last { (d : Place) → edge_of (slice_index_or places.now (length places.now - 2) d)
+    ensures last { (d : Row) → edge_of (slice_index_or places.now (length places.now - 2) d)
         (slice_index_or places.now (length places.now - 1) d) ≤ℤ result }
     ensures small { unsigned_abs result ≤ 2 ^ 52 }
 {
-    let depot = small_place(places, 0);
-    let first = small_place(places, 1);
-    let last = small_place(places, places.len() - 2);
-    let end = small_place(places, places.len() - 1);
+    let depot = small_row(places, 0);
+    let first = small_row(places, 1);
+    let last = small_row(places, places.len() - 2);
+    let end = small_row(places, places.len() - 1);
     edge(depot, first).max(edge(last, end))
 }
 
 // The way from one place to the next.
-fn edge(before: &Place, here: &Place) -> i64
-    requires before { IsSmallPlace before.now }
-    requires here { IsSmallPlace here.now }
+fn edge(before: &Row, here: &Row) -> i64
+    requires before { IsSmallRow before.now }
+    requires here { IsSmallRow here.now }
     ensures value { result ≡ edge_of before.now here.now }
     ensures small { unsigned_abs result ≤ 2 ^ 51 }
 {

@@ -8,13 +8,13 @@ ghost use Rattle.plan_types.specs.Limits.{IsVisit};
 ghost use Rattle.nint_dist.specs.Distance.{distance};
 ghost use Rattle.slack_tables.specs.Legs.{AreLinked};
 
-use crate::progress::Place;
+use crate::progress::Row;
 use nint_dist::{dist, distances_are_nearest_roots};
 use plan_types::Stop;
 
 /// The way from a stop to another, where the table may have it behind its place `seen`.
 #[inline(always)]
-pub(crate) fn way(places: &[Place], seen: usize, from: &Stop, to: &Stop) -> u64
+pub(crate) fn way(places: &[Row], seen: usize, from: &Stop, to: &Stop) -> u64
     requires places { AreLinked places.now }
     requires from { IsVisit from.now }
     requires to { IsVisit to.now }
@@ -30,7 +30,7 @@ pub(crate) fn way(places: &[Place], seen: usize, from: &Stop, to: &Stop) -> u64
 
 // The way behind place `seen`, where it is between two such places.
 #[inline(always)]
-fn known_way(places: &[Place], seen: usize, from: &Stop, to: &Stop) -> Option<u64>
+fn known_way(places: &[Row], seen: usize, from: &Stop, to: &Stop) -> Option<u64>
     requires places { AreLinked places.now }
     requires from { IsVisit from.now }
     requires to { IsVisit to.now }
@@ -60,7 +60,7 @@ const AHEAD: usize = 8;
 
 /// The first place from `seen` on where the table has the stop, or `seen` itself where it is not among the next few.
 #[inline(always)]
-pub(crate) fn place_seen(places: &[Place], seen: usize, stop: &Stop) -> usize {
+pub(crate) fn place_seen(places: &[Row], seen: usize, stop: &Stop) -> usize {
     let end = places.len().min(seen.saturating_add(AHEAD));
     for k in seen..end {
         if places[k].at.stop.number == stop.number {

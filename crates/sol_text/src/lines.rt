@@ -27,7 +27,7 @@ pub(crate) enum Line {
 
 /// Reads the line with this number.
 #[tactic(auto, unfolding(crate::specs::Reading::line_of))]
-pub(crate) fn read_line(alloc: Global, number: u64, line: &[u8]) -> Result<Line, SolFault>
+pub(crate) fn parse_line(alloc: Global, number: u64, line: &[u8]) -> Result<Line, SolFault>
     ensures { Gives result (line_of number line.now) }
 {
     if is_blank_line(line) {

@@ -7,7 +7,7 @@ ghost use Rattle.sol_text.specs.declared.read.Solution.{Solution};
 ghost use Rattle.sol_text.specs.Faults.{IsFirstFault, IsUnlessMemory, Spells, no_memory};
 
 use crate::faults::{SolFault, SolFaultKind};
-use crate::lines::{Line, read_line};
+use crate::lines::{Line, parse_line};
 use plan_types::Routes;
 use std::alloc::Global;
 use text_lines::Lines;
@@ -46,7 +46,7 @@ fn read_lines(alloc: Global, text: &[u8]) -> Result<Solution, SolFault>
     let mut number = 0;
     for line in Lines::new(text) {
         number += 1;
-        match read_line(alloc, number, line)? {
+        match parse_line(alloc, number, line)? {
             Line::Blank => {}
             Line::Route(route) => routes.push(route)?,
             Line::Cost(cost) => {

@@ -2,8 +2,8 @@
 
 use command_core::{Command, Job, Refusal, State, apply};
 use command_text::{
-    Answer, Asked, FirstWord, at_line, next_count, print, reach_steps, read_instance, read_line,
-    search_steps, show,
+    Answer, Asked, FirstWord, at_line, next_count, print, read_instance, read_line, show,
+    steps_to_reach, steps_to_search,
 };
 use instance_read::{ReadFault, ReadFaultKind};
 use plan_types::Kind;
@@ -312,18 +312,18 @@ fn searched(alloc: Global) -> Result<State, Fail> {
 #[test]
 fn counts_the_steps_to_reach(rt: HostRuntime) -> Result<(), Fail> {
     let state = searched(rt.alloc())?;
-    assert!(rt; reach_steps(&state, 456) == Ok(256));
-    assert!(rt; reach_steps(&state, 10) == Ok(0));
-    assert!(rt; reach_steps(&state, 1_000_000_200) == Ok(1_000_000_000));
-    assert!(rt; reach_steps(&state, 1_000_000_201) == Err(Refusal::Range));
+    assert!(rt; steps_to_reach(&state, 456) == Ok(256));
+    assert!(rt; steps_to_reach(&state, 10) == Ok(0));
+    assert!(rt; steps_to_reach(&state, 1_000_000_200) == Ok(1_000_000_000));
+    assert!(rt; steps_to_reach(&state, 1_000_000_201) == Err(Refusal::Range));
     Ok(())
 }
 
 #[test]
 fn counts_the_steps_to_search(rt: HostRuntime) -> Result<(), Fail> {
     let state = searched(rt.alloc())?;
-    assert!(rt; search_steps(&state, 300) == Ok(300));
-    assert!(rt; search_steps(&State::Empty, 300) == Err(Refusal::NoInstance));
+    assert!(rt; steps_to_search(&state, 300) == Ok(300));
+    assert!(rt; steps_to_search(&State::Empty, 300) == Err(Refusal::NoInstance));
     assert!(rt; next_count(300) == 256);
     assert!(rt; next_count(44) == 44);
     Ok(())

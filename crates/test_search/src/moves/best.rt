@@ -14,10 +14,10 @@ use plan_types::{Kind, Pins, Plan, Problem, Request};
 use std::alloc::Global;
 use std::test::Fail;
 
-type Place = (u64, u64, u64);
+type Insertion = (u64, u64, u64);
 
 /// No insertion has this place.
-const NOT_ASKED: Place = (0, 0, 0);
+const NOT_ASKED: Insertion = (0, 0, 0);
 
 // What `best_insertion` answers, and what the plan's tables do, if that is the same.
 fn best(
@@ -26,7 +26,7 @@ fn best(
     pins: &[u32],
     plan: &[u32],
     name: u32,
-) -> Result<Option<Place>, Fail> {
+) -> Result<Option<Insertion>, Fail> {
     let pins = pins_of(alloc, pins)?;
     let plan = plan_of(alloc, plan)?;
     if !is_passing(alloc, problem, &pins, &plan)? {
@@ -45,7 +45,7 @@ fn best_by_tables(
     pins: &Pins,
     plan: &Plan,
     name: u32,
-) -> Result<Option<Place>, Fail>
+) -> Result<Option<Insertion>, Fail>
     requires { passes problem.now pins.now.routes plan.now.routes ≡ true }
 {
     plans_pass_without_pins();
@@ -76,7 +76,13 @@ fn is_free(
 }
 
 /// A problem, pins, a plan, an unplanned request, and its best place.
-type Example = (Given, &'static [u32], &'static [u32], u32, Option<Place>);
+type Example = (
+    Given,
+    &'static [u32],
+    &'static [u32],
+    u32,
+    Option<Insertion>,
+);
 
 const EXAMPLES: [Example; 11] = [
     (FOUR, &[], &[1, 0, 2, 0, 4, 0, 0], 3, Some((2, 1, 1))),
