@@ -1,4 +1,8 @@
-// Reading a store.
+//! Reading a store.
+//!
+//! Headers and records are read in one call of 258 sectors, the snapshot in another, into a buffer as long as the valid
+//! header says, which is at most a half of the device. So want of memory may be told where else it would be that there is no
+//! store.
 ghost use Rattle.std.specs.Prelude.{◌≡◌, ◌+◌, ◌*◌, ◌/◌, ◌%◌, ◌<◌, ◌≤◌, ℕ, List, length, take, drop, OnOk, IfOk, IfErr, IsErrOf, MatchResult};
 ghost use Rattle.command_core.specs.Runs.{IsState};
 ghost use Rattle.checkpoint.specs.Layouts.{sectors_in};
@@ -202,7 +206,7 @@ pub(crate) fn read_parts<D: Sectors>(
     }
 }
 
-/// The store's fault for a snapshot that does not decode.
+// The store's fault for a snapshot that does not decode.
 fn told_of(fault: CodecFault) -> StoreFault
     ensures { result ≡ told_of fault }
 {

@@ -1,3 +1,4 @@
+//! Zeros, and bytes that are filled up with them.
 ghost use Rattle.std.specs.Prelude.{◌+◌, ◌<◌, ◌≤◌, ◌^◌, length, IfOk};
 ghost use Rattle.checkpoint.specs.Puts.{IsZeros, FillsSectors};
 

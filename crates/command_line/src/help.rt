@@ -1,4 +1,5 @@
-//! What the program says of itself: its version, and what each line that it prints and each status means.
+//! What the program says of itself: its version, which `clap`'s own flag tells, and what each line that it prints
+//! and each status means.
 
 pub(crate) const VERSION: &str = "0.1.0";
 

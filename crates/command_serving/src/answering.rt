@@ -1,4 +1,6 @@
-//! Commands by lines of text, over a session.
+//! Commands by lines of text, over a session: `serve`, and what it does for each kind of line.
+//!
+//! The module is not called `serve`, since a module and a function of one name are refused.
 ghost use Rattle.std.specs.Prelude.{◌≡◌, ◌≤◌, ◌++◌, IfErr, IfOk, OnErr, MatchResult, ℕ, List, Result, Ok, Err, Some, true, false, length};
 ghost use Rattle.std.specs.Io.KnownBytes.{Appends};
 ghost use Rattle.plan_types.specs.Instance.{Instance};
@@ -68,12 +70,17 @@ enum Goes {
     ToEnd,
 }
 
-/// Does what each line of the input asks for, and writes its answer, until the input ends, or a `load` line leaves open how many bytes
-/// follow it. It ends before that where the reader or the writer fails, or 10^12 bytes were read. Takes no memory to read lines.
+/// Does what each line of the input asks for, and writes its answer, until the input ends, or a `load` line leaves open
+/// how many bytes follow it. Takes no memory to read lines.
 ///
-/// `ok` and `at` stand behind the last sync of what they acknowledge. Where the bytes of the input are known and all are served, what is
-/// written is the answer to them, and the session has carried out just the commands that it says, up to a failed device. Behind a fault the
-/// state is that after the commands answered, or with the one whose answer was being written.
+/// `ok` and `at` stand behind the last sync of what they acknowledge. Where the bytes of the input are known and all are
+/// served, what is written is the answer to them, and the session has carried out just the commands that it says, up to
+/// a failed device.
+///
+/// # Errors
+///
+/// `ReadFault` where the reader fails or 10^12 bytes were read, `WriteFault` where the writer fails. The state is then
+/// that after the commands answered, or with the one whose answer was being written.
 pub fn serve<D: Sectors, R: Source, W: Sink>(
     alloc: Global,
     session: &mut Session<D>,
@@ -93,7 +100,7 @@ pub fn serve<D: Sectors, R: Source, W: Sink>(
     serve_lines(alloc, session, reader, &mut input, writer)
 }
 
-/// Serves the lines that the input has left.
+// Serves the lines that the input has left.
 fn serve_lines<D: Sectors, R: Source, W: Sink>(
     alloc: Global,
     session: &mut Session<D>,
@@ -162,7 +169,7 @@ fn serve_asked<D: Sectors, R: Source, W: Sink>(
     }
 }
 
-/// Whether there is more to serve, once an answer is written.
+// Whether there is more to serve, once an answer is written.
 fn once(written: Result<(), Failed>, goes: Goes) -> Result<Goes, ServeFault>
     ensures { MatchResult written (λ _. result ≡ Ok goes) (λ _. result ≡ Err WriteFault) }
 {
@@ -172,7 +179,7 @@ fn once(written: Result<(), Failed>, goes: Goes) -> Result<Goes, ServeFault>
     }
 }
 
-/// Writes a text and hands it on.
+// Writes a text and hands it on.
 fn put<W: Sink>(writer: &mut W, text: &[u8]) -> Result<(), Failed>
     ensures bytes { Puts (W.contents writer.old) (W.contents writer.new) result text.now }
     ensures failed { OnErr result (W.has_failed writer.new ≡ true) }
@@ -181,7 +188,7 @@ fn put<W: Sink>(writer: &mut W, text: &[u8]) -> Result<(), Failed>
     writer.flush()
 }
 
-/// Writes a line and hands it on.
+// Writes a line and hands it on.
 fn put_line<W: Sink>(writer: &mut W, text: &[u8]) -> Result<(), Failed>
     ensures bytes { Puts (W.contents writer.old) (W.contents writer.new) result (line text.now) }
     ensures failed { OnErr result (W.has_failed writer.new ≡ true) }
@@ -190,7 +197,7 @@ fn put_line<W: Sink>(writer: &mut W, text: &[u8]) -> Result<(), Failed>
     put(writer, b"\n")
 }
 
-/// Writes the last line of an answer.
+// Writes the last line of an answer.
 fn tell<W: Sink>(writer: &mut W, answer: Answer) -> Result<(), Failed>
     ensures bytes { Puts (W.contents writer.old) (W.contents writer.new) result
         (line (answer_text answer)) }
@@ -199,7 +206,7 @@ fn tell<W: Sink>(writer: &mut W, answer: Answer) -> Result<(), Failed>
     put_line(writer, answer.line().as_bytes())
 }
 
-/// Writes the lines of an answer, and `ok` behind them.
+// Writes the lines of an answer, and `ok` behind them.
 fn tell_text<W: Sink>(writer: &mut W, text: &[u8]) -> Result<(), Failed>
     ensures bytes { Puts (W.contents writer.old) (W.contents writer.new) result
         (text.now ++ line (answer_text Answer.Ok)) }
@@ -209,7 +216,7 @@ fn tell_text<W: Sink>(writer: &mut W, text: &[u8]) -> Result<(), Failed>
     tell(writer, Answer::Ok)
 }
 
-/// Carries the command out. `Ok` comes after its last sync.
+// Carries the command out. `Ok` comes after its last sync.
 fn applied<D: Sectors>(alloc: Global, session: &mut Session<D>, command: Command) -> Answer
     ensures { Tells session.old (λ s. plain s command)
         (line (answer_text result)) session.new silent }
@@ -232,7 +239,7 @@ fn denied(denial: Denial) -> Answer
     }
 }
 
-/// What is answered to a command with a number that no field holds.
+// What is answered to a command with a number that no field holds.
 fn refused<D: Sectors>(session: &Session<D>, refusal: Refusal) -> Answer
     ensures { Tells session.now (λ s. unless_broken s (refused s s.state refusal))
         (line (answer_text result)) session.now silent }
@@ -246,7 +253,7 @@ fn refused<D: Sectors>(session: &Session<D>, refusal: Refusal) -> Answer
     }
 }
 
-/// The job of a session that is not broken and has an instance, or the answer that tells that it is none.
+// The job of a session that is not broken and has an instance, or the answer that tells that it is none.
 fn job_of<D: Sectors>(session: &Session<D>) -> Result<&Job, Answer>
     ensures job { IfOk result (λ job. (session.now.is_broken ≡ false)
         × (session.now.state ≡ Loaded job.now)) }
@@ -261,7 +268,7 @@ fn job_of<D: Sectors>(session: &Session<D>) -> Result<&Job, Answer>
     }
 }
 
-/// Whether there is more to serve behind the text of a `load`.
+// Whether there is more to serve behind the text of a `load`.
 fn goes_behind(text: &LoadText) -> Goes
     ensures { result ≡ goes_behind text.now }
 {
@@ -291,7 +298,7 @@ fn serve_load<D: Sectors, W: Sink>(
     }
 }
 
-/// What is answered to a text for which no memory was found.
+// What is answered to a text for which no memory was found.
 fn dropped<D: Sectors>(session: &Session<D>) -> Answer
     ensures { (seed : ℕ) (found : Result Instance ReadFault)
         → Tells session.now (load_reply seed found) (line (answer_text result)) session.now silent }
@@ -303,7 +310,7 @@ fn dropped<D: Sectors>(session: &Session<D>) -> Answer
     }
 }
 
-/// Reads the instance and begins anew with it.
+// Reads the instance and begins anew with it.
 fn loaded<D: Sectors>(
     alloc: Global,
     session: &mut Session<D>,
@@ -364,7 +371,7 @@ fn serve_reach<D: Sectors, W: Sink>(
     }
 }
 
-/// Searches piece by piece, each told once it is acknowledged.
+// Searches piece by piece, each told once it is acknowledged.
 fn search<D: Sectors, W: Sink>(
     alloc: Global,
     session: &mut Session<D>,
@@ -387,7 +394,7 @@ fn search<D: Sectors, W: Sink>(
     tell(writer, Answer::Ok)
 }
 
-/// Writes how far the search is.
+// Writes how far the search is.
 fn tell_progress<D: Sectors, W: Sink>(session: &Session<D>, writer: &mut W) -> Result<(), Failed>
     ensures bytes { Puts (W.contents writer.old) (W.contents writer.new) result
         (at_line_of session.now) }

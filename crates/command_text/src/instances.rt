@@ -1,4 +1,4 @@
-//! The texts of instances.
+//! The text of an instance, which follows a `load` line.
 ghost use Rattle.std.specs.Prelude.{◌≡◌, IfErr, IfOk};
 ghost use Rattle.instance_read.specs.Faults.{TellsFirstFault};
 ghost use Rattle.command_text.specs.Readings.{InstanceFault, IsReading, IsUnlessMemory, Reading, SpellsInstance};

@@ -1,4 +1,4 @@
-//! Li-Lim's pickup and delivery instances.
+//! The reader of Li and Lim's pickup and delivery instances.
 ghost use Rattle.std.specs.Prelude.{◌≡◌, ◌+◌, IfOk, IfErr, MatchResult, None, length, map};
 ghost use Rattle.text_lines.specs.Lines.{lines_of};
 ghost use Rattle.instance_read.specs.Faults.{TellsFirstFault};

@@ -1,4 +1,7 @@
-//! CVRPLIB's capacitated routing instances, in TSPLIB95's layout.
+//! The reader of CVRPLIB's capacitated routing instances, in TSPLIB95's layout.
+//!
+//! The lines behind EOF are passed over and not left unread: where a text is cut, the line after the last is told, so
+//! their number is asked anyway.
 ghost use Rattle.std.specs.Prelude.{◌≡◌, ◌+◌, IfOk, IfErr, None, length};
 ghost use Rattle.std.specs.Option.{option_map_or};
 ghost use Rattle.text_lines.specs.Lines.{lines_of};

@@ -143,6 +143,7 @@ impl Draft {
         stands
     }
 
+    /// Whether a key stood.
     pub fn has_seen(&self, key: Key) -> bool
         requires { IsDraft self.now }
         ensures { result ≡ has_seen self.now key }

@@ -1,4 +1,8 @@
-//! The lines of a `.vrp` text.
+//! The lines of a `.vrp` text: keys with their values, and the sections that follow some keys.
+//!
+//! A section of nodes is over with its last line, whatever that line says, so a line beyond it is outside the sections.
+//! Beside std's functions stand `trim_blanks_end` (`trim_ascii_end` trims more bytes) and `ends_in` (a suffix in any
+//! letter case).
 ghost use Rattle.std.specs.Prelude.{◌≡◌, ◌-◌, ◌<◌, ◌≤◌, codes, length, take, IfSome, MatchOption};
 ghost use Rattle.std.specs.List.{position_or_len, suffix_len};
 ghost use Rattle.std.specs.Str.{str_eq_ignore_ascii_case};
@@ -125,7 +129,7 @@ pub fn read_key(text: &[u8]) -> (Key, &[u8])
     (key_from(key, trim_blanks(text)), value)
 }
 
-/// What stands before the first colon, or all where there is none, and what stands after it.
+// What stands before the first colon, or all where there is none, and what stands after it.
 fn split_key(line: &[u8]) -> (&[u8], &[u8])
     ensures key { result.0.now ≡ key_text line.now }
     ensures value { result.1.now ≡ value_text line.now }
@@ -145,7 +149,7 @@ fn colon_place(line: &[u8]) -> Option<usize>
     line.iter().position(|byte| *byte == b':')
 }
 
-/// The line without the blanks and tabs at both ends.
+// The line without the blanks and tabs at both ends.
 fn trim_blanks(line: &[u8]) -> &[u8]
     ensures { result.now ≡ trimmed line.now }
 {
@@ -162,7 +166,7 @@ fn trim_blanks_end(text: &[u8]) -> &[u8]
     rest
 }
 
-/// The key that stands before the colon of this line.
+// The key that stands before the colon of this line.
 fn key_from(key: &[u8], line: &[u8]) -> Key
     ensures { result ≡ key_from key.now line.now }
 {

@@ -1,4 +1,6 @@
-//! What is said of a text that is refused.
+//! What is said of a text that is refused: the sentence of its fault, and under it the line that the fault names.
+//!
+//! A line that is cited keeps its tabs, since Li and Lim's files use them; other bytes that can't be printed are `?`.
 ghost use Rattle.std.specs.Prelude.{◌≡◌, ◌++◌, IfOk, OnOk, map, string_bytes, take};
 ghost use Rattle.std.specs.Option.{option_copied};
 ghost use Rattle.text_lines.specs.Lines.{ended, lines_of};

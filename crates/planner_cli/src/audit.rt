@@ -16,10 +16,14 @@ use std::alloc::{AllocError, Global};
 
 /// Audits a solution's text against an instance's text.
 ///
-/// The line is `pass UNPLANNED VEHICLES DISTANCE` with status 0, `broken RULE route R place P stop S` with
-/// status 1 for the least broken rule, or `instance NAME LINE` or `solution NAME LINE` with status 2 for a text
-/// that is refused, the instance first. So the status is 0 just where both texts spell values and the solution is sound,
-/// serves each request, keeps the fleet, and prints the distance that it drives.
+/// The line is `pass UNPLANNED VEHICLES DISTANCE` with status 0, `broken RULE route R place P stop S` with status 1 for
+/// the least broken rule, or `instance NAME LINE` or `solution NAME LINE` with status 2 for a text that is refused, the
+/// instance first. So the status is 0 just where both texts spell values and the solution is sound, serves each request,
+/// keeps the fleet, and prints the distance that it drives.
+///
+/// # Errors
+///
+/// `OutOfMemory`.
 pub fn audit_text(
     alloc: Global,
     kind: Kind,

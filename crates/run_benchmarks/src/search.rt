@@ -69,7 +69,7 @@ fn search<R: Print + Clock>(
     }
 }
 
-/// Searches, and prints the time of a step, or why there was none.
+// Searches, and prints the time of a step, or why there was none.
 fn timed<R: Print + Clock>(
     rt: &R,
     alloc: Global,
@@ -97,7 +97,7 @@ fn not_searched<R: Print>(rt: &R, why: &str) -> io::Result<Option<Found>> {
     Ok(None)
 }
 
-/// The steps, where the plan passes.
+// The steps, where the plan passes.
 fn searched(
     alloc: Global,
     problem: &Problem,
@@ -132,7 +132,7 @@ fn report_found<R: Print>(
     report(rt, alloc, problem, pins, &found.work, "working plan")
 }
 
-/// Prints what a plan costs.
+// Prints what a plan costs.
 fn report<R: Print>(
     rt: &R,
     alloc: Global,

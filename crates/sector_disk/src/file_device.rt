@@ -1,5 +1,12 @@
-// A device over a plain file. What a file answers is no contract's matter: it is kept in a record, and the device is
-// honest where these are the answers of the model.
+//! A device over a plain file. What a file answers is no contract's matter: it is kept in a record, and the device is
+//! honest where these are the answers of the model. A theorem about honest devices reads for a file: if the file has
+//! answered as the model says, then ..
+//!
+//! - A failed write may have reached any of its sectors, and after a failed write or sync reads may give any one possible
+//!   image.
+//! - A write or sync at the last count makes no call of the file, and so is not in the record.
+//! - `create` syncs the file's folder too, so that a new file outlasts a power cut; where the system has no sync for a
+//!   folder, it goes on. It does not claim that what it gives is settled.
 ghost use Rattle.std.specs.Prelude.{◌≡◌, ◌+◌, ◌-◌, ◌*◌, ◌%◌, ◌^◌, ◌<◌, ◌≤◌, ◌↔◌, [], List, ℕ, length, take, drop, OnOk, OnErr, IfOk, IsErr, IsErrOf, IsTrue, Ok, min, ◌≢◌, ◌/◌};
 ghost use Rattle.std.specs.Fs.{metadata_len, file_type, IsFile};
 ghost use Rattle.sector_disk.specs.FileRecord.{all_inside};
@@ -50,7 +57,7 @@ fn fault_of(error: io::Error) -> FileFault
     }
 }
 
-/// How many sectors a file of this length has.
+// How many sectors a file of this length has.
 fn sectors_of(len: u64) -> Result<u64, FileFault>
     ensures whole { len % 512 ≡ 0 → result ≡ Ok (len / 512) }
     ensures other { len % 512 ≢ 0 → IsErrOf result FileFault.BadLength }
@@ -62,7 +69,7 @@ fn sectors_of(len: u64) -> Result<u64, FileFault>
     }
 }
 
-/// How many sectors a file has, if it is a plain file of whole sectors.
+// How many sectors a file has, if it is a plain file of whole sectors.
 fn sectors_in(metadata: &Metadata) -> Result<u64, FileFault>
     ensures sectors { IfOk result
         (λ n. IsFile (file_type metadata.now) × (metadata_len metadata.now ≡ 512 * n)) }
@@ -80,7 +87,7 @@ fn sectors_in(metadata: &Metadata) -> Result<u64, FileFault>
 impl<S: Start, F: FileCalls> FileDevice<S, F> {
     ghost use Rattle.sector_disk.specs.FileDevice.{device_len, IsUnused};
 
-    /// A device over a file of this many sectors that was not called yet.
+    // A device over a file of this many sectors that was not called yet.
     fn over(file: F, sectors: u64) -> FileDevice<S, F>
         requires new { F.FileCalls.entries file ≡ [] }
         requires offsets { 512 * sectors < 2 ^ 64 }
@@ -96,7 +103,7 @@ impl<S: Start, F: FileCalls> FileDevice<S, F> {
         }
     }
 
-    /// A call that fails.
+    // A call that fails.
     fn fail(&mut self) -> Result<(), DeviceFault>
         ensures fails { IsErr result }
         ensures fault { self.new.faults ≡ min (self.old.faults + 1) (2 ^ 64 - 1) }
@@ -157,7 +164,7 @@ impl<S: Start> FileDevice<S> {
     }
 }
 
-/// Puts a new file's name on the disk.
+// Puts a new file's name on the disk.
 fn sync_folder<R: Files<File = File>>(rt: &R, path: &str) -> io::Result<()> {
     let folder = match Path::new(path).parent() {
         Some(parent) if !parent.as_str().is_empty() => parent.as_str(),

@@ -1,4 +1,9 @@
-//! The places of a route where a pickup comes too late, or makes what is behind it late.
+//! The places of a route where a pickup comes too late, or makes what is behind it late, by distances from
+//! below.
+//!
+//! A place is left out where such distances show that the vehicle comes to the pickup after its latest time,
+//! or to the next stop by more than 1 after that one's latest start. The 1 is for the delivery: right behind
+//! the pickup it can make the way on shorter by 1, since rounded distances break the triangle inequality.
 
 ghost use Rattle.std.specs.Prelude.{◌≡◌, ◌+◌, ◌-◌, ◌^◌, ◌≤◌, ◌<◌, All, IsTrue, length, slice_index_or};
 ghost use Rattle.nint_dist.specs.Distance.{distance};
@@ -39,8 +44,8 @@ pub(crate) fn first_open(limits: Limits, places: &[Row], pickup: &Stop, kept: us
     places.len()
 }
 
-/// The first place behind the first `kept` stops that can be started after the pickup's window opens, or the
-/// number of places.
+// The first place behind the first `kept` stops that can be started after the pickup's window opens, or the
+// number of places.
 fn first_due(limits: Limits, places: &[Row], pickup: &Stop, kept: usize) -> usize
     requires places { All IsSmallRow places.now }
     requires tight { AreTight limits.kind places.now }
@@ -58,7 +63,7 @@ fn first_due(limits: Limits, places: &[Row], pickup: &Stop, kept: usize) -> usiz
     places.len()
 }
 
-/// Whether a place has to be started, by more than 1, before a window opens.
+// Whether a place has to be started, by more than 1, before a window opens.
 #[inline(always)]
 fn is_due_before(kind: Kind, place: &Row, earliest: u32) -> bool
     ensures { result ≡ is_due_before kind place.now earliest }
@@ -69,7 +74,7 @@ fn is_due_before(kind: Kind, place: &Row, earliest: u32) -> bool
     }
 }
 
-/// The latest start of service at a place from which neither its own window nor anything behind it is missed.
+// The latest start of service at a place from which neither its own window nor anything behind it is missed.
 #[inline(always)]
 fn due_at(place: &Row) -> u64
     ensures value { result ≡ due_of place.now }
@@ -125,7 +130,7 @@ pub(crate) fn is_closed(
     }
 }
 
-/// Whether a pickup between two places is too late, or the place behind it.
+// Whether a pickup between two places is too late, or the place behind it.
 #[inline(always)]
 fn comes_late(before: &Row, next: &Row, pickup: &Stop, near: Detour) -> bool
     requires before { IsSmallRow before.now }

@@ -1,4 +1,9 @@
 //! Routes that begin as the one of a table: what it tells of their first places is not driven again.
+//!
+//! `rebuild`, `remade` and `keeps_limits` are given a table of the same problem that has most stops in the
+//! same order. The stops that both routes begin with are copied; behind them the vehicle is driven, by ways
+//! that the table may have (`ways`). The table has to be of this problem: where the numbers are the same, so
+//! are the stops.
 
 ghost use Rattle.std.specs.Prelude.{◌≡◌, ℕ, List, ◌+◌, ◌<◌, ◌≤◌, length};
 ghost use Rattle.plan_types.specs.Instance.{Instance};

@@ -1,4 +1,4 @@
-//! What putting the stops of a request into a route adds to it.
+//! What putting the stops of a request at given places of a route adds to it.
 
 ghost use Rattle.std.specs.Prelude.{◌≡◌, ◌+◌, ◌-◌, ◌^◌, ◌<◌, ◌≤◌, All, [], ◌∷◌, length};
 ghost use Rattle.plan_types.specs.Limits.{IsVisit};

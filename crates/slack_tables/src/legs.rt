@@ -1,4 +1,5 @@
-//! The ways between the places of a table and a stop, exact and from below.
+//! The ways between the places of a table and a stop, exact and from below, and the least detours from each
+//! place on.
 
 ghost use Rattle.std.specs.Prelude.{◌≡◌, ◌+◌, ◌^◌, ◌≤◌, ◌<◌, All, IsTrue, ℕ, length};
 ghost use Rattle.std.specs.Int.{int_min};
@@ -18,7 +19,7 @@ use plan_types::Stop;
 /// Of so many places the least detours are kept, since that takes no memory from the allocator.
 pub(crate) const ROOM: usize = 128;
 
-/// No detour is as long.
+// No detour is as long.
 const FAR: i64 = 1 << 60;
 
 /// The way between a place and the stop.
@@ -46,7 +47,7 @@ pub(crate) fn least_leg_at(places: &[Row], k: usize, stop: &Stop) -> u64
     least_between(&place.at.stop, stop)
 }
 
-/// By how much the way from a place to the next gets longer over a stop so far from both.
+// By how much the way from a place to the next gets longer over a stop so far from both.
 fn detour(here: &Row, to: u64, from: u64, next: &Row) -> i64
     requires here { IsSmallRow here.now }
     requires to { to ≤ 2 ^ 33 }

@@ -1,4 +1,4 @@
-//! How far a vehicle has come on its route, and how it goes on.
+//! How far a vehicle has come on its route, how it goes on, and what it must keep at each place.
 
 ghost use Rattle.std.specs.Prelude.{◌≡◌, ◌≤◌, ◌+◌, ◌^◌, pos, ◌+ℤ◌, ◌-ℤ◌, unsigned_abs, map, length, nat_le, IfSome, All};
 ghost use Rattle.plan_types.specs.Limits.{IsVisit};
@@ -117,6 +117,7 @@ pub(crate) fn keeps(limits: Limits, at: &Progress) -> bool
         && is_in_time(limits.kind, at.start, u64::from(at.stop.latest))
 }
 
+/// Whether service may start so, where it may start so late; in a problem of kind `Vrp` it always may.
 pub(crate) fn is_in_time(kind: Kind, start: u64, latest: u64) -> bool
     ensures { result ≡ is_in_time kind start latest }
 {
@@ -126,7 +127,7 @@ pub(crate) fn is_in_time(kind: Kind, start: u64, latest: u64) -> bool
     }
 }
 
-/// Whether all behind this place of another route keeps the limits, where the vehicle comes to it so.
+// Whether all behind this place of another route keeps the limits, where the vehicle comes to it so.
 fn bears(limits: Limits, at: &Progress, tail: &Row) -> bool
     requires at { unsigned_abs at.now.load ≤ 2 ^ 60 }
     requires tail { IsSmallRow tail.now }
@@ -146,6 +147,7 @@ pub(crate) fn moved_load(load: i64, before: i64, after: i64) -> i64
     after - before + load
 }
 
+/// How much more the first is than the second, which may be less.
 pub(crate) fn difference(to: u64, from: u64) -> i64
     requires to { to ≤ 2 ^ 60 }
     requires from { from ≤ 2 ^ 60 }

@@ -1,4 +1,5 @@
-//! How a vehicle goes on along places whose ways are known, so that no distance is computed.
+//! How a vehicle goes on along places whose ways are known, so that no distance is computed. Prices are
+//! compared before limits.
 
 ghost use Rattle.std.specs.Prelude.{◌≡◌, ◌≤◌, ◌+◌, ◌^◌, unsigned_abs, IfSome};
 ghost use Rattle.slack_tables.specs.Driven.{IsSmallRow};
@@ -15,6 +16,7 @@ pub(crate) struct Ride {
     pub distance: u64,
 }
 
+/// The same without the stop.
 pub(crate) fn ride_of(at: &Progress) -> Ride
     ensures { result ≡ ride_of at.now }
 {
@@ -41,7 +43,7 @@ pub(crate) fn drive(from: &Ride, service: u32, leg: u64, to: &Stop) -> Ride
     }
 }
 
-/// Whether the load and the start keep their limits at this stop.
+// Whether the load and the start keep their limits at this stop.
 fn is_kept(limits: Limits, ride: &Ride, stop: &Stop) -> bool
     ensures { result ≡ is_kept limits ride.now stop.now }
 {
@@ -70,7 +72,7 @@ pub(crate) fn ride_on(
     }
 }
 
-/// Whether all behind this place of another route keeps the limits, where the vehicle comes to it so.
+// Whether all behind this place of another route keeps the limits, where the vehicle comes to it so.
 fn is_borne(limits: Limits, ride: &Ride, tail: &Row) -> bool
     requires ride { IsSmallRide (2 ^ 60) ride.now }
     requires tail { IsSmallRow tail.now }
@@ -80,7 +82,7 @@ fn is_borne(limits: Limits, ride: &Ride, tail: &Row) -> bool
         && is_in_time(limits.kind, ride.start, tail.latest_start)
 }
 
-/// Whether the place and all behind it keep the limits.
+// Whether the place and all behind it keep the limits.
 fn goes_on(limits: Limits, from: &Ride, service: u32, leg: u64, tail: &Row) -> bool
     requires from { IsSmallRide (2 ^ 58) from.now }
     requires leg { leg ≤ 2 ^ 58 }
@@ -98,7 +100,7 @@ pub(crate) struct Detour {
     pub from: u64,
 }
 
-/// Whether the stop keeps the limits, and then the place and all behind it.
+// Whether the stop keeps the limits, and then the place and all behind it.
 fn is_served(
     limits: Limits,
     at: &Ride,

@@ -1,4 +1,16 @@
 //! The places of a route at which a request adds the least distance.
+//!
+//! A scan goes over the places of the pickup, and for each over those of the delivery. Most are left out
+//! before a root is taken:
+//! - by the span of the route, the whole scan (`span`);
+//! - by times from below, places of the pickup where it, or the stop behind it, comes too late (`closed`);
+//! - by prices from below, a place of the pickup where each place of the delivery adds the bound or more, and
+//!   a place of a single likewise;
+//! - once the vehicle is past the delivery's latest time, the rest of the delivery's places.
+//!
+//! For the prices, the least detours to the delivery from each place on stand in an array on the stack
+//! (`legs`), for routes of up to 128 places with the depot's; in longer ones none are kept. So a scan takes
+//! no memory.
 
 ghost use Rattle.std.specs.Prelude.{◌≡◌, ◌+◌, ◌^◌, ◌-◌, ◌≤◌, ◌<◌, pos, ◌+ℤ◌, ◌-ℤ◌, ◌≤ℤ◌, All, IfSome, IsTrue, length, slice_index_or, unsigned_abs};
 ghost use Rattle.plan_types.specs.Limits.{IsVisit};
@@ -27,6 +39,7 @@ use plan_types::Stop;
 /// is the same of a single. Places count from 1.
 #[derive(Clone, Copy, Debug, PartialEq, Eq)]
 pub struct Addition {
+    /// By how much the route gets longer; negative where rounded distances make it shorter.
     pub distance: i64,
     pub pickup: u64,
     pub delivery: u64,
@@ -38,7 +51,7 @@ pub fn best_places_are_one()
     ensures { BestIsOne }
 {}
 
-/// The first of the additions seen so far, and the distance that the next one has to be below.
+// The first of the additions seen so far, and the distance that the next one has to be below.
 #[derive(Clone, Copy, Debug, PartialEq, Eq)]
 struct Best {
     bound: i64,
@@ -52,7 +65,7 @@ impl Best {
         Best { bound, found: None }
     }
 
-    /// Takes the distance added at two places where it is less than all before.
+    // Takes the distance added at two places where it is less than all before.
     fn offer(&mut self, distance: Option<i64>, pickup: usize, delivery: usize)
         ensures { self.new ≡ offered self.old distance pickup delivery }
     {
@@ -69,7 +82,7 @@ impl Best {
         }
     }
 
-    /// Takes what was found below the bound.
+    // Takes what was found below the bound.
     fn accept(&mut self, found: Option<Addition>)
         ensures { self.new ≡ accepted self.old found }
     {
@@ -116,8 +129,8 @@ pub(crate) fn best_single(
     best.found
 }
 
-/// The distance that a single adds at place `i`, where it is less than `below` and all limits are
-/// kept. The price by a detour from below is compared first, since it takes no root.
+// The distance that a single adds at place `i`, where it is less than `below` and all limits are
+// kept. The price by a detour from below is compared first, since it takes no root.
 fn single_at(
     limits: Limits,
     places: &[Row],
@@ -197,7 +210,7 @@ pub(crate) fn best_pair(
     best_from(&trip, places, &least[..places.len()], first, below)
 }
 
-/// A pair, the way from its pickup to its delivery, and what a vehicle must keep.
+// A pair, the way from its pickup to its delivery, and what a vehicle must keep.
 #[derive(Clone, Copy, Debug, PartialEq, Eq)]
 struct Trip {
     limits: Limits,
@@ -206,8 +219,8 @@ struct Trip {
     across: u64,
 }
 
-/// The best places of a pair, its pickup from place `first` on. From a place on that is reached after
-/// the pickup's latest time, none is in time.
+// The best places of a pair, its pickup from place `first` on. From a place on that is reached after
+// the pickup's latest time, none is in time.
 fn best_from(
     trip: &Trip,
     places: &[Row],
@@ -241,9 +254,9 @@ fn best_from(
     best.found
 }
 
-/// The best place of the delivery, where the pickup stands at place `i` and the ways to it and on from
-/// it are no shorter than these. No root is taken where such ways show that the pickup is too late or
-/// that no price is below the bound.
+// The best place of the delivery, where the pickup stands at place `i` and the ways to it and on from
+// it are no shorter than these. No root is taken where such ways show that the pickup is too late or
+// that no price is below the bound.
 fn best_at(
     trip: &Trip,
     places: &[Row],
@@ -285,8 +298,8 @@ fn best_at(
     best_delivery(trip, places, least, i, first, below)
 }
 
-/// Whether prices from below show that each place of the delivery adds `below` or more, where the
-/// pickup stands at place `i`.
+// Whether prices from below show that each place of the delivery adds `below` or more, where the
+// pickup stands at place `i`.
 fn are_dear(trip: &Trip, places: &[Row], least: &[i64], i: usize, near: Detour, below: i64) -> bool
     requires trip { IsTrip trip.now }
     requires places { All IsSmallRow places.now }
@@ -311,8 +324,8 @@ fn are_dear(trip: &Trip, places: &[Row], least: &[i64], i: usize, near: Detour, 
     is_dear(least, i, beside, reach + near.from, next.at.distance, below)
 }
 
-/// Whether neither the delivery right behind the pickup at place `i` nor one further on adds less
-/// than `below`, by the way to place `i` over both stops and over the pickup alone.
+// Whether neither the delivery right behind the pickup at place `i` nor one further on adds less
+// than `below`, by the way to place `i` over both stops and over the pickup alone.
 fn is_dear(least: &[i64], i: usize, near: u64, apart: u64, base: u64, below: i64) -> bool
     requires near { near ≤ 2 ^ 59 }
     requires apart { apart ≤ 2 ^ 59 }
@@ -327,19 +340,19 @@ fn is_dear(least: &[i64], i: usize, near: u64, apart: u64, base: u64, below: i64
     difference(near, base) >= below && is_hopeless(least, i, apart, base, below)
 }
 
-/// A vehicle on its way with the pickup on board.
+// A vehicle on its way with the pickup on board.
 #[derive(Clone, Copy, Debug, PartialEq, Eq)]
 struct Underway {
     ride: Ride,
-    /// The service at the stop where it is.
+    // The service at the stop where it is.
     service: u32,
-    /// The way from there to the delivery.
+    // The way from there to the delivery.
     to_delivery: u64,
-    /// The way from there to the next place of the table.
+    // The way from there to the next place of the table.
     onward: u64,
 }
 
-/// At the pickup, if it keeps the limits, with the ways to it and on to the next place of the table.
+// At the pickup, if it keeps the limits, with the ways to it and on to the next place of the table.
 fn pick_up(trip: &Trip, before: &Progress, to: u64, onward: u64) -> Option<Underway>
     requires trip { IsTrip trip.now }
     requires before { IsSmall (2 ^ 50) before.now }
@@ -360,8 +373,8 @@ fn pick_up(trip: &Trip, before: &Progress, to: u64, onward: u64) -> Option<Under
     })
 }
 
-/// At the next place of the table, which is place `j - 1` there and from which the delivery is as
-/// far as `to_delivery`; `None` where it exceeds a limit or is the last.
+// At the next place of the table, which is place `j - 1` there and from which the delivery is as
+// far as `to_delivery`; `None` where it exceeds a limit or is the last.
 fn go_on(
     limits: Limits,
     on: &Underway,
@@ -392,8 +405,8 @@ fn go_on(
     })
 }
 
-/// The best place of the delivery, where the pickup stands at place `i` and the vehicle is there. Once
-/// it is past the delivery's latest time, none is in time.
+// The best place of the delivery, where the pickup stands at place `i` and the vehicle is there. Once
+// it is past the delivery's latest time, none is in time.
 fn best_delivery(
     trip: &Trip,
     places: &[Row],

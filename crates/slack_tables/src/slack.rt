@@ -1,4 +1,8 @@
-//! The backward pass: what each place of a route lets be behind it.
+//! The backward pass: what each place of a route lets be behind it (Savelsbergh's forward time slack, kept as
+//! a latest start).
+//!
+//! It needs nothing of the schedule: the way forward keeps stops and distances at each place, and the pass
+//! reads them there.
 
 ghost use Rattle.std.specs.Prelude.{◌≡◌, ◌≤◌, ◌<◌, length};
 ghost use Rattle.plan_types.specs.declared.requests.Kind.TheVariants.{LiLim};
@@ -19,7 +23,7 @@ pub(crate) fn fill_slack(kind: Kind, places: &mut [Row])
     }
 }
 
-/// The place with what the one behind it tells.
+// The place with what the one behind it tells.
 fn row_before(kind: Kind, place: &Row, next: &Row) -> Row
     requires timely { IsTimely kind place.now next.now }
     requires limit { kind ≡ LiLim → next.now.at.start ≤ next.now.latest_start }
@@ -32,7 +36,7 @@ fn row_before(kind: Kind, place: &Row, next: &Row) -> Row
     }
 }
 
-/// The latest start from which neither the next window nor one behind it is missed.
+// The latest start from which neither the next window nor one behind it is missed.
 fn latest_before(kind: Kind, place: &Row, next: &Row) -> u64
     requires timely { IsTimely kind place.now next.now }
     requires limit { kind ≡ LiLim → next.now.at.start ≤ next.now.latest_start }

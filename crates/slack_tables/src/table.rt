@@ -1,4 +1,10 @@
-//! The table of a route.
+//! The table of a route: a list of places, each with what is known of it.
+//!
+//! The depot stands at both ends of the list, so no place is a special case: place 0 is where the vehicle
+//! leaves, and the one behind the last stop the return. The way forward fills in starts, loads and distances,
+//! from where a given table differs (`front`); the way back fills in latest starts and greatest loads
+//! (`slack`). Windows are asked by kind where they are met, so in a table of a `Vrp` problem the starts are
+//! the only times that mean something.
 
 ghost use Rattle.std.specs.Prelude.{◌≡◌, ◌↔◌, ◌+◌, ◌-◌, ◌<◌, ◌≤◌, ℕ, Some, true, IsSome, IfOk, OnOk, OnErr, length, slice_index_or};
 ghost use Rattle.plan_types.specs.Limits.{IsStop};
@@ -28,7 +34,7 @@ use std::alloc::Global;
 use std::marker::Model;
 
 /// What is known of each place of a route: when service starts, how late it may start, what the
-/// vehicle carries and how far it has driven.
+/// vehicle carries and how far it has driven. Distances and times are in the problem's unit.
 #[derive(Debug, Drop)]
 pub struct RouteTable {
     limits: Limits,
@@ -59,7 +65,7 @@ impl RouteTable {
     ghost use Rattle.slack_tables.specs.Insertion.{inserted, ArePlaces, KeepsLimits, IsAdded};
     ghost use Rattle.slack_tables.specs.Best.{IsBestAddition};
 
-    /// The table of a route that keeps the capacity and the windows.
+    /// The table of a route of live, distinct stops that keeps the capacity and the windows.
     pub fn build(alloc: Global, problem: &Problem, route: &[u32]) -> Result<RouteTable, OutOfMemory>
         requires route { AreLiveOnce problem.now route.now }
         requires limits { KeepsLimits problem.now route.now }
@@ -198,7 +204,8 @@ impl RouteTable {
 
     /// By how much the route gets longer if a request is put into it, its pickup at place `i` and its
     /// delivery at place `j` of the new route, a single at `i`; `None` where the new route exceeds
-    /// the capacity or a window. Places count from 1. Takes no memory.
+    /// the capacity or a window. Places count from 1. Takes no memory. What it answers holds of a request that
+    /// is in the route already, too.
     ///
     /// The distance added can be negative, since rounded distances break the triangle inequality.
     pub fn try_insert(&self, problem: &Problem, name: u32, i: u64, j: u64) -> Option<i64>
@@ -267,6 +274,7 @@ impl RouteTable {
     }
 }
 
+/// The place with this number, counted from 0.
 pub(crate) fn row_at(places: &[Row], place: usize) -> &Row
     requires { place < length places.now }
     ensures { (d : Row) → result.now ≡ slice_index_or places.now place d }
@@ -280,7 +288,7 @@ fn load_at(place: &Row) -> i64
     place.at.load
 }
 
-/// The places of a route that keeps the limits, in place of those that stand there.
+// The places of a route that keeps the limits, in place of those that stand there.
 fn remake(
     places: &mut Vec<Row>,
     problem: &Problem,
@@ -300,7 +308,7 @@ fn remake(
     Ok(())
 }
 
-/// What is known of each place of a route that keeps the limits.
+// What is known of each place of a route that keeps the limits.
 fn fill(places: &mut [Row], problem: &Problem, known: &[Row], route: &[u32])
     requires known { AreLinked known.now }
     requires fronts { KnowsFronts problem.now known.now }
@@ -314,7 +322,7 @@ fn fill(places: &mut [Row], problem: &Problem, known: &[Row], route: &[u32])
     fill_slack(problem.kind, places);
 }
 
-/// The places of a route in place of those that stand there, if it keeps the limits.
+// The places of a route in place of those that stand there, if it keeps the limits.
 fn remake_kept(
     places: &mut Vec<Row>,
     problem: &Problem,
@@ -332,7 +340,7 @@ fn remake_kept(
     Ok(fill_kept(places.as_mut_slice(), problem, known, route))
 }
 
-/// What is known of each place of a route, if it keeps the limits.
+// What is known of each place of a route, if it keeps the limits.
 fn fill_kept(places: &mut [Row], problem: &Problem, known: &[Row], route: &[u32]) -> bool
     requires known { AreLinked known.now }
     requires fronts { KnowsFronts problem.now known.now }
@@ -350,7 +358,7 @@ fn fill_kept(places: &mut [Row], problem: &Problem, known: &[Row], route: &[u32]
     true
 }
 
-/// Whether each place behind the depot keeps the limits.
+// Whether each place behind the depot keeps the limits.
 fn are_kept(limits: Limits, places: &[Row]) -> bool
     ensures { (stops : ℕ → Stop) → AreOpen stops places.now
         → (result ≡ true) ↔ IsInLimits limits.kind limits.capacity stops (length places.now - 1) }
@@ -363,7 +371,7 @@ fn are_kept(limits: Limits, places: &[Row]) -> bool
     true
 }
 
-/// The places of a route as the vehicle comes to them, with nothing known of what is behind.
+// The places of a route as the vehicle comes to them, with nothing known of what is behind.
 fn drive_route(places: &mut [Row], problem: &Problem, known: &[Row], route: &[u32])
     requires known { AreLinked known.now }
     requires fronts { KnowsFronts problem.now known.now }
@@ -386,7 +394,7 @@ fn drive_route(places: &mut [Row], problem: &Problem, known: &[Row], route: &[u3
     places[route.len() + 1] = open_row(driven_on(known, seen, &at, &problem.depot));
 }
 
-/// Whether a route keeps the limits.
+// Whether a route keeps the limits.
 fn keeps_limits(problem: &Problem, known: &[Row], route: &[u32]) -> bool
     requires known { AreLinked known.now }
     requires fronts { KnowsFronts problem.now known.now }
@@ -404,7 +412,7 @@ fn keeps_limits(problem: &Problem, known: &[Row], route: &[u32]) -> bool
     }
 }
 
-/// Where the vehicle is at the last stop of a route, if it keeps the limits up to there.
+// Where the vehicle is at the last stop of a route, if it keeps the limits up to there.
 fn drive_stops(problem: &Problem, known: &[Row], route: &[u32]) -> Option<Progress>
     requires known { AreLinked known.now }
     requires fronts { KnowsFronts problem.now known.now }
@@ -427,7 +435,7 @@ fn drive_stops(problem: &Problem, known: &[Row], route: &[u32]) -> Option<Progre
     Some(at)
 }
 
-/// The request of a live name.
+// The request of a live name.
 fn live_request(problem: &Problem, name: u32) -> &Request
     requires { IsSome (request_named problem.now name) }
     ensures found { request_named problem.now name ≡ Some result.now }
@@ -437,7 +445,7 @@ fn live_request(problem: &Problem, name: u32) -> &Request
     problem.requests.get(&name).unwrap()
 }
 
-/// The stop with a live number.
+// The stop with a live number.
 fn live_stop(problem: &Problem, number: u32) -> &Stop
     requires { IsLive problem.now number }
     ensures found { stop_at problem.now number ≡ Some result.now }
@@ -447,7 +455,7 @@ fn live_stop(problem: &Problem, number: u32) -> &Stop
     problem.stop(number).unwrap()
 }
 
-/// What the vehicles of a problem must keep.
+// What the vehicles of a problem must keep.
 fn limits_of(problem: &Problem) -> Limits
     ensures value { result ≡ limits_of problem.now }
     ensures valid { IsInstance problem.now }

@@ -1,4 +1,7 @@
 //! Ways between stops, taken from a table that has them, since a root takes longer than a look.
+//!
+//! A way is taken where both stops stand at neighbouring places of the table, by their coordinates; else it
+//! is computed. So where to look is a hint, and a wrong one costs time alone.
 
 ghost use Rattle.std.specs.Prelude.{◌≡◌, ◌≤◌, IfSome, IsTrue};
 ghost use Rattle.plan_types.specs.Limits.{IsVisit};
@@ -25,7 +28,7 @@ pub(crate) fn way(places: &[Row], seen: usize, from: &Stop, to: &Stop) -> u64
     }
 }
 
-/// The way behind place `seen`, where it is between two such places.
+// The way behind place `seen`, where it is between two such places.
 #[inline(always)]
 fn known_way(places: &[Row], seen: usize, from: &Stop, to: &Stop) -> Option<u64>
     requires places { AreLinked places.now }
@@ -45,14 +48,14 @@ fn known_way(places: &[Row], seen: usize, from: &Stop, to: &Stop) -> Option<u64>
     None
 }
 
-/// Whether two stops have one place on the map.
+// Whether two stops have one place on the map.
 fn stands_at(stop: &Stop, other: &Stop) -> bool
     ensures { IsTrue result → (stop.now.x ≡ other.now.x) × (stop.now.y ≡ other.now.y) }
 {
     stop.x == other.x && stop.y == other.y
 }
 
-/// How far a stop is looked for. A route that a move changed has most stops where they were or a few places on.
+// How far a stop is looked for. A route that a move changed has most stops where they were or a few places on.
 const AHEAD: usize = 8;
 
 /// The first place from `seen` on where the table has the stop, or `seen` itself where it is not among the next few.

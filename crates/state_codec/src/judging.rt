@@ -1,4 +1,4 @@
-//! The judgement of a state that was read whole.
+//! The judgement of a state that was read whole, by the auditor's rules.
 ghost use Rattle.std.specs.Prelude.{◌≡◌, true, All, IfOk, IfErr, OnOk};
 ghost use Rattle.std.specs.List.{list_all};
 ghost use Rattle.route_sched.specs.Route.{AreLiveOnce};

@@ -19,7 +19,7 @@ type Insertion = (u64, u64, u64);
 /// No insertion has this place.
 const NOT_ASKED: Insertion = (0, 0, 0);
 
-/// What `best_insertion` answers, and what the plan's tables do, if that is the same.
+// What `best_insertion` answers, and what the plan's tables do, if that is the same.
 fn best(
     alloc: Global,
     problem: &Problem,
@@ -56,7 +56,7 @@ fn best_by_tables(
     Ok(None)
 }
 
-/// Whether the name is of a live and unplanned request.
+// Whether the name is of a live and unplanned request.
 fn is_free(
     alloc: Global,
     problem: &Problem,
@@ -160,7 +160,7 @@ fn a_place_in_the_largest_route(rt: HostRuntime) -> Result<(), Fail> {
     Ok(())
 }
 
-/// 65 pairs, 64 at the depot and one at (3, 4), in one route, and one more at (3, 4), with a fleet of one that carries one of them.
+// 65 pairs, 64 at the depot and one at (3, 4), in one route, and one more at (3, 4), with a fleet of one that carries one of them.
 fn pairs_at_the_depot(alloc: Global) -> Result<Problem, Fail> {
     let depot = stop_at(0, (0, 0), 0, 1_000);
     let mut problem = Problem::new(alloc, Kind::LiLim, depot, 1, 1)?;
