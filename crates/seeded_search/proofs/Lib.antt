@@ -5,4 +5,4 @@ mod PickLemmas
 mod RouteLemmas
 mod StepExamples
 mod StepLemmas
-mod WalkLemmas
+pub mod WalkLemmas

@@ -41,7 +41,7 @@ else_some false o y is = is
 else_some true o y is = absurd (none_some y is)
 
 module _ (p : Instance) (pins : List (List ℕ)) where
-  abbrev Passes : List (List ℕ) → Type 0
+  abbrev pub Passes : List (List ℕ) → Type 0
   Passes routes = passes p pins routes ≡ true
 
   passing_gives : (x y : List (List ℕ)) → passing p pins x ≡ Some y → Passes y
@@ -73,7 +73,7 @@ module _ (p : Instance) (pins : List (List ℕ)) where
       by None e = pass
       by (Some y) e = let t = and_then_some (put_in p pins routes name) (best_insertion p pins routes name) y e in put_in_passes routes name t.0 y t.1
 
-  placed_all_passes : (names : List ℕ) (routes : List (List ℕ)) → Passes routes → Passes (placed_all p pins routes names)
+  pub placed_all_passes : (names : List ℕ) (routes : List (List ℕ)) → Passes routes → Passes (placed_all p pins routes names)
   placed_all_passes [] routes pass = pass
   placed_all_passes (name ∷ names) routes pass = placed_all_passes names (placed p pins routes name) (placed_passes routes name pass)
 

@@ -26,6 +26,9 @@
 //! that leaves out as many requests, uses as many vehicles and drives at most the deviation more becomes the
 //! working plan alone. Otherwise nothing changes.
 //!
+//! What a step of another kind needs too is public: `Walk` with its `Lists` begins, ends and takes a candidate,
+//! `StepWords` gives the words of one step after another, `place_all` recreates, `follow` and `is_near` settle.
+//!
 //! The definition of a step knows nothing of the code: commands and the journal speak of `step` and `steps`
 //! alone. A step is a function of the plans, deviation, seed and number, so searches may be cut and run
 //! again. `proofs/StepExamples` computes one: 2-opt* makes 44 of 54 on a plan of four customers.
@@ -52,12 +55,16 @@ mod search;
 mod stream;
 mod walk;
 
+pub use incumbent::follow;
 pub use laws::{
     incumbents_never_cost_more, picks_are_even, steps_add_up, steps_are_blocks, steps_keep_passing,
     working_stays_near,
 };
+pub use lists::Lists;
+pub use operators::place_all;
 pub use search::{Found, search_step, search_steps};
-pub use stream::words;
+pub use stream::{StepWords, words};
+pub use walk::{Walk, is_near};
 
 /// One of `m` things, 1 or more, numbered from 0, by the word `w`: the whole part of `w * m / 2^32`.
 pub fn pick(w: u32, m: u32) -> u32

@@ -15,16 +15,16 @@ use std::alloc::Global;
 
 /// Names of requests, rising.
 #[derive(Debug, Drop)]
-pub(crate) struct Lists {
+pub struct Lists {
     /// Those that are planned, and of which no stop is pinned.
-    pub(crate) movable: Vec<u32>,
+    pub movable: Vec<u32>,
     /// Those without a stop in any route.
-    pub(crate) unplanned: Vec<u32>,
+    pub unplanned: Vec<u32>,
 }
 
 impl Lists {
     /// The lists of a plan.
-    pub(crate) fn build(
+    pub fn build(
         alloc: Global,
         problem: &Problem,
         pins: &Pins,
@@ -43,12 +43,7 @@ impl Lists {
     }
 
     /// Lets them become the lists of a plan.
-    pub(crate) fn fill(
-        &mut self,
-        problem: &Problem,
-        pins: &Pins,
-        draft: &Draft,
-    ) -> Result<(), OutOfMemory>
+    pub fn fill(&mut self, problem: &Problem, pins: &Pins, draft: &Draft) -> Result<(), OutOfMemory>
         requires { IsDraftOf problem.now pins.now.routes draft.now }
         ensures { OnOk result (AreListsOf problem.now pins.now.routes
             (draft_of draft.now) self.new) }

@@ -173,8 +173,8 @@ fn ruined_names(alloc: Global, movable: &[u32], words: &[u32; 16]) -> Result<Vec
     drawn(alloc, &words[2..2 + count], movable)
 }
 
-// Puts the requests in, one after another, each where it is best then; a request without a place stays unplanned.
-fn place_all(
+/// Puts the requests in, one after another, each where it is best then; a request without a place stays unplanned.
+pub fn place_all(
     problem: &Problem,
     pins: &Pins,
     draft: &mut Draft,

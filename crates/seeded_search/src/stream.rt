@@ -17,7 +17,7 @@ use std::marker::Model;
 /// The words of search steps, one step after another. It is kept for a run of steps, since the generator
 /// makes four blocks at once, of which a jump to another step would leave three unused.
 #[derive(Drop)]
-pub(crate) struct StepWords {
+pub struct StepWords {
     rng: ChaCha20Rng,
 }
 
@@ -31,7 +31,7 @@ impl Model for StepWords {
 
 impl StepWords {
     /// The words of the steps from `step` on.
-    pub(crate) fn from_step(seed: u64, step: u64) -> Self
+    pub fn from_step(seed: u64, step: u64) -> Self
         requires { step < 2 ^ 60 }
         ensures { result ≡ record { seed = seed; step = step } }
     {
@@ -41,7 +41,7 @@ impl StepWords {
     }
 
     /// The words of the next step.
-    pub(crate) fn next_step(&mut self) -> [u32; 16]
+    pub fn next_step(&mut self) -> [u32; 16]
         requires { self.old.step < 2 ^ 60 }
         ensures words { result ≡ step_words self.old.seed self.old.step }
         ensures after { self.new ≡ record self.old { step = self.old.step + 1 } }

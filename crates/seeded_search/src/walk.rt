@@ -22,21 +22,24 @@ use plan_types::{Cost, OutOfMemory, Pins, Plan, Problem, costs_compare_part_by_p
 use route_sched::plan_cost;
 use std::alloc::Global;
 
-/// A search between two steps.
+/// A search between two steps, of any kind.
 #[derive(Drop)]
-pub(crate) struct Walk {
-    draft: Draft,
-    incumbent: Plan,
-    // No vehicle behind the first so many has a stop in the incumbent.
-    front: u64,
-    // What the incumbent costs.
-    best: Cost,
-    lists: Lists,
+pub struct Walk {
+    /// The working plan, and the candidate made of it.
+    pub draft: Draft,
+    /// The best plan so far.
+    pub incumbent: Plan,
+    /// No vehicle behind the first so many has a stop in the incumbent.
+    pub front: u64,
+    /// What the incumbent costs.
+    pub best: Cost,
+    /// The lists of the working plan.
+    pub lists: Lists,
 }
 
 impl Walk {
     /// A search before its first step.
-    pub(crate) fn begin(
+    pub fn begin(
         alloc: Global,
         problem: &Problem,
         pins: &Pins,
@@ -112,8 +115,8 @@ impl Walk {
         self.take(problem, pins, &cost)
     }
 
-    // Lets the candidate, which costs so much, become the working plan.
-    fn take(&mut self, problem: &Problem, pins: &Pins, cost: &Cost) -> Result<(), OutOfMemory>
+    /// Lets the candidate, which costs so much, become the working plan.
+    pub fn take(&mut self, problem: &Problem, pins: &Pins, cost: &Cost) -> Result<(), OutOfMemory>
         requires draft { IsDraftOf problem.now pins.now.routes self.old.draft }
         requires lists { AreListsOf problem.now pins.now.routes
             (base_of self.old.draft) self.old.lists }
@@ -128,7 +131,7 @@ impl Walk {
     }
 
     /// Both plans.
-    pub(crate) fn end(self, alloc: Global) -> Result<Found, OutOfMemory>
+    pub fn end(self, alloc: Global) -> Result<Found, OutOfMemory>
         requires { draft_of self.draft ≡ base_of self.draft }
         ensures { IfOk result (λ found. walked found.plan.routes found.work.routes
             ≡ walked_by self) }
@@ -140,8 +143,8 @@ impl Walk {
     }
 }
 
-// Whether a plan of this cost may be walked on from beside an incumbent of that cost.
-fn is_near(deviation: u32, cost: &Cost, best: &Cost) -> bool
+/// Whether a plan of this cost may be walked on from beside one of that cost.
+pub fn is_near(deviation: u32, cost: &Cost, best: &Cost) -> bool
     ensures { result ≡ is_near deviation cost.now best.now }
 {
     if cost.unplanned != best.unplanned {
