@@ -7,15 +7,15 @@ set -u
 top=$(CDPATH='' cd -- "$(dirname -- "$0")/.." && pwd -P) || exit 1
 program=$top/crates/run_benchmarks/out/run_benchmarks
 if ! command -v strace >/dev/null; then
-    echo "device_calls: skipped, since strace is not there"
+    echo "skipped: device_calls, since strace is not there"
     exit 0
 fi
 if ! strace -o /dev/null true 2>/dev/null; then
-    echo "device_calls: skipped, since strace may not trace here"
+    echo "skipped: device_calls, since strace may not trace here"
     exit 0
 fi
 if [ ! -x "$program" ]; then
-    echo "device_calls: skipped, since $program is not built (rt ci builds it)"
+    echo "skipped: device_calls, since $program is not built (rt ci builds it)"
     exit 0
 fi
 folder=$(mktemp -d) || exit 1

@@ -58,7 +58,7 @@ def run_refused(shim, number):
 def main():
     compiler = shutil.which("cc")
     if not compiler:
-        print("refused_allocations: skipped, since cc is not there")
+        print("skipped: refused_allocations, since cc is not there")
         return
     if not PROGRAM.exists():
         sys.exit(f"refused_allocations: {PROGRAM} is not built: run rt ci, or rt run in its folder")

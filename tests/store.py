@@ -129,10 +129,10 @@ def check_stops(folder, stops):
 
 def check_calls(folder):
     if shutil.which("strace") is None:
-        print("store: the device's calls are skipped, since strace is not there")
+        print("skipped: store, the device's calls, since strace is not there")
         return
     if subprocess.run(["strace", "-o", os.devnull, "true"], capture_output=True).returncode != 0:
-        print("store: the device's calls are skipped, since strace may not trace here")
+        print("skipped: store, the device's calls, since strace may not trace here")
         return
     store, calls = os.path.join(folder, "calls.store"), os.path.join(folder, "calls")
     format_store(store)
@@ -164,7 +164,7 @@ def check_calls(folder):
 
 def main():
     if not os.access(PROGRAM, os.X_OK):
-        print(f"store: skipped, since {PROGRAM} is not built (rt ci builds it)")
+        print(f"skipped: store, since {PROGRAM} is not built (rt ci builds it)")
         return
     stops = int(sys.argv[1]) if len(sys.argv) > 1 else 200
     with tempfile.TemporaryDirectory() as folder:

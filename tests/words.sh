@@ -94,7 +94,7 @@ if [ -c /dev/full ]; then
     status=$?
     [ "$status" = 3 ] || fail "a full output: status $status, wanted 3"
 else
-    echo "words: a full output is skipped, since /dev/full is not there"
+    echo "skipped: words, a full output, since /dev/full is not there"
 fi
 
 [ "$failures" = 0 ] || exit 1

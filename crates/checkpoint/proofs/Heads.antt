@@ -6,18 +6,18 @@ use Rattle.checkpoint.specs.declared.headers.Header.{Header}
 use Rattle.checkpoint.specs.declared.faults.StoreFault.TheVariants as store
 use Rattle.checkpoint.specs.Headers.{header_bytes, HasOtherVersion}
 use Rattle.checkpoint.specs.Stores.{IsValid, Counts}
-use Rattle.checkpoint.specs.Reads.{IsFront, IsAllowed, IsOfParity}
+use Rattle.checkpoint.specs.Reads.{IsImageFront, IsAllowed, IsOfParity}
 use Rattle.checkpoint.specs.Holdless.{HasNoHeader}
 use Rattle.checkpoint.proofs.Runs.{sector_front}
 use Rattle.checkpoint.proofs.Carried.{parity}
 use Rattle.checkpoint.proofs.HeaderBytes.{same_sequence}
 
 -- a sector of the front is that of the image
-pub in_front : (sectors : ℕ) (front image : List ℕ) → IsFront sectors front image → (i : ℕ) → i < 258 → sector i front ≡ sector i image
+pub in_front : (sectors : ℕ) (front image : List ℕ) → IsImageFront sectors front image → (i : ℕ) → i < 258 → sector i front ≡ sector i image
 in_front sectors front image whole i below =
     ap (sector i) (sym whole.is) ∙ sector_front 258 i image below (omega (arith, whole.size, whole.room))
 
-module _ (layout : Layout) (sectors : ℕ) (front image : List ℕ) (whole : IsFront sectors front image) (index : ℕ) (low : index < 2) (bytes : List ℕ) (is : bytes ≡ sector index front) where
+module _ (layout : Layout) (sectors : ℕ) (front image : List ℕ) (whole : IsImageFront sectors front image) (index : ℕ) (low : index < 2) (bytes : List ℕ) (is : bytes ≡ sector index front) where
   at : bytes ≡ sector index image
   at = is ∙ in_front sectors front image whole index (omega (arith, low))
 
@@ -92,7 +92,7 @@ module _ (layout : Layout) (image : List ℕ) where
   none_valid zeroth next header valid = ⊎_elim (λ even. zeroth header even valid) (λ odd. next header odd valid) (parity header.sequence)
 
 -- which of the two refusals it is
-module _ (layout : Layout) (sectors : ℕ) (front image : List ℕ) (whole : IsFront sectors front image) (room : 802 ≤ sectors) (none : (header : Header) → ¬ IsValid layout image header) where
+module _ (layout : Layout) (sectors : ℕ) (front image : List ℕ) (whole : IsImageFront sectors front image) (room : 802 ≤ sectors) (none : (header : Header) → ¬ IsValid layout image header) where
   pub foreign : (index : ℕ) → (index ≡ 0) ⊎ (index ≡ 1) → HasOtherVersion layout.version (sector index front) → HasNoHeader layout image store.BadVersion
   foreign index which other = record {
     none = none;

@@ -12,7 +12,7 @@ use Rattle.checkpoint.specs.Numbers.{HaveNumbers}
 use Rattle.checkpoint.specs.Layouts.{half_at}
 use Rattle.checkpoint.specs.Stores.{Counts, snapshot_in, record_sectors, begins_with}
 use Rattle.checkpoint.specs.Holds.{Holds, layout_of, journal}
-use Rattle.checkpoint.specs.Reads.{IsFront, HasRecords, IsClearFrom, HasStrayFrom}
+use Rattle.checkpoint.specs.Reads.{IsImageFront, HasRecords, IsClearFrom, HasStrayFrom}
 use Rattle.checkpoint.specs.Holdless.{HasBadJournal, IsAstray, HoldsNothing, UnlessUnread, IsOfJournal, IsOfBytes, told_of}
 use Rattle.checkpoint.specs.declared.faults.StoreFault.{StoreFault}
 use Rattle.checkpoint.specs.declared.faults.StoreFault.TheVariants as store
@@ -63,7 +63,7 @@ module _ (version : Version) (image : List ℕ) (header : Header) (counts : Coun
         numbers = numbers;
       }
 
-module _ (version : Version) (sectors : ℕ) (front image : List ℕ) (whole : IsFront sectors front image) (header : Header) (counts : Counts (layout_of version) image header) where
+module _ (version : Version) (sectors : ℕ) (front image : List ℕ) (whole : IsImageFront sectors front image) (header : Header) (counts : Counts (layout_of version) image header) where
   same : (i : ℕ) → i < 256 → sector (2 + i) image ≡ sector (2 + i) front
   same i below = sym (in_front sectors front image whole (2 + i) (omega (arith, below)))
 

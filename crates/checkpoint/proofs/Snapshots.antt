@@ -6,14 +6,14 @@ use Rattle.command_core.specs.declared.states.State.TheVariants.{Empty, Loaded}
 use Rattle.state_codec.specs.declared.version.Version.TheVariants.{Two}
 use Rattle.state_codec.specs.Bytes.{state_bytes}
 use Rattle.state_codec.specs.Lengths.{EncodingsFit}
-use Rattle.checkpoint.specs.Puts.{IsFilled}
+use Rattle.checkpoint.specs.Puts.{FillsSectors}
 use Rattle.checkpoint.specs.Encoding.{IsSnapshot}
 
 some_byte : (state : State) → 1 ≤ length (state_bytes Two state)
 some_byte Empty = omega arith
 some_byte (Loaded job) = omega arith
 
-pub is_snapshot : EncodingsFit → (state : State) (bytes filled : List ℕ) (size : ℕ) → IsState state → bytes ≡ state_bytes Two state → IsFilled bytes filled → size ≡ length bytes → IsSnapshot state size filled
+pub is_snapshot : EncodingsFit → (state : State) (bytes filled : List ℕ) (size : ℕ) → IsState state → bytes ≡ state_bytes Two state → FillsSectors bytes filled → size ≡ length bytes → IsSnapshot state size filled
 is_snapshot law state bytes filled size facts is fill counted =
     let short = law state facts in
     let some = some_byte state in

@@ -41,7 +41,7 @@ pub record IsZeros (n : ℕ) (bytes : List ℕ) : Type 0 where
   pub long : length bytes ≡ n
 
 -- these bytes, and fewer than a sector's behind them, to a whole sector
-pub record IsFilled (bytes filled : List ℕ) : Type 0 where
+pub record FillsSectors (bytes filled : List ℕ) : Type 0 where
   pub front : take (length bytes) filled ≡ bytes
   pub long : length bytes ≤ length filled
   pub short : length filled < length bytes + 512

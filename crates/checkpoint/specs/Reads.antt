@@ -31,7 +31,7 @@ pub record IsStanding (least sectors : ℕ) (state : State) (place : Place) : Ty
   pub facts : IsState state
 
 -- the headers and the records of an image of so many sectors
-pub record IsFront (sectors : ℕ) (front image : List ℕ) : Type 0 where
+pub record IsImageFront (sectors : ℕ) (front image : List ℕ) : Type 0 where
   pub size : length image ≡ 512 * sectors
   pub room : 258 ≤ sectors
   pub is : take (512 * 258) image ≡ front
@@ -79,6 +79,6 @@ HasStrayFrom used image sequence = (i : ℕ) × (used ≤ i) × (i < 256) × (se
 
 -- the parts of an image that a store is read from: the header that counts, the front and the snapshot's bytes
 pub record HasParts (version : Version) (sectors : ℕ) (image : List ℕ) (header : Header) (front bytes : List ℕ) : Type 0 where
-  pub whole : IsFront sectors front image
+  pub whole : IsImageFront sectors front image
   pub counts : Counts (layout_of version) image header
   pub snapshot : bytes ≡ snapshot_in (layout_of version) image header.sequence header.length

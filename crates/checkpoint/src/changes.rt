@@ -1,4 +1,7 @@
-// Commits of records and of snapshots.
+//! Commits of records and of snapshots.
+//!
+//! Within the write of a header a count of finished calls can't tell whether the write has begun, so of a snapshot's commit
+//! either image may be there from two finished calls on. `Spent` is told before memory is asked for.
 ghost use Rattle.std.specs.Prelude.{◌≡◌, ◌+◌, ◌*◌, ◌%◌, ◌<◌, ◌≤◌, ◌^◌, ℕ, List, [], ◌∷◌, ◌++◌, length, take, OnOk, IfOk, IfErr, IsErrOf};
 ghost use Rattle.command_core.specs.Runs.{IsState};
 ghost use Rattle.command_core.specs.declared.states.State.{State};
@@ -62,7 +65,7 @@ pub fn commit_record<D: Sectors>(
     }
 }
 
-/// Commits the snapshot of a state, which is the first of these whole sectors, under the next sequence.
+// Commits the snapshot of a state, which is the first of these whole sectors, under the next sequence.
 fn save<D: Sectors>(
     device: &mut D,
     place: Place,

@@ -1,4 +1,4 @@
-// States as snapshots.
+//! States as snapshots.
 ghost use Rattle.std.specs.Prelude.{IfOk};
 ghost use Rattle.command_core.specs.Runs.{IsState};
 ghost use Rattle.checkpoint.specs.Encoding.{IsSnapshot};

@@ -1,4 +1,4 @@
-// Why a store can't be made, read or changed.
+//! Why a store can't be made, read or changed.
 ghost use Rattle.std.specs.Prelude.{◌≡◌};
 
 use sector_disk::DeviceFault;

@@ -1,9 +1,9 @@
-// What the headers and the records of a device tell.
+//! What the headers and the records of a device tell.
 ghost use Rattle.std.specs.Prelude.{◌≡◌, ◌≢◌, ◌+◌, ◌*◌, ◌%◌, ◌<◌, ◌≤◌, ◌^◌, ◌↔◌, ℕ, List, length, take, OnOk, OnErr, IfOk, IfErr, IfSome, IsTrue, MatchOption, MatchResult, Some, None};
 ghost use Rattle.sector_disk.specs.Image.{sector};
 ghost use Rattle.checkpoint.specs.Headers.{HasOtherVersion};
 ghost use Rattle.checkpoint.specs.Stores.{IsValid, Counts, begins_with};
-ghost use Rattle.checkpoint.specs.Reads.{IsFront, FitsLayout, IsAllowed, IsOfParity, HasRecords, IsClearFrom, HasStrayFrom};
+ghost use Rattle.checkpoint.specs.Reads.{IsImageFront, FitsLayout, IsAllowed, IsOfParity, HasRecords, IsClearFrom, HasStrayFrom};
 ghost use Rattle.checkpoint.specs.Holdless.{HasNoHeader, IsOfHeaders};
 ghost use Rattle.command_core.specs.declared.commands.Command.{Command};
 ghost use Rattle.state_codec.specs.Bytes.{record_bytes};
@@ -19,7 +19,7 @@ use state_codec::version::Version;
 use state_codec::{decode_record, decode_record_v1};
 use std::alloc::{AllocError, Global};
 
-/// A sector of the front of a device.
+// A sector of the front of a device.
 fn sector_at(front: &[u8], i: usize) -> [u8; SECTOR_SIZE]
     requires { 512 * i + 512 ≤ length front.now }
     ensures { result ≡ sector i front.now }
@@ -29,7 +29,7 @@ fn sector_at(front: &[u8], i: usize) -> [u8; SECTOR_SIZE]
     sector
 }
 
-/// Whether a header may stand in this sector of a device of so many sectors.
+// Whether a header may stand in this sector of a device of so many sectors.
 fn is_allowed(layout: Layout, sectors: u64, header: Header, index: u64) -> bool
     ensures { IsTrue result ↔ IsAllowed layout sectors header index }
 {
@@ -42,12 +42,12 @@ fn is_allowed(layout: Layout, sectors: u64, header: Header, index: u64) -> bool
     1 <= header.length && header.length <= 512 * u64::from(layout.half)
 }
 
-/// The valid header in one of the first two sectors.
+// The valid header in one of the first two sectors.
 fn valid_header(layout: Layout, sectors: u64, front: &[u8], index: usize) -> Option<Header>
     requires front { length front.now ≡ 512 * 258 }
     requires index { index < 2 }
     ensures fits { IfSome result (FitsLayout layout sectors) }
-    ensures valid { (image : List ℕ) → IsFront sectors front.now image
+    ensures valid { (image : List ℕ) → IsImageFront sectors front.now image
         → IsOfParity layout image index result }
 {
     match header_in(layout.version, &sector_at(front, index)) {
@@ -62,18 +62,18 @@ fn valid_header(layout: Layout, sectors: u64, front: &[u8], index: usize) -> Opt
     }
 }
 
-/// Whether a sector has the magic and another version.
+// Whether a sector has the magic and another version.
 fn is_of_other_version(version: u32, sector: &[u8; SECTOR_SIZE]) -> bool
     ensures { IsTrue result ↔ HasOtherVersion version sector.now }
 {
     &sector[..8] == MAGIC.as_slice() && &sector[8..12] != version.to_be_bytes().as_slice()
 }
 
-/// What is told where no header is valid.
+// What is told where no header is valid.
 fn no_header(layout: Layout, front: &[u8]) -> StoreFault
     requires front { length front.now ≡ 512 * 258 }
     ensures kind { IsOfHeaders result }
-    ensures told { (sectors : ℕ) (image : List ℕ) → 802 ≤ sectors → IsFront sectors front.now image
+    ensures told { (sectors : ℕ) (image : List ℕ) → 802 ≤ sectors → IsImageFront sectors front.now image
         → ((header : Header) → ¬ IsValid layout image header) → HasNoHeader layout image result }
 {
     if is_of_other_version(layout.version, &sector_at(front, 0)) {
@@ -95,7 +95,7 @@ pub(crate) fn current_header(
     requires room { 802 ≤ sectors }
     ensures kind { IfErr result IsOfHeaders }
     ensures fits { IfOk result (FitsLayout layout sectors) }
-    ensures found { (image : List ℕ) → IsFront sectors front.now image
+    ensures found { (image : List ℕ) → IsImageFront sectors front.now image
         → MatchResult result (λ header. Counts layout image header)
         (λ fault. HasNoHeader layout image fault) }
 {
@@ -119,7 +119,7 @@ pub(crate) fn current_header(
     }
 }
 
-/// The command whose record of this sequence and index a sector is, if it is one.
+// The command whose record of this sequence and index a sector is, if it is one.
 fn command_in(
     version: Version,
     sector: &[u8; SECTOR_SIZE],

@@ -1,4 +1,4 @@
-// The bytes of a header, both ways.
+//! The bytes of a header, both ways.
 ghost use Rattle.std.specs.Prelude.{◌≡◌, ℕ, ◌^◌, ◌<◌, ◌≤◌, length, IfSome, Some, None};
 ghost use Rattle.checkpoint.specs.Headers.{header_bytes};
 ghost use Rattle.checkpoint.specs.Stores.{begins_with};

@@ -1,3 +1,4 @@
+//! Where the parts of a store lie.
 ghost use Rattle.std.specs.Prelude.{◌≡◌};
 ghost use Rattle.checkpoint.specs.Layouts.{sectors_in, half_at};
 ghost use Rattle.checkpoint.specs.Holds.{layout_of};

@@ -1,9 +1,13 @@
-// Reading a store.
+//! Reading a store.
+//!
+//! Headers and records are read in one call of 258 sectors, the snapshot in another, into a buffer as long as the valid
+//! header says, which is at most a half of the device. So want of memory may be told where else it would be that there is no
+//! store.
 ghost use Rattle.std.specs.Prelude.{◌≡◌, ◌+◌, ◌*◌, ◌/◌, ◌%◌, ◌<◌, ◌≤◌, ℕ, List, length, take, drop, OnOk, IfOk, IfErr, IsErrOf, MatchResult};
 ghost use Rattle.command_core.specs.Runs.{IsState};
 ghost use Rattle.checkpoint.specs.Layouts.{sectors_in};
 ghost use Rattle.checkpoint.specs.Stores.{Counts, snapshot_in};
-ghost use Rattle.checkpoint.specs.Reads.{IsFront, IsUnchanged, IsStanding, FitsLayout, HasParts};
+ghost use Rattle.checkpoint.specs.Reads.{IsImageFront, IsUnchanged, IsStanding, FitsLayout, HasParts};
 ghost use Rattle.state_codec.specs.Bytes.{state_bytes};
 ghost use Rattle.state_codec.specs.declared.version.Version.TheVariants.{One, Two};
 ghost use Rattle.state_codec.specs.Limits.{IsStateOf};
@@ -50,7 +54,7 @@ pub(crate) fn read_front<D: Sectors>(
     ensures fits { IfOk result (λ opened. FitsLayout layout (D.len device.old) opened.header) }
     ensures found { D.honest device.new
         → MatchResult result (λ opened.
-        IsFront (D.len device.old) opened.front.items (D.seen device.old)
+        IsImageFront (D.len device.old) opened.front.items (D.seen device.old)
         × Counts layout (D.seen device.old) opened.header)
         (UnlessUnread (HasNoHeader layout (D.seen device.old))) }
     ensures same_len { D.len device.new ≡ D.len device.old }
@@ -127,7 +131,7 @@ pub(crate) fn with_journal(
     ensures standing { (sectors : ℕ) → FitsLayout (layout_of version) sectors header
         → IfOk result (λ loaded. IsStanding
         (sectors_in (layout_of version)) sectors loaded.state loaded.place) }
-    ensures found { (sectors : ℕ) (image : List ℕ) → IsFront sectors front.now image
+    ensures found { (sectors : ℕ) (image : List ℕ) → IsImageFront sectors front.now image
         → Counts (layout_of version) image header
         → snapshot_in (layout_of version) image header.sequence header.length ≡ state_bytes version state → IsStateOf version state
         → MatchResult result (λ loaded. Holds version image loaded.state loaded.commands.items loaded.place) (UnlessUnread (λ fault. HasBadJournal version image header.sequence state)) }
@@ -202,7 +206,7 @@ pub(crate) fn read_parts<D: Sectors>(
     }
 }
 
-/// The store's fault for a snapshot that does not decode.
+// The store's fault for a snapshot that does not decode.
 fn told_of(fault: CodecFault) -> StoreFault
     ensures { result ≡ told_of fault }
 {

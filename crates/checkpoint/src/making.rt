@@ -1,4 +1,4 @@
-// A new store.
+//! Making a store: zeros over the headers and records, a snapshot, its header, each with a sync.
 ghost use Rattle.command_core.specs.declared.states.State.TheVariants.{Empty};
 ghost use Rattle.state_codec.specs.declared.version.Version.TheVariants.{Two};
 ghost use Rattle.checkpoint.specs.Holds.{Holds};
@@ -26,7 +26,7 @@ const SECTORS: u64 = 8450;
 /// The bytes of the headers and of the records.
 pub(crate) const FRONT: usize = 258 * 512;
 
-/// Writes zeros over the headers and the records, and then the first snapshot with its header. Its bytes are the first of `bytes`. Six calls.
+// Writes zeros over the headers and the records, and then the first snapshot with its header. Its bytes are the first of `bytes`. Six calls.
 fn put_all<D: Sectors>(
     device: &mut D,
     zeros: &[u8],

@@ -1,4 +1,5 @@
-// The numbers of the stops that a journal adds.
+//! The numbers of the stops that a journal adds. In version 1 they are judged from the snapshot's next number and from how many
+//! stops each record adds, without applying a command.
 ghost use Rattle.std.specs.Prelude.{◌≡◌, ◌≤◌, ◌*◌, ◌↔◌, length, IsTrue};
 ghost use Rattle.checkpoint.specs.Numbers.{stops_added, all_added, next_number_of, HaveNumbers};
 
@@ -8,7 +9,7 @@ use state_codec::version::Version;
 /// The last stop number of version 1.
 const LAST_NUMBER: u32 = 4000;
 
-/// How many stops a command adds.
+// How many stops a command adds.
 fn stops_added(command: &Command) -> u32
     ensures added { result ≡ stops_added command.now }
     ensures few { result ≤ 2 }
@@ -27,7 +28,7 @@ fn stops_added(command: &Command) -> u32
     }
 }
 
-/// How many stops the commands of a journal add.
+// How many stops the commands of a journal add.
 fn all_added(commands: &[Command]) -> u32
     requires { length commands.now ≤ 256 }
     ensures added { result ≡ all_added commands.now }
@@ -40,7 +41,7 @@ fn all_added(commands: &[Command]) -> u32
     added
 }
 
-/// The number of the next stop that is added to a state.
+// The number of the next stop that is added to a state.
 fn next_number_of(state: &State) -> u32
     ensures next { result ≡ next_number_of state.now }
     ensures low { result ≤ 40001 }

@@ -1,3 +1,5 @@
+//! Where a store stands.
+
 /// Where the journal of a store goes on.
 #[derive(Clone, Copy, Debug, PartialEq, Eq)]
 pub struct Place {

@@ -1,4 +1,4 @@
-// Writes that are made durable.
+//! Writes that are made durable.
 ghost use Rattle.std.specs.Prelude.{◌≡◌, ◌+◌, ◌*◌, ◌%◌, ◌<◌, ◌≤◌, ◌^◌, ℕ, List, [], ◌∷◌, ◌++◌, length, take, OnOk};
 ghost use Rattle.sector_disk.specs.Image.{written};
 ghost use Rattle.sector_disk.specs.Sectors.{Only, Reached, Throughout, faults_after};

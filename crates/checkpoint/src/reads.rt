@@ -1,4 +1,4 @@
-// Reading a device.
+//! Reading a run of sectors.
 ghost use Rattle.std.specs.Prelude.{◌≡◌, ◌+◌, ◌*◌, ◌%◌, ◌<◌, ◌≤◌, ℕ, List, length, take, drop, OnOk, OnErr, IfOk, IfErr};
 ghost use Rattle.checkpoint.specs.Reads.{IsUnchanged};
 ghost use Rattle.checkpoint.specs.Refused.{IsOfReading, faults_after_reading};

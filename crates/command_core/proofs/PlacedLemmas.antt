@@ -9,7 +9,7 @@ use Rattle.plan_types.specs.declared.requests.Request.{Request}
 use Rattle.plan_types.specs.declared.requests.Request.TheVariants.{Single, Pair}
 use Rattle.route_sched.specs.Cost.{has_stop, is_planned, unplanned_count, cost_of}
 use Rattle.plan_audit.specs.Passes.{passes}
-use Rattle.move_ops.specs.Insertion.{Place, request_named, of_vehicle, passing, put_at, inserted, with_request_at, is_place_of, best_insertion, put_in}
+use Rattle.move_ops.specs.Insertion.{Insertion, request_named, of_vehicle, passing, put_at, inserted, with_request_at, is_place_of, best_insertion, put_in}
 use Rattle.seeded_search.specs.Steps.{placed, placed_all}
 use Rattle.command_core.proofs.CountLemmas.{none_some, some_same, one_here, times, times-append, times_split, had_stands, stands_had, times_replaced, found, count_less}
 
@@ -49,7 +49,7 @@ own_route routes (suc k) from to =
     let e : suc k - 1 ≡ k = omega arith in
     rw e (t.1 ∙ ap Some (sym (ap (λ o. unwrap_or o []) t.1)))
 
-times_with : (n : ℕ) (pins routes : List (List ℕ)) (r : Request) (x : Place) → is_place_of pins routes r x ≡ true → times n (concat (with_request_at routes r x)) ≡ times n (numbers_of r) + times n (concat routes)
+times_with : (n : ℕ) (pins routes : List (List ℕ)) (r : Request) (x : Insertion) → is_place_of pins routes r x ≡ true → times n (concat (with_request_at routes r x)) ≡ times n (numbers_of r) + times n (concat routes)
 times_with n pins routes r x at =
     let a = and_parts _ _ at in
     let b = and_parts _ _ a.1 in
@@ -58,7 +58,7 @@ times_with n pins routes r x at =
     let f = times_inserted n r x.1 x.2 (of_vehicle routes x.0) in
     omega arith
 
-module _ (p : Instance) (pins routes : List (List ℕ)) (r : Request) (x : Place) (at : is_place_of pins routes r x ≡ true) where
+module _ (p : Instance) (pins routes : List (List ℕ)) (r : Request) (x : Insertion) (at : is_place_of pins routes r x ≡ true) where
   abbrev new : List (List ℕ)
   new = with_request_at routes r x
 
@@ -97,7 +97,7 @@ module _ (p : Instance) (pins routes : List (List ℕ)) (r : Request) (x : Place
           by true e = absurd (let h : is_planned new s ≡ false = not-true (is_planned new s) none in let g : true ≡ false = sym (planned_kept s e) ∙ h in cc)
 
 -- a chain of tests and look-ups gives the plan
-put_in_gives : (p : Instance) (pins routes : List (List ℕ)) (name : ℕ) (x : Place) (y : List (List ℕ)) → put_in p pins routes name x ≡ Some y
+put_in_gives : (p : Instance) (pins routes : List (List ℕ)) (name : ℕ) (x : Insertion) (y : List (List ℕ)) → put_in p pins routes name x ≡ Some y
     → (r : Request) × (request_named p name ≡ Some r) × (is_planned routes r ≡ false) × (is_place_of pins routes r x ≡ true) × (passes p pins y ≡ true) × (y ≡ with_request_at routes r x)
 put_in_gives p pins routes name x y is =
     let t = and_then_some _ (request_named p name) y is in
@@ -115,7 +115,7 @@ module _ (total : CostsAreTotal) (transitive : CostsAreTransitive) (below : Belo
   pub same_cost : (routes : List (List ℕ)) → CostsNoMore routes routes
   same_cost routes = elim (total (cost_of p routes) (cost_of p routes)) [ inl t ↦ t | inr t ↦ t ]
 
-  put_in_cost : (routes : List (List ℕ)) (name : ℕ) (x : Place) (y : List (List ℕ)) → put_in p pins routes name x ≡ Some y → CostsNoMore y routes
+  put_in_cost : (routes : List (List ℕ)) (name : ℕ) (x : Insertion) (y : List (List ℕ)) → put_in p pins routes name x ≡ Some y → CostsNoMore y routes
   put_in_cost routes name x y is =
       let t = put_in_gives p pins routes name x y is in
       let less = unplanned_less p pins routes t.0 x t.3 name t.1 t.2 in

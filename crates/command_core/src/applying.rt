@@ -1,4 +1,4 @@
-//! What a command makes of a state.
+//! What a command makes of a state: `apply`, which gives each command to the module that carries it out.
 ghost use Rattle.std.specs.Prelude.{◌≡◌, None, Some, ◌⊎◌, IfOk, IfErr};
 ghost use Rattle.command_core.specs.Effects.{job_after, effect};
 ghost use Rattle.command_core.specs.Refusing.{job_refusal, refusal};
@@ -14,8 +14,11 @@ use crate::states::{Job, State};
 use crate::withdrawing::withdraw;
 use std::alloc::Global;
 
-/// What the command makes of the state: a new state, beside the old one, which stays. A refusal other than `OutOfMemory` is told before
-/// memory is asked for.
+/// What the command makes of the state: a new state, beside the old one, which stays.
+///
+/// # Errors
+///
+/// The refusal of `check`, before memory is asked for; then `OutOfMemory`.
 pub fn apply(alloc: Global, state: &State, command: &Command) -> Result<State, Refusal>
     ensures ok { IfOk result (λ new. (new ≡ effect state.now command.now)
         × (refusal state.now command.now ≡ None)) }

@@ -1,4 +1,4 @@
-//! Why a state refuses a command.
+//! Why a state refuses a command: `check`, cause by cause in the order of `Refusal`.
 ghost use Rattle.std.specs.Prelude.{◌≡◌, ◌≤◌, ◌^◌, None, Some, MatchResult};
 ghost use Rattle.command_core.specs.Refusing.{is_vehicle, add_refusal, withdraw_refusal, pin_refusal, unpin_refusal, search_refusal, deviation_refusal, job_refusal, refusal};
 
@@ -11,7 +11,11 @@ use plan_audit::{passes_are_local, plans_are_local};
 use plan_types::Problem;
 use plan_types::limits::MAX_STOP_NUMBER;
 
-/// Whether the state accepts the command: if not, the first refusal, as they are declared, that has a cause. Takes no memory.
+/// Whether the state accepts the command. Takes no memory.
+///
+/// # Errors
+///
+/// The first refusal that has a cause, in the order in which they are declared.
 pub fn check(state: &State, command: &Command) -> Result<(), Refusal>
     ensures { MatchResult result (λ _. refusal state.now command.now ≡ None)
         (λ r. refusal state.now command.now ≡ Some r) }

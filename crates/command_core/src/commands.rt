@@ -1,6 +1,8 @@
+//! What a planner is asked to do.
 use plan_types::Problem;
 
-/// Where a new stop lies, and when and how long it is served: a stop but for its number and demand.
+/// Where a new stop lies, and when and how long it is served: a stop but for its number and demand. To drive a distance
+/// takes as long as it is.
 #[derive(Clone, Copy, Debug, PartialEq, Eq)]
 pub struct Spot {
     /// The coordinates, in -1,000,000..=1,000,000.

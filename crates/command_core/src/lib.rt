@@ -1,4 +1,40 @@
-//! The state of a planner, and what each command makes of it.
+//! The state of a planner, and what each command makes of it. No bytes, no device, no text.
+//!
+//! Entry functions: `check` tells whether a state accepts a command, `apply` gives the state that it makes; both are
+//! called by `recover`, and `apply` by `plan_solve` as well. `state_codec` and `checkpoint` write and read the types,
+//! `command_text` the answers (`unplanned_names`).
+//!
+//! Source: this project's own. Requests come in (`Add`, `Add1`), go (`Withdraw`) and are planned (`Build`, `Search`);
+//! `Pin` and `Unpin` say which stops a vehicle keeps at the front of its route.
+//!
+//! How it works: a command makes a new state beside the old one, so want of memory changes nothing. Every command but
+//! `Search` and `Checkpoint` sets the working plan to the incumbent that it leaves.
+//!
+//! Modules, in reading order:
+//! - `limits`: the limits of commands and states
+//! - `commands`: `Command`, and where a new stop lies
+//! - `states`: `State`, and the `Job` that a loaded state holds
+//! - `refusals`: why a command is refused
+//! - `lists`: routes and pins of vehicles
+//! - `checking`: `check`
+//! - `applying`: `apply`, a line for each command
+//! - `loading`, `adding`, `withdrawing`, `pinning`: requests and pins
+//! - `marks`: which requests are unplanned
+//! - `placing`, `planning`: `Build`, `Search` and `Deviation`
+//! - `laws`: what commands keep
+//!
+//! Said by `specs/Job.antt`, `Effects.antt`, `Refusing.antt`, `Runs.antt` and `RunLaws.antt`. Proved:
+//! - `Job` (its type's invariant): plan and working plan pass with the pins, each pin alone is a feasible route,
+//!   deviation and steps keep their limits
+//! - `check`: the first cause for a refusal (`refusal`), without memory
+//! - `apply`: `ok`, the state that the command makes (`effect`); `err`, that refusal, or want of memory
+//! - `unplanned_names`: the names of the requests without a stop in any route, rising
+//! - `effects_keep_facts`: what accepted commands make of a state keeps the facts of a `Job`
+//! - `costs_never_rise`, `plans_never_cost_more`: the plan costs no more than at any moment since the last change of
+//!   requests or pins
+//! - `searches_add_up`: searches, however cut, are one search of all their steps
+//! - `given_numbers_are_new`: no stop number is given twice, unless a `Load` begins anew
+//! - `accepted_commands_fit_records`: an accepted command but `Load` and `Checkpoint` fits a record of a journal
 #![tactic(auto)]
 
 mod adding;

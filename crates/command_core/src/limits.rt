@@ -12,12 +12,14 @@ pub const MAX_STEPS: u64 = 1 << 60;
 /// How many steps one command may make; the least number is 1.
 pub const MAX_COUNT: u16 = 256;
 
+/// Whether goods to be picked up or delivered keep the limit of a demand.
 pub(crate) fn is_demand(demand: u32) -> bool
     ensures { result ≡ is_demand demand }
 {
     demand <= MAX_DEMAND as u32
 }
 
+/// Whether coordinates, window and service keep the limits of a stop.
 pub(crate) fn is_spot(spot: &Spot) -> bool
     ensures { result ≡ is_spot spot.now }
 {

@@ -1,4 +1,7 @@
 //! Requests put into a plan, which is changed in its place.
+//!
+//! One draft of the plan is built, and each request is taken as it is put in: no plan is copied, no change is kept, and
+//! the memory of the route that was there before serves the next request.
 ghost use Rattle.std.specs.Prelude.{◌≡◌, true, IfOk};
 ghost use Rattle.plan_audit.specs.Passes.{passes};
 ghost use Rattle.seeded_search.specs.Steps.{placed_all};

@@ -1,4 +1,5 @@
-//! What is made of a job's plan: requests that are put in, steps of the search, and how far it walks from the incumbent.
+//! What is made of a job's plan: requests that are put in, steps of the search, and how far it walks from the
+//! incumbent.
 ghost use Rattle.std.specs.Prelude.{◌≡◌, None, IfOk, IfErr};
 ghost use Rattle.command_core.specs.Effects.{built, searched, with_deviation};
 ghost use Rattle.command_core.specs.Refusing.{job_refusal};

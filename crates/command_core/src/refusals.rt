@@ -1,9 +1,10 @@
+//! Why a command is refused.
 ghost use Rattle.std.specs.Prelude.{◌≡◌};
 
 use std::alloc::{AllocError, AllocFailed};
 use thiserror::Error;
 
-/// Why a command is refused. The cases stand in the order in which they are told, but that want of memory may be met before some.
+/// Why a command is refused. The cases stand in the order in which they are told; memory is asked for after the others.
 #[derive(Clone, Copy, Debug, PartialEq, Eq, Error)]
 pub enum Refusal {
     #[error("no problem is loaded")]

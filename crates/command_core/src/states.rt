@@ -1,3 +1,8 @@
+//! What a planner knows: nothing yet, or a job.
+//!
+//! A job's fields are public, and its facts are asked where one is made of its parts: by `Job::from_parts`, for whoever
+//! decodes one. The working plan may be any that passes; that one within the deviation stays there is a law of
+//! `seeded_search`.
 ghost use Rattle.std.specs.Prelude.{◌≡◌, IfOk};
 ghost use Rattle.command_core.specs.Job.{IsJob};
 
@@ -34,7 +39,7 @@ impl Model for Job {
 }
 
 impl Job {
-    /// The job of these parts. Takes no memory.
+    /// The job of these parts, which have to keep a job's facts. Takes no memory.
     pub fn from_parts(
         problem: Problem,
         pins: Pins,

@@ -1,4 +1,7 @@
 //! What is left of a job once a request is withdrawn.
+//!
+//! Whether the rest of a route is feasible is asked of an audit of that route alone, in time linear in the problem:
+//! `route_fault`, which takes no memory, is quadratic in the route.
 ghost use Rattle.std.specs.Prelude.{◌≡◌, None, [], ◌∷◌, All, length, IfOk, IfErr};
 ghost use Rattle.plan_types.specs.Instance.{IsInstance, without_request};
 ghost use Rattle.route_sched.specs.Route.{AreLiveOnce};

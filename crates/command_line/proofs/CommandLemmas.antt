@@ -23,7 +23,7 @@ use Rattle.std.proofs.lemmas.Slice.Eq.{bytes_eq-Decides}
 use Rattle.clap.proofs.WalkLemmas.{first_value-rows, list_any-map}
 use Rattle.clap.proofs.OnLiterals.{clap_on_literals}
 use Rattle.command_line.specs.declared.words.Invocation.{Invocation}
-use Rattle.command_line.specs.Asked.{IsRefusal, ArePositional, Asked, PathsAsked, Reads, asked_by, asks_help, audit, audits, draw, explain, format, is_positional_word, kind_named, list_asked, list_from, list_in, paths_asked, paths_from, paths_in, run, seed_named, seed_or_none, solve, steps_named, store_asked, store_in, task_asked, task_from, task_in, task_with, told_by, told_of, usage_status_of}
+use Rattle.command_line.specs.Asked.{IsRefusal, ArePositional, Asked, PathsAsked, ReadsWords, asked_by, asks_help, audit, audits, draw, explain, format, is_positional_word, kind_named, list_asked, list_from, list_in, paths_asked, paths_from, paths_in, run, seed_named, seed_or_none, solve, steps_named, store_asked, store_in, task_asked, task_from, task_in, task_with, told_by, told_of, usage_status_of}
 use Rattle.command_line.specs.CommandLine.{IsKindNames, IsPlannerCommand, audits_app, paths_app, planner_app, solve_app, store_app}
 
 -- ---- a word that does not begin with a hyphen is a value
@@ -899,7 +899,7 @@ parsed command texts m h p no_fault matches =
     accepted _ _ _ _ (judged command texts h p) (no_fault (is_simple_command command h)) ∙ ap told_of (sym (matches (ap is_simple h.app ∙ is_simple_app h.names)).1)
 
 -- `?` passes the error up as it is
-pub passed_up : (words : List Text) (r : Result Invocation Error) (e : Error) → IsErrAnd r (λ y. y ≡ e) → IsRefusal words e → Reads words r
+pub passed_up : (words : List Text) (r : Result Invocation Error) (e : Error) → IsErrAnd r (λ y. y ≡ e) → IsRefusal words e → ReadsWords words r
 passed_up words (Ok x) e is h = absurd is
 passed_up words (Err y) e is h = subst (λ (z : Error). IsRefusal words z) (sym is) h
 

@@ -189,8 +189,8 @@ abbrev pub IsRefusal : List Text → Error → Type 0
 IsRefusal words error = (kind_of error ≡ OutOfMemory) ⊎ ((asked_by words ≡ None) × ((asks_help words ≡ true) ⊎ (usage_status_of (kind_of error) ≡ 64)))
 
 -- what is read is what the words ask for
-abbrev pub Reads : List Text → Result Invocation Error → Type 0
-Reads words r = MatchResult r (λ invocation. asked_by words ≡ Some (asked_of invocation)) (IsRefusal words)
+abbrev pub ReadsWords : List Text → Result Invocation Error → Type 0
+ReadsWords words r = MatchResult r (λ invocation. asked_by words ≡ Some (asked_of invocation)) (IsRefusal words)
 
 -- a status of words that ask for nothing: of their own, or of what could not be printed and of want of memory
 abbrev pub IsUsageStatus : ℕ → Type 0

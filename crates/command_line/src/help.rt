@@ -1,4 +1,5 @@
-//! What the program says of itself: its version, and what each line that it prints and each status means.
+//! What the program says of itself: its version, which `clap`'s own flag tells, and what each line that it prints
+//! and each status means.
 
 pub(crate) const VERSION: &str = "0.1.0";
 
@@ -25,13 +26,24 @@ pub(crate) const AUDIT_ANSWERS: &str = "It prints one line:\n  \
     solution NAME LINE                  the first fault of the solution's text (status 2)\n  \
     cannot read PATH                    the file can't be read (status 3)\n  \
     out of memory                       (status 4)\n\n\
-    Routes, places and lines count from 1.";
+    Routes, places and lines count from 1. The rules:\n  \
+    1   unknown stop\n  \
+    2   a stop that stands twice\n  \
+    3   a stop or a request that is missing\n  \
+    4   a pair in two routes\n  \
+    5   a delivery before its pickup\n  \
+    6   too much load\n  \
+    7   service too late\n  \
+    8   a vehicle back too late\n  \
+    9   more vehicles than the fleet has\n  \
+    10  a pin that is not kept (of a plan in a store alone)\n  \
+    11  a printed cost that is not the distance driven";
 
 pub(crate) const FORMAT_ABOUT: &str = "Makes an empty store, in a new file or in place of the file";
 
 pub(crate) const FORMAT_ANSWERS: &str = "It prints one line:\n  \
     ok                  the store is empty and durable (status 0)\n  \
-    cannot read PATH    the file can't be made or opened (status 3)\n  \
+    cannot read PATH    the file can't be opened to be read and written (status 3)\n  \
     store DeviceFault   a write or a sync failed; the file is no store until format succeeds (status 3)\n  \
     store OutOfMemory   (status 4)";
 

@@ -1,8 +1,11 @@
-//! The words of the command line.
+//! The words of the command line: `Invocation` and `read_words`.
+//!
+//! Words that begin with a hyphen are `clap`'s, and the contract speaks of the other ones, since an exact clause
+//! would have to speak of UTF-8 within each word. `--` alone counts as no words, as `clap` has it.
 ghost use Rattle.std.specs.Prelude.{◌≡◌, IfOk, codes, drop, map, option_and_then, option_map};
 ghost use Rattle.clap.specs.Words.{App, Rule, app_of, first_of, found_of, kind_of, rows_of, subcommand_rows_of, with_rule, with_subcommand};
 ghost use Rattle.command_text.specs.Asking.{field_in};
-ghost use Rattle.command_line.specs.Asked.{ArePositional, Reads, asked_of, paths_in, paths_of, kind_named, list_in, seed_named, seed_or_none, steps_named, store_in, task_in, task_of, told_by, told_by_other, told_of, told_of_store};
+ghost use Rattle.command_line.specs.Asked.{ArePositional, ReadsWords, asked_of, paths_in, paths_of, kind_named, list_in, seed_named, seed_or_none, steps_named, store_in, task_in, task_of, told_by, told_by_other, told_of, told_of_store};
 ghost use Rattle.command_line.specs.CommandLine.{IsKindNames, IsLeafCommand, IsPlannerCommand, IsWord, audits_app, paths_app, kind_rule, solve_app, store_app, word_rule};
 
 use crate::help::{
@@ -63,10 +66,13 @@ static KIND_WORDS: [&str; 2] = ["lilim", "vrp"];
 
 /// Reads the words of the command line, the program's name first.
 ///
-/// An error is clap's: its text is what the user sees, on standard output where help was asked for.
+/// # Errors
+///
+/// `clap`'s, whose text is what the user sees, on standard output where help was asked for; also for a number that is
+/// none or too great, and for want of memory.
 pub fn read_words<'a, S: AsStr>(alloc: Global, words: &'a [S]) -> Result<Invocation<'a>, Error>
     ensures { let asked = drop 1 (map S.text words.entry.now) in
-        ArePositional asked → Reads asked result }
+        ArePositional asked → ReadsWords asked result }
 {
     let matches = planner_command(alloc)?.try_get_matches_from(words)?;
     match asked_words(&matches) {
@@ -75,7 +81,7 @@ pub fn read_words<'a, S: AsStr>(alloc: Global, words: &'a [S]) -> Result<Invocat
     }
 }
 
-/// The error for words that the parser let pass: a number is none, or too great.
+// The error for words that the parser let pass: a number is none, or too great.
 fn bad_number(alloc: Global) -> Result<Error, OutOfMemory>
     ensures { IfOk result (λ error. kind_of error ≡ ErrorKind.InvalidValue) }
 {
@@ -106,14 +112,14 @@ fn planner_command<'a>(alloc: Global) -> Result<Command<'a>, OutOfMemory>
     with_command(with_command(planner, format)?, run)
 }
 
-/// The words that name a kind of instance.
+// The words that name a kind of instance.
 fn kind_names<'a>() -> &'a [&'a str]
     ensures { IsKindNames result }
 {
     KIND_WORDS.as_slice()
 }
 
-/// A command whose one word is the path of a store.
+// A command whose one word is the path of a store.
 fn store_command<'a>(
     alloc: Global,
     name: &'a str,
@@ -126,7 +132,7 @@ fn store_command<'a>(
     with_word(command, word(alloc, "STORE", "The file of the store"))
 }
 
-/// A command of the words `KIND INSTANCE SOLUTION`.
+// A command of the words `KIND INSTANCE SOLUTION`.
 fn paths_command<'a>(
     alloc: Global,
     name: &'a str,
@@ -171,21 +177,21 @@ fn solve_command<'a>(alloc: Global, kinds: &'a [&'a str]) -> Result<Command<'a>,
     with_word(command, seed)
 }
 
-/// The word that names a kind of instance.
+// The word that names a kind of instance.
 fn kind_word<'a>(alloc: Global, kinds: &'a [&'a str]) -> Arg<'a>
     ensures { IsWord (kind_rule kinds.entry) result }
 {
     word(alloc, "KIND", "The format of the instance").value_parser(kinds)
 }
 
-/// A word that has to stand there.
+// A word that has to stand there.
 fn word<'a>(alloc: Global, name: &'a str, help: &'a str) -> Arg<'a>
     ensures { IsWord (word_rule name.entry.now) result }
 {
     Arg::new(alloc, name).required(true).help(help)
 }
 
-/// The command with one more word.
+// The command with one more word.
 fn with_word<'a>(command: Command<'a>, word: Arg<'a>) -> Result<Command<'a>, OutOfMemory>
     ensures { (a : App) (r : Rule) → IsLeafCommand a command.entry → IsWord r word.entry
         → IfOk result (IsLeafCommand (with_rule a r)) }
@@ -193,7 +199,7 @@ fn with_word<'a>(command: Command<'a>, word: Arg<'a>) -> Result<Command<'a>, Out
     command.arg(word)
 }
 
-/// The command with one more subcommand.
+// The command with one more subcommand.
 fn with_command<'a>(above: Command<'a>, command: Command<'a>) -> Result<Command<'a>, OutOfMemory>
     ensures { (a b : App) → app_of above.entry ≡ a → IsLeafCommand b command.entry
         → IfOk result (λ new. app_of new ≡ with_subcommand a b.top) }
@@ -201,7 +207,7 @@ fn with_command<'a>(above: Command<'a>, command: Command<'a>) -> Result<Command<
     above.subcommand(command)
 }
 
-/// `None` where a word is missing or names no kind, or no number.
+// `None` where a word is missing or names no kind, or no number.
 fn asked_words<'a>(matches: &ArgMatches<'a>) -> Option<Invocation<'a>>
     ensures { option_map asked_of result ≡ told_of (subcommand_rows_of matches.now) }
 {
@@ -211,7 +217,7 @@ fn asked_words<'a>(matches: &ArgMatches<'a>) -> Option<Invocation<'a>>
     }
 }
 
-/// What the words behind a command's name ask for.
+// What the words behind a command's name ask for.
 fn command_words<'a>(name: &str, words: &ArgMatches<'a>) -> Option<Invocation<'a>>
     ensures { option_map asked_of result ≡ told_by name.now (rows_of (found_of words.now)) }
 {
@@ -223,7 +229,7 @@ fn command_words<'a>(name: &str, words: &ArgMatches<'a>) -> Option<Invocation<'a
     }
 }
 
-/// What the words behind the name of a command ask for that takes no solution.
+// What the words behind the name of a command ask for that takes no solution.
 fn other_words<'a>(name: &str, words: &ArgMatches<'a>) -> Option<Invocation<'a>>
     ensures { option_map asked_of result ≡ told_by_other name.now (rows_of (found_of words.now)) }
 {
@@ -234,7 +240,7 @@ fn other_words<'a>(name: &str, words: &ArgMatches<'a>) -> Option<Invocation<'a>>
     }
 }
 
-/// What the words behind `format` or `run` ask for.
+// What the words behind `format` or `run` ask for.
 fn store_words<'a>(name: &str, words: &ArgMatches<'a>) -> Option<Invocation<'a>>
     ensures { option_map asked_of result ≡ told_of_store name.now (rows_of (found_of words.now)) }
 {
@@ -248,14 +254,14 @@ fn store_words<'a>(name: &str, words: &ArgMatches<'a>) -> Option<Invocation<'a>>
     }
 }
 
-/// The path of the store, or `None` where it is missing.
+// The path of the store, or `None` where it is missing.
 fn store_word<'a>(matches: &ArgMatches<'a>) -> Option<&'a str>
     ensures { option_map (λ store. store.now) result ≡ store_in (rows_of (found_of matches.now)) }
 {
     matches.get_str("STORE")
 }
 
-/// `None` where a word is missing or names no kind.
+// `None` where a word is missing or names no kind.
 fn paths_words<'a>(matches: &ArgMatches<'a>) -> Option<Paths<'a>>
     ensures { option_map paths_of result ≡ paths_in (rows_of (found_of matches.now)) }
 {
@@ -269,7 +275,7 @@ fn paths_words<'a>(matches: &ArgMatches<'a>) -> Option<Paths<'a>>
     })
 }
 
-/// `None` where a word is missing or names no kind.
+// `None` where a word is missing or names no kind.
 fn list_words<'a>(matches: &ArgMatches<'a>) -> Option<Invocation<'a>>
     ensures { option_map asked_of result ≡ list_in (rows_of (found_of matches.now)) }
 {
@@ -278,7 +284,7 @@ fn list_words<'a>(matches: &ArgMatches<'a>) -> Option<Invocation<'a>>
     Some(Invocation::Audits { kind, list })
 }
 
-/// `None` where a word is missing or names no kind, or no number.
+// `None` where a word is missing or names no kind, or no number.
 fn task_words<'a>(matches: &ArgMatches<'a>) -> Option<Task<'a>>
     ensures { option_map task_of result ≡ task_in (rows_of (found_of matches.now)) }
 {
@@ -314,7 +320,7 @@ fn steps_of_word(word: &str) -> Option<u32>
     Some(steps)
 }
 
-/// The seed that is named, or 0 where none is.
+// The seed that is named, or 0 where none is.
 fn seed_of_words(matches: &ArgMatches<'_>) -> Option<u64>
     ensures { result
         ≡ seed_or_none (first_of (codes "SEED") (rows_of (found_of matches.now))) }

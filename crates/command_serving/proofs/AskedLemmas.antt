@@ -7,14 +7,14 @@ use Rattle.std.proofs.lemmas.Bool.{lt-ltb, ltb-true}
 use Rattle.std.proofs.lemmas.List.{take-append-le, drop-append-le, drop_all, take_all}
 use Rattle.plan_types.specs.declared.requests.Kind.{Kind}
 use Rattle.command_core.specs.declared.commands.Command.{Command}
-use Rattle.command_text.specs.Answering.{Fate, Reply, Serving, asked_reply, joined, reply, searched, served}
+use Rattle.command_text.specs.Answering.{Fate, Reply, Serving, asked_reply, joined_replies, reply, searched, served}
 use Rattle.command_text.specs.Cutting.{Piece, is_short, pieces_of}
 use Rattle.command_text.specs.Laws.{StatesFollow, cut_at}
 use Rattle.command_text.specs.Readings.{Reading}
 use Rattle.command_text.specs.declared.asked.Asked.{Asked}
 use Rattle.command_text.specs.declared.asked.Asked.TheVariants.{Load, Nothing}
 use Rattle.recover.specs.Sessions.{SessionValue}
-use Rattle.command_serving.specs.Input.{Counts, Cuts, Loads}
+use Rattle.command_serving.specs.Input.{CountsTaken, Cuts, Loads}
 use Rattle.command_serving.specs.Served.{HasCause, IsCutShort, IsServed, Leads, Tells, as_serving, preceded, still}
 use Rattle.command_serving.specs.Serving.{Answers, CutOff, GoesOn, IsCause, Serves, ServesOn, goes_behind, goes_on, load_told, pieces_behind, silent, still_searched}
 use Rattle.command_serving.specs.declared.answering.Goes.{Goes}
@@ -27,7 +27,7 @@ use Rattle.command_serving.proofs.ServingLemmas.{answers_as, leads_nothing, lead
 
 -- ---- a piece, and those behind it
 
-served_cons : (reading : Reading) (s : Serving) (p : Piece) (ps : List Piece) → served reading s (p ∷ ps) ≡ joined (reply reading s p) (served reading (reply reading s p).left ps)
+served_cons : (reading : Reading) (s : Serving) (p : Piece) (ps : List Piece) → served reading s (p ∷ ps) ≡ joined_replies (reply reading s p) (served reading (reply reading s p).left ps)
 unfolding served
 served_cons reading s p ps = refl
 
@@ -39,7 +39,7 @@ reply_is : (reading : Reading) (s : Serving) (p : Piece) → reply reading s p �
 unfolding reply
 reply_is reading s p = refl
 
-joined_silent : (t : List ℕ) (c : List Command) (s : Serving) (r : Reply) → joined (preceded t c (silent s)) r ≡ preceded t c r
+joined_silent : (t : List ℕ) (c : List Command) (s : Serving) (r : Reply) → joined_replies (preceded t c (silent s)) r ≡ preceded t c r
 joined_silent t c s r = ap₂ {C = Reply} (λ (x : List ℕ) (y : List Command). record { text = x ++ r.text; commands = y ++ r.commands; left = r.left }) (append-nil t) (append-nil c)
 
 asked_serves : {D : Type 0} (reading : Reading) (old new : SessionValue D) (p : Piece) (ps : List Piece) (x y : Option (List ℕ))
@@ -51,7 +51,7 @@ asked_serves reading old new p ps x y serves = record {
     commands = serves.leads.commands;
     says = λ later.
         served_cons reading (as_serving old (serves.leads.fates ++ later)) p ps
-        ∙ ap (λ (r : Reply). joined r (served reading r.left ps)) (reply_is reading (as_serving old (serves.leads.fates ++ later)) p ∙ serves.leads.says later)
+        ∙ ap (λ (r : Reply). joined_replies r (served reading r.left ps)) (reply_is reading (as_serving old (serves.leads.fates ++ later)) p ∙ serves.leads.says later)
         ∙ joined_silent serves.text serves.leads.commands (as_serving new later) (served reading (as_serving new later) ps);
     state = serves.leads.state;
   };
@@ -72,26 +72,26 @@ ended_serves reading old new f x y serves = record {
 
 -- ---- an answer that was cut off
 
-joined_on : (t : List ℕ) (c : List Command) (r q : Reply) → joined (preceded t c r) q ≡ preceded t c (joined r q)
+joined_on : (t : List ℕ) (c : List Command) (r q : Reply) → joined_replies (preceded t c r) q ≡ preceded t c (joined_replies r q)
 joined_on t c r q = ap₂ {C = Reply} (λ (x : List ℕ) (y : List Command). record { text = x; commands = y; left = q.left }) (append_assoc t r.text q.text) (append_assoc c r.commands q.commands)
 
 module _ {D : Type 0} (reading : Reading) (old new : SessionValue D) (p : Piece) (ps : List Piece) (x y : Option (List ℕ)) where
   -- an answer, and those to the pieces behind it
   abbrev with_rest : (Serving → Reply) → Serving → Reply
-  with_rest f s = let r = f s in joined r (served reading r.left ps)
+  with_rest f s = let r = f s in joined_replies r (served reading r.left ps)
 
   abbrev asks : Serving → Reply
   asks s = asked_reply reading s p.asked p.text (is_short p)
 
   served_first : (s : Serving) → served reading s (p ∷ ps) ≡ with_rest asks s
-  served_first s = served_cons reading s p ps ∙ ap (λ (r : Reply). joined r (served reading r.left ps)) (reply_is reading s p)
+  served_first s = served_cons reading s p ps ∙ ap (λ (r : Reply). joined_replies r (served reading r.left ps)) (reply_is reading s p)
 
   leads_first : (told : SessionValue D) (g : Serving → Reply) (t : List ℕ) → Leads old asks t told g → Leads old (λ s. served reading s (p ∷ ps)) t told (with_rest g)
   leads_first told g t l = record {
     fates = l.fates;
     commands = l.commands;
     says = λ later.
-        served_first (as_serving old (l.fates ++ later)) ∙ ap (λ (r : Reply). joined r (served reading r.left ps)) (l.says later)
+        served_first (as_serving old (l.fates ++ later)) ∙ ap (λ (r : Reply). joined_replies r (served reading r.left ps)) (l.says later)
         ∙ joined_on t l.commands (g (as_serving told later)) (served reading (g (as_serving told later)).left ps);
     state = l.state;
   }
@@ -101,7 +101,7 @@ module _ {D : Type 0} (reading : Reading) (old new : SessionValue D) (p : Piece)
     fates = l.fates;
     commands = l.commands;
     says = λ later.
-        served_first (as_serving old (l.fates ++ later)) ∙ ap (λ (r : Reply). joined r (served reading r.left ps)) (l.says later)
+        served_first (as_serving old (l.fates ++ later)) ∙ ap (λ (r : Reply). joined_replies r (served reading r.left ps)) (l.says later)
         ∙ joined_on t l.commands (g (as_serving new later)) (served reading (g (as_serving new later)).left ps);
     state = l.state;
     few = l.few;
@@ -112,7 +112,7 @@ module _ {D : Type 0} (reading : Reading) (old new : SessionValue D) (p : Piece)
     fates = l.fates;
     commands = l.commands;
     says = λ later.
-        ap (λ (r : Reply). joined r (served reading r.left ps)) (l.says later) ∙ joined_on t l.commands (g (as_serving new later)) (served reading (g (as_serving new later)).left ps);
+        ap (λ (r : Reply). joined_replies r (served reading r.left ps)) (l.says later) ∙ joined_on t l.commands (g (as_serving new later)) (served reading (g (as_serving new later)).left ps);
     state = l.state;
     few = l.few;
   }
@@ -412,6 +412,6 @@ cause_of fault.ReadFault reader_failed writer_failed left len most (inl failed) 
 cause_of fault.ReadFault reader_failed writer_failed left len most (inr none) = inr (most none)
 cause_of fault.WriteFault reader_failed writer_failed left len most failed = failed
 
-pub whole_input : (input : List ℕ) (new : Option (List ℕ)) (left : ℕ) → Counts (Some input) 1000000000000 new left → left ≡ 0 → 10 ^ 12 ≤ length input
+pub whole_input : (input : List ℕ) (new : Option (List ℕ)) (left : ℕ) → CountsTaken (Some input) 1000000000000 new left → left ≡ 0 → 10 ^ 12 ≤ length input
 whole_input input None left counts none = absurd counts
 whole_input input (Some rest) left counts none = omega (arith, counts, none)

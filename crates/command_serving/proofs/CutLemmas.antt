@@ -10,7 +10,7 @@ use Rattle.command_text.specs.Asking.{asked}
 use Rattle.command_text.specs.Cutting.{announced, ends, pieces_of}
 use Rattle.command_text.specs.Laws.{PiecesEnd, PiecesFollow, cut_at, piece_at}
 use Rattle.command_text.specs.declared.asked.Asked.{Asked}
-use Rattle.command_serving.specs.Input.{Counts, Cuts, CutsNext, IsLast, IsLineSoFar, IsPartOf, IsTextPart, Loads, Moves, MovesShown, TakesMore, TakesPart, TakesShown, TakesText}
+use Rattle.command_serving.specs.Input.{CountsTaken, Cuts, CutsNext, IsLast, IsLineSoFar, IsPartOf, IsTextPart, Loads, Moves, MovesShown, TakesMore, TakesPart, TakesShown, TakesText}
 use Rattle.command_serving.specs.declared.input.LoadText.TheVariants.{Short}
 use Rattle.command_serving.specs.declared.input.Part.{Part}
 use Rattle.command_serving.specs.declared.input.LineSoFar.{LineSoFar}
@@ -113,7 +113,7 @@ module _ (rest known : Option (List ℕ)) (all behind : List ℕ) (keeps : Keeps
   pub part_taken : (before after : LineSoFar) (part : Part) → (all ≡ [] → IsAtEnd rest) → TakesShown all behind before after part → TakesPart known (prepend_known behind rest) before after part
   part_taken before after part end t = record { bytes = t.bytes; free = t.free; moves = moves_on part t.bytes end t.moves; line = t.line }
 
-counts_by : (rest known : Option (List ℕ)) (all front behind : List ℕ) (left later : ℕ) → Keeps known (prepend_known all rest) → all ≡ front ++ behind → left ≤ later + length front → Counts known left (prepend_known behind rest) later
+counts_by : (rest known : Option (List ℕ)) (all front behind : List ℕ) (left later : ℕ) → Keeps known (prepend_known all rest) → all ≡ front ++ behind → left ≤ later + length front → CountsTaken known left (prepend_known behind rest) later
 counts_by rest None all front behind left later keeps is most = tt
 counts_by None (Some xs) all front behind left later keeps is most = absurd keeps
 counts_by (Some ys) (Some xs) all front behind left later keeps is most =
@@ -124,7 +124,7 @@ counts_by (Some ys) (Some xs) all front behind left later keeps is most =
     omega (arith, whole, parts, front_len, later_len, most)
 
 pub counts_part : (rest known : Option (List ℕ)) (all behind : List ℕ) (before after : LineSoFar) (part : Part) (n left later : ℕ) → Keeps known (prepend_known all rest) → TakesShown all behind before after part
-    → (part ≡ More n) ⊎ (part ≡ Feed n) → left ≤ later + n → Counts known left (prepend_known behind rest) later
+    → (part ≡ More n) ⊎ (part ≡ Feed n) → left ≤ later + n → CountsTaken known left (prepend_known behind rest) later
 counts_part rest known all behind before after part n left later keeps t (inl is) most =
     let moves = subst (λ p. MovesShown p all behind t.bytes) is t.moves in
     counts_by rest known all t.bytes behind left later keeps moves.0 (omega (arith, most, moves.1))
@@ -134,16 +134,16 @@ counts_part rest known all behind before after part n left later keeps t (inr is
     counts_by rest known all (t.bytes ++ 10 ∷ []) behind left later keeps moves.0 (omega (arith, most, moves.1, more))
 
 pub counts_end : (rest known : Option (List ℕ)) (all behind : List ℕ) (before after : LineSoFar) (left : ℕ) → Keeps known (prepend_known all rest) → TakesShown all behind before after End
-    → Counts known left (prepend_known behind rest) left
+    → CountsTaken known left (prepend_known behind rest) left
 counts_end rest known all behind before after left keeps t = counts_by rest known all [] behind left left keeps (t.moves.1 ∙ sym t.moves.2) (omega arith)
 
 -- nothing was taken
-pub counts_kept : (known later : Option (List ℕ)) (left : ℕ) → Keeps known later → Counts known left later left
+pub counts_kept : (known later : Option (List ℕ)) (left : ℕ) → Keeps known later → CountsTaken known left later left
 counts_kept None later left keeps = tt
 counts_kept (Some xs) None left keeps = absurd keeps
 counts_kept (Some xs) (Some ys) left keeps = omega (arith, ap length keeps)
 
-pub counts_on : (a b c : Option (List ℕ)) (m n k : ℕ) → Counts a m b n → Counts b n c k → Counts a m c k
+pub counts_on : (a b c : Option (List ℕ)) (m n k : ℕ) → CountsTaken a m b n → CountsTaken b n c k → CountsTaken a m c k
 counts_on None b c m n k p q = tt
 counts_on (Some xs) None c m n k p q = absurd p
 counts_on (Some xs) (Some ys) None m n k p q = absurd q
@@ -171,7 +171,7 @@ more_taken rest known all behind before after n some keeps end t more none = rec
     no_item (x ∷ xs) e = absurd (omega (arith, e))
 
 pub counts_text : (rest known : Option (List ℕ)) (all behind : List ℕ) (before after : TextSoFar) (n left later : ℕ) → Keeps known (prepend_known all rest) → TakesText all behind before after n
-    → left ≤ later + n → Counts known left (prepend_known behind rest) later
+    → left ≤ later + n → CountsTaken known left (prepend_known behind rest) later
 counts_text rest known all behind before after n left later keeps t most = counts_by rest known all t.bytes behind left later keeps t.moves (omega (arith, most, t.count))
 
 pub text_more : (len : ℕ) (old mid new : Option (List ℕ)) (before after : TextSoFar) → IsTextPart len old mid before → TakesMore mid new before after true → IsTextPart len old new after

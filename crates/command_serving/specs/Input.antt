@@ -55,10 +55,10 @@ abbrev pub left_of : {R : Type 0} → (R → Option (List ℕ)) → Input → R 
 left_of remaining input reader = prepend_known input.ahead (remaining reader)
 
 -- As many bytes were taken as there are fewer still to be read, at least.
-abbrev pub Counts : Option (List ℕ) → ℕ → Option (List ℕ) → ℕ → Type 0
-Counts None left new later = ⊤
-Counts (Some xs) left None later = ⊥
-Counts (Some xs) left (Some ys) later = left + length ys ≤ later + length xs
+abbrev pub CountsTaken : Option (List ℕ) → ℕ → Option (List ℕ) → ℕ → Type 0
+CountsTaken None left new later = ⊤
+CountsTaken (Some xs) left None later = ⊥
+CountsTaken (Some xs) left (Some ys) later = left + length ys ≤ later + length xs
 
 -- fewer are still to be read, but at the end of the input
 abbrev pub TakesLess : ℕ → ℕ → Part → Type 0

@@ -3,7 +3,7 @@ use Rattle.std.specs.Prelude.{◌≡◌, ◌≤◌, ◌++◌, ◌^◌, ◌⊎◌
 use Rattle.std.specs.Io.KnownBytes.{Appends}
 use Rattle.command_core.specs.Runs.{after}
 use Rattle.command_core.specs.declared.commands.Command.{Command}
-use Rattle.command_text.specs.Answering.{Fate, Reply, Serving, joined, searched, served}
+use Rattle.command_text.specs.Answering.{Fate, Reply, Serving, joined_replies, searched, served}
 use Rattle.command_text.specs.Cutting.{Piece, pieces_of}
 use Rattle.command_text.specs.Readings.{Reading}
 use Rattle.command_serving.specs.declared.answering.ServeFault.{ServeFault}
@@ -45,7 +45,7 @@ pub record Tells {D : Type 0} (old : SessionValue D) (from : Serving → Reply) 
 -- what is still to be answered: these counts of a search, if one is under way, and then these pieces
 abbrev pub still : Reading → Option (List ℕ) → List Piece → Serving → Reply
 still reading None pieces s = served reading s pieces
-still reading (Some counts) pieces s = let r = searched s counts in joined r (served reading r.left pieces)
+still reading (Some counts) pieces s = let r = searched s counts in joined_replies r (served reading r.left pieces)
 
 -- The serving ended within the pieces, with one answer written in part or not at all. Those before it were written, and the session was then at
 -- `told`, with a search and the last pieces still to be answered. It may have carried out the command that the last answer tells: what would be

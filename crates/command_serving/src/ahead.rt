@@ -1,4 +1,4 @@
-//! What was read of an input and not yet taken.
+//! What was read of an input and not yet taken, in an array.
 ghost use Rattle.std.specs.Prelude.{◌≡◌, ◌≤◌, ℕ, List, [], OnErr, OnOk, drop, length, slice_range, true};
 ghost use Rattle.std.specs.Io.KnownBytes.{IsAtEnd, Keeps, prepend_known};
 
@@ -25,6 +25,7 @@ impl Model for Ahead {
 }
 
 impl Ahead {
+    /// Nothing was read.
     pub(crate) fn new() -> Ahead
         ensures { result ≡ [] }
     {
@@ -35,6 +36,7 @@ impl Ahead {
         }
     }
 
+    /// The bytes in order.
     pub(crate) fn as_slice(&self) -> &[u8]
         ensures { result.now ≡ self.now }
     {

@@ -1,15 +1,17 @@
-//! Commands by lines of text, over a session.
+//! Commands by lines of text, over a session: `serve`, and what it does for each kind of line.
+//!
+//! The module is not called `serve`, since a module and a function of one name are refused.
 ghost use Rattle.std.specs.Prelude.{◌≡◌, ◌≤◌, ◌++◌, IfErr, IfOk, OnErr, MatchResult, ℕ, List, Result, Ok, Err, Some, true, false, length};
 ghost use Rattle.std.specs.Io.KnownBytes.{Appends};
 ghost use Rattle.plan_types.specs.Instance.{Instance};
 ghost use Rattle.instance_read.specs.declared.faults.ReadFault.{ReadFault};
-ghost use Rattle.command_text.specs.Answering.{counts_of, plain, printed, refused, searched, searched_or, search_steps, reach_steps, shown, unless_broken};
+ghost use Rattle.command_text.specs.Answering.{counts_of, plain, printed, refused, searched, searched_or, steps_to_search, steps_to_reach, shown, unless_broken};
 ghost use Rattle.command_text.specs.Cutting.{pieces_of};
 ghost use Rattle.command_text.specs.Laws.{cut_at};
 ghost use Rattle.command_text.specs.Readings.{IsReading, Reading};
 ghost use Rattle.command_text.specs.Answers.{answer_text, line};
 ghost use Rattle.command_core.specs.declared.states.State.TheVariants.{Loaded};
-ghost use Rattle.command_serving.specs.Input.{Counts, left_of};
+ghost use Rattle.command_serving.specs.Input.{CountsTaken, left_of};
 ghost use Rattle.command_serving.specs.Streams.{Puts};
 ghost use Rattle.command_serving.specs.Served.{HasCause, IsCutShort, IsServed, Tells};
 ghost use Rattle.command_serving.specs.Serving.{Answers, GoesOn, HasNoJob, IsCause, at_line_of, denied, goes_behind, load_reply, load_told, silent};
@@ -19,8 +21,8 @@ use crate::input::{Input, LoadText, Unread};
 use crate::streams::{Failed, Sink, Source};
 use command_core::{Command, Job, Refusal, State};
 use command_text::{
-    Answer, Asked, at_line, next_count, pieces_follow, print, reach_steps, read_instance,
-    search_steps, show, states_follow,
+    Answer, Asked, at_line, next_count, pieces_follow, print, read_instance, show, states_follow,
+    steps_to_reach, steps_to_search,
 };
 use plan_types::Kind;
 use recover::{Denial, Session};
@@ -67,12 +69,17 @@ enum Goes {
     ToEnd,
 }
 
-/// Does what each line of the input asks for, and writes its answer, until the input ends, or a `load` line leaves open how many bytes
-/// follow it. It ends before that where the reader or the writer fails, or 10^12 bytes were read. Takes no memory to read lines.
+/// Does what each line of the input asks for, and writes its answer, until the input ends, or a `load` line leaves open
+/// how many bytes follow it. Takes no memory to read lines.
 ///
-/// `ok` and `at` stand behind the last sync of what they acknowledge. Where the bytes of the input are known and all are served, what is
-/// written is the answer to them, and the session has carried out just the commands that it says, up to a failed device. Behind a fault the
-/// state is that after the commands answered, or with the one whose answer was being written.
+/// `ok` and `at` stand behind the last sync of what they acknowledge. Where the bytes of the input are known and all are
+/// served, what is written is the answer to them, and the session has carried out just the commands that it says, up to
+/// a failed device.
+///
+/// # Errors
+///
+/// `ReadFault` where the reader fails or 10^12 bytes were read, `WriteFault` where the writer fails. The state is then
+/// that after the commands answered, or with the one whose answer was being written.
 pub fn serve<D: Sectors, R: Source, W: Sink>(
     alloc: Global,
     session: &mut Session<D>,
@@ -92,7 +99,7 @@ pub fn serve<D: Sectors, R: Source, W: Sink>(
     serve_lines(alloc, session, reader, &mut input, writer)
 }
 
-/// Serves the lines that the input has left.
+// Serves the lines that the input has left.
 fn serve_lines<D: Sectors, R: Source, W: Sink>(
     alloc: Global,
     session: &mut Session<D>,
@@ -107,7 +114,7 @@ fn serve_lines<D: Sectors, R: Source, W: Sink>(
         (λ _. IsCutShort reading session.old (pieces_of bytes) before after session.new) }
     ensures cause { IfErr result (λ fault. IsCause fault (R.has_failed reader.new)
         (W.has_failed writer.new) input.new.left) }
-    ensures counted { Counts (left_of R.remaining input.old reader.old) input.old.left
+    ensures counted { CountsTaken (left_of R.remaining input.old reader.old) input.old.left
         (left_of R.remaining input.new reader.new) input.new.left }
 {
     pieces_follow();
@@ -138,7 +145,7 @@ fn serve_asked<D: Sectors, R: Source, W: Sink>(
         (left_of R.remaining input.new reader.new) }
     ensures cause { IfErr result (λ fault. IsCause fault (R.has_failed reader.new)
         (W.has_failed writer.new) input.new.left) }
-    ensures counted { Counts (left_of R.remaining input.old reader.old) input.old.left
+    ensures counted { CountsTaken (left_of R.remaining input.old reader.old) input.old.left
         (left_of R.remaining input.new reader.new) input.new.left }
     ensures less { input.new.left ≤ input.old.left }
 {
@@ -161,7 +168,7 @@ fn serve_asked<D: Sectors, R: Source, W: Sink>(
     }
 }
 
-/// Whether there is more to serve, once an answer is written.
+// Whether there is more to serve, once an answer is written.
 fn once(written: Result<(), Failed>, goes: Goes) -> Result<Goes, ServeFault>
     ensures { MatchResult written (λ _. result ≡ Ok goes) (λ _. result ≡ Err WriteFault) }
 {
@@ -171,7 +178,7 @@ fn once(written: Result<(), Failed>, goes: Goes) -> Result<Goes, ServeFault>
     }
 }
 
-/// Writes a text and hands it on.
+// Writes a text and hands it on.
 fn put<W: Sink>(writer: &mut W, text: &[u8]) -> Result<(), Failed>
     ensures bytes { Puts (W.contents writer.old) (W.contents writer.new) result text.now }
     ensures failed { OnErr result (W.has_failed writer.new ≡ true) }
@@ -180,7 +187,7 @@ fn put<W: Sink>(writer: &mut W, text: &[u8]) -> Result<(), Failed>
     writer.flush()
 }
 
-/// Writes a line and hands it on.
+// Writes a line and hands it on.
 fn put_line<W: Sink>(writer: &mut W, text: &[u8]) -> Result<(), Failed>
     ensures bytes { Puts (W.contents writer.old) (W.contents writer.new) result (line text.now) }
     ensures failed { OnErr result (W.has_failed writer.new ≡ true) }
@@ -189,7 +196,7 @@ fn put_line<W: Sink>(writer: &mut W, text: &[u8]) -> Result<(), Failed>
     put(writer, b"\n")
 }
 
-/// Writes the last line of an answer.
+// Writes the last line of an answer.
 fn tell<W: Sink>(writer: &mut W, answer: Answer) -> Result<(), Failed>
     ensures bytes { Puts (W.contents writer.old) (W.contents writer.new) result
         (line (answer_text answer)) }
@@ -198,7 +205,7 @@ fn tell<W: Sink>(writer: &mut W, answer: Answer) -> Result<(), Failed>
     put_line(writer, answer.line().as_bytes())
 }
 
-/// Writes the lines of an answer, and `ok` behind them.
+// Writes the lines of an answer, and `ok` behind them.
 fn tell_text<W: Sink>(writer: &mut W, text: &[u8]) -> Result<(), Failed>
     ensures bytes { Puts (W.contents writer.old) (W.contents writer.new) result
         (text.now ++ line (answer_text Answer.Ok)) }
@@ -208,7 +215,7 @@ fn tell_text<W: Sink>(writer: &mut W, text: &[u8]) -> Result<(), Failed>
     tell(writer, Answer::Ok)
 }
 
-/// Carries the command out. `Ok` comes after its last sync.
+// Carries the command out. `Ok` comes after its last sync.
 fn applied<D: Sectors>(alloc: Global, session: &mut Session<D>, command: Command) -> Answer
     ensures { Tells session.old (λ s. plain s command)
         (line (answer_text result)) session.new silent }
@@ -231,7 +238,7 @@ fn denied(denial: Denial) -> Answer
     }
 }
 
-/// What is answered to a command with a number that no field holds.
+// What is answered to a command with a number that no field holds.
 fn refused<D: Sectors>(session: &Session<D>, refusal: Refusal) -> Answer
     ensures { Tells session.now (λ s. unless_broken s (refused s s.state refusal))
         (line (answer_text result)) session.now silent }
@@ -245,7 +252,7 @@ fn refused<D: Sectors>(session: &Session<D>, refusal: Refusal) -> Answer
     }
 }
 
-/// The job of a session that is not broken and has an instance, or the answer that tells that it is none.
+// The job of a session that is not broken and has an instance, or the answer that tells that it is none.
 fn job_of<D: Sectors>(session: &Session<D>) -> Result<&Job, Answer>
     ensures job { IfOk result (λ job. (session.now.is_broken ≡ false)
         × (session.now.state ≡ Loaded job.now)) }
@@ -260,7 +267,7 @@ fn job_of<D: Sectors>(session: &Session<D>) -> Result<&Job, Answer>
     }
 }
 
-/// Whether there is more to serve behind the text of a `load`.
+// Whether there is more to serve behind the text of a `load`.
 fn goes_behind(text: &LoadText) -> Goes
     ensures { result ≡ goes_behind text.now }
 {
@@ -290,7 +297,7 @@ fn serve_load<D: Sectors, W: Sink>(
     }
 }
 
-/// What is answered to a text for which no memory was found.
+// What is answered to a text for which no memory was found.
 fn dropped<D: Sectors>(session: &Session<D>) -> Answer
     ensures { (seed : ℕ) (found : Result Instance ReadFault)
         → Tells session.now (load_reply seed found) (line (answer_text result)) session.now silent }
@@ -302,7 +309,7 @@ fn dropped<D: Sectors>(session: &Session<D>) -> Answer
     }
 }
 
-/// Reads the instance and begins anew with it.
+// Reads the instance and begins anew with it.
 fn loaded<D: Sectors>(
     alloc: Global,
     session: &mut Session<D>,
@@ -330,14 +337,14 @@ fn serve_search<D: Sectors, W: Sink>(
     steps: u32,
 ) -> Result<(), Failed>
     ensures answers { Answers result session.old
-        (λ s. unless_broken s (searched_or s (search_steps s.state steps)))
+        (λ s. unless_broken s (searched_or s (steps_to_search s.state steps)))
         (W.contents writer.old) (W.contents writer.new) session.new silent }
     ensures failed { OnErr result (W.has_failed writer.new ≡ true) }
 {
     if session.is_broken() {
         return tell(writer, Answer::Broken);
     }
-    match search_steps(session.state(), steps) {
+    match steps_to_search(session.state(), steps) {
         Ok(steps) => search(alloc, session, writer, steps),
         Err(refusal) => tell(writer, Answer::Refused(refusal)),
     }
@@ -350,20 +357,20 @@ fn serve_reach<D: Sectors, W: Sink>(
     goal: u64,
 ) -> Result<(), Failed>
     ensures answers { Answers result session.old
-        (λ s. unless_broken s (searched_or s (reach_steps s.state goal)))
+        (λ s. unless_broken s (searched_or s (steps_to_reach s.state goal)))
         (W.contents writer.old) (W.contents writer.new) session.new silent }
     ensures failed { OnErr result (W.has_failed writer.new ≡ true) }
 {
     if session.is_broken() {
         return tell(writer, Answer::Broken);
     }
-    match reach_steps(session.state(), goal) {
+    match steps_to_reach(session.state(), goal) {
         Ok(steps) => search(alloc, session, writer, steps),
         Err(refusal) => tell(writer, Answer::Refused(refusal)),
     }
 }
 
-/// Searches piece by piece, each told once it is acknowledged.
+// Searches piece by piece, each told once it is acknowledged.
 fn search<D: Sectors, W: Sink>(
     alloc: Global,
     session: &mut Session<D>,
@@ -386,7 +393,7 @@ fn search<D: Sectors, W: Sink>(
     tell(writer, Answer::Ok)
 }
 
-/// Writes how far the search is.
+// Writes how far the search is.
 fn tell_progress<D: Sectors, W: Sink>(session: &Session<D>, writer: &mut W) -> Result<(), Failed>
     ensures bytes { Puts (W.contents writer.old) (W.contents writer.new) result
         (at_line_of session.now) }

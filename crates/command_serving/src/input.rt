@@ -1,8 +1,11 @@
 //! An input as lines and the bytes that follow a line, in whatever pieces these come.
+//!
+//! Bytes are counted as they are taken, not as they are read ahead, so that where the serving ends does not depend
+//! on the pieces in which they come.
 ghost use Rattle.std.specs.Prelude.{◌≡◌, ◌≤◌, ◌<◌, ◌+◌, ◌-◌, ◌++◌, IfOk, MatchResult, OnErr, OnSome, ℕ, List, [], length};
 ghost use Rattle.std.specs.Str.Lines.{strip_carriage_return};
 ghost use Rattle.command_text.specs.Asking.{asked};
-ghost use Rattle.command_serving.specs.Input.{Counts, CutsNext, EndsFree, IsLast, IsLineSoFar, IsTextSoFar, IsUnread, Loads, TakesLess, TakesMore, TakesPart, TakesShown, TakesText, left_of};
+ghost use Rattle.command_serving.specs.Input.{CountsTaken, CutsNext, EndsFree, IsLast, IsLineSoFar, IsTextSoFar, IsUnread, Loads, TakesLess, TakesMore, TakesPart, TakesShown, TakesText, left_of};
 
 use crate::ahead::Ahead;
 use crate::streams::{Failed, Source};
@@ -35,7 +38,7 @@ impl LineSoFar {
         }
     }
 
-    /// Begins the next line.
+    // Begins the next line.
     fn begin(&mut self)
         ensures { IsLineSoFar [] self.new }
     {
@@ -52,7 +55,7 @@ impl LineSoFar {
         let _ = self.kept.try_extend_from_slice(&part[..room]);
     }
 
-    /// What the line asks for, once it has ended.
+    // What the line asks for, once it has ended.
     fn asked(&self) -> Asked
         ensures { (line : List ℕ) → IsLineSoFar line self.now
             → result ≡ asked (strip_carriage_return line) }
@@ -67,7 +70,7 @@ impl LineSoFar {
         }
     }
 
-    /// What the input's last line asks for, where there is one: it has a byte.
+    // What the input's last line asks for, where there is one: it has a byte.
     fn last_asked(&self) -> Option<Asked>
         ensures last { (line : List ℕ) → IsLineSoFar line self.now → IsLast line result }
         ensures some { OnSome result (0 < length self.now.kept.items) }
@@ -79,7 +82,7 @@ impl LineSoFar {
     }
 }
 
-/// The line without the one carriage return at its end.
+// The line without the one carriage return at its end.
 fn without_return(line: &[u8]) -> &[u8]
     ensures { result.now ≡ strip_carriage_return line.now }
 {
@@ -100,14 +103,14 @@ enum Part {
     End,
 }
 
-/// How many bytes stand before the first line feed, or all of them.
+// How many bytes stand before the first line feed, or all of them.
 fn front_len(bytes: &[u8]) -> usize
     ensures { EndsFree bytes.now result }
 {
     memchr(b'\n', bytes).unwrap_or(bytes.len())
 }
 
-/// Takes what was read of a line.
+// Takes what was read of a line.
 fn take_part(ahead: &mut Ahead, line: &mut LineSoFar) -> Part
     ensures { TakesShown ahead.old ahead.new line.old line.new result }
 {
@@ -165,7 +168,7 @@ impl TextSoFar {
     }
 }
 
-/// Takes some of the bytes that are still to come, and says how many: none where there are none.
+// Takes some of the bytes that are still to come, and says how many: none where there are none.
 fn take_text(ahead: &mut Ahead, text: &mut TextSoFar) -> usize
     ensures { TakesText ahead.old ahead.new text.old text.new result }
 {
@@ -207,6 +210,7 @@ pub(crate) struct Input {
 }
 
 impl Input {
+    /// Before the first byte.
     pub(crate) fn new(alloc: Global) -> Input
         ensures ahead { result.ahead ≡ [] }
         ensures left { result.left ≡ 1000000000000 }
@@ -223,7 +227,7 @@ impl Input {
     pub(crate) fn next_asked<R: Source>(&mut self, reader: &mut R) -> Result<Option<Asked>, Unread>
         ensures cuts { IfOk result (λ next. CutsNext next
             (left_of R.remaining self.old reader.old) (left_of R.remaining self.new reader.new)) }
-        ensures counted { Counts (left_of R.remaining self.old reader.old) self.old.left
+        ensures counted { CountsTaken (left_of R.remaining self.old reader.old) self.old.left
             (left_of R.remaining self.new reader.new) self.new.left }
         ensures less { IfOk result (λ next. OnSome next (self.new.left < self.old.left)) }
         ensures unread { OnErr result (IsUnread (R.has_failed reader.new) self.new.left) }
@@ -239,11 +243,11 @@ impl Input {
         }
     }
 
-    /// Takes and counts what is read of the line.
+    // Takes and counts what is read of the line.
     fn take_line<R: Source>(&mut self, reader: &mut R) -> Result<Part, Unread>
         ensures part { IfOk result (TakesPart (left_of R.remaining self.old reader.old)
             (left_of R.remaining self.new reader.new) self.old.line self.new.line) }
-        ensures counted { Counts (left_of R.remaining self.old reader.old) self.old.left
+        ensures counted { CountsTaken (left_of R.remaining self.old reader.old) self.old.left
             (left_of R.remaining self.new reader.new) self.new.left }
         ensures less { IfOk result (TakesLess self.old.left self.new.left) }
         ensures unread { OnErr result (IsUnread (R.has_failed reader.new) self.new.left) }
@@ -264,7 +268,7 @@ impl Input {
     ) -> Result<LoadText, Unread>
         ensures loads { IfOk result (Loads len (left_of R.remaining self.old reader.old)
             (left_of R.remaining self.new reader.new)) }
-        ensures counted { Counts (left_of R.remaining self.old reader.old) self.old.left
+        ensures counted { CountsTaken (left_of R.remaining self.old reader.old) self.old.left
             (left_of R.remaining self.new reader.new) self.new.left }
         ensures less { self.new.left ≤ self.old.left }
         ensures unread { OnErr result (IsUnread (R.has_failed reader.new) self.new.left) }
@@ -282,11 +286,11 @@ impl Input {
         }
     }
 
-    /// Takes and counts what is read of the text, and says whether that is anything.
+    // Takes and counts what is read of the text, and says whether that is anything.
     fn take_more<R: Source>(&mut self, reader: &mut R, text: &mut TextSoFar) -> Result<bool, Unread>
         ensures more { IfOk result (TakesMore (left_of R.remaining self.old reader.old)
             (left_of R.remaining self.new reader.new) text.old text.new) }
-        ensures counted { Counts (left_of R.remaining self.old reader.old) self.old.left
+        ensures counted { CountsTaken (left_of R.remaining self.old reader.old) self.old.left
             (left_of R.remaining self.new reader.new) self.new.left }
         ensures less { self.new.left ≤ self.old.left }
         ensures unread { OnErr result (IsUnread (R.has_failed reader.new) self.new.left) }
@@ -300,7 +304,7 @@ impl Input {
         Ok(true)
     }
 
-    /// Counts bytes that were taken. An error once there are as many as are read of an input.
+    // Counts bytes that were taken. An error once there are as many as are read of an input.
     fn count(&mut self, taken: usize) -> Result<(), Unread>
         ensures ahead { self.new.ahead ≡ self.old.ahead }
         ensures line { self.new.line ≡ self.old.line }

@@ -1,4 +1,34 @@
-//! Serves commands by lines of text: a session does what an input asks for, and its answers are written.
+//! The serving of a session: the lines of an input are read, done and answered.
+//!
+//! Entry function: `serve`, over any device, any `Source` and any `Sink`; called by `planner_cli` (the word `run`). It
+//! stands below `planner_cli`, the end of the longest chain, and knows no words of the command line.
+//!
+//! Source: this project's own. What lines ask for and what is answered is `command_text`'s.
+//!
+//! How it works: bytes are read in blocks of 8,192, a line is kept up to 1,026 bytes in an array, and of a longer
+//! one only what tells whether its first word is `load`. So lines take no memory, and no want of it looks like a
+//! reader that failed; the text behind a `load` does. `ok` and `at` are written behind the last sync of what they
+//! acknowledge, and each answer is flushed.
+//!
+//! Modules, in reading order:
+//! - `streams`: `Source`, `Sink`, and `Watched`, which makes one of each reader and writer of std
+//! - `ahead`: what was read and not yet taken
+//! - `input`: an input as lines and the bytes that follow a line
+//! - `answering`: `serve`, and a function for each kind of line
+//!
+//! Said by `specs/Served.antt` and `Streams.antt`. Proved of `serve`, where the bytes of the input are known:
+//! - `serves`, after `Ok` (`IsServed`): all is served, what is appended is the answer to the input, and the state
+//!   is the one after the commands that were carried out
+//! - `serves`, behind a `ServeFault` (`IsCutShort`): the answers to a first part of the input stand whole, and of
+//!   the next one a front or nothing; the session is the one that these answers tell, or with the one command that
+//!   the next tells
+//! - `cause` (`HasCause`): `ReadFault` only where the source has failed or the input has 10^12 bytes, `WriteFault` only
+//!   where the sink has failed
+//! - what a whole line asks for does not depend on the pieces in which its bytes come (`input`)
+//!
+//! Not excluded by these clauses: a try that answers `OutOfMemory` though there is memory, and a `Watched` that fails
+//! always and notes it, since of std's readers and writers no contract says when a call may fail. Programs show that
+//! neither is so.
 #![tactic(auto)]
 
 mod ahead;

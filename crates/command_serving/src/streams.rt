@@ -1,4 +1,7 @@
 //! Where commands come from and answers go: readers and writers that tell whether they have failed.
+//!
+//! Std's `Read` and `Write` don't say when a call may fail. A `Source` and a `Sink` tell whether one has, so that a
+//! fault has a cause which a contract can name. A slice of bytes is a source that never fails.
 ghost use Rattle.std.specs.Prelude.{◌≡◌, ◌<◌, ◌≤◌, ℕ, List, Option, Bool, true, false, Some, IfOk, IfSome, IsNone, OnErr, length, take};
 ghost use Rattle.std.specs.Io.{ReadsAtMost};
 ghost use Rattle.std.specs.Io.KnownBytes.{Appends, Keeps, ReadConsumes};
@@ -146,7 +149,7 @@ impl Source for &[u8] {
     }
 }
 
-/// Reads, and gives nothing where the reader fails.
+// Reads, and gives nothing where the reader fails.
 fn read_once<R: Read>(reader: &mut R, block: &mut [u8]) -> Option<usize>
     ensures { ReadsSome (R.remaining reader.old) (R.remaining reader.new) result block.new }
 {
@@ -160,7 +163,7 @@ fn read_once<R: Read>(reader: &mut R, block: &mut [u8]) -> Option<usize>
     None
 }
 
-/// Writes some bytes of a text that has some, and gives nothing where the writer fails.
+// Writes some bytes of a text that has some, and gives nothing where the writer fails.
 fn write_once<W: Write>(writer: &mut W, text: &[u8]) -> Option<usize>
     ensures { WritesSome (W.contents writer.old) (W.contents writer.new) result text.now }
 {

@@ -37,8 +37,8 @@ abbrev NoBlank : List ℕ → Type 0
 NoBlank word = AllByRecursion (λ b. is_blank b ≡ false) word
 
 -- from this state on, the rest of the word are these letters
-abbrev Tells : FirstWord → List ℕ → Type 0
-Tells state letters = (word rest : List ℕ) → NoBlank word → EndsWord rest → is_load (scanned_on state (word ++ rest)) ≡ bytes_eq letters word
+abbrev TellsLoad : FirstWord → List ℕ → Type 0
+TellsLoad state letters = (word rest : List ℕ) → NoBlank word → EndsWord rest → is_load (scanned_on state (word ++ rest)) ≡ bytes_eq letters word
 
 return_is_no_blank : (b : ℕ) → is_blank b ≡ true → b ≡ 13 → ⊥
 return_is_no_blank b blank is = let not_so : is_blank b ≡ false = ap is_blank is in both_ways (is_blank b) not_so blank
@@ -56,12 +56,12 @@ behind_letter b bs letter = elim (cases_Bool (b == 13)) [
   | inr f ↦ rw (f, letter) (other bs)
 ]
 
-all_letters : Tells Load []
+all_letters : TellsLoad Load []
 all_letters [] [] not_so ends = refl
 all_letters [] (b ∷ rest) not_so ends = behind_blank b rest ends
 all_letters (a ∷ word) rest not_so ends = behind_letter a (word ++ rest) not_so.0
 
-module _ (state longer : FirstWord) (letter : ℕ) (letters : List ℕ) (step : (b : ℕ) → scanned_byte state b ≡ next_letter letter b longer) (is_letter : is_blank letter ≡ false) (too_short : is_load state ≡ false) (more : Tells longer letters) where
+module _ (state longer : FirstWord) (letter : ℕ) (letters : List ℕ) (step : (b : ℕ) → scanned_byte state b ≡ next_letter letter b longer) (is_letter : is_blank letter ≡ false) (too_short : is_load state ≡ false) (more : TellsLoad longer letters) where
   wrong : (b : ℕ) (bs : List ℕ) → (b == letter) ≡ false → is_load (scanned_on (scanned_byte state b) bs) ≡ false
   wrong b bs not_so = ap (λ w. is_load (scanned_on w bs)) (step b ∙ ap (λ t. if t then longer else Other) not_so) ∙ other bs
 
@@ -71,7 +71,7 @@ module _ (state longer : FirstWord) (letter : ℕ) (letters : List ℕ) (step : 
   no_letter : (b : ℕ) → is_blank b ≡ true → (b == letter) ≡ false
   no_letter b blank = ne_eqb b letter (λ is. both_ways (is_blank b) (ap is_blank is ∙ is_letter) blank)
 
-  one_letter : Tells state (letter ∷ letters)
+  one_letter : TellsLoad state (letter ∷ letters)
   one_letter [] [] not_so ends = too_short
   one_letter [] (b ∷ rest) not_so ends = wrong b rest (no_letter b ends)
   one_letter (a ∷ word) rest not_so ends = elim (cases_Bool (a == letter)) [
@@ -79,13 +79,13 @@ module _ (state longer : FirstWord) (letter : ℕ) (letters : List ℕ) (step : 
     | inr f ↦ wrong a (word ++ rest) f ∙ sym (ap (λ t. t && bytes_eq letters word) (ne_eqb letter a (λ is. eqb-false a letter f (sym is))))
   ]
 
-behind_loa : Tells Loa (100 ∷ [])
+behind_loa : TellsLoad Loa (100 ∷ [])
 behind_loa = one_letter Loa Load 100 [] (λ b. refl) refl refl all_letters
 
-behind_lo : Tells Lo (97 ∷ 100 ∷ [])
+behind_lo : TellsLoad Lo (97 ∷ 100 ∷ [])
 behind_lo = one_letter Lo Loa 97 (100 ∷ []) (λ b. refl) refl refl behind_loa
 
-behind_l : Tells L (111 ∷ 97 ∷ 100 ∷ [])
+behind_l : TellsLoad L (111 ∷ 97 ∷ 100 ∷ [])
 behind_l = one_letter L Lo 111 (97 ∷ 100 ∷ []) (λ b. refl) refl refl behind_lo
 
 first_letter : (b : ℕ) → is_blank b ≡ false → scanned_byte Nothing b ≡ next_letter 108 b L

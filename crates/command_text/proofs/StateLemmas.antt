@@ -11,7 +11,7 @@ use Rattle.command_core.specs.declared.states.State.TheVariants.{Empty, Loaded}
 use Rattle.command_core.specs.declared.commands.Command.{Command}
 use Rattle.command_core.specs.declared.commands.Command.TheVariants as command
 use Rattle.command_core.specs.declared.refusals.Refusal.{Refusal}
-use Rattle.command_text.specs.Answering.{Fate, Done, NoMemory, Spent, Failed, Serving, Reply, answered, by_fate, carried, counts_of, load, loaded, next_fate, asked_reply, printed, reach_steps, refused, reply, search_steps, searched, searched_or, served, shown, told, tried, unless_broken, unless_refused, with_text, at_line}
+use Rattle.command_text.specs.Answering.{Fate, Done, NoMemory, Spent, Failed, Serving, Reply, answered, by_fate, carried, counts_of, load, loaded, next_fate, asked_reply, printed, steps_to_reach, refused, reply, steps_to_search, searched, searched_or, served, shown, told, tried, unless_broken, unless_refused, with_text, at_line}
 use Rattle.command_text.specs.Cutting.{Piece, is_short}
 use Rattle.command_text.specs.Laws.{StatesFollow}
 use Rattle.command_text.specs.Readings.{Reading}
@@ -92,8 +92,8 @@ answers reading s (Load kind seed len) text short =
     (unbroken s (load (next_fate s.fates) s seed (reading kind text)) (loads (next_fate s.fates) s seed (reading kind text)))
 answers reading s (Plain c) text short = carries s c (λ t. answered t answer.Ok) (λ t. refl)
 answers reading s (Refused r) text short = unbroken s (refused s s.state r) (refuses s s.state r)
-answers reading s (Search n) text short = unbroken s (searched_or s (search_steps s.state n)) (searches_or s (search_steps s.state n))
-answers reading s (Reach n) text short = unbroken s (searched_or s (reach_steps s.state n)) (searches_or s (reach_steps s.state n))
+answers reading s (Search n) text short = unbroken s (searched_or s (steps_to_search s.state n)) (searches_or s (steps_to_search s.state n))
+answers reading s (Reach n) text short = unbroken s (searched_or s (steps_to_reach s.state n)) (searches_or s (steps_to_reach s.state n))
 answers reading s Print text short = unbroken s (printed s s.state) (prints s s.state)
 answers reading s Show text short = unbroken s (shown s s.state) (shows s s.state)
 

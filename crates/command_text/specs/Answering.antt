@@ -65,8 +65,8 @@ abbrev pub with_command : Command → Reply → Reply
 with_command c r = record r { commands = c ∷ r.commands }
 
 -- two replies, one after the other
-abbrev pub joined : Reply → Reply → Reply
-joined r q = record { text = r.text ++ q.text; commands = r.commands ++ q.commands; left = q.left }
+abbrev pub joined_replies : Reply → Reply → Reply
+joined_replies r q = record { text = r.text ++ q.text; commands = r.commands ++ q.commands; left = q.left }
 
 -- a command that is accepted, by what becomes of it; `done` is what is answered once it is carried out
 abbrev pub by_fate : Fate → Serving → Command → (Serving → Reply) → Reply
@@ -106,14 +106,14 @@ searched_or s (Ok n) = searched s (counts_of n)
 searched_or s (Err r) = answered s (answer.Refused r)
 
 -- `search N`
-abbrev pub search_steps : State → ℕ → Result ℕ Refusal
-search_steps Empty n = Err NoInstance
-search_steps (Loaded j) n = if nat_le (j.steps + n) (2 ^ 60) then Ok n else Err StepsSpent
+abbrev pub steps_to_search : State → ℕ → Result ℕ Refusal
+steps_to_search Empty n = Err NoInstance
+steps_to_search (Loaded j) n = if nat_le (j.steps + n) (2 ^ 60) then Ok n else Err StepsSpent
 
 -- `reach N`: the steps that are left, at most 1,000,000,000
-abbrev pub reach_steps : State → ℕ → Result ℕ Refusal
-reach_steps Empty n = Err NoInstance
-reach_steps (Loaded j) n = if nat_le n (j.steps + 1000000000) then Ok (n - j.steps) else Err Range
+abbrev pub steps_to_reach : State → ℕ → Result ℕ Refusal
+steps_to_reach Empty n = Err NoInstance
+steps_to_reach (Loaded j) n = if nat_le n (j.steps + 1000000000) then Ok (n - j.steps) else Err Range
 
 -- a number that no field holds
 abbrev pub refused : Serving → State → Refusal → Reply
@@ -158,8 +158,8 @@ asked_reply reading s (Load kind seed len) text short =
     if short then answered s answer.Truncated else unless_broken s (load (next_fate s.fates) s seed (reading kind text))
 asked_reply reading s (Plain c) text short = plain s c
 asked_reply reading s (Refused r) text short = unless_broken s (refused s s.state r)
-asked_reply reading s (Search n) text short = unless_broken s (searched_or s (search_steps s.state n))
-asked_reply reading s (Reach n) text short = unless_broken s (searched_or s (reach_steps s.state n))
+asked_reply reading s (Search n) text short = unless_broken s (searched_or s (steps_to_search s.state n))
+asked_reply reading s (Reach n) text short = unless_broken s (searched_or s (steps_to_reach s.state n))
 asked_reply reading s Print text short = unless_broken s (printed s s.state)
 asked_reply reading s Show text short = unless_broken s (shown s s.state)
 
@@ -169,7 +169,7 @@ reply reading s piece = asked_reply reading s piece.asked piece.text (is_short p
 -- the answers to all pieces, one after another
 unfoldable pub served : Reading → Serving → List Piece → Reply
 served reading s [] = record { text = []; commands = []; left = s }
-served reading s (piece ∷ pieces) = let r = reply reading s piece in joined r (served reading r.left pieces)
+served reading s (piece ∷ pieces) = let r = reply reading s piece in joined_replies r (served reading r.left pieces)
 
 -- a session that is not broken
 abbrev pub begun : State → List Fate → Serving

@@ -24,9 +24,9 @@ impl Model for Line {
 
     ghost Value = { List ℕ };
 
-    ghost use Rattle.command_text.specs.Lines.{written, IsWithin};
+    ghost use Rattle.command_text.specs.Lines.{used_bytes, IsWithin};
 
-    ghost view = { written };
+    ghost view = { used_bytes };
 
     ghost invariant = { IsWithin };
 }
@@ -113,7 +113,7 @@ impl Answer {
             Answer::Truncated => no_line("Truncated"),
             Answer::Broken => no_line("Broken"),
             Answer::Refused(refusal) => no_line(refusal.name()),
-            Answer::Read(fault) => read_line(*fault),
+            Answer::Read(fault) => fault_line(*fault),
             Answer::Unplanned => no_line("Unplanned"),
             Answer::Spent => no_line("Spent"),
             Answer::DeviceFault => words("fault device"),
@@ -141,7 +141,7 @@ fn no_line(name: &str) -> Line
     line
 }
 
-fn read_line(fault: ReadFault) -> Line
+fn fault_line(fault: ReadFault) -> Line
     ensures { result ≡ read_text fault.kind fault.line }
 {
     match fault.kind {

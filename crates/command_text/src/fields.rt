@@ -1,4 +1,4 @@
-//! The numbers of a line.
+//! The numbers of a line: an integer is kept as each field may hold it, and judged where the command is known.
 ghost use Rattle.std.specs.Prelude.{◌≡◌, ◌<◌, ◌≤◌, ◌++◌, [], ◌∷◌, length, None, Some, MatchOption, OnSome};
 ghost use Rattle.command_text.specs.Asking.{as_u32, field_in, field_of, fields_of};
 ghost use Rattle.command_text.specs.Numbers.{IsNoCommand};
@@ -91,6 +91,7 @@ impl Fields {
         Some(())
     }
 
+    /// The numbers so far, in order.
     pub(crate) fn as_slice(&self) -> &[Field]
         ensures { result.now ≡ self.now }
     {

@@ -1,6 +1,6 @@
-//! The texts of instances.
+//! The text of an instance, which follows a `load` line.
 ghost use Rattle.std.specs.Prelude.{◌≡◌, IfErr, IfOk};
-ghost use Rattle.instance_read.specs.Faults.{Tells};
+ghost use Rattle.instance_read.specs.Faults.{TellsFirstFault};
 ghost use Rattle.command_text.specs.Readings.{InstanceFault, IsReading, IsUnlessMemory, Reading, SpellsInstance};
 
 use instance_read::{ReadFault, read_lilim, read_vrp};
@@ -17,7 +17,7 @@ pub fn read_instance(alloc: Global, kind: Kind, text: &[u8]) -> Result<Problem, 
 
 fn read(alloc: Global, kind: Kind, text: &[u8]) -> Result<Problem, ReadFault>
     ensures value { IfOk result (SpellsInstance kind text.now) }
-    ensures fault { IfErr result (Tells (InstanceFault kind text.now)) }
+    ensures fault { IfErr result (TellsFirstFault (InstanceFault kind text.now)) }
 {
     match kind {
         Kind::LiLim => read_lilim(alloc, text),

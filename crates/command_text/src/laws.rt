@@ -1,4 +1,4 @@
-// How an input is cut and answered, each law for every input.
+//! How an input is cut and answered, each law for every input.
 ghost use Rattle.std.specs.Prelude.{◌≡◌, []};
 ghost use Rattle.command_text.specs.Cutting.{pieces_of};
 ghost use Rattle.command_text.specs.Laws.{PiecesEnd, PiecesFollow, StatesFollow};

@@ -1,4 +1,40 @@
-//! The command text: what a line asks for, what is answered, and what the whole of an input is answered.
+//! The command text, without device and stream: what a line asks for, the bytes that answer it, and the definition of a
+//! whole input's answers. `command_serving` serves a session by it, `plan_solve` tells its steps by it.
+//!
+//! Entry functions: `read_line` for a line; `Answer::line`, `at_line`, `show` and `print` for an answer;
+//! `search_steps`, `reach_steps` and `next_count` for the pieces of a search.
+//!
+//! Source: this project's own.
+//!
+//! How it works: a line is a command's name and its numbers, parted by blanks. Many steps are cut into commands of
+//! at most 256, each of which is told by a line `at` once it is acknowledged. A number that no field holds is told
+//! apart where the line is read, before the state is asked. Answers that follow a command that was carried out take
+//! no memory: an `at` or `ok` that found none would tell a refusal of what was done.
+//!
+//! What becomes of commands is a list of fates, one for each try, and not the number of the one that failed, so want of
+//! memory and a full store have their place; the plain case is the empty list. What a text spells is a function that is
+//! given (`Reading`), with the premise that it tells each text's problem or first fault.
+//!
+//! Modules, in reading order:
+//! - `verbs`: the names of commands
+//! - `fields`: the numbers of a line
+//! - `asked`: what a line asks for
+//! - `first_word`: the first word of a line that comes in parts
+//! - `steps`: how many steps a line makes
+//! - `instances`: the text behind a `load` line
+//! - `answers`: the lines that answer
+//! - `showing`: what `show` and `print` write
+//! - `laws`: how an input is cut and answered
+//!
+//! Said by `specs/Asking.antt`, `Cutting.antt`, `Answers.antt`, `Showing.antt` and `Answering.antt`. Proved:
+//! - `read_line`: what a line of any length asks for (`asked`), without memory
+//! - `FirstWord`: whether the first word of a line in parts is `load`
+//! - `Answer::line`, `at_line`, `show`, `print`: each byte; `print` is read back as the plan's routes and distance, and
+//!   tells how many requests are unplanned
+//! - `search_steps`, `reach_steps`, `next_count`: how many steps a line makes, or why it is refused, and the next piece
+//! - `read_instance`: what the text spells or its first fault, or want of memory
+//! - `pieces_follow`: an input is cut into lines, each `load` line with the bytes that it announces
+//! - `states_follow`: the state that an input leaves is the one after the commands that were carried out
 #![tactic(auto)]
 
 mod answers;
@@ -17,4 +53,4 @@ pub use first_word::FirstWord;
 pub use instances::read_instance;
 pub use laws::{pieces_follow, states_follow};
 pub use showing::{Text, print, show};
-pub use steps::{next_count, reach_steps, search_steps};
+pub use steps::{next_count, steps_to_reach, steps_to_search};

@@ -41,6 +41,7 @@ impl Text {
         }
     }
 
+    /// The bytes of the lines.
     pub fn as_bytes(&self) -> &[u8]
         ensures { result.now ≡ self.now }
     {
@@ -158,7 +159,8 @@ impl Text {
     }
 }
 
-/// The lines of `show`: numbers, pins, routes, unplanned requests and costs. Takes time linear in them.
+/// The lines of `show`: numbers, pins, routes, unplanned requests and costs. Takes time linear in them but for
+/// `plan_cost`, which looks for each delivery's pickup.
 pub fn show(alloc: Global, job: &Job) -> Result<Text, OutOfMemory>
     ensures { IfOk result (λ text. text ≡ show_text job.now) }
 {

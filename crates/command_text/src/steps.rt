@@ -1,13 +1,17 @@
-//! How many steps a line makes.
+//! How many steps a line makes, and how they are cut into commands.
 ghost use Rattle.std.specs.Prelude.{◌≡◌, ◌-◌, ◌≤◌, ◌<◌, ◌∷◌, ◌^◌};
-ghost use Rattle.command_text.specs.Answering.{counts_of, reach_steps, search_steps};
+ghost use Rattle.command_text.specs.Answering.{counts_of, steps_to_reach, steps_to_search};
 
 use crate::asked::MAX_SEARCH;
 use command_core::{MAX_COUNT, MAX_STEPS, Refusal, State};
 
-/// How many steps `search N` makes, or why the line is refused.
-pub fn search_steps(state: &State, steps: u32) -> Result<u32, Refusal>
-    ensures { result ≡ search_steps state.now steps }
+/// How many steps `search N` makes.
+///
+/// # Errors
+///
+/// `NoInstance` before the first `load`, `StepsSpent` where a state would have made more than 2^60.
+pub fn steps_to_search(state: &State, steps: u32) -> Result<u32, Refusal>
+    ensures { result ≡ steps_to_search state.now steps }
 {
     let State::Loaded(job) = state else {
         return Err(Refusal::NoInstance);
@@ -19,9 +23,13 @@ pub fn search_steps(state: &State, steps: u32) -> Result<u32, Refusal>
     }
 }
 
-/// How many steps `reach N` makes, or why the line is refused.
-pub fn reach_steps(state: &State, goal: u64) -> Result<u32, Refusal>
-    ensures { result ≡ reach_steps state.now goal }
+/// How many steps `reach N` makes: as many as the state lacks, and none where it has made so many.
+///
+/// # Errors
+///
+/// `NoInstance` before the first `load`, `Range` where more than 1,000,000,000 are lacking.
+pub fn steps_to_reach(state: &State, goal: u64) -> Result<u32, Refusal>
+    ensures { result ≡ steps_to_reach state.now goal }
 {
     let State::Loaded(job) = state else {
         return Err(Refusal::NoInstance);
@@ -33,7 +41,7 @@ pub fn reach_steps(state: &State, goal: u64) -> Result<u32, Refusal>
     }
 }
 
-/// How many steps the next command of a search makes that has so many left.
+/// How many steps the next command of a search makes that has so many left: at most 256.
 #[tactic(auto, using(crate::proofs::StepLemmas::large_count, crate::proofs::StepLemmas::small_count))]
 pub fn next_count(left: u32) -> u16
     requires { 0 < left }

@@ -8,7 +8,7 @@ use Rattle.plan_types.specs.declared.requests.Request.TheVariants.{Pair, Single}
 use Rattle.instance_read.specs.Lilim.{customers_of}
 use Rattle.instance_read.specs.Pairs.{is_mismatched, pairs_of, task_of}
 use Rattle.instance_read.specs.Rows.{rows_from}
-use Rattle.instance_read.specs.declared.vrp_lines.Place.TheVariants.{AfterEnd}
+use Rattle.instance_read.specs.declared.vrp_lines.Section.TheVariants.{AfterEnd}
 use Rattle.instance_read.specs.VrpLines.{key_of, value_of, placed_from, placed_of, end_place}
 use Rattle.instance_read.specs.Vrp.{lacks_key, vrp_problem, end_line}
 

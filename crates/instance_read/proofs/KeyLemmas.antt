@@ -4,8 +4,8 @@ use Rattle.std.specs.Prelude.{is_some}
 use Rattle.instance_read.specs.declared.faults.ReadFaultKind.{ReadFaultKind}
 use Rattle.instance_read.specs.declared.vrp_draft.Draft.{Draft}
 use Rattle.instance_read.specs.declared.vrp_lines.Key.{Key}
-use Rattle.instance_read.specs.declared.vrp_lines.Place.{Place}
-use Rattle.instance_read.specs.declared.vrp_lines.Place.TheVariants.{Outside}
+use Rattle.instance_read.specs.declared.vrp_lines.Section.{Section}
+use Rattle.instance_read.specs.declared.vrp_lines.Section.TheVariants.{Outside}
 use Rattle.instance_read.specs.Drafts.{TakesLine, TakesValue, TellsKind, has_seen, line_fault, with_key}
 use Rattle.instance_read.specs.Rows.{Row}
 use Rattle.instance_read.specs.Vrp.{key_fault}
@@ -28,7 +28,7 @@ module _ (old : Draft) (row : Row) (key : Key) (value : List ℕ) (stands : Bool
       let R : Key → Type 0 = λ k. TellsKind (key_fault (is_some old.nodes) (has_seen old k) (value_of row) k) kind in
       subst R key_is (subst Q value_is (subst P before h))
 
-  pub takes_key : (mid new : Draft) (next : Place) → mid ≡ with_key old key → next ≡ place_after_key old.nodes key
+  pub takes_key : (mid new : Draft) (next : Section) → mid ≡ with_key old key → next ≡ place_after_key old.nodes key
       → HasNoKind (key_fault (is_some mid.nodes) stands value key) → TakesValue mid row.line value key new
       → HasNoKind (line_fault old row Outside) × TakesLine old row Outside new × (next ≡ place_after old.nodes row Outside)
   takes_key mid new next marked goes none takes =

@@ -11,8 +11,8 @@ use Rattle.instance_read.specs.declared.faults.ReadFaultKind.TheVariants.{FieldC
 use Rattle.instance_read.specs.declared.vrp_draft.Draft.{Draft}
 use Rattle.instance_read.specs.declared.vrp_lines.Key.{Key}
 use Rattle.instance_read.specs.declared.vrp_lines.Key.TheVariants.{Dimension, Capacity, ProblemType, WeightType, Refused, Coordinates, Demands, Depots, End, StrayNumber, Ignored}
-use Rattle.instance_read.specs.declared.vrp_lines.Place.{Place}
-use Rattle.instance_read.specs.declared.vrp_lines.Place.TheVariants.{Outside}
+use Rattle.instance_read.specs.declared.vrp_lines.Section.{Section}
+use Rattle.instance_read.specs.declared.vrp_lines.Section.TheVariants.{Outside}
 use Rattle.instance_read.specs.Drafts.{IsDraft, TakesValue, entry_at, has_seen, nodes_in, with_key}
 use Rattle.instance_read.specs.Rows.{Row}
 use Rattle.instance_read.specs.Vrp.{any_key, first_key, has_key, in_coordinates, in_demands, is_node_line, key_fault, key_number}
@@ -20,7 +20,7 @@ use Rattle.instance_read.specs.VrpLines.{Placed, key_of, value_of}
 use Rattle.instance_read.specs.VrpWalk.{Knows, demand_in, number_in, point_in}
 use Rattle.instance_read.specs.Walk.{HasNoKind}
 
-abbrev pub placed : Row → Place → Placed
+abbrev pub placed : Row → Section → Placed
 placed row place = record { row = row; place = place }
 
 pub any_is_find : {X : Type 0} (test : X → Bool) (xs : List X) → list_any test xs ≡ is_some (find test xs)

@@ -7,9 +7,9 @@ use Rattle.instance_read.specs.declared.faults.ReadFaultKind.{ReadFaultKind}
 use Rattle.instance_read.specs.declared.vrp_draft.Draft.{Draft}
 use Rattle.instance_read.specs.declared.vrp_lines.Key.{Key}
 use Rattle.instance_read.specs.declared.vrp_lines.Key.TheVariants.{Dimension, Capacity, Coordinates, Demands, End}
-use Rattle.instance_read.specs.declared.vrp_lines.Place.{Place}
-use Rattle.instance_read.specs.declared.vrp_lines.Place.TheVariants.{Outside, CoordinateLine, DemandLine, DepotLine, AfterEnd}
-use Rattle.instance_read.specs.Drafts.{FitsPlace, IsDraft, TakesLine, entry_at, is_taken, line_fault, nodes_in, node_index}
+use Rattle.instance_read.specs.declared.vrp_lines.Section.{Section}
+use Rattle.instance_read.specs.declared.vrp_lines.Section.TheVariants.{Outside, CoordinateLine, DemandLine, DepotLine, AfterEnd}
+use Rattle.instance_read.specs.Drafts.{FitsSection, IsDraft, TakesLine, entry_at, is_taken, line_fault, nodes_in, node_index}
 use Rattle.instance_read.specs.Rows.{Row}
 use Rattle.instance_read.specs.Vrp.{any_key, coordinate_limits, demand_limits, first_key, has_key, has_node, in_coordinates, in_demands, is_node_line, key_fault, key_number, node_fault, nodes_of, place_fault}
 use Rattle.instance_read.specs.VrpLines.{Placed, key_of, value_of}
@@ -41,7 +41,7 @@ module _ (before : List Placed) (draft : Draft) (known : Knows before draft) whe
   demand_taken : (z : ℤ) → has_node in_demands before z ≡ is_taken draft.demands.items z
   demand_taken z = any_is_find (is_node_line in_demands z) before ∙ sym (some_map demand_in (find (is_node_line in_demands z) before)) ∙ sym (ap is_some (known.demands z))
 
-  pub same_fault : (row : Row) (place : Place) (kind : ReadFaultKind) → place_fault before row place kind ≡ line_fault draft row place kind
+  pub same_fault : (row : Row) (place : Section) (kind : ReadFaultKind) → place_fault before row place kind ≡ line_fault draft row place kind
   same_fault row Outside kind =
       ap (λ b. key_fault b (any_key (key_of row) before) (value_of row) (key_of row) kind) announced_is
       ∙ ap (λ b. key_fault (is_some draft.nodes) b (value_of row) (key_of row) kind) (sym (known.seen (key_of row)))
@@ -82,7 +82,7 @@ set_none : {X : Type 0} (xs : List X) (i : ℕ) (x : X) → xs ≡ [] → set xs
 set_none xs i x e = ap (λ l. set l i x) e
 
 -- a line that says nothing
-knows_same : (before : List Placed) (row : Row) (place : Place) (old new : Draft) → ((key : Key) → has_key key (placed row place) ≡ false) → ((z : ℤ) → is_node_line in_coordinates z (placed row place) ≡ false) → ((z : ℤ) → is_node_line in_demands z (placed row place) ≡ false)
+knows_same : (before : List Placed) (row : Row) (place : Section) (old new : Draft) → ((key : Key) → has_key key (placed row place) ≡ false) → ((z : ℤ) → is_node_line in_coordinates z (placed row place) ≡ false) → ((z : ℤ) → is_node_line in_demands z (placed row place) ≡ false)
     → Knows before old → new ≡ old → Knows (before ++ placed row place ∷ []) new
 knows_same before row place old new outside no_point no_demand known is =
     let p = placed row place in
@@ -92,7 +92,7 @@ knows_same before row place old new outside no_point no_demand known is =
     (λ e. ap (λ (d : Draft). d.coordinates.items) is ∙ e)
     (λ e. ap (λ (d : Draft). d.demands.items) is ∙ e)
 
-pub knows_more : (before : List Placed) (row : Row) (place : Place) (old new : Draft) → IsDraft old → Knows before old → FitsPlace place old → HasNoKind (line_fault old row place) → TakesLine old row place new → Knows (before ++ placed row place ∷ []) new
+pub knows_more : (before : List Placed) (row : Row) (place : Section) (old new : Draft) → IsDraft old → Knows before old → FitsSection place old → HasNoKind (line_fault old row place) → TakesLine old row place new → Knows (before ++ placed row place ∷ []) new
 knows_more before row Outside old new valid known fits none takes = knows_key before row old new (key_of row) refl valid known none takes
 knows_more before row (CoordinateLine n) old new valid known fits none takes =
     let p = placed row (CoordinateLine n) in

@@ -7,7 +7,7 @@ use Rattle.std.specs.Ordering.{int_eq, is_eq}
 use Rattle.std.proofs.lemmas.Bool.{cases_lt, false≢true, or_parts, eqb-true, eqb-false, lt-ltb, le-ltb, ltb-false}
 use Rattle.text_lines.specs.Words.{words_of}
 use Rattle.instance_read.specs.declared.faults.ReadFaultKind.TheVariants.{BadNumber, FieldCount, Range, NodeRepeated}
-use Rattle.instance_read.specs.declared.vrp_lines.Place.{Place}
+use Rattle.instance_read.specs.declared.vrp_lines.Section.{Section}
 use Rattle.instance_read.specs.Drafts.{entry_at, is_taken, node_index}
 use Rattle.instance_read.specs.Fields.{field, is_beyond, is_that, value_at}
 use Rattle.instance_read.specs.Vrp.{is_node_line, node_fault}
@@ -37,7 +37,7 @@ one_other m n ne =
     (cases_lt n m)
 
 -- A line of a section, with the number of a node that no line before it has.
-module _ {X : Type 0} (section : Place → Bool) (value_in : Placed → X) (before : List Placed) (p : Placed) (inside : section p.place ≡ true) (table : List (Option X)) (node : ℕ) (number : field (words_of p.row.text) 0 ≡ Some (pos (suc node))) (within : node < length table) (free : slice_index_or table node None ≡ None) (known : (z : ℤ) → entry_at table z ≡ option_map value_in (find (is_node_line section z) before)) where
+module _ {X : Type 0} (section : Section → Bool) (value_in : Placed → X) (before : List Placed) (p : Placed) (inside : section p.place ≡ true) (table : List (Option X)) (node : ℕ) (number : field (words_of p.row.text) 0 ≡ Some (pos (suc node))) (within : node < length table) (free : slice_index_or table node None ≡ None) (known : (z : ℤ) → entry_at table z ≡ option_map value_in (find (is_node_line section z) before)) where
   line_is : (z : ℤ) → is_node_line section z p ≡ is_one z (pos (suc node))
   line_is z = ap (λ b. b && is_that (is_one z) (field (words_of p.row.text) 0)) inside ∙ ap (is_that (is_one z)) number
 

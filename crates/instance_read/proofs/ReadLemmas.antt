@@ -7,7 +7,7 @@ use Rattle.plan_types.specs.Instance.{Instance}
 use Rattle.instance_read.specs.declared.faults.ReadFault.{ReadFault}
 use Rattle.instance_read.specs.declared.tasks.Header.{Header}
 use Rattle.instance_read.specs.declared.tasks.Task.{Task}
-use Rattle.instance_read.specs.Faults.{Tells, IsFirstFault}
+use Rattle.instance_read.specs.Faults.{TellsFirstFault, IsFirstFault}
 use Rattle.instance_read.specs.Fields.{value_at}
 use Rattle.instance_read.specs.Lilim.{LilimFault, SpellsLilim, header_fault, problem_from, problem_of}
 use Rattle.instance_read.specs.Pairs.{task_of}
@@ -56,7 +56,7 @@ module _ (text : List ℕ) (header : Row) (read : Header) (items : List Task) (s
         plain.1 ∙ same_problem (words_of header.text) read header depot customers made,
       )
 
-  pub tells : (rest : List Row) → rows_of text ≡ header ∷ rest → HasNoTaskFault None rest → items ≡ map task_of rest → (f : ReadFault) → TellsMismatch (other_tasks items) f → Tells (LilimFault text) f
+  pub tells : (rest : List Row) → rows_of text ≡ header ∷ rest → HasNoTaskFault None rest → items ≡ map task_of rest → (f : ReadFault) → TellsMismatch (other_tasks items) f → TellsFirstFault (LilimFault text) f
   tells [] is clean same f h = absurd (omega (arith, ap length same))
   tells (depot ∷ customers) is clean same f h =
       let P : List Task → Type 0 = λ xs. TellsMismatch (other_tasks xs) f in

@@ -13,9 +13,9 @@ use Rattle.instance_read.specs.declared.faults.ReadFaultKind.TheVariants.{BadNum
 use Rattle.instance_read.specs.declared.vrp_draft.Draft.{Draft}
 use Rattle.instance_read.specs.declared.vrp_lines.Key.{Key}
 use Rattle.instance_read.specs.declared.vrp_lines.Key.TheVariants.{Dimension, Capacity, ProblemType, WeightType, Refused, Coordinates, Demands, Depots, End, StrayNumber, Ignored}
-use Rattle.instance_read.specs.declared.vrp_lines.Place.{Place}
-use Rattle.instance_read.specs.declared.vrp_lines.Place.TheVariants.{Outside, CoordinateLine, DemandLine, DepotLine, AfterEnd}
-use Rattle.instance_read.specs.Drafts.{FitsPlace, IsDraft, TakesLine, TakesValue, TellsKind, has_seen, line_fault, nodes_in, with_key}
+use Rattle.instance_read.specs.declared.vrp_lines.Section.{Section}
+use Rattle.instance_read.specs.declared.vrp_lines.Section.TheVariants.{Outside, CoordinateLine, DemandLine, DepotLine, AfterEnd}
+use Rattle.instance_read.specs.Drafts.{FitsSection, IsDraft, TakesLine, TakesValue, TellsKind, has_seen, line_fault, nodes_in, with_key}
 use Rattle.instance_read.specs.Fields.{field, has_no_number, is_no_number, value_at}
 use Rattle.instance_read.specs.Rows.{Row}
 use Rattle.instance_read.specs.Vrp.{key_fault, place_fault}
@@ -88,11 +88,11 @@ nodes_key before row old new End key_is known none takes = nodes_other row End o
 nodes_key before row old new StrayNumber key_is known none takes = nodes_other row StrayNumber old.nodes key_is refl ∙ sym (ap (λ (d : Draft). d.nodes) takes)
 nodes_key before row old new Ignored key_is known none takes = nodes_other row Ignored old.nodes key_is refl ∙ sym (ap (λ (d : Draft). d.nodes) takes)
 
-nodes_section : (o : Option ℕ) (row : Row) (place : Place) → ((n : ℕ) → nodes_after None row place ≡ None) → nodes_after o row place ≡ o
+nodes_section : (o : Option ℕ) (row : Row) (place : Section) → ((n : ℕ) → nodes_after None row place ≡ None) → nodes_after o row place ≡ o
 nodes_section None row place none = none 0
 nodes_section (Some n) row place none = refl
 
-nodes_step : (before : List Placed) (row : Row) (place : Place) (old new : Draft) → Knows before old → HasNoKind (line_fault old row place) → TakesLine old row place new → nodes_after old.nodes row place ≡ new.nodes
+nodes_step : (before : List Placed) (row : Row) (place : Section) (old new : Draft) → Knows before old → HasNoKind (line_fault old row place) → TakesLine old row place new → nodes_after old.nodes row place ≡ new.nodes
 nodes_step before row Outside old new known none takes = nodes_key before row old new (key_of row) refl known none takes
 nodes_step before row (CoordinateLine n) old new known none takes = nodes_section old.nodes row (CoordinateLine n) (λ _. refl) ∙ sym (ap (λ (d : Draft). d.nodes) takes.0)
 nodes_step before row (DemandLine n) old new known none takes = nodes_section old.nodes row (DemandLine n) (λ _. refl) ∙ sym (ap (λ (d : Draft). d.nodes) takes.0)
@@ -100,28 +100,28 @@ nodes_step before row (DepotLine n) old new known none takes = nodes_section old
 nodes_step before row AfterEnd old new known none takes = nodes_section old.nodes row AfterEnd (λ _. refl) ∙ sym (ap (λ (d : Draft). d.nodes) takes)
 
 -- the place after a line finds what it needs
-fits_coordinates : (n : ℕ) (d : Draft) → length d.coordinates.items ≡ nodes_in d → FitsPlace (coordinates_left n) d
+fits_coordinates : (n : ℕ) (d : Draft) → length d.coordinates.items ≡ nodes_in d → FitsSection (coordinates_left n) d
 fits_coordinates n d long = by (eqb n 0) refl
   where
-    by : (b : Bool) → eqb n 0 ≡ b → FitsPlace (cond b Outside (CoordinateLine n)) d
+    by : (b : Bool) → eqb n 0 ≡ b → FitsSection (cond b Outside (CoordinateLine n)) d
     by true e = tt
     by false e = let ne = eqb-false n 0 e in (omega (arith, ne), long)
 
-fits_demands : (n : ℕ) (d : Draft) → length d.demands.items ≡ nodes_in d → FitsPlace (demands_left n) d
+fits_demands : (n : ℕ) (d : Draft) → length d.demands.items ≡ nodes_in d → FitsSection (demands_left n) d
 fits_demands n d long = by (eqb n 0) refl
   where
-    by : (b : Bool) → eqb n 0 ≡ b → FitsPlace (cond b Outside (DemandLine n)) d
+    by : (b : Bool) → eqb n 0 ≡ b → FitsSection (cond b Outside (DemandLine n)) d
     by true e = tt
     by false e = let ne = eqb-false n 0 e in (omega (arith, ne), long)
 
-fits_depots : (n : ℕ) (d : Draft) → FitsPlace (depots_after n) d
+fits_depots : (n : ℕ) (d : Draft) → FitsSection (depots_after n) d
 fits_depots n d = by (nat_lt n 2) refl
   where
-    by : (b : Bool) → nat_lt n 2 ≡ b → FitsPlace (cond b (DepotLine n) Outside) d
+    by : (b : Bool) → nat_lt n 2 ≡ b → FitsSection (cond b (DepotLine n) Outside) d
     by true e = ltb-true n 2 e
     by false e = tt
 
-fits_key : (row : Row) (old new : Draft) (nodes : Option ℕ) (key : Key) → nodes ≡ old.nodes → TakesValue (with_key old key) row.line (value_of row) key new → FitsPlace (place_after_key nodes key) new
+fits_key : (row : Row) (old new : Draft) (nodes : Option ℕ) (key : Key) → nodes ≡ old.nodes → TakesValue (with_key old key) row.line (value_of row) key new → FitsSection (place_after_key nodes key) new
 fits_key row old new (Some n) Coordinates is takes =
     fits_coordinates n new (ap length takes.1 ∙ length-replicate {A = Option (ℤ × ℤ)} (nodes_in old) None ∙ sym (ap (λ (d : Draft). nodes_in d) takes.0))
 fits_key row old new (Some n) Demands is takes =
@@ -147,7 +147,7 @@ fits_key row old new None StrayNumber is takes = tt
 fits_key row old new (Some n) Ignored is takes = tt
 fits_key row old new None Ignored is takes = tt
 
-fits_next : (row : Row) (place : Place) (old new : Draft) → FitsPlace place old → TakesLine old row place new → FitsPlace (place_after old.nodes row place) new
+fits_next : (row : Row) (place : Section) (old new : Draft) → FitsSection place old → TakesLine old row place new → FitsSection (place_after old.nodes row place) new
 fits_next row Outside old new fits takes = fits_key row old new old.nodes (key_of row) refl takes
 fits_next row (CoordinateLine n) old new fits takes =
     fits_coordinates (n - 1) new (ap length takes.1 ∙ length-set old.coordinates.items _ _ ∙ fits.1 ∙ sym (ap (λ (d : Draft). nodes_in d) takes.0))
@@ -157,20 +157,20 @@ fits_next row (DepotLine n) old new fits takes = fits_depots (n + length (words_
 fits_next row AfterEnd old new fits takes = tt
 
 -- The lines before those that are left are read: the draft knows them, and none has a fault.
-pub record IsReading (all : List Row) (draft : Draft) (place : Place) (rest : List Row) : Type 0 where
+pub record IsReading (all : List Row) (draft : Draft) (place : Section) (rest : List Row) : Type 0 where
   pub before : List Placed
   pub splits : placed_rows all ≡ before ++ placed_from draft.nodes place rest
   pub ends : end_from None Outside all ≡ end_from draft.nodes place rest
   pub known : Knows before draft
   pub clean : HasNoLineFault before
   pub valid : IsDraft draft
-  pub fits : FitsPlace place draft
+  pub fits : FitsSection place draft
 
-pub placed_step : (nodes : Option ℕ) (place : Place) (row : Row) (more : List Row) → placed_from nodes place (row ∷ more) ≡ placed row place ∷ placed_from (nodes_after nodes row place) (place_after nodes row place) more
+pub placed_step : (nodes : Option ℕ) (place : Section) (row : Row) (more : List Row) → placed_from nodes place (row ∷ more) ≡ placed row place ∷ placed_from (nodes_after nodes row place) (place_after nodes row place) more
 unfolding placed_from
 placed_step nodes place row more = refl
 
-pub placed_none : (nodes : Option ℕ) (place : Place) → placed_from nodes place [] ≡ []
+pub placed_none : (nodes : Option ℕ) (place : Section) → placed_from nodes place [] ≡ []
 unfolding placed_from
 placed_none nodes place = refl
 
@@ -187,7 +187,7 @@ reading_start all draft known valid none =
     }
 
 -- What one line more makes of it.
-module _ (all : List Row) (old new : Draft) (place next : Place) (rest more : List Row) (row : Row) (steps : rest ≡ row ∷ more) (reading : IsReading all old place rest) where
+module _ (all : List Row) (old new : Draft) (place next : Section) (rest more : List Row) (row : Row) (steps : rest ≡ row ∷ more) (reading : IsReading all old place rest) where
   split_here : placed_rows all ≡ reading.before ++ placed row place ∷ placed_from (nodes_after old.nodes row place) (place_after old.nodes row place) more
   split_here = reading.splits ∙ ap (λ rows. reading.before ++ placed_from old.nodes place rows) steps ∙ ap (λ ps. reading.before ++ ps) (placed_step old.nodes place row more)
 
@@ -197,7 +197,7 @@ module _ (all : List Row) (old new : Draft) (place next : Place) (rest more : Li
   pub reading_more : HasNoKind (line_fault old row place) → TakesLine old row place new → next ≡ place_after old.nodes row place → IsDraft new → IsReading all new next more
   reading_more none takes goes valid =
       let nodes = nodes_step reading.before row place old new reading.known none takes in
-      let P : Place → Type 0 = λ p. FitsPlace p new in
+      let P : Section → Type 0 = λ p. FitsSection p new in
       record {
         before = reading.before ++ placed row place ∷ [];
         splits = split_here ∙ ap (λ o. reading.before ++ placed row place ∷ placed_from o (place_after old.nodes row place) more) nodes
@@ -234,7 +234,7 @@ module _ (all : List Row) (old new : Draft) (place next : Place) (rest more : Li
       no_memory_key announced stands value StrayNumber e = false≢true e
       no_memory_key announced stands value Ignored e = false≢true e
 
-      no_memory : (row : Row) (place : Place) → line_fault old row place OutOfMemory ≡ true → ⊥
+      no_memory : (row : Row) (place : Section) → line_fault old row place OutOfMemory ≡ true → ⊥
       no_memory row Outside e = no_memory_key (is_some old.nodes) (has_seen old (key_of row)) (value_of row) (key_of row) e
       no_memory row (CoordinateLine n) e = false≢true e
       no_memory row (DemandLine n) e = false≢true e
@@ -243,7 +243,7 @@ module _ (all : List Row) (old new : Draft) (place next : Place) (rest more : Li
       no_memory row AfterEnd e = false≢true e
 
 -- all lines are read
-pub reading_done : (all : List Row) (draft : Draft) (place : Place) (rest : List Row) → rest ≡ [] → IsReading all draft place rest → Knows (placed_rows all) draft × IsDraft draft × HasNoLineFault (placed_rows all) × (place ≡ end_from None Outside all)
+pub reading_done : (all : List Row) (draft : Draft) (place : Section) (rest : List Row) → rest ≡ [] → IsReading all draft place rest → Knows (placed_rows all) draft × IsDraft draft × HasNoLineFault (placed_rows all) × (place ≡ end_from None Outside all)
 reading_done all draft place rest none reading =
     let is = reading.splits ∙ ap (λ rows. reading.before ++ placed_from draft.nodes place rows) none ∙ ap (λ ps. reading.before ++ ps) (placed_none draft.nodes place) ∙ append-nil reading.before in
     let P : List Placed → Type 0 = λ ps. Knows ps draft in

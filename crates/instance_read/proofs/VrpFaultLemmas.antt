@@ -5,9 +5,9 @@ use Rattle.text_lines.specs.Lines.{lines_of}
 use Rattle.instance_read.specs.declared.faults.ReadFault.{ReadFault}
 use Rattle.instance_read.specs.declared.faults.ReadFaultKind.{ReadFaultKind}
 use Rattle.instance_read.specs.declared.faults.ReadFaultKind.TheVariants.{BadNumber, Range, FieldCount, TaskOrder, PairMismatch, EmptyWindow, TooManyStops, MissingKey, Unsupported, DepotNotFirst, NodeRepeated, Truncated, OutOfMemory}
-use Rattle.instance_read.specs.declared.vrp_lines.Place.{Place}
-use Rattle.instance_read.specs.declared.vrp_lines.Place.TheVariants.{Outside}
-use Rattle.instance_read.specs.Faults.{Class, OfLine, OfText, HasNone, IsFirstFault, IsNoLater, IsNoLaterPlace, Tells, rank}
+use Rattle.instance_read.specs.declared.vrp_lines.Section.{Section}
+use Rattle.instance_read.specs.declared.vrp_lines.Section.TheVariants.{Outside}
+use Rattle.instance_read.specs.Faults.{Class, OfLine, OfText, HasNone, IsFirstFault, IsNoLater, IsNoLaterPlace, TellsFirstFault, rank}
 use Rattle.instance_read.specs.Rows.{Row, rows_of}
 use Rattle.instance_read.specs.Vrp.{VrpFault, end_line, is_inside, lacks_key, place_fault}
 use Rattle.instance_read.specs.VrpLines.{Placed, end_place, nodes_after, place_after, placed_from, placed_of}
@@ -19,7 +19,7 @@ use Rattle.instance_read.proofs.WalkLemmas.{rows_above}
 abbrev rows_placed : List Placed → List Row
 rows_placed ps = map (λ p. p.row) ps
 
-placed_rows-are : (nodes : Option ℕ) (place : Place) (rows : List Row) → rows_placed (placed_from nodes place rows) ≡ rows
+placed_rows-are : (nodes : Option ℕ) (place : Section) (rows : List Row) → rows_placed (placed_from nodes place rows) ≡ rows
 placed_rows-are nodes place [] = ap rows_placed (placed_none nodes place)
 placed_rows-are nodes place (row ∷ rows) =
     ap rows_placed (placed_step nodes place row rows) ∙ ap (λ l. row ∷ l) (placed_rows-are (nodes_after nodes row place) (place_after nodes row place) rows)
@@ -58,7 +58,7 @@ module _ (text : List ℕ) where
     pub first_line_fault : IsFirstFault (VrpFault text) f
     first_line_fault = (OfLine, (h.before, h.here, h.after, h.splits, sym h.line, h.kind.0), no_later)
 
-  pub tells_line : (f : ReadFault) → TellsLine (placed_of text) f → Tells (VrpFault text) f
+  pub tells_line : (f : ReadFault) → TellsLine (placed_of text) f → TellsFirstFault (VrpFault text) f
   tells_line f (inl memory) = inl memory
   tells_line f (inr first) = inr (first_line_fault f first)
 

@@ -8,8 +8,8 @@ use Rattle.std.proofs.lemmas.Option.{none-some, same_Some}
 use Rattle.text_lines.specs.Words.{words_of}
 use Rattle.instance_read.specs.declared.vrp_lines.Key.{Key}
 use Rattle.instance_read.specs.declared.vrp_lines.Key.TheVariants.{Dimension, Capacity, ProblemType, WeightType, Refused, Coordinates, Demands, Depots, End, StrayNumber, Ignored}
-use Rattle.instance_read.specs.declared.vrp_lines.Place.{Place}
-use Rattle.instance_read.specs.declared.vrp_lines.Place.TheVariants.{Outside, CoordinateLine, DemandLine, DepotLine, AfterEnd}
+use Rattle.instance_read.specs.declared.vrp_lines.Section.{Section}
+use Rattle.instance_read.specs.declared.vrp_lines.Section.TheVariants.{Outside, CoordinateLine, DemandLine, DepotLine, AfterEnd}
 use Rattle.instance_read.specs.Fields.{field}
 use Rattle.instance_read.specs.Rows.{Row, rows_of}
 use Rattle.instance_read.specs.Vrp.{first_key, has_key, key_number}
@@ -75,7 +75,7 @@ none_in_key row Ignored other = refl
 still_none : (p : Placed) → has_key Dimension p ≡ false → nodes_after None p.row p.place ≡ None
 still_none p other = by p.place other
   where
-    by : (place : Place) → has_key Dimension (record { row = p.row; place = place }) ≡ false → nodes_after None p.row place ≡ None
+    by : (place : Section) → has_key Dimension (record { row = p.row; place = place }) ≡ false → nodes_after None p.row place ≡ None
     by Outside other = none_in_key p.row (key_of p.row) other
     by (CoordinateLine n) other = refl
     by (DemandLine n) other = refl
@@ -98,7 +98,7 @@ dimension_key Ignored is = absurd (false≢true is)
 now_some : (p : Placed) (n : ℕ) → has_key Dimension p ≡ true → field (value_words p.row) 0 ≡ Some (pos n) → nodes_after None p.row p.place ≡ Some n
 now_some p n is value = by p.place is
   where
-    by : (place : Place) → has_key Dimension (record { row = p.row; place = place }) ≡ true → nodes_after None p.row place ≡ Some n
+    by : (place : Section) → has_key Dimension (record { row = p.row; place = place }) ≡ true → nodes_after None p.row place ≡ Some n
     by Outside is = ap (nodes_in_key p.row) (dimension_key (key_of p.row) is) ∙ ap (option_map unsigned_abs) value
     by (CoordinateLine k) is = absurd (false≢true is)
     by (DemandLine k) is = absurd (false≢true is)
@@ -118,13 +118,13 @@ announced_first (p ∷ before) dimension n first value = by (has_key Dimension p
         ap (λ o. announced o before) (still_none p is)
         ∙ rest (sym (ap (λ t. option_map (λ (q : Placed). q.row) (cond t (Some p) (find (has_key Dimension) before))) is) ∙ first) value
 
-rows_back : (nodes : Option ℕ) (place : Place) (rows : List Row) → rows_in (placed_from nodes place rows) ≡ rows
+rows_back : (nodes : Option ℕ) (place : Section) (rows : List Row) → rows_in (placed_from nodes place rows) ≡ rows
 rows_back nodes place [] = ap rows_in (placed_none nodes place)
 rows_back nodes place (row ∷ rows) =
     ap rows_in (placed_step nodes place row rows) ∙ ap (λ more. row ∷ more) (rows_back (nodes_after nodes row place) (place_after nodes row place) rows)
 
 -- the lines behind one of them
-behind : (nodes : Option ℕ) (place : Place) (rows : List Row) (before after : List Placed) (p : Placed) → placed_from nodes place rows ≡ before ++ p ∷ after
+behind : (nodes : Option ℕ) (place : Section) (rows : List Row) (before after : List Placed) (p : Placed) → placed_from nodes place rows ≡ before ++ p ∷ after
     → after ≡ placed_from (nodes_after (announced nodes before) p.row p.place) (place_after (announced nodes before) p.row p.place) (rows_in after)
 behind nodes place [] before after p is = absurd (omega (arith, ap length (sym (placed_none nodes place) ∙ is), length-append before (p ∷ after)))
 behind nodes place (row ∷ rows) [] after p is =
@@ -195,7 +195,7 @@ same_nodes_after : (nodes : Option ℕ) (row : Row) → nodes_after nodes row Af
 same_nodes_after None row = refl
 same_nodes_after (Some n) row = refl
 
-depot_step : (nodes : Option ℕ) (seen : ℕ) (row : Row) (rows : List Row) (place : Place) → depots_after (seen + length (words_of row.text)) ≡ place → placed_from nodes (DepotLine seen) (row ∷ rows) ≡ depot_line seen row ∷ placed_from nodes place rows
+depot_step : (nodes : Option ℕ) (seen : ℕ) (row : Row) (rows : List Row) (place : Section) → depots_after (seen + length (words_of row.text)) ≡ place → placed_from nodes (DepotLine seen) (row ∷ rows) ≡ depot_line seen row ∷ placed_from nodes place rows
 depot_step nodes seen row rows place goes =
     placed_step nodes (DepotLine seen) row rows
     ∙ ap (λ o. depot_line seen row ∷ placed_from o (depots_after (seen + length (words_of row.text))) rows) (same_nodes nodes row seen)

@@ -9,8 +9,8 @@ use Rattle.instance_read.specs.declared.faults.ReadFaultKind.TheVariants.{OutOfM
 use Rattle.instance_read.specs.declared.vrp_draft.Draft.{Draft}
 use Rattle.instance_read.specs.declared.vrp_lines.Key.{Key}
 use Rattle.instance_read.specs.declared.vrp_lines.Key.TheVariants.{Dimension, Capacity, Coordinates, Demands, End}
-use Rattle.instance_read.specs.declared.vrp_lines.Place.{Place}
-use Rattle.instance_read.specs.declared.vrp_lines.Place.TheVariants.{Outside, CoordinateLine, DemandLine, DepotLine, AfterEnd}
+use Rattle.instance_read.specs.declared.vrp_lines.Section.{Section}
+use Rattle.instance_read.specs.declared.vrp_lines.Section.TheVariants.{Outside, CoordinateLine, DemandLine, DepotLine, AfterEnd}
 use Rattle.instance_read.specs.Fields.{value_at}
 use Rattle.instance_read.specs.Rows.{Row}
 use Rattle.instance_read.specs.Vrp.{key_number, key_fault, most_nodes, node_fault, depot_fault, coordinate_limits, demand_limits}
@@ -33,7 +33,7 @@ abbrev pub has_seen : Draft → Key → Bool
 has_seen draft key = slice_index_or draft.seen (key_number key) false
 
 -- what may be wrong with a line at this place
-abbrev pub line_fault : Draft → Row → Place → ReadFaultKind → Bool
+abbrev pub line_fault : Draft → Row → Section → ReadFaultKind → Bool
 line_fault draft row Outside kind = key_fault (is_some draft.nodes) (has_seen draft (key_of row)) (value_of row) (key_of row) kind
 line_fault draft row (CoordinateLine n) kind = node_fault 3 (coordinate_limits (nodes_in draft)) (is_taken draft.coordinates.items) (words_of row.text) kind
 line_fault draft row (DemandLine n) kind = node_fault 2 (demand_limits (nodes_in draft)) (is_taken draft.demands.items) (words_of row.text) kind
@@ -56,7 +56,7 @@ abbrev pub node_index : List (List ℕ) → ℕ
 node_index words = unsigned_abs (value_at words 0) - 1
 
 -- the draft after a line at this place
-abbrev pub TakesLine : Draft → Row → Place → Draft → Type 0
+abbrev pub TakesLine : Draft → Row → Section → Draft → Type 0
 TakesLine old row Outside new = TakesValue (with_key old (key_of row)) row.line (value_of row) (key_of row) new
 TakesLine old row (CoordinateLine n) new =
     let words = words_of row.text in
@@ -80,11 +80,11 @@ pub record IsDraft (draft : Draft) : Type 0 where
   pub demands : All (λ entry. IfSome entry IsDemand) draft.demands.items
 
 -- a line without a fault was taken at this place
-abbrev pub Takes : Draft → Row → Place → Draft → Type 0
+abbrev pub Takes : Draft → Row → Section → Draft → Type 0
 Takes old row place new = HasNoKind (line_fault old row place) × TakesLine old row place new × IsDraft new
 
 -- and the next line stands at that place
-abbrev pub TakesTo : Draft → Row → Place → Draft → Place → Type 0
+abbrev pub TakesTo : Draft → Row → Section → Draft → Section → Type 0
 TakesTo old row place new next =
     HasNoKind (line_fault old row place) × TakesLine old row place new × (next ≡ place_after old.nodes row place) × IsDraft new
 
@@ -98,11 +98,11 @@ abbrev pub unnumbered : List ℕ → Row
 unnumbered text = record { line = 0; text = text }
 
 -- a line at this place finds what it needs
-abbrev pub FitsPlace : Place → Draft → Type 0
-FitsPlace (CoordinateLine left) draft = (1 ≤ left) × (length draft.coordinates.items ≡ nodes_in draft)
-FitsPlace (DemandLine left) draft = (1 ≤ left) × (length draft.demands.items ≡ nodes_in draft)
-FitsPlace (DepotLine seen) draft = seen < 2
-FitsPlace place draft = Unit {0}
+abbrev pub FitsSection : Section → Draft → Type 0
+FitsSection (CoordinateLine left) draft = (1 ≤ left) × (length draft.coordinates.items ≡ nodes_in draft)
+FitsSection (DemandLine left) draft = (1 ≤ left) × (length draft.demands.items ≡ nodes_in draft)
+FitsSection (DepotLine seen) draft = seen < 2
+FitsSection place draft = Unit {0}
 
 -- want of memory, or the first of these faults
 abbrev pub TellsKind : (ReadFaultKind → Bool) → ReadFaultKind → Type 0

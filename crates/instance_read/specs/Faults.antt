@@ -51,5 +51,5 @@ abbrev pub no_memory : ReadFault
 no_memory = record { line = 0; kind = OutOfMemory }
 
 -- the answer of a reader that gave up: the first fault, or want of memory
-abbrev pub Tells : (Class → ℕ → ReadFaultKind → Type 0) → ReadFault → Type 0
-Tells Fault f = (f ≡ no_memory) ⊎ IsFirstFault Fault f
+abbrev pub TellsFirstFault : (Class → ℕ → ReadFaultKind → Type 0) → ReadFault → Type 0
+TellsFirstFault Fault f = (f ≡ no_memory) ⊎ IsFirstFault Fault f

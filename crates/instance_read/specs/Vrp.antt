@@ -20,8 +20,8 @@ use Rattle.instance_read.specs.Fields.{field, value_at, is_that, has_no_number, 
 use Rattle.instance_read.specs.Rows.{Row}
 use Rattle.instance_read.specs.declared.vrp_lines.Key.{Key}
 use Rattle.instance_read.specs.declared.vrp_lines.Key.TheVariants.{Dimension, Capacity, ProblemType, WeightType, Refused, Coordinates, Demands, Depots, End, StrayNumber, Ignored}
-use Rattle.instance_read.specs.declared.vrp_lines.Place.{Place}
-use Rattle.instance_read.specs.declared.vrp_lines.Place.TheVariants.{Outside, CoordinateLine, DemandLine, DepotLine, AfterEnd}
+use Rattle.instance_read.specs.declared.vrp_lines.Section.{Section}
+use Rattle.instance_read.specs.declared.vrp_lines.Section.TheVariants.{Outside, CoordinateLine, DemandLine, DepotLine, AfterEnd}
 use Rattle.instance_read.specs.VrpLines.{Placed, key_of, value_of, value_words, placed_of, end_place}
 
 -- keys are compared by their number
@@ -39,7 +39,7 @@ key_number StrayNumber = 9
 key_number Ignored = 10
 
 -- a line outside the sections has this key
-abbrev pub stands_outside : Place → Bool
+abbrev pub stands_outside : Section → Bool
 stands_outside Outside = true
 stands_outside _ = false
 
@@ -120,20 +120,20 @@ key_fault announced stands value StrayNumber kind = stray_fault kind
 key_fault announced stands value End kind = false
 key_fault announced stands value Ignored kind = false
 
-abbrev pub in_coordinates : Place → Bool
+abbrev pub in_coordinates : Section → Bool
 in_coordinates (CoordinateLine n) = true
 in_coordinates _ = false
 
-abbrev pub in_demands : Place → Bool
+abbrev pub in_demands : Section → Bool
 in_demands (DemandLine n) = true
 in_demands _ = false
 
 -- the line of a section whose first number is this
-abbrev pub is_node_line : (Place → Bool) → ℤ → Placed → Bool
+abbrev pub is_node_line : (Section → Bool) → ℤ → Placed → Bool
 is_node_line section node p = section p.place && is_that (int_eq node) (field (words_of p.row.text) 0)
 
 -- a line of this section has this node
-abbrev pub has_node : (Place → Bool) → List Placed → ℤ → Bool
+abbrev pub has_node : (Section → Bool) → List Placed → ℤ → Bool
 has_node section before node = list_any (is_node_line section node) before
 
 -- what may be wrong with the words of a line of a section of nodes: so many words within these limits, whose first is a node not yet taken
@@ -173,7 +173,7 @@ depot_fault (suc seen) words DepotNotFirst = is_other (neg_ℤ (pos 1)) (field w
 depot_fault seen words _ = false
 
 -- what may be wrong with a line, after these lines
-abbrev pub place_fault : List Placed → Row → Place → ReadFaultKind → Bool
+abbrev pub place_fault : List Placed → Row → Section → ReadFaultKind → Bool
 place_fault before row Outside kind = key_fault (any_key Dimension before) (any_key (key_of row) before) (value_of row) (key_of row) kind
 place_fault before row (CoordinateLine n) kind = node_fault 3 (coordinate_limits (nodes_of before)) (has_node in_coordinates before) (words_of row.text) kind
 place_fault before row (DemandLine n) kind = node_fault 2 (demand_limits (nodes_of before)) (has_node in_demands before) (words_of row.text) kind
@@ -181,7 +181,7 @@ place_fault before row (DepotLine seen) kind = depot_fault seen (words_of row.te
 place_fault before row AfterEnd kind = false
 
 -- the text may not end here
-abbrev pub is_inside : Place → Bool
+abbrev pub is_inside : Section → Bool
 is_inside Outside = false
 is_inside AfterEnd = false
 is_inside _ = true
@@ -209,7 +209,7 @@ VrpFault text OfText line MissingKey =
 VrpFault text OfText line _ = ⊥
 
 -- the number at this place of the line of a node
-abbrev pub node_value : (Place → Bool) → List Placed → ℕ → ℕ → ℤ
+abbrev pub node_value : (Section → Bool) → List Placed → ℕ → ℕ → ℤ
 node_value section ps node k = option_map_or (λ (p : Placed). value_at (words_of p.row.text) k) (find (is_node_line section (pos node)) ps) (pos 0)
 
 -- node n+1 as stop n, with this demand: windows and services are not of this format

@@ -3,7 +3,7 @@ use Rattle.std.specs.Prelude.{◌≡◌, ◌≤◌, ℕ, zero, suc, Bool, false,
 use Rattle.std.specs.Str.{str_eq_ignore_ascii_case}
 use Rattle.text_lines.specs.Words.{words_of}
 use Rattle.instance_read.specs.declared.vrp_lines.Key.TheVariants.{Dimension, Coordinates, Demands, Depots, End}
-use Rattle.instance_read.specs.declared.vrp_lines.Place.TheVariants.{Outside, CoordinateLine, DemandLine, DepotLine, AfterEnd}
+use Rattle.instance_read.specs.declared.vrp_lines.Section.TheVariants.{Outside, CoordinateLine, DemandLine, DepotLine, AfterEnd}
 use Rattle.instance_read.specs.Fields.{field}
 use Rattle.instance_read.specs.Rows.{Row}
 use Rattle.instance_read.specs.Vrp.{first_key}

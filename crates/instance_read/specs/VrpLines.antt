@@ -10,8 +10,8 @@ use Rattle.instance_read.specs.Fields.{field}
 use Rattle.instance_read.specs.Rows.{Row, rows_of}
 use Rattle.instance_read.specs.declared.vrp_lines.Key.{Key}
 use Rattle.instance_read.specs.declared.vrp_lines.Key.TheVariants.{Dimension, Capacity, ProblemType, WeightType, Refused, Coordinates, Demands, Depots, End, StrayNumber, Ignored}
-use Rattle.instance_read.specs.declared.vrp_lines.Place.{Place}
-use Rattle.instance_read.specs.declared.vrp_lines.Place.TheVariants.{Outside, CoordinateLine, DemandLine, DepotLine, AfterEnd}
+use Rattle.instance_read.specs.declared.vrp_lines.Section.{Section}
+use Rattle.instance_read.specs.declared.vrp_lines.Section.TheVariants.{Outside, CoordinateLine, DemandLine, DepotLine, AfterEnd}
 
 -- without the blanks and tabs at both ends
 abbrev pub trimmed : List ℕ → List ℕ
@@ -66,21 +66,21 @@ value_words row = words_of (value_of row)
 -- a line and its place
 pub record Placed : Type 0 where
   pub row : Row
-  pub place : Place
+  pub place : Section
 
 -- a section of nodes is over with its last line
-abbrev pub coordinates_left : ℕ → Place
+abbrev pub coordinates_left : ℕ → Section
 coordinates_left n = if n == 0 then Outside else CoordinateLine n
 
-abbrev pub demands_left : ℕ → Place
+abbrev pub demands_left : ℕ → Section
 demands_left n = if n == 0 then Outside else DemandLine n
 
 -- the list of depots is over with its second word
-abbrev pub depots_after : ℕ → Place
+abbrev pub depots_after : ℕ → Section
 depots_after seen = if nat_lt seen 2 then DepotLine seen else Outside
 
 -- the place after a line with this key, where so many nodes are announced, or none yet
-abbrev pub place_after_key : Option ℕ → Key → Place
+abbrev pub place_after_key : Option ℕ → Key → Section
 place_after_key (Some n) Coordinates = coordinates_left n
 place_after_key (Some n) Demands = demands_left n
 place_after_key nodes Depots = DepotLine 0
@@ -88,7 +88,7 @@ place_after_key nodes End = AfterEnd
 place_after_key nodes _ = Outside
 
 -- the place after a line at this place
-abbrev pub place_after : Option ℕ → Row → Place → Place
+abbrev pub place_after : Option ℕ → Row → Section → Section
 place_after nodes row Outside = place_after_key nodes (key_of row)
 place_after nodes row (CoordinateLine n) = coordinates_left (n - 1)
 place_after nodes row (DemandLine n) = demands_left (n - 1)
@@ -101,13 +101,13 @@ nodes_in_key row Dimension = option_map unsigned_abs (field (value_words row) 0)
 nodes_in_key row _ = None
 
 -- how many are announced after a line at this place: the first DIMENSION counts
-abbrev pub nodes_after : Option ℕ → Row → Place → Option ℕ
+abbrev pub nodes_after : Option ℕ → Row → Section → Option ℕ
 nodes_after (Some n) row place = Some n
 nodes_after None row Outside = nodes_in_key row (key_of row)
 nodes_after None row _ = None
 
 -- the lines with their places, from this place on
-unfoldable pub placed_from : Option ℕ → Place → List Row → List Placed
+unfoldable pub placed_from : Option ℕ → Section → List Row → List Placed
 placed_from nodes place [] = []
 placed_from nodes place (row ∷ rows) =
     record { row = row; place = place } ∷ placed_from (nodes_after nodes row place) (place_after nodes row place) rows
@@ -117,9 +117,9 @@ abbrev pub placed_of : List ℕ → List Placed
 placed_of text = placed_from None Outside (rows_of text)
 
 -- the place behind these lines
-abbrev pub end_from : Option ℕ → Place → List Row → Place
+abbrev pub end_from : Option ℕ → Section → List Row → Section
 end_from nodes place [] = place
 end_from nodes place (row ∷ rows) = end_from (nodes_after nodes row place) (place_after nodes row place) rows
 
-abbrev pub end_place : List ℕ → Place
+abbrev pub end_place : List ℕ → Section
 end_place text = end_from None Outside (rows_of text)

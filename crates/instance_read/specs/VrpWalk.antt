@@ -14,7 +14,7 @@ use Rattle.instance_read.specs.declared.faults.ReadFault.{ReadFault}
 use Rattle.instance_read.specs.declared.vrp_draft.Draft.{Draft}
 use Rattle.instance_read.specs.declared.vrp_lines.Key.{Key}
 use Rattle.instance_read.specs.declared.vrp_lines.Key.TheVariants.{Dimension, Capacity, WeightType, Coordinates, Demands, Depots, End}
-use Rattle.instance_read.specs.declared.vrp_lines.Place.TheVariants.{Outside}
+use Rattle.instance_read.specs.declared.vrp_lines.Section.TheVariants.{Outside}
 use Rattle.instance_read.specs.Drafts.{entry_at, has_seen, nodes_in}
 use Rattle.instance_read.specs.Faults.{no_memory}
 use Rattle.instance_read.specs.Fields.{value_at}

@@ -17,8 +17,8 @@ abbrev pub HasNoKind : (ReadFaultKind → Bool) → Type 0
 HasNoKind fault = (k : ReadFaultKind) → fault k ≡ false
 
 -- a value was read, of which this is so, where nothing is wrong; else the first fault is told
-abbrev pub Reads : {X : Type 0} → (ReadFaultKind → Bool) → (X → Type 0) → Result X ReadFaultKind → Type 0
-Reads fault IsSo result = MatchResult result (λ x. HasNoKind fault × IsSo x) (IsFirstKind fault)
+abbrev pub ReadsValue : {X : Type 0} → (ReadFaultKind → Bool) → (X → Type 0) → Result X ReadFaultKind → Type 0
+ReadsValue fault IsSo result = MatchResult result (λ x. HasNoKind fault × IsSo x) (IsFirstKind fault)
 
 -- nothing is wrong, or the first fault is told
 abbrev pub Passes : {X : Type 0} → (ReadFaultKind → Bool) → Result X ReadFaultKind → Type 0

@@ -1,3 +1,4 @@
+//! Why a text is refused: the kind of a fault, and its line.
 ghost use Rattle.std.specs.Prelude.{◌≡◌, codes};
 
 use std::alloc::{AllocError, AllocFailed};

@@ -1,4 +1,7 @@
 //! The numbers of a line, within their limits.
+//!
+//! A number of a text is an integer of any size until a field's limit is asked, so one of a hundred digits is told as
+//! out of range, not as no number.
 ghost use Rattle.std.specs.Prelude.{◌≡◌, ◌<◌, ℕ, length, drop, MatchOption, MatchResult, OnSome};
 ghost use Rattle.text_lines.specs.Words.{words_of};
 ghost use Rattle.instance_read.specs.Fields.{field, has_no_number};

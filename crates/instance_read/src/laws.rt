@@ -1,4 +1,4 @@
-// What a line of a `.vrp` text says, and where the lines stand, each law for every text.
+//! What a line of a `.vrp` text says, and where the lines stand, each law for every text.
 ghost use Rattle.instance_read.specs.VrpKeys.{AreKeyLines};
 ghost use Rattle.instance_read.specs.VrpLaws.{DepotsAreTwoWords, DimensionAloneAnnounces, EndIsTheEnd, OtherLinesStayOutside, SectionsHaveALineForEachNode};
 

@@ -1,4 +1,40 @@
-//! Readers of instance texts: Li-Lim's pickup and delivery instances, and CVRPLIB's capacitated ones.
+//! Instance texts: Li and Lim's pickup and delivery instances, and the `.vrp` files of CVRPLIB.
+//!
+//! Entry functions: `read_lilim` and `read_vrp`. Each gives the `Problem` that a text spells, or the first of its
+//! faults. Called by `command_text` (the line `load`), `plan_solve` and `planner_cli`.
+//!
+//! Sources: Li and Lim's benchmark instances of PDPTW; TSPLIB95's keys and sections, as CVRPLIB's instances use them
+//! (TYPE CVRP, EDGE_WEIGHT_TYPE EUC_2D). Faults, their order and the limits (`plan_types::limits`) are this project's.
+//!
+//! How it works: lines are read once, from the first, and reading ends at the first line with a fault. What is asked of
+//! the whole text (that tasks pair up, that no key is missing) is asked once every line is read.
+//!
+//! Faults are told by (class, line, kind): those of one line come before those of the whole text, so that a number that
+//! can't be read in the last line comes before a pair that doesn't match in the first.
+//!
+//! Modules, in reading order:
+//! - `faults`: why a text is refused
+//! - `rows`: the lines that are read, with their numbers
+//! - `fields`: the numbers of a line, within limits
+//! - `tasks`: header and tasks of a Li-Lim text
+//! - `entries`, `pairs`: tables by number, and the pairs that tasks make
+//! - `put`: a request put into a problem
+//! - `lilim`: the reader of Li-Lim texts
+//! - `vrp_lines`: keys and sections of a `.vrp` text
+//! - `vrp_fields`: the values of keys, and the lines of sections
+//! - `vrp_draft`: what the lines so far have said
+//! - `vrp_problem`: the problem that they spell
+//! - `vrp`: the reader of `.vrp` texts
+//! - `laws`: what lines of a `.vrp` text are, in other words
+//!
+//! Said by `specs/Lilim.antt`, `Pairs.antt`, `Vrp.antt`, `VrpLines.antt` and `Faults.antt`. Proved:
+//! - `read_lilim`, `read_vrp`: `value`, the problem is the one that the text spells (`SpellsLilim`, `SpellsVrp`);
+//!   `fault`, else the least fault by class, line and kind, or want of memory (`Tells`)
+//! - `sections_have_a_line_for_each_node`: a section of nodes has as many lines as the first DIMENSION line says
+//! - `depots_are_two_words`: the list of depots is over with its second word
+//! - `eof_is_the_end`: nothing counts behind EOF
+//! - `other_lines_stay_outside`: a line of any other key leaves its place outside the sections
+//! - `key_lines_are_made`: key and value are the parts around the first colon
 #![tactic(auto)]
 
 mod entries;

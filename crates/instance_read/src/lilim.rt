@@ -1,7 +1,7 @@
-//! Li-Lim's pickup and delivery instances.
+//! The reader of Li and Lim's pickup and delivery instances.
 ghost use Rattle.std.specs.Prelude.{◌≡◌, ◌+◌, IfOk, IfErr, MatchResult, None, length, map};
 ghost use Rattle.text_lines.specs.Lines.{lines_of};
-ghost use Rattle.instance_read.specs.Faults.{Tells};
+ghost use Rattle.instance_read.specs.Faults.{TellsFirstFault};
 ghost use Rattle.instance_read.specs.Lilim.{LilimFault, SpellsLilim};
 ghost use Rattle.instance_read.specs.Pairs.{task_of};
 ghost use Rattle.instance_read.specs.Walk.{HasNoTaskFault, LinesAbove, TellsTaskFault};
@@ -26,7 +26,7 @@ use text_lines::Lines;
 /// line `FieldCount`, `BadNumber`, `TooManyStops`, `Range`, `TaskOrder`, `EmptyWindow`.
 pub fn read_lilim(alloc: Global, text: &[u8]) -> Result<Problem, ReadFault>
     ensures value { IfOk result (SpellsLilim text.now) }
-    ensures fault { IfErr result (Tells (LilimFault text.now)) }
+    ensures fault { IfErr result (TellsFirstFault (LilimFault text.now)) }
 {
     let mut lines = NumberedLines::new(text);
     let Some(first) = lines.next() else {

@@ -1,4 +1,6 @@
-//! The pairs that tasks make.
+//! The pairs that tasks make: a pickup and a delivery that name each other, with demands that cancel.
+//!
+//! A task is looked up by its number in a table of places, so no task is searched for.
 ghost use Rattle.std.specs.Prelude.{◌≡◌, ◌+◌, ◌<◌, ◌≤◌, ℕ, [], All, IfErr, IfOk, IfSome, OnOk, None, Some, find, length};
 ghost use Rattle.std.specs.List.{AllByRecursion};
 ghost use Rattle.std.specs.Option.{option_copied, option_map};

@@ -35,6 +35,7 @@ impl<'a> Model for NumberedLines<'a> {
 }
 
 impl<'a> NumberedLines<'a> {
+    /// Before the first line of a text.
     pub fn new(text: &'a [u8]) -> NumberedLines<'a>
         ensures { result ≡ rows_of text.now }
     {

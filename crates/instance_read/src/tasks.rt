@@ -5,7 +5,7 @@ ghost use Rattle.instance_read.specs.Fields.{field, is_that, value_at};
 ghost use Rattle.instance_read.specs.Lilim.{header_fault, is_out_of_order, task_fault};
 ghost use Rattle.instance_read.specs.Pairs.{task_from};
 ghost use Rattle.instance_read.specs.Tables.{IsHeader};
-ghost use Rattle.instance_read.specs.Walk.{Reads};
+ghost use Rattle.instance_read.specs.Walk.{ReadsValue};
 
 use crate::ReadFaultKind;
 use crate::fields::{Limits, beyond_limits, has_no_number, next_values, read_numbers, word_count};
@@ -59,7 +59,7 @@ pub struct Task {
 impl Header {
     /// Reads the words of the first line.
     pub fn read(line: &[u8]) -> Result<Header, ReadFaultKind>
-        ensures { Reads (header_fault (words_of line.now)) (IsHeader (words_of line.now)) result }
+        ensures { ReadsValue (header_fault (words_of line.now)) (IsHeader (words_of line.now)) result }
     {
         if word_count(line) != 3 {
             return Err(ReadFaultKind::FieldCount);
@@ -81,7 +81,7 @@ impl Task {
     /// Reads the words of a task's line, after the line of the previous task.
     pub fn read(previous: Option<Task>, number: u64, line: &[u8]) -> Result<Task, ReadFaultKind>
         ensures { let words = words_of line.now in
-            Reads (task_fault previous words)
+            ReadsValue (task_fault previous words)
             (λ task. task ≡ task_from number (value_at words)) result }
     {
         let values = match read_numbers(line, &TASK_LIMITS) {

@@ -1,17 +1,20 @@
-//! CVRPLIB's capacitated routing instances, in TSPLIB95's layout.
+//! The reader of CVRPLIB's capacitated routing instances, in TSPLIB95's layout.
+//!
+//! The lines behind EOF are passed over and not left unread: where a text is cut, the line after the last is told, so
+//! their number is asked anyway.
 ghost use Rattle.std.specs.Prelude.{◌≡◌, ◌+◌, IfOk, IfErr, None, length};
 ghost use Rattle.std.specs.Option.{option_map_or};
 ghost use Rattle.text_lines.specs.Lines.{lines_of};
 ghost use Rattle.instance_read.specs.Drafts.{IsDraft};
-ghost use Rattle.instance_read.specs.Faults.{Tells};
+ghost use Rattle.instance_read.specs.Faults.{TellsFirstFault};
 ghost use Rattle.instance_read.specs.Vrp.{SpellsVrp, VrpFault, is_inside};
 ghost use Rattle.instance_read.specs.VrpLines.{end_from};
 ghost use Rattle.instance_read.specs.VrpWalk.{HasNoLineFault, Knows, TellsLine, draft_lacks_key, placed_rows};
-ghost use Rattle.instance_read.specs.declared.vrp_lines.Place.TheVariants.{Outside};
+ghost use Rattle.instance_read.specs.declared.vrp_lines.Section.TheVariants.{Outside};
 
 use crate::rows::NumberedLines;
 use crate::vrp_draft::Draft;
-use crate::vrp_lines::{Key, Place};
+use crate::vrp_lines::{Key, Section};
 use crate::vrp_problem::problem_of;
 use crate::{ReadFault, ReadFaultKind};
 use plan_types::Problem;
@@ -31,7 +34,7 @@ use text_lines::Lines;
 /// `DepotNotFirst`.
 pub fn read_vrp(alloc: Global, text: &[u8]) -> Result<Problem, ReadFault>
     ensures value { IfOk result (SpellsVrp text.now) }
-    ensures fault { IfErr result (Tells (VrpFault text.now)) }
+    ensures fault { IfErr result (TellsFirstFault (VrpFault text.now)) }
 {
     let (draft, place) = read_lines(alloc, NumberedLines::new(text))?;
     if is_inside(place) {
@@ -50,7 +53,7 @@ pub fn read_vrp(alloc: Global, text: &[u8]) -> Result<Problem, ReadFault>
 }
 
 // What the lines say, and the place behind them.
-fn read_lines(alloc: Global, lines: NumberedLines<'_>) -> Result<(Draft, Place), ReadFault>
+fn read_lines(alloc: Global, lines: NumberedLines<'_>) -> Result<(Draft, Section), ReadFault>
     ensures ok { let placed = placed_rows lines.entry in IfOk result (λ r. Knows placed r.0
         × IsDraft r.0
         × HasNoLineFault placed
@@ -58,7 +61,7 @@ fn read_lines(alloc: Global, lines: NumberedLines<'_>) -> Result<(Draft, Place),
     ensures err { IfErr result (TellsLine (placed_rows lines.entry)) }
 {
     let mut draft = Draft::new(alloc);
-    let mut place = Place::Outside;
+    let mut place = Section::Outside;
     for line in lines {
         match draft.take(alloc, place, &line) {
             Ok(next) => place = next,
@@ -68,10 +71,10 @@ fn read_lines(alloc: Global, lines: NumberedLines<'_>) -> Result<(Draft, Place),
     Ok((draft, place))
 }
 
-fn is_inside(place: Place) -> bool
+fn is_inside(place: Section) -> bool
     ensures { result ≡ is_inside place }
 {
-    !matches!(place, Place::Outside | Place::AfterEnd)
+    !matches!(place, Section::Outside | Section::AfterEnd)
 }
 
 // Whether one is missing that each text has.

@@ -11,7 +11,7 @@ use crate::vrp_fields::{
     expect_word, open_section, read_capacity, read_coordinates, read_demand, read_depots,
     read_dimension,
 };
-use crate::vrp_lines::{KEYS, Key, Place, read_key};
+use crate::vrp_lines::{KEYS, Key, Section, read_key};
 use std::alloc::Global;
 
 /// What the lines so far have said.
@@ -31,7 +31,7 @@ pub struct Draft {
 
 impl Draft {
     ghost use Rattle.std.specs.Prelude.{◌≡◌};
-    ghost use Rattle.instance_read.specs.Drafts.{IsDraft, FitsPlace, Takes, TakesKey, TakesTo, TellsKind, line_fault, has_seen, unnumbered, with_key, nodes_in, is_taken, node_index};
+    ghost use Rattle.instance_read.specs.Drafts.{IsDraft, FitsSection, Takes, TakesKey, TakesTo, TellsKind, line_fault, has_seen, unnumbered, with_key, nodes_in, is_taken, node_index};
     ghost use Rattle.std.specs.Prelude.{[]};
     ghost use Rattle.instance_read.specs.RowViews.{row_view};
     ghost use Rattle.instance_read.specs.VrpWalk.{Knows};
@@ -57,40 +57,40 @@ impl Draft {
     pub fn take(
         &mut self,
         alloc: Global,
-        place: Place,
+        place: Section,
         line: &NumberedLine<'_>,
-    ) -> Result<Place, ReadFaultKind>
+    ) -> Result<Section, ReadFaultKind>
         requires draft { IsDraft self.old }
-        requires place { FitsPlace place self.old }
+        requires place { FitsSection place self.old }
         ensures ok { IfOk result (TakesTo self.old (row_view line.now) place self.new) }
         ensures err { IfErr result (TellsKind (line_fault self.old (row_view line.now) place)) }
     {
         match place {
-            Place::Outside => self.take_key(alloc, line),
-            Place::CoordinateLine(left) => {
+            Section::Outside => self.take_key(alloc, line),
+            Section::CoordinateLine(left) => {
                 self.take_coordinates(line.text)?;
-                Ok(Place::with_coordinates(left - 1))
+                Ok(Section::with_coordinates(left - 1))
             }
-            Place::DemandLine(left) => {
+            Section::DemandLine(left) => {
                 self.take_demand(line.text)?;
-                Ok(Place::with_demands(left - 1))
+                Ok(Section::with_demands(left - 1))
             }
-            Place::DepotLine(seen) => {
+            Section::DepotLine(seen) => {
                 read_depots(seen, line.text)?;
-                Ok(Place::after_depots(seen, word_count(line.text)))
+                Ok(Section::after_depots(seen, word_count(line.text)))
             }
-            Place::AfterEnd => Ok(Place::AfterEnd),
+            Section::AfterEnd => Ok(Section::AfterEnd),
         }
     }
 
-    fn take_key(&mut self, alloc: Global, line: &NumberedLine<'_>) -> Result<Place, ReadFaultKind>
+    fn take_key(&mut self, alloc: Global, line: &NumberedLine<'_>) -> Result<Section, ReadFaultKind>
         requires { IsDraft self.old }
-        ensures ok { IfOk result (TakesTo self.old (row_view line.now) Place.Outside self.new) }
+        ensures ok { IfOk result (TakesTo self.old (row_view line.now) Section.Outside self.new) }
         ensures err { IfErr result
-            (TellsKind (line_fault self.old (row_view line.now) Place.Outside)) }
+            (TellsKind (line_fault self.old (row_view line.now) Section.Outside)) }
     {
         let (key, value) = read_key(line.text);
-        let next = Place::after_key(self.nodes, key);
+        let next = Section::after_key(self.nodes, key);
         let stands = self.mark(key);
         self.take_value(alloc, key, stands, value, line.number)?;
         Ok(next)
@@ -143,6 +143,7 @@ impl Draft {
         stands
     }
 
+    /// Whether a key stood.
     pub fn has_seen(&self, key: Key) -> bool
         requires { IsDraft self.now }
         ensures { result ≡ has_seen self.now key }
@@ -161,9 +162,9 @@ impl Draft {
         requires draft { IsDraft self.old }
         requires fits { length self.old.coordinates.items ≡ nodes_in self.old }
         ensures ok { IfOk result
-            (λ _. Takes self.old (unnumbered text.now) (Place.CoordinateLine 0) self.new) }
+            (λ _. Takes self.old (unnumbered text.now) (Section.CoordinateLine 0) self.new) }
         ensures err { IfErr result
-            (IsFirstKind (line_fault self.old (unnumbered text.now) (Place.CoordinateLine 0))) }
+            (IsFirstKind (line_fault self.old (unnumbered text.now) (Section.CoordinateLine 0))) }
     {
         let (node, point) = read_coordinates(self.nodes.unwrap_or(0), text)?;
         let entry = &mut self.coordinates[node as usize - 1];
@@ -178,9 +179,9 @@ impl Draft {
         requires draft { IsDraft self.old }
         requires fits { length self.old.demands.items ≡ nodes_in self.old }
         ensures ok { IfOk result
-            (λ _. Takes self.old (unnumbered text.now) (Place.DemandLine 0) self.new) }
+            (λ _. Takes self.old (unnumbered text.now) (Section.DemandLine 0) self.new) }
         ensures err { IfErr result
-            (IsFirstKind (line_fault self.old (unnumbered text.now) (Place.DemandLine 0))) }
+            (IsFirstKind (line_fault self.old (unnumbered text.now) (Section.DemandLine 0))) }
     {
         let (node, demand) = read_demand(self.nodes.unwrap_or(0), text)?;
         let entry = &mut self.demands[node as usize - 1];

@@ -7,7 +7,7 @@ ghost use Rattle.text_lines.specs.Words.{words_of};
 ghost use Rattle.plan_types.specs.Limits.{IsCapacity, IsCoordinate, IsDemand};
 ghost use Rattle.instance_read.specs.Fields.{field, has_no_number, value_at};
 ghost use Rattle.instance_read.specs.Vrp.{capacity_fault, coordinate_limits, demand_limits, depot_fault, dimension_fault, goes_on_after_end, is_end, is_other, most_nodes, node_fault, opening_fault, spelling_fault};
-ghost use Rattle.instance_read.specs.Walk.{HasNoKind, IsFirstKind, Passes, Reads};
+ghost use Rattle.instance_read.specs.Walk.{HasNoKind, IsFirstKind, Passes, ReadsValue};
 
 use crate::ReadFaultKind;
 use crate::fields::{Limits, beyond_limits, has_no_number, read_numbers};
@@ -29,7 +29,7 @@ const COORDINATE: Limits = (-MAX_COORDINATE, MAX_COORDINATE);
 /// The number of nodes that the value of a DIMENSION announces, where one may stand before it.
 pub fn read_dimension(stands: bool, value: &[u8]) -> Result<u32, ReadFaultKind>
     ensures read { let words = words_of value.now in
-        Reads (dimension_fault stands words) (λ n. n ≡ unsigned_abs (value_at words 0)) result }
+        ReadsValue (dimension_fault stands words) (λ n. n ≡ unsigned_abs (value_at words 0)) result }
     ensures within { IfOk result (λ n. (2 ≤ n) × (n ≤ most_nodes)) }
 {
     let [nodes] = match read_numbers(value, &[DIMENSION]) {
@@ -46,7 +46,7 @@ pub fn read_dimension(stands: bool, value: &[u8]) -> Result<u32, ReadFaultKind>
 /// The capacity that the value of a CAPACITY gives, where one may stand before it.
 pub fn read_capacity(stands: bool, value: &[u8]) -> Result<u32, ReadFaultKind>
     ensures read { let words = words_of value.now in
-        Reads (capacity_fault stands words) (λ n. n ≡ unsigned_abs (value_at words 0)) result }
+        ReadsValue (capacity_fault stands words) (λ n. n ≡ unsigned_abs (value_at words 0)) result }
     ensures within { IfOk result IsCapacity }
 {
     let [capacity] = read_numbers(value, &[CAPACITY])?;

@@ -1,4 +1,8 @@
-//! The lines of a `.vrp` text.
+//! The lines of a `.vrp` text: keys with their values, and the sections that follow some keys.
+//!
+//! A section of nodes is over with its last line, whatever that line says, so a line beyond it is outside the sections.
+//! Beside std's functions stand `trim_blanks_end` (`trim_ascii_end` trims more bytes) and `ends_in` (a suffix in any
+//! letter case).
 ghost use Rattle.std.specs.Prelude.{◌≡◌, ◌-◌, ◌<◌, ◌≤◌, codes, length, take, IfSome, MatchOption};
 ghost use Rattle.std.specs.List.{position_or_len, suffix_len};
 ghost use Rattle.std.specs.Str.{str_eq_ignore_ascii_case};
@@ -54,7 +58,7 @@ impl Key {
 
 /// Where a line stands.
 #[derive(Clone, Copy, PartialEq, Eq)]
-pub enum Place {
+pub enum Section {
     Outside,
     /// In the section of coordinates or of demands, of which so many lines are left, with this one.
     CoordinateLine(u32),
@@ -64,54 +68,54 @@ pub enum Place {
     AfterEnd,
 }
 
-impl Place {
+impl Section {
     ghost use Rattle.std.specs.Prelude.{◌+◌};
     ghost use Rattle.instance_read.specs.VrpLines.{coordinates_left, demands_left, depots_after, place_after_key};
 
     /// The place of the next line, where so many lines of the section of coordinates are left.
-    pub fn with_coordinates(left: u32) -> Place
+    pub fn with_coordinates(left: u32) -> Section
         ensures { result ≡ coordinates_left left }
     {
         if left == 0 {
-            Place::Outside
+            Section::Outside
         } else {
-            Place::CoordinateLine(left)
+            Section::CoordinateLine(left)
         }
     }
 
     /// The same of the section of demands.
-    pub fn with_demands(left: u32) -> Place
+    pub fn with_demands(left: u32) -> Section
         ensures { result ≡ demands_left left }
     {
         if left == 0 {
-            Place::Outside
+            Section::Outside
         } else {
-            Place::DemandLine(left)
+            Section::DemandLine(left)
         }
     }
 
     /// The place after a line of the list of depots, with so many words after those seen.
-    pub fn after_depots(seen: usize, words: usize) -> Place
+    pub fn after_depots(seen: usize, words: usize) -> Section
         requires { seen < 2 }
         ensures { result ≡ depots_after (seen + words) }
     {
         if words < 2 - seen {
-            Place::DepotLine(seen + words)
+            Section::DepotLine(seen + words)
         } else {
-            Place::Outside
+            Section::Outside
         }
     }
 
     /// The place after a line outside the sections, where so many nodes are announced.
-    pub fn after_key(nodes: Option<u32>, key: Key) -> Place
+    pub fn after_key(nodes: Option<u32>, key: Key) -> Section
         ensures { result ≡ place_after_key nodes key }
     {
         match (nodes, key) {
-            (Some(nodes), Key::Coordinates) => Place::with_coordinates(nodes),
-            (Some(nodes), Key::Demands) => Place::with_demands(nodes),
-            (_, Key::Depots) => Place::DepotLine(0),
-            (_, Key::End) => Place::AfterEnd,
-            _ => Place::Outside,
+            (Some(nodes), Key::Coordinates) => Section::with_coordinates(nodes),
+            (Some(nodes), Key::Demands) => Section::with_demands(nodes),
+            (_, Key::Depots) => Section::DepotLine(0),
+            (_, Key::End) => Section::AfterEnd,
+            _ => Section::Outside,
         }
     }
 }
@@ -125,7 +129,7 @@ pub fn read_key(text: &[u8]) -> (Key, &[u8])
     (key_from(key, trim_blanks(text)), value)
 }
 
-/// What stands before the first colon, or all where there is none, and what stands after it.
+// What stands before the first colon, or all where there is none, and what stands after it.
 fn split_key(line: &[u8]) -> (&[u8], &[u8])
     ensures key { result.0.now ≡ key_text line.now }
     ensures value { result.1.now ≡ value_text line.now }
@@ -145,7 +149,7 @@ fn colon_place(line: &[u8]) -> Option<usize>
     line.iter().position(|byte| *byte == b':')
 }
 
-/// The line without the blanks and tabs at both ends.
+// The line without the blanks and tabs at both ends.
 fn trim_blanks(line: &[u8]) -> &[u8]
     ensures { result.now ≡ trimmed line.now }
 {
@@ -162,7 +166,7 @@ fn trim_blanks_end(text: &[u8]) -> &[u8]
     rest
 }
 
-/// The key that stands before the colon of this line.
+// The key that stands before the colon of this line.
 fn key_from(key: &[u8], line: &[u8]) -> Key
     ensures { result ≡ key_from key.now line.now }
 {

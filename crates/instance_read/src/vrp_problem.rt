@@ -1,4 +1,6 @@
 //! The problem that a `.vrp` text spells, from what its lines say.
+//!
+//! A text without a fault has one line for each node; definitions look for the first line of a section with that node.
 ghost use Rattle.std.specs.Prelude.{◌≡◌, ◌<◌, ◌≤◌, ◌+◌, ◌-◌, IfOk, IfErr, OnOk, [], true, is_some, pos};
 ghost use Rattle.plan_types.specs.Instance.{IsInstance, new_instance};
 ghost use Rattle.plan_types.specs.Limits.{IsDemand};

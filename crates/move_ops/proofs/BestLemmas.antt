@@ -5,7 +5,7 @@ use Rattle.std.specs.Option.{MatchOption}
 use Rattle.std.proofs.lemmas.Bool.{and_from, and_parts, or_cases, cases_order, cases_lt, eq-eqb, eqb-true, ltb-true, lt-ltb, leb-true, le-leb}
 use Rattle.plan_types.specs.Cost.{cost_below, cost_at_most, CostsAreTotal, CostsAreTransitive, BelowThenAtMost, AtMostThenBelow, BelowIsAtMost}
 use Rattle.plan_types.specs.declared.plans.Cost.{Cost}
-use Rattle.move_ops.specs.Insertion.{Place, insertions, insertions_of, is_no_later, is_no_worse, cost_with, better, least_by, best_insertion}
+use Rattle.move_ops.specs.Insertion.{Insertion, insertions, insertions_of, is_no_later, is_no_worse, cost_with, better, least_by, best_insertion}
 use Rattle.move_ops.specs.Laws.{IsBest, BestInsertionsAreLeast, BestInsertionsAreUnique}
 
 module _ {X : Type 0} (at_most : X → X → Bool) (total : (x y : X) → (at_most x y ≡ true) ⊎ (at_most y x ≡ true)) (transitive : (x y z : X) → at_most x y ≡ true → at_most y z ≡ true → at_most x z ≡ true) where
@@ -66,7 +66,7 @@ not_cases false = inr refl
 abbrev pub Behind : ℕ → ℕ → ℕ → ℕ → Type 0
 Behind b c e f = (b < e) ⊎ ((b ≡ e) × (c ≤ f))
 
-abbrev pub Later : Place → Place → Type 0
+abbrev pub Later : Insertion → Insertion → Type 0
 Later x y = (x.0 < y.0) ⊎ ((x.0 ≡ y.0) × Behind x.1 x.2 y.1 y.2)
 
 behind_said : (b c e f : ℕ) → (ltb b e || (eqb b e && leb c f)) ≡ true → Behind b c e f
@@ -81,7 +81,7 @@ said_behind b c e f h = elim h [
   | inr r ↦ or_right (ltb b e) (eqb b e && leb c f) (and_from (eqb b e) (leb c f) (eq-eqb b e r.0) (le-leb c f r.1))
 ]
 
-later_said : (x y : Place) → is_no_later x y ≡ true → Later x y
+later_said : (x y : Insertion) → is_no_later x y ≡ true → Later x y
 later_said x y h = elim (or_cases (ltb x.0 y.0) (eqb x.0 y.0 && (ltb x.1 y.1 || (eqb x.1 y.1 && leb x.2 y.2))) h) [
   | inl l ↦ inl (ltb-true x.0 y.0 l)
   | inr r ↦ (
@@ -89,7 +89,7 @@ later_said x y h = elim (or_cases (ltb x.0 y.0) (eqb x.0 y.0 && (ltb x.1 y.1 || 
       inr (eqb-true x.0 y.0 both.0, behind_said x.1 x.2 y.1 y.2 both.1))
 ]
 
-pub said_later : (x y : Place) → Later x y → is_no_later x y ≡ true
+pub said_later : (x y : Insertion) → Later x y → is_no_later x y ≡ true
 said_later x y h = elim h [
   | inl l ↦ or_left (ltb x.0 y.0) (eqb x.0 y.0 && (ltb x.1 y.1 || (eqb x.1 y.1 && leb x.2 y.2))) (lt-ltb x.0 y.0 l)
   | inr r ↦ or_right (ltb x.0 y.0) (eqb x.0 y.0 && (ltb x.1 y.1 || (eqb x.1 y.1 && leb x.2 y.2)))
@@ -117,7 +117,7 @@ behind_transitive b c e f g h s t = elim s [
   ]
 ]
 
-later_total : (x y : Place) → (is_no_later x y ≡ true) ⊎ (is_no_later y x ≡ true)
+later_total : (x y : Insertion) → (is_no_later x y ≡ true) ⊎ (is_no_later y x ≡ true)
 later_total x y = elim (cases_order x.0 y.0) [
   | inl same ↦ elim (behind_total x.1 x.2 y.1 y.2) [
     | inl l ↦ inl (said_later x y (inr (same, l)))
@@ -126,7 +126,7 @@ later_total x y = elim (cases_order x.0 y.0) [
   | inr apart ↦ elim apart [ inl l ↦ inl (said_later x y (inl l)) | inr l ↦ inr (said_later y x (inl l)) ]
 ]
 
-later_sentence : (x y z : Place) → Later x y → Later y z → Later x z
+later_sentence : (x y z : Insertion) → Later x y → Later y z → Later x z
 later_sentence x y z s t = elim s [
   | inl l ↦ elim t [
     | inl m ↦ inl (omega arith)
@@ -138,7 +138,7 @@ later_sentence x y z s t = elim s [
   ]
 ]
 
-later_transitive : (x y z : Place) → is_no_later x y ≡ true → is_no_later y z ≡ true → is_no_later x z ≡ true
+later_transitive : (x y z : Insertion) → is_no_later x y ≡ true → is_no_later y z ≡ true → is_no_later x z ≡ true
 later_transitive x y z h k = said_later x z (later_sentence x y z (later_said x y h) (later_said y z k))
 
 behind_both : (b c e f : ℕ) → Behind b c e f → Behind e f b c → (b ≡ e) × (c ≡ f)
@@ -153,17 +153,17 @@ behind_both b c e f s t = elim s [
   ]
 ]
 
-abbrev placed : ℕ → ℕ → ℕ → Place
+abbrev placed : ℕ → ℕ → ℕ → Insertion
 placed v i j = (v, i, j)
 
-same_parts : (x y : Place) → x.0 ≡ y.0 → x.1 ≡ y.1 → x.2 ≡ y.2 → x ≡ y
+same_parts : (x y : Insertion) → x.0 ≡ y.0 → x.1 ≡ y.1 → x.2 ≡ y.2 → x ≡ y
 same_parts x y d e f =
-    let first : ◌≡◌ {A = Place} (x.0, x.1, x.2) (y.0, x.1, x.2) = ap (λ (n : ℕ). placed n x.1 x.2) d in
-    let second : ◌≡◌ {A = Place} (y.0, x.1, x.2) (y.0, y.1, x.2) = ap (λ (n : ℕ). placed y.0 n x.2) e in
-    let third : ◌≡◌ {A = Place} (y.0, y.1, x.2) (y.0, y.1, y.2) = ap (λ (n : ℕ). placed y.0 y.1 n) f in
+    let first : ◌≡◌ {A = Insertion} (x.0, x.1, x.2) (y.0, x.1, x.2) = ap (λ (n : ℕ). placed n x.1 x.2) d in
+    let second : ◌≡◌ {A = Insertion} (y.0, x.1, x.2) (y.0, y.1, x.2) = ap (λ (n : ℕ). placed y.0 n x.2) e in
+    let third : ◌≡◌ {A = Insertion} (y.0, y.1, x.2) (y.0, y.1, y.2) = ap (λ (n : ℕ). placed y.0 y.1 n) f in
     first ∙ (second ∙ third)
 
-same_place : (x y : Place) → Later x y → Later y x → x ≡ y
+same_place : (x y : Insertion) → Later x y → Later y x → x ≡ y
 same_place x y s t = elim s [
   | inl l ↦ elim t [
     | inl m ↦ absurd (omega arith)
@@ -181,10 +181,10 @@ not_both false h k = let e : false ≡ true = h in cc
 
 -- by cost, and then by place
 module _ (costs_total : CostsAreTotal) (costs_transitive : CostsAreTransitive) (below_at_most : BelowThenAtMost) (at_most_below : AtMostThenBelow) (weaken : BelowIsAtMost) where
-  abbrev by_both : Cost → Cost → Place → Place → Bool
+  abbrev by_both : Cost → Cost → Insertion → Insertion → Bool
   by_both a b x y = cost_below a b || (cost_at_most a b && is_no_later x y)
 
-  both_total : (a b : Cost) (x y : Place) → (by_both a b x y ≡ true) ⊎ (by_both b a y x ≡ true)
+  both_total : (a b : Cost) (x y : Insertion) → (by_both a b x y ≡ true) ⊎ (by_both b a y x ≡ true)
   both_total a b x y = elim (not_cases (cost_below a b)) [
     | inl lt ↦ inl (or_left (cost_below a b) (cost_at_most a b && is_no_later x y) lt)
     | inr ge ↦ elim (not_cases (cost_below b a)) [
@@ -196,7 +196,7 @@ module _ (costs_total : CostsAreTotal) (costs_transitive : CostsAreTransitive) (
     ]
   ]
 
-  pub both_transitive : (a b c : Cost) (x y z : Place) → by_both a b x y ≡ true → by_both b c y z ≡ true → by_both a c x z ≡ true
+  pub both_transitive : (a b c : Cost) (x y z : Insertion) → by_both a b x y ≡ true → by_both b c y z ≡ true → by_both a c x z ≡ true
   both_transitive a b c x y z h k = elim (or_cases (cost_below a b) (cost_at_most a b && is_no_later x y) h) [
     | inl lt ↦ or_left (cost_below a c) (cost_at_most a c && is_no_later x z) (elim (or_cases (cost_below b c) (cost_at_most b c && is_no_later y z) k) [
       | inl lt2 ↦ below_at_most a b c lt (weaken b c lt2)
@@ -214,7 +214,7 @@ module _ (costs_total : CostsAreTotal) (costs_transitive : CostsAreTransitive) (
   ]
 
   -- two that are no worse than one another are one
-  both_antisymmetric : (a b : Cost) (x y : Place) → by_both a b x y ≡ true → by_both b a y x ≡ true → x ≡ y
+  both_antisymmetric : (a b : Cost) (x y : Insertion) → by_both a b x y ≡ true → by_both b a y x ≡ true → x ≡ y
   both_antisymmetric a b x y h k = elim (or_cases (cost_below a b) (cost_at_most a b && is_no_later x y) h) [
     | inl less ↦ elim (or_cases (cost_below b a) (cost_at_most b a && is_no_later y x) k) [
       | inl more ↦ absurd (not_both (cost_below a b) less (weaken b a more))
@@ -236,7 +236,7 @@ module _ (costs_total : CostsAreTotal) (costs_transitive : CostsAreTransitive) (
       (least (is_no_worse p routes r) (λ x y. both_total (cost_with p routes r x) (cost_with p routes r y) x y)
       (λ x y z h k. both_transitive (cost_with p routes r x) (cost_with p routes r y) (cost_with p routes r z) x y z h k) (insertions_of p pins routes r)) refl
     where
-      by : (o : Option Place) → MatchOption o (insertions_of p pins routes r ≡ []) (λ x. Contains (insertions_of p pins routes r) x × ((y : Place) → Contains (insertions_of p pins routes r) y → is_no_worse p routes r x y ≡ true))
+      by : (o : Option Insertion) → MatchOption o (insertions_of p pins routes r ≡ []) (λ x. Contains (insertions_of p pins routes r) x × ((y : Insertion) → Contains (insertions_of p pins routes r) y → is_no_worse p routes r x y ≡ true))
           → least_by (is_no_worse p routes r) (insertions_of p pins routes r) ≡ o
           → MatchOption (best_insertion p pins routes name) (insertions p pins routes name ≡ []) (IsBest p pins routes r)
       by None none e = rw (named, e) none

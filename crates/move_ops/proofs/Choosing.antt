@@ -24,7 +24,7 @@ use Rattle.plan_audit.specs.Rules.{item_at}
 use Rattle.slack_tables.specs.Best.{Adds, ComesFirst, IsBestAddition}
 use Rattle.slack_tables.specs.Insertion.{KeepsLimits, ArePlaces, inserted}
 use Rattle.slack_tables.specs.declared.scan.Addition.{Addition}
-use Rattle.move_ops.specs.Insertion.{Place, of_vehicle, are_places, is_place_of, insertions_of, insertions, best_insertion, cost_with, is_no_worse}
+use Rattle.move_ops.specs.Insertion.{Insertion, of_vehicle, are_places, is_place_of, insertions_of, insertions, best_insertion, cost_with, is_no_worse}
 use Rattle.move_ops.specs.Laws.{IsBest, BestInsertionsAreLeast, BestInsertionsAreUnique}
 use Rattle.move_ops.specs.Choosing.{opens, place_found, found_at, IsBestAmong, IsBestUpTo, HasIdle, IsBetterBelow, IsBetter}
 use Rattle.move_ops.specs.declared.tables.Found.{Found}
@@ -74,7 +74,7 @@ from_one (Pair c d) n i j places = let low = places.0 in let order = places.1 in
 module _ (law : NamedAreFound) (stand : RequestsStandByName) (local : PassesAreLocal) (says : TestsSayFeasible) (p : Instance) (pins routes : List (List ℕ)) (valid : IsInstance p)
     (good : passes p pins routes ≡ true) (name : ℕ) (r : Request) (named : lookup (nat_eq name) p.requests ≡ Some r) (free : is_planned routes r ≡ false) where
   -- the request fits into the vehicle's route at places behind its pin
-  pub record Fits (x : Place) : Type 0 where
+  pub record Fits (x : Insertion) : Type 0 where
     pub from : 1 ≤ x.0
     pub within : x.0 ≤ length routes
     pub places : ArePlaces r (length (of_vehicle routes x.0)) x.1 x.2
@@ -87,10 +87,10 @@ module _ (law : NamedAreFound) (stand : RequestsStandByName) (local : PassesAreL
   feasible_at : (v : ℕ) → 1 ≤ v → v ≤ length routes → feasible_alone p (of_vehicle routes v) ≡ true
   feasible_at v from high = (says p (of_vehicle routes v)).1 (all_at (IsFeasibleAlone p) routes v from high ((parts local p pins routes good).feasible))
 
-  some_at : (x : Place) → 1 ≤ x.0 → x.0 ≤ length routes → ArePlaces r (length (of_vehicle routes x.0)) x.1 x.2 → length (inserted r x.1 x.2 (of_vehicle routes x.0)) ≡ 0 → ⊥
+  some_at : (x : Insertion) → 1 ≤ x.0 → x.0 ≤ length routes → ArePlaces r (length (of_vehicle routes x.0)) x.1 x.2 → length (inserted r x.1 x.2 (of_vehicle routes x.0)) ≡ 0 → ⊥
   some_at x from high places = some_new law stand p valid name r named (of_vehicle routes x.0) (away x.0 from high) x.1 x.2 places (feasible_at x.0 from high)
 
-  pub insertion_fits : (x : Place) → Contains (insertions_of p pins routes r) x → Fits x
+  pub insertion_fits : (x : Insertion) → Contains (insertions_of p pins routes r) x → Fits x
   insertion_fits x c =
       let t = listed p pins routes r x (within (insertions_of p pins routes r) x c) in
       let a = and_parts (leb 1 x.0) (leb x.0 (length routes) && are_places r (length (of_vehicle pins x.0)) (length (of_vehicle routes x.0)) x.1 x.2) t.1 in
@@ -108,7 +108,7 @@ module _ (law : NamedAreFound) (stand : RequestsStandByName) (local : PassesAreL
         keeps = limits_alone p (inserted r x.1 x.2 (of_vehicle routes x.0)) (some_at x low high at.0) feasible;
       }
 
-  pub fits_insertion : (x : Place) → Fits x → Contains (insertions_of p pins routes r) x
+  pub fits_insertion : (x : Insertion) → Fits x → Contains (insertions_of p pins routes r) x
   fits_insertion x f =
       let place : is_place_of pins routes r x ≡ true =
       and_from (leb 1 x.0) (leb x.0 (length routes) && are_places r (length (of_vehicle pins x.0)) (length (of_vehicle routes x.0)) x.1 x.2) (le-leb 1 x.0 (f.from))
@@ -120,13 +120,13 @@ module _ (law : NamedAreFound) (stand : RequestsStandByName) (local : PassesAreL
       (to_list p pins routes r x free place (passes_where_feasible law local says p pins routes valid good name r named free x place true (sym feasible)))
 
   -- the distance that is added
-  abbrev pub gain : Place → ℤ
+  abbrev pub gain : Insertion → ℤ
   gain x = pos (route_length p (inserted r x.1 x.2 (of_vehicle routes x.0))) -ℤ pos (route_length p (of_vehicle routes x.0))
 
   gain_is : (a b : ℕ) → pos a ≡ pos b +ℤ (pos a -ℤ pos b)
   gain_is a b = omega (arith, ints)
 
-  pub priced : (x : Place) → Fits x → IsPriced p routes r x (opens p.kind (of_vehicle routes x.0)) (gain x)
+  pub priced : (x : Insertion) → Fits x → IsPriced p routes r x (opens p.kind (of_vehicle routes x.0)) (gain x)
   priced x f = record {
     from = f.from;
     within = f.within;
@@ -136,7 +136,7 @@ module _ (law : NamedAreFound) (stand : RequestsStandByName) (local : PassesAreL
   }
 
   -- in a route of not too many stops the distance added is far below the greatest number
-  pub gain_small : (x : Place) → length (inserted r x.1 x.2 (of_vehicle routes x.0)) ≤ 40003 → gain x <ℤ pos 9223372036854775807
+  pub gain_small : (x : Insertion) → length (inserted r x.1 x.2 (of_vehicle routes x.0)) ≤ 40003 → gain x <ℤ pos 9223372036854775807
   gain_small x few =
       let h = route_small p valid (inserted r x.1 x.2 (of_vehicle routes x.0)) in
       by (route_length p (inserted r x.1 x.2 (of_vehicle routes x.0))) (route_length p (of_vehicle routes x.0)) (omega arith)
@@ -180,25 +180,25 @@ module _ (law : NamedAreFound) (stand : RequestsStandByName) (local : PassesAreL
     (costs_total : CostsAreTotal) (costs_transitive : CostsAreTransitive) (below_at_most : BelowThenAtMost) (at_most_below : AtMostThenBelow) (weaken : BelowIsAtMost)
     (p : Instance) (pins routes : List (List ℕ)) (valid : IsInstance p)
     (good : passes p pins routes ≡ true) (name : ℕ) (r : Request) (named : lookup (nat_eq name) p.requests ≡ Some r) (free : is_planned routes r ≡ false) where
-  abbrev IsFit : Place → Type 0
+  abbrev IsFit : Insertion → Type 0
   IsFit x = Fits law stand local says p pins routes valid good name r named free x
 
-  abbrev adds : Place → ℤ
+  abbrev adds : Insertion → ℤ
   adds x = gain law stand local says p pins routes valid good name r named free x
 
-  fit : (x : Place) → Contains (insertions_of p pins routes r) x → IsFit x
+  fit : (x : Insertion) → Contains (insertions_of p pins routes r) x → IsFit x
   fit x c = insertion_fits law stand local says p pins routes valid good name r named free x c
 
-  listed_fit : (x : Place) → IsFit x → Contains (insertions_of p pins routes r) x
+  listed_fit : (x : Insertion) → IsFit x → Contains (insertions_of p pins routes r) x
   listed_fit x f = fits_insertion law stand local says p pins routes valid good name r named free x f
 
-  price : (x : Place) → IsFit x → IsPriced p routes r x (opens p.kind (of_vehicle routes x.0)) (adds x)
+  price : (x : Insertion) → IsFit x → IsPriced p routes r x (opens p.kind (of_vehicle routes x.0)) (adds x)
   price x f = priced law stand local says p pins routes valid good name r named free x f
 
-  no_worse_than : (x y : Place) (a b : Bool) (d e : ℤ) → IsPriced p routes r x a d → IsPriced p routes r y b e → Ahead p routes r x a d y b e → is_no_worse p routes r x y ≡ true
+  no_worse_than : (x y : Insertion) (a b : Bool) (d e : ℤ) → IsPriced p routes r x a d → IsPriced p routes r y b e → Ahead p routes r x a d y b e → is_no_worse p routes r x y ≡ true
   no_worse_than x y a b d e one two ahead = no_worse p routes r below_tells at_most_tells x y a b d e one two ahead
 
-  follow : (x y z : Place) → is_no_worse p routes r x y ≡ true → is_no_worse p routes r y z ≡ true → is_no_worse p routes r x z ≡ true
+  follow : (x y z : Insertion) → is_no_worse p routes r x y ≡ true → is_no_worse p routes r y z ≡ true → is_no_worse p routes r x z ≡ true
   follow x y z h k =
       both_transitive costs_total costs_transitive below_at_most at_most_below weaken (cost_with p routes r x) (cost_with p routes r y) (cost_with p routes r z) x y z h k
 
@@ -238,7 +238,7 @@ module _ (law : NamedAreFound) (stand : RequestsStandByName) (local : PassesAreL
     pinned = length (of_vehicle pins v)
 
     -- an insertion at this vehicle, as an addition to its route
-    here : (y : Place) (below : ℤ) → IsFit y → y.0 ≡ v → adds y <ℤ below → Adds p old_route r pinned below (record { distance = adds y; pickup = y.1; delivery = y.2 })
+    here : (y : Insertion) (below : ℤ) → IsFit y → y.0 ≡ v → adds y <ℤ below → Adds p old_route r pinned below (record { distance = adds y; pickup = y.1; delivery = y.2 })
     here y below f same less =
         subst (λ u. Adds p (of_vehicle routes u) r (length (of_vehicle pins u)) below (record { distance = adds y; pickup = y.1; delivery = y.2 })) same
         (record { places = f.places; behind = f.behind; added = (f.keeps, (price y f).added); cheaper = less })
@@ -252,17 +252,17 @@ module _ (law : NamedAreFound) (stand : RequestsStandByName) (local : PassesAreL
         let plain = price (v, a.pickup, a.delivery) at in
         record { from = at.from; within = at.within; some = plain.some; opens = is_open; added = (is.added).1 }
 
-    price_at : (y : Place) (o : Bool) → opens p.kind old_route ≡ o → IsFit y → y.0 ≡ v → IsPriced p routes r y o (adds y)
+    price_at : (y : Insertion) (o : Bool) → opens p.kind old_route ≡ o → IsFit y → y.0 ≡ v → IsPriced p routes r y o (adds y)
     price_at y o is_open f same =
         let plain = price y f in
         record { from = f.from; within = f.within; some = plain.some; opens = ap (λ u. opens p.kind (of_vehicle routes u)) same ∙ is_open; added = plain.added }
 
     -- with a bound that tells what is better than the best so far
     module _ (few : length old_route ≤ 40001) (o : Bool) (is_open : opens p.kind old_route ≡ o) (best : Option Found) (old : IsBestUpTo p pins routes r k best) (below : ℤ)
-        (beats : (f : Found) → best ≡ Some f → (d : ℤ) → d <ℤ below → (x y : Place) → Ahead p routes r x o d y f.opens f.addition.distance)
-        (keeps_up : (f : Found) → best ≡ Some f → (y : Place) → f.vehicle < y.0 → adds y <ℤ pos 9223372036854775807 → below ≤ℤ adds y → Ahead p routes r (place_found f) f.opens f.addition.distance y o (adds y))
-        (all_below : best ≡ None → (y : Place) → adds y <ℤ pos 9223372036854775807 → adds y <ℤ below) where
-      small : (y : Place) → IsFit y → y.0 ≡ v → adds y <ℤ pos 9223372036854775807
+        (beats : (f : Found) → best ≡ Some f → (d : ℤ) → d <ℤ below → (x y : Insertion) → Ahead p routes r x o d y f.opens f.addition.distance)
+        (keeps_up : (f : Found) → best ≡ Some f → (y : Insertion) → f.vehicle < y.0 → adds y <ℤ pos 9223372036854775807 → below ≤ℤ adds y → Ahead p routes r (place_found f) f.opens f.addition.distance y o (adds y))
+        (all_below : best ≡ None → (y : Insertion) → adds y <ℤ pos 9223372036854775807 → adds y <ℤ below) where
+      small : (y : Insertion) → IsFit y → y.0 ≡ v → adds y <ℤ pos 9223372036854775807
       small y f same =
           let e = few_more r y.1 y.2 (of_vehicle routes y.0) in
           let g = ap (λ u. length (of_vehicle routes u)) same in
@@ -311,7 +311,7 @@ module _ (law : NamedAreFound) (stand : RequestsStandByName) (local : PassesAreL
         ];
       }
         where
-          before : (b : Option Found) → best ≡ b → IsBestUpTo p pins routes r k b → (y : Place) → Contains (insertions_of p pins routes r) y → y.0 ≤ k → is_no_worse p routes r (v, a.pickup, a.delivery) y ≡ true
+          before : (b : Option Found) → best ≡ b → IsBestUpTo p pins routes r k b → (y : Insertion) → Contains (insertions_of p pins routes r) y → y.0 ≤ k → is_no_worse p routes r (v, a.pickup, a.delivery) y ≡ true
           before None is none y c less = absurd (none y c less)
           before (Some g) is was y c less =
               follow (v, a.pickup, a.delivery) (place_found g) y
@@ -333,10 +333,10 @@ module _ (law : NamedAreFound) (stand : RequestsStandByName) (local : PassesAreL
           ahead_of : (g : Found) → Some f ≡ Some g → g.opens ≡ f.opens
           ahead_of g is = ap (λ (h : Found). h.opens) (sym (some_same f g is))
 
-          below_found : (o : Bool) → f.opens ≡ o → (g : Found) → Some f ≡ Some g → (d : ℤ) → d <ℤ f.addition.distance → (x y : Place) → Ahead p routes r x o d y g.opens g.addition.distance
+          below_found : (o : Bool) → f.opens ≡ o → (g : Found) → Some f ≡ Some g → (d : ℤ) → d <ℤ f.addition.distance → (x y : Insertion) → Ahead p routes r x o d y g.opens g.addition.distance
           below_found o same g is d less x y = subst (λ (h : Found). Ahead p routes r x o d y h.opens h.addition.distance) (some_same f g is) (inr (sym same, inl less))
 
-          no_less : (o : Bool) → f.opens ≡ o → (g : Found) → Some f ≡ Some g → (y : Place) → g.vehicle < y.0 → adds y <ℤ pos 9223372036854775807 → f.addition.distance ≤ℤ adds y → Ahead p routes r (place_found g) g.opens g.addition.distance y o (adds y)
+          no_less : (o : Bool) → f.opens ≡ o → (g : Found) → Some f ≡ Some g → (y : Insertion) → g.vehicle < y.0 → adds y <ℤ pos 9223372036854775807 → f.addition.distance ≤ℤ adds y → Ahead p routes r (place_found g) g.opens g.addition.distance y o (adds y)
           no_less o same g is y before little le =
               subst (λ (h : Found). Ahead p routes r (place_found h) h.opens h.addition.distance y o (adds y)) (some_same f g is)
               (by_lt_z {P = Ahead p routes r (place_found f) f.opens f.addition.distance y o (adds y)} f.addition.distance (adds y) (λ less. inr (same, inl less))
@@ -378,7 +378,7 @@ module _ (law : NamedAreFound) (stand : RequestsStandByName) (local : PassesAreL
         alike = no_stops (of_vehicle routes idle.0) old_route idle.4 none
 
         -- the same places at the earlier vehicle
-        other : (y : Place) → IsFit y → y.0 ≡ v → IsFit (idle.0, y.1, y.2)
+        other : (y : Insertion) → IsFit y → y.0 ≡ v → IsFit (idle.0, y.1, y.2)
         other y f same =
             let one : of_vehicle routes y.0 ≡ of_vehicle routes idle.0 = ap (of_vehicle routes) same ∙ sym alike in
             let pin = pin_within local p pins routes good idle.0 in
@@ -394,7 +394,7 @@ module _ (law : NamedAreFound) (stand : RequestsStandByName) (local : PassesAreL
             }
 
         -- are no worse
-        before : (y : Place) (f : IsFit y) (same : y.0 ≡ v) → is_no_worse p routes r (idle.0, y.1, y.2) y ≡ true
+        before : (y : Insertion) (f : IsFit y) (same : y.0 ≡ v) → is_no_worse p routes r (idle.0, y.1, y.2) y ≡ true
         before y f same =
             let one : of_vehicle routes idle.0 ≡ of_vehicle routes y.0 = alike ∙ ap (of_vehicle routes) (sym same) in
             let seen = idle.2 in
@@ -428,19 +428,19 @@ module _ (law : NamedAreFound) (stand : RequestsStandByName) (local : PassesAreL
   pub answer_is : BestInsertionsAreLeast → BestInsertionsAreUnique → (k : ℕ) → k ≡ length routes → (answer : Option Found) → IsBestUpTo p pins routes r k answer → option_map place_found answer ≡ best_insertion p pins routes name
   answer_is least unique k all answer up = by_best (best_insertion p pins routes name) refl (least p pins routes name r named)
     where
-      all_seen : (x : Place) → Contains (insertions_of p pins routes r) x → x.0 ≤ k
+      all_seen : (x : Insertion) → Contains (insertions_of p pins routes r) x → x.0 ≤ k
       all_seen x c = let f = fit x c in let high = f.within in omega arith
 
-      nothing : insertions p pins routes name ≡ [] → (x : Place) → Contains (insertions_of p pins routes r) x → ⊥
+      nothing : insertions p pins routes name ≡ [] → (x : Insertion) → Contains (insertions_of p pins routes r) x → ⊥
       nothing none x c =
           let same : insertions p pins routes name ≡ insertions_of p pins routes r = ap (λ (o : Option Request). option_map_or (insertions_of p pins routes) o []) named in
-          within [] x (subst (λ (l : List Place). Contains l x) (sym same ∙ none) c)
+          within [] x (subst (λ (l : List Insertion). Contains l x) (sym same ∙ none) c)
 
-      by : (a : Option Found) (o : Option Place) → IsBestUpTo p pins routes r k a → best_insertion p pins routes name ≡ o → MatchOption o (insertions p pins routes name ≡ []) (IsBest p pins routes r) → option_map place_found a ≡ o
+      by : (a : Option Found) (o : Option Insertion) → IsBestUpTo p pins routes r k a → best_insertion p pins routes name ≡ o → MatchOption o (insertions p pins routes name ≡ []) (IsBest p pins routes r) → option_map place_found a ≡ o
       by None None up is best = refl
       by None (Some x) up is best = absurd (up x (best.among) (all_seen x (best.among)))
       by (Some f) None up is none = absurd (nothing none (place_found f) (up.among))
       by (Some f) (Some x) up is best = ap Some (unique p pins routes r (place_found f) x (record { among = up.among; least = λ y c. up.least y c (all_seen y c) }) best)
 
-      by_best : (o : Option Place) → best_insertion p pins routes name ≡ o → MatchOption o (insertions p pins routes name ≡ []) (IsBest p pins routes r) → option_map place_found answer ≡ best_insertion p pins routes name
+      by_best : (o : Option Insertion) → best_insertion p pins routes name ≡ o → MatchOption o (insertions p pins routes name ≡ []) (IsBest p pins routes r) → option_map place_found answer ≡ best_insertion p pins routes name
       by_best o is best = by answer o up is best ∙ sym is

@@ -16,7 +16,7 @@ use Rattle.plan_types.specs.declared.requests.Kind.TheVariants.{LiLim, Vrp}
 use Rattle.route_sched.specs.Cost.{has_stop, is_planned, unplanned_count, vehicle_count, total_length}
 use Rattle.route_sched.specs.Schedule.{route_length}
 use Rattle.slack_tables.specs.Insertion.{inserted}
-use Rattle.move_ops.specs.Insertion.{Place, of_vehicle, with_route, with_request_at, cost_with, is_no_later, is_no_worse}
+use Rattle.move_ops.specs.Insertion.{Insertion, of_vehicle, with_route, with_request_at, cost_with, is_no_later, is_no_worse}
 use Rattle.move_ops.specs.Changes.{used}
 use Rattle.move_ops.specs.Choosing.{opens}
 use Rattle.move_ops.proofs.Times.{times}
@@ -46,13 +46,13 @@ module _ (xs ys : List (List ℕ)) (same : (n : ℕ) → times n (concat xs) ≡
 
 module _ (p : Instance) (routes : List (List ℕ)) (r : Request) where
   -- the plan with the request has each number as often, wherever it is put
-  pub often_with : (x : Place) → 1 ≤ x.0 → x.0 ≤ length routes → (n : ℕ) → times n (concat (with_request_at routes r x)) ≡ times n (concat routes) + times n (numbers_of r)
+  pub often_with : (x : Insertion) → 1 ≤ x.0 → x.0 ≤ length routes → (n : ℕ) → times n (concat (with_request_at routes r x)) ≡ times n (concat routes) + times n (numbers_of r)
   often_with x from within n =
       let e = times_with n routes x.0 (inserted r x.1 x.2 (of_vehicle routes x.0)) from within in
       let f = times_inserted n r x.1 x.2 (of_vehicle routes x.0) in
       omega arith
 
-  unplanned_with : (x y : Place) → 1 ≤ x.0 → x.0 ≤ length routes → 1 ≤ y.0 → y.0 ≤ length routes → (cost_with p routes r x).unplanned ≡ (cost_with p routes r y).unplanned
+  unplanned_with : (x y : Insertion) → 1 ≤ x.0 → x.0 ≤ length routes → 1 ≤ y.0 → y.0 ≤ length routes → (cost_with p routes r x).unplanned ≡ (cost_with p routes r y).unplanned
   unplanned_with x y from within low high =
       unplanned_same (with_request_at routes r x) (with_request_at routes r y) (λ n. often_with x from within n ∙ sym (often_with y low high n)) p
 
@@ -94,11 +94,11 @@ or_right true b h = refl
 or_right false b h = h
 
 module _ (p : Instance) (routes : List (List ℕ)) (r : Request) where
-  abbrev pub new_route : Place → List ℕ
+  abbrev pub new_route : Insertion → List ℕ
   new_route x = inserted r x.1 x.2 (of_vehicle routes x.0)
 
   -- what counts of the plan with the request put in there: whether it opens a vehicle, and what is added
-  pub record IsPriced (x : Place) (o : Bool) (d : ℤ) : Type 0 where
+  pub record IsPriced (x : Insertion) (o : Bool) (d : ℤ) : Type 0 where
     pub from : 1 ≤ x.0
     pub within : x.0 ≤ length routes
     pub some : length (new_route x) ≡ 0 → ⊥
@@ -106,20 +106,20 @@ module _ (p : Instance) (routes : List (List ℕ)) (r : Request) where
     pub added : pos (route_length p (new_route x)) ≡ pos (route_length p (of_vehicle routes x.0)) +ℤ d
 
   -- a comes no later than b: fewer vehicles, or as many and less is added, or as much and the place is no later
-  abbrev pub Ahead : Place → Bool → ℤ → Place → Bool → ℤ → Type 0
+  abbrev pub Ahead : Insertion → Bool → ℤ → Insertion → Bool → ℤ → Type 0
   Ahead x a d y b e = ((a ≡ false) × (b ≡ true)) ⊎ ((a ≡ b) × ((d <ℤ e) ⊎ ((d ≡ e) × (is_no_later x y ≡ true))))
 
-  distance_with : (x : Place) (o : Bool) (d : ℤ) → IsPriced x o d → pos (cost_with p routes r x).distance ≡ pos (total_length p routes) +ℤ d
+  distance_with : (x : Insertion) (o : Bool) (d : ℤ) → IsPriced x o d → pos (cost_with p routes r x).distance ≡ pos (total_length p routes) +ℤ d
   distance_with x o d is =
       let e = replaced (route_length p) routes x.0 (new_route x) (is.from) (is.within) in
       let f = is.added in
       omega (arith, ints)
 
-  used_with : (x : Place) (o : Bool) (d : ℤ) → IsPriced x o d → (cost_with p routes r x).vehicles ≡ vehicle_count p.kind routes + cond o 1 0
+  used_with : (x : Insertion) (o : Bool) (d : ℤ) → IsPriced x o d → (cost_with p routes r x).vehicles ≡ vehicle_count p.kind routes + cond o 1 0
   used_with x o d is = vehicles_with p.kind routes x.0 (new_route x) (is.from) (is.within) (is.some) ∙ ap (λ (b : Bool). vehicle_count p.kind routes + cond b 1 0) (is.opens)
 
   module _ (below : BelowTells) (at_most : AtMostTells) where
-    pub no_worse : (x y : Place) (a b : Bool) (d e : ℤ) → IsPriced x a d → IsPriced y b e → Ahead x a d y b e → is_no_worse p routes r x y ≡ true
+    pub no_worse : (x y : Insertion) (a b : Bool) (d e : ℤ) → IsPriced x a d → IsPriced y b e → Ahead x a d y b e → is_no_worse p routes r x y ≡ true
     no_worse x y a b d e one two ahead = elim ahead [
       | inl opened ↦ or_left (cost_below (cost_with p routes r x) (cost_with p routes r y)) (cost_at_most (cost_with p routes r x) (cost_with p routes r y) && is_no_later x y)
           ((below (cost_with p routes r x) (cost_with p routes r y)).1 (inr (left_out, inl (fewer opened.0 opened.1))))

@@ -17,7 +17,7 @@ use Rattle.plan_audit.specs.Alone.{IsFeasibleAlone}
 use Rattle.plan_audit.specs.Locality.{PassesAreLocal, TestsSayFeasible}
 use Rattle.plan_audit.specs.Passes.{feasible_alone, passes}
 use Rattle.plan_audit.specs.Rules.{item_at}
-use Rattle.move_ops.specs.Insertion.{Place, put_at, inserted, of_vehicle, with_route, with_request_at, are_places, is_place_of, put_in}
+use Rattle.move_ops.specs.Insertion.{Insertion, put_at, inserted, of_vehicle, with_route, with_request_at, are_places, is_place_of, put_in}
 use Rattle.move_ops.proofs.Times.{none_some, some_same, times, one_here, none_here, times-append, times_split, once_from, once_few, once_live, none_anywhere}
 use Rattle.move_ops.proofs.Replacing.{within_list, times_with, times_in_vehicle, pins_with, same_vehicle, all_at, parts, passes_too}
 
@@ -165,7 +165,7 @@ module _ (found : NamedAreFound) (local : PassesAreLocal) (p : Instance) (pins r
       (((local p pins (with_route routes v (inserted r i j (of_vehicle routes v)))).0 passed).feasible))
 
 module _ (found : NamedAreFound) (local : PassesAreLocal) (says : TestsSayFeasible) (p : Instance) (pins routes : List (List ℕ)) (valid : IsInstance p) (good : passes p pins routes ≡ true)
-    (name : ℕ) (r : Request) (named : lookup (nat_eq name) p.requests ≡ Some r) (free : is_planned routes r ≡ false) (x : Place) (place : is_place_of pins routes r x ≡ true) where
+    (name : ℕ) (r : Request) (named : lookup (nat_eq name) p.requests ≡ Some r) (free : is_planned routes r ≡ false) (x : Insertion) (place : is_place_of pins routes r x ≡ true) where
   -- what the test of the place says
   low : 1 ≤ x.0
   low = leb-true 1 x.0 (and_parts (leb 1 x.0) (leb x.0 (length routes) && are_places r (length (of_vehicle pins x.0)) (length (of_vehicle routes x.0)) x.1 x.2) place).0
@@ -210,7 +210,7 @@ module _ (found : NamedAreFound) (local : PassesAreLocal) (says : TestsSayFeasib
 
 -- the same of what the code has: its lists and its answers
 module _ (found : NamedAreFound) (local : PassesAreLocal) (says : TestsSayFeasible) (p : Instance) (pins routes : List (List ℕ)) (valid : IsInstance p) (good : passes p pins routes ≡ true)
-    (name : ℕ) (r : Request) (named : lookup (nat_eq name) p.requests ≡ Some r) (x : Place) (kept given : List (List ℕ)) (is_pins : kept ≡ pins) (is_routes : given ≡ routes)
+    (name : ℕ) (r : Request) (named : lookup (nat_eq name) p.requests ≡ Some r) (x : Insertion) (kept given : List (List ℕ)) (is_pins : kept ≡ pins) (is_routes : given ≡ routes)
     (free : false ≡ is_planned given r) (place : true ≡ is_place_of kept given r x) (new old : List ℕ) (is_new : new ≡ inserted r x.1 x.2 old) (is_old : old ≡ of_vehicle given x.0) where
   not_planned : is_planned routes r ≡ false
   not_planned = ap (λ g. is_planned g r) (sym is_routes) ∙ sym free

@@ -8,7 +8,7 @@ use Rattle.plan_types.specs.declared.requests.Request.{Request}
 use Rattle.plan_types.specs.declared.requests.Request.TheVariants.{Single, Pair}
 use Rattle.route_sched.specs.Cost.{is_planned}
 use Rattle.plan_audit.specs.Passes.{passes}
-use Rattle.move_ops.specs.Insertion.{Place, request_named, of_vehicle, passing, places_in, are_places, with_request_at, places_of, is_place_of, insertions_of}
+use Rattle.move_ops.specs.Insertion.{Insertion, request_named, of_vehicle, passing, places_in, are_places, with_request_at, places_of, is_place_of, insertions_of}
 use Rattle.move_ops.specs.Laws.{InsertionsCanBePutIn}
 
 -- x is in the list, by cases on the list
@@ -98,7 +98,7 @@ twice m = (m, m)
 abbrev paired : ℕ → ℕ → ℕ × ℕ
 paired m k = (m, k)
 
-abbrev placed : ℕ → ℕ × ℕ → Place
+abbrev placed : ℕ → ℕ × ℕ → Insertion
 placed v x = (v, x.0, x.1)
 
 abbrev seconds : ℕ → ℕ → List (ℕ × ℕ)
@@ -146,10 +146,10 @@ of_places (Pair c d) kept stops x there =
     (and_from (ltb t.0 u.0) (leb u.0 (stops + 2)) (lt-ltb t.0 u.0 (omega arith)) (le-leb u.0 (stops + 2) (omega arith))))
 
 module _ (pins routes : List (List ℕ)) (r : Request) where
-  abbrev at_vehicle : ℕ → List Place
+  abbrev at_vehicle : ℕ → List Insertion
   at_vehicle v = map (placed v) (places_in r (length (of_vehicle pins v)) (length (of_vehicle routes v)))
 
-  in_places_of : (x : Place) → is_place_of pins routes r x ≡ true → In (places_of pins routes r) x
+  in_places_of : (x : Insertion) → is_place_of pins routes r x ≡ true → In (places_of pins routes r) x
   in_places_of x good =
       let a = and_parts (leb 1 x.0) (leb x.0 (length routes) && are_places r (length (of_vehicle pins x.0)) (length (of_vehicle routes x.0)) x.1 x.2) good in
       let b = and_parts (leb x.0 (length routes)) (are_places r (length (of_vehicle pins x.0)) (length (of_vehicle routes x.0)) x.1 x.2) a.1 in
@@ -158,24 +158,24 @@ module _ (pins routes : List (List ℕ)) (r : Request) where
       in_flat_map at_vehicle (range_with_len 1 (length routes)) x.0 x (in_range 1 (length routes) x.0 low (omega arith))
       (in_map (placed x.0) (places_in r (length (of_vehicle pins x.0)) (length (of_vehicle routes x.0))) (paired x.1 x.2) (in_places r (length (of_vehicle pins x.0)) (length (of_vehicle routes x.0)) x.1 x.2 b.1))
 
-  of_places_of : (x : Place) → In (places_of pins routes r) x → is_place_of pins routes r x ≡ true
+  of_places_of : (x : Insertion) → In (places_of pins routes r) x → is_place_of pins routes r x ≡ true
   of_places_of x there =
       let t = of_flat_map at_vehicle (range_with_len 1 (length routes)) x there in
       let range = of_range 1 (length routes) t.0 t.1 in
       let low = range.0 in
       let high = range.1 in
       let u = of_map (placed t.0) (places_in r (length (of_vehicle pins t.0)) (length (of_vehicle routes t.0))) x t.2 in
-      subst (λ (z : Place). is_place_of pins routes r z ≡ true) u.2
+      subst (λ (z : Insertion). is_place_of pins routes r z ≡ true) u.2
       (and_from (leb 1 t.0) (leb t.0 (length routes) && are_places r (length (of_vehicle pins t.0)) (length (of_vehicle routes t.0)) u.0.0 u.0.1) (le-leb 1 t.0 low)
       (and_from (leb t.0 (length routes)) (are_places r (length (of_vehicle pins t.0)) (length (of_vehicle routes t.0)) u.0.0 u.0.1) (le-leb t.0 (length routes) (omega arith))
       (of_places r (length (of_vehicle pins t.0)) (length (of_vehicle routes t.0)) u.0 u.1)))
 
 module _ (p : Instance) (pins routes : List (List ℕ)) where
-  abbrev passing_at : Request → Place → Bool
+  abbrev passing_at : Request → Insertion → Bool
   passing_at r x = passes p pins (with_request_at routes r x)
 
   -- for a request that is there
-  pub listed : (r : Request) (x : Place) → In (insertions_of p pins routes r) x → (is_planned routes r ≡ false) × (is_place_of pins routes r x ≡ true) × (passing_at r x ≡ true)
+  pub listed : (r : Request) (x : Insertion) → In (insertions_of p pins routes r) x → (is_planned routes r ≡ false) × (is_place_of pins routes r x ≡ true) × (passing_at r x ≡ true)
   listed r x there = elim (cases_Bool (is_planned routes r)) [
     | inl taken ↦ absurd (rw taken at there)
     | inr free ↦ (
@@ -183,19 +183,19 @@ module _ (p : Instance) (pins routes : List (List ℕ)) where
         (free, of_places_of pins routes r x t.0, t.1))
   ]
 
-  pub to_list : (r : Request) (x : Place) → is_planned routes r ≡ false → is_place_of pins routes r x ≡ true → passing_at r x ≡ true → In (insertions_of p pins routes r) x
+  pub to_list : (r : Request) (x : Insertion) → is_planned routes r ≡ false → is_place_of pins routes r x ≡ true → passing_at r x ≡ true → In (insertions_of p pins routes r) x
   to_list r x free place good = rw free (in_filter (passing_at r) (places_of pins routes r) x (in_places_of pins routes r x place) good)
 
-  abbrev put_of : Request → Place → Option (List (List ℕ))
+  abbrev put_of : Request → Insertion → Option (List (List ℕ))
   put_of r x = cond (not (is_planned routes r) && is_place_of pins routes r x) (passing p pins (with_request_at routes r x)) None
 
-  some_put : (r : Request) (x : Place) → is_planned routes r ≡ false → is_place_of pins routes r x ≡ true → passing_at r x ≡ true → IsSome (put_of r x)
+  some_put : (r : Request) (x : Insertion) → is_planned routes r ≡ false → is_place_of pins routes r x ≡ true → passing_at r x ≡ true → IsSome (put_of r x)
   some_put r x free place good = rw (free, place, good) (search rules)
 
   abbrev no_plan : Option (List (List ℕ))
   no_plan = None
 
-  put_parts : (r : Request) (x : Place) → IsSome (put_of r x) → (is_planned routes r ≡ false) × (is_place_of pins routes r x ≡ true) × (passing_at r x ≡ true)
+  put_parts : (r : Request) (x : Insertion) → IsSome (put_of r x) → (is_planned routes r ≡ false) × (is_place_of pins routes r x ≡ true) × (passing_at r x ≡ true)
   put_parts r x some = elim (cases_Bool (is_planned routes r)) [
     | inl taken ↦ absurd (none (rw taken at some))
     | inr free ↦ elim (cases_Bool (is_place_of pins routes r x)) [
@@ -210,7 +210,7 @@ module _ (p : Instance) (pins routes : List (List ℕ)) where
       none : IsSome no_plan → ⊥
       none h = let k : false ≡ true = h in cc
 
-  same_named : (name : ℕ) (x : Place) (o : Option Request) → request_named p name ≡ o → Contains (option_map_or (insertions_of p pins routes) o []) x ↔ IsSome (option_and_then (λ r. put_of r x) o)
+  same_named : (name : ℕ) (x : Insertion) (o : Option Request) → request_named p name ≡ o → Contains (option_map_or (insertions_of p pins routes) o []) x ↔ IsSome (option_and_then (λ r. put_of r x) o)
   same_named name x None is = (λ c. absurd (within [] x c), λ some. absurd (let k : false ≡ true = some in cc))
   same_named name x (Some r) is = (
     λ c. (let t = listed r x (within (insertions_of p pins routes r) x c) in some_put r x t.0 t.1 t.2),

@@ -13,7 +13,7 @@ use Rattle.route_sched.specs.Route.{AreLiveOnce}
 use Rattle.slack_tables.specs.Insertion.{inserted, KeepsLimits}
 use Rattle.plan_audit.specs.Locality.{PassesAreLocal, TestsSayFeasible}
 use Rattle.plan_audit.specs.Passes.{passes}
-use Rattle.move_ops.specs.Insertion.{Place, of_vehicle, with_request_at, insertions, insertions_of, are_places, is_place_of, best_insertion}
+use Rattle.move_ops.specs.Insertion.{Insertion, of_vehicle, with_request_at, insertions, insertions_of, are_places, is_place_of, best_insertion}
 use Rattle.move_ops.specs.Laws.{BestInsertionsAreLeast, IsBest}
 use Rattle.move_ops.specs.Drafts.{placed}
 use Rattle.move_ops.proofs.Times.{times}
@@ -36,9 +36,9 @@ no_pin (Pair c d) kept n i j t =
 
 module _ (law : NamedAreFound) (stand : RequestsStandByName) (local : PassesAreLocal) (says : TestsSayFeasible) (least : BestInsertionsAreLeast) (below : StopsAreBelowNext)
     (p : Instance) (pins routes : List (List ℕ)) (valid : IsInstance p) (good : passes p pins routes ≡ true) (name : ℕ) (r : Request) (named : lookup (nat_eq name) p.requests ≡ Some r)
-    (x : Place) (best : best_insertion p pins routes name ≡ Some x) where
+    (x : Insertion) (best : best_insertion p pins routes name ≡ Some x) where
   is_best : IsBest p pins routes r x
-  is_best = subst (λ (o : Option Place). MatchOption o (insertions p pins routes name ≡ []) (IsBest p pins routes r)) best (least p pins routes name r named)
+  is_best = subst (λ (o : Option Insertion). MatchOption o (insertions p pins routes name ≡ []) (IsBest p pins routes r)) best (least p pins routes name r named)
 
   told : (is_planned routes r ≡ false) × (is_place_of pins routes r x ≡ true) × (passes p pins (with_request_at routes r x) ≡ true)
   told = listed p pins routes r x (within (insertions_of p pins routes r) x (is_best.among))

@@ -12,7 +12,7 @@ use Rattle.slack_tables.specs.Course.{Course, course_of, route_of}
 use Rattle.slack_tables.specs.Insertion.{inserted, KeepsLimits}
 use Rattle.plan_audit.specs.Locality.{PassesAreLocal, TestsSayFeasible}
 use Rattle.plan_audit.specs.Passes.{passes}
-use Rattle.move_ops.specs.Insertion.{Place, request_named, of_vehicle, with_request_at, with_route, are_places, best_insertion}
+use Rattle.move_ops.specs.Insertion.{Insertion, request_named, of_vehicle, with_request_at, with_route, are_places, best_insertion}
 use Rattle.move_ops.specs.Laws.{BestInsertionsAreLeast}
 use Rattle.move_ops.specs.Tables.{plan_of, AreTablesIn}
 use Rattle.move_ops.specs.Drafts.{Drafted, draft_of, IsDraftOf, placed}
@@ -25,7 +25,7 @@ placed_none p pins routes name none = rw (sym none) refl
 
 module _ (law : NamedAreFound) (stand : RequestsStandByName) (local : PassesAreLocal) (says : TestsSayFeasible) (least : BestInsertionsAreLeast) (below : StopsAreBelowNext)
     (p : Instance) (pins : List (List ℕ)) (d : Drafted) (is : IsDraftOf p pins d) (r : Request) (named : request_named p (request_name r) ≡ Some r)
-    (x : Place) (best : best_insertion p pins (draft_of d) (request_name r) ≡ Some x) where
+    (x : Insertion) (best : best_insertion p pins (draft_of d) (request_name r) ≡ Some x) where
   pub from : 1 ≤ x.0
   from = vehicle_from law stand local says least below p pins (draft_of d) (is.valid) (is.draft) (request_name r) r named x best
 

@@ -14,7 +14,7 @@ use Rattle.slack_tables.specs.Best.{IsBestAddition}
 use Rattle.slack_tables.specs.Course.{Course}
 use Rattle.slack_tables.specs.Insertion.{inserted, IsAdded}
 use Rattle.slack_tables.specs.declared.scan.Addition.{Addition}
-use Rattle.move_ops.specs.Insertion.{Place, of_vehicle, insertions_of, is_no_worse}
+use Rattle.move_ops.specs.Insertion.{Insertion, of_vehicle, insertions_of, is_no_worse}
 use Rattle.move_ops.specs.Tables.{plan_of, AreTablesIn}
 use Rattle.move_ops.specs.declared.tables.Found.{Found}
 
@@ -23,7 +23,7 @@ abbrev pub opens : Kind → List ℕ → Bool
 opens LiLim route = length route == 0
 opens Vrp route = false
 
-abbrev pub place_found : Found → Place
+abbrev pub place_found : Found → Insertion
 place_found f = (f.vehicle, f.addition.pickup, f.addition.delivery)
 
 abbrev pub found_at : ℕ → Bool → Addition → Found
@@ -43,11 +43,11 @@ pub record IsBestAmong (p : Instance) (pins routes : List (List ℕ)) (r : Reque
   pub seen : f.vehicle ≤ k
   pub opens : opens p.kind (of_vehicle routes f.vehicle) ≡ f.opens
   pub added : IsAdded p (of_vehicle routes f.vehicle) (inserted r f.addition.pickup f.addition.delivery (of_vehicle routes f.vehicle)) (Some f.addition.distance)
-  pub least : (y : Place) → Contains (insertions_of p pins routes r) y → y.0 ≤ k → is_no_worse p routes r (place_found f) y ≡ true
+  pub least : (y : Insertion) → Contains (insertions_of p pins routes r) y → y.0 ≤ k → is_no_worse p routes r (place_found f) y ≡ true
 
 -- or nothing is found, where these vehicles have no insertion
 abbrev pub IsBestUpTo : Instance → List (List ℕ) → List (List ℕ) → Request → ℕ → Option Found → Type 0
-IsBestUpTo p pins routes r k answer = MatchOption answer ((y : Place) → Contains (insertions_of p pins routes r) y → y.0 ≤ k → ⊥) (IsBestAmong p pins routes r k)
+IsBestUpTo p pins routes r k answer = MatchOption answer ((y : Insertion) → Contains (insertions_of p pins routes r) y → y.0 ≤ k → ⊥) (IsBestAmong p pins routes r k)
 
 -- one of the first k vehicles has no stops
 abbrev pub HasIdle : List (List ℕ) → ℕ → Type 0

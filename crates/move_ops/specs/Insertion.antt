@@ -13,8 +13,8 @@ use Rattle.plan_audit.specs.Rules.{item_at}
 pub use Rattle.slack_tables.specs.Insertion.{request_named, inserted}
 
 -- a vehicle, the place of the pickup and the place of the delivery in its new route; a single has one place, twice
-abbrev pub Place : Type 0
-Place = ℕ × ℕ × ℕ
+abbrev pub Insertion : Type 0
+Insertion = ℕ × ℕ × ℕ
 
 -- what a vehicle has: its route, or its pin
 abbrev pub of_vehicle : List (List ℕ) → ℕ → List ℕ
@@ -43,40 +43,40 @@ are_places (Single s) kept stops i j = nat_lt kept i && (nat_le i (stops + 1) &&
 are_places (Pair a b) kept stops i j = nat_lt kept i && (nat_lt i j && nat_le j (stops + 2))
 
 -- the plan with the request put in at a place
-abbrev pub with_request_at : List (List ℕ) → Request → Place → List (List ℕ)
+abbrev pub with_request_at : List (List ℕ) → Request → Insertion → List (List ℕ)
 with_request_at routes r x = with_route routes x.0 (inserted r x.1 x.2 (of_vehicle routes x.0))
 
 module _ (pins routes : List (List ℕ)) where
   -- all places of a request behind the pins, by vehicle, pickup and delivery
-  abbrev pub places_of : Request → List Place
+  abbrev pub places_of : Request → List Insertion
   places_of r = flat_map (λ v. map (λ x. (v, x.0, x.1)) (places_in r (length (of_vehicle pins v)) (length (of_vehicle routes v)))) (range_with_len 1 (length routes))
 
   -- whether this is one of them
-  abbrev pub is_place_of : Request → Place → Bool
+  abbrev pub is_place_of : Request → Insertion → Bool
   is_place_of r x = nat_le 1 x.0 && (nat_le x.0 (length routes) && are_places r (length (of_vehicle pins x.0)) (length (of_vehicle routes x.0)) x.1 x.2)
 
 module _ (p : Instance) (pins routes : List (List ℕ)) where
   -- the insertions of a request: its places whose result passes; a request that is planned has none
-  abbrev pub insertions_of : Request → List Place
+  abbrev pub insertions_of : Request → List Insertion
   insertions_of r = if is_planned routes r then [] else filter (λ x. passes p pins (with_request_at routes r x)) (places_of pins routes r)
 
-  abbrev pub insertions : ℕ → List Place
+  abbrev pub insertions : ℕ → List Insertion
   insertions name = option_map_or insertions_of (request_named p name) []
 
   -- insert_at: the plan with the request put in there, where it is unplanned, the place is one behind the pin, and the result passes
-  abbrev pub put_in : ℕ → Place → Option (List (List ℕ))
+  abbrev pub put_in : ℕ → Insertion → Option (List (List ℕ))
   put_in name x = option_and_then (λ r. if not (is_planned routes r) && is_place_of pins routes r x then passing p pins (with_request_at routes r x) else None) (request_named p name)
 
 -- no later by vehicle, pickup and delivery
-abbrev pub is_no_later : Place → Place → Bool
+abbrev pub is_no_later : Insertion → Insertion → Bool
 is_no_later x y = nat_lt x.0 y.0 || ((x.0 == y.0) && (nat_lt x.1 y.1 || ((x.1 == y.1) && nat_le x.2 y.2)))
 
 -- what the plan costs with the request put in there
-abbrev pub cost_with : Instance → List (List ℕ) → Request → Place → Cost
+abbrev pub cost_with : Instance → List (List ℕ) → Request → Insertion → Cost
 cost_with p routes r x = cost_of p (with_request_at routes r x)
 
 -- the result costs less, or no more and the place is no later
-abbrev pub is_no_worse : Instance → List (List ℕ) → Request → Place → Place → Bool
+abbrev pub is_no_worse : Instance → List (List ℕ) → Request → Insertion → Insertion → Bool
 is_no_worse p routes r x y = cost_below (cost_with p routes r x) (cost_with p routes r y) || (cost_at_most (cost_with p routes r x) (cost_with p routes r y) && is_no_later x y)
 
 -- the better one of an item and what was best so far
@@ -90,5 +90,5 @@ least_by at_most [] = None
 least_by at_most (x ∷ xs) = Some (better at_most x (least_by at_most xs))
 
 -- the best insertion: the least by the result's cost, and then by vehicle, pickup and delivery
-abbrev pub best_insertion : Instance → List (List ℕ) → List (List ℕ) → ℕ → Option Place
+abbrev pub best_insertion : Instance → List (List ℕ) → List (List ℕ) → ℕ → Option Insertion
 best_insertion p pins routes name = option_and_then (λ r. least_by (is_no_worse p routes r) (insertions_of p pins routes r)) (request_named p name)

@@ -5,12 +5,12 @@ use Rattle.std.specs.Option.{MatchOption}
 use Rattle.plan_types.specs.Instance.{Instance}
 use Rattle.plan_types.specs.declared.requests.Request.{Request}
 use Rattle.plan_audit.specs.Passes.{passes}
-use Rattle.move_ops.specs.Insertion.{Place, request_named, insertions, insertions_of, is_no_worse, best_insertion, put_in}
+use Rattle.move_ops.specs.Insertion.{Insertion, request_named, insertions, insertions_of, is_no_worse, best_insertion, put_in}
 
 -- it is an insertion, and no worse than any: by cost, vehicle, pickup and delivery
-pub record IsBest (p : Instance) (pins routes : List (List ℕ)) (r : Request) (x : Place) : Type 0 where
+pub record IsBest (p : Instance) (pins routes : List (List ℕ)) (r : Request) (x : Insertion) : Type 0 where
   pub among : Contains (insertions_of p pins routes r) x
-  pub least : (y : Place) → Contains (insertions_of p pins routes r) y → is_no_worse p routes r x y ≡ true
+  pub least : (y : Insertion) → Contains (insertions_of p pins routes r) y → is_no_worse p routes r x y ≡ true
 
 -- law: there is none exactly where the request has no insertion
 abbrev pub BestInsertionsAreLeast : Type 0
@@ -19,11 +19,11 @@ BestInsertionsAreLeast = (p : Instance) (pins routes : List (List ℕ)) (name : 
 
 -- law: and no two are the best
 abbrev pub BestInsertionsAreUnique : Type 0
-BestInsertionsAreUnique = (p : Instance) (pins routes : List (List ℕ)) (r : Request) (x y : Place) → IsBest p pins routes r x → IsBest p pins routes r y → x ≡ y
+BestInsertionsAreUnique = (p : Instance) (pins routes : List (List ℕ)) (r : Request) (x y : Insertion) → IsBest p pins routes r x → IsBest p pins routes r y → x ≡ y
 
 -- law: the list of the insertions holds those that can be put in, and no others
 abbrev pub InsertionsCanBePutIn : Type 0
-InsertionsCanBePutIn = (p : Instance) (pins routes : List (List ℕ)) (name : ℕ) (x : Place) → Contains (insertions p pins routes name) x ↔ IsSome (put_in p pins routes name x)
+InsertionsCanBePutIn = (p : Instance) (pins routes : List (List ℕ)) (name : ℕ) (x : Insertion) → Contains (insertions p pins routes name) x ↔ IsSome (put_in p pins routes name x)
 
 -- law: a plan that passes with its pins passes with none
 abbrev pub PlansPassWithoutPins : Type 0

@@ -1,4 +1,4 @@
-//! Where a request is put into a plan best.
+//! Where a request is put into a plan best: tables of all its routes, asked once.
 ghost use Rattle.std.specs.Prelude.{◌≡◌, true, IfOk};
 ghost use Rattle.plan_audit.specs.Passes.{passes};
 ghost use Rattle.move_ops.specs.Insertion.{best_insertion};

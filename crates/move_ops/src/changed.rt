@@ -1,4 +1,4 @@
-//! The routes of a plan before and after a move.
+//! The routes of a plan before and after a move: those that changed are judged.
 ghost use Rattle.std.specs.Prelude.{◌≡◌, true, All, length};
 ghost use Rattle.std.specs.List.{list_all};
 ghost use Rattle.route_sched.specs.Route.{AreLiveOnce};

@@ -1,4 +1,4 @@
-//! Routes of a plan that others take the place of.
+//! Routes of a draft that others take the place of, before their tables are made.
 ghost use Rattle.std.specs.Prelude.{◌≡◌, ◌≤◌, All, length};
 ghost use Rattle.std.specs.List.{list_all};
 ghost use Rattle.route_sched.specs.Route.{AreLiveOnce};

@@ -1,4 +1,4 @@
-//! Two routes that exchange their ends.
+//! Two routes that exchange their ends (2-opt*).
 ghost use Rattle.std.specs.Prelude.{◌≡◌, ◌≤◌, ◌<◌, true, length, IfOk};
 ghost use Rattle.std.specs.Option.{option_map};
 ghost use Rattle.plan_audit.specs.Passes.{passes};
@@ -77,7 +77,7 @@ fn is_cut(pins: &[Route], routes: &[Route], vehicle: u64, cut: u64) -> bool
     kept <= cut && cut <= stops
 }
 
-// The first stops of one route, and then the other from behind its first ones on.
+/// The first stops of one route, and then the other from behind its first ones on.
 pub(crate) fn joined(
     alloc: Global,
     front: &[u32],

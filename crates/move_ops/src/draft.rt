@@ -1,4 +1,21 @@
-//! A plan that is changed in its place.
+//! A plan that is changed in its place: the base, and a draft made of it.
+//!
+//! The draft is changed where it stands. What a vehicle had in the base is kept in a log, of each vehicle
+//! once: dropping the draft puts these routes and tables back, taking it forgets them. Its moves stand in the
+//! files of `draft/`. A removal takes two short lists of memory, of vehicles and of their tours, an exchange
+//! and a crossing a few.
+//!
+//! What is kept beside the routes, so that a step does not grow with the fleet:
+//! - the front: no vehicle behind the first so many has a stop. Best insertions look at these vehicles and at
+//!   one behind them, which stands for all idle ones. A request that opens a vehicle takes the first idle
+//!   one, so few vehicles before the front are empty;
+//! - the seat of each stop: 0 says that no route has it, which is an invariant; any other number is where to
+//!   look first, and what is found there is tested, so it may be stale;
+//! - the cost: distances are carried from change to change by the tables of the routes that change, the
+//!   requests left out are counted on. A removal adds as many as there are names, where one that stands twice
+//!   counts once; one that is placed is one less.
+//!
+//! Problem and pins are given in each call and tied to the draft by `IsDraftOf`, so the type borrows nothing.
 ghost use Rattle.std.specs.Prelude.{◌≡◌, ◌≤◌, ◌<◌, ◌-◌, ◌==◌, not, true, false, ℕ, List, Some, IfOk, OnOk, MatchOption, length, slice_get, slice_set, slice_index_or};
 ghost use Rattle.slack_tables.specs.Course.{Course};
 ghost use Rattle.plan_types.specs.Instance.{Instance};
@@ -152,7 +169,7 @@ impl Draft {
         self.front as u64
     }
 
-    // How many vehicles are to be asked for a best insertion: where one behind the front has no stops, it stands for all others there.
+    /// How many vehicles are to be asked for a best insertion: where one behind the front has no stops, it stands for all others there.
     pub(crate) fn reach(&self) -> usize
         ensures within { result ≤ length self.now.tours }
         ensures reach { IsReach (draft_of self.now) result }
@@ -217,7 +234,7 @@ impl Draft {
         self.vehicle_of(stop) != 0
     }
 
-    // The vehicle whose route has the stop, or 0 where none has it.
+    /// The vehicle whose route has the stop, or 0 where none has it.
     pub(crate) fn vehicle_of(&self, stop: u32) -> u64
         ensures { IsVehicleWith (draft_of self.now) stop result }
     {

@@ -1,4 +1,5 @@
-//! A request put into a route.
+//! A request put into a route. A single has one place (j = i), a pair two (i < j); a place of the other form
+//! is no insertion.
 ghost use Rattle.std.specs.Prelude.{◌≡◌, ◌≤◌, ◌^◌, true, length, IfOk, OnOk};
 ghost use Rattle.std.specs.Option.{option_map};
 ghost use Rattle.plan_audit.specs.Passes.{passes};

@@ -1,4 +1,5 @@
-//! What the best insertion is.
+//! What the best insertion is: the least by a test that compares costs and then places. The list of insertions rises, but
+//! nothing rests on that.
 ghost use Rattle.move_ops.specs.Laws.{BestInsertionsAreLeast, BestInsertionsAreUnique, InsertionsCanBePutIn, PlansPassWithoutPins};
 
 use plan_audit::passes_are_local;

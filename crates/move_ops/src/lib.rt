@@ -1,4 +1,43 @@
-//! Moves from plan to plan, each of which gives a plan that passes, or none; and where a request is put in best.
+//! Moves from plan to plan, each of which gives a plan that passes, or none; and where a request is put in
+//! best.
+//!
+//! The search (`seeded_search`) works on a `Draft`, a plan that is changed in its place over kept tables, and
+//! so do the commands that put requests in. `insert_at`, `remove`, `exchange` and `two_opt_star` are the same
+//! moves from plan to plan; `best_insertion` and `Tables` find where a request is put in best.
+//!
+//! Modules, in reading order:
+//! - `lists`, `changed`: routes and pins by vehicle; whether the routes that a move changes are feasible
+//!   alone.
+//! - `insert`, `removal`, `swap`, `cross`: the four moves, from plan to plan.
+//! - `tables`, `best`: the best insertion, by a table for each vehicle.
+//! - `pairing`, `tour`, `tours`, `changes`: a route with its table, and what is asked of a new one.
+//! - `seats`: where to look for a stop.
+//! - `draft`: the draft; in `draft/` its moves: `removing`, `rearranging` (exchange and 2-opt*), `placing`,
+//!   and `installing`, which they share.
+//! - `laws`: what the best insertion is, without code.
+//!
+//! Specs: `Insertion` and `Moves` name the plan of each move, `Tables` and `Drafts` say what is kept, `Laws`
+//! what the best insertion is; the others follow the modules.
+//!
+//! Source: the moves of local search and of ruin and recreate as the literature on vehicle routing has them:
+//! insertion, removal, exchange of requests, 2-opt*. The best insertion is the least by cost, vehicle, pickup
+//! place and delivery place. Vehicles and places count from 1.
+//!
+//! How a move is judged: it asks whether the routes that it changes are feasible alone, and no others. That
+//! the rest of the plan still passes is proved, from the auditor's law that a plan is judged route by route
+//! and from how often each stop stands before and after.
+//!
+//! Proved:
+//! - `insert_at`, `remove`, `exchange` and `two_opt_star` give the plan that they name exactly where that
+//!   passes with these pins (`put_in`, `removed`, `exchanged`, `crossed`), else none, or want of memory;
+//! - `best_insertion` is the least insertion, none exactly where there is none; so is `Tables::best`, without
+//!   memory; `build` and `refresh` give the tables of the plan's routes, and a refused `refresh` leaves the
+//!   old ones;
+//! - `Draft`: `remove`, `exchange`, `cross` and `place` make a candidate by the same definitions (`IsMade`,
+//!   `placed`), `cost` is what it costs, `take` makes it the base and `drop_draft` forgets it, without
+//!   memory;
+//! - the laws: the best insertion is the least and the only one; the list of insertions holds those that can
+//!   be put in and no others; a plan that passes with its pins passes without them.
 #![tactic(auto)]
 
 mod best;

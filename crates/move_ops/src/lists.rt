@@ -41,6 +41,7 @@ pub(crate) fn is_movable(pins: &[Route], routes: &[Route], request: &Request) ->
     is_planned(routes, request) && !is_planned(pins, request)
 }
 
+/// Whether one of the lists has the stop.
 #[tactic(auto, using(crate::proofs::Times::has_stop_more))]
 pub(crate) fn has_stop(lists: &[Route], number: u32) -> bool
     ensures { result ≡ has_stop lists.now number }

@@ -128,6 +128,7 @@ pub(crate) fn keep_others(
     Ok(())
 }
 
+/// Whether the stop is of one of the named requests.
 pub(crate) fn is_of_named(problem: &Problem, names: &[u32], stop: u32) -> bool
     ensures { result ≡ is_of_named problem.now names.now stop }
 {

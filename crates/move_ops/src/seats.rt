@@ -1,4 +1,5 @@
-//! Where to look for a stop: for each number a vehicle, or 0 where no route has it.
+//! Where to look for a stop: for each number a vehicle, or 0 where no route has it; and which stops are
+//! pinned.
 ghost use Rattle.std.specs.Prelude.{◌≡◌, ◌≤◌, ◌<◌, ◌||◌, ◌⊎◌, nat_eq, ℕ, false, true, Some, slice_get, slice_index_or, IfOk, length};
 ghost use Rattle.plan_audit.specs.Passes.{has};
 ghost use Rattle.route_sched.specs.Cost.{has_stop};

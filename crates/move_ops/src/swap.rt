@@ -61,6 +61,7 @@ fn are_exchangeable(pins: &[Route], routes: &[Route], first: &Request, second: &
         && have_same_form(first, second)
 }
 
+/// Whether both are single stops, or both pairs.
 pub(crate) fn have_same_form(first: &Request, second: &Request) -> bool
     ensures { result ≡ have_same_form first.now second.now }
 {
@@ -88,6 +89,7 @@ fn exchanged(
     Ok(new)
 }
 
+/// The route with each stop of either request where that of the other was.
 pub(crate) fn counterparts(
     alloc: Global,
     route: &[u32],
@@ -103,7 +105,7 @@ pub(crate) fn counterparts(
     Ok(new)
 }
 
-// The stop that stands in this one's place.
+/// The stop that stands in this one's place.
 pub(crate) fn counterpart(first: &Request, second: &Request, stop: u32) -> u32
     ensures { result ≡ counterpart first.now second.now stop }
 {

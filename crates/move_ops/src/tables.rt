@@ -1,4 +1,11 @@
 //! Where a request is put into a plan best, by a table for each vehicle.
+//!
+//! Vehicle after vehicle is asked for a place that is better than the best so far. Costs are compared by
+//! whether a vehicle more is used, then by the distance added; the first of equals stands, which is the least
+//! by vehicle and places.
+//!
+//! Tables need a plan that passes with no pins, so `build` and `refresh` are given none; the law
+//! `plans_pass_without_pins` leads there from a plan that passes with its own.
 ghost use Rattle.std.specs.Prelude.{◌≡◌, ◌≤◌, true, false, [], map, Some, IfOk, IsSome, length};
 ghost use Rattle.std.specs.Option.{option_map};
 ghost use Rattle.plan_types.specs.Instance.{IsInstance};
@@ -37,7 +44,7 @@ impl Model for Tables {
     ghost view = { λ t. t.tables.items };
 }
 
-// The best insertion so far, and whether it uses one vehicle more.
+/// The best insertion so far, and whether it uses one vehicle more.
 #[derive(Clone, Copy)]
 pub(crate) struct Found {
     pub(crate) vehicle: u64,
@@ -77,7 +84,8 @@ impl Tables {
         Ok(Tables { tables })
     }
 
-    /// The best insertion of a live and unplanned request into the plan of the tables, as `best_insertion` has it. Takes no memory.
+    /// The best insertion of a request into the plan of the tables, as `best_insertion` has it; the name has to be of a live
+    /// and unplanned request. Takes no memory.
     pub fn best(&self, problem: &Problem, pins: &Pins, name: u32) -> Option<(u64, u64, u64)>
         requires tables { AreTablesIn problem.now self.now }
         requires pass { passes problem.now pins.now.routes (plan_of self.now) ≡ true }
@@ -172,8 +180,8 @@ fn live_request(problem: &Problem, name: u32) -> &Request
     problem.requests.get(&name).unwrap()
 }
 
-// The best insertion over all vehicles. Empty ones are alike, so the first of them stands for all, and where no others stand behind
-// `end`, the loop ends there.
+/// The best insertion over all vehicles. Empty ones are alike, so the first of them stands for all, and where no others stand behind
+/// `end`, the loop ends there.
 pub(crate) fn best_of(
     problem: &Problem,
     pins: &[Route],

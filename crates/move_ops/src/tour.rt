@@ -35,6 +35,7 @@ impl Model for Tour {
 }
 
 impl Tour {
+    /// The tour of a route that keeps the capacity and the windows.
     pub(crate) fn build(
         alloc: Global,
         problem: &Problem,
@@ -129,6 +130,7 @@ impl Tour {
         Ok(Some(Tour::build(alloc, problem, route)?))
     }
 
+    /// How many stops the route has.
     pub(crate) fn stop_count(&self) -> usize
         ensures count { result ≡ length self.now.stops }
         ensures few { result ≤ 40001 }
@@ -143,6 +145,7 @@ impl Tour {
         self.stops.as_slice()
     }
 
+    /// The table of the route.
     pub(crate) fn table(&self) -> &RouteTable
         ensures { result.now ≡ self.now }
     {

@@ -62,6 +62,7 @@ fn next(vehicle: u32) -> u32
     vehicle.saturating_add(1)
 }
 
+/// A copy of the routes, without their tables.
 pub(crate) fn routes_of(alloc: Global, tours: &[Tour]) -> Result<Routes, OutOfMemory>
     ensures { IfOk result (λ routes. routes ≡ plan_of tours.now) }
 {

@@ -1,4 +1,28 @@
 //! Distances rounded to the nearest whole number, as TSPLIB95 defines them for EUC_2D.
+//!
+//! `dist` is the one distance of this project: schedules (`route_sched`), tables of routes (`slack_tables`)
+//! and costs all take it. `nint_root` is the root below it.
+//!
+//! Modules, in reading order:
+//! - this file: the distance of two stops, and the laws.
+//! - `root`: the whole number nearest to a root, without floating point.
+//!
+//! Specs: `NearestRoot` (nint(sqrt(s)) in whole numbers alone), `Distance` (EUC_2D over it, and the laws).
+//!
+//! Source: TSPLIB95, edge weight type EUC_2D, `d = nint(sqrt(dx*dx + dy*dy))`. Since
+//! `(d + 1/2)^2 = d*d + d + 1/4`, the nearest whole number is the least `d` with `s <= d * (d + 1)`; an exact
+//! half never occurs.
+//!
+//! How the root is taken: a table and two steps of Newton's method guess it, and two short loops mend the
+//! guess upward and downward. Proofs rest on the loops alone, so the guess may be wrong and costs time only.
+//!
+//! Proved:
+//! - `nint_root` is that least `d`, for each `u64`, and so is `dist` for the squared distance: both say it as
+//!   a function that computes and as a sentence;
+//! - `distances_are_nearest_roots`: so is every distance of the definition, computed or not;
+//! - `detours_save_at_most_one`: rounded distances break the triangle inequality by 1 at most.
+//!
+//! The two laws are for proofs about distances that no code computes.
 #![tactic(auto)]
 
 ghost use Rattle.std.specs.Prelude.{◌≡◌, ◌+◌, ◌*◌, ◌≤◌, ◌-ℤ◌, unsigned_abs};
@@ -39,7 +63,7 @@ pub fn detours_save_at_most_one()
     ensures { DetoursSaveAtMostOne }
 {}
 
-/// How far two coordinates are apart.
+// How far two coordinates are apart.
 fn gap(x: i32, y: i32) -> u64
     requires from { IsCoordinate x }
     requires to { IsCoordinate y }

@@ -3,7 +3,7 @@
 ghost use Rattle.std.specs.Prelude.{◌≡◌, ◌+◌, ◌*◌, ◌^◌, ◌≤◌, ◌<◌};
 ghost use Rattle.nint_dist.specs.NearestRoot.{nearest_root, IsNearestRoot};
 
-/// The reciprocal root of each 256th from 64/256 to 255/256, in 256ths and less 256.
+// The reciprocal root of each 256th from 64/256 to 255/256, in 256ths and less 256.
 static RECIPROCAL_ROOTS: [u8; 192] = [
     254, 250, 246, 243, 239, 235, 232, 228, 225, 222, 219, 215, 212, 209, 206, 203, 201, 198, 195,
     192, 190, 187, 184, 182, 179, 177, 175, 172, 170, 168, 165, 163, 161, 159, 157, 155, 153, 151,
@@ -27,8 +27,8 @@ pub fn nint_root(s: u64) -> u64
     lowered(s, raised(s, root_guess(s)))
 }
 
-/// The nearest root or the number before it, by the table and two steps of Newton's method. This
-/// makes the mending loops short, and no proof rests on it.
+// The nearest root or the number before it, by the table and two steps of Newton's method. This
+// makes the mending loops short, and no proof rests on it.
 fn root_guess(s: u64) -> u64
     ensures { result < 2 ^ 32 }
 {
@@ -51,7 +51,7 @@ fn root_guess(s: u64) -> u64
     (root.wrapping_add(half) >> (shift / 2)).min(u64::from(u32::MAX))
 }
 
-/// The first number from `guess` on that is not below the nearest root.
+// The first number from `guess` on that is not below the nearest root.
 fn raised(s: u64, guess: u64) -> u64
     requires { guess < 2 ^ 32 }
     ensures { (result ≤ 2 ^ 32) × (s ≤ result * (result + 1)) }
@@ -63,7 +63,7 @@ fn raised(s: u64, guess: u64) -> u64
     root
 }
 
-/// The nearest root, at or below `root`.
+// The nearest root, at or below `root`.
 fn lowered(s: u64, bound: u64) -> u64
     requires { (bound ≤ 2 ^ 32) × (s ≤ bound * (bound + 1)) }
     ensures { IsNearestRoot s result }

@@ -1,4 +1,7 @@
-//! A list of stops as the only route.
+//! A list of stops as the only route: rules 3 to 8. Here no pair can be split.
+//!
+//! Without memory there is nowhere to keep the places of the stops, since a problem that is borrowed can't be
+//! marked; so each partner is looked for in the list. The auditor makes a list of seats instead.
 ghost use Rattle.std.specs.Prelude.{◌≡◌, ◌∷◌, [], ◌+◌, ◌<◌, ◌^◌, IfSome, MatchOption};
 ghost use Rattle.route_sched.specs.Route.{AreLiveOnce};
 ghost use Rattle.plan_audit.specs.Finding.{first_place, seat_of, missing_at, delivered_at};
@@ -11,8 +14,9 @@ use crate::seats::Seat;
 use crate::timing::{late_return, late_stop, overload};
 use plan_types::{Kind, Problem};
 
-/// The least of the rules 3 to 8 that these stops break as the only route; none where the list is feasible alone. The stops are live
-/// and distinct. Takes no memory, and so looks through the list for the other stop of each pair.
+/// The least of the rules 3 to 8 that these stops break as the only route, by its number; none where the list is
+/// feasible alone. The stops are live and distinct. Takes no memory, and so looks through the list for the other stop
+/// of each pair: its time is quadratic.
 pub fn route_fault(problem: &Problem, route: &[u32]) -> Option<u32>
     requires { AreLiveOnce problem.now route.now }
     ensures { MatchOption result (IsFeasibleAlone problem.now route.now)

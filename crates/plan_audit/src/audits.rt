@@ -16,8 +16,10 @@ use route_sched::routes_cost;
 use sol_text::Solution;
 use std::alloc::Global;
 
-/// Audits a plan with its pins, one for each vehicle of the fleet: the least broken rule, by rule, route, place and stop, or pass with
-/// the cost. A plan may leave requests out and has no printed cost, so rule 11 is not asked.
+/// Audits a plan with its pins: the least broken rule, by rule, route, place and stop, or pass with the cost; or want of
+/// memory. A plan may leave requests out and has no printed cost, so rule 11 is not asked. A vehicle for which there is
+/// no pin has an empty one; a pin for which there is no route is broken. A plan that has not as many routes as there are
+/// vehicles is told before its pins are asked.
 pub fn audit(
     alloc: Global,
     problem: &Problem,
@@ -45,8 +47,8 @@ pub fn audit(
     Ok(Verdict::Pass(routes_cost(problem, routes, scan.unplanned())))
 }
 
-/// Audits a printed solution: the least broken rule, by rule, route, place and stop, or pass with the cost. A printed solution has no
-/// pins, so rule 10 is not asked.
+/// Audits a printed solution: the least broken rule, by rule, route, place and stop, or pass with the cost; or want of
+/// memory. A printed solution has no pins, so rule 10 is not asked.
 pub fn audit_solution(
     alloc: Global,
     problem: &Problem,

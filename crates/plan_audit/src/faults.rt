@@ -1,4 +1,7 @@
 //! The search for the first place that breaks a rule. Routes and places count from 0 here.
+//!
+//! That a told place fits (`+ 1 < 2 ^ 64`) stands in clauses and not in a ghost field, since the definitions
+//! build such records, and a record with a ghost field is built only with its proof.
 ghost use Rattle.std.specs.Prelude.{◌≡◌, ℕ, ◌+◌, ◌^◌, ◌<◌, List, Option, Contains, IfSome, length};
 ghost use Rattle.plan_audit.specs.Finding.{first_place, first_route};
 ghost use Rattle.std.specs.Borrow.{Bor};

@@ -1,4 +1,4 @@
-//! The rule on the number of vehicles.
+//! The rule on the number of vehicles, 9, for routes that need not be one for each vehicle.
 ghost use Rattle.std.specs.Prelude.{◌≡◌, ◌+◌, ◌<◌, ◌^◌, IfSome};
 ghost use Rattle.plan_audit.specs.Finding.{first_beyond};
 

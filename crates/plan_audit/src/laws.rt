@@ -1,4 +1,4 @@
-// Laws of the verdict, each for every problem, plan and verdict: what it means to a dispatcher.
+//! Laws of the verdict, each for every problem, plan and verdict: what it means to a dispatcher.
 ghost use Rattle.plan_audit.specs.Laws.{PassesAreSound, PassesArePlans, UnsoundIsBroken, PlansPassWhereSound, SolutionsPassWhereSound, RoutesAreFeasible};
 ghost use Rattle.plan_audit.specs.Printing.{UsedRoutesAreSound, WholePlansPassPrinted};
 ghost use Rattle.plan_audit.specs.Locality.{TestsSayFeasible, TestsSayPass, PassesAreLocal, PlansAreLocal, PinsAreLiveOnce, PlansHaveVerdicts, RoutesHaveAnswers, RoutesMayBeReplaced, VerdictsAreUnique, FeasibilityIsLocal};
@@ -48,7 +48,8 @@ pub fn routes_that_pass_are_feasible_alone()
     ensures { RoutesAreFeasible }
 {}
 
-/// The test `feasible_alone` of a route says that it is feasible alone, as the rules have it.
+/// The test `feasible_alone` of a route says that it is feasible alone, as the rules have it. Definitions of moves and
+/// commands ask this test and the next, since a definition that computes needs tests that compute.
 pub fn tests_say_feasible()
     ensures { TestsSayFeasible }
 {}

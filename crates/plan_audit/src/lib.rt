@@ -1,4 +1,51 @@
-//! The auditor: whether a plan or a printed solution keeps every rule, and if not, the first place that breaks the first broken one.
+//! The auditor: whether a plan or a printed solution keeps every rule, and if not, the first place that
+//! breaks the first broken one.
+//!
+//! `audit_solution` judges anybody's printed solution, for the program's word `audit`. `audit` judges a plan
+//! with its pins: that a plan passes is what moves, commands and the store promise. `route_fault` judges one
+//! route.
+//!
+//! Modules, in reading order:
+//! - `rules`: the eleven rules by number, with who asks each, and the verdict.
+//! - `audits`: the audit, rule after rule until one is broken.
+//! - `faults`: the search for the first place that fails a test.
+//! - `seats`: where each stop stands first, by its number.
+//! - `scan`, with `pairs`: rules 1 to 5, on where stops stand.
+//! - `timing`: rules 6 to 8, on loads and times.
+//! - `fleet`, `pins`: rule 9 of a printed solution, rule 10.
+//! - `alone`: a list of stops as the only route.
+//! - `laws`: what a verdict means, without code.
+//!
+//! Specs: `Rules` (each rule a sentence) and `Verdict` come first, then `Alone` (feasible alone), `Passes`
+//! (the same as tests that compute), `Laws` (what a verdict means to a dispatcher), `Locality` (route by
+//! route) and `Printing`. `Finding` says how the code looks.
+//!
+//! Source: feasibility of PDPTW as Li and Lim have it, and of CVRP as CVRPLIB does; pins and the order of the
+//! rules are this project's own.
+//!
+//! How it works: one pass notes the first seat of each stop, by number. A rule on stops is then a pass over
+//! the plan with one look for each partner, a rule on loads or times a drive along each route, so an audit is
+//! linear. A rule is asked only where all before it are kept. `route_fault` takes no memory and looks through
+//! the list for each partner: that is quadratic.
+//!
+//! A plan may leave requests out and has no printed cost, a printed solution has no pins, and a problem of
+//! kind `Vrp` has no times: rules on these are not asked.
+//!
+//! Proved:
+//! - `audit` and `audit_solution` answer the verdict (`IsVerdict`): pass with the cost exactly where no rule
+//!   is broken, else the least fault by rule, route, place and stop; or they tell want of memory;
+//! - `route_fault` tells the least of the rules 3 to 8 that the list breaks as the only route, none exactly
+//!   where it is feasible alone;
+//! - each plan has one verdict (`each_plan_has_a_verdict`, `verdicts_are_unique`), and passes exactly where
+//!   it is sound and keeps fleet and pins, a printed solution where it keeps fleet and cost (the laws named
+//!   after `sound`);
+//! - a verdict is local (`passes_are_local`, `routes_may_be_replaced`): a plan passes exactly where its stops
+//!   are live and stand once, each vehicle has a route, and each route is feasible alone and begins with its
+//!   pin; feasible alone depends on the route's own requests (`feasibility_is_local`);
+//! - the tests `passes` and `feasible_alone` of the specs say the same (`tests_say_pass`,
+//!   `tests_say_feasible`);
+//! - empty routes change nothing (`empty_routes_change_no_verdict`): what passes and leaves no request out
+//!   passes as its text prints it.
 #![tactic(auto)]
 
 mod alone;

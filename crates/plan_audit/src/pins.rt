@@ -1,4 +1,5 @@
-//! The rule on pins.
+//! The rule on pins, 10. A vehicle without a route has an empty one, and a vehicle without a pin an empty
+//! pin.
 ghost use Rattle.std.specs.Prelude.{◌≡◌, ◌+◌, ◌<◌, ◌^◌, [], IfSome, unwrap_or, slice_get};
 ghost use Rattle.plan_audit.specs.Finding.{first_place, first_off_pin, off_pin_at};
 

@@ -1,4 +1,5 @@
-//! The rules that speak of where stops stand.
+//! The rules that speak of where stops stand, 1 to 5, by the first seat of each stop; and the requests
+//! without one.
 ghost use Rattle.std.specs.Prelude.{◌≡◌, ℕ, ◌^◌, ◌+◌, ◌<◌, ◌≤◌, length, List, None, Option, All, IfSome, slice_index_or, slice_get};
 ghost use Rattle.std.specs.Option.{option_and_then};
 ghost use Rattle.plan_audit.specs.Finding.{first_place, first_route, told_by, first_unserved, unserved_in, seat_of, unknown_at, repeated_at, missing_at, split_at, delivered_at};

@@ -1,4 +1,4 @@
-//! The rules that speak of loads and times.
+//! The rules that speak of loads and times, 6 to 8. Each drives along a route without memory.
 ghost use Rattle.std.specs.Prelude.{◌≡◌, ℕ, ◌^◌, ◌<◌, ◌↔◌, ◌+◌, Bool, IsTrue, IfSome, All, length, int_lt, pos};
 ghost use Rattle.route_sched.specs.Route.{AreLiveOnce};
 ghost use Rattle.route_sched.specs.Schedule.{start};

@@ -2,10 +2,6 @@
 use Rattle.std.specs.Prelude.{ℕ, ◌-◌, ◌^◌, ℤ, List, [], ◌∷◌, ◌++◌}
 use Rattle.std.specs.Fmt.{format_spec, styled_decimal, styled_signed_decimal}
 
--- a line with its end
-abbrev pub line : List ℕ → List ℕ
-line text = text ++ 10 ∷ []
-
 -- a number at the right of a column that is so wide, with blanks before it; what is wider stands whole
 abbrev pub right : ℕ → ℕ → List ℕ
 right width n = styled_decimal (format_spec 32 3 0 width (2 ^ 64 - 1)) n

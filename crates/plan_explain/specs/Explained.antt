@@ -4,7 +4,7 @@ use Rattle.plan_types.specs.Instance.{Instance}
 use Rattle.sol_text.specs.declared.read.Solution.{Solution}
 use Rattle.plan_audit.specs.declared.rules.Verdict.{Verdict}
 use Rattle.plan_audit.specs.declared.rules.Verdict.TheVariants.{Broken, Pass}
-use Rattle.plan_explain.specs.Columns.{line}
+use Rattle.text_lines.specs.Lines.{ended}
 use Rattle.plan_explain.specs.Sentences.{route_told, sentence}
 use Rattle.plan_explain.specs.Summaries.{summary_text}
 use Rattle.plan_explain.specs.Tables.{stops_table, table_text}
@@ -21,4 +21,4 @@ shown_text p routes rule r =
 -- a broken rule: its sentence and the route; a solution that passes: a line for each route
 abbrev pub verdict_text : Instance → Solution → Verdict → List ℕ
 verdict_text p plan (Pass cost) = summary_text p plan.routes
-verdict_text p plan (Broken rule r i n) = line (sentence p plan rule r i n) ++ shown_text p plan.routes rule r
+verdict_text p plan (Broken rule r i n) = ended (sentence p plan rule r i n) ++ shown_text p plan.routes rule r

@@ -1,8 +1,7 @@
 -- What is said of a text that is refused: the sentence of its fault, then the line that the fault names.
 use Rattle.std.specs.Prelude.{◌≡◌, ℕ, nat_le, ◌==◌, ◌&&◌, ◌||◌, Bool, List, [], ◌++◌, map, take, Option, Some, None, if◌then◌else◌}
-use Rattle.text_lines.specs.Lines.{lines_of}
+use Rattle.text_lines.specs.Lines.{ended, lines_of}
 use Rattle.plan_audit.specs.Rules.{item_at}
-use Rattle.plan_explain.specs.Columns.{line}
 
 -- it is shown as it is: a printable character of ASCII, or a tab
 abbrev pub is_shown : ℕ → Bool
@@ -19,8 +18,8 @@ shown_bytes bytes = map shown_byte (take 200 bytes)
 -- the line, where the text has it
 abbrev pub cited_line : Option (List ℕ) → List ℕ
 cited_line None = []
-cited_line (Some bytes) = line (shown_bytes bytes)
+cited_line (Some bytes) = ended (shown_bytes bytes)
 
 -- a sentence, and under it the line with this number; lines count from 1
 abbrev pub TellsFault : List ℕ → ℕ → List ℕ → Type 0
-TellsFault text number answer = (sentence : List ℕ) × (answer ≡ line sentence ++ cited_line (item_at (lines_of text) number))
+TellsFault text number answer = (sentence : List ℕ) × (answer ≡ ended sentence ++ cited_line (item_at (lines_of text) number))

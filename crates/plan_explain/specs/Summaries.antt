@@ -4,7 +4,8 @@ use Rattle.std.specs.Int.{int_max}
 use Rattle.plan_types.specs.Instance.{Instance}
 use Rattle.route_sched.specs.Schedule.{route_length, start}
 use Rattle.route_sched.specs.Cost.{total_length}
-use Rattle.plan_explain.specs.Columns.{line, right, right_signed}
+use Rattle.text_lines.specs.Lines.{ended}
+use Rattle.plan_explain.specs.Columns.{right, right_signed}
 use Rattle.plan_explain.specs.Phrases.{phrase}
 use Rattle.plan_explain.specs.Tables.{rows_of}
 use Rattle.plan_explain.specs.declared.phrases.Phrase.TheVariants.{RoutesHeading, Sum}
@@ -39,7 +40,7 @@ unfoldable pub way_text : ℕ → Summary → List ℕ
 way_text k s = right 5 k ++ codes " " ++ right 6 s.stops ++ codes " " ++ right 10 s.distance ++ codes " " ++ right_signed 9 s.load ++ codes " "
 
 unfoldable pub day_text : Summary → List ℕ
-day_text s = line (right 10 s.start ++ codes " " ++ right 10 s.back ++ codes " " ++ right 10 s.waiting)
+day_text s = ended (right 10 s.start ++ codes " " ++ right 10 s.back ++ codes " " ++ right 10 s.waiting)
 
 abbrev pub summary_line : ℕ → Summary → List ℕ
 summary_line k s = way_text k s ++ day_text s
@@ -55,7 +56,7 @@ sums_of p routes = record { stops = sum_by length routes; distance = total_lengt
 
 -- in their columns
 abbrev pub sums_text : Sums → List ℕ
-sums_text s = phrase Sum ++ line (right 7 s.stops ++ right 11 s.distance ++ right 43 s.waiting)
+sums_text s = phrase Sum ++ ended (right 7 s.stops ++ right 11 s.distance ++ right 43 s.waiting)
 
 abbrev pub summary_text : Instance → List (List ℕ) → List ℕ
 summary_text p routes = phrase RoutesHeading ++ summary_lines p 1 routes ++ sums_text (sums_of p routes)

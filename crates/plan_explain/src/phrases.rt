@@ -38,6 +38,7 @@ pub(crate) enum Phrase {
 }
 
 impl Phrase {
+    /// The words, in ASCII.
     #[tactic(auto, unfolding(crate::specs::Phrases::phrase))]
     pub(crate) fn text(self) -> &'static str
         ensures { result.now ≡ phrase self }

@@ -1,9 +1,10 @@
-//! What is said of a text that is refused.
+//! What is said of a text that is refused: the sentence of its fault, and under it the line that the fault names.
+//!
+//! A line that is cited keeps its tabs, since Li and Lim's files use them; other bytes that can't be printed are `?`.
 ghost use Rattle.std.specs.Prelude.{◌≡◌, ◌++◌, IfOk, OnOk, map, string_bytes, take};
 ghost use Rattle.std.specs.Option.{option_copied};
-ghost use Rattle.text_lines.specs.Lines.{lines_of};
+ghost use Rattle.text_lines.specs.Lines.{ended, lines_of};
 ghost use Rattle.plan_audit.specs.Rules.{item_at};
-ghost use Rattle.plan_explain.specs.Columns.{line};
 ghost use Rattle.plan_explain.specs.Refused.{TellsFault, cited_line, shown_byte, shown_bytes};
 
 use instance_read::ReadFault;
@@ -43,7 +44,7 @@ pub fn explain_solution_fault(
 // The sentence, and under it the line with this number.
 fn cite(sentence: String, text: &[u8], number: u64) -> Result<String, OutOfMemory>
     ensures { IfOk result (λ answer. string_bytes answer
-        ≡ line (string_bytes sentence) ++ cited_line (item_at (lines_of text.now) number)) }
+        ≡ ended (string_bytes sentence) ++ cited_line (item_at (lines_of text.now) number)) }
 {
     let mut answer = sentence;
     answer.push_str("\n")?;
@@ -55,7 +56,7 @@ fn cite(sentence: String, text: &[u8], number: u64) -> Result<String, OutOfMemor
 
 fn put_cited(text: &mut String, bytes: &[u8]) -> Result<(), OutOfMemory>
     ensures { OnOk result (string_bytes text.new
-        ≡ string_bytes text.old ++ line (shown_bytes bytes.now)) }
+        ≡ string_bytes text.old ++ ended (shown_bytes bytes.now)) }
 {
     put_bytes(text, front(bytes))?;
     text.push_str("\n")

@@ -1,4 +1,4 @@
-//! What happens at the places of a route.
+//! What happens at the places of a route: arrival, start of service, window and load.
 ghost use Rattle.std.specs.Prelude.{◌≡◌, ◌+◌, ◌<◌, ◌≤◌, ◌^◌, length, IfOk};
 ghost use Rattle.route_sched.specs.Route.{AreLiveOnce};
 ghost use Rattle.route_sched.specs.Visiting.{visit_after};

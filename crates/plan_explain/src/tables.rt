@@ -2,7 +2,8 @@
 ghost use Rattle.std.specs.Prelude.{◌≡◌, ◌++◌, OnOk, codes, string_bytes};
 ghost use Rattle.std.specs.List.{flat_map};
 ghost use Rattle.route_sched.specs.Route.{AreLiveOnce};
-ghost use Rattle.plan_explain.specs.Columns.{line, right};
+ghost use Rattle.text_lines.specs.Lines.{ended};
+ghost use Rattle.plan_explain.specs.Columns.{right};
 ghost use Rattle.plan_explain.specs.Phrases.{phrase};
 ghost use Rattle.plan_explain.specs.Tables.{heading, load_text, row_text, stop_rows, stops_table, table_text, times_text, window_text};
 
@@ -119,7 +120,7 @@ fn put_stop_rows(text: &mut String, route: &[u32]) -> Result<(), OutOfMemory>
 
 fn put_stop(text: &mut String, place: u64, stop: u32) -> Result<(), OutOfMemory>
     ensures { OnOk result (string_bytes text.new
-        ≡ string_bytes text.old ++ line (right 5 place ++ codes " " ++ right 6 stop)) }
+        ≡ string_bytes text.old ++ ended (right 5 place ++ codes " " ++ right 6 stop)) }
 {
     writeln!(text, "{place:>5} {stop:>6}")
 }

@@ -5,7 +5,7 @@ use Rattle.std.specs.Option.{option_and_then, option_map_or}
 use Rattle.plan_types.specs.Instance.{Instance, partner_at, pickup_at, stop_at}
 use Rattle.plan_types.specs.declared.requests.Stop.{Stop}
 use Rattle.plan_picture.specs.Frame.{bounds_of, framed, point_of}
-use Rattle.plan_picture.specs.Svg.{attribute, broken_class, colour, each, named, placed}
+use Rattle.plan_picture.specs.Svg.{attribute, broken_class, colour, each, named, placed_tag}
 use Rattle.plan_picture.specs.declared.frame.Frame.{Frame}
 use Rattle.plan_picture.specs.Texts.{fixed}
 use Rattle.plan_picture.specs.declared.texts.Text.{Text}
@@ -30,7 +30,7 @@ line_text p f broken number route = line_head broken number ++ fixed text.Points
 
 -- a shape where the stop stands, with the stop's number as its title
 unfoldable pub mark_text : Text → Frame → Stop → List ℕ
-mark_text shape f s = placed shape (point_of f s) ++ named text.Title s.number ++ fixed text.MarkEnd
+mark_text shape f s = placed_tag shape (point_of f s) ++ named text.Title s.number ++ fixed text.MarkEnd
 
 -- pickups, deliveries and single stops are told apart
 abbrev pub shape_of : Instance → ℕ → Text
@@ -48,7 +48,7 @@ ring_text p f n = option_map_or (mark_text text.BrokenMark f) (stop_at p n) []
 -- the number of a route at the stop in its middle
 unfoldable pub label_at : Frame → ℕ → Stop → List ℕ
 label_at f number s =
-    placed text.Label (point_of f s) ++ colour text.Fill number ++ named text.LabelNumber number ++ fixed text.LabelEnd
+    placed_tag text.Label (point_of f s) ++ colour text.Fill number ++ named text.LabelNumber number ++ fixed text.LabelEnd
 
 abbrev pub label_text : Instance → Frame → ℕ → List ℕ → List ℕ
 label_text p f number route = option_map_or (label_at f number) (option_and_then (stop_at p) (slice_get route (length route / 2))) []

@@ -14,8 +14,8 @@ unfoldable pub attribute : Text → ℕ → List ℕ
 attribute t n = fixed t ++ decimal n ++ fixed text.Quote
 
 -- a tag with the place where it stands, not closed yet
-unfoldable pub placed : Text → Point → List ℕ
-placed t point = fixed t ++ attribute text.X point.x ++ attribute text.Y point.y
+unfoldable pub placed_tag : Text → Point → List ℕ
+placed_tag t point = fixed t ++ attribute text.X point.x ++ attribute text.Y point.y
 
 -- the colour of the route with this number: neighbors are 137 degrees apart on the wheel of 360
 unfoldable pub colour : Text → ℕ → List ℕ

@@ -1,4 +1,4 @@
-//! The whole picture.
+//! The whole picture: the verdict, the map, the table and the days.
 ghost use Rattle.std.specs.Prelude.{◌≡◌, ◌++◌, All, IfOk, OnOk};
 ghost use Rattle.route_sched.specs.Route.{AreLiveOnce};
 ghost use Rattle.plan_picture.specs.Picture.{broken_route, broken_stop, broken_text, cost_text, drawing, head_text, picture, verdict_text};
@@ -11,7 +11,7 @@ use plan_audit::Verdict;
 use plan_types::{Cost, OutOfMemory, Problem, Route};
 use std::alloc::Global;
 
-/// The picture of a plan as SVG, in whole numbers alone: a line for each route, a mark for each stop, a row of figures for each route,
+/// The picture of a plan as SVG 2, in whole numbers alone: a line for each route, a mark for each stop, a row of figures for each route,
 /// and, where windows count, the day of each vehicle.
 ///
 /// What the verdict tells as broken is marked. Of each route the stops are drawn that the problem has, each where it stands first, so a

@@ -1,4 +1,7 @@
 //! Where the stops stand in the picture.
+//!
+//! The scale is the least whole number by which the greater side becomes 4000 long or more. Marks, lines and
+//! letters are measured in `em` of a font as large as the unit, a 400th of that side rounded down.
 ghost use Rattle.std.specs.Prelude.{◌≡◌, ◌≤◌};
 ghost use Rattle.std.specs.Int.{int_max, int_min};
 ghost use Rattle.plan_picture.specs.Frame.{bounds_at, bounds_of, framed, gap, point_of, scale_of, size_of, unit_of, widened};

@@ -19,6 +19,7 @@ pub(crate) struct Broken {
 }
 
 impl Svg {
+    /// Appends the map: an element `svg` with lines, marks, ring and numbers.
     pub(crate) fn put_map(
         &mut self,
         problem: &Problem,

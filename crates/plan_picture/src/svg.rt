@@ -1,7 +1,9 @@
 //! The text of a picture, piece by piece.
+//!
+//! Route n has the colour `hsl(137 n mod 360, 75%, 30 + 4 (n mod 7)%)`, which is another one for 2,520 routes.
 ghost use Rattle.std.specs.Prelude.{◌≡◌, ◌++◌, [], OnOk, decimal};
 ghost use Rattle.std.specs.Fmt.{signed_decimal};
-ghost use Rattle.plan_picture.specs.Svg.{attribute, bar, broken_class, colour, named, placed};
+ghost use Rattle.plan_picture.specs.Svg.{attribute, bar, broken_class, colour, named, placed_tag};
 ghost use Rattle.plan_picture.specs.Texts.{fixed};
 
 use crate::frame::Point;
@@ -26,6 +28,7 @@ impl Model for Svg {
 }
 
 impl Svg {
+    /// No text.
     pub(crate) fn new(alloc: Global) -> Svg
         ensures { result ≡ [] }
     {
@@ -34,6 +37,7 @@ impl Svg {
         }
     }
 
+    /// Gives the bytes back, without taking memory.
     pub(crate) fn into_vec(self) -> Vec<u8>
         ensures { result.items ≡ self }
     {
@@ -54,6 +58,7 @@ impl Svg {
         self.put_str(buffer.format(n))
     }
 
+    /// Appends a number in decimal.
     pub(crate) fn put_signed(&mut self, n: i64) -> Result<(), OutOfMemory>
         ensures { OnOk result (self.new ≡ self.old ++ signed_decimal n) }
     {
@@ -61,13 +66,14 @@ impl Svg {
         self.put_str(buffer.format(n))
     }
 
+    /// Appends a fixed text.
     pub(crate) fn put(&mut self, text: Text) -> Result<(), OutOfMemory>
         ensures { OnOk result (self.new ≡ self.old ++ fixed text) }
     {
         self.put_str(text.as_str())
     }
 
-    // A text and the number behind it.
+    /// A text and the number behind it.
     #[tactic(auto, unfolding(crate::specs::Svg::named))]
     pub(crate) fn put_named(&mut self, text: Text, n: u128) -> Result<(), OutOfMemory>
         ensures { OnOk result (self.new ≡ self.old ++ named text n) }
@@ -76,7 +82,7 @@ impl Svg {
         self.put_number(n)
     }
 
-    // The same with the quote that ends an attribute.
+    /// The same with the quote that ends an attribute.
     #[tactic(auto, unfolding(crate::specs::Svg::attribute))]
     pub(crate) fn put_attribute(&mut self, text: Text, n: u128) -> Result<(), OutOfMemory>
         ensures { OnOk result (self.new ≡ self.old ++ attribute text n) }
@@ -86,17 +92,17 @@ impl Svg {
         self.put(Text::Quote)
     }
 
-    // A tag with the place where it stands, not closed yet.
-    #[tactic(auto, unfolding(crate::specs::Svg::placed))]
+    /// A tag with the place where it stands, not closed yet.
+    #[tactic(auto, unfolding(crate::specs::Svg::placed_tag))]
     pub(crate) fn put_placed(&mut self, text: Text, point: Point) -> Result<(), OutOfMemory>
-        ensures { OnOk result (self.new ≡ self.old ++ placed text point) }
+        ensures { OnOk result (self.new ≡ self.old ++ placed_tag text point) }
     {
         self.put(text)?;
         self.put_attribute(Text::X, point.x)?;
         self.put_attribute(Text::Y, point.y)
     }
 
-    // An attribute with the colour of the route with this number.
+    /// An attribute with the colour of the route with this number.
     #[tactic(auto, unfolding(crate::specs::Svg::colour))]
     pub(crate) fn put_colour(&mut self, text: Text, number: u64) -> Result<(), OutOfMemory>
         ensures { OnOk result (self.new ≡ self.old ++ colour text number) }
@@ -108,7 +114,7 @@ impl Svg {
         self.put(Text::ColourEnd)
     }
 
-    // A class where the route with this number is the broken one.
+    /// A class where the route with this number is the broken one.
     #[tactic(auto, unfolding(crate::specs::Svg::broken_class))]
     pub(crate) fn put_broken(&mut self, broken: u64, number: u64) -> Result<(), OutOfMemory>
         ensures { OnOk result (self.new ≡ self.old ++ broken_class broken number) }
@@ -120,7 +126,7 @@ impl Svg {
         }
     }
 
-    // A bar of a tag from a time on, where it is not empty.
+    /// A bar of a tag from a time on, where it is not empty.
     #[tactic(auto, unfolding(crate::specs::Svg::bar))]
     pub(crate) fn put_bar(
         &mut self,

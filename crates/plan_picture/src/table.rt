@@ -1,4 +1,5 @@
-//! The table under the map: a row of figures for each route.
+//! The table under the map: a row for each route, with its colour and its figures. Where windows count, the day of its
+//! vehicle stands beside it.
 ghost use Rattle.std.specs.Prelude.{◌≡◌, ◌++◌, All, OnOk};
 ghost use Rattle.route_sched.specs.Route.{AreLiveOnce};
 ghost use Rattle.plan_picture.specs.Table.{figures_text, load_text, row_head, row_text, rows_text, top_load};
@@ -11,6 +12,7 @@ use route_sched::{Visit, route_distance};
 use std::alloc::Global;
 
 impl Svg {
+    /// Appends a row of figures for each route.
     pub(crate) fn put_rows(
         &mut self,
         alloc: Global,

@@ -71,6 +71,7 @@ pub(crate) enum Text {
 }
 
 impl Text {
+    /// The text itself.
     #[tactic(auto, unfolding(crate::specs::Texts::fixed))]
     pub(crate) fn as_str(self) -> &'static str
         ensures { result.now ≡ fixed self }

@@ -1,3 +1,4 @@
+//! Why there is no solution.
 use instance_read::ReadFault;
 use std::alloc::AllocError;
 use thiserror::Error;

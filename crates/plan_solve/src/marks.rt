@@ -1,4 +1,4 @@
-//! How far a search is when a line tells it.
+//! At which steps a line tells how far the search is.
 ghost use Rattle.std.specs.Prelude.{◌≡◌, ◌≤◌};
 ghost use Rattle.plan_solve.specs.Solved.{twentieths};
 

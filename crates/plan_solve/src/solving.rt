@@ -1,7 +1,7 @@
 //! From an instance's text to a solution's.
 ghost use Rattle.std.specs.Prelude.{◌≡◌, IfErr, IfOk, MatchResult, OnOk};
 ghost use Rattle.std.specs.Io.KnownBytes.{Appends};
-ghost use Rattle.instance_read.specs.Faults.{Tells};
+ghost use Rattle.instance_read.specs.Faults.{TellsFirstFault};
 ghost use Rattle.command_core.specs.Effects.{effect};
 ghost use Rattle.command_core.specs.declared.commands.Command.TheVariants.{Search};
 ghost use Rattle.command_text.specs.Answering.{at_line};
@@ -47,7 +47,7 @@ pub fn solve<W: Write>(
     solution_text(alloc, &solved)
 }
 
-/// Loads the instance and builds a plan.
+// Loads the instance and builds a plan.
 fn begin(alloc: Global, kind: Kind, instance: &[u8], seed: u64) -> Result<State, SolveFault>
     ensures state { IfOk result (IsBegun kind instance.now seed) }
     ensures fault { IfErr result (IsOfText kind instance.now) }
@@ -62,7 +62,7 @@ fn begin(alloc: Global, kind: Kind, instance: &[u8], seed: u64) -> Result<State,
 
 fn read(alloc: Global, kind: Kind, text: &[u8]) -> Result<Problem, ReadFault>
     ensures value { IfOk result (SpellsInstance kind text.now) }
-    ensures fault { IfErr result (Tells (InstanceFault kind text.now)) }
+    ensures fault { IfErr result (TellsFirstFault (InstanceFault kind text.now)) }
 {
     match kind {
         Kind::LiLim => read_lilim(alloc, text),
@@ -79,7 +79,7 @@ fn refused(fault: ReadFault) -> SolveFault
     }
 }
 
-/// What a command makes of the state. Those of a solving are never refused but for want of memory.
+// What a command makes of the state. Those of a solving are never refused but for want of memory.
 fn carried_out(alloc: Global, state: &State, command: &Command) -> Result<State, OutOfMemory>
     ensures { IfOk result (λ next. next ≡ effect state.now command.now) }
 {
@@ -89,7 +89,7 @@ fn carried_out(alloc: Global, state: &State, command: &Command) -> Result<State,
     }
 }
 
-/// The steps of the search, and a line before them and at each twentieth.
+// The steps of the search, and a line before them and at each twentieth.
 fn search_telling<W: Write>(
     alloc: Global,
     begun: State,
@@ -118,7 +118,7 @@ fn search_telling<W: Write>(
     Ok(state)
 }
 
-/// So many more steps of the search, piece by piece.
+// So many more steps of the search, piece by piece.
 fn search(alloc: Global, state: State, steps: u32) -> Result<State, OutOfMemory>
     ensures { IfOk result (λ found. found ≡ effect state (Search steps)) }
 {
@@ -133,7 +133,7 @@ fn search(alloc: Global, state: State, steps: u32) -> Result<State, OutOfMemory>
     Ok(state)
 }
 
-/// Writes how far the search is, and flushes it.
+// Writes how far the search is, and flushes it.
 fn tell<W: Write>(state: &State, progress: &mut W) -> Result<(), SolveFault>
     ensures told { OnOk result (Appends (W.contents progress.old) (W.contents progress.new)
         (at_line state.now)) }
@@ -159,7 +159,7 @@ fn write_line<W: Write>(progress: &mut W, text: &[u8]) -> Result<(), SolveFault>
     Ok(())
 }
 
-/// The text of the plan, where every request is in a route.
+// The text of the plan, where every request is in a route.
 fn solution_text(alloc: Global, state: &State) -> Result<Text, SolveFault>
     ensures { MatchResult result (IsText state.now) (LeavesOut state.now) }
 {

@@ -1,4 +1,4 @@
-//! What holds of every problem, for every look-up, and of all costs.
+//! What holds of every problem, for every look-up, and of all costs: laws are functions with an empty body.
 ghost use Rattle.std.specs.Prelude.{◌≡◌};
 ghost use Rattle.std.specs.Ordering.{partial_lt, partial_le, is_lt};
 ghost use Rattle.plan_types.specs.Cost.{cost_below, cost_at_most, BelowTells, AtMostTells, CostsAreTotal, CostsAreTransitive, CostsAreAntisymmetric, BelowThenAtMost, AtMostThenBelow, BelowIsAtMost};

@@ -1,3 +1,8 @@
+//! Routes, plans, pins and costs.
+//!
+//! One route of a list is changed by `set`, taken by `replace`, or lent by `route_mut` to be edited in its
+//! place. A route's stops are not lent as a slice that can be written, since the kit finds no proof of that
+//! borrow; `Route::set` stands for it.
 ghost use Rattle.std.specs.Prelude.{◌≡◌, ◌<◌, ◌≤◌, IfOk, OnOk, OnErr, Some, length, slice_get, slice_set, insert, remove};
 ghost use Rattle.std.specs.Prelude.{List, [], ◌∷◌, ◌++◌, ℕ};
 

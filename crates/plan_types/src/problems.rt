@@ -1,3 +1,4 @@
+//! The problem: its requests by name, and beside them a table of the stops by number.
 ghost use Rattle.std.specs.Prelude.{◌≡◌, ℕ, All, IsTrue, ◌<◌, ◌≤◌, ◌↔◌, length, IsOk, IfOk, IfErr, IfSome, OnOk, OnErr, IsErrOf, IsSome, None, Some, nat_eq, ◌==◌, if◌then◌else◌, take, drop, vec_len};
 ghost use Rattle.std.specs.List.{AllByRecursion};
 ghost use Rattle.std.specs.List.Sorted.{IsStrictlySortedBy};
@@ -18,13 +19,16 @@ use std::alloc::{AllocError, AllocFailed, Global};
 use std::marker::Model;
 use thiserror::Error;
 
-/// Why a problem does not take a request.
+/// Why a problem is not made, or does not take a request.
 #[derive(Clone, Copy, Debug, PartialEq, Eq, Error)]
 pub enum PutFault {
+    /// A field is outside its limits, a pair has one number twice, or its delivery is not of its pickup's goods.
     #[error("a field is outside its limits")]
     Range,
+    /// A stop of the problem has one of the request's numbers.
     #[error("a stop number is taken")]
     Taken,
+    /// An allocation was refused.
     #[error("out of memory")]
     OutOfMemory,
 }
@@ -40,7 +44,7 @@ impl From<AllocError> for PutFault {
     }
 }
 
-// A stop, the name of its request, and the other stop of its pair.
+/// A stop, the name of its request, and the other stop of its pair.
 #[derive(Clone, Copy, Debug)]
 pub(crate) struct Located {
     name: u32,
@@ -50,15 +54,18 @@ pub(crate) struct Located {
 
 /// What is to be planned: a depot, a fleet of equal vehicles, and requests.
 ///
-/// Every number keeps its limits, no stop number stands twice, and the requests stand by name in rising order.
+/// Every number keeps its limits, no stop number stands twice, and the requests stand by name in rising order. Contracts
+/// see a record of the public fields, with the requests as a list of (name, request).
 #[derive(Debug, Drop)]
 pub struct Problem {
     pub kind: Kind,
+    /// Where each route begins and ends; its window is the vehicles' day.
     pub depot: Stop,
     /// What one vehicle can carry, 0..=1,000,000.
     pub capacity: u32,
     /// How many vehicles there are, 1..=40,000.
     pub fleet: u32,
+    /// The requests by name, in rising order.
     pub requests: IndexMap<u32, Request>,
     /// The number that the next new stop takes, 1..=40,001: above each number that is there.
     pub next_number: u32,
@@ -106,7 +113,7 @@ impl Problem {
         })
     }
 
-    /// The stop with this number.
+    /// The stop with this number; none where no request has it, and for the depot's 0. Takes no memory.
     pub fn stop(&self, number: u32) -> Option<&Stop>
         ensures found { option_copied result ≡ stop_at self.now number }
         ensures stop { IfSome result
@@ -119,7 +126,7 @@ impl Problem {
         }
     }
 
-    /// The name of the request that has the stop with this number.
+    /// The name of the request that has the stop with this number. Takes no memory.
     pub fn name_of(&self, number: u32) -> Option<u32>
         ensures found { result ≡ name_at self.now number }
         ensures request { IfSome result
@@ -156,7 +163,8 @@ impl Problem {
         }
     }
 
-    /// Adds a request under its name, and raises `next_number` above its numbers. A refusal changes nothing.
+    /// Adds a request under its name, and raises `next_number` above its numbers. `Range` is told before `Taken`, and
+    /// that before want of memory. A refusal changes nothing.
     // Inlined as far as the map, so that a request's fields need not pass through memory one by one.
     #[inline(always)]
     pub fn put(&mut self, request: Request) -> Result<(), PutFault>
@@ -213,7 +221,7 @@ impl Problem {
         self.stop(number).is_some()
     }
 
-    /// Sets the number that the next new stop takes.
+    /// Sets the number that the next new stop takes, in 1..=40,001 and above each number that is there.
     pub fn set_next_number(&mut self, number: u32)
         requires from_one { 1 ≤ number }
         requires to_most { number ≤ 40001 }

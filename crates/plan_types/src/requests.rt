@@ -1,3 +1,4 @@
+//! Stops and requests, and the limits that their fields keep.
 ghost use Rattle.std.specs.Prelude.{◌≡◌, ◌↔◌, IsTrue};
 ghost use Rattle.plan_types.specs.Limits.{IsCoordinate, IsVisit, IsStop, IsDepot, IsDemand};
 ghost use Rattle.plan_types.specs.Request.{request_name, number_after, IsRequest};
@@ -14,10 +15,10 @@ pub struct Stop {
     pub y: i32,
     /// The goods taken on board, in -1,000,000..=1,000,000; negative at a delivery.
     pub demand: i32,
-    /// The window in which the service begins, in 0..=100,000,000.
+    /// The window in which the service begins, in 0..=100,000,000. A unit of distance takes a unit of time.
     pub earliest: u32,
     pub latest: u32,
-    /// How long the service takes, 0..=1,000,000.
+    /// How long the service takes, 0..=1,000,000, in the same unit.
     pub service: u32,
 }
 
@@ -52,7 +53,7 @@ impl Stop {
         1 <= self.number && self.number <= MAX_STOP_NUMBER && self.is_visit()
     }
 
-    // Whether it can be the depot.
+    /// Whether it can be the depot.
     pub(crate) fn is_depot(&self) -> bool
         ensures { IsTrue result ↔ IsDepot self.now }
     {
@@ -63,7 +64,7 @@ impl Stop {
 /// What a customer asks for.
 #[derive(Clone, Copy, Debug, PartialEq, Eq)]
 pub enum Request {
-    /// One stop that collects or hands out goods.
+    /// One stop, whose demand, 0 or more, is on board from there on.
     Single(Stop),
     /// A pickup, then the delivery of the same goods by the same vehicle.
     Pair(Stop, Stop),
@@ -80,7 +81,7 @@ impl Request {
         }
     }
 
-    // Whether it can be a request of a problem.
+    /// Whether it can be a request of a problem.
     pub(crate) fn is_request(&self) -> bool
         ensures { IsTrue result ↔ IsRequest self.now }
     {
@@ -96,7 +97,7 @@ impl Request {
         }
     }
 
-    // One above its greatest number.
+    /// One above its greatest number.
     pub(crate) fn number_after(&self) -> u32
         requires { IsRequest self.now }
         ensures { result ≡ number_after self.now }
@@ -111,8 +112,8 @@ impl Request {
 /// Which rules a problem follows.
 #[derive(Clone, Copy, Debug, PartialEq, Eq)]
 pub enum Kind {
-    /// Pickup and delivery with time windows.
+    /// Pickup and delivery with time windows (Li and Lim).
     LiLim,
-    /// Capacitated vehicle routing: windows and services are kept and not asked.
+    /// Capacitated vehicle routing (CVRPLIB): windows are kept and not asked.
     Vrp,
 }

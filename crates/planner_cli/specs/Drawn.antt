@@ -8,7 +8,8 @@ use Rattle.plan_types.specs.declared.requests.Kind.{Kind}
 use Rattle.plan_picture.specs.Picture.{picture}
 use Rattle.planner_cli.specs.Examined.{IsExamined, answer_of}
 use Rattle.planner_cli.specs.Files.{AreBothRead, IsUnread}
-use Rattle.planner_cli.specs.Telling.{TellsUnread, line}
+use Rattle.command_text.specs.Answers.{line}
+use Rattle.planner_cli.specs.Telling.{TellsUnread}
 use Rattle.planner_cli.specs.declared.audit.Examined.{Examined}
 use Rattle.planner_cli.specs.declared.audit.Examined.TheVariants.{BadInstance, BadSolution, Judged}
 use Rattle.planner_cli.specs.declared.drawn.Drawing.{Drawing}

@@ -10,7 +10,8 @@ use Rattle.plan_explain.specs.Refused.{TellsFault}
 use Rattle.planner_cli.specs.Answer.{IsAnswer}
 use Rattle.planner_cli.specs.Examined.{IsExamined, answer_of}
 use Rattle.planner_cli.specs.Files.{AreBothRead, IsUnread}
-use Rattle.planner_cli.specs.Telling.{TellsUnread, line}
+use Rattle.command_text.specs.Answers.{line}
+use Rattle.planner_cli.specs.Telling.{TellsUnread}
 use Rattle.planner_cli.specs.declared.audit.Examined.{Examined}
 use Rattle.planner_cli.specs.declared.audit.Examined.TheVariants.{BadInstance, BadSolution, Judged}
 use Rattle.planner_cli.specs.declared.explained.Explanation.{Explanation}

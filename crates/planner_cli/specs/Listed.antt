@@ -8,7 +8,8 @@ use Rattle.std.specs.declared.io.ErrorKind.{ErrorKind}
 use Rattle.plan_types.specs.declared.requests.Kind.{Kind}
 use Rattle.text_lines.specs.Lines.{lines_of}
 use Rattle.planner_cli.specs.Files.{Gave, IsToldOfFiles}
-use Rattle.planner_cli.specs.Telling.{TellsUnread, line}
+use Rattle.command_text.specs.Answers.{line}
+use Rattle.planner_cli.specs.Telling.{TellsUnread}
 
 -- `-` is standard input
 abbrev pub list_path : List ℕ → List ℕ

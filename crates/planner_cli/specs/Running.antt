@@ -11,7 +11,8 @@ use Rattle.command_serving.specs.declared.answering.ServeFault.{ServeFault}
 use Rattle.command_serving.specs.declared.answering.ServeFault.TheVariants as serve
 use Rattle.command_text.specs.Cutting.{pieces_of}
 use Rattle.command_text.specs.Readings.{IsReading, Reading}
-use Rattle.planner_cli.specs.Telling.{line, open_line, open_status, store_line, store_status}
+use Rattle.command_text.specs.Answers.{line}
+use Rattle.planner_cli.specs.Telling.{open_line, open_status, store_line, store_status}
 use Rattle.recover.specs.Applying.{IsBetween}
 use Rattle.recover.specs.Opening.{IsReplayed, Opens, StandsForNone}
 use Rattle.recover.specs.Sessions.{SessionValue}

@@ -10,7 +10,8 @@ use Rattle.plan_solve.specs.declared.faults.SolveFault.TheVariants as fault
 use Rattle.planner_cli.specs.AnswerText.{fault_text}
 use Rattle.command_line.specs.Asked.{TaskAsked}
 use Rattle.planner_cli.specs.Files.{Gave}
-use Rattle.planner_cli.specs.Telling.{TellsUnread, line}
+use Rattle.command_text.specs.Answers.{line}
+use Rattle.planner_cli.specs.Telling.{TellsUnread}
 
 -- why there is no solution, unless it is that telling failed
 abbrev pub fault_line : SolveFault → List ℕ

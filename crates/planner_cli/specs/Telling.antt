@@ -14,12 +14,9 @@ use Rattle.sector_disk.specs.declared.file_device.FileFault.{FileFault}
 use Rattle.sector_disk.specs.declared.file_device.FileFault.TheVariants as file
 use Rattle.std.specs.declared.alloc.AllocError.{AllocError}
 use Rattle.plan_types.specs.declared.requests.Kind.{Kind}
+use Rattle.command_text.specs.Answers.{line}
 use Rattle.planner_cli.specs.Answer.{IsAnswer}
 use Rattle.planner_cli.specs.declared.answer.AuditAnswer.{AuditAnswer}
-
--- a line with its end
-abbrev pub line : List ℕ → List ℕ
-line text = text ++ 10 ∷ []
 
 -- it tells want of memory
 abbrev pub is_memory : ErrorKind → Bool

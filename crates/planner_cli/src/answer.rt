@@ -1,4 +1,7 @@
 //! The lines that answer an audit.
+//!
+//! Lines are written by `format!`, where the text of a solution is printed number by number without taking memory
+//! for each.
 ghost use Rattle.std.specs.Prelude.{◌≡◌, ℕ, List, IfOk};
 ghost use Rattle.planner_cli.specs.AnswerText.{broken_text, fault_text, pass_text};
 

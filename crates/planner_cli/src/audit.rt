@@ -1,6 +1,6 @@
 //! The audit of two texts.
 ghost use Rattle.std.specs.Prelude.{◌≡◌, ◌≢◌, ◌≤◌, IfErr, IfOk};
-ghost use Rattle.instance_read.specs.Faults.{Tells};
+ghost use Rattle.instance_read.specs.Faults.{TellsFirstFault};
 ghost use Rattle.command_text.specs.Readings.{InstanceFault, SpellsInstance};
 ghost use Rattle.planner_cli.specs.Answer.{IsAnswer, JudgesSpelled, SaysSound, refused_answer, verdict_answer};
 ghost use Rattle.planner_cli.specs.Examined.{IsExamined, answer_of};
@@ -16,10 +16,14 @@ use std::alloc::{AllocError, Global};
 
 /// Audits a solution's text against an instance's text.
 ///
-/// The line is `pass UNPLANNED VEHICLES DISTANCE` with status 0, `broken RULE route R place P stop S` with
-/// status 1 for the least broken rule, or `instance NAME LINE` or `solution NAME LINE` with status 2 for a text
-/// that is refused, the instance first. So the status is 0 just where both texts spell values and the solution is sound,
-/// serves each request, keeps the fleet, and prints the distance that it drives.
+/// The line is `pass UNPLANNED VEHICLES DISTANCE` with status 0, `broken RULE route R place P stop S` with status 1 for
+/// the least broken rule, or `instance NAME LINE` or `solution NAME LINE` with status 2 for a text that is refused, the
+/// instance first. So the status is 0 just where both texts spell values and the solution is sound, serves each request,
+/// keeps the fleet, and prints the distance that it drives.
+///
+/// # Errors
+///
+/// `OutOfMemory`.
 pub fn audit_text(
     alloc: Global,
     kind: Kind,
@@ -82,7 +86,7 @@ pub(crate) fn examine(
 
 fn read_instance(alloc: Global, kind: Kind, text: &[u8]) -> Result<Problem, ReadFault>
     ensures value { IfOk result (SpellsInstance kind text.now) }
-    ensures fault { IfErr result (Tells (InstanceFault kind text.now)) }
+    ensures fault { IfErr result (TellsFirstFault (InstanceFault kind text.now)) }
 {
     match kind {
         Kind::LiLim => read_lilim(alloc, text),

@@ -50,7 +50,7 @@ where
     tell_drawn(&drawn, output, errors)
 }
 
-/// Tells what came of drawing, or want of memory.
+// Tells what came of drawing, or want of memory.
 fn tell_drawn<W: Write, E: Write>(
     drawn: &Result<Drawing, OutOfMemory>,
     output: &mut W,
@@ -69,7 +69,7 @@ fn tell_drawn<W: Write, E: Write>(
     }
 }
 
-/// Tells the picture, or why there is none.
+// Tells the picture, or why there is none.
 fn tell_drawing<W: Write, E: Write>(
     drawing: &Drawing,
     output: &mut W,
@@ -91,7 +91,7 @@ fn tell_drawing<W: Write, E: Write>(
     }
 }
 
-/// Reads both texts, audits the solution, and draws it.
+// Reads both texts, audits the solution, and draws it.
 fn draw_texts(
     alloc: Global,
     kind: Kind,
@@ -104,7 +104,7 @@ fn draw_texts(
     drawing_of(alloc, &examined)
 }
 
-/// The picture of what two texts are.
+// The picture of what two texts are.
 fn drawing_of(alloc: Global, examined: &Examined) -> Result<Drawing, OutOfMemory>
     ensures { IfOk result (IsDrawingOf examined.now) }
 {

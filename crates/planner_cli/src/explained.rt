@@ -46,7 +46,7 @@ where
     tell_explanation(output, &explain(alloc, paths.kind, &both.0, &both.1))
 }
 
-/// Tells an explanation, or want of memory.
+// Tells an explanation, or want of memory.
 fn tell_explanation<W: Write>(
     output: &mut W,
     explained: &Result<Explanation, OutOfMemory>,
@@ -67,7 +67,7 @@ fn tell_explanation<W: Write>(
     }
 }
 
-/// Audits a solution's text against an instance's text, and tells what the answer rests on.
+// Audits a solution's text against an instance's text, and tells what the answer rests on.
 fn explain(
     alloc: Global,
     kind: Kind,
@@ -85,7 +85,7 @@ fn explain(
     Ok(Explanation { answer, text })
 }
 
-/// What the answer for two texts rests on.
+// What the answer for two texts rests on.
 fn rests_on(
     alloc: Global,
     instance: &[u8],

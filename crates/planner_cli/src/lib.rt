@@ -1,4 +1,39 @@
-//! The texts of the program: what its words ask for, and the lines that answer them.
+//! What the program prints, and does with its words. It hands on what `command_line` and `command_serving` give.
+//!
+//! Entry functions: `run_words`, called by `planner` and by the crate of that name, does what the words ask for;
+//! `audit_text` audits two texts in memory.
+//!
+//! Source: this project's own; status 64 is `EX_USAGE` of BSD's `sysexits.h`.
+//!
+//! How it works: each word of the program has one private function over whatever reads a file, reader and writer
+//! (`audit_read`, `audits_read`, `explain_read`, `draw_read`, `solve_read`, `format_store`, `run_store`).
+//! `run_words` hands them paths and the standard streams.
+//!
+//! Modules, in reading order:
+//! - `status`: the statuses that the program ends with
+//! - `answer`: the lines that answer an audit
+//! - `audit`: the audit of two texts
+//! - `telling`: lines for files and stores that can't be read, made or opened
+//! - `audited`, `listed`: the words `audit` and `audits`
+//! - `explained`, `drawn`, `solved`: the words `explain`, `draw` and `solve`
+//! - `stores`: the words `format` and `run`
+//! - `program`: `run_words`
+//!
+//! Said by `specs/Answer.antt`, and word by word by `Files.antt`, `Listed.antt`, `Explained.antt`, `Drawn.antt`,
+//! `Solving.antt`, `Formatting.antt` and `Running.antt`. Proved:
+//! - `audit_text`: line and status are those of the first fault or of the verdict on what the texts spell; the
+//!   status is 0 exactly where both spell a value and the solution keeps the rules, serves every request, keeps the
+//!   fleet and prints the distance that it drives (`SaysSound`)
+//! - `run_words`: which statuses can be; of standard streams no contract says what they give or hold
+//! - `audits_read` (`TellsList`): of each line what `audit` tells of that pair alone, or `bad line`; the greatest
+//!   status
+//! - `explain_read` (`TellsExplained`), `draw_read` (`TellsDrawn`), `solve_read` (`TellsTask`): the audit's line
+//!   and what it rests on; the picture; the text of a solution, or why there is none
+//! - `run_store` (`RunsStore`): the device that `FileDevice::at` gives is opened, and what `serve` writes over that
+//!   session stands behind `opened N`; 3 where the reader or the writer failed, with `cannot read input` for the
+//!   reader
+//! - `format_store` (`FormatsStore`): a device of 8,450 sectors, and what `format` of `checkpoint` made of it
+//! - the functions that read the system's files say the same of files that hold whatever they do (`TellsAnyFiles`)
 #![tactic(auto)]
 
 mod answer;

@@ -3,7 +3,7 @@ ghost use Rattle.std.specs.Prelude.{◌≡◌, ◌≤◌, IfOk, MatchOption, cod
 ghost use Rattle.std.specs.IoError.{error_kind};
 ghost use Rattle.std.specs.List.{position_or_len};
 ghost use Rattle.std.specs.Io.KnownBytes.{Appends};
-ghost use Rattle.planner_cli.specs.Telling.{line};
+ghost use Rattle.command_text.specs.Answers.{line};
 ghost use Rattle.planner_cli.specs.Listed.{IsPair, NamesNone, TellsLine, TellsLines, TellsList, is_path, is_tab, list_path, parts_of};
 
 use crate::audited::audit_read;
@@ -38,14 +38,14 @@ where
     }
 }
 
-/// The path by which the list is read.
+// The path by which the list is read.
 fn list_path(list: &str) -> &str
     ensures { result.now ≡ list_path list.now }
 {
     if list == "-" { "/dev/stdin" } else { list }
 }
 
-/// Audits the pair that each line names, and tells it before it goes on.
+// Audits the pair that each line names, and tells it before it goes on.
 fn audit_lines<F, W: Write>(
     alloc: Global,
     kind: Kind,
@@ -68,7 +68,7 @@ where
     Ok(greatest)
 }
 
-/// The greater status.
+// The greater status.
 fn greater(one: u8, other: u8) -> u8
     requires { (one ≤ 4) × (other ≤ 4) }
     ensures value { max one other ≡ result }
@@ -77,7 +77,7 @@ fn greater(one: u8, other: u8) -> u8
     if one < other { other } else { one }
 }
 
-/// Tells the audit of the pair that the line names, and flushes it.
+// Tells the audit of the pair that the line names, and flushes it.
 fn audit_line<F, W: Write>(
     alloc: Global,
     kind: Kind,
@@ -97,7 +97,7 @@ where
     Ok(status)
 }
 
-/// Tells the audit of the pair that the line names.
+// Tells the audit of the pair that the line names.
 fn audit_named<F, W: Write>(
     alloc: Global,
     kind: Kind,
@@ -125,7 +125,7 @@ where
     audit_read(alloc, paths, read, output)
 }
 
-/// Tells a line that names no pair.
+// Tells a line that names no pair.
 fn tell_bad_line<W: Write>(output: &mut W) -> io::Result<u8>
     ensures { IfOk result (λ status. (status ≡ 2)
         × Appends (W.contents output.old) (W.contents output.new) (line (codes "bad line"))) }
@@ -134,7 +134,7 @@ fn tell_bad_line<W: Write>(output: &mut W) -> io::Result<u8>
     Ok(REFUSED)
 }
 
-/// The paths of an instance and a solution with a tab between them.
+// The paths of an instance and a solution with a tab between them.
 fn pair_of(line: &[u8]) -> Option<(&str, &str)>
     ensures { MatchOption result (NamesNone line.now) (λ p. IsPair line.now p.0.now p.1.now) }
 {
@@ -151,7 +151,7 @@ fn pair_of(line: &[u8]) -> Option<(&str, &str)>
     Some((instance, solution))
 }
 
-/// What stands before and behind the one tab of a line, if neither is empty.
+// What stands before and behind the one tab of a line, if neither is empty.
 fn parts_of(line: &[u8]) -> Option<(&[u8], &[u8])>
     ensures { option_map (λ p. (p.0.now, p.1.now)) result ≡ parts_of line.now }
 {
@@ -179,7 +179,7 @@ fn is_tab(byte: u8) -> bool
     byte == b'\t'
 }
 
-/// How many bytes stand before the first tab, or all of them.
+// How many bytes stand before the first tab, or all of them.
 fn tab_at(line: &[u8]) -> usize
     ensures value { result ≡ position_or_len is_tab line.now }
     ensures bound { result ≤ length line.now }

@@ -1,4 +1,6 @@
 //! What the program does with its words: files are read, answers are printed.
+//!
+//! `run_words` takes a value of `T: Start`, which `main` makes: what the store's file is as it is opened.
 ghost use Rattle.std.specs.Prelude.{◌≡◌, ◌≤◌, IfOk, IsSome, false, drop, map};
 ghost use Rattle.clap.specs.Words.{kind_of};
 ghost use Rattle.command_line.specs.Asked.{ArePositional, IsUsageStatus, asked_by, asks_help, task_of, usage_status_of};
@@ -34,9 +36,9 @@ const EXAMPLE_INSTANCE: &str =
 /// A solution of it that passes.
 const EXAMPLE_SOLUTION: &str = "Route #1: 1 2\nCost 20\n";
 
-/// Does what the words of the command line ask for, the program's name first, and gives the status to end with.
-/// Where an answer cannot be printed, that is `FILE`. `start` stands for what the store's file is as it is opened, `errors` is standard
-/// error.
+/// Does what the words of the command line ask for, the program's name first, and gives the status to end with
+/// (`status`). Where an answer cannot be printed, that is `FILE`. `start` stands for what the store's file is as it is
+/// opened, `errors` is standard error.
 pub fn run_words<R, T: Start, E: Write, S: AsStr>(
     rt: &R,
     start: T,
@@ -78,8 +80,8 @@ where
     })
 }
 
-/// Tells help and the version, where they were asked for, on standard output, and a fault of the words on standard error, and
-/// gives the status. Of want of memory nothing is told.
+// Tells help and the version, where they were asked for, on standard output, and a fault of the words on standard error, and
+// gives the status. Of want of memory nothing is told.
 fn tell_usage<R: Print + Eprint>(rt: &R, error: &Error) -> io::Result<u8>
     ensures { IfOk result (λ status. status ≡ usage_status_of (kind_of error.now)) }
 {
@@ -90,7 +92,7 @@ fn tell_usage<R: Print + Eprint>(rt: &R, error: &Error) -> io::Result<u8>
     Ok(usage_status(kind))
 }
 
-/// Whether clap's text is printed.
+// Whether clap's text is printed.
 fn is_printed(kind: ErrorKind) -> bool
     ensures { result ≡ is_usage_printed kind }
 {
@@ -121,7 +123,7 @@ fn audit_example<W: Write>(alloc: Global, output: &mut W) -> io::Result<u8>
     tell_audit(output, &answer)
 }
 
-/// Audits two files.
+// Audits two files.
 fn audit_files<R, W: Write>(rt: &R, paths: Paths, output: &mut W) -> io::Result<u8>
 where
     R: Files + Eprint + AllocGlobal,
@@ -133,7 +135,7 @@ where
     audit_read(rt.alloc(), paths, &read, output)
 }
 
-/// Audits the pairs of files that a list names.
+// Audits the pairs of files that a list names.
 fn audit_list<R, W: Write>(rt: &R, kind: Kind, list: &str, output: &mut W) -> io::Result<u8>
 where
     R: Files + Eprint + AllocGlobal,
@@ -145,7 +147,7 @@ where
     audits_read(rt.alloc(), kind, list, &read, output)
 }
 
-/// Audits two files, and tells what the answer rests on.
+// Audits two files, and tells what the answer rests on.
 fn explain_files<R, W: Write>(rt: &R, paths: Paths, output: &mut W) -> io::Result<u8>
 where
     R: Files + Eprint + AllocGlobal,
@@ -157,7 +159,7 @@ where
     explain_read(rt.alloc(), paths, &read, output)
 }
 
-/// Draws the solution in a file.
+// Draws the solution in a file.
 fn draw_files<R, W: Write, E: Write>(
     rt: &R,
     paths: Paths,
@@ -175,7 +177,7 @@ where
     draw_read(rt.alloc(), paths, &read, output, errors)
 }
 
-/// Solves the instance in a file.
+// Solves the instance in a file.
 fn solve_file<R, W: Write, E: Write>(
     rt: &R,
     task: Task,
@@ -193,7 +195,7 @@ where
     solve_read(rt.alloc(), task, &read, output, errors)
 }
 
-/// Reads a file. Why it can't be read is told on standard error, in the system's words.
+// Reads a file. Why it can't be read is told on standard error, in the system's words.
 fn read_file<R: Files + Eprint + AllocGlobal>(rt: &R, path: &str) -> io::Result<Vec<u8>> {
     let text = fs::read(rt, path);
     if let Err(error) = &text {

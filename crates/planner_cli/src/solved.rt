@@ -37,7 +37,7 @@ where
     tell_solved(&solved, output, errors)
 }
 
-/// Tells the text of the solution, or why there is none.
+// Tells the text of the solution, or why there is none.
 fn tell_solved<W: Write, E: Write>(
     solved: &Result<Text, SolveFault>,
     output: &mut W,
@@ -57,7 +57,7 @@ fn tell_solved<W: Write, E: Write>(
     }
 }
 
-/// Tells why there is no solution, unless it is that telling failed.
+// Tells why there is no solution, unless it is that telling failed.
 fn tell_fault<E: Write>(fault: SolveFault, errors: &mut E) -> io::Result<u8>
     ensures status { IfOk result (λ status. status ≤ 4) }
     ensures told { IfOk result (IsToldFault fault (E.contents errors.old) (E.contents errors.new)) }

@@ -1,4 +1,7 @@
 //! Stores in files: `format`, and `run` over standard input.
+//!
+//! `cannot read PATH` has no word of the system beside it here: `FileFault` does not carry the system's error.
+//! `audit` tells that on standard error.
 ghost use Rattle.std.specs.Prelude.{◌≡◌, ◌≤◌, Err, IfOk, OnErr};
 ghost use Rattle.command_serving.specs.declared.answering.ServeFault.TheVariants.{ReadFault, WriteFault};
 ghost use Rattle.sector_disk.specs.FileDevice.{IsUnused};
@@ -62,7 +65,7 @@ where
     }
 }
 
-/// Opens the store on the device, and serves the input over it.
+// Opens the store on the device, and serves the input over it.
 fn run_device<D: Sectors + Drop, I: Read, W: Write>(
     alloc: Global,
     device: D,
@@ -80,7 +83,7 @@ fn run_device<D: Sectors + Drop, I: Read, W: Write>(
     }
 }
 
-/// Tells how many steps were repeated, and serves the input.
+// Tells how many steps were repeated, and serves the input.
 fn serve_opened<D: Sectors + Drop, I: Read, W: Write>(
     alloc: Global,
     opened: Opened<D>,
@@ -102,7 +105,7 @@ fn serve_opened<D: Sectors + Drop, I: Read, W: Write>(
     tell_served(served, output)
 }
 
-/// Tells an input that can't be read, and gives the status of what was served.
+// Tells an input that can't be read, and gives the status of what was served.
 fn tell_served<W: Write>(served: Result<(), ServeFault>, output: &mut W) -> io::Result<u8>
     ensures status { IfOk result (λ status. status ≤ 4) }
     ensures told { IfOk result (TellsServed served

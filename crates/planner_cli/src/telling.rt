@@ -40,7 +40,7 @@ pub(crate) fn tell_unread<W: Write>(output: &mut W, path: &str, kind: ErrorKind)
     Ok(FILE)
 }
 
-/// Whether it tells want of memory.
+// Whether it tells want of memory.
 fn is_want_of_memory(kind: ErrorKind) -> bool
     ensures { result ≡ is_memory kind }
 {

@@ -1,4 +1,4 @@
-// A command is committed: as a record, or by a snapshot of the state after it.
+//! A command is committed: as a record, or by a snapshot of the state after it.
 ghost use Rattle.std.specs.Prelude.{◌≡◌, ◌+◌, ◌<◌, ◌≤◌, ◌^◌, ℕ, List, [], ◌∷◌, true, None, OnOk, IfOk, IfErr};
 ghost use Rattle.command_core.specs.Effects.{effect};
 ghost use Rattle.command_core.specs.Runs.{AreAccepted, is_recorded, fits_record};
@@ -22,7 +22,7 @@ pub(crate) enum CommitFault {
     DeviceFault,
 }
 
-/// What the store told, where it had a place.
+// What the store told, where it had a place.
 fn cause(fault: StoreFault) -> CommitFault
     ensures { result ≡ cause fault }
 {
@@ -39,7 +39,7 @@ fn cause(fault: StoreFault) -> CommitFault
 /// How many records a journal has room for.
 const RECORDS: u32 = 256;
 
-/// Whether a store writes a record of the command, and not the state after it.
+// Whether a store writes a record of the command, and not the state after it.
 fn has_record(command: &Command) -> bool
     ensures is { result ≡ is_recorded command.now }
     ensures fits { result ≡ true → fits_record command.now ≡ true → IsRecorded Two command.now }
@@ -69,7 +69,7 @@ pub(crate) fn is_snapshot_due(place: Place, command: &Command) -> bool
     !has_record(command) || place.used == RECORDS
 }
 
-/// Commits a command as a record.
+// Commits a command as a record.
 fn as_record<D: Sectors>(
     device: &mut D,
     place: Place,
@@ -101,7 +101,7 @@ fn as_record<D: Sectors>(
     }
 }
 
-/// Commits a state by a snapshot of it. There is a sequence for it.
+// Commits a state by a snapshot of it. There is a sequence for it.
 fn as_snapshot<D: Sectors>(
     alloc: Global,
     device: &mut D,

@@ -1,4 +1,4 @@
-// Why a session refuses a command.
+//! Why a session denies a command.
 ghost use Rattle.std.specs.Prelude.{◌≡◌};
 
 use command_core::Refusal;

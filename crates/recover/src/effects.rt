@@ -1,4 +1,4 @@
-// The states after commands.
+//! The states after commands.
 ghost use Rattle.std.specs.Prelude.{◌≡◌, ◌⊎◌, Some, None, [], ◌∷◌, IfOk, IfErr};
 ghost use Rattle.command_core.specs.Effects.{effect};
 ghost use Rattle.command_core.specs.Refusing.{refusal};

@@ -1,4 +1,4 @@
-// What is known of stops and recovery, from the promises of `run` and of `open` alone.
+//! What is known of stops and recovery, from the promises of `run` and of `open` alone.
 ghost use Rattle.recover.specs.Headline.{Headline, Reopens, OpensNew};
 
 use command_core::{effects_keep_facts, plans_never_cost_more};

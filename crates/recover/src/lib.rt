@@ -1,4 +1,37 @@
 //! Sessions over a store: commands that are acknowledged once they are durable, and recovery after a stop at any moment.
+//!
+//! `Session::open` opens the store on a device, `apply` and `run` carry commands out, `close` gives the device back.
+//! `command_serving` serves a session by lines of text, `planner_cli` opens it.
+//!
+//! A command is checked, the state after it computed, and then committed: as one record, or for `Load` and `Checkpoint` and
+//! where 256 records stand by a snapshot of that state. Only then is it answered. Opening syncs once, since reads may give
+//! what is not durable yet; then it reads alone: the snapshot, and the records, whose commands are applied again. So a search is
+//! stored as its number of steps, and is made once more.
+//!
+//! Modules, in reading order:
+//! - `denials`, `replies`: what a session answers
+//! - `sessions`: a session, and `apply`; `effects`: the state after a command; `commits`: a command made durable
+//! - `runs`: a list of commands
+//! - `opening`, `repeating`: what a device's store stands for, and the commands of its records once more
+//! - `laws`: the headline, and two more
+//! - `stops`: the headline over a device in memory, with no premise left
+//!
+//! `specs/StandsFor.antt` says which state an image stands for, `specs/Replies.antt` which commands are kept and acknowledged,
+//! `specs/Applying.antt` what `apply` promises, `specs/Moments.antt` what a stop within a run leaves, `specs/Opening.antt`
+//! what opening gives, `specs/Sessions.antt` what a session keeps, `specs/Headline.antt` the laws. All is this project's own.
+//!
+//! Proved:
+//! - Unless a session is broken, each image that a stop may leave of an honest device stands for its state (its invariant).
+//! - `open`: the state is the one that the image which reads give stands for (`given`, `opens`); it is refused only where
+//!   that image stands for none, with the cause, where memory was refused or where the device failed (`refused`, `fails`,
+//!   `fault`). Each moment leaves an image of those before (`moments`), and after `Ok` one that stands for the state (`stands`).
+//! - `apply`: the exact denial or `Ok` (`answer`), what it makes of the session (`makes`), four finished calls for a snapshot
+//!   and two for a record (`finished`), and at each moment the state before the command or the one after it (`moments`).
+//! - `run`: each command is answered as `apply` answers it (`replies`); each moment leaves the state after a first part of
+//!   the kept commands that holds every acknowledged one (`moments`).
+//! - The headline, from the promises of `run` and `open` alone: `recovery_keeps_every_acknowledged_command`. A session
+//!   that is closed opens with its state: `a_closed_session_opens_the_same`. So does a new store:
+//!   `a_new_store_opens_with_its_state`.
 #![tactic(auto)]
 
 mod commits;

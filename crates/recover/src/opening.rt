@@ -1,4 +1,9 @@
-// Opening a device: the state that its store stands for.
+//! Opening a device: the state that its store stands for.
+//!
+//! `opens` is the headline's premise, word for word. `given` and `refused` say the same without supposing that the image stands
+//! for a state: which state, or which cause, where commands that are not all accepted are told as a bad field. `replayed` is
+//! said of an honest device: the code subtracts the steps and stops at zero, since of a device that lies nothing is known of
+//! the records.
 ghost use Rattle.std.specs.Prelude.{◌≡◌, ◌+◌, ◌<◌, ◌≤◌, ◌^◌, List, ℕ, false, Err, OnOk, IfOk, IfErr, IsErrOf, MatchResult};
 ghost use Rattle.command_core.specs.Runs.{IsState};
 ghost use Rattle.sector_disk.specs.Sectors.{Throughout, Only};
@@ -32,7 +37,7 @@ pub(crate) struct Recovered {
     pub replayed: u64,
 }
 
-/// What the image that reads give holds, once it is durable: one call that finishes, and none on a device that is smaller than any store.
+// What the image that reads give holds, once it is durable: one call that finishes, and none on a device that is smaller than any store.
 fn read_settled<D: Sectors>(alloc: Global, device: &mut D) -> Result<Loaded, StoreFault>
     ensures small { D.len device.old < 802 → device.new ≡ device.old }
     ensures told { D.len device.old < 802 → IsErrOf result StoreFault.NotFormatted }
@@ -62,7 +67,7 @@ fn read_settled<D: Sectors>(alloc: Global, device: &mut D) -> Result<Loaded, Sto
     }
 }
 
-/// The state that the device's store stands for: what is read, with the commands of the records repeated.
+// The state that the device's store stands for: what is read, with the commands of the records repeated.
 fn recover<D: Sectors>(alloc: Global, device: &mut D) -> Result<Recovered, StoreFault>
     ensures small { D.len device.old < 802 → device.new ≡ device.old }
     ensures told { D.len device.old < 802 → IsErrOf result StoreFault.NotFormatted }

@@ -1,4 +1,4 @@
-// The commands of a store's records, repeated.
+//! The commands of a store's records, repeated.
 ghost use Rattle.std.specs.Prelude.{◌≡◌, ◌⊎◌, ◌-◌, Some, None, IfOk, IfErr};
 ghost use Rattle.command_core.specs.Runs.{IsState, AreAccepted, after};
 ghost use Rattle.recover.specs.Opening.{steps_in};
@@ -10,7 +10,7 @@ use command_core::{Command, Refusal, State};
 use state_codec::CodecFault;
 use std::alloc::Global;
 
-/// What is told where the command of a record is refused.
+// What is told where the command of a record is refused.
 fn fault_of(refusal: Refusal) -> StoreFault
     ensures { result ≡ fault_of refusal }
 {

@@ -1,3 +1,5 @@
+//! What a session answers. The commands that are kept end at the first `DeviceFault`, since all later answers are `Broken`.
+
 use crate::denials::Denial;
 
 /// What a session answers to a command.

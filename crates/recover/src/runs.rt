@@ -1,4 +1,4 @@
-// Lists of commands.
+//! Lists of commands.
 ghost use Rattle.std.specs.Prelude.{◌≡◌, false, OnErr, IfOk};
 ghost use Rattle.sector_disk.specs.Sectors.{Throughout};
 ghost use Rattle.recover.specs.Moments.{RunLeaves};

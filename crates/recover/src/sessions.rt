@@ -1,4 +1,4 @@
-// Sessions over a device.
+//! Sessions over a device.
 ghost use Rattle.std.specs.Prelude.{◌≡◌, ◌+◌, false, true, List, [], ◌∷◌, ℕ, None, OnOk};
 ghost use Rattle.command_core.specs.Runs.{IsState};
 ghost use Rattle.sector_disk.specs.Sectors.{Throughout};

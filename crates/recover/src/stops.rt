@@ -1,4 +1,5 @@
-// The headline for a device in memory, with nothing left to be supposed.
+//! The headline for a device in memory, with nothing left to be supposed: commands are run, stopped by `fuse` and `crash`, and
+//! opened. So the law's premises can be met together.
 ghost use Rattle.std.specs.Prelude.{◌≡◌, ◌+◌, false, IfOk};
 ghost use Rattle.sector_disk.specs.MemDevice.{memory};
 ghost use Rattle.recover.specs.Replies.{kept, acked};

@@ -22,7 +22,8 @@ pub fn plan_cost(problem: &Problem, plan: &Plan) -> Cost
     routes_cost(problem, routes, unplanned)
 }
 
-/// What the routes of a plan cost, for a caller that has counted its unplanned requests. Takes no memory.
+/// What the routes of a plan cost, for a caller that has counted its unplanned requests: in linear time, and
+/// without memory.
 pub fn routes_cost(problem: &Problem, routes: &[Route], unplanned: u64) -> Cost
     requires plan { IsPlan problem.now routes.now }
     requires counted { unplanned ≡ unplanned_count problem.now routes.now }
@@ -35,7 +36,7 @@ pub fn routes_cost(problem: &Problem, routes: &[Route], unplanned: u64) -> Cost
     }
 }
 
-/// How many requests have a stop in a route.
+// How many requests have a stop in a route.
 fn planned_count(problem: &Problem, routes: &[Route]) -> u64
     requires problem { IsInstance problem.now }
     requires plan { IsPlan problem.now routes.now }
@@ -48,7 +49,7 @@ fn planned_count(problem: &Problem, routes: &[Route]) -> u64
     planned
 }
 
-/// How many requests are counted at a stop of this route.
+// How many requests are counted at a stop of this route.
 fn counted_in(problem: &Problem, routes: &[Route], route: &[u32]) -> u64
     requires { IsPart route.now routes.now }
     ensures { result ≡ counted_among problem.now (concat routes.now) route.now }
@@ -59,8 +60,8 @@ fn counted_in(problem: &Problem, routes: &[Route], route: &[u32]) -> u64
         .count() as u64
 }
 
-/// Whether a request is counted at this stop: at its single stop, at its pickup, or at a delivery whose
-/// pickup is in no route. The pickup is mostly in the delivery's own route, so that is searched first.
+// Whether a request is counted at this stop: at its single stop, at its pickup, or at a delivery whose
+// pickup is in no route. The pickup is mostly in the delivery's own route, so that is searched first.
 fn is_counted_at(problem: &Problem, routes: &[Route], route: &[u32], number: u32) -> bool
     requires { IsPart route.now routes.now }
     ensures { result ≡ counts problem.now (concat routes.now) number }

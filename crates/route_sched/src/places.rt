@@ -20,7 +20,7 @@ pub(crate) fn stop_behind<'a>(problem: &'a Problem, route: &[u32], k: usize) -> 
     }
 }
 
-/// The stop with a live number.
+// The stop with a live number.
 fn live_stop(problem: &Problem, number: u32) -> &Stop
     requires { IsLive problem.now number }
     ensures found { stop_at problem.now number ≡ Some result.now }

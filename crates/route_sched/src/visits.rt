@@ -1,4 +1,5 @@
-//! A vehicle's way along its route, place by place.
+//! A vehicle's way along its route, place by place, without memory: the auditor asks it and makes no list for
+//! a route.
 
 ghost use Rattle.std.specs.Prelude.{◌≡◌, ℕ, ◌+◌, ◌≤◌, ◌^◌, ◌+ℤ◌, unsigned_abs};
 ghost use Rattle.plan_types.specs.Limits.{IsVisit};
@@ -103,7 +104,7 @@ impl<'a> Iterator for Visits<'a> {
     }
 }
 
-/// The visit of a stop straight after another visit.
+// The visit of a stop straight after another visit.
 fn visit_behind(last: &Visit, stop: &Stop) -> Visit
     requires last { IsVisit last.now.stop }
     requires stop { IsVisit stop.now }
@@ -123,7 +124,7 @@ fn visit_behind(last: &Visit, stop: &Stop) -> Visit
     }
 }
 
-/// What the vehicle carries after a stop with this demand.
+// What the vehicle carries after a stop with this demand.
 fn load_behind(load: i64, demand: i32) -> i64
     requires { unsigned_abs load ≤ 2 ^ 60 }
     ensures value { result ≡ load +ℤ demand }

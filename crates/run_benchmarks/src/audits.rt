@@ -45,7 +45,7 @@ pub(crate) fn measure<R: Print + Clock>(rt: &R, alloc: Global, words: &[String])
     Ok(())
 }
 
-/// Audits the plan so often, and prints tenths of a nanosecond a stop.
+// Audits the plan so often, and prints tenths of a nanosecond a stop.
 fn report<R: Print + Clock>(
     rt: &R,
     alloc: Global,
@@ -61,7 +61,7 @@ fn report<R: Print + Clock>(
     println!(rt; "audit of {size} stops: {whole}.{tenth} ns a stop ({passed} of {calls} passed)")
 }
 
-/// Audits so often, and counts how often the plan passed.
+// Audits so often, and counts how often the plan passed.
 fn passing(alloc: Global, case: &Case, calls: u32) -> u32 {
     let mut passed = 0u32;
     for _ in 0..calls {
@@ -72,7 +72,7 @@ fn passing(alloc: Global, case: &Case, calls: u32) -> u32 {
     passed
 }
 
-/// A plan of pairs, each vehicle with the same number of stops.
+// A plan of pairs, each vehicle with the same number of stops.
 fn case_of(alloc: Global, stops: u32) -> Option<Case> {
     let fleet = stops / ROUTE;
     Some(Case {
@@ -94,7 +94,7 @@ fn problem_of(alloc: Global, fleet: u32) -> Option<Problem> {
     Some(problem)
 }
 
-/// The pairs of one vehicle.
+// The pairs of one vehicle.
 fn put_pairs(problem: &mut Problem, first: u32) -> Option<()> {
     for pair in 0..ROUTE / 2 {
         let number = first
@@ -108,7 +108,7 @@ fn put_pairs(problem: &mut Problem, first: u32) -> Option<()> {
     Some(())
 }
 
-/// The first stops of each vehicle, so many.
+// The first stops of each vehicle, so many.
 fn routes_of(alloc: Global, fleet: u32, count: u32) -> Option<Routes> {
     let mut routes = Vec::new(alloc);
     for vehicle in 0..fleet {
@@ -119,7 +119,7 @@ fn routes_of(alloc: Global, fleet: u32, count: u32) -> Option<Routes> {
     Some(Routes::from(routes))
 }
 
-/// So many stops behind the first ones.
+// So many stops behind the first ones.
 fn stops_from(alloc: Global, first: u32, count: u32) -> Option<Route> {
     let mut stops = Vec::new(alloc);
     for place in 0..count {

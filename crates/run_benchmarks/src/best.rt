@@ -1,9 +1,9 @@
 //! Measures `Tables::best` in a plan of an instance that is built by best insertion, with each tenth request left out:
 //! nanoseconds a call.
 //!
-//! The words are a format, the path of an instance, how often each request that is left out is looked for, and `slow` or
-//! none, as `best vrp examples/P-n16-k8.vrp 100 slow`. The slow way makes a plan of each place and asks the auditor what
-//! it costs.
+//! The words are a format, the path of an instance, how often each request that is left out is looked for, and
+//! `slow` or none, as `best vrp examples/P-n16-k8.vrp 100 slow`. The slow way makes a plan of each place and asks
+//! the auditor what it costs.
 
 use crate::instances::problem_at;
 use crate::plans::{built, is_left_out, no_pins};
@@ -52,7 +52,7 @@ fn compare<R: Print + Clock>(
     Ok(())
 }
 
-/// A plan without each tenth request, and these.
+// A plan without each tenth request, and these.
 fn made(alloc: Global, problem: &Problem, pins: &Pins) -> Result<(Plan, Vec<u32>), OutOfMemory> {
     Ok((
         built(alloc, problem, pins, true)?,
@@ -60,7 +60,7 @@ fn made(alloc: Global, problem: &Problem, pins: &Pins) -> Result<(Plan, Vec<u32>
     ))
 }
 
-/// Each tenth request.
+// Each tenth request.
 fn left_out(alloc: Global, problem: &Problem) -> Result<Vec<u32>, OutOfMemory> {
     let mut names = Vec::new(alloc);
     for index in 0..problem.requests.len() {

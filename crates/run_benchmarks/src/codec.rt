@@ -2,8 +2,8 @@
 //! calls in a microsecond, which is megabytes a second. A plain copy of the same bytes stands beside them, and what the
 //! auditor takes of decoding.
 //!
-//! The word is about how many bytes are encoded, and decoded, at each size, as `codec 200000000`. Without it this says of
-//! each state, the largest among them, whether it decodes and encodes to the same bytes.
+//! The word is about how many bytes are encoded, and decoded, at each size, as `codec 200000000`. Without it this
+//! says of each state, the largest among them, whether it decodes and encodes to the same bytes.
 
 ghost use Rattle.std.specs.Prelude.{All};
 ghost use Rattle.route_sched.specs.Route.{AreLiveOnce};
@@ -94,7 +94,7 @@ pub(crate) fn measure<R: Print + Clock>(rt: &R, alloc: Global, words: &[String])
     Ok(())
 }
 
-/// Prints whether the bytes are a state's, and measures where bytes are asked for.
+// Prints whether the bytes are a state's, and measures where bytes are asked for.
 fn report<R: Print + Clock>(
     rt: &R,
     alloc: Global,
@@ -108,7 +108,7 @@ fn report<R: Print + Clock>(
     report_state(rt, alloc, shape, &state, text, bytes)
 }
 
-/// The same of the state that the bytes tell.
+// The same of the state that the bytes tell.
 fn report_state<R: Print + Clock>(
     rt: &R,
     alloc: Global,
@@ -137,7 +137,7 @@ fn print_same<R: Print>(rt: &R, shape: &Shape, len: u64) -> io::Result<()> {
     )
 }
 
-/// Prints megabytes a second.
+// Prints megabytes a second.
 fn print_rates<R: Print>(rt: &R, len: u64, times: &Times) -> io::Result<()> {
     let copy = rate(len, times.copy);
     let encode = rate(len, times.encode);
@@ -153,7 +153,7 @@ fn rate(bytes: u64, nanos: u64) -> u64 {
     bytes.saturating_mul(1_000) / nanos.max(1)
 }
 
-/// Whether these bytes were made. Each call's are compared, so that none is left out.
+// Whether these bytes were made. Each call's are compared, so that none is left out.
 fn is_text(made: Result<Vec<u8>, OutOfMemory>, text: &[u8]) -> bool {
     match made {
         Ok(bytes) => bytes.as_slice() == text,
@@ -181,7 +181,7 @@ fn timed<R: Clock>(
     Ok(best)
 }
 
-/// One call of each kind.
+// One call of each kind.
 fn timed_once<R: Clock>(rt: &R, alloc: Global, state: &State, text: &[u8]) -> io::Result<Times> {
     Ok(Times {
         copy: copy_nanos(rt, alloc, text)?,
@@ -222,12 +222,12 @@ fn audit_nanos<R: Clock>(rt: &R, alloc: Global, state: &State) -> io::Result<u64
     Ok(counted(nanos, has_passed))
 }
 
-/// The time of a call that gave what it has to, and a time that is never the least of another call.
+// The time of a call that gave what it has to, and a time that is never the least of another call.
 fn counted(nanos: u64, is_right: bool) -> u64 {
     if is_right { nanos } else { u64::MAX }
 }
 
-/// What decoding asks the auditor: both plans, and each pin alone.
+// What decoding asks the auditor: both plans, and each pin alone.
 fn passes(alloc: Global, job: &Job) -> bool {
     let Ok(Verdict::Pass(_)) = audit(alloc, &job.problem, &job.pins, &job.plan) else {
         return false;
@@ -254,7 +254,7 @@ fn are_feasible(problem: &Problem, pins: &[Route]) -> bool
     true
 }
 
-/// The bytes of a state of this shape.
+// The bytes of a state of this shape.
 fn text_of(alloc: Global, shape: &Shape) -> Option<Vec<u8>> {
     let fleet = shape.stops / shape.route.max(1);
     let mut out = Vec::new(alloc);
@@ -300,13 +300,13 @@ fn put_pair(out: &mut Vec<u8>, number: u32) -> Option<()> {
     put_stop(out, number.saturating_add(1), u32::MAX)
 }
 
-/// A stop on a spread of places, with a wide window. A demand of -1 is the greatest number.
+// A stop on a spread of places, with a wide window. A demand of -1 is the greatest number.
 fn put_stop(out: &mut Vec<u8>, number: u32, demand: u32) -> Option<()> {
     let (x, y) = spread(number);
     put_all(out, &[number, x, y, demand, 0, 100_000_000, 10])
 }
 
-/// The stops of a vehicle, behind those of the vehicles before it.
+// The stops of a vehicle, behind those of the vehicles before it.
 fn put_route(out: &mut Vec<u8>, shape: &Shape, vehicle: u32) -> Option<()> {
     put_all(out, &[shape.route])?;
     let first = vehicle.saturating_mul(shape.route).saturating_add(1);

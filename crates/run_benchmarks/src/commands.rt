@@ -1,7 +1,7 @@
 //! Measures commands on states of several sizes in one run: milliseconds of each.
 //!
-//! Each word is a number of stops, as `commands 100 1000 4000 40000`. The problems are made here: pairs on a square that
-//! grows with their number, with time windows, and room for the stop that is added.
+//! Each word is a number of stops, as `commands 100 1000 4000 40000`. The problems are made here: pairs on a square
+//! that grows with their number, with time windows, and room for the stop that is added.
 
 ghost use Rattle.std.specs.Prelude.{◌<◌, ◌≤◌};
 
@@ -31,7 +31,7 @@ pub(crate) fn measure<R: Print + Clock>(rt: &R, alloc: Global, words: &[String])
     Ok(())
 }
 
-/// Prints a line for each command.
+// Prints a line for each command.
 fn report<R: Print + Clock>(rt: &R, alloc: Global, stops: u32) -> io::Result<()> {
     let Ok(problem) = problem_of(alloc, stops.min(40_000)) else {
         return println!(rt; "no problem of {stops} stops could be made");
@@ -42,14 +42,14 @@ fn report<R: Print + Clock>(rt: &R, alloc: Global, stops: u32) -> io::Result<()>
     change(rt, alloc, state)
 }
 
-/// The state with a plan of the problem.
+// The state with a plan of the problem.
 fn planned<R: Print + Clock>(rt: &R, alloc: Global, problem: Problem) -> io::Result<State> {
     let load = Command::Load(problem, 0);
     let state = measured(rt, alloc, State::Empty, &load, "Load", TRIES)?;
     measured(rt, alloc, state, &Command::Build, "Build", 1)
 }
 
-/// Changes requests, and searches.
+// Changes requests, and searches.
 fn change<R: Print + Clock>(rt: &R, alloc: Global, state: State) -> io::Result<()> {
     let add = Command::Add1 {
         demand: 1,
@@ -61,7 +61,7 @@ fn change<R: Print + Clock>(rt: &R, alloc: Global, state: State) -> io::Result<(
     Ok(())
 }
 
-/// The state after the command, and prints how long it took.
+// The state after the command, and prints how long it took.
 fn measured<R: Print + Clock>(
     rt: &R,
     alloc: Global,
@@ -82,7 +82,7 @@ fn measured<R: Print + Clock>(
     }
 }
 
-/// What the command makes, with the nanoseconds that it took.
+// What the command makes, with the nanoseconds that it took.
 fn timed<R: Clock>(
     rt: &R,
     alloc: Global,
@@ -94,12 +94,12 @@ fn timed<R: Clock>(
     Ok((nanos_since(rt, begin)?, made))
 }
 
-/// The command alone: a caller that needs nothing of what `apply` promises is proved sooner without it.
+// The command alone: a caller that needs nothing of what `apply` promises is proved sooner without it.
 fn applied(alloc: Global, state: &State, command: &Command) -> Result<State, Refusal> {
     apply(alloc, state, command)
 }
 
-/// The nanoseconds of the fastest of so many tries, of which the first took `nanos`.
+// The nanoseconds of the fastest of so many tries, of which the first took `nanos`.
 fn least<R: Clock>(
     rt: &R,
     alloc: Global,
@@ -125,7 +125,7 @@ fn print_millis<R: Print>(rt: &R, name: &str, nanos: u64) -> io::Result<()> {
     println!(rt; "  {name}: {whole}.{millionths:06} ms")
 }
 
-/// How many stops are in the routes of the plan.
+// How many stops are in the routes of the plan.
 fn stops_of(state: &State) -> u64 {
     let mut stops: u64 = 0;
     if let State::Loaded(job) = state {
@@ -136,7 +136,7 @@ fn stops_of(state: &State) -> u64 {
     stops
 }
 
-/// A place at the edge, open for long.
+// A place at the edge, open for long.
 fn spot() -> Spot {
     Spot {
         x: 0,
@@ -154,7 +154,7 @@ struct Sequence {
 }
 
 impl Sequence {
-    /// A word below `bound`.
+    // A word below `bound`.
     fn next_below(&mut self, bound: u32) -> u32
         requires { 0 < bound }
         ensures { result < bound }
@@ -163,7 +163,7 @@ impl Sequence {
         ((self.state >> 16) % u64::from(bound)) as u32
     }
 
-    /// A pickup of this number on the square of this side, and its delivery.
+    // A pickup of this number on the square of this side, and its delivery.
     fn next_pair(&mut self, side: u32, number: u32) -> Request
         requires least { 0 < side }
         requires greatest { side ≤ 2001 }
@@ -177,7 +177,7 @@ impl Sequence {
         Request::Pair(pickup, delivery)
     }
 
-    /// A stop on the square of this side. It can be reached from the middle in time.
+    // A stop on the square of this side. It can be reached from the middle in time.
     fn next_stop(&mut self, side: u32, number: u32, demand: i32, earliest: u32, latest: u32) -> Stop
         requires least { 0 < side }
         requires greatest { side ≤ 2001 }
@@ -194,7 +194,7 @@ impl Sequence {
     }
 }
 
-/// Pairs of so many stops but one or two, a hundred stops to 10,000 square units, with a vehicle for two pairs.
+// Pairs of so many stops but one or two, a hundred stops to 10,000 square units, with a vehicle for two pairs.
 fn problem_of(alloc: Global, stops: u32) -> Result<Problem, PutFault>
     requires { stops ≤ 40000 }
 {
@@ -207,7 +207,7 @@ fn problem_of(alloc: Global, stops: u32) -> Result<Problem, PutFault>
     Ok(problem)
 }
 
-/// The depot in the middle.
+// The depot in the middle.
 fn depot_of(side: u32) -> Stop
     requires { side ≤ 2001 }
 {

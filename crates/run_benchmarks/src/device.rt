@@ -32,7 +32,7 @@ pub(crate) fn measure<R: Print + Files<File = File>>(rt: &R, words: &[String]) -
     Ok(())
 }
 
-/// The sector that is written the `i`th time, and the byte that fills it.
+// The sector that is written the `i`th time, and the byte that fills it.
 fn place(i: u64, sectors: u64) -> (u64, u8)
     requires { 0 < sectors }
     ensures { result.0 < sectors }
@@ -53,7 +53,7 @@ fn write_and_sync<S: Start>(device: &mut FileDevice<S>, syncs: u64) -> bool {
     true
 }
 
-/// Whether the sector that was written last holds what was written.
+// Whether the sector that was written last holds what was written.
 fn has_last<S: Start>(device: &mut FileDevice<S>, syncs: u64) -> bool {
     if syncs == 0 || device.len() == 0 {
         return true;

@@ -46,7 +46,7 @@ pub(crate) fn measure<R: Print + Clock>(rt: &R, alloc: Global, words: &[String])
     Ok(())
 }
 
-/// Prints nanoseconds a scan.
+// Prints nanoseconds a scan.
 fn report<R: Print + Clock>(
     rt: &R,
     alloc: Global,
@@ -65,7 +65,7 @@ fn report<R: Print + Clock>(
     println!(rt; "{name} in a route of {size} stops: {nanos} ns a scan ({found} of {calls} found)")
 }
 
-/// Looks for the best places of several requests in one route.
+// Looks for the best places of several requests in one route.
 fn timed<R: Clock>(rt: &R, alloc: Global, is_pair: bool, size: u32, calls: u32) -> Option<Timing> {
     let mut problem = problem_of(alloc, size)?;
     let table = table_of(alloc, &problem, size)?;
@@ -81,7 +81,7 @@ fn timed<R: Clock>(rt: &R, alloc: Global, is_pair: bool, size: u32, calls: u32) 
     Some(sum)
 }
 
-/// The scans for one request.
+// The scans for one request.
 fn timed_scan<R: Clock>(rt: &R, table: &RouteTable, request: &Request, calls: u32) -> Option<Timing>
     requires { IsRequest request.now }
 {
@@ -91,7 +91,7 @@ fn timed_scan<R: Clock>(rt: &R, table: &RouteTable, request: &Request, calls: u3
     Some(Timing { nanos, found })
 }
 
-/// Looks so often, and counts how often there were places.
+// Looks so often, and counts how often there were places.
 fn scan(table: &RouteTable, request: &Request, calls: u32) -> u32
     requires { IsRequest request.now }
 {
@@ -105,7 +105,7 @@ fn scan(table: &RouteTable, request: &Request, calls: u32) -> u32
     found
 }
 
-/// Singles 1, 2, .., one vehicle for all of them.
+// Singles 1, 2, .., one vehicle for all of them.
 fn problem_of(alloc: Global, size: u32) -> Option<Problem> {
     let mut problem = Problem::new(alloc, Kind::Vrp, stop_at(0, 0), 1_000_000, 1).ok()?;
     for number in 1..size.saturating_add(1) {
@@ -121,7 +121,7 @@ fn request_of(number: u32, is_pair: bool) -> Request {
     Request::Single(stop_at(number, 1))
 }
 
-/// The table of the route 1, 2, .., where it is one.
+// The table of the route 1, 2, .., where it is one.
 fn table_of(alloc: Global, problem: &Problem, size: u32) -> Option<RouteTable> {
     let mut route = Vec::new(alloc);
     for number in 1..size.saturating_add(1) {
@@ -146,7 +146,7 @@ fn checked_table(alloc: Global, problem: &Problem, route: &[u32]) -> Option<Rout
     RouteTable::build(alloc, problem, route).ok()
 }
 
-/// Whether the stops are live, in rising order of their numbers.
+// Whether the stops are live, in rising order of their numbers.
 fn is_rising(problem: &Problem, route: &[u32]) -> bool
     ensures { IsTrue result → AreLiveOnce problem.now route.now }
 {

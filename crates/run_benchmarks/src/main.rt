@@ -1,7 +1,14 @@
 //! Measures parts of the planner. The first word says which, and the words behind it are its own, as
-//! `run_benchmarks root 10000000`.
+//! `run_benchmarks root 10000000`. Without words it prints the words of each measurement, one measurement a line.
 //!
-//! Without words it prints the words of each measurement, one measurement a line.
+//! All measurements are one program, since each program pays for the proof of what it links. The gate runs it with
+//! `codec`, which compares bytes and measures nothing. Proved is nothing beyond that no step fails.
+//!
+//! Modules, in reading order:
+//! - `words`, `figures`: the words of a measurement, times and how they are printed
+//! - `instances`, `plans`: what is measured on
+//! - `device`, `root`, `insert`, `audits`, `read`, `search`, `best` with `ways`, `commands`, `codec`: a measurement
+//!   each
 #![tactic(auto)]
 
 mod audits;
@@ -45,7 +52,7 @@ fn main(rt: HostRuntime) -> io::Result<()> {
     }
 }
 
-/// Measures what is named.
+// Measures what is named.
 fn measure<R: Print + Clock + Files<File = File> + AllocGlobal>(
     rt: &R,
     alloc: Global,
@@ -62,7 +69,7 @@ fn measure<R: Print + Clock + Files<File = File> + AllocGlobal>(
     }
 }
 
-/// Measures what changes plans, or keeps them.
+// Measures what changes plans, or keeps them.
 fn measure_changes<R: Print + Clock + Files + AllocGlobal>(
     rt: &R,
     alloc: Global,

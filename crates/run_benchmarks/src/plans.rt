@@ -54,7 +54,7 @@ pub(crate) fn built(
     draft.plan(alloc)
 }
 
-/// Puts the requests into the draft, each where it is best then.
+// Puts the requests into the draft, each where it is best then.
 fn place(
     problem: &Problem,
     pins: &Pins,
@@ -74,7 +74,7 @@ fn place(
     Ok(())
 }
 
-/// Puts a request in where it is best. What its vehicle had before is not kept.
+// Puts a request in where it is best. What its vehicle had before is not kept.
 fn put(problem: &Problem, pins: &Pins, draft: &mut Draft, name: u32) -> Result<(), OutOfMemory>
     requires { IsDraftOf problem.now pins.now.routes draft.old }
     ensures { OnOk result (IsDraftOf problem.now pins.now.routes draft.new) }
@@ -84,7 +84,7 @@ fn put(problem: &Problem, pins: &Pins, draft: &mut Draft, name: u32) -> Result<(
     Ok(())
 }
 
-/// A plan of so many vehicles without stops.
+// A plan of so many vehicles without stops.
 fn empty(alloc: Global, fleet: u32) -> Result<Plan, OutOfMemory> {
     let mut routes = Routes::new(alloc);
     for _ in 0..fleet {

@@ -30,7 +30,7 @@ pub(crate) fn measure<R: Print + Clock + Files + AllocGlobal>(
     }
 }
 
-/// The nanoseconds of the fastest reading, or the fault that the text has.
+// The nanoseconds of the fastest reading, or the fault that the text has.
 fn fastest<R: Clock>(
     rt: &R,
     alloc: Global,

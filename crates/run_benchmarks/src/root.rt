@@ -34,7 +34,7 @@ pub(crate) fn measure<R: Print + Clock>(rt: &R, words: &[String]) -> io::Result<
     report(rt, "isqrt", calls, &bare, &theirs)
 }
 
-/// Prints tenths of a nanosecond a call.
+// Prints tenths of a nanosecond a call.
 fn report<R: Print>(
     rt: &R,
     name: &str,
@@ -47,7 +47,7 @@ fn report<R: Print>(
     println!(rt; "{name}: {whole}.{tenth} ns a call (answers mixed: {mixed:016x})")
 }
 
-/// Calls `root` so often, with numbers of a linear congruential generator.
+// Calls `root` so often, with numbers of a linear congruential generator.
 fn timed<R: Clock, F: Fn(u64) -> u64>(rt: &R, calls: u32, root: F) -> io::Result<Timing>
     requires { F.IsAlwaysCallable root }
 {

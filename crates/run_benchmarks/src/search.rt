@@ -20,7 +20,7 @@ pub(crate) const USAGE: &str = "search vrp|lilim PATH STEPS SEED [DEVIATION]";
 
 /// What is asked of the search.
 #[derive(Clone, Copy)]
-struct Course {
+struct Trial {
     steps: u32,
     seed: u64,
     deviation: u32,
@@ -32,20 +32,20 @@ pub(crate) fn measure<R: Print + Clock + Files + AllocGlobal>(
     alloc: Global,
     words: &[String],
 ) -> io::Result<()> {
-    let Some(course) = course_of(words) else {
+    let Some(trial) = trial_of(words) else {
         return print_wanted(rt, USAGE);
     };
     match problem_at(rt, alloc, words, USAGE)? {
-        Some(problem) => search(rt, alloc, &problem, &course),
+        Some(problem) => search(rt, alloc, &problem, &trial),
         None => Ok(()),
     }
 }
 
-fn course_of(words: &[String]) -> Option<Course> {
+fn trial_of(words: &[String]) -> Option<Trial> {
     let (Some(steps), Some(seed)) = (count_at(words, 2), number_at(words, 3)) else {
         return None;
     };
-    Some(Course {
+    Some(Trial {
         steps,
         seed,
         deviation: count_at(words, 4).unwrap_or(0),
@@ -56,35 +56,35 @@ fn search<R: Print + Clock>(
     rt: &R,
     alloc: Global,
     problem: &Problem,
-    course: &Course,
+    trial: &Trial,
 ) -> io::Result<()> {
     let pins = no_pins(alloc);
     let Ok(plan) = built(alloc, problem, &pins, false) else {
         return println!(rt; "out of memory");
     };
     report(rt, alloc, problem, &pins, &plan, "build")?;
-    match timed(rt, alloc, problem, &pins, &plan, course)? {
+    match timed(rt, alloc, problem, &pins, &plan, trial)? {
         Some(found) => report_found(rt, alloc, problem, &pins, &found),
         None => Ok(()),
     }
 }
 
-/// Searches, and prints the time of a step, or why there was none.
+// Searches, and prints the time of a step, or why there was none.
 fn timed<R: Print + Clock>(
     rt: &R,
     alloc: Global,
     problem: &Problem,
     pins: &Pins,
     plan: &Plan,
-    course: &Course,
+    trial: &Trial,
 ) -> io::Result<Option<Found>> {
     let begin = Instant::now(rt)?;
-    let found = searched(alloc, problem, pins, plan, course);
+    let found = searched(alloc, problem, pins, plan, trial);
     let nanos = nanos_since(rt, begin)?;
     match found {
         Ok(Some(found)) => {
-            let each = nanos / u64::from(course.steps.max(1));
-            println!(rt; "{} steps, {each} ns each", course.steps)?;
+            let each = nanos / u64::from(trial.steps.max(1));
+            println!(rt; "{} steps, {each} ns each", trial.steps)?;
             Ok(Some(found))
         }
         Ok(None) => not_searched(rt, "the plan does not pass"),
@@ -97,13 +97,13 @@ fn not_searched<R: Print>(rt: &R, why: &str) -> io::Result<Option<Found>> {
     Ok(None)
 }
 
-/// The steps, where the plan passes.
+// The steps, where the plan passes.
 fn searched(
     alloc: Global,
     problem: &Problem,
     pins: &Pins,
     plan: &Plan,
-    course: &Course,
+    trial: &Trial,
 ) -> Result<Option<Found>, OutOfMemory> {
     if cost(alloc, problem, pins, plan)?.is_none() {
         return Ok(None);
@@ -114,10 +114,10 @@ fn searched(
         pins,
         plan,
         plan,
-        course.deviation,
-        course.seed,
+        trial.deviation,
+        trial.seed,
         0,
-        u64::from(course.steps),
+        u64::from(trial.steps),
     )?))
 }
 
@@ -132,7 +132,7 @@ fn report_found<R: Print>(
     report(rt, alloc, problem, pins, &found.work, "working plan")
 }
 
-/// Prints what a plan costs.
+// Prints what a plan costs.
 fn report<R: Print>(
     rt: &R,
     alloc: Global,

@@ -54,7 +54,7 @@ pub(crate) fn fast<R: Clock>(
     }))
 }
 
-/// The request's best place, looked for so often.
+// The request's best place, looked for so often.
 fn sought(
     problem: &Problem,
     pins: &Pins,
@@ -122,7 +122,7 @@ pub(crate) fn slow<R: Clock>(
 /// What a place costs, and the place.
 type Priced = (Cost, (u64, u64, u64));
 
-/// The place of least cost over all vehicles, the first of equal ones.
+// The place of least cost over all vehicles, the first of equal ones.
 fn least(
     alloc: Global,
     problem: &Problem,
@@ -148,7 +148,7 @@ fn least(
     Ok(best.map(|found| found.1))
 }
 
-/// The same of one vehicle with so many stops.
+// The same of one vehicle with so many stops.
 fn least_in(
     alloc: Global,
     problem: &Problem,
@@ -172,7 +172,7 @@ fn least_in(
     Ok(best)
 }
 
-/// What the plan costs with the request there, where it passes.
+// What the plan costs with the request there, where it passes.
 fn priced(
     alloc: Global,
     problem: &Problem,
@@ -189,7 +189,7 @@ fn priced(
     Ok(cost(alloc, problem, pins, &new)?.map(|cost| (cost, place)))
 }
 
-/// The first unless the second costs less.
+// The first unless the second costs less.
 fn better(first: Option<Priced>, second: Option<Priced>) -> Option<Priced> {
     match (first, second) {
         (Some(one), Some(other)) if other.0 < one.0 => second,
@@ -198,7 +198,7 @@ fn better(first: Option<Priced>, second: Option<Priced>) -> Option<Priced> {
     }
 }
 
-/// Whether a stop of the request is in one of the routes.
+// Whether a stop of the request is in one of the routes.
 fn is_planned(routes: &[Route], request: &Request) -> bool
     ensures { result ≡ is_planned routes.now request.now }
 {

@@ -8,7 +8,7 @@ use std::alloc::Global;
 /// The name and the version.
 const MAGIC: &[u8] = b"PDRSTORE\x00\x00\x00\x02";
 
-/// A sector of an image; zeros where it has none.
+// A sector of an image; zeros where it has none.
 fn sector_of(image: &[u8], i: u32) -> [u8; 512] {
     let mut sector = [0; 512];
     let bytes = image.iter().skip(512 * i as usize);
@@ -18,7 +18,7 @@ fn sector_of(image: &[u8], i: u32) -> [u8; 512] {
     sector
 }
 
-/// The number in these bytes, the highest first.
+// The number in these bytes, the highest first.
 fn number_in(bytes: &[u8]) -> u64 {
     let mut number: u64 = 0;
     for byte in bytes {
@@ -27,7 +27,7 @@ fn number_in(bytes: &[u8]) -> u64 {
     number
 }
 
-/// What one of the header sectors says, where it is valid.
+// What one of the header sectors says, where it is valid.
 fn header_of(image: &[u8], i: u32) -> Option<(u64, u64)> {
     let sector = sector_of(image, i);
     if image.len() < 4_326_400
@@ -53,7 +53,7 @@ fn has_other_version(image: &[u8], i: u32) -> bool {
     sector.starts_with(b"PDRSTORE") && !sector.starts_with(MAGIC)
 }
 
-/// The commands of the records of a sequence, with the sectors behind them looked through.
+// The commands of the records of a sequence, with the sectors behind them looked through.
 fn journal_of(alloc: Global, image: &[u8], sequence: u64) -> Result<Vec<Command>, StoreFault> {
     let mut commands = Vec::new(alloc);
     let mut is_led = true;
@@ -72,7 +72,7 @@ fn journal_of(alloc: Global, image: &[u8], sequence: u64) -> Result<Vec<Command>
     Ok(commands)
 }
 
-/// The sequence and the length of the latest valid header.
+// The sequence and the length of the latest valid header.
 fn latest_header_of(image: &[u8]) -> Result<(u64, u64), StoreFault> {
     match (header_of(image, 0), header_of(image, 1)) {
         (Some(even), Some(odd)) => Ok(even.max(odd)),
@@ -84,7 +84,7 @@ fn latest_header_of(image: &[u8]) -> Result<(u64, u64), StoreFault> {
     }
 }
 
-/// The state in the half of a sequence.
+// The state in the half of a sequence.
 fn state_of(alloc: Global, image: &[u8], sequence: u64, length: u64) -> Result<State, StoreFault> {
     let first = if sequence % 2 == 0 { 258 } else { 4354 };
     let mut snapshot = Vec::new(alloc);

@@ -1,5 +1,9 @@
-//! Reads stopped stores twice, by `load_latest` and by a plain program that goes through the image as the format's table has it. The two have to
-//! agree on each image, and each line counts what the images hold.
+//! Reads stopped stores twice, by `load_latest` and by a plain program that goes through the image as the format's table has
+//! it. The two have to agree on each image, and each line counts what the images hold.
+//!
+//! - `runs`: stores that are made and stopped; `images`: the plain reader; `trouble`: what ends the comparison
+//!
+//! It takes no words. `rt ci` runs it, and compares what it prints with `stdout`.
 #![tactic(auto)]
 
 mod images;
@@ -33,7 +37,7 @@ fn print_small_stops<R: Print>(rt: &R, alloc: Global) -> Result<(), Trouble> {
 /// The places of the small run: a sequence, and how many records are used; where nothing is held, `(0, 0)`.
 const PLACES: [(u64, u32); 6] = [(0, 0), (1, 0), (1, 1), (1, 2), (2, 0), (2, 1)];
 
-/// Prints how often each place of the small run stands among these.
+// Prints how often each place of the small run stands among these.
 fn print_places<R: Print>(rt: &R, calls: u64, places: &[(u64, u32)]) -> Result<(), Trouble> {
     print!(rt; "{calls}:")?;
     for (sequence, used) in &PLACES {
@@ -72,7 +76,7 @@ fn count_of(places: &[(u64, u32)], sequence: u64, used: u32) -> usize {
         .count()
 }
 
-/// Which of five sectors a stop keeps: the digits of a number in base 2.
+// Which of five sectors a stop keeps: the digits of a number in base 2.
 fn kept(choice: u32) -> [u32; 5] {
     [
         choice & 1,
@@ -83,7 +87,7 @@ fn kept(choice: u32) -> [u32; 5] {
     ]
 }
 
-/// The small run stopped when so many calls have finished, for each choice of the sectors that it writes: where the images stand.
+// The small run stopped when so many calls have finished, for each choice of the sectors that it writes: where the images stand.
 fn small_stops(alloc: Global, calls: u64) -> Result<Vec<(u64, u32)>, Trouble> {
     let mut places = Vec::new(alloc);
     for choice in 0..32 {
@@ -103,7 +107,7 @@ fn small_stop(alloc: Global, calls: u64, choice: u32) -> Result<(u64, u32), Trou
     agreed(alloc, &mut device)
 }
 
-/// A format over a store with a record, stopped when so many calls have finished, for each choice of the headers and of the first record.
+// A format over a store with a record, stopped when so many calls have finished, for each choice of the headers and of the first record.
 fn format_stops(alloc: Global, state: &State, calls: u64) -> Result<Vec<(u64, u32)>, Trouble> {
     let mut places = Vec::new(alloc);
     for choice in 0..8 {
@@ -129,7 +133,7 @@ fn format_stop(
     agreed(alloc, &mut device)
 }
 
-/// A snapshot over a store of the same state, stopped when so many calls have finished. Every second sector is kept.
+// A snapshot over a store of the same state, stopped when so many calls have finished. Every second sector is kept.
 fn snapshot_stop(alloc: Global, state: &State, calls: u64) -> Result<(u64, u32), Trouble> {
     let mut device = device_of(alloc)?;
     let place = format_with(alloc, &mut device, state)?;

@@ -15,7 +15,7 @@ pub(crate) fn device_of(alloc: Global) -> Result<MemDevice, Trouble> {
     Ok(MemDevice::new(alloc, SECTORS as u64)?)
 }
 
-/// The bytes that reads give.
+// The bytes that reads give.
 fn image_of(alloc: Global, device: &mut MemDevice) -> Result<Vec<u8>, Trouble> {
     let mut image = vec![in alloc; 0; 512 * SECTORS]?;
     if device.len() != SECTORS as u64 {
@@ -77,7 +77,7 @@ pub(crate) fn larger_state(alloc: Global) -> Result<State, Refusal> {
     Ok(state)
 }
 
-/// A problem without requests, just loaded.
+// A problem without requests, just loaded.
 fn empty_problem(alloc: Global) -> Result<State, Refusal> {
     let depot = Stop {
         number: 0,

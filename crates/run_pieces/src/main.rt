@@ -1,5 +1,9 @@
-//! Serves one input over stores in memory: in pieces of every size, with a reader and a writer that fail at each call in turn, and with a device whose
-//! sync fails once.
+//! Serves one input over stores in memory: in pieces of several sizes, with a reader and a writer that fail at each
+//! call in turn, and with a device that fails once, at each of its calls in turn.
+//!
+//! The gate runs it and compares what it prints with `stdout`. Proved is nothing beyond that no step fails.
+//!
+//! Modules: `ends` (readers and writers that fail), `stores` (sessions over stores in memory).
 #![tactic(auto)]
 
 mod ends;
@@ -59,7 +63,7 @@ fn main(rt: HostRuntime) -> io::Result<()> {
     failed_builds(alloc, &stages, &mut output)
 }
 
-/// The first parts, joined.
+// The first parts, joined.
 fn input(alloc: Global, count: usize) -> Result<Vec<u8>, AllocError> {
     let mut text = Vec::new(alloc);
     for part in PARTS.iter().take(count) {
@@ -68,7 +72,7 @@ fn input(alloc: Global, count: usize) -> Result<Vec<u8>, AllocError> {
     Ok(text)
 }
 
-/// What comes of the input over a new store.
+// What comes of the input over a new store.
 fn served(alloc: Global, input: &[u8], pieces: Pieces, limited: Limited) -> Option<Served> {
     let Some(mut session) = new_store(alloc) else {
         return None;
@@ -76,7 +80,7 @@ fn served(alloc: Global, input: &[u8], pieces: Pieces, limited: Limited) -> Opti
     Some(serve_input(alloc, &mut session, input, pieces, limited))
 }
 
-/// What comes of the first part, of the first two, and so on.
+// What comes of the first part, of the first two, and so on.
 fn stages(alloc: Global) -> Result<Vec<Served>, AllocError> {
     let mut stages = Vec::new(alloc);
     for count in 0..PARTS.len() + 1 {
@@ -88,8 +92,8 @@ fn stages(alloc: Global) -> Result<Vec<Served>, AllocError> {
     Ok(stages)
 }
 
-/// Whether what was written is that of some first parts and a front of the next answer, and the state that before this answer or behind it, or one
-/// that a search has on its way.
+// Whether what was written is that of some first parts and a front of the next answer, and the state that before this answer or behind it, or one
+// that a search has on its way.
 fn is_allowed(stages: &[Served], stopped: &Served) -> bool {
     stages.windows(2).any(|pair| match pair {
         [before, after] => {
@@ -103,7 +107,7 @@ fn is_allowed(stages: &[Served], stopped: &Served) -> bool {
     })
 }
 
-/// Whether the search of 600 steps was cut behind a piece: as many pieces as are told, or one more.
+// Whether the search of 600 steps was cut behind a piece: as many pieces as are told, or one more.
 fn is_on_the_way(stopped: &Served) -> bool {
     [
         (0usize, "\nsteps 256 "),
@@ -119,14 +123,14 @@ fn is_on_the_way(stopped: &Served) -> bool {
     })
 }
 
-/// How often the bytes stand in the text.
+// How often the bytes stand in the text.
 fn count_of(text: &[u8], bytes: &[u8]) -> usize {
     text.windows(bytes.len().max(1))
         .filter(|window| *window == bytes)
         .count()
 }
 
-/// Over all readers that fail at one of their calls: how many there are, and how many of them end otherwise than they should.
+// Over all readers that fail at one of their calls: how many there are, and how many of them end otherwise than they should.
 fn stopped_reads(alloc: Global, input: &[u8], stages: &[Served]) -> Result<(u32, u32), AllocError> {
     let mut wrong = 0u32;
     for calls in 0..1000 {
@@ -148,7 +152,7 @@ fn stopped_reads(alloc: Global, input: &[u8], stages: &[Served]) -> Result<(u32,
     Ok((1000, wrong))
 }
 
-/// The same of writers.
+// The same of writers.
 fn stopped_writes(
     alloc: Global,
     input: &[u8],
@@ -174,7 +178,7 @@ fn stopped_writes(
     Ok((1000, wrong))
 }
 
-/// What is answered to a load that is out of range, in pieces of two sizes: the serving ends with it, and the state stays.
+// What is answered to a load that is out of range, in pieces of two sizes: the serving ends with it, and the state stays.
 fn refused_loads<W: Write>(alloc: Global, stages: &[Served], output: &mut W) -> io::Result<()> {
     let mut text = Vec::new(alloc);
     for part in [LOAD, LOAD_OUT_OF_RANGE, "build\n"] {
@@ -197,7 +201,7 @@ fn refused_loads<W: Write>(alloc: Global, stages: &[Served], output: &mut W) -> 
     Ok(())
 }
 
-/// A device that fails once, at each of its calls in turn: at how many of them that is within `build`, and what opening gives then.
+// A device that fails once, at each of its calls in turn: at how many of them that is within `build`, and what opening gives then.
 fn failed_builds<W: Write>(alloc: Global, stages: &[Served], output: &mut W) -> io::Result<()> {
     let mut text = Vec::new(alloc);
     for part in [LOAD, "build\n", REFUSED, LOAD] {

@@ -44,7 +44,7 @@ pub(crate) fn new_store(alloc: Global) -> Option<Session<MemDevice>> {
     opened(alloc, new_device(alloc)?)
 }
 
-/// What `show` answers.
+// What `show` answers.
 fn shown<D: Sectors>(alloc: Global, session: &mut Session<D>) -> Vec<u8> {
     let mut text: &[u8] = b"show\n";
     let mut writer = Watched::new(Limited::whole(alloc));

@@ -1,8 +1,13 @@
-//! Makes the steps of a search once more, slowly: each as the table of operators has it, by moves that give whole plans. After each step
-//! both plans have to be those of `search_step`, and at the end those of `search_steps`.
+//! Makes the steps of a search once more, slowly: each as the table of operators has it, by moves that give whole
+//! plans. After each step both plans have to be those of `search_step`, and at the end those of `search_steps`.
 //!
-//! A line of standard input is a search: a format, the path of an instance, whether its first plan is `best` or `spread`, a seed, how many
-//! stops of each route are pinned, a deviation, the number of the first step, and how many steps.
+//! A line of standard input is a search: a format, the path of an instance, whether its first plan is `best` or
+//! `spread`, a seed, how many stops of each route are pinned, a deviation, the number of the first step, and how
+//! many steps.
+//!
+//! The gate runs it and compares what it prints with `stdout`. Proved is nothing beyond that no step fails.
+//!
+//! Modules: `plans` (plans, told slowly), `steps` (a step by the table of its operators).
 #![tactic(auto)]
 
 mod plans;
@@ -87,7 +92,7 @@ enum Outcome {
     Differs { step: u64 },
 }
 
-/// Makes each step in both ways.
+// Makes each step in both ways.
 fn compared(alloc: Global, task: &Task, problem: &Problem) -> Result<Outcome, OutOfMemory> {
     let (pins, begun) = begin(alloc, task, problem)?;
     let mut found = Found {
@@ -115,14 +120,14 @@ fn compared(alloc: Global, task: &Task, problem: &Problem) -> Result<Outcome, Ou
     }
 }
 
-/// A plan and its pins: the first stops of each route.
+// A plan and its pins: the first stops of each route.
 fn begin(alloc: Global, task: &Task, problem: &Problem) -> Result<(Pins, Plan), OutOfMemory> {
     let plan = built(alloc, problem, task.is_spread)?;
     let pins = pins_of(alloc, &plan, task.pinned)?;
     Ok((pins, plan))
 }
 
-/// The step in both ways, where they are alike.
+// The step in both ways, where they are alike.
 fn one_step(
     alloc: Global,
     task: &Task,
@@ -159,7 +164,7 @@ fn one_step(
     }
 }
 
-/// All steps at once, and what the incumbent then costs.
+// All steps at once, and what the incumbent then costs.
 fn searched(
     alloc: Global,
     task: &Task,

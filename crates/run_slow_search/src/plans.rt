@@ -49,7 +49,7 @@ pub(crate) fn built(
     Ok(plan)
 }
 
-/// The plan with the request in the vehicle behind so many, where that is empty.
+// The plan with the request in the vehicle behind so many, where that is empty.
 fn alone(
     alloc: Global,
     problem: &Problem,

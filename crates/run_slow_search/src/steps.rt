@@ -63,12 +63,12 @@ fn candidate(
     }
 }
 
-/// One of so many things, from 0.
+// One of so many things, from 0.
 fn picked(word: u32, things: usize) -> usize {
     ((u128::from(word) * things as u128) >> 32) as usize
 }
 
-/// The planned requests without a pinned stop, by rising name.
+// The planned requests without a pinned stop, by rising name.
 fn movable(
     alloc: Global,
     problem: &Problem,
@@ -156,7 +156,7 @@ fn crossed(
     )
 }
 
-/// A cut behind the pin.
+// A cut behind the pin.
 fn cut(pins: &Pins, work: &Plan, index: usize, word: u32) -> u64 {
     let stops = match work.routes.as_slice().get(index) {
         Some(route) => route.as_slice().len(),
@@ -200,7 +200,7 @@ fn recreated(
     Ok(Some(plan))
 }
 
-/// One to eight of the names, each drawn of those that are left.
+// One to eight of the names, each drawn of those that are left.
 fn drawn(alloc: Global, names: Vec<u32>, words: &[u32; 16]) -> Result<Vec<u32>, OutOfMemory> {
     let mut left = names;
     let mut drawn = Vec::new(alloc);

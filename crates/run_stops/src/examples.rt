@@ -1,4 +1,5 @@
-// Commands that are run, and the states that they lead to.
+//! Commands that are run, and the states that they lead to.
+
 use command_core::{Command, Spot, State, apply};
 use instance_read::{read_lilim, read_vrp};
 use state_codec::{decode_state, encode_state};
@@ -44,7 +45,7 @@ pub(crate) fn load_one(alloc: Global) -> io::Result<Command> {
     load_of_state(alloc, &LOADED)
 }
 
-/// The command that leads to this state.
+// The command that leads to this state.
 fn load_of_state(alloc: Global, bytes: &[u8]) -> io::Result<Command> {
     match decode_state(alloc, bytes) {
         Ok(State::Loaded(job)) => Ok(Command::Load(job.problem.copy()?, 0)),

@@ -1,4 +1,5 @@
-// Stores that are written by hand, and what opening them gives.
+//! Stores that are written by hand, and what opening them gives.
+
 use crate::examples::{LOADED, failed};
 use command_core::State;
 use recover::Session;
@@ -35,7 +36,7 @@ impl<'a> Image<'a> {
         }
     }
 
-    /// The header: the name, the version, the sequence, and the snapshot's length.
+    // The header: the name, the version, the sequence, and the snapshot's length.
     fn header(&self) -> [u8; 28] {
         let version = self.version;
         let sequence = self.sequence;
@@ -46,7 +47,7 @@ impl<'a> Image<'a> {
         ]
     }
 
-    /// The device that has these sectors, and zeros in the others.
+    // The device that has these sectors, and zeros in the others.
     fn device(&self, alloc: Global) -> io::Result<MemDevice> {
         let mut device = MemDevice::new(alloc, 8450)?;
         put(&mut device, self.sector, &self.header())?;
@@ -83,7 +84,7 @@ impl<'a> Image<'a> {
     }
 }
 
-/// Writes a sector that begins with these bytes.
+// Writes a sector that begins with these bytes.
 fn put(device: &mut MemDevice, sector: u64, front: &[u8]) -> io::Result<()> {
     let mut bytes = [0; 512];
     for (to, from) in bytes.iter_mut().zip(front) {
@@ -105,7 +106,7 @@ fn kind_of(state: &State) -> &'static str {
     }
 }
 
-/// The state of one customer with this demand, and with these numbers behind the requests: the pin's length and the routes.
+// The state of one customer with this demand, and with these numbers behind the requests: the pin's length and the routes.
 fn with_routes(alloc: Global, demand: u8, numbers: &[u8]) -> io::Result<Vec<u8>> {
     let mut bytes = LOADED[..83].to_vec(alloc)?;
     bytes[70] = demand;
@@ -132,7 +133,7 @@ fn print_cuts<R: Print>(rt: &R, alloc: Global) -> io::Result<()> {
     Image::of(&[]).print(rt, alloc, "cut to none")
 }
 
-/// How many of the snapshots of 1 to 94 bytes are refused as cut.
+// How many of the snapshots of 1 to 94 bytes are refused as cut.
 fn truncated_cuts(alloc: Global) -> io::Result<u32> {
     let mut truncated: u32 = 0;
     for length in 1..95 {

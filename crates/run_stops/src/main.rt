@@ -1,5 +1,11 @@
-//! Runs over a store in memory that are stopped at each call of the device, with each choice of what is left, and what opening gives then.
-//! Each line counts what the layout of a store makes of it.
+//! Runs over a store in memory that are stopped at each call of the device, with each choice of what is left, and what opening
+//! gives then; and what opening gives of stores that are written by hand. Each line counts what the layout of a store makes
+//! of it.
+//!
+//! - `examples`: commands and their states; `stops`: runs that are stopped; `images`: stores by hand
+//! - `memory`: five commands where memory is refused once, by the word `memory` and `tests/refused_allocations.py`
+//!
+//! `rt ci` runs it without words, and compares what it prints with `stdout`.
 #![tactic(auto)]
 
 mod examples;
@@ -29,7 +35,7 @@ fn main(rt: HostRuntime) -> io::Result<()> {
     print_openings(&rt, alloc)
 }
 
-/// The five commands once, for a run in which some allocation is refused: what answered that.
+// The five commands once, for a run in which some allocation is refused: what answered that.
 fn with_refused_memory<R: Print>(rt: &R, alloc: Global) -> io::Result<()> {
     println!(rt; "{}", run_once(alloc)?.as_str())
 }
@@ -51,12 +57,12 @@ fn print_openings<R: Print>(rt: &R, alloc: Global) -> io::Result<()> {
 /// The sectors that the five commands write: both headers, three records, and the first sector of each half.
 const WRITTEN: [usize; 7] = [0, 1, 2, 3, 4, 258, 4354];
 
-/// The states before the five commands and after each.
+// The states before the five commands and after each.
 fn states_of_five(alloc: Global) -> io::Result<Vec<Vec<u8>>> {
     states_of(alloc, &five_commands(alloc)?)
 }
 
-/// The five commands, stopped after each call with each choice of the sectors that they write.
+// The five commands, stopped after each call with each choice of the sectors that they write.
 fn every_stop<R: Print>(rt: &R, alloc: Global) -> io::Result<()> {
     println!(rt;
         "five commands stopped, by calls: acknowledged; how often their state, one more, another; with steps repeated"
@@ -78,8 +84,8 @@ fn tally_of_stops(alloc: Global, states: &[Vec<u8>], fuse: u64) -> io::Result<Ta
     Ok(tally)
 }
 
-/// The five commands with each call of the device failing once, reads counted: a sync and two reads for opening, four calls for a
-/// snapshot, two for a record.
+// The five commands with each call of the device failing once, reads counted: a sync and two reads for opening, four calls for a
+// snapshot, two for a record.
 fn every_failed_call<R: Print>(rt: &R, alloc: Global) -> io::Result<()> {
     println!(rt;
         "five commands, by the call that fails once: answered Ok, DeviceFault, Broken; the state of how many"
@@ -93,7 +99,7 @@ fn every_failed_call<R: Print>(rt: &R, alloc: Global) -> io::Result<()> {
     Ok(())
 }
 
-/// A session over a new store whose device fails once, at this call. Where that is in opening it is opened once more.
+// A session over a new store whose device fails once, at this call. Where that is in opening it is opened once more.
 fn opened_with_a_failed_call<R: Print>(
     rt: &R,
     alloc: Global,
@@ -110,7 +116,7 @@ fn opened_with_a_failed_call<R: Print>(
     }
 }
 
-/// A load whose snapshot takes three sectors, stopped after each call with each choice of these and of the header.
+// A load whose snapshot takes three sectors, stopped after each call with each choice of these and of the header.
 fn wide_snapshot<R: Print>(rt: &R, alloc: Global) -> io::Result<()> {
     let states = states_of(alloc, &one_wide_load(alloc)?)?;
     println!(rt; "a load of three sectors stopped, by calls")?;
@@ -141,7 +147,7 @@ fn one_wide_load(alloc: Global) -> io::Result<Vec<Command>> {
     Ok(commands)
 }
 
-/// A load over a state, stopped within its snapshot with every second sector kept, the even ones or the odd ones.
+// A load over a state, stopped within its snapshot with every second sector kept, the even ones or the odd ones.
 fn snapshot_over_a_state<R: Print>(rt: &R, alloc: Global) -> io::Result<()> {
     println!(rt; "a load over a state stopped, by calls")?;
     let states = states_of(alloc, &two_loads(alloc)?)?;
@@ -160,7 +166,7 @@ fn tally_of_halves(alloc: Global, states: &[Vec<u8>], fuse: u64) -> io::Result<T
     Ok(tally)
 }
 
-/// The second content of every second sector from this one on.
+// The second content of every second sector from this one on.
 fn every_second(alloc: Global, first: usize) -> io::Result<Vec<u32>> {
     let mut choices = vec![in alloc; 0u32; SECTORS as usize]?;
     for choice in choices.iter_mut().skip(first).step_by(2) {
@@ -176,8 +182,8 @@ fn two_loads(alloc: Global) -> io::Result<Vec<Command>> {
     Ok(commands)
 }
 
-/// A build whose sync fails. Opening the device gives the state after it, which is there after a stop right behind that opening too, though
-/// the record was never synced before.
+// A build whose sync fails. Opening the device gives the state after it, which is there after a stop right behind that opening too, though
+// the record was never synced before.
 fn opening_settles<R: Print>(rt: &R, alloc: Global) -> io::Result<()> {
     println!(rt; "a build whose sync fails, opened, and opened after a stop")?;
     let states = states_of_five(alloc)?;
@@ -191,7 +197,7 @@ fn opening_settles<R: Print>(rt: &R, alloc: Global) -> io::Result<()> {
     )
 }
 
-/// The device behind a load and a build whose sync fails.
+// The device behind a load and a build whose sync fails.
 fn built_without_a_sync(alloc: Global) -> io::Result<MemDevice> {
     let mut device = fresh(alloc)?;
     // Three calls of opening, four of the load, and the write of the record.
@@ -202,14 +208,14 @@ fn built_without_a_sync(alloc: Global) -> io::Result<MemDevice> {
     Ok(session.close())
 }
 
-/// The state that opening gives, as bytes, and the device behind it.
+// The state that opening gives, as bytes, and the device behind it.
 fn opened_state(alloc: Global, device: MemDevice) -> io::Result<(MemDevice, Vec<u8>)> {
     let session = open(alloc, device)?.session;
     let bytes = encode_state(alloc, session.state())?;
     Ok((session.close(), bytes))
 }
 
-/// A checkpoint, then 256 records of 256 steps each, and one step more.
+// A checkpoint, then 256 records of 256 steps each, and one step more.
 fn full_journal<R: Print>(rt: &R, alloc: Global) -> io::Result<()> {
     println!(rt; "a full journal")?;
     let mut session = checkpointed(alloc)?;
@@ -222,7 +228,7 @@ fn full_journal<R: Print>(rt: &R, alloc: Global) -> io::Result<()> {
     Ok(())
 }
 
-/// Three customers with the plan that is built of them, in a snapshot.
+// Three customers with the plan that is built of them, in a snapshot.
 fn checkpointed(alloc: Global) -> io::Result<Session<MemDevice>> {
     let mut session = open(alloc, fresh(alloc)?)?.session;
     let _ = answer(alloc, &mut session, load_three(alloc)?);
@@ -231,7 +237,7 @@ fn checkpointed(alloc: Global) -> io::Result<Session<MemDevice>> {
     Ok(session)
 }
 
-/// Opens the device of a session, and tells its calls and how many steps opening repeats.
+// Opens the device of a session, and tells its calls and how many steps opening repeats.
 fn reopened<R: Print>(
     rt: &R,
     alloc: Global,

@@ -1,4 +1,5 @@
-// The five commands where memory is refused once, somewhere.
+//! The five commands where memory is refused once, somewhere.
+
 use crate::examples::{five_commands, states_of};
 use crate::stops::{SECTORS, answer, is_state, open};
 use checkpoint::{FormatFault, StoreFault, format};
@@ -36,7 +37,7 @@ impl Refused {
     }
 }
 
-/// A session over a new store; none where it was refused memory and can be had once more.
+// A session over a new store; none where it was refused memory and can be had once more.
 fn begun(alloc: Global) -> io::Result<Result<Session<MemDevice>, Refused>> {
     let device = match formatted(alloc) {
         Ok(device) => device,
@@ -52,7 +53,7 @@ fn begun(alloc: Global) -> io::Result<Result<Session<MemDevice>, Refused>> {
     }
 }
 
-/// A device with a new store.
+// A device with a new store.
 fn formatted(alloc: Global) -> Result<MemDevice, Refused> {
     let Ok(mut device) = MemDevice::new(alloc, SECTORS) else {
         return Err(Refused::Before);
@@ -85,7 +86,7 @@ fn carried_out(alloc: Global, mut session: Session<MemDevice>) -> io::Result<Ref
     }
 }
 
-/// How many of the five commands are carried out before the first that is denied, and its denial.
+// How many of the five commands are carried out before the first that is denied, and its denial.
 fn first_denial(
     alloc: Global,
     session: &mut Session<MemDevice>,
@@ -100,7 +101,7 @@ fn first_denial(
     Ok((done, None))
 }
 
-/// What a denial of the command number `done` leaves.
+// What a denial of the command number `done` leaves.
 fn after(
     alloc: Global,
     session: Session<MemDevice>,
@@ -118,7 +119,7 @@ fn after(
     }
 }
 
-/// Carries out the command that was denied, and those behind it.
+// Carries out the command that was denied, and those behind it.
 fn carried_on(
     alloc: Global,
     mut session: Session<MemDevice>,
@@ -129,7 +130,7 @@ fn carried_on(
     Ok(found(Refused::Command, is_done))
 }
 
-/// Whether the commands from this number on are accepted, one after another.
+// Whether the commands from this number on are accepted, one after another.
 fn are_accepted(alloc: Global, session: &mut Session<MemDevice>, first: usize) -> io::Result<bool> {
     let mut number: usize = 0;
     for command in five_commands(alloc)? {
@@ -141,7 +142,7 @@ fn are_accepted(alloc: Global, session: &mut Session<MemDevice>, first: usize) -
     Ok(true)
 }
 
-/// Opens the device of a session that is broken.
+// Opens the device of a session that is broken.
 fn opened_again(
     alloc: Global,
     mut session: Session<MemDevice>,
@@ -157,7 +158,7 @@ fn opened_again(
     Ok(found(Refused::Device, is_known))
 }
 
-/// The answer, where all is as promised.
+// The answer, where all is as promised.
 fn found(answer: Refused, is_as_promised: bool) -> Refused {
     if is_as_promised {
         answer
@@ -166,7 +167,7 @@ fn found(answer: Refused, is_as_promised: bool) -> Refused {
     }
 }
 
-/// Whether the session's state is the one after so many of the commands.
+// Whether the session's state is the one after so many of the commands.
 fn is_after(
     alloc: Global,
     session: &Session<MemDevice>,

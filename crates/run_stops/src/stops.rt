@@ -1,4 +1,5 @@
-// Runs that are stopped, and what opening their device gives.
+//! Runs that are stopped, and what opening their device gives.
+
 use crate::examples::failed;
 use checkpoint::format;
 use command_core::Command;
@@ -96,7 +97,7 @@ impl Ended {
     }
 }
 
-/// How many commands were answered so.
+// How many commands were answered so.
 fn count_of(replies: &[Reply], answer: Result<(), Denial>) -> usize {
     replies
         .iter()

@@ -1,5 +1,9 @@
-//! Runs the program for each line of `words.txt`, whose words are parted by `|`, and prints after each answer its status. Standard input is what the
-//! word `run` reads.
+//! Runs the program for each line of `words.txt`, whose words are parted by `|`, and prints after each answer its
+//! status. Standard input is what the word `run` reads; among the lines is a session by its text.
+//!
+//! The gate runs it and compares what it prints with `stdout`. The examples of the repository stand again in
+//! `data`, since the gate refuses links; `tests/words.sh` compares them. Proved is nothing beyond that no step
+//! fails.
 #![tactic(auto)]
 
 use planner_cli::run_words;
@@ -22,7 +26,7 @@ fn main(rt: HostRuntime) -> io::Result<()> {
     Ok(())
 }
 
-/// The words of the line behind the program's name. An empty line has none.
+// The words of the line behind the program's name. An empty line has none.
 fn words_of(alloc: Global, line: &str) -> Result<Vec<&str>, AllocError> {
     let mut words = Vec::new(alloc);
     words.push("planner")?;

@@ -6,9 +6,9 @@ use Rattle.sector_disk.specs.Image.{written}
 use Rattle.sector_disk.specs.Model.{Disk, Finish, Show, sectors_from}
 use Rattle.sector_disk.specs.ModelLaws.{finished-append, finished-sectors_from}
 use Rattle.sector_disk.specs.Sectors.{Reached, AddsContents, Only, SameImages, Elapses}
-use Rattle.sector_disk.specs.Course.{Course, MayLeaveIn, seen_in, clock_in, MayHaveLeftIn}
+use Rattle.sector_disk.specs.History.{History, MayLeaveIn, seen_in, clock_in, MayHaveLeftIn}
 use Rattle.sector_disk.specs.MemoryLaws.{whole_sectors}
-use Rattle.sector_disk.specs.FileRecord.{Entry, events_in, file_course, AnswersAsModel, all_inside}
+use Rattle.sector_disk.specs.FileRecord.{Entry, events_in, file_history, AnswersAsModel, all_inside}
 use Rattle.sector_disk.specs.FileCalls.{read_entry, write_entry, sync_entry}
 use Rattle.sector_disk.specs.FileLaws.{file_reads_possible}
 use Rattle.sector_disk.proofs.Goes.{GoesOn, WriteCase, SyncCase, finishes, shows, syncs, sync_shows, write_seen, write_contents, write_within, write_moments, sync_seen, sync_durable, sync_contents, sync_moments}
@@ -19,15 +19,15 @@ module _ (n after : ℕ) (start : Disk) (shown : ℕ → List ℕ) (old new : Li
   honest_before entry more honest = subst (λ (l : List Entry). AnswersAsModel n start shown l) more (subst (λ (m : ℕ). AnswersAsModel m start shown new) sectors honest)
 
   module _ (calls new_calls : ℕ) where
-    pub unchanged_goes : new ≡ old → new_calls ≡ calls → GoesOn (file_course n start shown old calls) (file_course after start shown new new_calls) []
+    pub unchanged_goes : new ≡ old → new_calls ≡ calls → GoesOn (file_history n start shown old calls) (file_history after start shown new new_calls) []
     unchanged_goes same counted = record { sectors = sectors; start = refl; events = ap (events_in shown) same ∙ sym (append-nil (events_in shown old)); calls = omega (arith, counted) }
 
-    pub read_goes : (ok : Bool) (first : ℕ) (bytes : List ℕ) → new ≡ read_entry ok first bytes ∷ old → new_calls ≡ calls → GoesOn (file_course n start shown old calls) (file_course after start shown new new_calls) []
+    pub read_goes : (ok : Bool) (first : ℕ) (bytes : List ℕ) → new ≡ read_entry ok first bytes ∷ old → new_calls ≡ calls → GoesOn (file_history n start shown old calls) (file_history after start shown new new_calls) []
     read_goes true first bytes more counted = record { sectors = sectors; start = refl; events = ap (events_in shown) more; calls = omega (arith, counted) }
     read_goes false first bytes more counted = record { sectors = sectors; start = refl; events = ap (events_in shown) more; calls = omega (arith, counted) }
 
     pub write_goes : (ok : Bool) (first : ℕ) (bytes : List ℕ) → new ≡ write_entry ok first bytes ∷ old → new_calls ≡ (if ok then calls + 1 else calls)
-        → WriteCase (file_course n start shown old calls) (file_course after start shown new new_calls) first bytes ok
+        → WriteCase (file_history n start shown old calls) (file_history after start shown new new_calls) first bytes ok
     write_goes true first bytes more counted =
         let one = finished-append (sectors_from first bytes (length bytes / 512)) (Finish first bytes ∷ []) in
         finishes (record { sectors = sectors; start = refl; events = ap (events_in shown) more; calls = omega (arith, counted, one, finished-sectors_from first bytes (length bytes / 512)) })
@@ -36,22 +36,22 @@ module _ (n after : ℕ) (start : Disk) (shown : ℕ → List ℕ) (old new : Li
         let none = finished-append (sectors_from first bytes (length bytes / 512)) (Show image ∷ []) in
         shows image (record { sectors = sectors; start = refl; events = ap (events_in shown) more; calls = omega (arith, counted, none, finished-sectors_from first bytes (length bytes / 512)) })
 
-    pub sync_goes : (ok : Bool) → new ≡ sync_entry ok ∷ old → new_calls ≡ (if ok then calls + 1 else calls) → SyncCase (file_course n start shown old calls) (file_course after start shown new new_calls) ok
+    pub sync_goes : (ok : Bool) → new ≡ sync_entry ok ∷ old → new_calls ≡ (if ok then calls + 1 else calls) → SyncCase (file_history n start shown old calls) (file_history after start shown new new_calls) ok
     sync_goes true more counted = syncs (record { sectors = sectors; start = refl; events = ap (events_in shown) more; calls = omega (arith, counted) })
     sync_goes false more counted = sync_shows (shown (length old)) (record { sectors = sectors; start = refl; events = ap (events_in shown) more; calls = omega (arith, counted) })
 
   -- what reads gave before a call was possible
   pub possible_before : (entry : Entry) (calls : ℕ) → new ≡ entry ∷ old → IsTrue (all_inside (512 * n) old) → AnswersAsModel after start shown new
-      → MayLeaveIn (file_course n start shown old calls) (seen_in (file_course n start shown old calls))
+      → MayLeaveIn (file_history n start shown old calls) (seen_in (file_history n start shown old calls))
   possible_before entry calls more inside honest = file_reads_possible n start shown old (honest_before entry more honest).0 inside
 
-pub record Writes {T E : Type 0} (old new : Course) (first : ℕ) (bytes : List ℕ) (result : Result T E) : Type 0 where
+pub record Writes {T E : Type 0} (old new : History) (first : ℕ) (bytes : List ℕ) (result : Result T E) : Type 0 where
   pub seen : OnOk result (seen_in new ≡ written first bytes (seen_in old))
   pub contents : AddsContents result first bytes (MayLeaveIn old) (MayLeaveIn new)
   pub within : OnOk result ((t : ℕ) (image : List ℕ) → t ≤ clock_in old → Reached first bytes (MayLeaveIn old) image → MayHaveLeftIn new t old.calls image)
   pub moments : Elapses (clock_in old) (clock_in new) (MayHaveLeftIn old) (MayHaveLeftIn new) old.calls new.calls (Reached first bytes (MayLeaveIn old)) (MayLeaveIn new)
 
-pub record Syncs {T E : Type 0} (old new : Course) (result : Result T E) : Type 0 where
+pub record Syncs {T E : Type 0} (old new : History) (result : Result T E) : Type 0 where
   pub seen : OnOk result (seen_in new ≡ seen_in old)
   pub durable : OnOk result (Only (seen_in old) (MayLeaveIn new))
   pub contents : OnErr result (SameImages (MayLeaveIn old) (MayLeaveIn new))
@@ -60,11 +60,11 @@ pub record Syncs {T E : Type 0} (old new : Course) (result : Result T E) : Type 
 -- what a write or a sync of a file means, for an honest file: the clauses of a device
 module _ {T E : Type 0} (n after : ℕ) (start : Disk) (shown : ℕ → List ℕ) (old new : List Entry) (sectors : after ≡ n) (calls new_calls : ℕ) (result : Result T E) (inside : IsTrue (all_inside (512 * n) old)) (honest : AnswersAsModel after start shown new)
     (counted : new_calls ≡ (if is_ok result then calls + 1 else calls)) where
-  abbrev before : Course
-  before = file_course n start shown old calls
+  abbrev before : History
+  before = file_history n start shown old calls
 
-  abbrev now : Course
-  now = file_course after start shown new new_calls
+  abbrev now : History
+  now = file_history after start shown new new_calls
 
   module _ (first : ℕ) (bytes : List ℕ) (whole : length bytes % 512 ≡ 0) (fits : 512 * first + length bytes ≤ 512 * n) (more : new ≡ write_entry (is_ok result) first bytes ∷ old) where
     size : length bytes ≡ 512 * (length bytes / 512)

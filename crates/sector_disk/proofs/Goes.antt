@@ -8,28 +8,28 @@ use Rattle.sector_disk.specs.Image.{sector, written}
 use Rattle.sector_disk.specs.Model.{Disk, Event, Finish, Sync, Show, next, run, IsImage, sectors_from, finished, MightHaveLeft}
 use Rattle.sector_disk.specs.ModelLaws.{run-append, seen-sectors_from, finished-append, length-sectors_from, finished-sectors_from, finished-drop_sectors, take-sectors_from, image_later, image_reached, image_from_reached, settled_only, left_before, left_within, left_cases}
 use Rattle.sector_disk.specs.Sectors.{Reached, AddsContents, Only, SameImages, Elapses}
-use Rattle.sector_disk.specs.Course.{Course, disk_in, seen_in, MayLeaveIn, clock_in, MayHaveLeftIn}
+use Rattle.sector_disk.specs.History.{History, disk_in, seen_in, MayLeaveIn, clock_in, MayHaveLeftIn}
 
--- the new course is the old one with these events more
-pub record GoesOn (old new : Course) (more : List Event) : Type 0 where
+-- the new history is the old one with these events more
+pub record GoesOn (old new : History) (more : List Event) : Type 0 where
   pub sectors : new.sectors ≡ old.sectors
   pub start : new.start ≡ old.start
   pub events : new.events ≡ old.events ++ more
   pub calls : new.calls ≡ old.calls + finished more
 
-disk_is : (old new : Course) (more : List Event) → GoesOn old new more → disk_in new ≡ run (disk_in old) more
+disk_is : (old new : History) (more : List Event) → GoesOn old new more → disk_in new ≡ run (disk_in old) more
 disk_is old new more on =
     ap (λ (d : Disk). run d new.events) on.start ∙ ap (run old.start) on.events ∙ run-append old.start old.events more
 
-may_leave : (old new : Course) (more : List Event) → GoesOn old new more → (image : List ℕ) → MayLeaveIn new image → IsImage old.sectors (run (disk_in old) more) image
+may_leave : (old new : History) (more : List Event) → GoesOn old new more → (image : List ℕ) → MayLeaveIn new image → IsImage old.sectors (run (disk_in old) more) image
 may_leave old new more on image is =
     subst (λ (d : Disk). IsImage old.sectors d image) (disk_is old new more on) (subst (λ (n : ℕ). IsImage n (disk_in new) image) on.sectors is)
 
-may_leave_new : (old new : Course) (more : List Event) → GoesOn old new more → (image : List ℕ) → IsImage old.sectors (run (disk_in old) more) image → MayLeaveIn new image
+may_leave_new : (old new : History) (more : List Event) → GoesOn old new more → (image : List ℕ) → IsImage old.sectors (run (disk_in old) more) image → MayLeaveIn new image
 may_leave_new old new more on image is =
     subst (λ (n : ℕ). IsImage n (disk_in new) image) (sym on.sectors) (subst (λ (d : Disk). IsImage old.sectors d image) (sym (disk_is old new more on)) is)
 
-left : (old new : Course) (more : List Event) → GoesOn old new more → (t m : ℕ) (image : List ℕ) → MayHaveLeftIn new t m image
+left : (old new : History) (more : List Event) → GoesOn old new more → (t m : ℕ) (image : List ℕ) → MayHaveLeftIn new t m image
     → MightHaveLeft old.sectors old.start (old.events ++ more) (old.calls + finished more) t m image
 left old new more on t m image is =
     subst (λ (c : ℕ). MightHaveLeft old.sectors old.start (old.events ++ more) c t m image) on.calls
@@ -37,7 +37,7 @@ left old new more on t m image is =
     (subst (λ (d : Disk). MightHaveLeft old.sectors d new.events new.calls t m image) on.start
     (subst (λ (n : ℕ). MightHaveLeft n new.start new.events new.calls t m image) on.sectors is)))
 
-left_new : (old new : Course) (more : List Event) → GoesOn old new more → (t m : ℕ) (image : List ℕ) → MightHaveLeft old.sectors old.start (old.events ++ more) (old.calls + finished more) t m image
+left_new : (old new : History) (more : List Event) → GoesOn old new more → (t m : ℕ) (image : List ℕ) → MightHaveLeft old.sectors old.start (old.events ++ more) (old.calls + finished more) t m image
     → MayHaveLeftIn new t m image
 left_new old new more on t m image is =
     subst (λ (n : ℕ). MightHaveLeft n new.start new.events new.calls t m image) (sym on.sectors)
@@ -46,7 +46,7 @@ left_new old new more on t m image is =
     (subst (λ (c : ℕ). MightHaveLeft old.sectors old.start (old.events ++ more) c t m image) (sym on.calls) is)))
 
 -- time goes on, if each moment of the new events is within the call or after it
-pub elapses : (old new : Course) (more : List Event) → GoesOn old new more → (within : List ℕ → Type 0)
+pub elapses : (old new : History) (more : List Event) → GoesOn old new more → (within : List ℕ → Type 0)
     → ((j m : ℕ) (image : List ℕ) → j ≤ length more → m + finished (drop j more) ≡ old.calls + finished more → IsImage old.sectors (run (disk_in old) (take j more)) image
     → ((m ≡ old.calls) × within image) ⊎ ((m ≡ new.calls) × MayLeaveIn new image))
     → Elapses (clock_in old) (clock_in new) (MayHaveLeftIn old) (MayHaveLeftIn new) old.calls new.calls within (MayLeaveIn new)
@@ -60,13 +60,13 @@ elapses old new more on within each = record {
 }
 
 -- a call that changes no content
-pub unchanged_images : (old new : Course) → GoesOn old new [] → SameImages (MayLeaveIn old) (MayLeaveIn new)
+pub unchanged_images : (old new : History) → GoesOn old new [] → SameImages (MayLeaveIn old) (MayLeaveIn new)
 unchanged_images old new on = record { nothing_else = may_leave old new [] on; keeps = may_leave_new old new [] on }
 
-pub unchanged_seen : (old new : Course) → GoesOn old new [] → seen_in new ≡ seen_in old
+pub unchanged_seen : (old new : History) → GoesOn old new [] → seen_in new ≡ seen_in old
 unchanged_seen old new on = ap (λ (d : Disk). d.seen) (disk_is old new [] on)
 
-pub unchanged_moments : (old new : Course) → GoesOn old new [] → (within : List ℕ → Type 0) → ((image : List ℕ) → MayLeaveIn old image → within image)
+pub unchanged_moments : (old new : History) → GoesOn old new [] → (within : List ℕ → Type 0) → ((image : List ℕ) → MayLeaveIn old image → within image)
     → Elapses (clock_in old) (clock_in new) (MayHaveLeftIn old) (MayHaveLeftIn new) old.calls new.calls within (MayLeaveIn new)
 unchanged_moments old new on within is_within = elapses old new [] on within (λ j m image le count is. inl (count_of j m count, is_within image (image_of j image is)))
   where
@@ -79,11 +79,11 @@ unchanged_moments old new on within is_within = elapses old new [] on within (λ
     image_of (suc j) image is = is
 
 -- a write that may have reached its sectors: it failed, or it finished too
-pub is_before : (old : Course) (first : ℕ) (bytes : List ℕ) (image : List ℕ) → MayLeaveIn old image → Reached first bytes (MayLeaveIn old) image
+pub is_before : (old : History) (first : ℕ) (bytes : List ℕ) (image : List ℕ) → MayLeaveIn old image → Reached first bytes (MayLeaveIn old) image
 is_before old first bytes image is = (image, is, record { size = refl; each = λ i. inl refl })
 
 -- a write of whole sectors inside the device, of which what reads give is possible
-module _ (old : Course) (first : ℕ) (bytes : List ℕ) (whole : length bytes ≡ 512 * (length bytes / 512)) (inside : first + length bytes / 512 ≤ old.sectors) (possible : MayLeaveIn old (seen_in old)) where
+module _ (old : History) (first : ℕ) (bytes : List ℕ) (whole : length bytes ≡ 512 * (length bytes / 512)) (inside : first + length bytes / 512 ≤ old.sectors) (possible : MayLeaveIn old (seen_in old)) where
   -- a stop within it
   reached_at : (j : ℕ) (image : List ℕ) → j ≤ length bytes / 512 → IsImage old.sectors (run (disk_in old) (sectors_from first bytes j)) image → Reached first bytes (MayLeaveIn old) image
   reached_at j image le is = image_reached old.sectors (disk_in old) first (length bytes / 512) bytes whole inside possible image (image_later old.sectors (disk_in old) first bytes j (length bytes / 512) image le is)
@@ -104,7 +104,7 @@ module _ (old : Course) (first : ℕ) (bytes : List ℕ) (whole : length bytes �
         reached_at j image le (subst (λ (l : List Event). IsImage old.sectors (run (disk_in old) l) image) cut is),
       )
 
-  module _ (new : Course) where
+  module _ (new : History) where
     -- where it failed
     torn_moments : GoesOn old new (sectors_from first bytes (length bytes / 512)) → Elapses (clock_in old) (clock_in new) (MayHaveLeftIn old) (MayHaveLeftIn new) old.calls new.calls (Reached first bytes (MayLeaveIn old)) (MayLeaveIn new)
     torn_moments on =
@@ -175,13 +175,13 @@ module _ (old : Course) (first : ℕ) (bytes : List ℕ) (whole : length bytes �
         ∙ ap (written first bytes) (seen-sectors_from (disk_in old) first bytes (length bytes / 512))
 
 -- what a write may have come to
-pub data WriteCase (old new : Course) (first : ℕ) (bytes : List ℕ) : Bool → Type 0 where
+pub data WriteCase (old new : History) (first : ℕ) (bytes : List ℕ) : Bool → Type 0 where
   finishes : GoesOn old new (sectors_from first bytes (length bytes / 512) ++ Finish first bytes ∷ []) → WriteCase old new first bytes true
   tears : GoesOn old new (sectors_from first bytes (length bytes / 512)) → WriteCase old new first bytes false
   nothing : GoesOn old new [] → WriteCase old new first bytes false
   shows : (image : List ℕ) → GoesOn old new (sectors_from first bytes (length bytes / 512) ++ Show image ∷ []) → WriteCase old new first bytes false
 
-module _ {T E : Type 0} (old new : Course) (first : ℕ) (bytes : List ℕ) (whole : length bytes ≡ 512 * (length bytes / 512)) (inside : first + length bytes / 512 ≤ old.sectors) (possible : MayLeaveIn old (seen_in old)) where
+module _ {T E : Type 0} (old new : History) (first : ℕ) (bytes : List ℕ) (whole : length bytes ≡ 512 * (length bytes / 512)) (inside : first + length bytes / 512 ≤ old.sectors) (possible : MayLeaveIn old (seen_in old)) where
   pub write_seen : (result : Result T E) → WriteCase old new first bytes (is_ok result) → OnOk result (seen_in new ≡ written first bytes (seen_in old))
   write_seen (Ok x) (finishes on) = done_seen old first bytes whole inside possible new on
   write_seen (Err e) (tears on) = tt
@@ -223,12 +223,12 @@ module _ {T E : Type 0} (old new : Course) (first : ℕ) (bytes : List ℕ) (who
   write_moments (Err e) (shows image on) = ended_moments old first bytes whole inside possible new (Show image) (λ d i. refl) on
 
 -- what a sync may have come to
-pub data SyncCase (old new : Course) : Bool → Type 0 where
+pub data SyncCase (old new : History) : Bool → Type 0 where
   syncs : GoesOn old new (Sync ∷ []) → SyncCase old new true
   no_sync : GoesOn old new [] → SyncCase old new false
   sync_shows : (image : List ℕ) → GoesOn old new (Show image ∷ []) → SyncCase old new false
 
-module _ {T E : Type 0} (old new : Course) (possible : MayLeaveIn old (seen_in old)) where
+module _ {T E : Type 0} (old new : History) (possible : MayLeaveIn old (seen_in old)) where
   pub sync_seen : (result : Result T E) → SyncCase old new (is_ok result) → OnOk result (seen_in new ≡ seen_in old)
   sync_seen (Ok x) (syncs on) = ap (λ (d : Disk). d.seen) (disk_is old new (Sync ∷ []) on)
   sync_seen (Err e) (no_sync on) = tt

@@ -4,8 +4,8 @@ use Rattle.sector_disk.specs.declared.file_device.FileDevice.{FileDevice}
 use Rattle.sector_disk.specs.declared.file_calls.FileCalls as calls
 use Rattle.sector_disk.specs.declared.start.Start as starts
 use Rattle.sector_disk.specs.Model.{Disk}
-use Rattle.sector_disk.specs.Course.{Course}
-use Rattle.sector_disk.specs.FileRecord.{Entry, file_course}
+use Rattle.sector_disk.specs.History.{History}
+use Rattle.sector_disk.specs.FileRecord.{Entry, file_history}
 
 module _ {S F : Type 0} {start : starts.Ghosts S} {g : calls.Ghosts F} where
   abbrev pub device_len : FileDevice S F start g → ℕ
@@ -18,8 +18,8 @@ module _ {S F : Type 0} {start : starts.Ghosts S} {g : calls.Ghosts F} where
   device_faults d = d.faults
 
   -- the model's device after the calls in the file's record
-  abbrev pub course_of : Disk → (ℕ → List ℕ) → (F → List Entry) → FileDevice S F start g → Course
-  course_of disk shown entries d = file_course d.sectors disk shown (entries d.file) d.calls
+  abbrev pub history_of : Disk → (ℕ → List ℕ) → (F → List Entry) → FileDevice S F start g → History
+  history_of disk shown entries d = file_history d.sectors disk shown (entries d.file) d.calls
 
   -- no call was made yet
   abbrev pub IsUnused : (F → List Entry) → FileDevice S F start g → Type 0

@@ -4,7 +4,7 @@ use Rattle.std.specs.List.{list_all}
 use Rattle.sector_disk.specs.declared.answer.Answer.{Answer}
 use Rattle.sector_disk.specs.declared.answer.Answer.TheVariants.{ReadGave, ReadFailed, WriteFinished, WriteFailed, SyncFinished, SyncFailed}
 use Rattle.sector_disk.specs.Model.{Disk, Event, Sync, Show, run, IsImage, sectors_from}
-use Rattle.sector_disk.specs.Course.{Course}
+use Rattle.sector_disk.specs.History.{History}
 use Rattle.sector_disk.specs.Memory.{Call, Wrote, Tore, Synced, events_of, is_run}
 
 -- an answer with the bytes that were read or written
@@ -26,9 +26,9 @@ abbrev pub events_in : (ℕ → List ℕ) → List Entry → List Event
 events_in shown [] = []
 events_in shown (entry ∷ earlier) = events_in shown earlier ++ events_after (shown (length earlier)) entry.0 entry.1
 
--- the course of a file of n sectors that was `start` as it was opened
-abbrev pub file_course : ℕ → Disk → (ℕ → List ℕ) → List Entry → ℕ → Course
-file_course n start shown entries calls = record { sectors = n; start = start; events = events_in shown entries; calls = calls }
+-- the history of a file of n sectors that was `start` as it was opened
+abbrev pub file_history : ℕ → Disk → (ℕ → List ℕ) → List Entry → ℕ → History
+file_history n start shown entries calls = record { sectors = n; start = start; events = events_in shown entries; calls = calls }
 
 -- The device of the model, asked the same, may answer so: a read gives what reads give, and a failed write or sync leaves
 -- some possible image for reads.

@@ -1,10 +1,10 @@
 -- What the written model means.
 use Rattle.std.specs.Prelude.{◌≡◌, ◌↔◌, ℕ, ◌+◌, ◌*◌, ◌%◌, ◌^◌, ◌<◌, ◌≤◌, List, length, take, slice_index, All, IsTrue}
 use Rattle.sector_disk.specs.Model.{Disk, Sync, settled, next, run, IsImage, sectors_from}
-use Rattle.sector_disk.specs.Course.{seen_in, MayLeaveIn}
+use Rattle.sector_disk.specs.History.{seen_in, MayLeaveIn}
 use Rattle.sector_disk.specs.Sectors.{Reached}
 use Rattle.sector_disk.specs.Memory.{Memory, len_of, disk_of, seen_of, MayLeave, TakesChoices}
-use Rattle.sector_disk.specs.FileRecord.{Entry, file_course, AnswersAsModel, all_inside, ReadsOn, calls_in}
+use Rattle.sector_disk.specs.FileRecord.{Entry, file_history, AnswersAsModel, all_inside, ReadsOn, calls_in}
 
 -- after a successful sync, and no write since, there is one image: the one that reads give
 abbrev pub HasOneImage : Type 0
@@ -30,4 +30,4 @@ StaysHonest = (n : ℕ) (start : Disk) (shown : ℕ → List ℕ) (entries : Lis
 -- leave the same images.
 abbrev pub IsAsInMemory : Type 0
 IsAsInMemory = (m : Memory) (shown : ℕ → List ℕ) (entries : List Entry) → calls_in entries ≡ m.history → ReadsOn (settled m.start) shown entries
-    → (let file = file_course (len_of m) (settled m.start) shown entries m.calls in (seen_in file ≡ seen_of m) × ((image : List ℕ) → MayLeaveIn file image ↔ MayLeave m image))
+    → (let file = file_history (len_of m) (settled m.start) shown entries m.calls in (seen_in file ≡ seen_of m) × ((image : List ℕ) → MayLeaveIn file image ↔ MayLeave m image))

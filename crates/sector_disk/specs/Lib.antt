@@ -3,7 +3,7 @@ pub mod Image
 pub mod Sectors
 pub mod Throughout
 pub mod Model
-pub mod Course
+pub mod History
 pub mod Memory
 pub mod MemDevice
 pub mod FileRecord
@@ -13,7 +13,7 @@ pub mod Laws
 -- of private functions and of proofs alone
 pub mod Kept
 pub mod Crash
-pub mod CourseLaws
+pub mod HistoryLaws
 pub mod FileLaws
 pub mod ImageLaws
 pub mod MemoryLaws

@@ -4,7 +4,7 @@ use Rattle.std.specs.List.{flat_map, list_all}
 use Rattle.sector_disk.specs.Image.{sector}
 use Rattle.sector_disk.specs.Sectors.{SameImages}
 use Rattle.sector_disk.specs.Model.{Disk, Event, Finish, Sync, settled, sectors_from}
-use Rattle.sector_disk.specs.Course.{Course, disk_in, seen_in, MayLeaveIn, clock_in, MayHaveLeftIn}
+use Rattle.sector_disk.specs.History.{History, disk_in, seen_in, MayLeaveIn, clock_in, MayHaveLeftIn}
 
 -- a write that finished, a write that failed and may have reached its sectors, a sync that succeeded
 pub data Call : Type 0 where
@@ -38,23 +38,23 @@ events m = flat_map events_of m.history
 abbrev pub len_of : Memory → ℕ
 len_of m = length m.start / 512
 
-abbrev pub course_of : Memory → Course
-course_of m = record { sectors = len_of m; start = settled m.start; events = events m; calls = m.calls }
+abbrev pub history_of : Memory → History
+history_of m = record { sectors = len_of m; start = settled m.start; events = events m; calls = m.calls }
 
 abbrev pub disk_of : Memory → Disk
-disk_of m = disk_in (course_of m)
+disk_of m = disk_in (history_of m)
 
 abbrev pub seen_of : Memory → List ℕ
-seen_of m = seen_in (course_of m)
+seen_of m = seen_in (history_of m)
 
 abbrev pub MayLeave : Memory → List ℕ → Type 0
-MayLeave m image = MayLeaveIn (course_of m) image
+MayLeave m image = MayLeaveIn (history_of m) image
 
 abbrev pub clock_of : Memory → ℕ
-clock_of m = clock_in (course_of m)
+clock_of m = clock_in (history_of m)
 
 abbrev pub MayHaveLeft : Memory → ℕ → ℕ → List ℕ → Type 0
-MayHaveLeft m from calls image = MayHaveLeftIn (course_of m) from calls image
+MayHaveLeft m from calls image = MayHaveLeftIn (history_of m) from calls image
 
 -- a run of one or more whole sectors inside a device of this many bytes
 abbrev pub is_run : ℕ → ℕ → ℕ → Bool

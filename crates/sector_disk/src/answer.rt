@@ -1,3 +1,5 @@
+//! What is noted of a file's call.
+
 /// A call of a file, and whether it succeeded. The bytes that were read or written stand beside it.
 #[derive(Clone, Copy)]
 pub enum Answer {

@@ -1,4 +1,7 @@
-// What is asked of a file: that it keeps a record of its calls and their answers, whatever these are.
+//! What is asked of a file: that it keeps a record of its calls and their answers, whatever these are.
+//!
+//! A sync is the file's `sync_data` (fdatasync), which leaves out the file's times: its length never changes after `create`,
+//! which has `sync_all`. SQLite does the same by default.
 ghost use Rattle.std.specs.Prelude.{◌≡◌, ◌+◌, ◌*◌, ◌^◌, ◌<◌, List, [], ◌∷◌, length, is_ok, if◌then◌else◌};
 ghost use Rattle.sector_disk.specs.FileRecord.{Entry};
 ghost use Rattle.sector_disk.specs.FileCalls.{read_entry, write_entry, sync_entry};

@@ -1,5 +1,12 @@
-// A device over a plain file. What a file answers is no contract's matter: it is kept in a record, and the device is
-// honest where these are the answers of the model.
+//! A device over a plain file. What a file answers is no contract's matter: it is kept in a record, and the device is
+//! honest where these are the answers of the model. A theorem about honest devices reads for a file: if the file has
+//! answered as the model says, then ..
+//!
+//! - A failed write may have reached any of its sectors, and after a failed write or sync reads may give any one possible
+//!   image.
+//! - A write or sync at the last count makes no call of the file, and so is not in the record.
+//! - `create` syncs the file's folder too, so that a new file outlasts a power cut; where the system has no sync for a
+//!   folder, it goes on. It does not claim that what it gives is settled.
 ghost use Rattle.std.specs.Prelude.{◌≡◌, ◌+◌, ◌-◌, ◌*◌, ◌%◌, ◌^◌, ◌<◌, ◌≤◌, ◌↔◌, [], List, ℕ, length, take, drop, OnOk, OnErr, IfOk, IsErr, IsErrOf, IsTrue, Ok, min, ◌≢◌, ◌/◌};
 ghost use Rattle.std.specs.Fs.{metadata_len, file_type, IsFile};
 ghost use Rattle.sector_disk.specs.FileRecord.{all_inside};
@@ -50,7 +57,7 @@ fn fault_of(error: io::Error) -> FileFault
     }
 }
 
-/// How many sectors a file of this length has.
+// How many sectors a file of this length has.
 fn sectors_of(len: u64) -> Result<u64, FileFault>
     ensures whole { len % 512 ≡ 0 → result ≡ Ok (len / 512) }
     ensures other { len % 512 ≢ 0 → IsErrOf result FileFault.BadLength }
@@ -62,7 +69,7 @@ fn sectors_of(len: u64) -> Result<u64, FileFault>
     }
 }
 
-/// How many sectors a file has, if it is a plain file of whole sectors.
+// How many sectors a file has, if it is a plain file of whole sectors.
 fn sectors_in(metadata: &Metadata) -> Result<u64, FileFault>
     ensures sectors { IfOk result
         (λ n. IsFile (file_type metadata.now) × (metadata_len metadata.now ≡ 512 * n)) }
@@ -80,7 +87,7 @@ fn sectors_in(metadata: &Metadata) -> Result<u64, FileFault>
 impl<S: Start, F: FileCalls> FileDevice<S, F> {
     ghost use Rattle.sector_disk.specs.FileDevice.{device_len, IsUnused};
 
-    /// A device over a file of this many sectors that was not called yet.
+    // A device over a file of this many sectors that was not called yet.
     fn over(file: F, sectors: u64) -> FileDevice<S, F>
         requires new { F.FileCalls.entries file ≡ [] }
         requires offsets { 512 * sectors < 2 ^ 64 }
@@ -96,7 +103,7 @@ impl<S: Start, F: FileCalls> FileDevice<S, F> {
         }
     }
 
-    /// A call that fails.
+    // A call that fails.
     fn fail(&mut self) -> Result<(), DeviceFault>
         ensures fails { IsErr result }
         ensures fault { self.new.faults ≡ min (self.old.faults + 1) (2 ^ 64 - 1) }
@@ -157,7 +164,7 @@ impl<S: Start> FileDevice<S> {
     }
 }
 
-/// Puts a new file's name on the disk.
+// Puts a new file's name on the disk.
 fn sync_folder<R: Files<File = File>>(rt: &R, path: &str) -> io::Result<()> {
     let folder = match Path::new(path).parent() {
         Some(parent) if !parent.as_str().is_empty() => parent.as_str(),
@@ -171,9 +178,9 @@ fn sync_folder<R: Files<File = File>>(rt: &R, path: &str) -> io::Result<()> {
 }
 
 impl<S: Start, F: FileCalls> Sectors for FileDevice<S, F> {
-    ghost use Rattle.sector_disk.specs.Course.{seen_in, MayLeaveIn, clock_in, MayHaveLeftIn};
+    ghost use Rattle.sector_disk.specs.History.{seen_in, MayLeaveIn, clock_in, MayHaveLeftIn};
     ghost use Rattle.sector_disk.specs.FileRecord.{AnswersAsModel};
-    ghost use Rattle.sector_disk.specs.FileDevice.{device_len, device_calls, device_faults, course_of};
+    ghost use Rattle.sector_disk.specs.FileDevice.{device_len, device_calls, device_faults, history_of};
 
     ghost len = { device_len };
 
@@ -184,15 +191,15 @@ impl<S: Start, F: FileCalls> Sectors for FileDevice<S, F> {
     ghost honest = { λ d. AnswersAsModel d.sectors S.Start.disk S.Start.shown
         (F.FileCalls.entries d.file) };
 
-    ghost seen = { λ d. seen_in (course_of S.Start.disk S.Start.shown F.FileCalls.entries d) };
+    ghost seen = { λ d. seen_in (history_of S.Start.disk S.Start.shown F.FileCalls.entries d) };
 
     ghost possible = { λ d. MayLeaveIn
-        (course_of S.Start.disk S.Start.shown F.FileCalls.entries d) };
+        (history_of S.Start.disk S.Start.shown F.FileCalls.entries d) };
 
-    ghost clock = { λ d. clock_in (course_of S.Start.disk S.Start.shown F.FileCalls.entries d) };
+    ghost clock = { λ d. clock_in (history_of S.Start.disk S.Start.shown F.FileCalls.entries d) };
 
     ghost possible_since = { λ d.
-        MayHaveLeftIn (course_of S.Start.disk S.Start.shown F.FileCalls.entries d) };
+        MayHaveLeftIn (history_of S.Start.disk S.Start.shown F.FileCalls.entries d) };
 
     fn len(&self) -> u64 {
         self.sectors
@@ -235,7 +242,7 @@ impl<S: Start, F: FileCalls> Sectors for FileDevice<S, F> {
         Ok(())
     }
 
-    ghost use Rattle.sector_disk.specs.CourseLaws.{course_counts_now, course_only_now, course_since_earlier};
+    ghost use Rattle.sector_disk.specs.HistoryLaws.{history_counts_now, history_only_now, history_since_earlier};
     ghost use Rattle.sector_disk.specs.FileLaws.{file_reads_possible};
 
     ghost reads_possible = { λ d honest.
@@ -245,13 +252,13 @@ impl<S: Start, F: FileCalls> Sectors for FileDevice<S, F> {
     ghost image_size = { λ d image _ is_image. is_image.size };
 
     ghost counts_now = { λ d t image _ le is_image.
-        course_counts_now (course_of S.Start.disk S.Start.shown F.FileCalls.entries d) t image le
+        history_counts_now (history_of S.Start.disk S.Start.shown F.FileCalls.entries d) t image le
         is_image };
 
     ghost only_now = { λ d m image _ left.
-        course_only_now (course_of S.Start.disk S.Start.shown F.FileCalls.entries d) m image left };
+        history_only_now (history_of S.Start.disk S.Start.shown F.FileCalls.entries d) m image left };
 
     ghost since_earlier = { λ d t u m image _ le left.
-        course_since_earlier (course_of S.Start.disk S.Start.shown F.FileCalls.entries d) t u m
+        history_since_earlier (history_of S.Start.disk S.Start.shown F.FileCalls.entries d) t u m
         image le left };
 }

@@ -1,4 +1,4 @@
-// Laws of the written model, each for every device, every list of events and every image.
+//! Laws of the written model, each for every device, every list of events and every image.
 ghost use Rattle.sector_disk.specs.Laws.{HasOneImage, HasOldOrNew, HasChoices, StaysHonest, IsAsInMemory};
 
 /// After a successful sync, and no write since, a stop leaves one image: the one that reads give.

@@ -1,5 +1,33 @@
-//! Devices of sectors of 512 bytes: what a stop may leave at any moment, a device in memory that can stop
-//! anywhere, and one over a file.
+//! Devices of sectors of 512 bytes: what a stop may leave at any moment, a device in memory that can stop anywhere, and
+//! one over a file.
+//!
+//! The entry is the trait `Sectors`. `checkpoint`, `recover` and `command_serving` are written over it; the program gives
+//! them a `FileDevice`, tests a `MemDevice`.
+//!
+//! Modules, in reading order:
+//! - `sectors`: the trait, with what each call promises of an honest device
+//! - `mem_device`: a device in memory, whose calls fail and whose sectors are lost as a test asks
+//! - `file_device`: a device over a plain file
+//! - `file_calls`, `answer`, `record`: that file's calls, each noted with its answer where only clauses read
+//! - `start`: what is supposed of a file as it is opened
+//! - `laws`: what the model means
+//!
+//! The model is this project's own, and the usual one of a disk with a write cache: a sector is old or new after a stop,
+//! never a mixture within it, and a successful sync makes all earlier writes durable. `specs/Model.antt` and
+//! `specs/Course.antt` say it, `specs/Sectors.antt` what a call's clauses name, `specs/Memory.antt` and
+//! `specs/FileRecord.antt` the two devices, `specs/Laws.antt` the laws.
+//!
+//! Proved:
+//! - A `MemDevice` is always honest. What a stop may leave of it is exactly what the model allows: `crash` leaves such an
+//!   image (`stop`, `possible`), and each of them for some choices (`a_crash_may_choose_any_image`).
+//! - `try_read`, `try_write` and `try_sync` say when a call of it fails (`exact`, `refused`).
+//! - A `FileDevice` is honest where its record of calls and answers is the model's; then it keeps each clause of `Sectors`.
+//!   Such a file stays honest (`a_file_can_stay_honest`), and is as a device in memory (`a_file_is_as_a_device_in_memory`).
+//! - After a sync there is one image (`one_image_after_a_sync`), within a write each sector is old or new
+//!   (`old_or_new_within_a_write`).
+//!
+//! Trusted, since no proof shows it: that `HostFile` makes each call that it notes, that `create` syncs the file and its
+//! folder, that nobody else writes the file, and that what the next opening finds is an image that the model allows.
 #![tactic(auto)]
 
 mod answer;

@@ -1,4 +1,12 @@
-// A device in memory that can stop anywhere: it keeps a list of its writes and syncs.
+//! A device in memory that can stop anywhere: it keeps a list of its writes and syncs.
+//!
+//! A crash replays the writes up to the last sync, and then puts into each sector the one that was chosen of the contents
+//! written to it since. What a call answers, by `fuse`, by `fail_once` or for want of memory, is said at `try_read`,
+//! `try_write` and `try_sync`, which the calls of `Sectors` make; there the clauses are the trait's.
+//!
+//! - A write or sync that finds no memory leaves all but `faults` as before, and moves neither `fuse` nor `fail_once`.
+//! - A write that fails only at the last count adds no content.
+//! - A fuse that is set again starts anew.
 ghost use Rattle.std.specs.Prelude.{◌≡◌, ◌+◌, ◌-◌, ◌*◌, ◌/◌, ◌%◌, ◌^◌, ◌<◌, ◌≤◌, ◌≢◌, ◌↔◌, ◌++◌, ◌∷◌, [], List, ℕ, length, map, take, drop, slice_get, slice_index, Some, OnOk, OnErr, IfOk, IfSome, IsErr, IsTrue, false, if◌then◌else◌};
 ghost use Rattle.std.specs.Option.{option_copied};
 ghost use Rattle.std.specs.List.{flat_map, filter_map, list_all};
@@ -63,7 +71,7 @@ fn one_less_or_out(left: Option<u64>) -> Option<u64>
     }
 }
 
-/// Reads a run of sectors of the image.
+// Reads a run of sectors of the image.
 fn get(image: &[u8], first: u64, into: &mut [u8])
     requires { 512 * first + length into.old ≤ length image.now }
     ensures { into.new ≡ take (length into.old) (drop (512 * first) image.now) }
@@ -72,7 +80,7 @@ fn get(image: &[u8], first: u64, into: &mut [u8])
     into.copy_from_slice(&image[at..at + into.len()]);
 }
 
-/// Writes a run of sectors of the image.
+// Writes a run of sectors of the image.
 fn put(image: &mut [u8], first: u64, bytes: &[u8])
     requires { 512 * first + length bytes.now ≤ length image.old }
     ensures { image.new ≡ written first bytes.now image.old }
@@ -81,7 +89,7 @@ fn put(image: &mut [u8], first: u64, bytes: &[u8])
     image[at..at + bytes.len()].copy_from_slice(bytes);
 }
 
-/// Lists a write.
+// Lists a write.
 fn keep_write(
     alloc: Global,
     history: &mut Vec<Call>,
@@ -103,7 +111,7 @@ fn keep_write(
     Ok(())
 }
 
-/// Lists a sync.
+// Lists a sync.
 fn keep_sync(history: &mut Vec<Call>) -> Result<(), AllocError>
     ensures ok { OnOk result (map call_of history.new.items ≡ map call_of history.old.items
         ++ Synced ∷ []) }
@@ -184,21 +192,21 @@ impl MemDevice {
         self.once = None;
     }
 
-    /// Whether the call that comes now fails.
+    // Whether the call that comes now fails.
     fn is_due(&self) -> bool
         ensures { result ≡ is_due (memory self.now) }
     {
         is_now(self.once) || is_now(self.fuse)
     }
 
-    /// Whether a write or a sync that comes now fails.
+    // Whether a write or a sync that comes now fails.
     fn is_refused(&self) -> bool
         ensures { result ≡ is_refused (memory self.now) }
     {
         self.is_due() || self.calls == u64::MAX
     }
 
-    /// Whether the sectors of a write that fails now are possible contents.
+    // Whether the sectors of a write that fails now are possible contents.
     fn tears(&self) -> bool
         ensures { result ≡ tears (memory self.now) }
     {
@@ -268,7 +276,7 @@ impl MemDevice {
         Ok(())
     }
 
-    /// A call that finds no memory.
+    // A call that finds no memory.
     fn fault(&mut self) -> Result<(), DeviceFault>
         ensures fails { IsErr result }
         ensures counted { memory self.new ≡ with_fault (memory self.old) }
@@ -277,7 +285,7 @@ impl MemDevice {
         Err(DeviceFault)
     }
 
-    /// A call that fails by `fuse`, by `fail_once` or at the last count.
+    // A call that fails by `fuse`, by `fail_once` or at the last count.
     fn fail(&mut self) -> Result<(), DeviceFault>
         ensures { Gives (failed (memory self.old)) result (memory self.new) }
     {
@@ -286,7 +294,7 @@ impl MemDevice {
     }
 }
 
-/// How many of the calls there are up to the last sync.
+// How many of the calls there are up to the last sync.
 fn synced_calls(calls: &[Call]) -> usize
     ensures bound { result ≤ length calls.now }
     ensures settled { IsSettledBy (map call_of (take result calls.now)) }
@@ -301,7 +309,7 @@ fn synced_calls(calls: &[Call]) -> usize
     synced
 }
 
-/// Writes into the image what the writes wrote that finished.
+// Writes into the image what the writes wrote that finished.
 fn replay(image: &mut [u8], calls: &[Call])
     requires { IsTrue (all_fit (length image.old) (map call_of calls.now)) }
     ensures { image.new ≡ (run (settled image.old)
@@ -314,7 +322,7 @@ fn replay(image: &mut [u8], calls: &[Call])
     }
 }
 
-/// What a write from sector `first` on writes to a sector.
+// What a write from sector `first` on writes to a sector.
 fn part_for(first: u64, bytes: &[u8], sector: u64) -> Option<&[u8]>
     ensures part { option_copied result ≡ part_of first bytes.now sector }
     ensures size { IfSome result (λ content. length content.now ≡ 512) }
@@ -326,7 +334,7 @@ fn part_for(first: u64, bytes: &[u8], sector: u64) -> Option<&[u8]>
     Some(&bytes[at..at + SECTOR_SIZE])
 }
 
-/// What a call writes to a sector, finished or not.
+// What a call writes to a sector, finished or not.
 fn content_for(call: &Call, sector: u64) -> Option<&[u8]>
     ensures content { option_copied result ≡ content_of sector (call_of call.now) }
     ensures size { IfSome result (λ content. length content.now ≡ 512) }
@@ -339,7 +347,7 @@ fn content_for(call: &Call, sector: u64) -> Option<&[u8]>
     }
 }
 
-/// How many of the calls write to a sector.
+// How many of the calls write to a sector.
 fn count_for(calls: &[Call], sector: u64) -> usize
     ensures count { result ≡ length (filter_map (content_of sector) (map call_of calls.now)) }
     ensures bound { result ≤ length calls.now }
@@ -353,7 +361,7 @@ fn count_for(calls: &[Call], sector: u64) -> usize
     count
 }
 
-/// What the call writes to a sector that is the `number`th of those that write to it.
+// What the call writes to a sector that is the `number`th of those that write to it.
 fn nth_content(calls: &[Call], sector: u64, number: usize) -> Option<&[u8]>
     ensures content { option_copied result
         ≡ slice_get (filter_map (content_of sector) (map call_of calls.now)) number }
@@ -371,7 +379,7 @@ fn nth_content(calls: &[Call], sector: u64, number: usize) -> Option<&[u8]>
     None
 }
 
-/// Puts into a sector of the image the content that was chosen for it.
+// Puts into a sector of the image the content that was chosen for it.
 fn choose_sector(image: &mut [u8], unsynced: &[Call], index: u64, choice: u32)
     requires { 512 * index + 512 ≤ length image.old }
     ensures chosen { sector index image.new
@@ -388,14 +396,14 @@ fn choose_sector(image: &mut [u8], unsynced: &[Call], index: u64, choice: u32)
     }
 }
 
-/// The choice for a sector, which is 0 past the end of the list.
+// The choice for a sector, which is 0 past the end of the list.
 fn choice_for(choices: &[u32], index: u64) -> u32
     ensures { result ≡ slice_index choices.now index }
 {
     choices.get(index as usize).copied().unwrap_or(0)
 }
 
-/// Puts into each sector of the image the content that was chosen for it.
+// Puts into each sector of the image the content that was chosen for it.
 fn choose(image: &mut [u8], unsynced: &[Call], choices: &[u32])
     ensures { (i : ℕ) → i < length image.old / 512 → sector i image.new
         ≡ chosen (sector i image.old) (filter_map (content_of i) (map call_of unsynced.now)) (slice_index choices.now i) }
@@ -405,7 +413,7 @@ fn choose(image: &mut [u8], unsynced: &[Call], choices: &[u32])
     }
 }
 
-/// Leaves of the image at the start the one that was chosen of those that are possible after the calls.
+// Leaves of the image at the start the one that was chosen of those that are possible after the calls.
 fn stop(image: &mut [u8], calls: &[Call], choices: &[u32])
     requires { IsTrue (all_fit (length image.old) (map call_of calls.now)) }
     ensures { TakesChoices (length image.old / 512)
@@ -462,8 +470,8 @@ impl Sectors for MemDevice {
         self.try_sync()
     }
 
-    ghost use Rattle.sector_disk.specs.Memory.{course_of};
-    ghost use Rattle.sector_disk.specs.CourseLaws.{course_counts_now, course_only_now, course_since_earlier};
+    ghost use Rattle.sector_disk.specs.Memory.{history_of};
+    ghost use Rattle.sector_disk.specs.HistoryLaws.{history_counts_now, history_only_now, history_since_earlier};
     ghost use Rattle.sector_disk.specs.MemoryLaws.{memory_reads_possible};
 
     ghost reads_possible = { λ d _. memory_reads_possible (memory d) d.kept.whole d.kept.fit };
@@ -471,10 +479,10 @@ impl Sectors for MemDevice {
     ghost image_size = { λ d image _ is_image. is_image.size };
 
     ghost counts_now = { λ d t image _ le is_image.
-        course_counts_now (course_of (memory d)) t image le is_image };
+        history_counts_now (history_of (memory d)) t image le is_image };
 
-    ghost only_now = { λ d m image _ left. course_only_now (course_of (memory d)) m image left };
+    ghost only_now = { λ d m image _ left. history_only_now (history_of (memory d)) m image left };
 
     ghost since_earlier = { λ d t u m image _ le left.
-        course_since_earlier (course_of (memory d)) t u m image le left };
+        history_since_earlier (history_of (memory d)) t u m image le left };
 }

@@ -1,4 +1,5 @@
-// A list of calls with their answers that only clauses read. It takes no memory, and its methods do nothing at run time.
+//! A list of calls with their answers that only clauses read. It takes no memory, and its methods do nothing at run time.
+//! Since it has no bytes, these methods are proved by hand.
 ghost use Rattle.std.specs.Prelude.{◌≡◌, ℕ, List, [], ◌∷◌};
 ghost use Rattle.std.specs.Borrow.{ftrue};
 ghost use Rattle.sector_disk.specs.declared.answer.Answer.{Answer};

@@ -1,4 +1,8 @@
-// A device as the layers above see it.
+//! A device as the layers above see it.
+//!
+//! *Honest* is said of the return: a call's promises stand where the device is honest after it, and a device that is honest
+//! then was honest before. So it can mean that a device has answered as the model says in all its calls so far, which a file
+//! may do; "honest after a call exactly where it was before" could only be met by one whose honesty is settled from the start.
 ghost use Rattle.std.specs.Prelude.{◌≡◌, ◌+◌, ◌-◌, ◌*◌, ◌%◌, ◌^◌, ◌<◌, ◌≤◌, ◌↔◌, List, ℕ, length, take, drop, OnOk, OnErr, IsErr};
 ghost use Rattle.sector_disk.specs.Image.{written};
 ghost use Rattle.sector_disk.specs.Sectors.{calls_after, faults_after, Reached, AddsContents, Only, SameImages, Elapses};

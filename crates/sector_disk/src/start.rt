@@ -1,4 +1,8 @@
-// What is supposed of a file as it is opened.
+//! What is supposed of a file as it is opened.
+//!
+//! It is given by a type `S: Start`, and a function over it is proved for all of them. Each opening uses up a value of `S`, so
+//! such a function opens one file for each that it is handed: two files under one `S` could be shown to disagree with it, and
+//! the clauses would be empty. Only `main` names a concrete one, `Unknown`.
 ghost use Rattle.std.specs.Prelude.{ℕ, List, [], ◌∷◌};
 ghost use Rattle.sector_disk.specs.Model.{Disk, settled};
 

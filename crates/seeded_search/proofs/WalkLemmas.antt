@@ -7,7 +7,7 @@ use Rattle.plan_types.specs.Instance.{Instance}
 use Rattle.plan_types.specs.declared.plans.Cost.{Cost}
 use Rattle.route_sched.specs.Cost.{cost_of}
 use Rattle.plan_audit.specs.Passes.{passes}
-use Rattle.move_ops.specs.Insertion.{Place, request_named, passing, best_insertion, put_in}
+use Rattle.move_ops.specs.Insertion.{Insertion, request_named, passing, best_insertion, put_in}
 use Rattle.move_ops.specs.Moves.{removed, exchanged, crossed}
 use Rattle.seeded_search.specs.Words.{pick, step_words}
 use Rattle.seeded_search.specs.Steps.{picked, movable_names, unplanned_names, placed, placed_all, relocated, exchanged_by, used_vehicles, cut_by, crossed_by, ruined_names, recreated_by, candidate, Walked, has_less_pair, has_same_pair, is_near, moved_on, moved_on_by, step, steps, walked}
@@ -51,7 +51,7 @@ module _ (p : Instance) (pins : List (List ℕ)) where
       by true e is = subst Passes (some_same x y is) e
       by false e is = absurd (none_some y is)
 
-  put_in_passes : (routes : List (List ℕ)) (name : ℕ) (x : Place) (y : List (List ℕ)) → put_in p pins routes name x ≡ Some y → Passes y
+  put_in_passes : (routes : List (List ℕ)) (name : ℕ) (x : Insertion) (y : List (List ℕ)) → put_in p pins routes name x ≡ Some y → Passes y
   put_in_passes routes name x y is = let t = and_then_some _ (request_named p name) y is in passing_gives _ y (then_some _ _ y t.1)
 
   pub removed_passes : (routes : List (List ℕ)) (names : List ℕ) (y : List (List ℕ)) → removed p pins routes names ≡ Some y → Passes y

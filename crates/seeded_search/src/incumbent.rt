@@ -1,4 +1,4 @@
-//! The incumbent's routes.
+//! The incumbent's routes: where a candidate becomes the incumbent, only those that differ are copied.
 ghost use Rattle.std.specs.Prelude.{◌≡◌, ◌≤◌, ◌<◌, ℕ, OnOk, length};
 ghost use Rattle.move_ops.specs.Drafts.{draft_of, AreIdleBehind};
 

@@ -1,4 +1,4 @@
-// What words and picks mean, each law for every seed, step and number of things.
+//! What words and picks mean, and what steps keep: each law for every seed, step and number of things.
 ghost use Rattle.seeded_search.specs.Laws.{StepsAreBlocks, PicksAreEven};
 ghost use Rattle.seeded_search.specs.StepLaws.{StepsAddUp, StepsKeepPassing, IncumbentsNeverCostMore, WorkingStaysNear};
 

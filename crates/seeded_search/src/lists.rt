@@ -1,4 +1,4 @@
-//! The lists that a step draws from.
+//! The lists that a step draws from: names of movable and of unplanned requests, and vehicles in use.
 ghost use Rattle.std.specs.Prelude.{◌≡◌, ◌≤◌, not, IfOk, OnOk, length, slice_get};
 ghost use Rattle.std.specs.Option.{option_and_then};
 ghost use Rattle.route_sched.specs.Cost.{is_planned};
@@ -18,6 +18,7 @@ use std::alloc::Global;
 pub(crate) struct Lists {
     /// Those that are planned, and of which no stop is pinned.
     pub(crate) movable: Vec<u32>,
+    /// Those without a stop in any route.
     pub(crate) unplanned: Vec<u32>,
 }
 

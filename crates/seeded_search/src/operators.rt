@@ -1,4 +1,8 @@
-//! The candidates that the words of a step make of a plan.
+//! The candidates that the words of a step make of a plan: the first word picks one of four operators.
+//!
+//! By the definition a request that is removed and has no insertion stays unplanned. Where one request alone
+//! is taken out, its old place should always be one, since the plan that it is taken from passes; no law says
+//! so yet.
 ghost use Rattle.std.specs.Prelude.{◌≡◌, ◌+◌, IfOk, OnOk, take, drop, slice_index};
 ghost use Rattle.seeded_search.specs.Words.{pick};
 ghost use Rattle.move_ops.specs.Drafts.{base_of, draft_of, IsDraftOf, IsMade};

@@ -1,4 +1,4 @@
-//! One step of a search, and many.
+//! One step of a search, and many: the words of each step in turn, and the walk.
 ghost use Rattle.std.specs.Prelude.{◌≡◌, ◌+◌, ◌<◌, ◌≤◌, ◌^◌, true, IfOk};
 ghost use Rattle.plan_audit.specs.Passes.{passes};
 ghost use Rattle.seeded_search.specs.Steps.{walked, step as one_step, steps};
@@ -20,7 +20,8 @@ pub struct Found {
 
 /// One step of a search, from an incumbent and a working plan. The words of the step make a candidate of the working plan. It becomes
 /// the working plan where it leaves fewer requests out than the incumbent, or as many and uses fewer vehicles, or as many of both and
-/// drives at most `deviation` more. It becomes the incumbent too where it costs no more. Without a candidate nothing changes.
+/// drives at most `deviation` more, in the unit of distance. It becomes the incumbent too where it costs no more. Without a candidate
+/// nothing changes. Both plans pass with these pins; steps count from 0 and are below 2^60. This is record-to-record travel (Dueck 1993).
 pub fn search_step(
     alloc: Global,
     problem: &Problem,
@@ -44,7 +45,7 @@ pub fn search_step(
     search_steps(alloc, problem, pins, plan, work, deviation, seed, step, 1)
 }
 
-/// So many steps of a search, one after another, from step number `step` on.
+/// `count` steps of a search, one after another, from step number `step` on, each as `search_step` makes it; the last is below 2^60.
 #[tactic(auto, unfolding(crate::specs::Steps::step, crate::specs::Steps::steps))]
 pub fn search_steps(
     alloc: Global,

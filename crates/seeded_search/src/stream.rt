@@ -1,4 +1,9 @@
-//! The words of a search's steps: the key stream of ChaCha20 under the seed.
+//! The words of a search's steps: the key stream of ChaCha20 (RFC 8439) under the seed.
+//!
+//! The definition follows the RFC line by line, and is not that of `rand_chacha`; that both give the same
+//! word at each place is proved. The RFC's counter has 32 bits and a block's number 64: its high half stands
+//! in the nonce's first word. Words come from `next_word`, whose contract says where the generator stands
+//! afterwards.
 ghost use Rattle.std.specs.Prelude.{◌≡◌, ◌+◌, ◌*◌, ◌<◌, ◌^◌};
 ghost use Rattle.rand_chacha.specs.ChaCha.{ChaCha};
 ghost use Rattle.seeded_search.specs.Words.{key_bytes, step_words};
@@ -55,7 +60,7 @@ pub fn words(seed: u64, step: u64) -> [u32; 16]
     StepWords::from_step(seed, step).next_step()
 }
 
-/// The generator of a seed, before the words of a step.
+// The generator of a seed, before the words of a step.
 fn generator(seed: u64, step: u64) -> ChaCha20Rng
     requires { step < 2 ^ 60 }
     ensures { result ≡ before_step (record { seed = seed; step = step }) }
@@ -65,7 +70,7 @@ fn generator(seed: u64, step: u64) -> ChaCha20Rng
     rng
 }
 
-/// The key of a seed.
+// The key of a seed.
 fn key(seed: u64) -> [u8; 32]
     ensures { result ≡ key_bytes seed }
 {
@@ -74,7 +79,7 @@ fn key(seed: u64) -> [u8; 32]
     key
 }
 
-/// The next sixteen words of a generator.
+// The next sixteen words of a generator.
 fn sixteen_words(rng: &mut ChaCha20Rng) -> [u32; 16]
     requires { rng.old.word_pos + 16 < 2 ^ 68 }
     ensures words { result ≡ next_words rng.old 16 }

@@ -1,4 +1,10 @@
-//! What a search keeps from step to step.
+//! What a search keeps from step to step, and what a candidate replaces (record-to-record travel, Dueck
+//! 1993).
+//!
+//! The candidate stands in a draft over the working plan (`move_ops::Draft`) and is taken or dropped; no plan
+//! is copied for it. One that costs no more than the incumbent is near it, so one `take` serves both plans.
+//! The lists of movable and of unplanned requests stay where none is unplanned before and after a candidate
+//! is taken, since both plans then plan all requests; else they are filled anew.
 ghost use Rattle.std.specs.Prelude.{◌≡◌, true, IfOk, OnOk};
 ghost use Rattle.route_sched.specs.Cost.{cost_of};
 ghost use Rattle.plan_audit.specs.Passes.{passes};
@@ -21,9 +27,9 @@ use std::alloc::Global;
 pub(crate) struct Walk {
     draft: Draft,
     incumbent: Plan,
-    /// No vehicle behind the first so many has a stop in the incumbent.
+    // No vehicle behind the first so many has a stop in the incumbent.
     front: u64,
-    /// What the incumbent costs.
+    // What the incumbent costs.
     best: Cost,
     lists: Lists,
 }

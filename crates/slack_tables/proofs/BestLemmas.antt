@@ -14,7 +14,7 @@ use Rattle.slack_tables.specs.Inside.{AreKnown}
 use Rattle.slack_tables.specs.Insertion.{request_named, inserted, ArePlaces, IsAdded}
 use Rattle.slack_tables.specs.Legs.{AreLinked, AreRising}
 use Rattle.slack_tables.specs.Scan.{AddsSingle, AddsPair}
-use Rattle.slack_tables.specs.declared.progress.Place.{Place}
+use Rattle.slack_tables.specs.declared.progress.Row.{Row}
 use Rattle.slack_tables.specs.declared.scan.Addition.{Addition}
 use Rattle.slack_tables.proofs.AlongLemmas.{start-next, length-next}
 use Rattle.slack_tables.proofs.CourseLemmas.{long-on}
@@ -33,7 +33,7 @@ added-once p old new (Some y) x is it =
     let same : y ≡ x = omega (arith, ints) in
     ap (λ z. Some z) same
 
-module _ (p : Instance) (c : Course) (places : List Place) (table : AreKnown c places) (valid : IsInstance p) (is : IsCourseIn p c) (law : NamedAreFound) (name : ℕ) (kept : ℕ) (below : ℤ) (d : Place) where
+module _ (p : Instance) (c : Course) (places : List Row) (table : AreKnown c places) (valid : IsInstance p) (is : IsCourseIn p c) (law : NamedAreFound) (name : ℕ) (kept : ℕ) (below : ℤ) (d : Row) where
   long : length places ≡ length (route_of c) + 2
   long = let places_long = table.long in omega (arith, long-on p (route_of c) c is)
 
@@ -100,7 +100,7 @@ module _ (p : Instance) (c : Course) (places : List Place) (table : AreKnown c p
           )
 
 -- each place of a table tells how far the next one is
-pub linked : (c : Course) (places : List Place) → AreKnown c places → AreLinked places
+pub linked : (c : Course) (places : List Row) → AreKnown c places → AreLinked places
 linked c places table = λ k d h.
     let long = table.long in
     let here = (table.known k d (omega arith)).at in
@@ -111,7 +111,7 @@ linked c places table = λ k d h.
     omega (arith, length-next (stop_on c) k)
 
 -- nobody is at a place before the one ahead of it
-pub rising : (c : Course) (places : List Place) → AreKnown c places → AreRising places
+pub rising : (c : Course) (places : List Row) → AreKnown c places → AreRising places
 rising c places table = λ k d h.
     let long = table.long in
     let here = (table.known k d (omega arith)).at.start in

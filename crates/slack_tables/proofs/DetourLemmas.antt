@@ -5,13 +5,13 @@ use Rattle.std.proofs.lemmas.Bool.{cases_lt}
 use Rattle.std.proofs.lemmas.Int.{ints}
 use Rattle.plan_types.specs.declared.requests.Stop.{Stop}
 use Rattle.nint_dist.specs.Distance.{distance}
-use Rattle.slack_tables.specs.Driven.{driven_on, keeps, stepped, joined, with_pair}
+use Rattle.slack_tables.specs.Driven.{driven_on, keeps, stepped, with_tail, with_pair}
 use Rattle.slack_tables.specs.Legs.{AreLinked, AreLeast, detour_of}
 use Rattle.slack_tables.specs.Ride.{ride_of, is_served, price, served, served_below}
 use Rattle.slack_tables.specs.Walk.{walk_to, IsUnderway}
 use Rattle.slack_tables.specs.declared.progress.Limits.{Limits}
 use Rattle.slack_tables.specs.declared.progress.Progress.{Progress}
-use Rattle.slack_tables.specs.declared.progress.Place.{Place}
+use Rattle.slack_tables.specs.declared.progress.Row.{Row}
 use Rattle.slack_tables.specs.declared.ride.Ride.{Ride}
 use Rattle.slack_tables.specs.declared.scan.Underway.{Underway}
 use Rattle.slack_tables.proofs.ScanLemmas.{int_lt-true}
@@ -24,7 +24,7 @@ step-far limits a b s is = by (keeps limits (driven_on a s)) is
     by true is = let same : driven_on a s ≡ b = cc in (ap (λ (x : Progress). x.stop) (sym same), ap (λ (x : Progress). x.distance) (sym same))
     by false is = absurd (cc)
 
-pub served-price : (limits : Limits) (r : Ride) (service to : ℕ) (s : Stop) (from : ℕ) (tail : Place) (x : ℤ) → served limits r service to s from tail ≡ Some x → x ≡ price r to from tail
+pub served-price : (limits : Limits) (r : Ride) (service to : ℕ) (s : Stop) (from : ℕ) (tail : Row) (x : ℤ) → served limits r service to s from tail ≡ Some x → x ≡ price r to from tail
 served-price limits r service to s from tail x is = by (is_served limits r service to s from tail) is
   where
     by : (k : Bool) → cond k (Some (price r to from tail)) None ≡ Some x → x ≡ price r to from tail
@@ -32,14 +32,14 @@ served-price limits r service to s from tail x is = by (is_served limits r servi
     by false is = absurd (cc)
 
 -- what costs the bound or more by ways from below is not offered
-pub served-dear : (below : ℤ) (limits : Limits) (r : Ride) (service to : ℕ) (s : Stop) (from : ℕ) (tail : Place) (least_to least_from : ℕ) → least_to ≤ to → least_from ≤ from → below ≤ℤ price r least_to least_from tail → None ≡ served_below below limits r service to s from tail
+pub served-dear : (below : ℤ) (limits : Limits) (r : Ride) (service to : ℕ) (s : Stop) (from : ℕ) (tail : Row) (least_to least_from : ℕ) → least_to ≤ to → least_from ≤ from → below ≤ℤ price r least_to least_from tail → None ≡ served_below below limits r service to s from tail
 served-dear below limits r service to s from tail least_to least_from is_to is_from le = by (int_lt (price r to from tail) below) refl
   where
     by : (b : Bool) → int_lt (price r to from tail) below ≡ b → None ≡ cond b (served limits r service to s from tail) None
     by true less = let lt = int_lt-true (price r to from tail) below less in absurd (omega (arith, ints))
     by false _ = refl
 
-module _ (limits : Limits) (places : List Place) (p q : Stop) (i : ℕ) (d : Place) (linked : AreLinked places) where
+module _ (limits : Limits) (places : List Row) (p q : Stop) (i : ℕ) (d : Row) (linked : AreLinked places) where
   -- how far it is to place i over the pickup
   abbrev pub reach : ℕ
   reach = (get_or places (i - 1) d).at.distance + distance (get_or places (i - 1) d).at.stop p + distance p (get_or places i d).at.stop
@@ -86,7 +86,7 @@ module _ (limits : Limits) (places : List Place) (p q : Stop) (i : ℕ) (d : Pla
   unfolding walk_to
   pair-price j x is {P = P} then = by (walk_to limits places p i d j) refl is
     where
-      by : (o : Option Progress) → walk_to limits places p i d j ≡ o → option_and_then (λ at. joined limits at (get_or places (j - 1) d)) (option_and_then (λ at. stepped limits at q) o) ≡ Some x → P
+      by : (o : Option Progress) → walk_to limits places p i d j ≡ o → option_and_then (λ at. with_tail limits at (get_or places (j - 1) d)) (option_and_then (λ at. stepped limits at q) o) ≡ Some x → P
       by None _ is = absurd (cc)
       by (Some a) here is' = then a here (served-price limits (ride_of a) a.stop.service (distance a.stop q) q (distance q (get_or places (j - 1) d).at.stop) (get_or places (j - 1) d) x (sym (pair-served limits places p i d q j (ride_of a) a.stop here) ∙ is))
 
@@ -140,14 +140,14 @@ module _ (limits : Limits) (places : List Place) (p q : Stop) (i : ℕ) (d : Pla
         omega (arith, ints)
 
     -- and each at all, by ways from below
-    pub all-dear : (before next : Place) (to across from onward : ℕ) → i < length least → before ≡ get_or places (i - 1) d → next ≡ get_or places i d → to ≤ distance (get_or places (i - 1) d).at.stop p → across ≡ distance p q → from ≤ distance (get_or places i d).at.stop q → onward ≤ distance (get_or places i d).at.stop p → bound ≤ℤ (pos (before.at.distance + to + across + from) -ℤ pos next.at.distance) → bound ≤ℤ ((pos (before.at.distance + to + onward) -ℤ pos next.at.distance) +ℤ get_or least i (pos 0)) → (j : ℕ) (x : ℤ) → i + 1 ≤ j → j ≤ length places → with_pair limits places p q i j d ≡ Some x → bound ≤ℤ x
+    pub all-dear : (before next : Row) (to across from onward : ℕ) → i < length least → before ≡ get_or places (i - 1) d → next ≡ get_or places i d → to ≤ distance (get_or places (i - 1) d).at.stop p → across ≡ distance p q → from ≤ distance (get_or places i d).at.stop q → onward ≤ distance (get_or places i d).at.stop p → bound ≤ℤ (pos (before.at.distance + to + across + from) -ℤ pos next.at.distance) → bound ≤ℤ ((pos (before.at.distance + to + onward) -ℤ pos next.at.distance) +ℤ get_or least i (pos 0)) → (j : ℕ) (x : ℤ) → i + 1 ≤ j → j ≤ length places → with_pair limits places p q i j d ≡ Some x → bound ≤ℤ x
     all-dear before next to across from onward known is_before is_next is_to is_across is_from is_onward near apart j x behind last some = by (cases_lt j (i + 2))
       where
         start : before.at.distance ≡ (get_or places (i - 1) d).at.distance
-        start = ap (λ (e : Place). e.at.distance) is_before
+        start = ap (λ (e : Row). e.at.distance) is_before
 
         base : next.at.distance ≡ (get_or places i d).at.distance
-        base = ap (λ (e : Place). e.at.distance) is_next
+        base = ap (λ (e : Row). e.at.distance) is_next
 
         by : (j < i + 2) ⊎ (i + 2 ≤ j) → bound ≤ℤ x
         by (inl here) =

@@ -13,7 +13,7 @@ use Rattle.slack_tables.specs.Front.{IsFront, HasCome, KnowsFronts}
 use Rattle.slack_tables.specs.Inside.{AreKnown, IsInLimits}
 use Rattle.slack_tables.specs.Opened.{leaving}
 use Rattle.slack_tables.specs.Places.{IsAt}
-use Rattle.slack_tables.specs.declared.progress.Place.{Place}
+use Rattle.slack_tables.specs.declared.progress.Row.{Row}
 use Rattle.slack_tables.specs.declared.progress.Progress.{Progress}
 use Rattle.slack_tables.proofs.AlongLemmas.{same-start, same-load, same-length}
 use Rattle.slack_tables.proofs.CourseLemmas.{places-on}
@@ -37,7 +37,7 @@ module _ (a b : ℕ → Stop) (n : ℕ) (same : (k : ℕ) → k ≤ n → b k �
   }
 
 -- ---- the table of a route
-module _ (p : Instance) (c : Course) (places : List Place) (table : AreKnown c places) (course : IsCourseIn p c) (route : List ℕ) (n : ℕ) (d : Place) (within : n + 1 < length places) (front : IsFront places route n) where
+module _ (p : Instance) (c : Course) (places : List Row) (table : AreKnown c places) (course : IsCourseIn p c) (route : List ℕ) (n : ℕ) (d : Row) (within : n + 1 < length places) (front : IsFront places route n) where
   on : place p (route_of c) ≡ stop_on c
   on = places-on p (route_of c) c course
 
@@ -81,7 +81,7 @@ module _ (p : Instance) (c : Course) (places : List Place) (table : AreKnown c p
           let window : c.kind ≡ LiLim → (k : ℕ) → 1 ≤ k → k ≤ m → start_along (stop_on c) k ≤ (stop_on c k).latest = λ lilim k j l. is.window lilim k j (omega arith) in
           subst (λ x. IsInLimits x p.capacity (stop_on c) m) kind (subst (λ x. IsInLimits c.kind x (stop_on c) m) capacity (record { load = load; window = window }))
 
-pub knows-fronts : (p : Instance) (c : Course) (places : List Place) → AreKnown c places → IsCourseIn p c → KnowsFronts p places
+pub knows-fronts : (p : Instance) (c : Course) (places : List Row) → AreKnown c places → IsCourseIn p c → KnowsFronts p places
 knows-fronts p c places table course = λ route n d within front. has-come p c places table course route n d within front
 
 -- before its first stop

@@ -18,13 +18,13 @@ use Rattle.route_sched.specs.Route.{place, stop_numbered}
 use Rattle.route_sched.specs.Schedule.{route_length}
 use Rattle.slack_tables.specs.Course.{Course, route_of, IsCourseIn}
 use Rattle.slack_tables.specs.Along.{stop_on, load_along, length_along}
-use Rattle.slack_tables.specs.Driven.{stepped, walked, joined, with_between, with_pair, IsSmallPlace}
+use Rattle.slack_tables.specs.Driven.{stepped, walked, with_tail, with_between, with_pair, IsSmallRow}
 use Rattle.slack_tables.specs.Inside.{IsInLimits, AreKnown}
 use Rattle.slack_tables.specs.Insertion.{request_named, inserted, ArePlaces, IsAdded}
 use Rattle.slack_tables.specs.Places.{IsAt, IsKnown}
 use Rattle.slack_tables.specs.declared.progress.Limits.{Limits}
 use Rattle.slack_tables.specs.declared.progress.Progress.{Progress}
-use Rattle.slack_tables.specs.declared.progress.Place.{Place}
+use Rattle.slack_tables.specs.declared.progress.Row.{Row}
 use Rattle.slack_tables.proofs.AlongLemmas.{same-start, same-load, same-length}
 use Rattle.slack_tables.proofs.CourseLemmas.{places-on, long-on, length-is, limits-to, limits-from}
 use Rattle.slack_tables.proofs.SpliceLemmas.{Keeps, EachKeeps, WalkIs, EndIs, walk-is, step-walk, walk-then, end-then, join-is}
@@ -33,7 +33,7 @@ use Rattle.slack_tables.proofs.SpliceLemmas.{Keeps, EachKeeps, WalkIs, EndIs, wa
 abbrev pub limits_of : Course → Limits
 limits_of c = record { kind = c.kind; capacity = c.capacity }
 
-module _ (c : Course) (places : List Place) (table : AreKnown c places) (b : ℕ → Stop) where
+module _ (c : Course) (places : List Row) (table : AreKnown c places) (b : ℕ → Stop) where
   last : ℕ
   last = length c.stops + 1
 
@@ -50,7 +50,7 @@ module _ (c : Course) (places : List Place) (table : AreKnown c places) (b : ℕ
 
   module _ (m : ℕ) (front : (k : ℕ) → k ≤ m → b k ≡ stop_on c k) (within : m ≤ length c.stops) where
     -- the front is driven as before
-    front-at : (d : Place) → IsAt b m (get_or places m d).at
+    front-at : (d : Row) → IsAt b m (get_or places m d).at
     front-at d =
         let long = table.long in
         let is = (table.known m d (omega arith)).at in
@@ -80,27 +80,27 @@ module _ (c : Course) (places : List Place) (table : AreKnown c places) (b : ℕ
         split k h j (inr before) = front-keeps k h before
 
   -- place n of the table and all behind it, behind place m of the new route
-  rest-is : (m n l : ℕ) (d : Place) (at : Progress) → n ≤ length c.stops + 1 → l ≡ m + 1 + (length c.stops + 1 - n) → ((k : ℕ) → b (m + 1 + k) ≡ stop_on c (n + k)) → IsAt b m at → EndIs (limits_of c) b m l (length_along (stop_on c) (length c.stops + 1)) (joined (limits_of c) at (get_or places n d))
+  rest-is : (m n l : ℕ) (d : Row) (at : Progress) → n ≤ length c.stops + 1 → l ≡ m + 1 + (length c.stops + 1 - n) → ((k : ℕ) → b (m + 1 + k) ≡ stop_on c (n + k)) → IsAt b m at → EndIs (limits_of c) b m l (length_along (stop_on c) (length c.stops + 1)) (with_tail (limits_of c) at (get_or places n d))
   unfolding EndIs EachKeeps
   rest-is m n l d at h end same is =
       let long = table.long in
       let rest = length c.stops + 1 - n in
       let total : n + rest ≡ length c.stops + 1 = omega arith in
       let known : IsKnown c.kind (stop_on c) (n + rest) n (get_or places n d) = subst (λ q. IsKnown c.kind (stop_on c) q n (get_or places n d)) (sym total) (table.known n d (omega arith)) in
-      let small : IsSmallPlace (get_or places n d) = table.small n d (omega arith) in
+      let small : IsSmallRow (get_or places n d) = table.small n d (omega arith) in
       let due = small.at.visit.latest in
       let late : (get_or places n d).at.stop.latest ≡ (stop_on c n).latest = ap (λ s. s.latest) (known.at.stop) in
       let is_end = join-is (limits_of c) (stop_on c) b n (m + 1) rest same (get_or places n d) known (omega arith) m at refl is in
-      subst (λ q. EndIs (limits_of c) b m l (length_along (stop_on c) q) (joined (limits_of c) at (get_or places n d))) total
-      (subst (λ q. EndIs (limits_of c) b m q (length_along (stop_on c) (n + rest)) (joined (limits_of c) at (get_or places n d))) (sym end) is_end)
+      subst (λ q. EndIs (limits_of c) b m l (length_along (stop_on c) q) (with_tail (limits_of c) at (get_or places n d))) total
+      (subst (λ q. EndIs (limits_of c) b m q (length_along (stop_on c) (n + rest)) (with_tail (limits_of c) at (get_or places n d))) (sym end) is_end)
 
-  pub single-is : (i : ℕ) (s : Stop) (d : Place) → 1 ≤ i → i ≤ length c.stops + 1 → ((k : ℕ) → k ≤ i - 1 → b k ≡ stop_on c k) → b i ≡ s → ((k : ℕ) → b (i + 1 + k) ≡ stop_on c (i + k)) → IsEnd (length c.stops + 2) (with_between (limits_of c) places (i - 1) (s ∷ []) i d)
+  pub single-is : (i : ℕ) (s : Stop) (d : Row) → 1 ≤ i → i ≤ length c.stops + 1 → ((k : ℕ) → k ≤ i - 1 → b k ≡ stop_on c k) → b i ≡ s → ((k : ℕ) → b (i + 1 + k) ≡ stop_on c (i + k)) → IsEnd (length c.stops + 2) (with_between (limits_of c) places (i - 1) (s ∷ []) i d)
   single-is i s d one most front here behind =
       let next : i - 1 + 1 ≡ i = omega arith in
       let step : WalkIs (limits_of c) b (i - 1) i (walked (limits_of c) (get_or places (i - 1) d).at (s ∷ [])) =
       walk-is (limits_of c) b (s ∷ []) (i - 1) i _ (omega (arith, one_long s)) (front-at (i - 1) front (omega arith) d) on in
       whole (i - 1) front (omega arith) (length c.stops + 2) _
-      (end-then (limits_of c) b (i - 1) i (length c.stops + 2) _ _ (λ at. joined (limits_of c) at (get_or places i d)) (omega arith) (omega arith) step
+      (end-then (limits_of c) b (i - 1) i (length c.stops + 2) _ _ (λ at. with_tail (limits_of c) at (get_or places i d)) (omega arith) (omega arith) step
       (λ at is. rest-is i i (length c.stops + 2) d at most (omega arith) behind is))
     where
       one_long : (s : Stop) → length (s ∷ []) ≡ 1
@@ -111,23 +111,23 @@ module _ (c : Course) (places : List Place) (table : AreKnown c places) (b : ℕ
       on (suc k) e h = absurd (omega arith)
 
   stops_between : ℕ → ℕ → List Stop
-  stops_between i j = map (λ (e : Place). e.at.stop) (slice_range places i (j - 1))
+  stops_between i j = map (λ (e : Row). e.at.stop) (slice_range places i (j - 1))
 
   long_between : (i j : ℕ) → 1 ≤ i → i < j → j ≤ length c.stops + 2 → length (stops_between i j) + i ≡ j - 1
   unfolding stops_between
-  long_between i j one order most = let long = table.long in omega (arith, length-map (slice_range places i (j - 1)) (λ (e : Place). e.at.stop), length-take (j - 1 - i) (drop i places), length-drop i places)
+  long_between i j one order most = let long = table.long in omega (arith, length-map (slice_range places i (j - 1)) (λ (e : Row). e.at.stop), length-take (j - 1 - i) (drop i places), length-drop i places)
 
-  on_between : (i j k : ℕ) (d : Place) (e : Stop) → 1 ≤ i → i < j → j ≤ length c.stops + 2 → k < length (stops_between i j) → ((k : ℕ) → i + 1 + k < j → b (i + 1 + k) ≡ stop_on c (i + k)) → b (i + 1 + k) ≡ get_or (stops_between i j) k e
+  on_between : (i j k : ℕ) (d : Row) (e : Stop) → 1 ≤ i → i < j → j ≤ length c.stops + 2 → k < length (stops_between i j) → ((k : ℕ) → i + 1 + k < j → b (i + 1 + k) ≡ stop_on c (i + k)) → b (i + 1 + k) ≡ get_or (stops_between i j) k e
   unfolding stops_between
   on_between i j k d e one order most h middle =
       let long = table.long in
       let few = long_between i j one order most in
-      let count = length-map (slice_range places i (j - 1)) (λ (e : Place). e.at.stop) in
-      let read : get_or (map (λ (e : Place). e.at.stop) (slice_range places i (j - 1))) k e ≡ (get_or (slice_range places i (j - 1)) k d).at.stop = get_or-map (λ (e : Place). e.at.stop) (slice_range places i (j - 1)) k d e (omega arith) in
+      let count = length-map (slice_range places i (j - 1)) (λ (e : Row). e.at.stop) in
+      let read : get_or (map (λ (e : Row). e.at.stop) (slice_range places i (j - 1))) k e ≡ (get_or (slice_range places i (j - 1)) k d).at.stop = get_or-map (λ (e : Row). e.at.stop) (slice_range places i (j - 1)) k d e (omega arith) in
       let there : get_or (slice_range places i (j - 1)) k d ≡ get_or places (i + k) d = get_or-take (j - 1 - i) (drop i places) k d (omega arith) ∙ get_or-drop i places k d in
-      middle k (omega arith) ∙ sym (read ∙ (ap (λ (e : Place). e.at.stop) there ∙ (table.known (i + k) d (omega arith)).at.stop))
+      middle k (omega arith) ∙ sym (read ∙ (ap (λ (e : Row). e.at.stop) there ∙ (table.known (i + k) d (omega arith)).at.stop))
 
-  pub pair-is : (i j : ℕ) (p q : Stop) (d : Place) → 1 ≤ i → i < j → j ≤ length c.stops + 2 → ((k : ℕ) → k ≤ i - 1 → b k ≡ stop_on c k) → b i ≡ p → ((k : ℕ) → i + 1 + k < j → b (i + 1 + k) ≡ stop_on c (i + k)) → b j ≡ q → ((k : ℕ) → b (j + 1 + k) ≡ stop_on c (j - 1 + k)) → IsEnd (length c.stops + 3) (with_pair (limits_of c) places p q i j d)
+  pub pair-is : (i j : ℕ) (p q : Stop) (d : Row) → 1 ≤ i → i < j → j ≤ length c.stops + 2 → ((k : ℕ) → k ≤ i - 1 → b k ≡ stop_on c k) → b i ≡ p → ((k : ℕ) → i + 1 + k < j → b (i + 1 + k) ≡ stop_on c (i + k)) → b j ≡ q → ((k : ℕ) → b (j + 1 + k) ≡ stop_on c (j - 1 + k)) → IsEnd (length c.stops + 3) (with_pair (limits_of c) places p q i j d)
   unfolding stops_between
   pair-is i j p q d one order most front first middle second behind =
       let next : i - 1 + 1 ≡ i = omega arith in
@@ -140,7 +140,7 @@ module _ (c : Course) (places : List Place) (table : AreKnown c places) (b : ℕ
       let delivery = walk-then (limits_of c) b (i - 1) (j - 1) j _ (λ at. stepped (limits_of c) at q) (omega arith) (omega arith) between
       (λ at is. subst (λ k. WalkIs (limits_of c) b (j - 1) k (stepped (limits_of c) at q)) last_one (step-walk (limits_of c) b (j - 1) at q is (sym (ap b last_one ∙ second)))) in
       whole (i - 1) front (omega arith) (length c.stops + 3) _
-      (end-then (limits_of c) b (i - 1) j (length c.stops + 3) _ _ (λ at. joined (limits_of c) at (get_or places (j - 1) d)) (omega arith) (omega arith) delivery
+      (end-then (limits_of c) b (i - 1) j (length c.stops + 3) _ _ (λ at. with_tail (limits_of c) at (get_or places (j - 1) d)) (omega arith) (omega arith) delivery
       (λ at is. rest-is j (j - 1) (length c.stops + 3) d at (omega arith) (omega arith) behind is))
 
 -- ---- by numbers
@@ -189,7 +189,7 @@ stands p name r s law valid named stop own =
     numbered-is p s stop ((law p s.number name r valid named (subst (λ o. IsSome o) (sym own) refl)).stop ∙ own)
 
 -- ---- what try_insert answers
-module _ (p : Instance) (c : Course) (places : List Place) (table : AreKnown c places) (valid : IsInstance p) (is : IsCourseIn p c) where
+module _ (p : Instance) (c : Course) (places : List Row) (table : AreKnown c places) (valid : IsInstance p) (is : IsCourseIn p c) where
   on_course : place p (route_of c) ≡ stop_on c
   on_course = places-on p (route_of c) c is
 
@@ -216,7 +216,7 @@ module _ (p : Instance) (c : Course) (places : List Place) (table : AreKnown c p
       let near : length_along (stop_on c) (length c.stops + 1) ≡ route_length p (route_of c) = ap (λ f. length_along f (length c.stops + 1)) (sym on_course) ∙ (ap (λ n. length_along (place p (route_of c)) (n + 1)) long ∙ sym (length-is p (route_of c))) in
       (limits-from p new by_kind, ap pos (sym far) ∙ (found.1 ∙ ap (λ n. pos n +ℤ added) near))
 
-  pub single-added : (law : NamedAreFound) (name i j : ℕ) (s : Stop) (d : Place) (o : Option ℤ) → request_named p name ≡ Some (Single s) → ArePlaces (Single s) (length (route_of c)) i j → o ≡ with_between (limits_of c) places (i - 1) (s ∷ []) i d → IsAdded p (route_of c) (inserted (Single s) i j (route_of c)) o
+  pub single-added : (law : NamedAreFound) (name i j : ℕ) (s : Stop) (d : Row) (o : Option ℤ) → request_named p name ≡ Some (Single s) → ArePlaces (Single s) (length (route_of c)) i j → o ≡ with_between (limits_of c) places (i - 1) (s ∷ []) i d → IsAdded p (route_of c) (inserted (Single s) i j (route_of c)) o
   single-added law name i j s d o named are made =
       let stop = request-valid p name (Single s) valid named in
       let own : stop_numbered p s.number ≡ s = stands p name (Single s) s law valid named stop.0 (single-found s) in
@@ -232,7 +232,7 @@ module _ (p : Instance) (c : Course) (places : List Place) (table : AreKnown c p
       added-is new (length c.stops + 2) o (omega (arith, long, length-insert (route_of c) (i - 1) s.number fits))
       (subst (IsEnd c places table (place p new) (length c.stops + 2)) (sym made) end)
 
-  pub pair-added : (law : NamedAreFound) (name i j : ℕ) (s t : Stop) (d : Place) (o : Option ℤ) → request_named p name ≡ Some (Pair s t) → ArePlaces (Pair s t) (length (route_of c)) i j → o ≡ with_pair (limits_of c) places s t i j d → IsAdded p (route_of c) (inserted (Pair s t) i j (route_of c)) o
+  pub pair-added : (law : NamedAreFound) (name i j : ℕ) (s t : Stop) (d : Row) (o : Option ℤ) → request_named p name ≡ Some (Pair s t) → ArePlaces (Pair s t) (length (route_of c)) i j → o ≡ with_pair (limits_of c) places s t i j d → IsAdded p (route_of c) (inserted (Pair s t) i j (route_of c)) o
   pair-added law name i j s t d o named are made =
       let request = request-valid p name (Pair s t) valid named in
       let pickup : stop_numbered p s.number ≡ s = stands p name (Pair s t) s law valid named request.0 (pickup-found s t) in

@@ -7,15 +7,15 @@ use Rattle.plan_types.specs.declared.requests.Stop.{Stop}
 use Rattle.plan_types.specs.declared.requests.Kind.{Kind}
 use Rattle.plan_types.specs.declared.requests.Kind.TheVariants.{LiLim, Vrp}
 use Rattle.nint_dist.specs.Distance.{distance}
-use Rattle.slack_tables.specs.Driven.{driven_on, is_in_time, keeps, stepped, walked, joined, with_pair}
+use Rattle.slack_tables.specs.Driven.{driven_on, is_in_time, keeps, stepped, walked, with_tail, with_pair}
 use Rattle.slack_tables.specs.Legs.{AreRising}
 use Rattle.slack_tables.specs.Walk.{walk_to}
 use Rattle.slack_tables.specs.declared.progress.Limits.{Limits}
 use Rattle.slack_tables.specs.declared.progress.Progress.{Progress}
-use Rattle.slack_tables.specs.declared.progress.Place.{Place}
+use Rattle.slack_tables.specs.declared.progress.Row.{Row}
 use Rattle.slack_tables.proofs.WalkLemmas.{walk-more}
 
-rises-by : (places : List Place) → AreRising places → (d : Place) (n k : ℕ) → k + n < length places → (get_or places k d).at.start ≤ (get_or places (k + n) d).at.start
+rises-by : (places : List Row) → AreRising places → (d : Row) (n k : ℕ) → k + n < length places → (get_or places k d).at.start ≤ (get_or places (k + n) d).at.start
 rises-by places rising d zero k h = let same : k + 0 ≡ k = omega arith in subst (λ m. (get_or places k d).at.start ≤ (get_or places m d).at.start) (sym same) (omega arith)
 rises-by places rising d (suc n) k h =
     let before = rises-by places rising d n k (omega arith) in
@@ -23,7 +23,7 @@ rises-by places rising d (suc n) k h =
     let next : k + suc n ≡ k + n + 1 = omega arith in
     subst (λ m. (get_or places k d).at.start ≤ (get_or places m d).at.start) (sym next) (omega arith)
 
-pub rises-to : (places : List Place) → AreRising places → (d : Place) (k m : ℕ) → k ≤ m → m < length places → (get_or places k d).at.start ≤ (get_or places m d).at.start
+pub rises-to : (places : List Row) → AreRising places → (d : Row) (k m : ℕ) → k ≤ m → m < length places → (get_or places k d).at.start ≤ (get_or places m d).at.start
 rises-to places rising d k m h l =
     let far : k + (m - k) ≡ m = omega arith in
     subst (λ n. (get_or places k d).at.start ≤ (get_or places n d).at.start) far (rises-by places rising d (m - k) k (omega arith))
@@ -40,9 +40,9 @@ late-stop limits a s t late le = by (int_le (driven_on a s).load (pos limits.cap
     by true false there = refl
     by true true there = absurd (late-too limits.kind t (driven_on a s).start s.latest (omega arith) late there)
 
-pub late-pickup : (limits : Limits) (places : List Place) (p q : Stop) (d : Place) → AreRising places → (i k j : ℕ) → 1 ≤ i → i ≤ k → k ≤ length places → is_in_time limits.kind (get_or places (i - 1) d).at.start p.latest ≡ false → with_pair limits places p q k j d ≡ None
+pub late-pickup : (limits : Limits) (places : List Row) (p q : Stop) (d : Row) → AreRising places → (i k j : ℕ) → 1 ≤ i → i ≤ k → k ≤ length places → is_in_time limits.kind (get_or places (i - 1) d).at.start p.latest ≡ false → with_pair limits places p q k j d ≡ None
 late-pickup limits places p q d rising i k j one order within late =
-    ap (λ o. option_and_then (λ at. joined limits at (get_or places (j - 1) d)) (option_and_then (λ at. stepped limits at q) (option_and_then (λ at. walked limits at (map (λ e. e.at.stop) (slice_range places k (j - 1)))) o)))
+    ap (λ o. option_and_then (λ at. with_tail limits at (get_or places (j - 1) d)) (option_and_then (λ at. stepped limits at q) (option_and_then (λ at. walked limits at (map (λ e. e.at.stop) (slice_range places k (j - 1)))) o)))
     (late-stop limits (get_or places (k - 1) d).at p (get_or places (i - 1) d).at.start late (rises-to places rising d (i - 1) (k - 1) (omega arith) (omega arith)))
 
 pub step-start : (limits : Limits) (a b : Progress) (s : Stop) → stepped limits a s ≡ Some b → (s.earliest ≤ b.start) × (a.start ≤ b.start)
@@ -66,7 +66,7 @@ step-after limits a b s lilim is = by (int_le (driven_on a s).load (pos limits.c
     by false l there is = absurd (cc)
 
 -- a delivery is too late wherever the vehicle goes on from here
-module _ (limits : Limits) (places : List Place) (p q : Stop) (i : ℕ) (d : Place) where
+module _ (limits : Limits) (places : List Row) (p q : Stop) (i : ℕ) (d : Row) where
   walk-rises : (j n : ℕ) → i < j → j + n ≤ length places + 1 → (a b : Progress) → walk_to limits places p i d j ≡ Some a → walk_to limits places p i d (j + n) ≡ Some b → a.start ≤ b.start
   walk-rises j zero order within a b here there =
       let same : j + 0 ≡ j = omega arith in
@@ -97,7 +97,7 @@ module _ (limits : Limits) (places : List Place) (p q : Stop) (i : ℕ) (d : Pla
       far = omega arith
 
       by : (o : Option Progress) → walk_to limits places p i d k ≡ o → with_pair limits places p q i k d ≡ None
-      by None never = ap (λ o. option_and_then (λ at. joined limits at (get_or places (k - 1) d)) (option_and_then (λ at. stepped limits at q) o)) never
+      by None never = ap (λ o. option_and_then (λ at. with_tail limits at (get_or places (k - 1) d)) (option_and_then (λ at. stepped limits at q) o)) never
       by (Some b) there =
           let rises = walk-rises j (k - j) order (omega arith) a b here (ap (walk_to limits places p i d) far ∙ there) in
-          ap (λ o. option_and_then (λ at. joined limits at (get_or places (k - 1) d)) (option_and_then (λ at. stepped limits at q) o)) there ∙ ap (λ o. option_and_then (λ at. joined limits at (get_or places (k - 1) d)) o) (late-stop limits b q a.start late rises)
+          ap (λ o. option_and_then (λ at. with_tail limits at (get_or places (k - 1) d)) (option_and_then (λ at. stepped limits at q) o)) there ∙ ap (λ o. option_and_then (λ at. with_tail limits at (get_or places (k - 1) d)) o) (late-stop limits b q a.start late rises)

@@ -8,15 +8,15 @@ use Rattle.std.proofs.lemmas.Int.{ints, clamps}
 use Rattle.plan_types.specs.declared.requests.Stop.{Stop}
 use Rattle.nint_dist.specs.Distance.{distance}
 use Rattle.slack_tables.specs.Legs.{AreLeast, detour_of}
-use Rattle.slack_tables.specs.declared.progress.Place.{Place}
+use Rattle.slack_tables.specs.declared.progress.Row.{Row}
 
 -- ---- backward: the least detours from place k on
-pub record AreLeastFrom (places : List Place) (s : Stop) (k : ℕ) (least : List ℤ) : Type 0 where
+pub record AreLeastFrom (places : List Row) (s : Stop) (k : ℕ) (least : List ℤ) : Type 0 where
   pub long : length least ≡ length places
-  pub lower : (i m : ℕ) (d : Place) → k ≤ i → i < length least → i ≤ m → m + 1 < length places → get_or least i (pos 0) ≤ℤ detour_of places s m d
+  pub lower : (i m : ℕ) (d : Row) → k ≤ i → i < length least → i ≤ m → m + 1 < length places → get_or least i (pos 0) ≤ℤ detour_of places s m d
   pub small : (i : ℕ) → k ≤ i → i < length least → unsigned_abs (get_or least i (pos 0)) ≤ 2 ^ 60
 
-pub least-last : (places : List Place) (s : Stop) (least : List ℤ) (x : ℤ) → length least ≡ length places → 0 < length least → unsigned_abs x ≤ 2 ^ 60 → AreLeastFrom places s (length least - 1) (set least (length least - 1) x)
+pub least-last : (places : List Row) (s : Stop) (least : List ℤ) (x : ℤ) → length least ≡ length places → 0 < length least → unsigned_abs x ≤ 2 ^ 60 → AreLeastFrom places s (length least - 1) (set least (length least - 1) x)
 least-last places s least x long some small = record {
   long = length-set least (length least - 1) x ∙ long;
   lower = λ i m d h _ l n. absurd (omega arith);
@@ -26,20 +26,20 @@ least-last places s least x long some small = record {
 }
 
 -- ways from below give a detour from below
-pub detour-below : (places : List Place) (s : Stop) (m : ℕ) (d : Place) (here next : Place) (to from : ℕ) → here ≡ get_or places m d → next ≡ get_or places (m + 1) d → to ≤ distance (get_or places m d).at.stop s → from ≤ distance (get_or places (m + 1) d).at.stop s → (pos (here.at.distance + to + from) -ℤ pos next.at.distance) ≤ℤ detour_of places s m d
+pub detour-below : (places : List Row) (s : Stop) (m : ℕ) (d : Row) (here next : Row) (to from : ℕ) → here ≡ get_or places m d → next ≡ get_or places (m + 1) d → to ≤ distance (get_or places m d).at.stop s → from ≤ distance (get_or places (m + 1) d).at.stop s → (pos (here.at.distance + to + from) -ℤ pos next.at.distance) ≤ℤ detour_of places s m d
 detour-below places s m d here next to from is_here is_next is_to is_from =
-    let before = ap (λ (e : Place). e.at.distance) is_here in
-    let after = ap (λ (e : Place). e.at.distance) is_next in
+    let before = ap (λ (e : Row). e.at.distance) is_here in
+    let after = ap (λ (e : Row). e.at.distance) is_next in
     omega (arith, ints)
 
-module _ (places : List Place) (s : Stop) (k : ℕ) (least : List ℤ) (x y : ℤ) (is : AreLeastFrom places s (k + 1) least) (within : k + 1 < length least) (detour : (d : Place) → x ≤ℤ detour_of places s k d) (next : y ≡ int_min x (get_or least (k + 1) (pos 0))) where
+module _ (places : List Row) (s : Stop) (k : ℕ) (least : List ℤ) (x y : ℤ) (is : AreLeastFrom places s (k + 1) least) (within : k + 1 < length least) (detour : (d : Row) → x ≤ℤ detour_of places s k d) (next : y ≡ int_min x (get_or least (k + 1) (pos 0))) where
   here : get_or (set least k y) k (pos 0) ≡ y
   here = get_or-set_same least k y (pos 0) (omega arith)
 
   other : (i : ℕ) → i ≢ k → get_or (set least k y) i (pos 0) ≡ get_or least i (pos 0)
   other i ne = get_or-set_other least k i y (pos 0) ne
 
-  lower-here : (m : ℕ) (d : Place) → k ≤ m → m + 1 < length places → y ≤ℤ detour_of places s m d
+  lower-here : (m : ℕ) (d : Row) → k ≤ m → m + 1 < length places → y ≤ℤ detour_of places s m d
   lower-here m d h l = by (cases_lt k m)
     where
       by : (k < m) ⊎ (m ≤ k) → y ≤ℤ detour_of places s m d
@@ -57,7 +57,7 @@ module _ (places : List Place) (s : Stop) (k : ℕ) (least : List ℤ) (x y : �
     small = λ i h l. small-by i h l (cases_lt k i);
   }
     where
-      lower-by : (i m : ℕ) (d : Place) → k ≤ i → i < length (set least k y) → i ≤ m → m + 1 < length places → (k < i) ⊎ (i ≤ k) → get_or (set least k y) i (pos 0) ≤ℤ detour_of places s m d
+      lower-by : (i m : ℕ) (d : Row) → k ≤ i → i < length (set least k y) → i ≤ m → m + 1 < length places → (k < i) ⊎ (i ≤ k) → get_or (set least k y) i (pos 0) ≤ℤ detour_of places s m d
       lower-by i m d h l n r (inl after) = subst (λ z. z ≤ℤ detour_of places s m d) (sym (other i (omega arith))) (is.lower i m d (omega arith) (omega (arith, length-set least k y)) n r)
       lower-by i m d h l n r (inr first) =
           let same : k ≡ i = omega arith in
@@ -71,8 +71,8 @@ module _ (places : List Place) (s : Stop) (k : ℕ) (least : List ℤ) (x y : �
           let small_here : unsigned_abs y ≤ 2 ^ 60 = omega (arith, ints, clamps) in
           subst (λ n. unsigned_abs (get_or (set least k y) n (pos 0)) ≤ 2 ^ 60) same (subst (λ z. unsigned_abs z ≤ 2 ^ 60) (sym here) small_here)
 
-pub least-from : (places : List Place) (s : Stop) (first : ℕ) (least : List ℤ) → AreLeastFrom places s first least → AreLeast first least places s
+pub least-from : (places : List Row) (s : Stop) (first : ℕ) (least : List ℤ) → AreLeastFrom places s first least → AreLeast first least places s
 least-from places s first least is = record { lower = λ k m d f h l r. is.lower k m d f h l r; small = λ k f h. is.small k f h }
 
-pub least-later : (places : List Place) (s : Stop) (first later : ℕ) (least : List ℤ) → first ≤ later → AreLeast first least places s → AreLeast later least places s
+pub least-later : (places : List Row) (s : Stop) (first later : ℕ) (least : List ℤ) → first ≤ later → AreLeast first least places s → AreLeast later least places s
 least-later places s first later least le is = record { lower = λ k m d f h l r. is.lower k m d (omega arith) h l r; small = λ k f h. is.small k (omega arith) h }

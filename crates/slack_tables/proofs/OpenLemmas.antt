@@ -13,9 +13,9 @@ use Rattle.plan_types.specs.declared.requests.Stop.{Stop}
 use Rattle.route_sched.specs.Route.{AreLiveOnce, IsLive, place}
 use Rattle.slack_tables.specs.Driven.{driven_on, IsNear, IsSmall}
 use Rattle.slack_tables.specs.Places.{IsAt}
-use Rattle.slack_tables.specs.Opened.{leaving, open_place, IsWithin, IsOpen, AreOpen, AreOpenTo}
+use Rattle.slack_tables.specs.Opened.{leaving, open_row, IsWithin, IsOpen, AreOpen, AreOpenTo}
 use Rattle.slack_tables.specs.declared.progress.Progress.{Progress}
-use Rattle.slack_tables.specs.declared.progress.Place.{Place}
+use Rattle.slack_tables.specs.declared.progress.Row.{Row}
 use Rattle.slack_tables.proofs.AlongLemmas.{start-first, load-first, length-first}
 use Rattle.slack_tables.proofs.SpliceLemmas.{at-next}
 
@@ -68,39 +68,39 @@ small-within k a few is = record {
   distance = (let p = is.distance in omega arith);
 }
 
-open-is : (stops : ℕ → Stop) (k : ℕ) (a : Progress) → k ≤ 40003 → IsAt stops k a → IsWithin k a → IsOpen stops k (open_place a)
+open-is : (stops : ℕ → Stop) (k : ℕ) (a : Progress) → k ≤ 40003 → IsAt stops k a → IsWithin k a → IsOpen stops k (open_row a)
 open-is stops k a few at is =
     let small = small-within k a few is in
     record { at = at; latest_start = refl; most_load = refl; within = is; small = record { at = small; most_load = small.load } }
 
-pub open-more : (stops : ℕ → Stop) (places : List Place) (k : ℕ) (a : Progress) → AreOpen stops places → length places ≡ k → k ≤ 40003 → IsAt stops k a → IsWithin k a → AreOpen stops (places ++ open_place a ∷ [])
+pub open-more : (stops : ℕ → Stop) (places : List Row) (k : ℕ) (a : Progress) → AreOpen stops places → length places ≡ k → k ≤ 40003 → IsAt stops k a → IsWithin k a → AreOpen stops (places ++ open_row a ∷ [])
 open-more stops places k a opened long few at is = λ m d h. by m d (cases_lt m k) h
   where
-    by : (m : ℕ) (d : Place) → (m < k) ⊎ (k ≤ m) → m < length (places ++ open_place a ∷ []) → IsOpen stops m (get_or (places ++ open_place a ∷ []) m d)
-    by m d (inl before) h = let lt : m < length places = omega arith in subst (IsOpen stops m) (sym (get_or-append places (open_place a ∷ []) d m lt)) (opened m d lt)
+    by : (m : ℕ) (d : Row) → (m < k) ⊎ (k ≤ m) → m < length (places ++ open_row a ∷ []) → IsOpen stops m (get_or (places ++ open_row a ∷ []) m d)
+    by m d (inl before) h = let lt : m < length places = omega arith in subst (IsOpen stops m) (sym (get_or-append places (open_row a ∷ []) d m lt)) (opened m d lt)
     by m d (inr here) h =
-        let one = length-append places (open_place a ∷ []) in
+        let one = length-append places (open_row a ∷ []) in
         let same : k ≡ m = omega arith in
-        let is_open : IsOpen stops m (open_place a) = subst (λ i. IsOpen stops i (open_place a)) same (open-is stops k a few at is) in
-        subst (IsOpen stops m) (sym (get_or_push places (open_place a) d m (long ∙ same))) is_open
+        let is_open : IsOpen stops m (open_row a) = subst (λ i. IsOpen stops i (open_row a)) same (open-is stops k a few at is) in
+        subst (IsOpen stops m) (sym (get_or_push places (open_row a) d m (long ∙ same))) is_open
 
 pub open-none : (stops : ℕ → Stop) → AreOpen stops []
 open-none stops = λ k d h. absurd (omega arith)
 
 -- ---- the same by index
-pub open-to-none : (stops : ℕ → Stop) (places : List Place) → AreOpenTo stops 0 places
+pub open-to-none : (stops : ℕ → Stop) (places : List Row) → AreOpenTo stops 0 places
 open-to-none stops places = record { each = λ k d h _. absurd (omega arith) }
 
-pub open-to-more : (stops : ℕ → Stop) (n : ℕ) (places : List Place) (a : Progress) (e : Place) → AreOpenTo stops n places → n < length places → n ≤ 40003 → IsAt stops n a → IsWithin n a → e ≡ open_place a → AreOpenTo stops (n + 1) (set places n e)
+pub open-to-more : (stops : ℕ → Stop) (n : ℕ) (places : List Row) (a : Progress) (e : Row) → AreOpenTo stops n places → n < length places → n ≤ 40003 → IsAt stops n a → IsWithin n a → e ≡ open_row a → AreOpenTo stops (n + 1) (set places n e)
 open-to-more stops n places a e is there few at within made = record { each = λ k d h l. by k d (cases_lt k n) h l }
   where
-    by : (k : ℕ) (d : Place) → (k < n) ⊎ (n ≤ k) → k < n + 1 → k < length (set places n e) → IsOpen stops k (get_or (set places n e) k d)
+    by : (k : ℕ) (d : Row) → (k < n) ⊎ (n ≤ k) → k < n + 1 → k < length (set places n e) → IsOpen stops k (get_or (set places n e) k d)
     by k d (inl before) h l = subst (IsOpen stops k) (sym (get_or-set_other places n k e d (omega arith))) (is.each k d before (omega arith))
     by k d (inr here) h l =
         let same : n ≡ k = omega arith in
         subst (λ i. IsOpen stops i (get_or (set places n e) i d)) same (subst (IsOpen stops n) (sym (get_or-set_same places n e d there ∙ made)) (open-is stops n a few at within))
 
-pub open-to-all : (stops : ℕ → Stop) (n : ℕ) (places : List Place) → AreOpenTo stops n places → length places ≤ n → AreOpen stops places
+pub open-to-all : (stops : ℕ → Stop) (n : ℕ) (places : List Row) → AreOpenTo stops n places → length places ≤ n → AreOpen stops places
 open-to-all stops n places is all = λ k d h. is.each k d (omega arith) h
 
 -- ---- the same, of what the code has
@@ -114,15 +114,15 @@ at-begin stops depot a is made = subst (IsAt stops 0) (sym made) (at-first stops
 pub within-begin : (depot : Stop) (a : Progress) → IsVisit depot → a ≡ leaving depot → IsWithin 0 a
 within-begin depot a visit made = subst (IsWithin 0) (sym made) (within-first depot visit)
 
-pub opened-begin : (stops : ℕ → Stop) (places : List Place) → places ≡ [] → AreOpen stops places
+pub opened-begin : (stops : ℕ → Stop) (places : List Row) → places ≡ [] → AreOpen stops places
 opened-begin stops places none = λ k d h. absurd (omega (arith, ap length none))
 
-pub opened-more : (stops : ℕ → Stop) (before places : List Place) (k : ℕ) (a : Progress) (e : Place) → AreOpen stops before → length before ≡ k → k ≤ 40003 → IsAt stops k a → IsWithin k a → e ≡ open_place a → places ≡ before ++ e ∷ [] → AreOpen stops places
+pub opened-more : (stops : ℕ → Stop) (before places : List Row) (k : ℕ) (a : Progress) (e : Row) → AreOpen stops before → length before ≡ k → k ≤ 40003 → IsAt stops k a → IsWithin k a → e ≡ open_row a → places ≡ before ++ e ∷ [] → AreOpen stops places
 opened-more stops before places k a e opened long few at is made pushed =
-    let all : places ≡ before ++ open_place a ∷ [] = pushed ∙ ap (λ x. before ++ x ∷ []) made in
+    let all : places ≡ before ++ open_row a ∷ [] = pushed ∙ ap (λ x. before ++ x ∷ []) made in
     subst (λ xs. AreOpen stops xs) (sym all) (open-more stops before k a opened long few at is)
 
-pub longer : (before places : List Place) (k : ℕ) (e : Place) → length before ≡ k → places ≡ before ++ e ∷ [] → length places ≡ k + 1
+pub longer : (before places : List Row) (k : ℕ) (e : Row) → length before ≡ k → places ≡ before ++ e ∷ [] → length places ≡ k + 1
 longer before places k e long pushed = omega (arith, ap length pushed, length-append before (e ∷ []))
 
 pub at-more : (stops : ℕ → Stop) (k : ℕ) (a b : Progress) (s : Stop) → IsAt stops k a → s ≡ stops (k + 1) → b ≡ driven_on a s → IsAt stops (k + 1) b

@@ -7,7 +7,7 @@ use Rattle.slack_tables.specs.Best.{ComesFirst, IsFirstOf}
 use Rattle.slack_tables.specs.Driven.{with_between, with_pair}
 use Rattle.slack_tables.specs.Scan.{PutsSingle, AddsSingle, PutsPair, AddsPair, PutsDelivery, AddsDelivery, none_below, offered, accepted}
 use Rattle.slack_tables.specs.declared.progress.Limits.{Limits}
-use Rattle.slack_tables.specs.declared.progress.Place.{Place}
+use Rattle.slack_tables.specs.declared.progress.Row.{Row}
 use Rattle.slack_tables.specs.declared.scan.Addition.{Addition}
 use Rattle.slack_tables.specs.declared.scan.Best.{Best}
 use Rattle.slack_tables.proofs.FirstLemmas.{SoFar, first-pickup, first-delivery, none-yet, none-here, better-here, all-seen, rest-dear}
@@ -35,7 +35,7 @@ pub bits-below : (x y : ℤ) → SFits w64 x → to_z w64 (of_z w64 x) ≤ℤ y 
 bits-below x y fits le = subst (λ z. z ≤ℤ y) (to_z-of_z w64 x fits) le
 
 -- ---- a single
-module _ (limits : Limits) (places : List Place) (s : Stop) (kept : ℕ) (d : Place) where
+module _ (limits : Limits) (places : List Row) (s : Stop) (kept : ℕ) (d : Row) where
   pub order : (a b : Addition) → PutsSingle limits places s kept d a → PutsSingle limits places s kept d b → a.distance ≤ℤ b.distance → a.pickup < b.pickup → ComesFirst a b
   order a b _ _ le lt = first-pickup a b le lt
 
@@ -72,7 +72,7 @@ module _ (limits : Limits) (places : List Place) (s : Stop) (kept : ℕ) (d : Pl
   singles-end below i best so end = all-seen (PutsSingle limits places s kept d) by_pickup order below best.bound i best.found so (λ a is. let within = is.within in omega arith)
 
 -- ---- the delivery of a pair
-module _ (limits : Limits) (places : List Place) (p q : Stop) (i : ℕ) (d : Place) where
+module _ (limits : Limits) (places : List Row) (p q : Stop) (i : ℕ) (d : Row) where
   pub order_here : (a b : Addition) → PutsDelivery limits places p q i d a → PutsDelivery limits places p q i d b → a.distance ≤ℤ b.distance → a.delivery < b.delivery → ComesFirst a b
   order_here a b is it le lt = first-delivery a b le (is.here ∙ sym (it.here)) (omega arith)
 
@@ -116,7 +116,7 @@ module _ (limits : Limits) (places : List Place) (p q : Stop) (i : ℕ) (d : Pla
   deliveries-none below dear = λ a is. (let le = dear a.delivery a.distance (let order = is.0.order in omega arith) is.0.within is.0.added in let less = is.1 in absurd (omega (arith, ints)))
 
 -- ---- a pair
-module _ (limits : Limits) (places : List Place) (p q : Stop) (kept : ℕ) (d : Place) where
+module _ (limits : Limits) (places : List Row) (p q : Stop) (kept : ℕ) (d : Row) where
   pub order_pair : (a b : Addition) → PutsPair limits places p q kept d a → PutsPair limits places p q kept d b → a.distance ≤ℤ b.distance → a.pickup < b.pickup → ComesFirst a b
   order_pair a b _ _ le lt = first-pickup a b le lt
 

@@ -19,7 +19,7 @@ use Rattle.slack_tables.specs.Ride.{ride_of, driven, is_kept, is_borne, goes_on,
 use Rattle.slack_tables.specs.Scan.{AddsSingle, AddsPair}
 use Rattle.slack_tables.specs.Span.{IsInside, IsSmallSpan, IsSpanTo, AreEnds, IsSpan, IsNearest, IsFloor, IsFloorOfPair, IsFarSingle, IsFarPair, AreHome, AreLaden, edge_of}
 use Rattle.slack_tables.specs.declared.progress.Limits.{Limits}
-use Rattle.slack_tables.specs.declared.progress.Place.{Place}
+use Rattle.slack_tables.specs.declared.progress.Row.{Row}
 use Rattle.slack_tables.specs.declared.ride.Ride.{Ride}
 use Rattle.slack_tables.specs.declared.span.Span.{Span}
 use Rattle.slack_tables.specs.declared.span.Nearest.{Nearest}
@@ -82,26 +82,26 @@ apart-le law a b x y w least gap_x gap_y =
 pub span-as : (w e s n l t o : ℤ) → SFits w32 w → SFits w32 e → SFits w32 s → SFits w32 n → SFits w64 l → SFits w64 t → SFits w64 o → ◌≡◌ {A = Span} (record { west = to_z w32 (of_z w32 w); east = to_z w32 (of_z w32 e); south = to_z w32 (of_z w32 s); north = to_z w32 (of_z w32 n); longest = to_z w64 (of_z w64 l); tips = to_z w64 (of_z w64 t); load = to_z w64 (of_z w64 o) }) (record { west = w; east = e; south = s; north = n; longest = l; tips = t; load = o })
 span-as w e s n l t o fw fe fs fn fl ft fo = rw (to_z-of_z w32 w fw, to_z-of_z w32 e fe, to_z-of_z w32 s fs, to_z-of_z w32 n fn, to_z-of_z w64 l fl, to_z-of_z w64 t ft, to_z-of_z w64 o fo) refl
 
-pub span-more : (places : List Place) (k : ℕ) (old new : Span) (before here : Place) → 1 ≤ k → IsSpanTo old places k → ((d : Place) → before ≡ get_or places (k - 1) d) → ((d : Place) → here ≡ get_or places k d) → IsInside new here.at.stop → ((s : Stop) → IsInside old s → IsInside new s) → edge_of before here ≤ℤ new.longest → old.longest ≤ℤ new.longest → IsSmallSpan new → IsSpanTo new places (k + 1)
+pub span-more : (places : List Row) (k : ℕ) (old new : Span) (before here : Row) → 1 ≤ k → IsSpanTo old places k → ((d : Row) → before ≡ get_or places (k - 1) d) → ((d : Row) → here ≡ get_or places k d) → IsInside new here.at.stop → ((s : Stop) → IsInside old s → IsInside new s) → edge_of before here ≤ℤ new.longest → old.longest ≤ℤ new.longest → IsSmallSpan new → IsSpanTo new places (k + 1)
 span-more places k old new before here some is is_before is_here inside wider edge longer small = record {
   inside = λ m d h l. inside-by m d h l (cases_lt m k);
   longest = λ m d h l. longest-by m d h l (cases_lt (m + 1) k);
   small = small;
 }
   where
-    inside-by : (m : ℕ) (d : Place) → 1 ≤ m → m < k + 1 → (m < k) ⊎ (k ≤ m) → IsInside new (get_or places m d).at.stop
+    inside-by : (m : ℕ) (d : Row) → 1 ≤ m → m < k + 1 → (m < k) ⊎ (k ≤ m) → IsInside new (get_or places m d).at.stop
     inside-by m d h l (inl less) = wider _ (is.inside m d h less)
-    inside-by m d h l (inr more) = let same : k ≡ m = omega arith in subst (λ (e : Place). IsInside new e.at.stop) (is_here d ∙ ap (λ n. get_or places n d) same) inside
+    inside-by m d h l (inr more) = let same : k ≡ m = omega arith in subst (λ (e : Row). IsInside new e.at.stop) (is_here d ∙ ap (λ n. get_or places n d) same) inside
 
-    longest-by : (m : ℕ) (d : Place) → 1 ≤ m → m + 1 < k + 1 → (m + 1 < k) ⊎ (k ≤ m + 1) → edge_of (get_or places m d) (get_or places (m + 1) d) ≤ℤ new.longest
+    longest-by : (m : ℕ) (d : Row) → 1 ≤ m → m + 1 < k + 1 → (m + 1 < k) ⊎ (k ≤ m + 1) → edge_of (get_or places m d) (get_or places (m + 1) d) ≤ℤ new.longest
     longest-by m d h l (inl less) = let le = is.longest m d h less in omega (arith, ints)
     longest-by m d h l (inr more) =
         let same : k ≡ m + 1 = omega arith in
         let back : k - 1 ≡ m = omega arith in
-        subst (λ (e : Place). edge_of e (get_or places (m + 1) d) ≤ℤ new.longest) (is_before d ∙ ap (λ n. get_or places n d) back)
-        (subst (λ (e : Place). edge_of before e ≤ℤ new.longest) (is_here d ∙ ap (λ n. get_or places n d) same) edge)
+        subst (λ (e : Row). edge_of e (get_or places (m + 1) d) ≤ℤ new.longest) (is_before d ∙ ap (λ n. get_or places n d) back)
+        (subst (λ (e : Row). edge_of before e ≤ℤ new.longest) (is_here d ∙ ap (λ n. get_or places n d) same) edge)
 
-pub ends-same : (old new : Span) (places : List Place) → new.tips ≡ old.tips → new.load ≡ old.load → AreEnds old places → AreEnds new places
+pub ends-same : (old new : Span) (places : List Row) → new.tips ≡ old.tips → new.load ≡ old.load → AreEnds old places → AreEnds new places
 ends-same old new places tips load ends = record {
   first = λ d. subst (λ x. edge_of (get_or places 0 d) (get_or places 1 d) ≤ℤ x) (sym tips) (ends.first d);
   last = λ d. subst (λ x. edge_of (get_or places (length places - 2) d) (get_or places (length places - 1) d) ≤ℤ x) (sym tips) (ends.last d);
@@ -109,13 +109,13 @@ ends-same old new places tips load ends = record {
 }
 
 -- ---- the depot and the loads of a table
-pub home : (c : Course) (places : List Place) → AreKnown c places → AreHome c.depot places
+pub home : (c : Course) (places : List Row) → AreKnown c places → AreHome c.depot places
 home c places table = let long = table.long in record {
   first = λ d. (table.known 0 d (omega arith)).at.stop;
   last = λ d. (table.known (length places - 1) d (omega arith)).at.stop ∙ get_or_past (c.depot ∷ c.stops) (length places - 1) c.depot (omega arith);
 }
 
-pub laden : (c : Course) (places : List Place) → AreKnown c places → AreLaden places
+pub laden : (c : Course) (places : List Row) → AreKnown c places → AreLaden places
 laden c places table = let long = table.long in record {
   step = λ k d h.
       (let here = (table.known k d (omega arith)).at in
@@ -129,9 +129,9 @@ laden c places table = let long = table.long in record {
 }
 
 -- ---- what a stop adds
-module _ (places : List Place) (depot : Stop) (span : Span) (is : IsSpan span places) (at_home : AreHome depot places) where
+module _ (places : List Row) (depot : Stop) (span : Span) (is : IsSpan span places) (at_home : AreHome depot places) where
   -- what a stop adds behind place m
-  pub detour-le : (s : Stop) (near : Nearest) → IsNearest span depot s near → (x : ℤ) → IsFloor span near x → (m : ℕ) (d : Place) → m + 1 < length places → x ≤ℤ detour_of places s m d
+  pub detour-le : (s : Stop) (near : Nearest) → IsNearest span depot s near → (x : ℤ) → IsFloor span near x → (m : ℕ) (d : Row) → m + 1 < length places → x ≤ℤ detour_of places s m d
   detour-le s near nearest x floor m d within = by (cases_lt 0 m) (cases_lt (m + 2) (length places))
     where
       count : 2 ≤ is.count
@@ -168,7 +168,7 @@ module _ (places : List Place) (depot : Stop) (span : Span) (is : IsSpan span pl
           subst (λ k. x ≤ℤ detour_of places s k d) zero_m (let first : x ≤ℤ detour_of places s 0 d = omega (arith, ints) in first)
 
   -- what a pair adds whose stops come side by side behind place m
-  pub beside-le : (p q : Stop) (to_p to_q : Nearest) → IsNearest span depot p to_p → IsNearest span depot q to_q → (across : ℕ) → across ≤ distance p q → (x : ℤ) → IsFloorOfPair span to_p to_q across x → (m : ℕ) (d : Place) → m + 1 < length places → x ≤ℤ (pos ((get_or places m d).at.distance + distance (get_or places m d).at.stop p + distance p q + distance (get_or places (m + 1) d).at.stop q) -ℤ pos (get_or places (m + 1) d).at.distance)
+  pub beside-le : (p q : Stop) (to_p to_q : Nearest) → IsNearest span depot p to_p → IsNearest span depot q to_q → (across : ℕ) → across ≤ distance p q → (x : ℤ) → IsFloorOfPair span to_p to_q across x → (m : ℕ) (d : Row) → m + 1 < length places → x ≤ℤ (pos ((get_or places m d).at.distance + distance (get_or places m d).at.stop p + distance p q + distance (get_or places (m + 1) d).at.stop q) -ℤ pos (get_or places (m + 1) d).at.distance)
   beside-le p q to_p to_q near_p near_q across between x floor m d within = by (cases_lt 0 m) (cases_lt (m + 2) (length places))
     where
       Goal : ℕ → Type 0
@@ -211,10 +211,10 @@ module _ (places : List Place) (depot : Stop) (span : Span) (is : IsSpan span pl
           subst Goal zero_m (let first : Goal 0 = omega (arith, ints) in first)
 
 -- ---- a single
-singles-none : (limits : Limits) (places : List Place) (s : Stop) (kept : ℕ) (below : ℤ) (d : Place) → ((i : ℕ) (x : ℤ) → 1 ≤ i → i < length places → with_between limits places (i - 1) (s ∷ []) i d ≡ Some x → below ≤ℤ x) → IsFirstOf (AddsSingle limits places s kept below d) None
+singles-none : (limits : Limits) (places : List Row) (s : Stop) (kept : ℕ) (below : ℤ) (d : Row) → ((i : ℕ) (x : ℤ) → 1 ≤ i → i < length places → with_between limits places (i - 1) (s ∷ []) i d ≡ Some x → below ≤ℤ x) → IsFirstOf (AddsSingle limits places s kept below d) None
 singles-none limits places s kept below d dear = λ a is. (let behind = is.0.behind in let le = dear a.pickup a.distance (omega arith) is.0.within is.0.added in let less = is.1 in absurd (omega (arith, ints)))
 
-pub far-single : (limits : Limits) (places : List Place) (depot s : Stop) (kept : ℕ) (below : ℤ) (d : Place) (span : Span) → IsSpan span places → AreHome depot places → IsFarSingle span depot s below → IsFirstOf (AddsSingle limits places s kept below d) None
+pub far-single : (limits : Limits) (places : List Row) (depot s : Stop) (kept : ℕ) (below : ℤ) (d : Row) (span : Span) → IsSpan span places → AreHome depot places → IsFarSingle span depot s below → IsFirstOf (AddsSingle limits places s kept below d) None
 far-single limits places depot s kept below d span is at_home dear =
     singles-none limits places s kept below d
     (λ i x one within some.
@@ -226,21 +226,21 @@ far-single limits places depot s kept below d span is at_home dear =
     omega (arith, ints)))
 
 -- what a served stop brings on board fits
-served-fits : (limits : Limits) (r : Ride) (service to : ℕ) (s : Stop) (from : ℕ) (tail : Place) (x : ℤ) → served limits r service to s from tail ≡ Some x → is_served limits r service to s from tail ≡ true
+served-fits : (limits : Limits) (r : Ride) (service to : ℕ) (s : Stop) (from : ℕ) (tail : Row) (x : ℤ) → served limits r service to s from tail ≡ Some x → is_served limits r service to s from tail ≡ true
 served-fits limits r service to s from tail x is = by (is_served limits r service to s from tail) refl is
   where
     by : (k : Bool) → is_served limits r service to s from tail ≡ k → cond k (Some (price r to from tail)) None ≡ Some x → is_served limits r service to s from tail ≡ true
     by true h is = h
     by false h is = absurd (cc)
 
-borne : (limits : Limits) (r : Ride) (service to : ℕ) (s : Stop) (from : ℕ) (tail : Place) → is_served limits r service to s from tail ≡ true → (r.load +ℤ s.demand +ℤ tail.at.stop.demand -ℤ tail.at.load +ℤ tail.most_load) ≤ℤ pos limits.capacity
+borne : (limits : Limits) (r : Ride) (service to : ℕ) (s : Stop) (from : ℕ) (tail : Row) → is_served limits r service to s from tail ≡ true → (r.load +ℤ s.demand +ℤ tail.at.stop.demand -ℤ tail.at.load +ℤ tail.most_load) ≤ℤ pos limits.capacity
 borne limits r service to s from tail is =
     let on = (and_parts (is_kept limits (driven r service to s) s) (goes_on limits (driven r service to s) s.service from tail) is).1 in
     let there = (and_parts (is_kept limits (driven (driven r service to s) s.service from tail.at.stop) tail.at.stop) (is_borne limits (driven (driven r service to s) s.service from tail.at.stop) tail) on).1 in
     let light = (and_parts (int_le (r.load +ℤ s.demand +ℤ tail.at.stop.demand -ℤ tail.at.load +ℤ tail.most_load) (pos limits.capacity)) _ there).0 in
     int_le-true _ _ light
 
-pub full-single : (limits : Limits) (places : List Place) (s : Stop) (kept : ℕ) (below : ℤ) (d : Place) (span : Span) → IsSpan span places → AreLaden places → pos limits.capacity <ℤ (span.load +ℤ s.demand) → IsFirstOf (AddsSingle limits places s kept below d) None
+pub full-single : (limits : Limits) (places : List Row) (s : Stop) (kept : ℕ) (below : ℤ) (d : Row) (span : Span) → IsSpan span places → AreLaden places → pos limits.capacity <ℤ (span.load +ℤ s.demand) → IsFirstOf (AddsSingle limits places s kept below d) None
 full-single limits places s kept below d span is laden over =
     singles-none limits places s kept below d
     (λ i x one within some.
@@ -252,7 +252,7 @@ full-single limits places s kept below d span is laden over =
     absurd (omega (arith, ints))))
 
 -- ---- a pair
-pub far-pair : (limits : Limits) (places : List Place) (depot p q : Stop) (kept : ℕ) (below : ℤ) (d : Place) (span : Span) → AreLinked places → IsSpan span places → AreHome depot places → IsFarPair span depot p q below → IsFirstOf (AddsPair limits places p q kept below d) None
+pub far-pair : (limits : Limits) (places : List Row) (depot p q : Stop) (kept : ℕ) (below : ℤ) (d : Row) (span : Span) → AreLinked places → IsSpan span places → AreHome depot places → IsFarPair span depot p q below → IsFirstOf (AddsPair limits places p q kept below d) None
 far-pair limits places depot p q kept below d span linked is at_home dear = λ a adds. (let behind = adds.0.behind in let order = adds.0.order in let le = at-places a.pickup a.delivery a.distance (omega arith) order adds.0.within adds.0.added in let less = adds.1 in absurd (omega (arith, ints)))
   where
     at-places : (i j : ℕ) (x : ℤ) → 1 ≤ i → i < j → j ≤ length places → with_pair limits places p q i j d ≡ Some x → below ≤ℤ x
@@ -278,11 +278,11 @@ far-pair limits places depot p q kept below d span linked is at_home dear = λ a
             omega (arith, ints)
 
 -- ---- the span of the first stop alone
-pub span-begun : (places : List Place) (first : Place) (t o : ℤ) → ((d : Place) → first ≡ get_or places 1 d) → unsigned_abs t ≤ 2 ^ 52 → unsigned_abs o ≤ 2 ^ 52 → IsSpanTo (record { west = first.at.stop.x; east = first.at.stop.x; south = first.at.stop.y; north = first.at.stop.y; longest = pos 0; tips = t; load = o }) places 2
+pub span-begun : (places : List Row) (first : Row) (t o : ℤ) → ((d : Row) → first ≡ get_or places 1 d) → unsigned_abs t ≤ 2 ^ 52 → unsigned_abs o ≤ 2 ^ 52 → IsSpanTo (record { west = first.at.stop.x; east = first.at.stop.x; south = first.at.stop.y; north = first.at.stop.y; longest = pos 0; tips = t; load = o }) places 2
 span-begun places first t o is_first tips load = record {
   inside = λ k d h l.
       (let one : 1 ≡ k = omega arith in
-      subst (λ (e : Place). IsInside (record { west = first.at.stop.x; east = first.at.stop.x; south = first.at.stop.y; north = first.at.stop.y; longest = pos 0; tips = t; load = o }) e.at.stop) (is_first d ∙ ap (λ n. get_or places n d) one)
+      subst (λ (e : Row). IsInside (record { west = first.at.stop.x; east = first.at.stop.x; south = first.at.stop.y; north = first.at.stop.y; longest = pos 0; tips = t; load = o }) e.at.stop) (is_first d ∙ ap (λ n. get_or places n d) one)
       (record { west = omega (arith, ints); east = omega (arith, ints); south = omega (arith, ints); north = omega (arith, ints) }));
   longest = λ k d h l. absurd (omega arith);
   small = record { longest = omega (arith, ints); tips = tips; load = load };

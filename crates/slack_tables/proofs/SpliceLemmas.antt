@@ -10,11 +10,11 @@ use Rattle.plan_types.specs.declared.requests.Kind.{Kind}
 use Rattle.plan_types.specs.declared.requests.Kind.TheVariants.{LiLim, Vrp}
 use Rattle.nint_dist.specs.Distance.{distance}
 use Rattle.slack_tables.specs.Along.{start_along, moved_along, load_along, length_along, GoesOnAlong}
-use Rattle.slack_tables.specs.Driven.{driven_on, is_in_time, keeps, stepped, walked, bears, joined}
+use Rattle.slack_tables.specs.Driven.{driven_on, is_in_time, keeps, stepped, walked, bears, with_tail}
 use Rattle.slack_tables.specs.Places.{IsAt, IsKnown}
 use Rattle.slack_tables.specs.declared.progress.Limits.{Limits}
 use Rattle.slack_tables.specs.declared.progress.Progress.{Progress}
-use Rattle.slack_tables.specs.declared.progress.Place.{Place}
+use Rattle.slack_tables.specs.declared.progress.Row.{Row}
 use Rattle.slack_tables.proofs.AlongLemmas.{start-next, load-next, length-next, spliced-start, spliced-load, spliced-length}
 
 -- ---- tests
@@ -205,7 +205,7 @@ module _ (limits : Limits) (a b : ℕ → Stop) (n s rest : ℕ) (same : (k : �
       let le' : moved_along a n (start_along b s) (n + (k - n)) ≤ (a (n + (k - n))).latest = rw (← spliced-start a b n s same (k - n), ← same (k - n)) le in
       subst (λ i. moved_along a n (start_along b s) i ≤ (a i).latest) (sym far) le'
 
-  module _ (tail : Place) (known : IsKnown limits.kind a (n + rest) n tail) (late : (a n).latest ≤ 100000000) where
+  module _ (tail : Row) (known : IsKnown limits.kind a (n + rest) n tail) (late : (a n).latest ≤ 100000000) where
     -- the load there and the time there, by what the table knows of the place
     bears-true : (at : Progress) → IsAt b s at → Keeps limits b s → bears limits at tail ≡ true → EachKeeps limits b s (s + rest)
     unfolding EachKeeps
@@ -263,7 +263,7 @@ module _ (limits : Limits) (a b : ℕ → Stop) (n s rest : ℕ) (same : (k : �
         omega (arith, ints)
 
     -- the place itself, and all behind it
-    pub join-is : (m : ℕ) (at : Progress) → m + 1 ≡ s → IsAt b m at → EndIs limits b m (s + rest) (length_along a (n + rest)) (joined limits at tail)
+    pub join-is : (m : ℕ) (at : Progress) → m + 1 ≡ s → IsAt b m at → EndIs limits b m (s + rest) (length_along a (n + rest)) (with_tail limits at tail)
     unfolding EndIs EachKeeps StepIs
     join-is m at next is = by (stepped limits at tail.at.stop) (step-is limits b m at tail.at.stop is here)
       where

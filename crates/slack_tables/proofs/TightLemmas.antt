@@ -11,14 +11,14 @@ use Rattle.slack_tables.specs.Along.{stay, stop_on, start_along, GoesOnAlong}
 use Rattle.slack_tables.specs.Best.{IsFirstOf}
 use Rattle.slack_tables.specs.Closed.{due_of, is_due_before, comes_late, AreTight, IsClosed, AreClosed}
 use Rattle.slack_tables.specs.Course.{Course}
-use Rattle.slack_tables.specs.Driven.{is_in_time, bears, stepped, joined, with_pair}
+use Rattle.slack_tables.specs.Driven.{is_in_time, bears, stepped, with_tail, with_pair}
 use Rattle.slack_tables.specs.Inside.{AreKnown}
 use Rattle.slack_tables.specs.Legs.{AreRising}
 use Rattle.slack_tables.specs.Scan.{AddsPair}
 use Rattle.slack_tables.specs.Walk.{walk_to}
 use Rattle.slack_tables.specs.declared.progress.Limits.{Limits}
 use Rattle.slack_tables.specs.declared.progress.Progress.{Progress}
-use Rattle.slack_tables.specs.declared.progress.Place.{Place}
+use Rattle.slack_tables.specs.declared.progress.Row.{Row}
 use Rattle.slack_tables.specs.declared.scan.Addition.{Addition}
 use Rattle.slack_tables.proofs.AlongLemmas.{start-next}
 use Rattle.slack_tables.proofs.BestLemmas.{first-same}
@@ -29,7 +29,7 @@ use Rattle.slack_tables.proofs.ScanLemmas.{never-sum}
 use Rattle.slack_tables.proofs.WalkLemmas.{walk-first, walk-more, distance-back}
 
 -- the places of a table are tight
-pub tight : (c : Course) (places : List Place) → AreKnown c places → AreTight c.kind places
+pub tight : (c : Course) (places : List Row) → AreKnown c places → AreTight c.kind places
 unfolding IsBound
 tight c places table = λ lilim k d h.
     let long = table.long in
@@ -49,7 +49,7 @@ tight c places table = λ lilim k d h.
     let way : distance (get_or places k d).at.stop (get_or places (k + 1) d).at.stop ≡ distance (stop_on c k) (stop_on c (k + 1)) = rw (here.at.stop, next.at.stop) refl in
     omega arith
 
-module _ (limits : Limits) (places : List Place) (d : Place) (lilim : limits.kind ≡ LiLim) (are : AreTight limits.kind places) (law : DetoursSaveAtMostOne) where
+module _ (limits : Limits) (places : List Row) (d : Row) (lilim : limits.kind ≡ LiLim) (are : AreTight limits.kind places) (law : DetoursSaveAtMostOne) where
   -- too late for place k by more than 1
   abbrev pub IsLateFor : Progress → ℕ → Type 0
   IsLateFor a k = due_of (get_or places k d) + 1 < a.start + a.stop.service + distance a.stop (get_or places k d).at.stop
@@ -65,10 +65,10 @@ module _ (limits : Limits) (places : List Place) (d : Place) (lilim : limits.kin
       let way : distance b.stop (get_or places (k + 1) d).at.stop ≡ distance (get_or places k d).at.stop (get_or places (k + 1) d).at.stop = ap (λ s. distance s (get_or places (k + 1) d).at.stop) stop in
       omega arith
 
-  late-between : (a b : Progress) (k : ℕ) (q : Stop) → IsLateFor a k → stepped limits a q ≡ Some b → joined limits b (get_or places k d) ≡ None
+  late-between : (a b : Progress) (k : ℕ) (q : Stop) → IsLateFor a k → stepped limits a q ≡ Some b → with_tail limits b (get_or places k d) ≡ None
   late-between a b k q late is = by (stepped limits b (get_or places k d).at.stop) refl
     where
-      tail : Place
+      tail : Row
       tail = get_or places k d
 
       over : (c : Progress) → stepped limits b tail.at.stop ≡ Some c → tail.latest_start < c.start
@@ -125,18 +125,18 @@ module _ (limits : Limits) (places : List Place) (d : Place) (lilim : limits.kin
         here : i + (j - (i + 1)) ≡ j - 1
         here = omega arith
 
-        after : (a : Progress) → IsLateFor a (j - 1) → (o : Option Progress) → stepped limits a q ≡ o → option_and_then (λ at. joined limits at (get_or places (j - 1) d)) o ≡ None
+        after : (a : Progress) → IsLateFor a (j - 1) → (o : Option Progress) → stepped limits a q ≡ o → option_and_then (λ at. with_tail limits at (get_or places (j - 1) d)) o ≡ None
         after a late None never = refl
         after a late (Some b) is = late-between a b (j - 1) q late is
 
-        by : (o : Option Progress) → walk_to limits places p i d j ≡ o → option_and_then (λ at. joined limits at (get_or places (j - 1) d)) (option_and_then (λ at. stepped limits at q) o) ≡ None
+        by : (o : Option Progress) → walk_to limits places p i d j ≡ o → option_and_then (λ at. with_tail limits at (get_or places (j - 1) d)) (option_and_then (λ at. stepped limits at q) o) ≡ None
         by None never = refl
         by (Some a) there = after a (subst (IsLateFor a) here (walk-late (j - (i + 1)) a (omega arith) (ap (walk_to limits places p i d) far ∙ there))) (stepped limits a q) refl
 
 -- ---- what the code asks
-module _ (limits : Limits) (places : List Place) (p : Stop) (i : ℕ) (are : AreTight limits.kind places) (law : DetoursSaveAtMostOne) where
+module _ (limits : Limits) (places : List Row) (p : Stop) (i : ℕ) (are : AreTight limits.kind places) (law : DetoursSaveAtMostOne) where
   -- a place that has to be started before the pickup's window opens
-  pub closed-due : (e : Place) → ((d : Place) → e ≡ get_or places i d) → is_due_before limits.kind e p.earliest ≡ true → IsClosed limits places p i
+  pub closed-due : (e : Row) → ((d : Row) → e ≡ get_or places i d) → is_due_before limits.kind e p.earliest ≡ true → IsClosed limits places p i
   closed-due e is early = by limits.kind refl
     where
       by : (k : Kind) → limits.kind ≡ k → IsClosed limits places p i
@@ -149,21 +149,21 @@ module _ (limits : Limits) (places : List Place) (p : Stop) (i : ℕ) (are : Are
       by Vrp vrp = absurd (let no : false ≡ true = subst (λ k. is_due_before k e p.earliest ≡ true) vrp early in cc)
 
   -- a pickup that is late by ways from below, or makes the place behind it late
-  pub closed-late : limits.kind ≡ LiLim → (before next : Place) (to from : ℕ) → ((d : Place) → before ≡ get_or places (i - 1) d) → ((d : Place) → next ≡ get_or places i d) → ((d : Place) → to ≤ distance (get_or places (i - 1) d).at.stop p) → ((d : Place) → from ≤ distance (get_or places i d).at.stop p) → comes_late before next p to from ≡ true → IsClosed limits places p i
+  pub closed-late : limits.kind ≡ LiLim → (before next : Row) (to from : ℕ) → ((d : Row) → before ≡ get_or places (i - 1) d) → ((d : Row) → next ≡ get_or places i d) → ((d : Row) → to ≤ distance (get_or places (i - 1) d).at.stop p) → ((d : Row) → from ≤ distance (get_or places i d).at.stop p) → comes_late before next p to from ≡ true → IsClosed limits places p i
   closed-late lilim before next to from is_before is_next is_to is_from late = λ q j d. closed-by limits places d lilim are law p i (first d) q j
     where
       start : ℕ
       start = max (before.at.start + before.at.stop.service + to) p.earliest
 
-      first : (d : Place) (a : Progress) → stepped limits (get_or places (i - 1) d).at p ≡ Some a → due_of (get_or places i d) + 1 < a.start + a.stop.service + distance a.stop (get_or places i d).at.stop
+      first : (d : Row) (a : Progress) → stepped limits (get_or places (i - 1) d).at p ≡ Some a → due_of (get_or places i d) + 1 < a.start + a.stop.service + distance a.stop (get_or places i d).at.stop
       first d a step = by (nat_lt p.latest start) (nat_lt (due_of next + 1) (start + p.service + from)) refl refl late
         where
           there : start ≤ a.start
           there =
               let window = (step-start limits (get_or places (i - 1) d).at a p step).0 in
               let arrival = (step-after limits (get_or places (i - 1) d).at a p lilim step).1 in
-              let left : before.at.start ≡ (get_or places (i - 1) d).at.start = ap (λ (e : Place). e.at.start) (is_before d) in
-              let stay : before.at.stop.service ≡ (get_or places (i - 1) d).at.stop.service = ap (λ (e : Place). e.at.stop.service) (is_before d) in
+              let left : before.at.start ≡ (get_or places (i - 1) d).at.start = ap (λ (e : Row). e.at.start) (is_before d) in
+              let stay : before.at.stop.service ≡ (get_or places (i - 1) d).at.stop.service = ap (λ (e : Row). e.at.stop.service) (is_before d) in
               let way = is_to d in
               omega arith
 
@@ -185,17 +185,17 @@ module _ (limits : Limits) (places : List Place) (p : Stop) (i : ℕ) (are : Are
           by false false _ _ neither = absurd (cc)
 
 -- ---- one place after another
-pub closed-begin : (limits : Limits) (places : List Place) (p : Stop) (m : ℕ) → AreClosed limits places p m (m + 1)
+pub closed-begin : (limits : Limits) (places : List Row) (p : Stop) (m : ℕ) → AreClosed limits places p m (m + 1)
 closed-begin limits places p m = λ i behind before. absurd (omega arith)
 
-pub closed-more : (limits : Limits) (places : List Place) (p : Stop) (m n : ℕ) → AreClosed limits places p m n → IsClosed limits places p n → AreClosed limits places p m (n + 1)
+pub closed-more : (limits : Limits) (places : List Row) (p : Stop) (m n : ℕ) → AreClosed limits places p m n → IsClosed limits places p n → AreClosed limits places p m (n + 1)
 closed-more limits places p m n are is = λ i behind before. by i behind before (cases_lt i n)
   where
     by : (i : ℕ) → m < i → i < n + 1 → (i < n) ⊎ (n ≤ i) → IsClosed limits places p i
     by i behind before (inl less) = are i behind less
     by i behind before (inr last) = let same : n ≡ i = omega arith in subst (IsClosed limits places p) same is
 
-pub closed-join : (limits : Limits) (places : List Place) (p : Stop) (m n o : ℕ) → AreClosed limits places p m n → AreClosed limits places p (n - 1) o → AreClosed limits places p m o
+pub closed-join : (limits : Limits) (places : List Row) (p : Stop) (m n o : ℕ) → AreClosed limits places p m n → AreClosed limits places p (n - 1) o → AreClosed limits places p m o
 closed-join limits places p m n o are rest = λ i behind before. by i behind before (cases_lt i n)
   where
     by : (i : ℕ) → m < i → i < o → (i < n) ⊎ (n ≤ i) → IsClosed limits places p i
@@ -203,16 +203,16 @@ closed-join limits places p m n o are rest = λ i behind before. by i behind bef
     by i behind before (inr more) = rest i (omega arith) before
 
 -- behind a place that is started after the pickup's latest time
-pub closed-past : (limits : Limits) (places : List Place) (p : Stop) (i : ℕ) (e : Place) → AreRising places → 1 ≤ i → ((d : Place) → e ≡ get_or places (i - 1) d) → is_in_time limits.kind e.at.start p.latest ≡ false → AreClosed limits places p (i - 1) (length places)
-closed-past limits places p i e rising one is late = λ k behind before q j d _ _. late-pickup limits places p q d rising i k j one (omega arith) (omega arith) (subst (λ (e : Place). is_in_time limits.kind e.at.start p.latest ≡ false) (is d) late)
+pub closed-past : (limits : Limits) (places : List Row) (p : Stop) (i : ℕ) (e : Row) → AreRising places → 1 ≤ i → ((d : Row) → e ≡ get_or places (i - 1) d) → is_in_time limits.kind e.at.start p.latest ≡ false → AreClosed limits places p (i - 1) (length places)
+closed-past limits places p i e rising one is late = λ k behind before q j d _ _. late-pickup limits places p q d rising i k j one (omega arith) (omega arith) (subst (λ (e : Row). is_in_time limits.kind e.at.start p.latest ≡ false) (is d) late)
 
 -- ---- what is closed adds nothing
-pub open-only : (limits : Limits) (places : List Place) (p q : Stop) (kept first : ℕ) (below : ℤ) (d : Place) (o : Option Addition) → kept < first → AreClosed limits places p kept first → IsFirstOf (AddsPair limits places p q (first - 1) below d) o → IsFirstOf (AddsPair limits places p q kept below d) o
+pub open-only : (limits : Limits) (places : List Row) (p q : Stop) (kept first : ℕ) (below : ℤ) (d : Row) (o : Option Addition) → kept < first → AreClosed limits places p kept first → IsFirstOf (AddsPair limits places p q (first - 1) below d) o → IsFirstOf (AddsPair limits places p q kept below d) o
 open-only limits places p q kept first below d o later closed is = first-same _ _ (λ a adds. (record { behind = let behind = adds.0.behind in omega arith; order = adds.0.order; within = adds.0.within; added = adds.0.added }, adds.1)) (λ a adds. (record { behind = by a adds (cases_lt a.pickup first); order = adds.0.order; within = adds.0.within; added = adds.0.added }, adds.1)) o is
   where
     by : (a : Addition) → AddsPair limits places p q kept below d a → (a.pickup < first) ⊎ (first ≤ a.pickup) → first - 1 < a.pickup
     by a adds (inl before) = absurd (never-sum _ a.distance (closed a.pickup adds.0.behind before q a.delivery d adds.0.order adds.0.within) adds.0.added)
     by a adds (inr behind) = omega arith
 
-pub none-open : (limits : Limits) (places : List Place) (p q : Stop) (kept : ℕ) (below : ℤ) (d : Place) → AreClosed limits places p kept (length places) → IsFirstOf (AddsPair limits places p q kept below d) None
+pub none-open : (limits : Limits) (places : List Row) (p q : Stop) (kept : ℕ) (below : ℤ) (d : Row) → AreClosed limits places p kept (length places) → IsFirstOf (AddsPair limits places p q kept below d) None
 none-open limits places p q kept below d closed = λ a adds. never-sum _ a.distance (closed a.pickup adds.0.behind (let order = adds.0.order in let within = adds.0.within in omega arith) q a.delivery d adds.0.order adds.0.within) adds.0.added

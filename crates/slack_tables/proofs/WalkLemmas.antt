@@ -7,14 +7,14 @@ use Rattle.std.proofs.lemmas.Int.{ints}
 use Rattle.std.proofs.lemmas.List.{take_more, map-append, get_or-drop, length-drop}
 use Rattle.plan_types.specs.declared.requests.Stop.{Stop}
 use Rattle.nint_dist.specs.Distance.{distance}
-use Rattle.slack_tables.specs.Driven.{bears, stepped, walked, joined, with_between, with_pair, IsSmallPlace}
+use Rattle.slack_tables.specs.Driven.{bears, stepped, walked, with_tail, with_between, with_pair, IsSmallRow}
 use Rattle.slack_tables.specs.Ride.{ride_at, ride_of, driven, is_kept, is_borne, ridden, is_served, price, served, served_below, IsSmallRide, IsNearRide}
 use Rattle.slack_tables.specs.Legs.{AreLinked}
 use Rattle.slack_tables.specs.Scan.{offered, IsNearUnderway, picked_up, gone_on}
 use Rattle.slack_tables.specs.Walk.{walk_to, IsUnderway, IsNearWay}
 use Rattle.slack_tables.specs.declared.progress.Limits.{Limits}
 use Rattle.slack_tables.specs.declared.progress.Progress.{Progress}
-use Rattle.slack_tables.specs.declared.progress.Place.{Place}
+use Rattle.slack_tables.specs.declared.progress.Row.{Row}
 use Rattle.slack_tables.specs.declared.ride.Ride.{Ride}
 use Rattle.slack_tables.specs.declared.scan.Best.{Best}
 use Rattle.slack_tables.specs.declared.scan.Trip.{Trip}
@@ -36,7 +36,7 @@ stepped-is limits r a s = by (is_kept limits (driven r a.service (distance a s) 
     by true = refl
     by false = refl
 
-pub served-is : (limits : Limits) (r : Ride) (a s : Stop) (tail : Place) → option_and_then (λ at. joined limits at tail) (stepped limits (ride_at r a) s) ≡ served limits r a.service (distance a s) s (distance s tail.at.stop) tail
+pub served-is : (limits : Limits) (r : Ride) (a s : Stop) (tail : Row) → option_and_then (λ at. with_tail limits at tail) (stepped limits (ride_at r a) s) ≡ served limits r a.service (distance a s) s (distance s tail.at.stop) tail
 served-is limits r a s tail = by (is_kept limits first s)
   where
     first : Ride
@@ -49,7 +49,7 @@ served-is limits r a s tail = by (is_kept limits first s)
     after true = refl
     after false = refl
 
-    by : (k : Bool) → option_and_then (λ at. joined limits at tail) (cond k (Some (ride_at first s)) None) ≡ cond (k && (is_kept limits second tail.at.stop && is_borne limits second tail)) (Some (price r (distance a s) (distance s tail.at.stop) tail)) None
+    by : (k : Bool) → option_and_then (λ at. with_tail limits at tail) (cond k (Some (ride_at first s)) None) ≡ cond (k && (is_kept limits second tail.at.stop && is_borne limits second tail)) (Some (price r (distance a s) (distance s tail.at.stop) tail)) None
     by true = after (is_kept limits second tail.at.stop)
     by false = refl
 
@@ -75,7 +75,7 @@ walked-push limits at (t ∷ ss) s = by (stepped limits at t) (λ b. walked-push
     by None each = refl
     by (Some b) each = each b
 
-module _ (limits : Limits) (places : List Place) (p : Stop) (i : ℕ) (d : Place) where
+module _ (limits : Limits) (places : List Row) (p : Stop) (i : ℕ) (d : Row) where
   pub walk-first : walk_to limits places p i d (i + 1) ≡ stepped limits (get_or places (i - 1) d).at p
   unfolding walk_to
   walk-first =
@@ -86,14 +86,14 @@ module _ (limits : Limits) (places : List Place) (p : Stop) (i : ℕ) (d : Place
       by None = refl
       by (Some a) = refl
 
-  stops-more : (j : ℕ) → i < j → j ≤ length places → map (λ (e : Place). e.at.stop) (slice_range places i (j + 1 - 1)) ≡ map (λ (e : Place). e.at.stop) (slice_range places i (j - 1)) ++ (get_or places (j - 1) d).at.stop ∷ []
+  stops-more : (j : ℕ) → i < j → j ≤ length places → map (λ (e : Row). e.at.stop) (slice_range places i (j + 1 - 1)) ≡ map (λ (e : Row). e.at.stop) (slice_range places i (j - 1)) ++ (get_or places (j - 1) d).at.stop ∷ []
   stops-more j order within =
       let one : j + 1 - 1 - i ≡ (j - 1 - i) + 1 = omega arith in
       let far : i + (j - 1 - i) ≡ j - 1 = omega arith in
       let more : take ((j - 1 - i) + 1) (drop i places) ≡ take (j - 1 - i) (drop i places) ++ get_or (drop i places) (j - 1 - i) d ∷ [] = take_more (drop i places) (j - 1 - i) d (omega (arith, length-drop i places)) in
       let last : get_or (drop i places) (j - 1 - i) d ≡ get_or places (j - 1) d = get_or-drop i places (j - 1 - i) d ∙ ap (λ k. get_or places k d) far in
       let split : slice_range places i (j + 1 - 1) ≡ slice_range places i (j - 1) ++ get_or places (j - 1) d ∷ [] = ap (λ n. take n (drop i places)) one ∙ (more ∙ ap (λ e. take (j - 1 - i) (drop i places) ++ e ∷ []) last) in
-      ap (λ xs. map (λ (e : Place). e.at.stop) xs) split ∙ map-append (λ (e : Place). e.at.stop) (slice_range places i (j - 1)) (get_or places (j - 1) d ∷ [])
+      ap (λ xs. map (λ (e : Row). e.at.stop) xs) split ∙ map-append (λ (e : Row). e.at.stop) (slice_range places i (j - 1)) (get_or places (j - 1) d ∷ [])
 
   pub walk-more : (j : ℕ) → i < j → j ≤ length places → walk_to limits places p i d (j + 1) ≡ option_and_then (λ at. stepped limits at (get_or places (j - 1) d).at.stop) (walk_to limits places p i d j)
   unfolding walk_to
@@ -101,7 +101,7 @@ module _ (limits : Limits) (places : List Place) (p : Stop) (i : ℕ) (d : Place
     where
       by : (o : Option Progress) → option_and_then (λ at. walked limits at (map (λ e. e.at.stop) (slice_range places i (j + 1 - 1)))) o ≡ option_and_then (λ at. stepped limits at (get_or places (j - 1) d).at.stop) (option_and_then (λ at. walked limits at (map (λ e. e.at.stop) (slice_range places i (j - 1)))) o)
       by None = refl
-      by (Some at) = ap (λ ss. walked limits at ss) (stops-more j order within) ∙ walked-push limits at (map (λ (e : Place). e.at.stop) (slice_range places i (j - 1))) (get_or places (j - 1) d).at.stop
+      by (Some at) = ap (λ ss. walked limits at ss) (stops-more j order within) ∙ walked-push limits at (map (λ (e : Row). e.at.stop) (slice_range places i (j - 1))) (get_or places (j - 1) d).at.stop
 
   -- where the vehicle can't go on, it doesn't come further
   walk-over : (j n : ℕ) → i < j → j + n ≤ length places + 1 → walk_to limits places p i d j ≡ None → walk_to limits places p i d (j + n) ≡ None
@@ -118,34 +118,34 @@ module _ (limits : Limits) (places : List Place) (p : Stop) (i : ℕ) (d : Place
     pair-over j k order behind within never =
         let far : j + (k - j) ≡ k = omega arith in
         let there : walk_to limits places p i d k ≡ None = subst (λ m. walk_to limits places p i d m ≡ None) far (walk-over j (k - j) order (omega arith) never) in
-        ap (λ o. option_and_then (λ at. joined limits at (get_or places (k - 1) d)) (option_and_then (λ at. stepped limits at q) o)) there
+        ap (λ o. option_and_then (λ at. with_tail limits at (get_or places (k - 1) d)) (option_and_then (λ at. stepped limits at q) o)) there
 
     pub pair-served : (j : ℕ) (r : Ride) (a : Stop) → walk_to limits places p i d j ≡ Some (ride_at r a) → with_pair limits places p q i j d ≡ served limits r a.service (distance a q) q (distance q (get_or places (j - 1) d).at.stop) (get_or places (j - 1) d)
     unfolding walk_to
     pair-served j r a here =
-        ap (λ o. option_and_then (λ at. joined limits at (get_or places (j - 1) d)) (option_and_then (λ at. stepped limits at q) o)) here ∙ served-is limits r a q (get_or places (j - 1) d)
+        ap (λ o. option_and_then (λ at. with_tail limits at (get_or places (j - 1) d)) (option_and_then (λ at. stepped limits at q) o)) here ∙ served-is limits r a q (get_or places (j - 1) d)
 
 -- ---- the ways of the table
-pub linked-rises : (places : List Place) → AreLinked places → (j : ℕ) (d : Place) → 1 ≤ j → j < length places → (get_or places (j - 1) d).at.distance ≤ (get_or places j d).at.distance
+pub linked-rises : (places : List Row) → AreLinked places → (j : ℕ) (d : Row) → 1 ≤ j → j < length places → (get_or places (j - 1) d).at.distance ≤ (get_or places j d).at.distance
 linked-rises places linked j d one within =
     let next : j - 1 + 1 ≡ j = omega arith in
     let link = subst (λ k. (get_or places k d).at.distance ≡ (get_or places (j - 1) d).at.distance + distance (get_or places (j - 1) d).at.stop (get_or places k d).at.stop) next (linked (j - 1) d (omega arith)) in
     omega arith
 
-pub linked-edge : (places : List Place) → AreLinked places → (j : ℕ) (d : Place) → 1 ≤ j → j < length places → (get_or places j d).at.distance - (get_or places (j - 1) d).at.distance ≡ distance (get_or places (j - 1) d).at.stop (get_or places j d).at.stop
+pub linked-edge : (places : List Row) → AreLinked places → (j : ℕ) (d : Row) → 1 ≤ j → j < length places → (get_or places j d).at.distance - (get_or places (j - 1) d).at.distance ≡ distance (get_or places (j - 1) d).at.stop (get_or places j d).at.stop
 linked-edge places linked j d one within =
     let next : j - 1 + 1 ≡ j = omega arith in
     let link = subst (λ k. (get_or places k d).at.distance ≡ (get_or places (j - 1) d).at.distance + distance (get_or places (j - 1) d).at.stop (get_or places k d).at.stop) next (linked (j - 1) d (omega arith)) in
     omega arith
 
 -- ---- the loop over the delivery's places
-pub small-place : (places : List Place) (k : ℕ) (e : Place) → All IsSmallPlace places → k < length places → ((d : Place) → e ≡ get_or places k d) → IsSmallPlace e
-small-place places k e small h is = subst IsSmallPlace (sym (is e)) (small k e h)
+pub small-place : (places : List Row) (k : ℕ) (e : Row) → All IsSmallRow places → k < length places → ((d : Row) → e ≡ get_or places k d) → IsSmallRow e
+small-place places k e small h is = subst IsSmallRow (sym (is e)) (small k e h)
 
-module _ (limits : Limits) (places : List Place) (p q : Stop) (i : ℕ) (d : Place) where
-  module _ (t : Trip) (before : Place) (to onward : ℕ) (is_limits : t.limits ≡ limits) (is_p : t.pickup ≡ p) (is_before : before ≡ get_or places (i - 1) d) (is_to : to ≡ distance before.at.stop p) where
+module _ (limits : Limits) (places : List Row) (p q : Stop) (i : ℕ) (d : Row) where
+  module _ (t : Trip) (before : Row) (to onward : ℕ) (is_limits : t.limits ≡ limits) (is_p : t.pickup ≡ p) (is_before : before ≡ get_or places (i - 1) d) (is_to : to ≡ distance before.at.stop p) where
     first : walk_to limits places p i d (i + 1) ≡ option_map (λ r. ride_at r p) (ridden t.limits (ride_of before.at) before.at.stop.service to t.pickup)
-    first = walk-first limits places p i d ∙ (ap (λ (e : Place). stepped limits e.at p) (sym is_before) ∙ (stepped-is limits (ride_of before.at) before.at.stop p ∙ rw (is_to, is_limits, is_p) refl))
+    first = walk-first limits places p i d ∙ (ap (λ (e : Row). stepped limits e.at p) (sym is_before) ∙ (stepped-is limits (ride_of before.at) before.at.stop p ∙ rw (is_to, is_limits, is_p) refl))
 
     pub underway-begin : (on : Underway) → t.delivery ≡ q → t.across ≡ distance t.pickup t.delivery → onward ≡ distance (get_or places i d).at.stop p → Some on ≡ picked_up t before.at to onward → IsUnderway limits places p q i (i + 1) d on
     underway-begin on is_q is_across is_onward made = by (ridden t.limits (ride_of before.at) before.at.stop.service to t.pickup) refl made
@@ -239,16 +239,16 @@ module _ (limits : Limits) (places : List Place) (p q : Stop) (i : ℕ) (d : Pla
         by true _ None ride made = pair-over limits places p i d q (j + 1) k (omega arith) (omega arith) last (walk-next is ∙ ap (λ o. option_map (λ r. ride_at r (get_or places (j - 1) d).at.stop) o) ride)
 
     -- what the loop offers is what the delivery at place j adds
-    pub offered-here : IsUnderway limits places p q i j d on → (best next : Best) (tail : Place) (from : ℕ) → tail ≡ get_or places (j - 1) d → from ≡ distance tail.at.stop q → next ≡ offered best (served_below best.bound limits on.ride on.service on.to_delivery q from tail) i j → next ≡ offered best (with_pair limits places p q i j d) i j
+    pub offered-here : IsUnderway limits places p q i j d on → (best next : Best) (tail : Row) (from : ℕ) → tail ≡ get_or places (j - 1) d → from ≡ distance tail.at.stop q → next ≡ offered best (served_below best.bound limits on.ride on.service on.to_delivery q from tail) i j → next ≡ offered best (with_pair limits places p q i j d) i j
     offered-here is best next tail from is_tail is_from made =
         let cheap = offer-below best (is_served limits on.ride on.service on.to_delivery q from tail) (price on.ride on.to_delivery from tail) i j in
         let back : from ≡ distance q tail.at.stop = is_from ∙ distance-back tail.at.stop q in
         let ways : served limits on.ride on.service on.to_delivery q from tail ≡ served limits on.ride is.stop.service (distance is.stop q) q (distance q tail.at.stop) tail = rw (is.service, is.to_delivery, back) refl in
-        let there : served limits on.ride is.stop.service (distance is.stop q) q (distance q tail.at.stop) tail ≡ served limits on.ride is.stop.service (distance is.stop q) q (distance q (get_or places (j - 1) d).at.stop) (get_or places (j - 1) d) = ap (λ (e : Place). served limits on.ride is.stop.service (distance is.stop q) q (distance q e.at.stop) e) is_tail in
+        let there : served limits on.ride is.stop.service (distance is.stop q) q (distance q tail.at.stop) tail ≡ served limits on.ride is.stop.service (distance is.stop q) q (distance q (get_or places (j - 1) d).at.stop) (get_or places (j - 1) d) = ap (λ (e : Row). served limits on.ride is.stop.service (distance is.stop q) q (distance q e.at.stop) e) is_tail in
         made ∙ (cheap ∙ ap (λ o. offered best o i j) (ways ∙ (there ∙ sym (pair-served limits places p i d q j on.ride is.stop is.walk))))
 
 -- how far it is from where sums would wrap
-pub near-small : (places : List Place) (j : ℕ) (d : Place) (on : Underway) → All IsSmallPlace places → length places ≤ 40003 → 1 ≤ j → j ≤ length places → IsNearWay places j d on → IsSmallRide (2 ^ 56) on.ride × (on.onward ≤ 2 ^ 56)
+pub near-small : (places : List Row) (j : ℕ) (d : Row) (on : Underway) → All IsSmallRow places → length places ≤ 40003 → 1 ≤ j → j ≤ length places → IsNearWay places j d on → IsSmallRide (2 ^ 56) on.ride × (on.onward ≤ 2 ^ 56)
 near-small places j d on small few one within near =
     let place = (small (j - 1) d (omega arith)).at.distance in
     let start = near.start in
@@ -261,14 +261,14 @@ some-is : (o : Option Progress) → option_and_then (λ at. Some at) o ≡ o
 some-is None = refl
 some-is (Some a) = refl
 
-pub single-served : (limits : Limits) (places : List Place) (s : Stop) (i : ℕ) (d : Place) → with_between limits places (i - 1) (s ∷ []) i d ≡ served limits (ride_of (get_or places (i - 1) d).at) (get_or places (i - 1) d).at.stop.service (distance (get_or places (i - 1) d).at.stop s) s (distance s (get_or places i d).at.stop) (get_or places i d)
+pub single-served : (limits : Limits) (places : List Row) (s : Stop) (i : ℕ) (d : Row) → with_between limits places (i - 1) (s ∷ []) i d ≡ served limits (ride_of (get_or places (i - 1) d).at) (get_or places (i - 1) d).at.stop.service (distance (get_or places (i - 1) d).at.stop s) s (distance s (get_or places i d).at.stop) (get_or places i d)
 single-served limits places s i d =
-    ap (λ o. option_and_then (λ at. joined limits at (get_or places i d)) o) (some-is (stepped limits (get_or places (i - 1) d).at s)) ∙ served-is limits (ride_of (get_or places (i - 1) d).at) (get_or places (i - 1) d).at.stop s (get_or places i d)
+    ap (λ o. option_and_then (λ at. with_tail limits at (get_or places i d)) o) (some-is (stepped limits (get_or places (i - 1) d).at s)) ∙ served-is limits (ride_of (get_or places (i - 1) d).at) (get_or places (i - 1) d).at.stop s (get_or places i d)
 
-pub offered-single : (limits : Limits) (places : List Place) (s : Stop) (i : ℕ) (d : Place) (best next : Best) (before tail : Place) (to from : ℕ) → before ≡ get_or places (i - 1) d → tail ≡ get_or places i d → to ≡ distance (get_or places (i - 1) d).at.stop s → from ≡ distance tail.at.stop s → next ≡ offered best (served_below best.bound limits (ride_of before.at) before.at.stop.service to s from tail) i i → next ≡ offered best (with_between limits places (i - 1) (s ∷ []) i d) i i
+pub offered-single : (limits : Limits) (places : List Row) (s : Stop) (i : ℕ) (d : Row) (best next : Best) (before tail : Row) (to from : ℕ) → before ≡ get_or places (i - 1) d → tail ≡ get_or places i d → to ≡ distance (get_or places (i - 1) d).at.stop s → from ≡ distance tail.at.stop s → next ≡ offered best (served_below best.bound limits (ride_of before.at) before.at.stop.service to s from tail) i i → next ≡ offered best (with_between limits places (i - 1) (s ∷ []) i d) i i
 offered-single limits places s i d best next before tail to from is_before is_tail is_to is_from made =
     let cheap = offer-below best (is_served limits (ride_of before.at) before.at.stop.service to s from tail) (price (ride_of before.at) to from tail) i i in
-    let back : from ≡ distance s (get_or places i d).at.stop = is_from ∙ (distance-back tail.at.stop s ∙ ap (λ (e : Place). distance s e.at.stop) is_tail) in
+    let back : from ≡ distance s (get_or places i d).at.stop = is_from ∙ (distance-back tail.at.stop s ∙ ap (λ (e : Row). distance s e.at.stop) is_tail) in
     let same : served limits (ride_of before.at) before.at.stop.service to s from tail ≡ served limits (ride_of (get_or places (i - 1) d).at) (get_or places (i - 1) d).at.stop.service (distance (get_or places (i - 1) d).at.stop s) s (distance s (get_or places i d).at.stop) (get_or places i d) =
-    ap (λ (e : Place). served limits (ride_of e.at) e.at.stop.service to s from tail) is_before ∙ (ap (λ n. served limits (ride_of (get_or places (i - 1) d).at) (get_or places (i - 1) d).at.stop.service n s from tail) is_to ∙ (ap (λ n. served limits (ride_of (get_or places (i - 1) d).at) (get_or places (i - 1) d).at.stop.service (distance (get_or places (i - 1) d).at.stop s) s n tail) back ∙ ap (λ (e : Place). served limits (ride_of (get_or places (i - 1) d).at) (get_or places (i - 1) d).at.stop.service (distance (get_or places (i - 1) d).at.stop s) s (distance s (get_or places i d).at.stop) e) is_tail)) in
+    ap (λ (e : Row). served limits (ride_of e.at) e.at.stop.service to s from tail) is_before ∙ (ap (λ n. served limits (ride_of (get_or places (i - 1) d).at) (get_or places (i - 1) d).at.stop.service n s from tail) is_to ∙ (ap (λ n. served limits (ride_of (get_or places (i - 1) d).at) (get_or places (i - 1) d).at.stop.service (distance (get_or places (i - 1) d).at.stop s) s n tail) back ∙ ap (λ (e : Row). served limits (ride_of (get_or places (i - 1) d).at) (get_or places (i - 1) d).at.stop.service (distance (get_or places (i - 1) d).at.stop s) s (distance s (get_or places i d).at.stop) e) is_tail)) in
     made ∙ (cheap ∙ ap (λ o. offered best o i i) (same ∙ sym (single-served limits places s i d)))

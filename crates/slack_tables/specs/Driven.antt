@@ -8,7 +8,7 @@ use Rattle.plan_types.specs.declared.requests.Kind.TheVariants.{LiLim, Vrp}
 use Rattle.nint_dist.specs.Distance.{distance}
 use Rattle.slack_tables.specs.declared.progress.Limits.{Limits}
 use Rattle.slack_tables.specs.declared.progress.Progress.{Progress}
-use Rattle.slack_tables.specs.declared.progress.Place.{Place}
+use Rattle.slack_tables.specs.declared.progress.Row.{Row}
 
 -- after the way to another stop: who arrives early waits
 abbrev pub driven_on : Progress → Stop → Progress
@@ -37,21 +37,21 @@ walked limits from [] = Some from
 walked limits from (s ∷ ss) = option_and_then (λ at. walked limits at ss) (stepped limits from s)
 
 -- what is behind this place of the old route keeps its limits too
-abbrev pub bears : Limits → Progress → Place → Bool
+abbrev pub bears : Limits → Progress → Row → Bool
 bears limits at tail = int_le (at.load -ℤ tail.at.load +ℤ tail.most_load) (pos limits.capacity) && is_in_time limits.kind at.start tail.latest_start
 
 -- the distance added, where a place of the old route and all behind it come next
-abbrev pub joined : Limits → Progress → Place → Option ℤ
-joined limits from tail = option_and_then (λ at. if bears limits at tail then Some (pos at.distance -ℤ pos tail.at.distance) else None) (stepped limits from tail.at.stop)
+abbrev pub with_tail : Limits → Progress → Row → Option ℤ
+with_tail limits from tail = option_and_then (λ at. if bears limits at tail then Some (pos at.distance -ℤ pos tail.at.distance) else None) (stepped limits from tail.at.stop)
 
 -- the distance added, where these stops come behind place m of the old route, and its place n and all behind it then
-abbrev pub with_between : Limits → List Place → ℕ → List Stop → ℕ → Place → Option ℤ
-with_between limits places m ss n d = option_and_then (λ at. joined limits at (slice_index_or places n d)) (walked limits (slice_index_or places m d).at ss)
+abbrev pub with_between : Limits → List Row → ℕ → List Stop → ℕ → Row → Option ℤ
+with_between limits places m ss n d = option_and_then (λ at. with_tail limits at (slice_index_or places n d)) (walked limits (slice_index_or places m d).at ss)
 
 -- a pickup behind place i - 1 of the old route, its stops up to place j - 2, the delivery, and the rest
-abbrev pub with_pair : Limits → List Place → Stop → Stop → ℕ → ℕ → Place → Option ℤ
+abbrev pub with_pair : Limits → List Row → Stop → Stop → ℕ → ℕ → Row → Option ℤ
 with_pair limits places p q i j d =
-    option_and_then (λ at. joined limits at (slice_index_or places (j - 1) d))
+    option_and_then (λ at. with_tail limits at (slice_index_or places (j - 1) d))
     (option_and_then (λ at. stepped limits at q)
     (option_and_then (λ at. walked limits at (map (λ e. e.at.stop) (slice_range places i (j - 1))))
     (stepped limits (slice_index_or places (i - 1) d).at p)))
@@ -70,6 +70,6 @@ pub record IsSmall (bound : ℕ) (a : Progress) : Type 0 where
   pub load : unsigned_abs a.load ≤ bound
   pub distance : a.distance ≤ bound
 
-pub record IsSmallPlace (e : Place) : Type 0 where
+pub record IsSmallRow (e : Row) : Type 0 where
   pub at : IsSmall (2 ^ 50) e.at
   pub most_load : unsigned_abs e.most_load ≤ 2 ^ 50

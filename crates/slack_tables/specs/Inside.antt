@@ -6,17 +6,17 @@ use Rattle.plan_types.specs.declared.requests.Kind.{Kind}
 use Rattle.plan_types.specs.declared.requests.Kind.TheVariants.{LiLim}
 use Rattle.slack_tables.specs.Course.{Course, course_of}
 use Rattle.slack_tables.specs.Along.{stop_on, start_along, load_along}
-use Rattle.slack_tables.specs.Driven.{IsSmallPlace}
+use Rattle.slack_tables.specs.Driven.{IsSmallRow}
 use Rattle.slack_tables.specs.Places.{IsAt, IsKnown}
 use Rattle.slack_tables.specs.Opened.{IsWithin}
 use Rattle.slack_tables.specs.Span.{IsSpan}
 use Rattle.slack_tables.specs.declared.progress.Limits.{Limits}
-use Rattle.slack_tables.specs.declared.progress.Place.{Place}
+use Rattle.slack_tables.specs.declared.progress.Row.{Row}
 use Rattle.slack_tables.specs.declared.progress.Progress.{Progress}
 use Rattle.slack_tables.specs.declared.table.RouteTable.TheInside.{Inside}
 
 -- the stops between the depot's two places
-abbrev pub stops_within : List Place → List Stop
+abbrev pub stops_within : List Row → List Stop
 stops_within places = map (λ e. e.at.stop) (take (length places - 2) (drop 1 places))
 
 -- the limits of a problem
@@ -24,7 +24,7 @@ abbrev pub limits_of : Instance → Limits
 limits_of p = record { kind = p.kind; capacity = p.capacity }
 
 -- what contracts see
-abbrev pub course_from : Limits → Stop → List Place → Course
+abbrev pub course_from : Limits → Stop → List Row → Course
 course_from limits depot places = record { kind = limits.kind; capacity = limits.capacity; depot = depot; stops = stops_within places }
 
 abbrev pub course_within : Inside → Course
@@ -40,18 +40,18 @@ abbrev pub IsDriven : Limits → (ℕ → Stop) → ℕ → Option Progress → 
 IsDriven limits stops n o = MatchOption o (¬ IsInLimits limits.kind limits.capacity stops n) (λ at. IsInLimits limits.kind limits.capacity stops n × IsAt stops n at × IsWithin n at)
 
 -- each place tells what is known of it
-pub record AreKnown (c : Course) (places : List Place) : Type 0 where
+pub record AreKnown (c : Course) (places : List Row) : Type 0 where
   pub long : length places ≡ length c.stops + 2
   pub few : length places ≤ 40003
-  pub small : All IsSmallPlace places
-  pub within : (k : ℕ) (d : Place) → k < length places → IsWithin k (slice_index_or places k d).at
-  pub known : (k : ℕ) (d : Place) → k < length places → IsKnown c.kind (stop_on c) (length c.stops + 1) k (slice_index_or places k d)
+  pub small : All IsSmallRow places
+  pub within : (k : ℕ) (d : Row) → k < length places → IsWithin k (slice_index_or places k d).at
+  pub known : (k : ℕ) (d : Row) → k < length places → IsKnown c.kind (stop_on c) (length c.stops + 1) k (slice_index_or places k d)
   pub limits : IsInLimits c.kind c.capacity (stop_on c) (length c.stops + 1)
 
 abbrev pub IsTable : Inside → Type 0
 IsTable a = AreKnown (course_within a) a.places.items × IsSpan a.span a.places.items
 
 -- what is known of each place of a route
-pub record IsMade (p : Instance) (route : List ℕ) (places : List Place) : Type 0 where
+pub record IsMade (p : Instance) (route : List ℕ) (places : List Row) : Type 0 where
   pub known : AreKnown (course_of p route) places
   pub course : course_from (limits_of p) p.depot places ≡ course_of p route

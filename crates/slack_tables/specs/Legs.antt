@@ -2,21 +2,21 @@
 use Rattle.std.specs.Prelude.{◌≡◌, ℕ, ◌+◌, ◌^◌, ◌<◌, ◌≤◌, ℤ, pos, ◌-ℤ◌, ◌≤ℤ◌, unsigned_abs, List, length, slice_index_or}
 use Rattle.plan_types.specs.declared.requests.Stop.{Stop}
 use Rattle.nint_dist.specs.Distance.{distance}
-use Rattle.slack_tables.specs.declared.progress.Place.{Place}
+use Rattle.slack_tables.specs.declared.progress.Row.{Row}
 
 -- each place tells how far the next one is
-abbrev pub AreLinked : List Place → Type 0
-AreLinked places = (k : ℕ) (d : Place) → k + 1 < length places → (slice_index_or places (k + 1) d).at.distance ≡ (slice_index_or places k d).at.distance + distance (slice_index_or places k d).at.stop (slice_index_or places (k + 1) d).at.stop
+abbrev pub AreLinked : List Row → Type 0
+AreLinked places = (k : ℕ) (d : Row) → k + 1 < length places → (slice_index_or places (k + 1) d).at.distance ≡ (slice_index_or places k d).at.distance + distance (slice_index_or places k d).at.stop (slice_index_or places (k + 1) d).at.stop
 
 -- nobody is at a place before the one ahead of it
-abbrev pub AreRising : List Place → Type 0
-AreRising places = (k : ℕ) (d : Place) → k + 1 < length places → (slice_index_or places k d).at.start ≤ (slice_index_or places (k + 1) d).at.start
+abbrev pub AreRising : List Row → Type 0
+AreRising places = (k : ℕ) (d : Row) → k + 1 < length places → (slice_index_or places k d).at.start ≤ (slice_index_or places (k + 1) d).at.start
 
 -- by how much the way from place m to the next gets longer over the stop
-abbrev pub detour_of : List Place → Stop → ℕ → Place → ℤ
+abbrev pub detour_of : List Row → Stop → ℕ → Row → ℤ
 detour_of places s m d = pos ((slice_index_or places m d).at.distance + distance (slice_index_or places m d).at.stop s + distance (slice_index_or places (m + 1) d).at.stop s) -ℤ pos (slice_index_or places (m + 1) d).at.distance
 
 -- from place `first` on, no detour behind place k is less than its number
-pub record AreLeast (first : ℕ) (least : List ℤ) (places : List Place) (s : Stop) : Type 0 where
-  pub lower : (k m : ℕ) (d : Place) → first ≤ k → k < length least → k ≤ m → m + 1 < length places → slice_index_or least k (pos 0) ≤ℤ detour_of places s m d
+pub record AreLeast (first : ℕ) (least : List ℤ) (places : List Row) (s : Stop) : Type 0 where
+  pub lower : (k m : ℕ) (d : Row) → first ≤ k → k < length least → k ≤ m → m + 1 < length places → slice_index_or least k (pos 0) ≤ℤ detour_of places s m d
   pub small : (k : ℕ) → first ≤ k → k < length least → unsigned_abs (slice_index_or least k (pos 0)) ≤ 2 ^ 60

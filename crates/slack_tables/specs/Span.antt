@@ -2,12 +2,12 @@
 use Rattle.std.specs.Prelude.{◌≡◌, ℕ, ◌+◌, ◌-◌, ◌^◌, ◌<◌, ◌≤◌, ℤ, pos, ◌+ℤ◌, ◌-ℤ◌, ◌≤ℤ◌, unsigned_abs, List, length, slice_index_or}
 use Rattle.plan_types.specs.declared.requests.Stop.{Stop}
 use Rattle.nint_dist.specs.Distance.{distance}
-use Rattle.slack_tables.specs.declared.progress.Place.{Place}
+use Rattle.slack_tables.specs.declared.progress.Row.{Row}
 use Rattle.slack_tables.specs.declared.span.Span.{Span}
 use Rattle.slack_tables.specs.declared.span.Nearest.{Nearest}
 
 -- the way from one place to the next
-abbrev pub edge_of : Place → Place → ℤ
+abbrev pub edge_of : Row → Row → ℤ
 edge_of a b = pos b.at.distance -ℤ pos a.at.distance
 
 -- the stop lies between the coordinates
@@ -24,19 +24,19 @@ pub record IsSmallSpan (span : Span) : Type 0 where
   pub load : unsigned_abs span.load ≤ 2 ^ 52
 
 -- places 1 to n - 1 lie inside, and no way from one of them to the next is longer than the longest
-pub record IsSpanTo (span : Span) (places : List Place) (n : ℕ) : Type 0 where
-  pub inside : (k : ℕ) (d : Place) → 1 ≤ k → k < n → IsInside span (slice_index_or places k d).at.stop
-  pub longest : (k : ℕ) (d : Place) → 1 ≤ k → k + 1 < n → edge_of (slice_index_or places k d) (slice_index_or places (k + 1) d) ≤ℤ span.longest
+pub record IsSpanTo (span : Span) (places : List Row) (n : ℕ) : Type 0 where
+  pub inside : (k : ℕ) (d : Row) → 1 ≤ k → k < n → IsInside span (slice_index_or places k d).at.stop
+  pub longest : (k : ℕ) (d : Row) → 1 ≤ k → k + 1 < n → edge_of (slice_index_or places k d) (slice_index_or places (k + 1) d) ≤ℤ span.longest
   pub small : IsSmallSpan span
 
 -- neither the first way is longer than the tips nor the last, and so much is carried at the end
-pub record AreEnds (span : Span) (places : List Place) : Type 0 where
-  pub first : (d : Place) → edge_of (slice_index_or places 0 d) (slice_index_or places 1 d) ≤ℤ span.tips
-  pub last : (d : Place) → edge_of (slice_index_or places (length places - 2) d) (slice_index_or places (length places - 1) d) ≤ℤ span.tips
-  pub load : (d : Place) → span.load ≡ (slice_index_or places (length places - 1) d).at.load
+pub record AreEnds (span : Span) (places : List Row) : Type 0 where
+  pub first : (d : Row) → edge_of (slice_index_or places 0 d) (slice_index_or places 1 d) ≤ℤ span.tips
+  pub last : (d : Row) → edge_of (slice_index_or places (length places - 2) d) (slice_index_or places (length places - 1) d) ≤ℤ span.tips
+  pub load : (d : Row) → span.load ≡ (slice_index_or places (length places - 1) d).at.load
 
 -- the span of all places
-pub record IsSpan (span : Span) (places : List Place) : Type 0 where
+pub record IsSpan (span : Span) (places : List Row) : Type 0 where
   pub count : ℕ
   pub some : 2 ≤ count
   pub all : length places ≤ count + 1
@@ -87,11 +87,11 @@ pub record IsFarPair (span : Span) (depot p q : Stop) (below : ℤ) : Type 0 whe
   pub near : below ≤ℤ beside
 
 -- the first place and the last one are the depot
-pub record AreHome (depot : Stop) (places : List Place) : Type 0 where
-  pub first : (d : Place) → (slice_index_or places 0 d).at.stop ≡ depot
-  pub last : (d : Place) → (slice_index_or places (length places - 1) d).at.stop ≡ depot
+pub record AreHome (depot : Stop) (places : List Row) : Type 0 where
+  pub first : (d : Row) → (slice_index_or places 0 d).at.stop ≡ depot
+  pub last : (d : Row) → (slice_index_or places (length places - 1) d).at.stop ≡ depot
 
 -- each place adds its demand to the load, and what is carried at the end is no more than the greatest load from any place on
-pub record AreLaden (places : List Place) : Type 0 where
-  pub step : (k : ℕ) (d : Place) → k + 1 < length places → (slice_index_or places (k + 1) d).at.load ≡ (slice_index_or places k d).at.load +ℤ (slice_index_or places (k + 1) d).at.stop.demand
-  pub most : (k : ℕ) (d : Place) → k < length places → (slice_index_or places (length places - 1) d).at.load ≤ℤ (slice_index_or places k d).most_load
+pub record AreLaden (places : List Row) : Type 0 where
+  pub step : (k : ℕ) (d : Row) → k + 1 < length places → (slice_index_or places (k + 1) d).at.load ≡ (slice_index_or places k d).at.load +ℤ (slice_index_or places (k + 1) d).at.stop.demand
+  pub most : (k : ℕ) (d : Row) → k < length places → (slice_index_or places (length places - 1) d).at.load ≤ℤ (slice_index_or places k d).most_load

@@ -8,7 +8,7 @@ use Rattle.slack_tables.specs.Driven.{stepped, walked}
 use Rattle.slack_tables.specs.Ride.{ride_at}
 use Rattle.slack_tables.specs.declared.progress.Limits.{Limits}
 use Rattle.slack_tables.specs.declared.progress.Progress.{Progress}
-use Rattle.slack_tables.specs.declared.progress.Place.{Place}
+use Rattle.slack_tables.specs.declared.progress.Row.{Row}
 use Rattle.slack_tables.specs.declared.scan.Trip.{Trip}
 use Rattle.slack_tables.specs.declared.scan.Underway.{Underway}
 
@@ -20,11 +20,11 @@ pub record IsTrip (t : Trip) : Type 0 where
   pub bound : t.across ≤ 2 ^ 32
 
 -- the pickup behind place i - 1, then the places up to j - 2
-unfoldable pub walk_to : Limits → List Place → Stop → ℕ → Place → ℕ → Option Progress
+unfoldable pub walk_to : Limits → List Row → Stop → ℕ → Row → ℕ → Option Progress
 walk_to limits places p i d j = option_and_then (λ at. walked limits at (map (λ e. e.at.stop) (slice_range places i (j - 1)))) (stepped limits (slice_index_or places (i - 1) d).at p)
 
 -- before place j - 1 of the table, with the pickup on board
-pub record IsUnderway (limits : Limits) (places : List Place) (p q : Stop) (i j : ℕ) (d : Place) (on : Underway) : Type 0 where
+pub record IsUnderway (limits : Limits) (places : List Row) (p q : Stop) (i j : ℕ) (d : Row) (on : Underway) : Type 0 where
   pub stop : Stop
   pub walk : walk_to limits places p i d j ≡ Some (ride_at on.ride stop)
   pub service : on.service ≡ stop.service
@@ -32,7 +32,7 @@ pub record IsUnderway (limits : Limits) (places : List Place) (p q : Stop) (i j 
   pub onward : on.onward ≡ distance stop (slice_index_or places (j - 1) d).at.stop
 
 -- how much may have come together there
-pub record IsNearWay (places : List Place) (j : ℕ) (d : Place) (on : Underway) : Type 0 where
+pub record IsNearWay (places : List Row) (j : ℕ) (d : Row) (on : Underway) : Type 0 where
   pub start : on.ride.start + on.onward ≤ 2 ^ 52 + j * 2 ^ 33 + (slice_index_or places (j - 1) d).at.distance
   pub load : unsigned_abs on.ride.load ≤ 2 ^ 52 + j * 2 ^ 33
   pub distance : on.ride.distance + on.onward ≤ 2 ^ 52 + (slice_index_or places (j - 1) d).at.distance

@@ -1,22 +1,27 @@
-//! The places of a route where a pickup comes too late, or makes what is behind it late.
+//! The places of a route where a pickup comes too late, or makes what is behind it late, by distances from
+//! below.
+//!
+//! A place is left out where such distances show that the vehicle comes to the pickup after its latest time,
+//! or to the next stop by more than 1 after that one's latest start. The 1 is for the delivery: right behind
+//! the pickup it can make the way on shorter by 1, since rounded distances break the triangle inequality.
 
 ghost use Rattle.std.specs.Prelude.{◌≡◌, ◌+◌, ◌-◌, ◌^◌, ◌≤◌, ◌<◌, All, IsTrue, length, slice_index_or};
 ghost use Rattle.nint_dist.specs.Distance.{distance};
-ghost use Rattle.slack_tables.specs.declared.progress.Place.{Place};
+ghost use Rattle.slack_tables.specs.declared.progress.Row.{Row};
 ghost use Rattle.slack_tables.specs.Closed.{due_of, comes_late, is_due_before, AreTight, IsClosed, AreClosed};
-ghost use Rattle.slack_tables.specs.Driven.{IsSmallPlace};
+ghost use Rattle.slack_tables.specs.Driven.{IsSmallRow};
 ghost use Rattle.slack_tables.specs.Legs.{AreRising};
 
-use crate::legs::{least_leg_at, small_place};
-use crate::progress::{Limits, Place, is_in_time};
+use crate::legs::{least_leg_at, small_row};
+use crate::progress::{Limits, Row, is_in_time};
 use crate::ride::Detour;
 use nint_dist::detours_save_at_most_one;
 use plan_types::{Kind, Stop};
 
 /// The first place behind the first `kept` stops where a pickup isn't known to be too late, or the
 /// number of places where there is none. Ways are taken from below, so no root is.
-pub(crate) fn first_open(limits: Limits, places: &[Place], pickup: &Stop, kept: usize) -> usize
-    requires places { All IsSmallPlace places.now }
+pub(crate) fn first_open(limits: Limits, places: &[Row], pickup: &Stop, kept: usize) -> usize
+    requires places { All IsSmallRow places.now }
     requires rising { AreRising places.now }
     requires tight { AreTight limits.kind places.now }
     requires kept { kept + 2 ≤ length places.now }
@@ -39,10 +44,10 @@ pub(crate) fn first_open(limits: Limits, places: &[Place], pickup: &Stop, kept: 
     places.len()
 }
 
-/// The first place behind the first `kept` stops that can be started after the pickup's window opens, or the
-/// number of places.
-fn first_due(limits: Limits, places: &[Place], pickup: &Stop, kept: usize) -> usize
-    requires places { All IsSmallPlace places.now }
+// The first place behind the first `kept` stops that can be started after the pickup's window opens, or the
+// number of places.
+fn first_due(limits: Limits, places: &[Row], pickup: &Stop, kept: usize) -> usize
+    requires places { All IsSmallRow places.now }
     requires tight { AreTight limits.kind places.now }
     requires kept { kept + 2 ≤ length places.now }
     ensures behind { kept < result }
@@ -51,16 +56,16 @@ fn first_due(limits: Limits, places: &[Place], pickup: &Stop, kept: usize) -> us
 {
     detours_save_at_most_one();
     for i in kept + 1..places.len() {
-        if !is_due_before(limits.kind, small_place(places, i), pickup.earliest) {
+        if !is_due_before(limits.kind, small_row(places, i), pickup.earliest) {
             return i;
         }
     }
     places.len()
 }
 
-/// Whether a place has to be started, by more than 1, before a window opens.
+// Whether a place has to be started, by more than 1, before a window opens.
 #[inline(always)]
-fn is_due_before(kind: Kind, place: &Place, earliest: u32) -> bool
+fn is_due_before(kind: Kind, place: &Row, earliest: u32) -> bool
     ensures { result ≡ is_due_before kind place.now earliest }
 {
     match kind {
@@ -69,9 +74,9 @@ fn is_due_before(kind: Kind, place: &Place, earliest: u32) -> bool
     }
 }
 
-/// The latest start of service at a place from which neither its own window nor anything behind it is missed.
+// The latest start of service at a place from which neither its own window nor anything behind it is missed.
 #[inline(always)]
-fn due_at(place: &Place) -> u64
+fn due_at(place: &Row) -> u64
     ensures value { result ≡ due_of place.now }
     ensures bound { result < 2 ^ 32 }
 {
@@ -80,14 +85,14 @@ fn due_at(place: &Place) -> u64
 
 /// Whether the place before place `i` is started after the pickup's latest time.
 #[inline(always)]
-pub(crate) fn is_past(limits: Limits, places: &[Place], pickup: &Stop, i: usize) -> bool
-    requires places { All IsSmallPlace places.now }
+pub(crate) fn is_past(limits: Limits, places: &[Row], pickup: &Stop, i: usize) -> bool
+    requires places { All IsSmallRow places.now }
     requires rising { AreRising places.now }
     requires from_one { 1 ≤ i }
     requires within { i < length places.now }
     ensures { IsTrue result → AreClosed limits places.now pickup.now (i - 1) (length places.now) }
 {
-    let before = small_place(places, i - 1);
+    let before = small_row(places, i - 1);
     !is_in_time(limits.kind, before.at.start, u64::from(pickup.latest))
 }
 
@@ -99,36 +104,36 @@ pub(crate) fn is_past(limits: Limits, places: &[Place], pickup: &Stop, i: usize)
 #[inline(always)]
 pub(crate) fn is_closed(
     limits: Limits,
-    places: &[Place],
+    places: &[Row],
     pickup: &Stop,
     i: usize,
     near: Detour,
 ) -> bool
-    requires places { All IsSmallPlace places.now }
+    requires places { All IsSmallRow places.now }
     requires tight { AreTight limits.kind places.now }
     requires from_one { 1 ≤ i }
     requires within { i < length places.now }
-    requires to { (d : Place) → near.to
+    requires to { (d : Row) → near.to
         ≤ distance (slice_index_or places.now (i - 1) d).at.stop pickup.now }
-    requires from { (d : Place) → near.from
+    requires from { (d : Row) → near.from
         ≤ distance (slice_index_or places.now i d).at.stop pickup.now }
     requires to_small { near.to ≤ 2 ^ 33 }
     requires from_small { near.from ≤ 2 ^ 33 }
     ensures { IsTrue result → IsClosed limits places.now pickup.now i }
 {
     detours_save_at_most_one();
-    let before = small_place(places, i - 1);
-    let next = small_place(places, i);
+    let before = small_row(places, i - 1);
+    let next = small_row(places, i);
     match limits.kind {
         Kind::LiLim => comes_late(before, next, pickup, near),
         Kind::Vrp => false,
     }
 }
 
-/// Whether a pickup between two places is too late, or the place behind it.
+// Whether a pickup between two places is too late, or the place behind it.
 #[inline(always)]
-fn comes_late(before: &Place, next: &Place, pickup: &Stop, near: Detour) -> bool
-    requires before { IsSmallPlace before.now }
+fn comes_late(before: &Row, next: &Row, pickup: &Stop, near: Detour) -> bool
+    requires before { IsSmallRow before.now }
     requires to { near.to ≤ 2 ^ 33 }
     requires from { near.from ≤ 2 ^ 33 }
     ensures { result ≡ comes_late before.now next.now pickup.now near.to near.from }

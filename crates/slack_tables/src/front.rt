@@ -1,4 +1,9 @@
 //! Routes that begin as the one of a table: what it tells of their first places is not driven again.
+//!
+//! `rebuild`, `remade` and `keeps_limits` are given a table of the same problem that has most stops in the
+//! same order. The stops that both routes begin with are copied; behind them the vehicle is driven, by ways
+//! that the table may have (`ways`). The table has to be of this problem: where the numbers are the same, so
+//! are the stops.
 
 ghost use Rattle.std.specs.Prelude.{◌≡◌, ℕ, List, ◌+◌, ◌<◌, ◌≤◌, length};
 ghost use Rattle.plan_types.specs.Instance.{Instance};
@@ -6,12 +11,12 @@ ghost use Rattle.route_sched.specs.Route.{place};
 ghost use Rattle.slack_tables.specs.Front.{IsFront, HasCome, KnowsFronts};
 ghost use Rattle.slack_tables.specs.Opened.{AreOpenTo};
 
-use crate::progress::{Place, Progress};
-use crate::table::{leaving, open_place};
+use crate::progress::{Progress, Row};
+use crate::table::{leaving, open_row};
 use plan_types::Problem;
 
 /// How many of the first stops of a route the table has at the same places.
-pub(crate) fn same_front(known: &[Place], route: &[u32]) -> usize
+pub(crate) fn same_front(known: &[Row], route: &[u32]) -> usize
     ensures within { result ≤ length route.now }
     ensures known { 0 < result → result + 1 < length known.now }
     ensures front { IsFront known.now route.now result }
@@ -26,7 +31,7 @@ pub(crate) fn same_front(known: &[Place], route: &[u32]) -> usize
 }
 
 /// Where the vehicle is behind so many stops that a route has at the table's places.
-pub(crate) fn behind_front(problem: &Problem, known: &[Place], front: usize) -> Progress
+pub(crate) fn behind_front(problem: &Problem, known: &[Row], front: usize) -> Progress
     requires fronts { KnowsFronts problem.now known.now }
     requires known { 0 < front → front + 1 < length known.now }
     ensures { (route : List ℕ) → IsFront known.now route front
@@ -39,7 +44,7 @@ pub(crate) fn behind_front(problem: &Problem, known: &[Place], front: usize) -> 
 }
 
 /// Gives the places of so many stops what the table tells of them, but nothing of what is behind.
-pub(crate) fn copy_front(places: &mut [Place], known: &[Place], front: usize)
+pub(crate) fn copy_front(places: &mut [Row], known: &[Row], front: usize)
     requires places { front + 1 < length places.old }
     requires known { 0 < front → front + 1 < length known.now }
     requires few { front ≤ 40001 }
@@ -49,6 +54,6 @@ pub(crate) fn copy_front(places: &mut [Place], known: &[Place], front: usize)
         → AreOpenTo (place p route) (front + 1) places.new }
 {
     for k in 0..front {
-        places[k + 1] = open_place(known[k + 1].at);
+        places[k + 1] = open_row(known[k + 1].at);
     }
 }

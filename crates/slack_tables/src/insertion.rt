@@ -1,20 +1,20 @@
-//! What putting the stops of a request into a route adds to it.
+//! What putting the stops of a request at given places of a route adds to it.
 
 ghost use Rattle.std.specs.Prelude.{◌≡◌, ◌+◌, ◌-◌, ◌^◌, ◌<◌, ◌≤◌, All, [], ◌∷◌, length};
 ghost use Rattle.plan_types.specs.Limits.{IsVisit};
-ghost use Rattle.slack_tables.specs.declared.progress.Place.{Place};
-ghost use Rattle.slack_tables.specs.Driven.{with_between, with_pair, IsSmallPlace};
+ghost use Rattle.slack_tables.specs.declared.progress.Row.{Row};
+ghost use Rattle.slack_tables.specs.Driven.{with_between, with_pair, IsSmallRow};
 
-use crate::progress::{Limits, Place, join, step, walk};
+use crate::progress::{Limits, Row, join, step, walk};
 use plan_types::Stop;
 
 /// The distance added by one stop, put behind place `i - 1`.
-pub(crate) fn single_added(limits: Limits, places: &[Place], stop: &Stop, i: usize) -> Option<i64>
-    requires places { All IsSmallPlace places.now }
+pub(crate) fn single_added(limits: Limits, places: &[Row], stop: &Stop, i: usize) -> Option<i64>
+    requires places { All IsSmallRow places.now }
     requires stop { IsVisit stop.now }
     requires from_one { 1 ≤ i }
     requires within { i < length places.now }
-    ensures { (d : Place) → result ≡ with_between limits places.now (i - 1) (stop.now ∷ []) i d }
+    ensures { (d : Row) → result ≡ with_between limits places.now (i - 1) (stop.now ∷ []) i d }
 {
     let Some(at) = step(limits, &places[i - 1].at, stop) else {
         return None;
@@ -25,20 +25,20 @@ pub(crate) fn single_added(limits: Limits, places: &[Place], stop: &Stop, i: usi
 /// The distance added by a pickup behind place `i - 1` and its delivery at place `j` of the new route.
 pub(crate) fn pair_added(
     limits: Limits,
-    places: &[Place],
+    places: &[Row],
     pickup: &Stop,
     delivery: &Stop,
     i: usize,
     j: usize,
 ) -> Option<i64>
-    requires places { All IsSmallPlace places.now }
+    requires places { All IsSmallRow places.now }
     requires few { length places.now ≤ 40003 }
     requires pickup { IsVisit pickup.now }
     requires delivery { IsVisit delivery.now }
     requires from_one { 1 ≤ i }
     requires order { i < j }
     requires within { j ≤ length places.now }
-    ensures { (d : Place) → result ≡ with_pair limits places.now pickup.now delivery.now i j d }
+    ensures { (d : Row) → result ≡ with_pair limits places.now pickup.now delivery.now i j d }
 {
     let Some(at) = step(limits, &places[i - 1].at, pickup) else {
         return None;

@@ -1,57 +1,58 @@
-//! The ways between the places of a table and a stop, exact and from below.
+//! The ways between the places of a table and a stop, exact and from below, and the least detours from each
+//! place on.
 
 ghost use Rattle.std.specs.Prelude.{◌≡◌, ◌+◌, ◌^◌, ◌≤◌, ◌<◌, All, IsTrue, ℕ, length};
 ghost use Rattle.std.specs.Int.{int_min};
 ghost use Rattle.plan_types.specs.Limits.{IsVisit};
 ghost use Rattle.nint_dist.specs.Distance.{distance};
 ghost use Rattle.std.specs.Prelude.{slice_index_or, ℤ, pos, ◌+ℤ◌, ◌-ℤ◌, ◌≤ℤ◌, unsigned_abs};
-ghost use Rattle.slack_tables.specs.declared.progress.Place.{Place};
-ghost use Rattle.slack_tables.specs.Driven.{IsSmallPlace};
+ghost use Rattle.slack_tables.specs.declared.progress.Row.{Row};
+ghost use Rattle.slack_tables.specs.Driven.{IsSmallRow};
 ghost use Rattle.slack_tables.specs.Legs.{AreLeast};
 
-use crate::progress::{Place, difference};
+use crate::progress::{Row, difference};
 use crate::span::least_between;
-use crate::table::place_at;
+use crate::table::row_at;
 use nint_dist::dist;
 use plan_types::Stop;
 
 /// Of so many places the least detours are kept, since that takes no memory from the allocator.
 pub(crate) const ROOM: usize = 128;
 
-/// No detour is as long.
+// No detour is as long.
 const FAR: i64 = 1 << 60;
 
 /// The way between a place and the stop.
 #[inline(always)]
-pub(crate) fn leg_at(places: &[Place], k: usize, stop: &Stop) -> u64
-    requires places { All IsSmallPlace places.now }
+pub(crate) fn leg_at(places: &[Row], k: usize, stop: &Stop) -> u64
+    requires places { All IsSmallRow places.now }
     requires stop { IsVisit stop.now }
     requires within { k < length places.now }
-    ensures value { (d : Place) → result
+    ensures value { (d : Row) → result
         ≡ distance (slice_index_or places.now k d).at.stop stop.now }
     ensures bound { result ≤ 2 ^ 32 }
 {
-    let place = small_place(places, k);
+    let place = small_row(places, k);
     u64::from(dist(&place.at.stop, stop))
 }
 
 /// The way between a place and the stop is no shorter. This takes no root.
-pub(crate) fn least_leg_at(places: &[Place], k: usize, stop: &Stop) -> u64
+pub(crate) fn least_leg_at(places: &[Row], k: usize, stop: &Stop) -> u64
     requires within { k < length places.now }
-    ensures value { (d : Place) → result
+    ensures value { (d : Row) → result
         ≤ distance (slice_index_or places.now k d).at.stop stop.now }
     ensures bound { result ≤ 2 ^ 33 }
 {
-    let place = place_at(places, k);
+    let place = row_at(places, k);
     least_between(&place.at.stop, stop)
 }
 
-/// By how much the way from a place to the next gets longer over a stop so far from both.
-fn detour(here: &Place, to: u64, from: u64, next: &Place) -> i64
-    requires here { IsSmallPlace here.now }
+// By how much the way from a place to the next gets longer over a stop so far from both.
+fn detour(here: &Row, to: u64, from: u64, next: &Row) -> i64
+    requires here { IsSmallRow here.now }
     requires to { to ≤ 2 ^ 33 }
     requires from { from ≤ 2 ^ 33 }
-    requires next { IsSmallPlace next.now }
+    requires next { IsSmallRow next.now }
     ensures value { result
         ≡ pos (here.now.at.distance + to + from) -ℤ pos next.now.at.distance }
     ensures small { unsigned_abs result ≤ 2 ^ 60 }
@@ -60,8 +61,8 @@ fn detour(here: &Place, to: u64, from: u64, next: &Place) -> i64
 }
 
 /// What no detour from each place on is less than, from place `first` on.
-pub(crate) fn fill_least(least: &mut [i64], places: &[Place], stop: &Stop, first: usize)
-    requires places { All IsSmallPlace places.now }
+pub(crate) fn fill_least(least: &mut [i64], places: &[Row], stop: &Stop, first: usize)
+    requires places { All IsSmallRow places.now }
     requires count { length least.old ≡ length places.now }
     requires within { first < length least.old }
     ensures { AreLeast first least.new places.now stop.now }
@@ -70,8 +71,8 @@ pub(crate) fn fill_least(least: &mut [i64], places: &[Place], stop: &Stop, first
     least[last] = FAR;
     let mut from = least_leg_at(places, last, stop);
     for k in (first..last).rev() {
-        let here = small_place(places, k);
-        let next = small_place(places, k + 1);
+        let here = small_row(places, k);
+        let next = small_row(places, k + 1);
         let to = least_leg_at(places, k, stop);
         least[k] = lesser(detour(here, to, from, next), least[k + 1]);
         from = to;
@@ -99,11 +100,11 @@ pub(crate) fn is_hopeless(least: &[i64], k: usize, reach: u64, base: u64, bound:
 }
 
 /// A place of a table, whose numbers are far from where sums would wrap.
-pub(crate) fn small_place(places: &[Place], k: usize) -> &Place
-    requires places { All IsSmallPlace places.now }
+pub(crate) fn small_row(places: &[Row], k: usize) -> &Row
+    requires places { All IsSmallRow places.now }
     requires within { k < length places.now }
-    ensures place { (d : Place) → result.now ≡ slice_index_or places.now k d }
-    ensures small { IsSmallPlace result.now }
+    ensures place { (d : Row) → result.now ≡ slice_index_or places.now k d }
+    ensures small { IsSmallRow result.now }
 {
-    place_at(places, k)
+    row_at(places, k)
 }

@@ -1,9 +1,9 @@
-//! How far a vehicle has come on its route, and how it goes on.
+//! How far a vehicle has come on its route, how it goes on, and what it must keep at each place.
 
 ghost use Rattle.std.specs.Prelude.{◌≡◌, ◌≤◌, ◌+◌, ◌^◌, pos, ◌+ℤ◌, ◌-ℤ◌, unsigned_abs, map, length, nat_le, IfSome, All};
 ghost use Rattle.plan_types.specs.Limits.{IsVisit};
 ghost use Rattle.slack_tables.specs.Legs.{AreLinked};
-ghost use Rattle.slack_tables.specs.Driven.{driven_on, is_in_time, keeps, stepped, walked, bears, joined, IsNear, IsSmall, IsSmallPlace};
+ghost use Rattle.slack_tables.specs.Driven.{driven_on, is_in_time, keeps, stepped, walked, bears, with_tail, IsNear, IsSmall, IsSmallRow};
 
 use crate::ways::way;
 use plan_types::{Kind, Stop};
@@ -30,7 +30,7 @@ pub(crate) struct Progress {
 
 /// A place of a route, and what is known of all that is behind it.
 #[derive(Clone, Copy, Debug, PartialEq, Eq)]
-pub(crate) struct Place {
+pub(crate) struct Row {
     pub at: Progress,
     /// The latest start of service here from which no later window and no return is missed; the
     /// greatest number where any start will do.
@@ -51,9 +51,9 @@ pub(crate) fn step(limits: Limits, from: &Progress, stop: &Stop) -> Option<Progr
 }
 
 /// One place of a route after another, as long as they keep the limits.
-pub(crate) fn walk(limits: Limits, from: Progress, places: &[Place]) -> Option<Progress>
+pub(crate) fn walk(limits: Limits, from: Progress, places: &[Row]) -> Option<Progress>
     requires from { IsSmall (2 ^ 57) from }
-    requires places { All IsSmallPlace places.now }
+    requires places { All IsSmallRow places.now }
     requires few { length places.now ≤ 2 ^ 20 }
     ensures value { result ≡ walked limits from (map (λ e. e.at.stop) places.now) }
     ensures near { IfSome result (λ at. IsNear from at (length places.now)) }
@@ -70,10 +70,10 @@ pub(crate) fn walk(limits: Limits, from: Progress, places: &[Place]) -> Option<P
 
 /// How much longer a route gets that goes on with this place and all behind it, or `None` where it
 /// exceeds a limit.
-pub(crate) fn join(limits: Limits, from: &Progress, tail: &Place) -> Option<i64>
+pub(crate) fn join(limits: Limits, from: &Progress, tail: &Row) -> Option<i64>
     requires from { IsSmall (2 ^ 58) from.now }
-    requires tail { IsSmallPlace tail.now }
-    ensures { result ≡ joined limits from.now tail.now }
+    requires tail { IsSmallRow tail.now }
+    ensures { result ≡ with_tail limits from.now tail.now }
 {
     match step(limits, from, &tail.at.stop) {
         Some(at) if bears(limits, &at, tail) => { Some(difference(at.distance, tail.at.distance)) }
@@ -83,7 +83,7 @@ pub(crate) fn join(limits: Limits, from: &Progress, tail: &Place) -> Option<i64>
 
 /// After the way to another stop: who arrives early waits. The way is taken from `known` where that has it behind its place `seen`.
 #[inline(always)]
-pub(crate) fn driven_on(known: &[Place], seen: usize, from: &Progress, stop: &Stop) -> Progress
+pub(crate) fn driven_on(known: &[Row], seen: usize, from: &Progress, stop: &Stop) -> Progress
     requires known { AreLinked known.now }
     requires from { IsSmall (2 ^ 58) from.now }
     requires to { IsVisit stop.now }
@@ -117,6 +117,7 @@ pub(crate) fn keeps(limits: Limits, at: &Progress) -> bool
         && is_in_time(limits.kind, at.start, u64::from(at.stop.latest))
 }
 
+/// Whether service may start so, where it may start so late; in a problem of kind `Vrp` it always may.
 pub(crate) fn is_in_time(kind: Kind, start: u64, latest: u64) -> bool
     ensures { result ≡ is_in_time kind start latest }
 {
@@ -126,10 +127,10 @@ pub(crate) fn is_in_time(kind: Kind, start: u64, latest: u64) -> bool
     }
 }
 
-/// Whether all behind this place of another route keeps the limits, where the vehicle comes to it so.
-fn bears(limits: Limits, at: &Progress, tail: &Place) -> bool
+// Whether all behind this place of another route keeps the limits, where the vehicle comes to it so.
+fn bears(limits: Limits, at: &Progress, tail: &Row) -> bool
     requires at { unsigned_abs at.now.load ≤ 2 ^ 60 }
-    requires tail { IsSmallPlace tail.now }
+    requires tail { IsSmallRow tail.now }
     ensures { result ≡ bears limits at.now tail.now }
 {
     moved_load(tail.most_load, tail.at.load, at.load) <= i64::from(limits.capacity)
@@ -146,6 +147,7 @@ pub(crate) fn moved_load(load: i64, before: i64, after: i64) -> i64
     after - before + load
 }
 
+/// How much more the first is than the second, which may be less.
 pub(crate) fn difference(to: u64, from: u64) -> i64
     requires to { to ≤ 2 ^ 60 }
     requires from { from ≤ 2 ^ 60 }

@@ -1,10 +1,11 @@
-//! How a vehicle goes on along places whose ways are known, so that no distance is computed.
+//! How a vehicle goes on along places whose ways are known, so that no distance is computed. Prices are
+//! compared before limits.
 
 ghost use Rattle.std.specs.Prelude.{◌≡◌, ◌≤◌, ◌+◌, ◌^◌, unsigned_abs, IfSome};
-ghost use Rattle.slack_tables.specs.Driven.{IsSmallPlace};
+ghost use Rattle.slack_tables.specs.Driven.{IsSmallRow};
 ghost use Rattle.slack_tables.specs.Ride.{ride_of, driven, is_kept, ridden, is_borne, goes_on, is_served, price, served_below, IsSmallRide, IsNearRide};
 
-use crate::progress::{Limits, Place, Progress, difference, is_in_time, load_behind, moved_load};
+use crate::progress::{Limits, Progress, Row, difference, is_in_time, load_behind, moved_load};
 use plan_types::Stop;
 
 /// When and with what a vehicle is somewhere, and how far it has come.
@@ -15,6 +16,7 @@ pub(crate) struct Ride {
     pub distance: u64,
 }
 
+/// The same without the stop.
 pub(crate) fn ride_of(at: &Progress) -> Ride
     ensures { result ≡ ride_of at.now }
 {
@@ -41,7 +43,7 @@ pub(crate) fn drive(from: &Ride, service: u32, leg: u64, to: &Stop) -> Ride
     }
 }
 
-/// Whether the load and the start keep their limits at this stop.
+// Whether the load and the start keep their limits at this stop.
 fn is_kept(limits: Limits, ride: &Ride, stop: &Stop) -> bool
     ensures { result ≡ is_kept limits ride.now stop.now }
 {
@@ -70,21 +72,21 @@ pub(crate) fn ride_on(
     }
 }
 
-/// Whether all behind this place of another route keeps the limits, where the vehicle comes to it so.
-fn is_borne(limits: Limits, ride: &Ride, tail: &Place) -> bool
+// Whether all behind this place of another route keeps the limits, where the vehicle comes to it so.
+fn is_borne(limits: Limits, ride: &Ride, tail: &Row) -> bool
     requires ride { IsSmallRide (2 ^ 60) ride.now }
-    requires tail { IsSmallPlace tail.now }
+    requires tail { IsSmallRow tail.now }
     ensures { result ≡ is_borne limits ride.now tail.now }
 {
     moved_load(tail.most_load, tail.at.load, ride.load) <= i64::from(limits.capacity)
         && is_in_time(limits.kind, ride.start, tail.latest_start)
 }
 
-/// Whether the place and all behind it keep the limits.
-fn goes_on(limits: Limits, from: &Ride, service: u32, leg: u64, tail: &Place) -> bool
+// Whether the place and all behind it keep the limits.
+fn goes_on(limits: Limits, from: &Ride, service: u32, leg: u64, tail: &Row) -> bool
     requires from { IsSmallRide (2 ^ 58) from.now }
     requires leg { leg ≤ 2 ^ 58 }
-    requires tail { IsSmallPlace tail.now }
+    requires tail { IsSmallRow tail.now }
     ensures { result ≡ goes_on limits from.now service leg tail.now }
 {
     let ride = drive(from, service, leg, &tail.at.stop);
@@ -98,19 +100,19 @@ pub(crate) struct Detour {
     pub from: u64,
 }
 
-/// Whether the stop keeps the limits, and then the place and all behind it.
+// Whether the stop keeps the limits, and then the place and all behind it.
 fn is_served(
     limits: Limits,
     at: &Ride,
     service: u32,
     detour: Detour,
     stop: &Stop,
-    tail: &Place,
+    tail: &Row,
 ) -> bool
     requires at { IsSmallRide (2 ^ 56) at.now }
     requires to { detour.to ≤ 2 ^ 56 }
     requires from { detour.from ≤ 2 ^ 56 }
-    requires tail { IsSmallPlace tail.now }
+    requires tail { IsSmallRow tail.now }
     ensures { result ≡ is_served limits at.now service detour.to stop.now detour.from tail.now }
 {
     let ride = drive(at, service, detour.to, stop);
@@ -126,12 +128,12 @@ pub(crate) fn serve_below(
     service: u32,
     detour: Detour,
     stop: &Stop,
-    tail: &Place,
+    tail: &Row,
 ) -> Option<i64>
     requires at { IsSmallRide (2 ^ 56) at.now }
     requires to { detour.to ≤ 2 ^ 56 }
     requires from { detour.from ≤ 2 ^ 56 }
-    requires tail { IsSmallPlace tail.now }
+    requires tail { IsSmallRow tail.now }
     ensures { result ≡ served_below below limits at.now service detour.to stop.now detour.from
         tail.now }
 {
@@ -144,7 +146,7 @@ pub(crate) fn serve_below(
 }
 
 /// The distance that a detour to a stop adds to the way to a place.
-pub(crate) fn price(at: &Ride, detour: Detour, tail: &Place) -> i64
+pub(crate) fn price(at: &Ride, detour: Detour, tail: &Row) -> i64
     requires at { at.now.distance ≤ 2 ^ 58 }
     requires to { detour.to ≤ 2 ^ 58 }
     requires from { detour.from ≤ 2 ^ 58 }

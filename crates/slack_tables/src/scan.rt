@@ -1,12 +1,24 @@
 //! The places of a route at which a request adds the least distance.
+//!
+//! A scan goes over the places of the pickup, and for each over those of the delivery. Most are left out
+//! before a root is taken:
+//! - by the span of the route, the whole scan (`span`);
+//! - by times from below, places of the pickup where it, or the stop behind it, comes too late (`closed`);
+//! - by prices from below, a place of the pickup where each place of the delivery adds the bound or more, and
+//!   a place of a single likewise;
+//! - once the vehicle is past the delivery's latest time, the rest of the delivery's places.
+//!
+//! For the prices, the least detours to the delivery from each place on stand in an array on the stack
+//! (`legs`), for routes of up to 128 places with the depot's; in longer ones none are kept. So a scan takes
+//! no memory.
 
 ghost use Rattle.std.specs.Prelude.{◌≡◌, ◌+◌, ◌^◌, ◌-◌, ◌≤◌, ◌<◌, pos, ◌+ℤ◌, ◌-ℤ◌, ◌≤ℤ◌, All, IfSome, IsTrue, length, slice_index_or, unsigned_abs};
 ghost use Rattle.plan_types.specs.Limits.{IsVisit};
 ghost use Rattle.nint_dist.specs.Distance.{distance};
-ghost use Rattle.slack_tables.specs.declared.progress.Place.{Place};
+ghost use Rattle.slack_tables.specs.declared.progress.Row.{Row};
 ghost use Rattle.slack_tables.specs.Best.{IsFirstOf, BestIsOne};
 ghost use Rattle.slack_tables.specs.Closed.{AreTight};
-ghost use Rattle.slack_tables.specs.Driven.{IsSmall, IsSmallPlace};
+ghost use Rattle.slack_tables.specs.Driven.{IsSmall, IsSmallRow};
 ghost use Rattle.slack_tables.specs.Legs.{AreLeast, AreLinked, AreRising};
 ghost use Rattle.slack_tables.specs.Walk.{IsTrip, IsUnderway, IsNearWay};
 ghost use Rattle.slack_tables.specs.Span.{AreHome, AreLaden, IsSpan};
@@ -14,8 +26,8 @@ ghost use Rattle.slack_tables.specs.Ride.{IsSmallRide, IsNearRide};
 ghost use Rattle.slack_tables.specs.Scan.{AddsSingle, AddsPair, AddsDelivery, AreDear, IsNearUnderway, served_single, picked_up, gone_on, none_below, offered, accepted};
 
 use crate::closed::{first_open, is_closed, is_past};
-use crate::legs::{ROOM, fill_least, is_hopeless, least_leg_at, leg_at, small_place};
-use crate::progress::{Limits, Place, Progress, difference, is_in_time};
+use crate::legs::{ROOM, fill_least, is_hopeless, least_leg_at, leg_at, small_row};
+use crate::progress::{Limits, Progress, Row, difference, is_in_time};
 use crate::ride::{Detour, Ride, price, ride_of, ride_on, serve_below};
 use crate::span::Span;
 use nint_dist::dist;
@@ -27,6 +39,7 @@ use plan_types::Stop;
 /// is the same of a single. Places count from 1.
 #[derive(Clone, Copy, Debug, PartialEq, Eq)]
 pub struct Addition {
+    /// By how much the route gets longer; negative where rounded distances make it shorter.
     pub distance: i64,
     pub pickup: u64,
     pub delivery: u64,
@@ -38,7 +51,7 @@ pub fn best_places_are_one()
     ensures { BestIsOne }
 {}
 
-/// The first of the additions seen so far, and the distance that the next one has to be below.
+// The first of the additions seen so far, and the distance that the next one has to be below.
 #[derive(Clone, Copy, Debug, PartialEq, Eq)]
 struct Best {
     bound: i64,
@@ -52,7 +65,7 @@ impl Best {
         Best { bound, found: None }
     }
 
-    /// Takes the distance added at two places where it is less than all before.
+    // Takes the distance added at two places where it is less than all before.
     fn offer(&mut self, distance: Option<i64>, pickup: usize, delivery: usize)
         ensures { self.new ≡ offered self.old distance pickup delivery }
     {
@@ -69,7 +82,7 @@ impl Best {
         }
     }
 
-    /// Takes what was found below the bound.
+    // Takes what was found below the bound.
     fn accept(&mut self, found: Option<Addition>)
         ensures { self.new ≡ accepted self.old found }
     {
@@ -83,20 +96,20 @@ impl Best {
 /// The best place of a single behind the first `kept` stops.
 pub(crate) fn best_single(
     limits: Limits,
-    places: &[Place],
+    places: &[Row],
     span: &Span,
     depot: &Stop,
     stop: &Stop,
     kept: usize,
     below: i64,
 ) -> Option<Addition>
-    requires places { All IsSmallPlace places.now }
+    requires places { All IsSmallRow places.now }
     requires laden { AreLaden places.now }
     requires span { IsSpan span.now places.now }
     requires home { AreHome depot.now places.now }
     requires stop { IsVisit stop.now }
     requires kept { kept + 2 ≤ length places.now }
-    ensures { (d : Place) → IsFirstOf (AddsSingle limits places.now stop.now kept below d) result }
+    ensures { (d : Row) → IsFirstOf (AddsSingle limits places.now stop.now kept below d) result }
 {
     if span.is_full(limits, stop) {
         return None;
@@ -116,30 +129,30 @@ pub(crate) fn best_single(
     best.found
 }
 
-/// The distance that a single adds at place `i`, where it is less than `below` and all limits are
-/// kept. The price by a detour from below is compared first, since it takes no root.
+// The distance that a single adds at place `i`, where it is less than `below` and all limits are
+// kept. The price by a detour from below is compared first, since it takes no root.
 fn single_at(
     limits: Limits,
-    places: &[Place],
+    places: &[Row],
     stop: &Stop,
     i: usize,
     least: Detour,
     below: i64,
 ) -> Option<i64>
-    requires places { All IsSmallPlace places.now }
+    requires places { All IsSmallRow places.now }
     requires stop { IsVisit stop.now }
     requires from_one { 1 ≤ i }
     requires within { i < length places.now }
-    requires to { (d : Place) → least.to
+    requires to { (d : Row) → least.to
         ≤ distance (slice_index_or places.now (i - 1) d).at.stop stop.now }
-    requires from { (d : Place) → least.from
+    requires from { (d : Row) → least.from
         ≤ distance (slice_index_or places.now i d).at.stop stop.now }
     requires to_small { least.to ≤ 2 ^ 33 }
     requires from_small { least.from ≤ 2 ^ 33 }
-    ensures { (d : Place) → result ≡ served_single below limits places.now stop.now i d }
+    ensures { (d : Row) → result ≡ served_single below limits places.now stop.now i d }
 {
-    let before = small_place(places, i - 1);
-    let tail = small_place(places, i);
+    let before = small_row(places, i - 1);
+    let tail = small_row(places, i);
     let ride = ride_of(&before.at);
     if price(&ride, least, tail) >= below {
         return None;
@@ -155,7 +168,7 @@ fn single_at(
 /// The best places of a pair, its pickup behind the first `kept` stops.
 pub(crate) fn best_pair(
     limits: Limits,
-    places: &[Place],
+    places: &[Row],
     span: &Span,
     depot: &Stop,
     pickup: &Stop,
@@ -163,7 +176,7 @@ pub(crate) fn best_pair(
     kept: usize,
     below: i64,
 ) -> Option<Addition>
-    requires places { All IsSmallPlace places.now }
+    requires places { All IsSmallRow places.now }
     requires ways { AreLinked places.now }
     requires rising { AreRising places.now }
     requires tight { AreTight limits.kind places.now }
@@ -173,7 +186,7 @@ pub(crate) fn best_pair(
     requires pickup { IsVisit pickup.now }
     requires delivery { IsVisit delivery.now }
     requires kept { kept + 2 ≤ length places.now }
-    ensures { (d : Place) → IsFirstOf
+    ensures { (d : Row) → IsFirstOf
         (AddsPair limits places.now pickup.now delivery.now kept below d) result }
 {
     if span.is_far_pair(depot, pickup, delivery, below) {
@@ -197,7 +210,7 @@ pub(crate) fn best_pair(
     best_from(&trip, places, &least[..places.len()], first, below)
 }
 
-/// A pair, the way from its pickup to its delivery, and what a vehicle must keep.
+// A pair, the way from its pickup to its delivery, and what a vehicle must keep.
 #[derive(Clone, Copy, Debug, PartialEq, Eq)]
 struct Trip {
     limits: Limits,
@@ -206,17 +219,17 @@ struct Trip {
     across: u64,
 }
 
-/// The best places of a pair, its pickup from place `first` on. From a place on that is reached after
-/// the pickup's latest time, none is in time.
+// The best places of a pair, its pickup from place `first` on. From a place on that is reached after
+// the pickup's latest time, none is in time.
 fn best_from(
     trip: &Trip,
-    places: &[Place],
+    places: &[Row],
     least: &[i64],
     first: usize,
     below: i64,
 ) -> Option<Addition>
     requires trip { IsTrip trip.now }
-    requires places { All IsSmallPlace places.now }
+    requires places { All IsSmallRow places.now }
     requires ways { AreLinked places.now }
     requires rising { AreRising places.now }
     requires tight { AreTight trip.now.limits.kind places.now }
@@ -224,7 +237,7 @@ fn best_from(
     requires least { AreLeast first least.now places.now trip.now.delivery }
     requires from_one { 1 ≤ first }
     requires within { first < length places.now }
-    ensures { (d : Place) → IsFirstOf (AddsPair trip.now.limits places.now trip.now.pickup
+    ensures { (d : Row) → IsFirstOf (AddsPair trip.now.limits places.now trip.now.pickup
         trip.now.delivery (first - 1) below d) result }
 {
     let mut best = Best::none_below(below);
@@ -241,32 +254,32 @@ fn best_from(
     best.found
 }
 
-/// The best place of the delivery, where the pickup stands at place `i` and the ways to it and on from
-/// it are no shorter than these. No root is taken where such ways show that the pickup is too late or
-/// that no price is below the bound.
+// The best place of the delivery, where the pickup stands at place `i` and the ways to it and on from
+// it are no shorter than these. No root is taken where such ways show that the pickup is too late or
+// that no price is below the bound.
 fn best_at(
     trip: &Trip,
-    places: &[Place],
+    places: &[Row],
     least: &[i64],
     i: usize,
     near: Detour,
     below: i64,
 ) -> Option<Addition>
     requires trip { IsTrip trip.now }
-    requires places { All IsSmallPlace places.now }
+    requires places { All IsSmallRow places.now }
     requires ways { AreLinked places.now }
     requires tight { AreTight trip.now.limits.kind places.now }
     requires few { length places.now ≤ 40003 }
     requires least { AreLeast i least.now places.now trip.now.delivery }
     requires from_one { 1 ≤ i }
     requires within { i < length places.now }
-    requires to { (d : Place) → near.to
+    requires to { (d : Row) → near.to
         ≤ distance (slice_index_or places.now (i - 1) d).at.stop trip.now.pickup }
-    requires from { (d : Place) → near.from
+    requires from { (d : Row) → near.from
         ≤ distance (slice_index_or places.now i d).at.stop trip.now.pickup }
     requires to_small { near.to ≤ 2 ^ 33 }
     requires from_small { near.from ≤ 2 ^ 33 }
-    ensures { (d : Place) → IsFirstOf
+    ensures { (d : Row) → IsFirstOf
         (AddsDelivery trip.now.limits places.now trip.now.pickup trip.now.delivery i below d)
         result }
 {
@@ -276,7 +289,7 @@ fn best_at(
     if are_dear(trip, places, least, i, near, below) {
         return None;
     }
-    let before = small_place(places, i - 1);
+    let before = small_row(places, i - 1);
     let to = leg_at(places, i - 1, &trip.pickup);
     let onward = leg_at(places, i, &trip.pickup);
     let Some(first) = pick_up(trip, &before.at, to, onward) else {
@@ -285,41 +298,34 @@ fn best_at(
     best_delivery(trip, places, least, i, first, below)
 }
 
-/// Whether prices from below show that each place of the delivery adds `below` or more, where the
-/// pickup stands at place `i`.
-fn are_dear(
-    trip: &Trip,
-    places: &[Place],
-    least: &[i64],
-    i: usize,
-    near: Detour,
-    below: i64,
-) -> bool
+// Whether prices from below show that each place of the delivery adds `below` or more, where the
+// pickup stands at place `i`.
+fn are_dear(trip: &Trip, places: &[Row], least: &[i64], i: usize, near: Detour, below: i64) -> bool
     requires trip { IsTrip trip.now }
-    requires places { All IsSmallPlace places.now }
+    requires places { All IsSmallRow places.now }
     requires ways { AreLinked places.now }
     requires least { AreLeast i least.now places.now trip.now.delivery }
     requires from_one { 1 ≤ i }
     requires within { i < length places.now }
-    requires to { (d : Place) → near.to
+    requires to { (d : Row) → near.to
         ≤ distance (slice_index_or places.now (i - 1) d).at.stop trip.now.pickup }
-    requires from { (d : Place) → near.from
+    requires from { (d : Row) → near.from
         ≤ distance (slice_index_or places.now i d).at.stop trip.now.pickup }
     requires to_small { near.to ≤ 2 ^ 33 }
     requires from_small { near.from ≤ 2 ^ 33 }
     ensures { IsTrue result → AreDear trip.now.limits places.now trip.now.pickup
         trip.now.delivery i below }
 {
-    let before = small_place(places, i - 1);
-    let next = small_place(places, i);
+    let before = small_row(places, i - 1);
+    let next = small_row(places, i);
     let from = least_leg_at(places, i, &trip.delivery);
     let reach = before.at.distance + near.to;
     let beside = reach + trip.across + from;
     is_dear(least, i, beside, reach + near.from, next.at.distance, below)
 }
 
-/// Whether neither the delivery right behind the pickup at place `i` nor one further on adds less
-/// than `below`, by the way to place `i` over both stops and over the pickup alone.
+// Whether neither the delivery right behind the pickup at place `i` nor one further on adds less
+// than `below`, by the way to place `i` over both stops and over the pickup alone.
 fn is_dear(least: &[i64], i: usize, near: u64, apart: u64, base: u64, below: i64) -> bool
     requires near { near ≤ 2 ^ 59 }
     requires apart { apart ≤ 2 ^ 59 }
@@ -334,19 +340,19 @@ fn is_dear(least: &[i64], i: usize, near: u64, apart: u64, base: u64, below: i64
     difference(near, base) >= below && is_hopeless(least, i, apart, base, below)
 }
 
-/// A vehicle on its way with the pickup on board.
+// A vehicle on its way with the pickup on board.
 #[derive(Clone, Copy, Debug, PartialEq, Eq)]
 struct Underway {
     ride: Ride,
-    /// The service at the stop where it is.
+    // The service at the stop where it is.
     service: u32,
-    /// The way from there to the delivery.
+    // The way from there to the delivery.
     to_delivery: u64,
-    /// The way from there to the next place of the table.
+    // The way from there to the next place of the table.
     onward: u64,
 }
 
-/// At the pickup, if it keeps the limits, with the ways to it and on to the next place of the table.
+// At the pickup, if it keeps the limits, with the ways to it and on to the next place of the table.
 fn pick_up(trip: &Trip, before: &Progress, to: u64, onward: u64) -> Option<Underway>
     requires trip { IsTrip trip.now }
     requires before { IsSmall (2 ^ 50) before.now }
@@ -367,12 +373,12 @@ fn pick_up(trip: &Trip, before: &Progress, to: u64, onward: u64) -> Option<Under
     })
 }
 
-/// At the next place of the table, which is place `j - 1` there and from which the delivery is as
-/// far as `to_delivery`; `None` where it exceeds a limit or is the last.
+// At the next place of the table, which is place `j - 1` there and from which the delivery is as
+// far as `to_delivery`; `None` where it exceeds a limit or is the last.
 fn go_on(
     limits: Limits,
     on: &Underway,
-    places: &[Place],
+    places: &[Row],
     j: usize,
     to_delivery: u64,
 ) -> Option<Underway>
@@ -381,7 +387,7 @@ fn go_on(
     requires from_two { 2 ≤ j }
     requires within { j ≤ length places.now }
     requires ways { AreLinked places.now }
-    ensures value { (d : Place) → result ≡ gone_on limits on.now places.now j to_delivery d }
+    ensures value { (d : Row) → result ≡ gone_on limits on.now places.now j to_delivery d }
     ensures near { IfSome result (λ next. IsNearRide on.now.ride on.now.onward next.ride) }
 {
     if j == places.len() {
@@ -399,32 +405,32 @@ fn go_on(
     })
 }
 
-/// The best place of the delivery, where the pickup stands at place `i` and the vehicle is there. Once
-/// it is past the delivery's latest time, none is in time.
+// The best place of the delivery, where the pickup stands at place `i` and the vehicle is there. Once
+// it is past the delivery's latest time, none is in time.
 fn best_delivery(
     trip: &Trip,
-    places: &[Place],
+    places: &[Row],
     least: &[i64],
     i: usize,
     first: Underway,
     below: i64,
 ) -> Option<Addition>
     requires trip { IsTrip trip.now }
-    requires places { All IsSmallPlace places.now }
+    requires places { All IsSmallRow places.now }
     requires ways { AreLinked places.now }
     requires few { length places.now ≤ 40003 }
     requires least { AreLeast i least.now places.now trip.now.delivery }
     requires from_one { 1 ≤ i }
     requires within { i < length places.now }
-    requires underway { (d : Place)
+    requires underway { (d : Row)
         → IsUnderway trip.now.limits places.now trip.now.pickup trip.now.delivery i
         (i + 1) d first }
-    requires near { (d : Place) → IsNearWay places.now (i + 1) d first }
-    ensures { (d : Place) → IsFirstOf
+    requires near { (d : Row) → IsNearWay places.now (i + 1) d first }
+    ensures { (d : Row) → IsFirstOf
         (AddsDelivery trip.now.limits places.now trip.now.pickup trip.now.delivery i below d)
         result }
 {
-    let next = small_place(places, i);
+    let next = small_row(places, i);
     let base = next.at.distance;
     let reach = first.ride.distance + first.onward;
     let mut on = first;
@@ -434,7 +440,7 @@ fn best_delivery(
         if !is_in_time(trip.limits.kind, on.ride.start, latest) {
             return best.found;
         }
-        let tail = small_place(places, j - 1);
+        let tail = small_row(places, j - 1);
         let detour = Detour {
             to: on.to_delivery,
             from: leg_at(places, j - 1, &trip.delivery),

@@ -1,39 +1,43 @@
-//! The backward pass: what each place of a route lets be behind it.
+//! The backward pass: what each place of a route lets be behind it (Savelsbergh's forward time slack, kept as
+//! a latest start).
+//!
+//! It needs nothing of the schedule: the way forward keeps stops and distances at each place, and the pass
+//! reads them there.
 
 ghost use Rattle.std.specs.Prelude.{◌≡◌, ◌≤◌, ◌<◌, length};
 ghost use Rattle.plan_types.specs.declared.requests.Kind.TheVariants.{LiLim};
-ghost use Rattle.slack_tables.specs.Filled.{latest_before, place_before, IsTimely, EachIsTimely, LastMayStart, IsFilled};
+ghost use Rattle.slack_tables.specs.Filled.{latest_before, row_before, IsTimely, EachIsTimely, LastMayStart, IsFilled};
 
-use crate::progress::Place;
+use crate::progress::Row;
 use plan_types::Kind;
 
 /// Gives each place but the last its latest start and its greatest load, from the place behind it.
-pub(crate) fn fill_slack(kind: Kind, places: &mut [Place])
+pub(crate) fn fill_slack(kind: Kind, places: &mut [Row])
     requires some { 0 < length places.old }
     requires timely { EachIsTimely kind places.old }
     requires last { LastMayStart places.old }
     ensures { IsFilled kind places.old places.new }
 {
     for k in (0..places.len() - 1).rev() {
-        places[k] = place_before(kind, &places[k], &places[k + 1]);
+        places[k] = row_before(kind, &places[k], &places[k + 1]);
     }
 }
 
-/// The place with what the one behind it tells.
-fn place_before(kind: Kind, place: &Place, next: &Place) -> Place
+// The place with what the one behind it tells.
+fn row_before(kind: Kind, place: &Row, next: &Row) -> Row
     requires timely { IsTimely kind place.now next.now }
     requires limit { kind ≡ LiLim → next.now.at.start ≤ next.now.latest_start }
-    ensures { result ≡ place_before kind place.now next.now }
+    ensures { result ≡ row_before kind place.now next.now }
 {
-    Place {
+    Row {
         at: place.at,
         latest_start: latest_before(kind, place, next),
         most_load: place.at.load.max(next.most_load),
     }
 }
 
-/// The latest start from which neither the next window nor one behind it is missed.
-fn latest_before(kind: Kind, place: &Place, next: &Place) -> u64
+// The latest start from which neither the next window nor one behind it is missed.
+fn latest_before(kind: Kind, place: &Row, next: &Row) -> u64
     requires timely { IsTimely kind place.now next.now }
     requires limit { kind ≡ LiLim → next.now.at.start ≤ next.now.latest_start }
     ensures { result ≡ latest_before kind place.now next.now }

@@ -1,14 +1,26 @@
 //! What a request adds to a route at least, without a look at each of its places.
+//!
+//! A span has the coordinates between which the stops lie, the longest way between two neighbouring stops,
+//! the longer of the ways between the depot and the route's ends, and the load at the end. By it a scan is
+//! left out that can find nothing:
+//! - a single that exceeds the capacity at the end exceeds it wherever it is put in;
+//! - a stop adds at least twice its distance to the span less the longest way, or, at an end of the route,
+//!   its distances to the span and to the depot less the longer way there;
+//! - a pair adds the sum of this for both stops, or, where they are side by side, both distances and the way
+//!   between the stops less the longest way.
+//!
+//! No triangle inequality is used, so rounding takes nothing from it. Distances are bounded from below
+//! without a root, by the greater of their parts along two directions, which is some 2 % less at worst.
 
 ghost use Rattle.std.specs.Prelude.{◌≡◌, ◌+◌, ◌*◌, ◌^◌, ◌≤◌, ◌<◌, ℕ, ℤ, pos, ◌+ℤ◌, ◌-ℤ◌, ◌≤ℤ◌, ◌<ℤ◌, ◌-◌, IsTrue, All, length, slice_index_or, unsigned_abs};
 ghost use Rattle.plan_types.specs.declared.requests.Stop.{Stop};
 ghost use Rattle.nint_dist.specs.Distance.{distance};
-ghost use Rattle.slack_tables.specs.declared.progress.Place.{Place};
-ghost use Rattle.slack_tables.specs.Driven.{IsSmallPlace};
+ghost use Rattle.slack_tables.specs.declared.progress.Row.{Row};
+ghost use Rattle.slack_tables.specs.Driven.{IsSmallRow};
 ghost use Rattle.slack_tables.specs.Span.{IsInside, IsSmallSpan, IsSpanTo, AreEnds, IsSpan, IsNearest, IsFloor, IsFloorOfPair, IsFarSingle, IsFarPair, edge_of};
 
-use crate::legs::small_place;
-use crate::progress::{Limits, Place, difference};
+use crate::legs::small_row;
+use crate::progress::{Limits, Row, difference};
 use nint_dist::distances_are_nearest_roots;
 use plan_types::Stop;
 
@@ -25,7 +37,7 @@ pub(crate) struct Span {
     load: i64,
 }
 
-/// No way from a stop to one inside a span is shorter than `inside`, and none to the depot than `home`.
+// No way from a stop to one inside a span is shorter than `inside`, and none to the depot than `home`.
 #[derive(Clone, Copy, Debug, PartialEq, Eq)]
 struct Nearest {
     inside: u64,
@@ -34,29 +46,29 @@ struct Nearest {
 
 impl Span {
     /// The span of the places of a route.
-    pub(crate) fn of(places: &[Place]) -> Span
-        requires places { All IsSmallPlace places.now }
+    pub(crate) fn of(places: &[Row]) -> Span
+        requires places { All IsSmallRow places.now }
         requires count { 2 ≤ length places.now }
         ensures { IsSpan result places.now }
     {
         let mut span = Span::begun(places);
         for k in 2..places.len() - 1 {
-            let before = small_place(places, k - 1);
-            let here = small_place(places, k);
+            let before = small_row(places, k - 1);
+            let here = small_row(places, k);
             span = span.extended(before, here);
         }
         span
     }
 
-    /// The span of the first stop alone, with the ends of the route.
-    fn begun(places: &[Place]) -> Span
-        requires places { All IsSmallPlace places.now }
+    // The span of the first stop alone, with the ends of the route.
+    fn begun(places: &[Row]) -> Span
+        requires places { All IsSmallRow places.now }
         requires count { 2 ≤ length places.now }
         ensures within { IsSpanTo result places.now 2 }
         ensures ends { AreEnds result places.now }
     {
-        let first = small_place(places, 1);
-        let end = small_place(places, places.len() - 1);
+        let first = small_row(places, 1);
+        let end = small_row(places, places.len() - 1);
         Span {
             west: first.at.stop.x,
             east: first.at.stop.x,
@@ -68,10 +80,10 @@ impl Span {
         }
     }
 
-    /// The span with one place more, behind one that is in it.
-    fn extended(&self, before: &Place, here: &Place) -> Span
-        requires before { IsSmallPlace before.now }
-        requires here { IsSmallPlace here.now }
+    // The span with one place more, behind one that is in it.
+    fn extended(&self, before: &Row, here: &Row) -> Span
+        requires before { IsSmallRow before.now }
+        requires here { IsSmallRow here.now }
         requires small { IsSmallSpan self.now }
         ensures inside { IsInside result here.now.at.stop }
         ensures wider { (s : Stop) → IsInside self.now s → IsInside result s }
@@ -121,9 +133,9 @@ impl Span {
         self.north.max(stop.y)
     }
 
-    fn longer(&self, before: &Place, here: &Place) -> i64
-        requires before { IsSmallPlace before.now }
-        requires here { IsSmallPlace here.now }
+    fn longer(&self, before: &Row, here: &Row) -> i64
+        requires before { IsSmallRow before.now }
+        requires here { IsSmallRow here.now }
         requires small { IsSmallSpan self.now }
         ensures here { edge_of before.now here.now ≤ℤ result }
         ensures before { self.now.longest ≤ℤ result }
@@ -176,7 +188,7 @@ impl Span {
             && self.floor_of_pair(&to_pickup, &to_delivery, across) >= below
     }
 
-    /// What a stop adds at least between two stops of the route.
+    // What a stop adds at least between two stops of the route.
     fn inner(&self, inside: u64) -> i64
         requires small { IsSmallSpan self.now }
         requires inside { inside ≤ 2 ^ 33 }
@@ -186,7 +198,7 @@ impl Span {
         difference(inside + inside, 0) - self.longest
     }
 
-    /// What a stop adds at least.
+    // What a stop adds at least.
     fn floor(&self, near: &Nearest) -> i64
         requires small { IsSmallSpan self.now }
         requires inside { near.now.inside ≤ 2 ^ 33 }
@@ -198,7 +210,7 @@ impl Span {
         self.inner(near.inside).min(outer)
     }
 
-    /// What a pair adds at least whose stops are next to one another.
+    // What a pair adds at least whose stops are next to one another.
     fn floor_of_pair(&self, pickup: &Nearest, delivery: &Nearest, across: u64) -> i64
         requires small { IsSmallSpan self.now }
         requires pickup_inside { pickup.now.inside ≤ 2 ^ 33 }
@@ -225,7 +237,7 @@ impl Span {
         }
     }
 
-    /// No way from the stop to one inside is shorter.
+    // No way from the stop to one inside is shorter.
     fn least_inside(&self, stop: &Stop) -> u64
         ensures below { (s : Stop) → IsInside self.now s → result ≤ distance s stop.now }
         ensures bound { result ≤ 2 ^ 33 }
@@ -237,27 +249,27 @@ impl Span {
     }
 }
 
-/// The longer of the ways between the depot and the stops.
-fn tips(places: &[Place]) -> i64
-    requires places { All IsSmallPlace places.now }
+// The longer of the ways between the depot and the stops.
+fn tips(places: &[Row]) -> i64
+    requires places { All IsSmallRow places.now }
     requires count { 2 ≤ length places.now }
-    ensures first { (d : Place) → edge_of (slice_index_or places.now 0 d)
+    ensures first { (d : Row) → edge_of (slice_index_or places.now 0 d)
         (slice_index_or places.now 1 d) ≤ℤ result }
-    ensures last { (d : Place) → edge_of (slice_index_or places.now (length places.now - 2) d)
+    ensures last { (d : Row) → edge_of (slice_index_or places.now (length places.now - 2) d)
         (slice_index_or places.now (length places.now - 1) d) ≤ℤ result }
     ensures small { unsigned_abs result ≤ 2 ^ 52 }
 {
-    let depot = small_place(places, 0);
-    let first = small_place(places, 1);
-    let last = small_place(places, places.len() - 2);
-    let end = small_place(places, places.len() - 1);
+    let depot = small_row(places, 0);
+    let first = small_row(places, 1);
+    let last = small_row(places, places.len() - 2);
+    let end = small_row(places, places.len() - 1);
     edge(depot, first).max(edge(last, end))
 }
 
-/// The way from one place to the next.
-fn edge(before: &Place, here: &Place) -> i64
-    requires before { IsSmallPlace before.now }
-    requires here { IsSmallPlace here.now }
+// The way from one place to the next.
+fn edge(before: &Row, here: &Row) -> i64
+    requires before { IsSmallRow before.now }
+    requires here { IsSmallRow here.now }
     ensures value { result ≡ edge_of before.now here.now }
     ensures small { unsigned_abs result ≤ 2 ^ 51 }
 {
@@ -273,7 +285,7 @@ pub(crate) fn least_between(a: &Stop, b: &Stop) -> u64
     least_way(u64::from(a.x.abs_diff(b.x)), u64::from(a.y.abs_diff(b.y)))
 }
 
-/// How far a coordinate is at least from those between two others.
+// How far a coordinate is at least from those between two others.
 fn gap(low: i32, high: i32, x: i32) -> u64
     ensures below { (z : ℤ) → low ≤ℤ z → z ≤ℤ high → result ≤ unsigned_abs (z -ℤ x) }
     ensures bound { result < 2 ^ 32 }
@@ -287,8 +299,8 @@ fn gap(low: i32, high: i32, x: i32) -> u64
     0
 }
 
-/// No way with these differences of coordinates is shorter. This takes no root: the length is at
-/// least its part along any direction, and one of these two is near that of the way.
+// No way with these differences of coordinates is shorter. This takes no root: the length is at
+// least its part along any direction, and one of these two is near that of the way.
 fn least_way(dx: u64, dy: u64) -> u64
     requires dx { dx < 2 ^ 32 }
     requires dy { dy < 2 ^ 32 }

@@ -1,4 +1,10 @@
-//! The table of a route.
+//! The table of a route: a list of places, each with what is known of it.
+//!
+//! The depot stands at both ends of the list, so no place is a special case: place 0 is where the vehicle
+//! leaves, and the one behind the last stop the return. The way forward fills in starts, loads and distances,
+//! from where a given table differs (`front`); the way back fills in latest starts and greatest loads
+//! (`slack`). Windows are asked by kind where they are met, so in a table of a `Vrp` problem the starts are
+//! the only times that mean something.
 
 ghost use Rattle.std.specs.Prelude.{◌≡◌, ◌↔◌, ◌+◌, ◌-◌, ◌<◌, ◌≤◌, ℕ, Some, true, IsSome, IfOk, OnOk, OnErr, length, slice_index_or};
 ghost use Rattle.plan_types.specs.Limits.{IsStop};
@@ -7,15 +13,15 @@ ghost use Rattle.plan_types.specs.Request.{IsRequest};
 ghost use Rattle.plan_types.specs.Instance.{IsInstance, stop_at};
 ghost use Rattle.route_sched.specs.Route.{AreLiveOnce, IsLive, place};
 ghost use Rattle.slack_tables.specs.Insertion.{request_named, KeepsLimits};
-ghost use Rattle.slack_tables.specs.declared.progress.Place.{Place};
-ghost use Rattle.slack_tables.specs.Opened.{leaving, open_place, AreOpen};
+ghost use Rattle.slack_tables.specs.declared.progress.Row.{Row};
+ghost use Rattle.slack_tables.specs.Opened.{leaving, open_row, AreOpen};
 ghost use Rattle.slack_tables.specs.Front.{KnowsFronts};
 ghost use Rattle.slack_tables.specs.Inside.{limits_of, IsInLimits, IsDriven, IsMade};
 ghost use Rattle.slack_tables.specs.Legs.{AreLinked};
 
 use crate::front::{behind_front, copy_front, same_front};
 use crate::insertion::{pair_added, single_added};
-use crate::progress::{Limits, Place, Progress, driven_on, keeps};
+use crate::progress::{Limits, Progress, Row, driven_on, keeps};
 use crate::scan::{Addition, best_pair, best_single};
 use crate::slack::fill_slack;
 use crate::span::Span;
@@ -28,13 +34,13 @@ use std::alloc::Global;
 use std::marker::Model;
 
 /// What is known of each place of a route: when service starts, how late it may start, what the
-/// vehicle carries and how far it has driven.
+/// vehicle carries and how far it has driven. Distances and times are in the problem's unit.
 #[derive(Debug, Drop)]
 pub struct RouteTable {
     limits: Limits,
     depot: Stop,
     // The depot, each stop in order, and the depot at the return.
-    places: Vec<Place>,
+    places: Vec<Row>,
     span: Span,
 }
 
@@ -59,7 +65,7 @@ impl RouteTable {
     ghost use Rattle.slack_tables.specs.Insertion.{inserted, ArePlaces, KeepsLimits, IsAdded};
     ghost use Rattle.slack_tables.specs.Best.{IsBestAddition};
 
-    /// The table of a route that keeps the capacity and the windows.
+    /// The table of a route of live, distinct stops that keeps the capacity and the windows.
     pub fn build(alloc: Global, problem: &Problem, route: &[u32]) -> Result<RouteTable, OutOfMemory>
         requires route { AreLiveOnce problem.now route.now }
         requires limits { KeepsLimits problem.now route.now }
@@ -156,7 +162,7 @@ impl RouteTable {
             → result ≡ start p route place }
     {
         let places = self.places.as_slice();
-        place_at(places, place).at.start
+        row_at(places, place).at.start
     }
 
     /// The latest start of service at a place from which no later window and no return is missed; the
@@ -172,7 +178,7 @@ impl RouteTable {
             return None;
         }
         match self.limits.kind {
-            Kind::LiLim => Some(place_at(places, place).latest_start),
+            Kind::LiLim => Some(row_at(places, place).latest_start),
             Kind::Vrp => None,
         }
     }
@@ -184,7 +190,7 @@ impl RouteTable {
             → result ≡ load p route place }
     {
         let places = self.places.as_slice();
-        load_at(place_at(places, place))
+        load_at(row_at(places, place))
     }
 
     /// How far the vehicle drives, back to the depot.
@@ -193,12 +199,13 @@ impl RouteTable {
             → result ≡ route_length p route }
     {
         let places = self.places.as_slice();
-        place_at(places, places.len() - 1).at.distance
+        row_at(places, places.len() - 1).at.distance
     }
 
     /// By how much the route gets longer if a request is put into it, its pickup at place `i` and its
     /// delivery at place `j` of the new route, a single at `i`; `None` where the new route exceeds
-    /// the capacity or a window. Places count from 1. Takes no memory.
+    /// the capacity or a window. Places count from 1. Takes no memory. What it answers holds of a request that
+    /// is in the route already, too.
     ///
     /// The distance added can be negative, since rounded distances break the triangle inequality.
     pub fn try_insert(&self, problem: &Problem, name: u32, i: u64, j: u64) -> Option<i64>
@@ -267,24 +274,25 @@ impl RouteTable {
     }
 }
 
-pub(crate) fn place_at(places: &[Place], place: usize) -> &Place
+/// The place with this number, counted from 0.
+pub(crate) fn row_at(places: &[Row], place: usize) -> &Row
     requires { place < length places.now }
-    ensures { (d : Place) → result.now ≡ slice_index_or places.now place d }
+    ensures { (d : Row) → result.now ≡ slice_index_or places.now place d }
 {
     &places[place]
 }
 
-fn load_at(place: &Place) -> i64
+fn load_at(place: &Row) -> i64
     ensures { result ≡ place.now.at.load }
 {
     place.at.load
 }
 
-/// The places of a route that keeps the limits, in place of those that stand there.
+// The places of a route that keeps the limits, in place of those that stand there.
 fn remake(
-    places: &mut Vec<Place>,
+    places: &mut Vec<Row>,
     problem: &Problem,
-    known: &[Place],
+    known: &[Row],
     route: &[u32],
 ) -> Result<(), OutOfMemory>
     requires known { AreLinked known.now }
@@ -295,13 +303,13 @@ fn remake(
     ensures refused { OnErr result (places.new.items ≡ places.old.items) }
 {
     numbers_are_below_the_next();
-    places.resize(route.len() + 2, open_place(leaving(&problem.depot)))?;
+    places.resize(route.len() + 2, open_row(leaving(&problem.depot)))?;
     fill(places.as_mut_slice(), problem, known, route);
     Ok(())
 }
 
-/// What is known of each place of a route that keeps the limits.
-fn fill(places: &mut [Place], problem: &Problem, known: &[Place], route: &[u32])
+// What is known of each place of a route that keeps the limits.
+fn fill(places: &mut [Row], problem: &Problem, known: &[Row], route: &[u32])
     requires known { AreLinked known.now }
     requires fronts { KnowsFronts problem.now known.now }
     requires route { AreLiveOnce problem.now route.now }
@@ -314,11 +322,11 @@ fn fill(places: &mut [Place], problem: &Problem, known: &[Place], route: &[u32])
     fill_slack(problem.kind, places);
 }
 
-/// The places of a route in place of those that stand there, if it keeps the limits.
+// The places of a route in place of those that stand there, if it keeps the limits.
 fn remake_kept(
-    places: &mut Vec<Place>,
+    places: &mut Vec<Row>,
     problem: &Problem,
-    known: &[Place],
+    known: &[Row],
     route: &[u32],
 ) -> Result<bool, OutOfMemory>
     requires known { AreLinked known.now }
@@ -328,12 +336,12 @@ fn remake_kept(
     ensures made { IfOk result (λ kept. kept ≡ true → IsMade problem.now route.now places.new.items) }
 {
     numbers_are_below_the_next();
-    places.resize(route.len() + 2, open_place(leaving(&problem.depot)))?;
+    places.resize(route.len() + 2, open_row(leaving(&problem.depot)))?;
     Ok(fill_kept(places.as_mut_slice(), problem, known, route))
 }
 
-/// What is known of each place of a route, if it keeps the limits.
-fn fill_kept(places: &mut [Place], problem: &Problem, known: &[Place], route: &[u32]) -> bool
+// What is known of each place of a route, if it keeps the limits.
+fn fill_kept(places: &mut [Row], problem: &Problem, known: &[Row], route: &[u32]) -> bool
     requires known { AreLinked known.now }
     requires fronts { KnowsFronts problem.now known.now }
     requires route { AreLiveOnce problem.now route.now }
@@ -350,21 +358,21 @@ fn fill_kept(places: &mut [Place], problem: &Problem, known: &[Place], route: &[
     true
 }
 
-/// Whether each place behind the depot keeps the limits.
-fn are_kept(limits: Limits, places: &[Place]) -> bool
+// Whether each place behind the depot keeps the limits.
+fn are_kept(limits: Limits, places: &[Row]) -> bool
     ensures { (stops : ℕ → Stop) → AreOpen stops places.now
         → (result ≡ true) ↔ IsInLimits limits.kind limits.capacity stops (length places.now - 1) }
 {
     for k in 1..places.len() {
-        if !keeps(limits, &place_at(places, k).at) {
+        if !keeps(limits, &row_at(places, k).at) {
             return false;
         }
     }
     true
 }
 
-/// The places of a route as the vehicle comes to them, with nothing known of what is behind.
-fn drive_route(places: &mut [Place], problem: &Problem, known: &[Place], route: &[u32])
+// The places of a route as the vehicle comes to them, with nothing known of what is behind.
+fn drive_route(places: &mut [Row], problem: &Problem, known: &[Row], route: &[u32])
     requires known { AreLinked known.now }
     requires fronts { KnowsFronts problem.now known.now }
     requires route { AreLiveOnce problem.now route.now }
@@ -373,7 +381,7 @@ fn drive_route(places: &mut [Place], problem: &Problem, known: &[Place], route: 
     ensures { AreOpen (place problem.now route.now) places.new }
 {
     let front = same_front(known, route);
-    places[0] = open_place(leaving(&problem.depot));
+    places[0] = open_row(leaving(&problem.depot));
     copy_front(places, known, front);
     let mut at = behind_front(problem, known, front);
     let mut seen = front;
@@ -381,13 +389,13 @@ fn drive_route(places: &mut [Place], problem: &Problem, known: &[Place], route: 
         let stop = live_stop(problem, route[k]);
         at = driven_on(known, seen, &at, stop);
         seen = place_seen(known, seen, stop);
-        places[k + 1] = open_place(at);
+        places[k + 1] = open_row(at);
     }
-    places[route.len() + 1] = open_place(driven_on(known, seen, &at, &problem.depot));
+    places[route.len() + 1] = open_row(driven_on(known, seen, &at, &problem.depot));
 }
 
-/// Whether a route keeps the limits.
-fn keeps_limits(problem: &Problem, known: &[Place], route: &[u32]) -> bool
+// Whether a route keeps the limits.
+fn keeps_limits(problem: &Problem, known: &[Row], route: &[u32]) -> bool
     requires known { AreLinked known.now }
     requires fronts { KnowsFronts problem.now known.now }
     requires route { AreLiveOnce problem.now route.now }
@@ -404,8 +412,8 @@ fn keeps_limits(problem: &Problem, known: &[Place], route: &[u32]) -> bool
     }
 }
 
-/// Where the vehicle is at the last stop of a route, if it keeps the limits up to there.
-fn drive_stops(problem: &Problem, known: &[Place], route: &[u32]) -> Option<Progress>
+// Where the vehicle is at the last stop of a route, if it keeps the limits up to there.
+fn drive_stops(problem: &Problem, known: &[Row], route: &[u32]) -> Option<Progress>
     requires known { AreLinked known.now }
     requires fronts { KnowsFronts problem.now known.now }
     requires route { AreLiveOnce problem.now route.now }
@@ -427,7 +435,7 @@ fn drive_stops(problem: &Problem, known: &[Place], route: &[u32]) -> Option<Prog
     Some(at)
 }
 
-/// The request of a live name.
+// The request of a live name.
 fn live_request(problem: &Problem, name: u32) -> &Request
     requires { IsSome (request_named problem.now name) }
     ensures found { request_named problem.now name ≡ Some result.now }
@@ -437,7 +445,7 @@ fn live_request(problem: &Problem, name: u32) -> &Request
     problem.requests.get(&name).unwrap()
 }
 
-/// The stop with a live number.
+// The stop with a live number.
 fn live_stop(problem: &Problem, number: u32) -> &Stop
     requires { IsLive problem.now number }
     ensures found { stop_at problem.now number ≡ Some result.now }
@@ -447,7 +455,7 @@ fn live_stop(problem: &Problem, number: u32) -> &Stop
     problem.stop(number).unwrap()
 }
 
-/// What the vehicles of a problem must keep.
+// What the vehicles of a problem must keep.
 fn limits_of(problem: &Problem) -> Limits
     ensures value { result ≡ limits_of problem.now }
     ensures valid { IsInstance problem.now }
@@ -471,10 +479,10 @@ pub(crate) fn leaving(depot: &Stop) -> Progress
 }
 
 /// A place with nothing known of what is behind it.
-pub(crate) fn open_place(at: Progress) -> Place
-    ensures { result ≡ open_place at }
+pub(crate) fn open_row(at: Progress) -> Row
+    ensures { result ≡ open_row at }
 {
-    Place {
+    Row {
         at,
         latest_start: u64::MAX,
         most_load: at.load,

@@ -1,17 +1,20 @@
 //! Ways between stops, taken from a table that has them, since a root takes longer than a look.
+//!
+//! A way is taken where both stops stand at neighbouring places of the table, by their coordinates; else it
+//! is computed. So where to look is a hint, and a wrong one costs time alone.
 
 ghost use Rattle.std.specs.Prelude.{◌≡◌, ◌≤◌, IfSome, IsTrue};
 ghost use Rattle.plan_types.specs.Limits.{IsVisit};
 ghost use Rattle.nint_dist.specs.Distance.{distance};
 ghost use Rattle.slack_tables.specs.Legs.{AreLinked};
 
-use crate::progress::Place;
+use crate::progress::Row;
 use nint_dist::{dist, distances_are_nearest_roots};
 use plan_types::Stop;
 
 /// The way from a stop to another, where the table may have it behind its place `seen`.
 #[inline(always)]
-pub(crate) fn way(places: &[Place], seen: usize, from: &Stop, to: &Stop) -> u64
+pub(crate) fn way(places: &[Row], seen: usize, from: &Stop, to: &Stop) -> u64
     requires places { AreLinked places.now }
     requires from { IsVisit from.now }
     requires to { IsVisit to.now }
@@ -25,9 +28,9 @@ pub(crate) fn way(places: &[Place], seen: usize, from: &Stop, to: &Stop) -> u64
     }
 }
 
-/// The way behind place `seen`, where it is between two such places.
+// The way behind place `seen`, where it is between two such places.
 #[inline(always)]
-fn known_way(places: &[Place], seen: usize, from: &Stop, to: &Stop) -> Option<u64>
+fn known_way(places: &[Row], seen: usize, from: &Stop, to: &Stop) -> Option<u64>
     requires places { AreLinked places.now }
     requires from { IsVisit from.now }
     requires to { IsVisit to.now }
@@ -45,19 +48,19 @@ fn known_way(places: &[Place], seen: usize, from: &Stop, to: &Stop) -> Option<u6
     None
 }
 
-/// Whether two stops have one place on the map.
+// Whether two stops have one place on the map.
 fn stands_at(stop: &Stop, other: &Stop) -> bool
     ensures { IsTrue result → (stop.now.x ≡ other.now.x) × (stop.now.y ≡ other.now.y) }
 {
     stop.x == other.x && stop.y == other.y
 }
 
-/// How far a stop is looked for. A route that a move changed has most stops where they were or a few places on.
+// How far a stop is looked for. A route that a move changed has most stops where they were or a few places on.
 const AHEAD: usize = 8;
 
 /// The first place from `seen` on where the table has the stop, or `seen` itself where it is not among the next few.
 #[inline(always)]
-pub(crate) fn place_seen(places: &[Place], seen: usize, stop: &Stop) -> usize {
+pub(crate) fn place_seen(places: &[Row], seen: usize, stop: &Stop) -> usize {
     let end = places.len().min(seen.saturating_add(AHEAD));
     for k in seen..end {
         if places[k].at.stop.number == stop.number {

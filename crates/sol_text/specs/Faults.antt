@@ -22,8 +22,8 @@ has_bad_number line =
     else option_map_or (λ word. is_none (cost_of word)) (cost_word line) false
 
 -- The line at this place, counted from 0, counts: no line before it is the cost line.
-abbrev pub Counts : List (List ℕ) → ℕ → Type 0
-Counts lines k = (k < length lines) × AllByRecursion (λ line. is_cost_line line ≡ false) (take k lines)
+abbrev pub LineCounts : List (List ℕ) → ℕ → Type 0
+LineCounts lines k = (k < length lines) × AllByRecursion (λ line. is_cost_line line ≡ false) (take k lines)
 
 -- the line at a place
 abbrev pub line_at : List (List ℕ) → ℕ → List ℕ
@@ -31,8 +31,8 @@ line_at lines k = slice_index_or lines k []
 
 -- The faults of lines. A place is counted from 0, and `NoCost` stands behind the last line.
 abbrev pub FaultAmong : List (List ℕ) → ℕ → SolFaultKind → Type 0
-FaultAmong lines k BadLine = Counts lines k × (is_bad_line (line_at lines k) ≡ true)
-FaultAmong lines k BadNumber = Counts lines k × (has_bad_number (line_at lines k) ≡ true)
+FaultAmong lines k BadLine = LineCounts lines k × (is_bad_line (line_at lines k) ≡ true)
+FaultAmong lines k BadNumber = LineCounts lines k × (has_bad_number (line_at lines k) ≡ true)
 FaultAmong lines k NoCost = (k ≡ length lines) × AllByRecursion (λ line. is_cost_line line ≡ false) lines
 FaultAmong lines k OutOfMemory = ⊥
 

@@ -1,3 +1,4 @@
+//! Why a solution text is refused, and why a plan is not written.
 ghost use Rattle.std.specs.Prelude.{◌≡◌, codes};
 
 use std::alloc::{AllocError, AllocFailed};

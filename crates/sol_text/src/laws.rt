@@ -1,4 +1,4 @@
-// What route lines and cost lines are, each law for every line.
+//! What route lines and cost lines are, each law for every line.
 ghost use Rattle.sol_text.specs.Laws.{AreCostLines, AreRouteLines};
 
 use text_lines::words_make_the_line;

@@ -27,7 +27,7 @@ pub(crate) enum Line {
 
 /// Reads the line with this number.
 #[tactic(auto, unfolding(crate::specs::Reading::line_of))]
-pub(crate) fn read_line(alloc: Global, number: u64, line: &[u8]) -> Result<Line, SolFault>
+pub(crate) fn parse_line(alloc: Global, number: u64, line: &[u8]) -> Result<Line, SolFault>
     ensures { Gives result (line_of number line.now) }
 {
     if is_blank_line(line) {
@@ -39,7 +39,7 @@ pub(crate) fn read_line(alloc: Global, number: u64, line: &[u8]) -> Result<Line,
     }
 }
 
-/// Reads the customers of a route line, which follow its colon.
+// Reads the customers of a route line, which follow its colon.
 fn read_route(alloc: Global, number: u64, tail: &[u8]) -> Result<Line, SolFault>
     ensures { Gives result (or_bad_number Routed number (customers_of (words_of tail.now))) }
 {
@@ -54,7 +54,7 @@ fn read_route(alloc: Global, number: u64, tail: &[u8]) -> Result<Line, SolFault>
     Ok(Line::Route(Route::from(customers)))
 }
 
-/// Reads a line that can only be a cost line.
+// Reads a line that can only be a cost line.
 fn read_cost(number: u64, line: &[u8]) -> Result<Line, SolFault>
     ensures { Gives result (cost_line number (cost_word line.now)) }
 {
@@ -82,7 +82,7 @@ fn cost_of(word: &[u8]) -> Option<u64>
     Number::parse(word)?.to_u64()
 }
 
-/// What follows the colon of a route line.
+// What follows the colon of a route line.
 #[tactic(auto, unfolding(crate::specs::LineShapes::route_tail))]
 fn route_tail(line: &[u8]) -> Option<&[u8]>
     ensures { option_copied result ≡ route_tail line.now }
@@ -93,7 +93,7 @@ fn route_tail(line: &[u8]) -> Option<&[u8]>
     strip_colon(trim_blanks_start(rest))
 }
 
-/// The word of a cost line that has exactly one.
+// The word of a cost line that has exactly one.
 fn cost_word(line: &[u8]) -> Option<&[u8]>
     ensures { option_copied result ≡ cost_word line.now }
 {
@@ -105,7 +105,7 @@ fn cost_word(line: &[u8]) -> Option<&[u8]>
     }
 }
 
-/// What follows `Cost` and its separator.
+// What follows `Cost` and its separator.
 #[tactic(auto, unfolding(crate::specs::LineShapes::cost_tail))]
 fn cost_tail(line: &[u8]) -> Option<&[u8]>
     ensures { option_copied result ≡ cost_tail line.now }
@@ -117,7 +117,7 @@ fn cost_tail(line: &[u8]) -> Option<&[u8]>
     }
 }
 
-/// What follows the key, which stands there in any letter case.
+// What follows the key, which stands there in any letter case.
 fn strip_key<'a>(text: &'a [u8], key: &[u8]) -> Option<&'a [u8]>
     ensures { option_copied result ≡ after_key (map to_ascii_lowercase key.now) text.now }
 {
@@ -128,7 +128,7 @@ fn strip_key<'a>(text: &'a [u8], key: &[u8]) -> Option<&'a [u8]>
     Some(rest)
 }
 
-/// What follows the mark, if it is there.
+// What follows the mark, if it is there.
 fn strip_one(text: &[u8], mark: u8) -> &[u8]
     ensures { result.now ≡ after_one mark text.now }
 {
@@ -141,7 +141,7 @@ fn strip_colon(text: &[u8]) -> Option<&[u8]>
     text.strip_prefix(b":")
 }
 
-/// What follows one or more digits.
+// What follows one or more digits.
 fn strip_digits(text: &[u8]) -> Option<&[u8]>
     ensures { option_copied result ≡ after_digits text.now }
 {

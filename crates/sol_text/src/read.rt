@@ -7,7 +7,7 @@ ghost use Rattle.sol_text.specs.declared.read.Solution.{Solution};
 ghost use Rattle.sol_text.specs.Faults.{IsFirstFault, IsUnlessMemory, Spells, no_memory};
 
 use crate::faults::{SolFault, SolFaultKind};
-use crate::lines::{Line, read_line};
+use crate::lines::{Line, parse_line};
 use plan_types::Routes;
 use std::alloc::Global;
 use text_lines::Lines;
@@ -21,12 +21,12 @@ pub struct Solution {
     pub cost: u64,
 }
 
-/// Reads a solution text: lines as `Route #1: 21 31 19`, then one as `Cost 784`. What follows the cost
-/// line is ignored.
+/// Reads a solution in the format of CVRPLIB's `.sol` files: lines as `Route #1: 21 31 19`, then one as `Cost 784`.
+/// What follows the cost line is ignored.
 ///
 /// # Errors
 ///
-/// The first fault with its line, or `OutOfMemory`, with line 0.
+/// The fault of the least line, or `OutOfMemory`, with line 0.
 pub fn read_sol(alloc: Global, text: &[u8]) -> Result<Solution, SolFault>
     // What is read is spelled so.
     ensures found { IfOk result (Spells text.now) }
@@ -38,7 +38,7 @@ pub fn read_sol(alloc: Global, text: &[u8]) -> Result<Solution, SolFault>
     read_lines(alloc, text)
 }
 
-/// Reads line by line, up to the first fault or the cost line.
+// Reads line by line, up to the first fault or the cost line.
 fn read_lines(alloc: Global, text: &[u8]) -> Result<Solution, SolFault>
     ensures { Gives result (reading 0 (lines_of text.now)) }
 {
@@ -46,7 +46,7 @@ fn read_lines(alloc: Global, text: &[u8]) -> Result<Solution, SolFault>
     let mut number = 0;
     for line in Lines::new(text) {
         number += 1;
-        match read_line(alloc, number, line)? {
+        match parse_line(alloc, number, line)? {
             Line::Blank => {}
             Line::Route(route) => routes.push(route)?,
             Line::Cost(cost) => {

@@ -15,8 +15,8 @@ use route_sched::plan_cost;
 use std::alloc::{AllocError, Global};
 use text_lines::{decimals_are_read, lines_follow, words_make_the_line};
 
-/// The text of a plan: each nonempty route as `Route #1: 21 31 19`, numbered from 1, and then
-/// `Cost 784`, each with a line feed.
+/// The text of a plan in the format of CVRPLIB's `.sol` files: each nonempty route as `Route #1: 21 31 19`, numbered
+/// from 1, and then its distance as `Cost 784`, each with a line feed.
 ///
 /// # Errors
 ///

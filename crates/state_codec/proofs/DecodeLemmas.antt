@@ -22,7 +22,7 @@ use Rattle.state_codec.specs.Fields.{Fails}
 use Rattle.state_codec.specs.Parts.{IsWithin}
 use Rattle.state_codec.specs.Reading.{whole_at}
 use Rattle.state_codec.specs.Laws.{StatesDiffer, StatesHaveNoFault, FaultsAreOne, IsOfWhole, BadFieldsStay, BytesBehindAreBad, FrontsAreTruncated}
-use Rattle.state_codec.specs.Refused.{Decodes, IsDecoded, option_of, IsUnlessMemory, IsRefused, IsPlanRefused, IsPinRefused, Tells}
+use Rattle.state_codec.specs.Refused.{Decodes, IsDecoded, option_of, IsUnlessMemory, IsRefused, IsPlanRefused, IsPinRefused, TellsRule}
 use Rattle.state_codec.proofs.FieldLaws.{IsBytes}
 use Rattle.state_codec.proofs.RequestLaws.{and_parts}
 use Rattle.state_codec.proofs.AgainLaws.{whole_again, empty_again}
@@ -42,7 +42,7 @@ module _ (v : Version) (bytes : List ℕ) (j : JobValue) (read : whole_at v byte
   pub by_job : (k : JobValue) → k ≡ j → IsDecoded v bytes (Ok (Loaded k))
   by_job k same = rw same read
 
-  pub by_rule : (e : CodecFault) → Tells (IsRefused j) e → IsDecoded v bytes (Err e)
+  pub by_rule : (e : CodecFault) → TellsRule (IsRefused j) e → IsDecoded v bytes (Err e)
   by_rule Truncated h = absurd h
   by_rule BadField h = absurd h
   by_rule (PlanRefused rule) h = (j, read, h)

@@ -6,7 +6,7 @@ use Rattle.plan_types.specs.Request.{request_name, stops_of}
 use Rattle.plan_types.specs.Instance.{Instance, IsTaken, stop_at, lesser_names, greater_names, with_entry, with_request, numbers_among}
 use Rattle.plan_types.specs.declared.requests.Request.{Request}
 use Rattle.plan_types.specs.declared.requests.Request.TheVariants.{Single, Pair}
-use Rattle.state_codec.specs.Filled.{IsFilled}
+use Rattle.state_codec.specs.Filled.{IsFilledBelow}
 use Rattle.state_codec.proofs.RequestLaws.{IsNew, and_parts}
 
 all_lesser : (name : ℕ) (es : List (ℕ × Request)) → list_all (λ e. nat_lt e.0 name) es ≡ true → lesser_names es name ≡ es
@@ -45,7 +45,7 @@ all_one_more next ((n, Single s) ∷ es) r all new = (all.0, all_one_more next e
 all_one_more next ((n, Pair a b) ∷ es) r all new = (all.0, (all.1.0, all_one_more next es r all.1.1 new))
 
 -- one request more
-pub filled_more : (before after : Instance) (next : ℕ) (r : Request) → IsFilled before next after → IsNew next after.requests r → IsFilled before next (with_request after r)
+pub filled_more : (before after : Instance) (next : ℕ) (r : Request) → IsFilledBelow before next after → IsNew next after.requests r → IsFilledBelow before next (with_request after r)
 filled_more before after next r filled new = record {
   kind = filled.kind;
   depot = filled.depot;

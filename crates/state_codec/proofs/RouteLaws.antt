@@ -106,7 +106,7 @@ routes_again v routes rest fit =
 abbrev vehicle_word : Version → List ℕ × List ℕ → List ℕ
 vehicle_word v e = count_bytes v (length e.0) ++ (count_bytes v (length e.1) ++ stops_bytes v e.1)
 
-pub record IsFront (pin route : List ℕ) : Type 0 where
+pub record BeginsRoute (pin route : List ℕ) : Type 0 where
   pub front : take (length pin) route ≡ pin
   pub within : length pin ≤ length route
 
@@ -123,7 +123,7 @@ vehicle_takes v bytes fits y e =
     let t0 = takes_then bytes (count_bytes v (length (take p.0 r.0))) p.1 (count_bytes v (length r.0) ++ stops_bytes v r.0) r.1 (subst (λ n. Takes bytes (count_bytes v n) p.1) (sym pin-len) tp) t1 in
     subst (λ (z : (List ℕ × List ℕ) × List ℕ). Takes bytes (vehicle_word v z.0) z.1) (ok_is ((take p.0 r.0, r.0), r.1) y er) t0)))
 
-pub vehicle_again : (v : Version) (pin route rest : List ℕ) → IsFront pin route → IsWritable v route → vehicle_at v (vehicle_word v (pin, route) ++ rest) ≡ Ok ((pin, route), rest)
+pub vehicle_again : (v : Version) (pin route rest : List ℕ) → BeginsRoute pin route → IsWritable v route → vehicle_at v (vehicle_word v (pin, route) ++ rest) ≡ Ok ((pin, route), rest)
 unfolding vehicle_at
 vehicle_again v pin route rest front fit =
     let stops = stops_bytes v route ++ rest in
@@ -162,7 +162,7 @@ abbrev pub AreFronts : List (List ℕ) → List (List ℕ) → Type 0
 AreFronts [] [] = Unit {0}
 AreFronts [] (route ∷ routes) = ⊥
 AreFronts (pin ∷ pins) [] = ⊥
-AreFronts (pin ∷ pins) (route ∷ routes) = IsFront pin route × AreFronts pins routes
+AreFronts (pin ∷ pins) (route ∷ routes) = BeginsRoute pin route × AreFronts pins routes
 
 pub more_vehicles : (v : Version) (pins routes before-pins before : List (List ℕ)) (rest : List ℕ) → AreFronts pins routes → AllByRecursion (IsWritable v) routes → times (next_vehicle v) (length routes) (before-pins, before) (vehicles_bytes v pins routes ++ rest) ≡ Ok ((before-pins ++ pins, before ++ routes), rest)
 unfolding times

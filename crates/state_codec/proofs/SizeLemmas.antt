@@ -15,7 +15,7 @@ use Rattle.std.specs.Prelude.{nat_eq}
 use Rattle.std.proofs.lemmas.Slice.Eq.{bytes_eq-Decides}
 use Rattle.command_core.specs.Job.{JobValue, IsJob}
 use Rattle.state_codec.proofs.RequestLaws.{and_parts}
-use Rattle.state_codec.proofs.RouteLaws.{IsFront, AreFronts}
+use Rattle.state_codec.proofs.RouteLaws.{BeginsRoute, AreFronts}
 
 not_zero : (n : ℕ) → 1 ≤ n → eqb n 0 ≡ false
 not_zero n h = grind (arith, h)
@@ -122,7 +122,7 @@ short_routes (r ∷ routes) n h =
     let whole = length-append r (concat routes) in
     (omega (arith, h, whole), short_routes routes n (omega (arith, h, whole)))
 
-begins : (route pin : List ℕ) → starts_with nat_eq route pin ≡ true → IsFront pin route
+begins : (route pin : List ℕ) → starts_with nat_eq route pin ≡ true → BeginsRoute pin route
 begins route pin h =
     let same = (bytes_eq-Decides pin (take (length pin) route)).0 h in
     record { front = sym same; within = omega (arith, length-take (length pin) route, ap length same) }

@@ -4,7 +4,7 @@ use Rattle.std.specs.List.{AllByRecursion}
 use Rattle.plan_types.specs.Instance.{Instance, numbers_among}
 
 -- all but its requests and `next_number` is as before, and each number is below `next`
-pub record IsFilled (before : Instance) (next : ℕ) (after : Instance) : Type 0 where
+pub record IsFilledBelow (before : Instance) (next : ℕ) (after : Instance) : Type 0 where
   pub kind : after.kind ≡ before.kind
   pub depot : after.depot ≡ before.depot
   pub capacity : after.capacity ≡ before.capacity

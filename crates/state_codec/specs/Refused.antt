@@ -61,8 +61,8 @@ IsUnlessMemory state (Ok s) = s ≡ state
 IsUnlessMemory state (Err e) = e ≡ OutOfMemory
 
 -- what an audit before a state is made tells
-abbrev pub Tells : (ℕ → Type 0) → CodecFault → Type 0
-Tells IsTold Truncated = ⊥
-Tells IsTold BadField = ⊥
-Tells IsTold (PlanRefused rule) = IsTold rule
-Tells IsTold OutOfMemory = Unit {0}
+abbrev pub TellsRule : (ℕ → Type 0) → CodecFault → Type 0
+TellsRule IsTold Truncated = ⊥
+TellsRule IsTold BadField = ⊥
+TellsRule IsTold (PlanRefused rule) = IsTold rule
+TellsRule IsTold OutOfMemory = Unit {0}

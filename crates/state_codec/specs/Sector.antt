@@ -3,9 +3,9 @@ use Rattle.std.specs.Prelude.{◌≡◌, ◌≤◌, ℕ, List, take}
 use Rattle.state_codec.specs.Bytes.{padded}
 use Rattle.state_codec.specs.declared.sector.Sector.TheInside.{Inside}
 
-abbrev pub written : Inside → List ℕ
-written s = take s.used s.bytes
+abbrev pub used_bytes : Inside → List ℕ
+used_bytes s = take s.used s.bytes
 
 pub record IsPadded (s : Inside) : Type 0 where
   pub used : s.used ≤ 512
-  pub zeros : s.bytes ≡ padded (written s)
+  pub zeros : s.bytes ≡ padded (used_bytes s)

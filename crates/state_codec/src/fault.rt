@@ -1,3 +1,8 @@
+//! Why bytes are no state.
+//!
+//! Truncated is not "where some continuation is an encoding": a count of 4 billion requests is read as far as the bytes go,
+//! though no continuation has so many. What holds is the law of fronts, and that a bad field is final.
+
 use std::alloc::{AllocError, AllocFailed};
 use thiserror::Error;
 

@@ -1,9 +1,9 @@
-//! The judgement of a state that was read whole.
+//! The judgement of a state that was read whole, by the auditor's rules.
 ghost use Rattle.std.specs.Prelude.{◌≡◌, true, All, IfOk, IfErr, OnOk};
 ghost use Rattle.std.specs.List.{list_all};
 ghost use Rattle.route_sched.specs.Route.{AreLiveOnce};
 ghost use Rattle.plan_audit.specs.Passes.{feasible_alone, passes};
-ghost use Rattle.state_codec.specs.Refused.{IsPlanRefused, IsPinRefused, Tells};
+ghost use Rattle.state_codec.specs.Refused.{IsPlanRefused, IsPinRefused, TellsRule};
 
 use crate::fault::CodecFault;
 use plan_audit::{Verdict, audit, route_fault, tests_say_feasible, tests_say_pass};
@@ -18,7 +18,7 @@ pub(crate) fn audited(
     plan: &Plan,
 ) -> Result<(), CodecFault>
     ensures ok { OnOk result (passes problem.now pins.now.routes plan.now.routes ≡ true) }
-    ensures err { IfErr result (Tells (IsPlanRefused problem.now pins.now.routes plan.now.routes)) }
+    ensures err { IfErr result (TellsRule (IsPlanRefused problem.now pins.now.routes plan.now.routes)) }
 {
     tests_say_pass();
     match audit(alloc, problem, pins, plan)? {
@@ -31,7 +31,7 @@ pub(crate) fn audited(
 pub(crate) fn judged_pins(problem: &Problem, pins: &[Route]) -> Result<(), CodecFault>
     requires { All (AreLiveOnce problem.now) pins.now }
     ensures ok { OnOk result (list_all (feasible_alone problem.now) pins.now ≡ true) }
-    ensures err { IfErr result (Tells (IsPinRefused problem.now pins.now)) }
+    ensures err { IfErr result (TellsRule (IsPinRefused problem.now pins.now)) }
 {
     tests_say_feasible();
     for pin in pins {

@@ -1,4 +1,5 @@
-//! A state as it is read, before it is judged.
+//! A state as it is read, before it is judged: field by field in the order of the format's table, as `specs/Reading.antt` has
+//! it. That what it reads is what was written is proved both ways.
 ghost use Rattle.std.specs.Prelude.{◌≡◌, ◌≤◌, [], Ok, IsOk, IfOk, IfErr, length};
 ghost use Rattle.std.specs.Option.{option_map};
 ghost use Rattle.plan_types.specs.Instance.{new_instance};

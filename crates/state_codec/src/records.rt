@@ -1,4 +1,7 @@
 //! Commands as the sectors of a store's journal.
+//!
+//! A record is decoded by reading a command, testing its limits, and comparing its record with the sector: so the bytes
+//! behind the fields need no rule of their own.
 ghost use Rattle.std.specs.Prelude.{◌≡◌, ◌≢◌, ◌≤◌, ◌+◌, ◌++◌, ◌∷◌, ◌↔◌, IsTrue, length, MatchOption};
 ghost use Rattle.plan_types.specs.Limits.{IsCoordinate};
 ghost use Rattle.state_codec.specs.declared.version.Version.TheVariants.{One, Two};

@@ -2,7 +2,7 @@
 ghost use Rattle.std.specs.Prelude.{◌≡◌, ◌≤◌, ◌&&◌, [], nat_le, nat_lt, OnOk, IfOk, IfErr};
 ghost use Rattle.plan_types.specs.Instance.{with_request, IsTaken};
 ghost use Rattle.plan_types.specs.Request.{IsRequest};
-ghost use Rattle.state_codec.specs.Filled.{IsFilled};
+ghost use Rattle.state_codec.specs.Filled.{IsFilledBelow};
 ghost use Rattle.plan_types.specs.Limits.{IsDemand};
 ghost use Rattle.std.specs.List.{list_all};
 ghost use Rattle.state_codec.specs.Bytes.{width};
@@ -266,7 +266,7 @@ pub(crate) fn requests_at<'a>(
     requires next { next ≤ 40001 }
     ensures read { Gives (λ x. (x.0.requests, x.1.now)) result
         (times (next_request version next) count [] bytes.now) }
-    ensures problem { IfOk result (λ x. IsFilled problem next x.0) }
+    ensures problem { IfOk result (λ x. IsFilledBelow problem next x.0) }
 {
     let mut problem = problem;
     let mut rest = bytes;

@@ -19,9 +19,9 @@ impl Model for Sector {
 
     ghost Value = { List ℕ };
 
-    ghost use Rattle.state_codec.specs.Sector.{written, IsPadded};
+    ghost use Rattle.state_codec.specs.Sector.{used_bytes, IsPadded};
 
-    ghost view = { written };
+    ghost view = { used_bytes };
 
     ghost invariant = { IsPadded };
 }

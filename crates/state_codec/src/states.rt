@@ -4,7 +4,7 @@ ghost use Rattle.command_core.specs.Runs.{IsState};
 ghost use Rattle.command_core.specs.declared.states.State.{State};
 ghost use Rattle.state_codec.specs.declared.version.Version.TheVariants.{One, Two};
 ghost use Rattle.state_codec.specs.Parts.{job_in, IsWithin};
-ghost use Rattle.state_codec.specs.Refused.{Decodes, IsDecoded, IsRefused, IsUnlessMemory, Tells};
+ghost use Rattle.state_codec.specs.Refused.{Decodes, IsDecoded, IsRefused, IsUnlessMemory, TellsRule};
 ghost use Rattle.state_codec.specs.Bytes.{state_bytes};
 ghost use Rattle.state_codec.specs.Limits.{IsStateOf};
 
@@ -21,7 +21,7 @@ use std::alloc::Global;
 fn judged(alloc: Global, parts: Parts) -> Result<Job, CodecFault>
     requires { IsWithin (job_in parts) }
     ensures ok { IfOk result (λ job. job ≡ job_in parts) }
-    ensures err { IfErr result (Tells (IsRefused (job_in parts))) }
+    ensures err { IfErr result (TellsRule (IsRefused (job_in parts))) }
 {
     let Parts {
         problem,

@@ -1,3 +1,4 @@
+//! Rounded roots and distances.
 ghost use Rattle.plan_types.specs.Limits.{IsCoordinate};
 ghost use Rattle.nint_dist.specs.Distance.{IsPlaced};
 

@@ -1,5 +1,5 @@
-//! A plain and slow auditor, to be run beside the real one: it asks every rule of every route and place, as the rules are written, and
-//! keeps the least of what is broken.
+//! A plain and slow auditor, to be run beside the real one: it asks every rule of every route and place, as the
+//! rules are written, and keeps the least of what is broken.
 use plan_audit::Verdict;
 use plan_types::{Cost, Kind, Problem, Request, Route, Stop};
 use std::alloc::Global;

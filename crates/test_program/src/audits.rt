@@ -137,7 +137,7 @@ fn audits_capacitated_routes(rt: HostRuntime) -> Result<(), Fail> {
     check_audits(&rt, Kind::Vrp, &CAPACITATED)
 }
 
-/// A `.vrp` text of this many customers, all at the depot.
+// A `.vrp` text of this many customers, all at the depot.
 fn customers_at_the_depot(alloc: Global, customers: u32) -> Result<Vec<u8>, AllocError>
     requires { customers ≤ 40000 }
 {
@@ -159,7 +159,7 @@ fn customers_at_the_depot(alloc: Global, customers: u32) -> Result<Vec<u8>, Allo
     Ok(text)
 }
 
-/// All of them in one route.
+// All of them in one route.
 fn one_route_of(alloc: Global, customers: u32) -> Result<Vec<u8>, AllocError>
     requires { customers ≤ 40000 }
 {

@@ -2,8 +2,8 @@
 
 use command_core::{Command, Job, Refusal, State, apply};
 use command_text::{
-    Answer, Asked, FirstWord, at_line, next_count, print, reach_steps, read_instance, read_line,
-    search_steps, show,
+    Answer, Asked, FirstWord, at_line, next_count, print, read_instance, read_line, show,
+    steps_to_reach, steps_to_search,
 };
 use instance_read::{ReadFault, ReadFaultKind};
 use plan_types::Kind;
@@ -18,7 +18,7 @@ const TWO_PAIRS: &[u8] =
 const THREE_CUSTOMERS: &[u8] =
     b"NAME : t3\nTYPE : CVRP\nDIMENSION : 4\nEDGE_WEIGHT_TYPE : EUC_2D\nCAPACITY : 10\nNODE_COORD_SECTION\n1 0 0\n2 3 4\n3 6 8\n4 0 5\nDEMAND_SECTION\n1 0\n2 6\n3 4\n4 5\nDEPOT_SECTION\n1\n-1\nEOF\n";
 
-/// What is asked for, in a word, and the first number of it.
+// What is asked for, in a word, and the first number of it.
 fn summary(asked: &Asked) -> (&'static str, u64) {
     match asked {
         Asked::Nothing => ("nothing", 0),
@@ -207,7 +207,7 @@ fn command_of(line: &[u8]) -> Result<Command, Fail> {
     }
 }
 
-/// What a line makes of a state.
+// What a line makes of a state.
 fn after(alloc: Global, state: &State, line: &[u8]) -> Result<State, Fail> {
     let command = command_of(line)?;
     Ok(apply(alloc, state, &command).ok().ok_or("accepted")?)
@@ -229,7 +229,7 @@ fn is_shown(alloc: Global, state: &State, at: &[u8], text: &[u8]) -> Result<bool
     Ok(at_line(job).as_bytes() == at && shown.as_bytes() == text)
 }
 
-/// What the lines make of a state, each of which has to be shown as is said.
+// What the lines make of a state, each of which has to be shown as is said.
 fn check_moves<R: Abort + AllocGlobal>(rt: &R, from: State, moves: &[Move]) -> Result<State, Fail> {
     let mut state = from;
     for (line, at, text) in moves {
@@ -303,7 +303,7 @@ fn shows_a_search(rt: HostRuntime) -> Result<(), Fail> {
     Ok(())
 }
 
-/// The three customers behind 200 steps.
+// The three customers behind 200 steps.
 fn searched(alloc: Global) -> Result<State, Fail> {
     let state = loaded(alloc, Kind::Vrp, THREE_CUSTOMERS)?;
     after(alloc, &state, b"search 200")
@@ -312,18 +312,18 @@ fn searched(alloc: Global) -> Result<State, Fail> {
 #[test]
 fn counts_the_steps_to_reach(rt: HostRuntime) -> Result<(), Fail> {
     let state = searched(rt.alloc())?;
-    assert!(rt; reach_steps(&state, 456) == Ok(256));
-    assert!(rt; reach_steps(&state, 10) == Ok(0));
-    assert!(rt; reach_steps(&state, 1_000_000_200) == Ok(1_000_000_000));
-    assert!(rt; reach_steps(&state, 1_000_000_201) == Err(Refusal::Range));
+    assert!(rt; steps_to_reach(&state, 456) == Ok(256));
+    assert!(rt; steps_to_reach(&state, 10) == Ok(0));
+    assert!(rt; steps_to_reach(&state, 1_000_000_200) == Ok(1_000_000_000));
+    assert!(rt; steps_to_reach(&state, 1_000_000_201) == Err(Refusal::Range));
     Ok(())
 }
 
 #[test]
 fn counts_the_steps_to_search(rt: HostRuntime) -> Result<(), Fail> {
     let state = searched(rt.alloc())?;
-    assert!(rt; search_steps(&state, 300) == Ok(300));
-    assert!(rt; search_steps(&State::Empty, 300) == Err(Refusal::NoInstance));
+    assert!(rt; steps_to_search(&state, 300) == Ok(300));
+    assert!(rt; steps_to_search(&State::Empty, 300) == Err(Refusal::NoInstance));
     assert!(rt; next_count(300) == 256);
     assert!(rt; next_count(44) == 44);
     Ok(())

@@ -1,4 +1,10 @@
-//! Worked examples of the command text, of solving and of the program's words and audits, by their public functions.
+//! Tests alone: worked examples over the public functions of `command_text`, `plan_solve` and `planner_cli`, which
+//! have no tests of their own.
+//!
+//! Values come from outside; one audit has 40,000 customers. Proved is nothing beyond that no step fails. The words
+//! of the program itself are run by `run_words`.
+//!
+//! In reading order: `words`, `commands`, `audits`, `solving`.
 #![tactic(auto)]
 
 #[cfg(test)]

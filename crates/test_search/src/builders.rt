@@ -22,7 +22,7 @@ pub(crate) fn stop_at(number: u32, place: (i32, i32), demand: i32, latest: u32) 
     }
 }
 
-/// Customers of these coordinates and demands, numbered from 1, without windows. The depot stands at (0, 0).
+// Customers of these coordinates and demands, numbered from 1, without windows. The depot stands at (0, 0).
 fn customers(
     alloc: Global,
     capacity: u32,
@@ -39,7 +39,7 @@ fn customers(
     Ok(problem)
 }
 
-/// Two pairs on two places, with a fleet of one. The second pickup is reached in time only by way of the first place.
+// Two pairs on two places, with a fleet of one. The second pickup is reached in time only by way of the first place.
 fn pairs(alloc: Global) -> Result<Problem, Fail> {
     let depot = stop_at(0, (0, 0), 0, 100);
     let mut problem = Problem::new(alloc, Kind::LiLim, depot, 10, 1)?;
@@ -50,7 +50,7 @@ fn pairs(alloc: Global) -> Result<Problem, Fail> {
     Ok(problem)
 }
 
-/// The two pairs, and one like the first, of stops 5 and 6.
+// The two pairs, and one like the first, of stops 5 and 6.
 fn three_pairs(alloc: Global) -> Result<Problem, Fail> {
     let mut problem = pairs(alloc)?;
     let pickup = stop_at(5, (1, 1), 1, 50);
@@ -58,7 +58,7 @@ fn three_pairs(alloc: Global) -> Result<Problem, Fail> {
     Ok(problem)
 }
 
-/// The depot between two customers. From one to the other it is farther than over the depot, by rounded distances.
+// The depot between two customers. From one to the other it is farther than over the depot, by rounded distances.
 fn opposite(alloc: Global, kind: Kind) -> Result<Problem, Fail> {
     let depot = stop_at(0, (0, 0), 0, 100);
     let mut problem = Problem::new(alloc, kind, depot, 10, 3)?;
@@ -67,7 +67,7 @@ fn opposite(alloc: Global, kind: Kind) -> Result<Problem, Fail> {
     Ok(problem)
 }
 
-/// The last two numbers but one, as a pair.
+// The last two numbers but one, as a pair.
 fn last_numbers(alloc: Global) -> Result<Problem, Fail> {
     let depot = stop_at(0, (0, 0), 0, 100);
     let mut problem = Problem::new(alloc, Kind::LiLim, depot, 10, 1)?;
@@ -148,7 +148,7 @@ pub(crate) fn one_route(alloc: Global, stops: u32, fleet: u32) -> Result<Plan, F
     Ok(Plan { routes })
 }
 
-/// Lists of stops, each ended by a 0.
+// Lists of stops, each ended by a 0.
 fn lists_of(alloc: Global, stops: &[u32]) -> Result<Routes, Fail> {
     let mut routes = Routes::new(alloc);
     let mut route = Route::new(alloc);

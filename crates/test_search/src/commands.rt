@@ -62,7 +62,7 @@ fn command(step: Step) -> Command {
 /// Three customers of whom two fit into one vehicle, with a fleet of three.
 const THREE: Given = Given::Customers(10, 3, &[(3, 4, 6), (6, 8, 4), (0, 5, 5)]);
 
-/// The state after one command.
+// The state after one command.
 fn applied(alloc: Global, state: &State, command: Command) -> Result<State, Refusal> {
     apply(alloc, state, &command)
 }
@@ -72,7 +72,7 @@ fn loaded(alloc: Global, given: Given) -> Result<State, Fail> {
     Ok(applied(alloc, &State::Empty, Command::Load(problem, 0))?)
 }
 
-/// The state after these commands, one after another.
+// The state after these commands, one after another.
 fn after(alloc: Global, begun: State, steps: &[Step]) -> Result<State, Fail> {
     let mut state = begun;
     for step in steps {
@@ -81,14 +81,14 @@ fn after(alloc: Global, begun: State, steps: &[Step]) -> Result<State, Fail> {
     Ok(state)
 }
 
-/// Requests left out, vehicles that count, and the distance.
+// Requests left out, vehicles that count, and the distance.
 fn cost(job: &Job) -> (u64, u64, u64) {
     passes_are_local();
     let cost = plan_cost(&job.problem, &job.plan);
     (cost.unplanned, cost.vehicles, cost.distance)
 }
 
-/// The routes of pins, plan and working plan.
+// The routes of pins, plan and working plan.
 fn routes(alloc: Global, job: &Job) -> Result<String, Fail> {
     let pins = stops_of(alloc, &job.pins.routes)?;
     let plan = stops_of(alloc, &job.plan.routes)?;
@@ -96,7 +96,7 @@ fn routes(alloc: Global, job: &Job) -> Result<String, Fail> {
     Ok(format!(in alloc; "pins {pins:?}, plan {plan:?}, work {work:?}")?)
 }
 
-/// How many requests there are, the next number, the steps made, all routes, and what the plan costs.
+// How many requests there are, the next number, the steps made, all routes, and what the plan costs.
 fn shown(alloc: Global, state: &State) -> Result<String, Fail> {
     let State::Loaded(job) = state else {
         return Ok(String::new(alloc));

@@ -327,7 +327,7 @@ fn moved(
     }
 }
 
-/// The plan after the move, or nothing where there is none; a lone 9 where the plan given does not pass.
+// The plan after the move, or nothing where there is none; a lone 9 where the plan given does not pass.
 fn after(
     alloc: Global,
     problem: &Problem,
@@ -344,7 +344,7 @@ fn after(
     }
 }
 
-/// What the example's move makes of its plan.
+// What the example's move makes of its plan.
 fn told(alloc: Global, example: &Example) -> Result<Vec<u32>, Fail> {
     let (given, pins, plan, made, _) = *example;
     let problem = problem_of(alloc, given)?;
@@ -353,7 +353,7 @@ fn told(alloc: Global, example: &Example) -> Result<Vec<u32>, Fail> {
     after(alloc, &problem, &pins, &plan, made)
 }
 
-/// The place of the first example that does not hold.
+// The place of the first example that does not hold.
 fn first_broken(alloc: Global, examples: &[Example]) -> Result<Option<usize>, Fail> {
     for index in 0..examples.len() {
         let example = &examples[index];

@@ -83,14 +83,14 @@ fn picks(rt: HostRuntime) {
     assert_eq!(rt; pick(0, u32::MAX), 0);
 }
 
-/// The routes of the incumbent, and then those of the working plan, each ended by a 0.
+// The routes of the incumbent, and then those of the working plan, each ended by a 0.
 fn both(alloc: Global, found: &Found) -> Result<Vec<u32>, Fail> {
     let mut stops = stops_of(alloc, &found.plan.routes)?;
     stops.extend_from_slice(&stops_of(alloc, &found.work.routes)?)?;
     Ok(stops)
 }
 
-/// What so many steps from this one on find by seed 0, if there may be so many.
+// What so many steps from this one on find by seed 0, if there may be so many.
 fn steps_from(
     alloc: Global,
     problem: &Problem,
@@ -109,7 +109,7 @@ fn steps_from(
     Ok(None)
 }
 
-/// What steps find from one plan as incumbent and working plan; nothing where it doesn't pass.
+// What steps find from one plan as incumbent and working plan; nothing where it doesn't pass.
 fn found(
     alloc: Global,
     problem: &Problem,
@@ -211,7 +211,7 @@ fn steps(rt: HostRuntime) -> Result<(), Fail> {
     Ok(())
 }
 
-/// Whether two steps from this one on find what one does and then the next.
+// Whether two steps from this one on find what one does and then the next.
 fn goes_on(alloc: Global, first: u64) -> Result<bool, Fail> {
     let problem = problem_of(alloc, FOUR)?;
     let plan = [1, 0, 0, 4, 2, 3, 0, 0];

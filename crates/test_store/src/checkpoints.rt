@@ -20,7 +20,7 @@ const BAD_VERSION: Option<StoreFault> = Some(StoreFault::BadVersion);
 
 const NO_STORE: Option<StoreFault> = Some(StoreFault::NotFormatted);
 
-/// Why the device holds no store, if it holds none.
+// Why the device holds no store, if it holds none.
 fn fault(alloc: Global, device: &mut MemDevice) -> Option<StoreFault> {
     load_latest(alloc, device).err()
 }
@@ -44,7 +44,7 @@ fn a_format_writes_a_header(rt: HostRuntime) -> Result<(), Fail> {
     Ok(())
 }
 
-/// Why a device of so many sectors is not formatted, in both ways, why it holds no store, and how many calls have finished.
+// Why a device of so many sectors is not formatted, in both ways, why it holds no store, and how many calls have finished.
 fn tried(
     alloc: Global,
     sectors: u64,
@@ -66,8 +66,8 @@ fn a_small_device_is_not_called(rt: HostRuntime) -> Result<(), Fail> {
     Ok(())
 }
 
-/// Why the format of a device failed that was stopped once so many calls had finished, and why it holds no store then. What
-/// was not synced is lost with 0, and kept with 1.
+// Why the format of a device failed that was stopped once so many calls had finished, and why it holds no store then. What
+// was not synced is lost with 0, and kept with 1.
 fn stopped_format(
     alloc: Global,
     finished: u64,
@@ -100,7 +100,7 @@ fn a_format_that_is_stopped_with_its_header(rt: HostRuntime) -> Result<(), Fail>
     Ok(())
 }
 
-/// Commits a search.
+// Commits a search.
 fn commit_search(
     rt: &impl Abort,
     device: &mut MemDevice,
@@ -111,7 +111,7 @@ fn commit_search(
     commit_record(device, place, &Command::Search(256))
 }
 
-/// Commits a pin.
+// Commits a pin.
 fn commit_pin(rt: &impl Abort, device: &mut MemDevice, place: Place) -> Result<Place, StoreFault> {
     assert!(rt; SECTORS <= device.len());
     assert!(rt; place.sequence == 1 && place.used < 256);
@@ -124,7 +124,7 @@ const FIRST: Place = Place {
     used: 0,
 };
 
-/// A store with two records, and where its journal goes on.
+// A store with two records, and where its journal goes on.
 fn with_records(rt: &(impl Abort + AllocGlobal)) -> Result<(MemDevice, Place), Fail> {
     let mut device = empty_store(rt.alloc())?;
     let place = commit_search(rt, &mut device, FIRST)?;
@@ -157,7 +157,7 @@ fn records_are_loaded(rt: HostRuntime) -> Result<(), Fail> {
     Ok(())
 }
 
-/// Commits a snapshot of no state.
+// Commits a snapshot of no state.
 fn commit_empty(
     rt: &(impl Abort + AllocGlobal),
     device: &mut MemDevice,
@@ -168,7 +168,7 @@ fn commit_empty(
     commit_snapshot(rt.alloc(), device, place, &State::Empty)
 }
 
-/// A store with a record, then a snapshot, and where its journal goes on.
+// A store with a record, then a snapshot, and where its journal goes on.
 fn with_snapshot(rt: &(impl Abort + AllocGlobal)) -> Result<(MemDevice, Place), Fail> {
     let mut device = empty_store(rt.alloc())?;
     let place = commit_search(rt, &mut device, FIRST)?;
@@ -205,7 +205,7 @@ fn no_snapshot_follows_the_last_sequence(rt: HostRuntime) -> Result<(), Fail> {
     Ok(())
 }
 
-/// Why an empty store is none whose journal has a sector further on that begins with this sequence.
+// Why an empty store is none whose journal has a sector further on that begins with this sequence.
 fn fault_of_stray(
     rt: &(impl Abort + AllocGlobal),
     sequence: u8,
@@ -224,7 +224,7 @@ fn records_behind_the_journal(rt: HostRuntime) -> Result<(), Fail> {
     Ok(())
 }
 
-/// Why a device is no store that has this header in this sector.
+// Why a device is no store that has this header in this sector.
 fn fault_of_header(
     rt: &(impl Abort + AllocGlobal),
     sector: u64,
@@ -259,7 +259,7 @@ fn headers_that_are_not_valid(rt: HostRuntime) -> Result<(), Fail> {
     Ok(())
 }
 
-/// Why a device is no store whose snapshot is this byte.
+// Why a device is no store whose snapshot is this byte.
 fn fault_of_snapshot(
     rt: &(impl Abort + AllocGlobal),
     byte: u8,
@@ -279,7 +279,7 @@ fn snapshots_of_one_byte(rt: HostRuntime) -> Result<(), Fail> {
     Ok(())
 }
 
-/// A device with the loaded state, whose header has this version and whose next number is this one.
+// A device with the loaded state, whose header has this version and whose next number is this one.
 fn device_v1(rt: &(impl Abort + AllocGlobal), version: u32, next: u16) -> Result<MemDevice, Fail> {
     let mut device = MemDevice::new(rt.alloc(), 802)?;
     write_sector(rt, &mut device, 0, &header(version, 2, 75))?;
@@ -289,7 +289,7 @@ fn device_v1(rt: &(impl Abort + AllocGlobal), version: u32, next: u16) -> Result
     Ok(device)
 }
 
-/// Why it is no store where its journal has a record of this kind, of zeros.
+// Why it is no store where its journal has a record of this kind, of zeros.
 fn fault_v1(
     rt: &(impl Abort + AllocGlobal),
     version: u32,

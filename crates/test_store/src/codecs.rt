@@ -9,12 +9,12 @@ use state_codec::{
 use std::alloc::Global;
 use std::test::Fail;
 
-/// Why the bytes are no state, if they are none.
+// Why the bytes are no state, if they are none.
 fn fault(alloc: Global, bytes: &[u8]) -> Option<CodecFault> {
     decode_state(alloc, bytes).err()
 }
 
-/// The same in version 1.
+// The same in version 1.
 fn fault_v1(alloc: Global, bytes: &[u8]) -> Option<CodecFault> {
     decode_state_v1(alloc, bytes).err()
 }
@@ -88,7 +88,7 @@ fn a_pin_over_an_empty_route_is_a_bad_field(rt: HostRuntime) {
     assert!(rt; fault(rt.alloc(), &pinned) == Some(CodecFault::BadField));
 }
 
-/// Why the loaded state is none with this demand, and these bytes of vehicles and working routes in place of the last twelve.
+// Why the loaded state is none with this demand, and these bytes of vehicles and working routes in place of the last twelve.
 fn fault_of_plan(alloc: Global, demand: u8, end: &[u8]) -> Option<CodecFault> {
     let mut front = LOADED;
     front[70] = demand;
@@ -150,7 +150,7 @@ fn a_pin_is_judged_alone(rt: HostRuntime) {
     assert!(rt; matches!(decode_state(rt.alloc(), &whole), Ok(State::Loaded(_))));
 }
 
-/// What is read of the loaded state of version 1 with this demand, and these bytes of the vehicle in place of the last four.
+// What is read of the loaded state of version 1 with this demand, and these bytes of the vehicle in place of the last four.
 fn planned_v1(alloc: Global, demand: u8, end: &[u8]) -> Result<State, CodecFault> {
     let mut front = LOADED_V1;
     front[58] = demand;

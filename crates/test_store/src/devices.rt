@@ -5,7 +5,7 @@ use sector_disk::{DeviceFault, MemDevice, Sectors};
 use std::process::Abort;
 use std::test::Fail;
 
-/// Writes a sector that is full of this byte.
+// Writes a sector that is full of this byte.
 fn write_one(
     rt: &impl Abort,
     device: &mut MemDevice,
@@ -15,7 +15,7 @@ fn write_one(
     write_sector(rt, device, sector, &[byte; 512])
 }
 
-/// Writes a sector of the first byte, and one of the second behind it.
+// Writes a sector of the first byte, and one of the second behind it.
 fn write_two(
     rt: &impl Abort,
     device: &mut MemDevice,
@@ -28,14 +28,14 @@ fn write_two(
     device.write(sector, &run)
 }
 
-/// The byte that a sector is full of, or none where the read fails.
+// The byte that a sector is full of, or none where the read fails.
 fn read_one(rt: &impl Abort, device: &mut MemDevice, sector: u64) -> Option<u8> {
     let bytes = read_sector(rt, device, sector)?;
     assert!(rt; bytes == [bytes[0]; 512]);
     Some(bytes[0])
 }
 
-/// The bytes that the first three sectors are full of.
+// The bytes that the first three sectors are full of.
 fn read_three(rt: &impl Abort, device: &mut MemDevice) -> [Option<u8>; 3] {
     [
         read_one(rt, device, 0),
@@ -44,7 +44,7 @@ fn read_three(rt: &impl Abort, device: &mut MemDevice) -> [Option<u8>; 3] {
     ]
 }
 
-/// A device of three sectors: 0 was synced with 1 and then written with 2 and 3, 2 was written with 9.
+// A device of three sectors: 0 was synced with 1 and then written with 2 and 3, 2 was written with 9.
 fn written(rt: &(impl Abort + AllocGlobal)) -> Result<MemDevice, Fail> {
     let mut device = MemDevice::new(rt.alloc(), 3)?;
     write_one(rt, &mut device, 0, 1)?;
@@ -55,7 +55,7 @@ fn written(rt: &(impl Abort + AllocGlobal)) -> Result<MemDevice, Fail> {
     Ok(device)
 }
 
-/// What a crash with these choices leaves of it.
+// What a crash with these choices leaves of it.
 fn left(rt: &(impl Abort + AllocGlobal), choices: &[u32]) -> Result<[Option<u8>; 3], Fail> {
     let mut device = written(rt)?;
     device.crash(choices);
@@ -103,7 +103,7 @@ fn what_a_crash_left_is_durable(rt: HostRuntime) -> Result<(), Fail> {
     Ok(())
 }
 
-/// Writes 1 and 2 to sectors 0 and 1, syncs, writes 3 and 4 to sectors 1 and 2, and syncs. Which of these finish.
+// Writes 1 and 2 to sectors 0 and 1, syncs, writes 3 and 4 to sectors 1 and 2, and syncs. Which of these finish.
 fn write_and_sync(rt: &impl Abort, device: &mut MemDevice) -> [bool; 4] {
     [
         write_two(rt, device, 0, (1, 2)).is_ok(),
@@ -113,7 +113,7 @@ fn write_and_sync(rt: &impl Abort, device: &mut MemDevice) -> [bool; 4] {
     ]
 }
 
-/// A device of three sectors that was to do so with a fuse of `k`, and which calls finished.
+// A device of three sectors that was to do so with a fuse of `k`, and which calls finished.
 fn fused(rt: &(impl Abort + AllocGlobal), k: u64) -> Result<(MemDevice, [bool; 4]), Fail> {
     let mut device = MemDevice::new(rt.alloc(), 3)?;
     device.fuse(k);
@@ -130,7 +130,7 @@ fn a_fuse_lets_so_many_calls_finish(rt: HostRuntime) -> Result<(), Fail> {
     Ok(())
 }
 
-/// What is left where the choice is 0, 1 and 2 for each sector.
+// What is left where the choice is 0, 1 and 2 for each sector.
 fn left_by_fuse(
     rt: &(impl Abort + AllocGlobal),
     k: u64,
@@ -191,7 +191,7 @@ fn the_first_failed_write_of_a_fuse_may_be_kept(rt: HostRuntime) -> Result<(), F
     Ok(())
 }
 
-/// A device of three sectors whose second write of two failed: 1 to sector 0, then 2 and 3 to sectors 0 and 1.
+// A device of three sectors whose second write of two failed: 1 to sector 0, then 2 and 3 to sectors 0 and 1.
 fn failed_once(rt: &(impl Abort + AllocGlobal)) -> Result<MemDevice, Fail> {
     let mut device = MemDevice::new(rt.alloc(), 3)?;
     device.fail_once(1);

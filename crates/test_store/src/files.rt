@@ -32,7 +32,7 @@ fn a_file_is_written(rt: HostRuntime) -> Result<(), Fail> {
     Ok(fs::remove_file(&rt, path)?)
 }
 
-/// Makes a file of 802 sectors and fills the last two with sevens.
+// Makes a file of 802 sectors and fills the last two with sevens.
 fn fill_end<R: Files<File = File>>(rt: &R, path: &str) -> Result<(), Fail> {
     let mut device = FileDevice::create(rt, path, 802, Unknown)?;
     device.write(800, &[7; 1024])?;
@@ -53,7 +53,7 @@ fn a_file_is_opened_again(rt: HostRuntime) -> Result<(), Fail> {
     Ok(fs::remove_file(&rt, path)?)
 }
 
-/// The bytes of a file of this many fives that is given this many sectors.
+// The bytes of a file of this many fives that is given this many sectors.
 fn sized<R: AllocGlobal + Files<File = File>>(
     rt: &R,
     path: &str,
@@ -91,12 +91,12 @@ fn an_empty_file_becomes_zeros(rt: HostRuntime) -> Result<(), Fail> {
     Ok(fs::remove_file(&rt, path)?)
 }
 
-/// Why there is no device at this path.
+// Why there is no device at this path.
 fn fault_at(rt: &HostRuntime, path: &str) -> Option<FileFault> {
     FileDevice::at(rt, path, Unknown).err()
 }
 
-/// Why a device is not made at this path.
+// Why a device is not made at this path.
 fn fault_of_making(rt: &HostRuntime, path: &str, sectors: u64) -> Option<FileFault> {
     FileDevice::create(rt, path, sectors, Unknown).err()
 }

@@ -1,4 +1,13 @@
-//! Worked examples of devices, states as bytes, checkpoints and recovery, by their public functions.
+//! Tests of `sector_disk`, `state_codec`, `checkpoint` and `recover`, which have none of their own: worked examples of their
+//! public functions, with bytes, counts and faults that are written by hand.
+//!
+//! - `builders`: sectors, states as bytes and stores, for all that follow
+//! - `devices`, `files`: a device in memory, and one over a file
+//! - `codecs`: states and records as bytes
+//! - `checkpoints`: what a device holds
+//! - `recoveries`: sessions, stops and opening
+//!
+//! Proved is that no step of them fails and no `requires` is broken.
 #![tactic(auto)]
 
 #[cfg(test)]

@@ -11,7 +11,7 @@ use state_codec::{CodecFault, decode_state};
 use std::alloc::Global;
 use std::test::Fail;
 
-/// The command that leads to the loaded state.
+// The command that leads to the loaded state.
 fn load(alloc: Global) -> Result<Command, Fail> {
     match decode_state(alloc, &LOADED)? {
         State::Loaded(job) => Ok(Command::Load(job.problem.copy()?, 0)),
@@ -26,7 +26,7 @@ fn open(alloc: Global, device: MemDevice) -> Result<Opened<MemDevice>, Fail> {
     }
 }
 
-/// Why the device is not opened, and how many calls have finished.
+// Why the device is not opened, and how many calls have finished.
 fn refused(alloc: Global, device: MemDevice) -> Option<(StoreFault, u64)> {
     match Session::open(alloc, device) {
         Ok(_) => None,
@@ -34,7 +34,7 @@ fn refused(alloc: Global, device: MemDevice) -> Option<(StoreFault, u64)> {
     }
 }
 
-/// How many search steps the state has made, and how many requests it has.
+// How many search steps the state has made, and how many requests it has.
 fn counts(state: &State) -> (u64, usize) {
     match state {
         State::Empty => (0, 0),
@@ -42,7 +42,7 @@ fn counts(state: &State) -> (u64, usize) {
     }
 }
 
-/// The answer to a command, and the device's count then.
+// The answer to a command, and the device's count then.
 fn answer(
     alloc: Global,
     session: &mut Session<MemDevice>,
@@ -82,7 +82,7 @@ fn search_steps_are_repeated(rt: HostRuntime) -> Result<(), Fail> {
     Ok(())
 }
 
-/// The loaded state, a plan of it and 256 search steps, as commands.
+// The loaded state, a plan of it and 256 search steps, as commands.
 fn commands(alloc: Global) -> Result<Vec<Command>, Fail> {
     let mut commands = Vec::new(alloc);
     commands.push(load(alloc)?)?;
@@ -102,7 +102,7 @@ fn a_run_answers_each_command(rt: HostRuntime) -> Result<(), Fail> {
     Ok(())
 }
 
-/// An add that is stopped between its write and its sync, and how many requests are there then.
+// An add that is stopped between its write and its sync, and how many requests are there then.
 fn stopped_add(alloc: Global, choices: &[u32]) -> Result<usize, Fail> {
     let mut device = loaded_store(alloc)?;
     // The sync of the opening finishes, and the write.
@@ -128,7 +128,7 @@ fn an_add_may_be_lost_or_kept(rt: HostRuntime) -> Result<(), Fail> {
     Ok(())
 }
 
-/// A session after so many searches of one step.
+// A session after so many searches of one step.
 fn searched(alloc: Global, times: u32) -> Result<Session<MemDevice>, Fail> {
     let mut session = open(alloc, loaded_store(alloc)?)?.session;
     for _ in 0..times {
@@ -146,7 +146,7 @@ fn a_full_journal_becomes_a_snapshot(rt: HostRuntime) -> Result<(), Fail> {
     Ok(())
 }
 
-/// A session whose device failed in a command, and what it answered.
+// A session whose device failed in a command, and what it answered.
 fn broken(alloc: Global) -> Result<(Session<MemDevice>, (Result<(), Denial>, u64)), Fail> {
     let mut device = loaded_store(alloc)?;
     // Opening is a sync and two reads, a command a write and a sync.
@@ -173,7 +173,7 @@ fn a_broken_session_is_opened_again(rt: HostRuntime) -> Result<(), Fail> {
     Ok(())
 }
 
-/// Why a device of zeros is not opened, and how many calls have finished.
+// Why a device of zeros is not opened, and how many calls have finished.
 fn refused_of(alloc: Global, sectors: u64) -> Result<Option<(StoreFault, u64)>, Fail> {
     Ok(refused(alloc, MemDevice::new(alloc, sectors)?))
 }

@@ -28,7 +28,7 @@ const TWO_PAIRS: &[u8] =
 /// Route 1 serves both stops of a pair.
 const BOTH: &[u8] = b"Route #1: 1 2\nCost 20\n";
 
-/// What is said of a solution.
+// What is said of a solution.
 fn explained(alloc: Global, kind: Kind, instance: &[u8], solution: &[u8]) -> Result<String, Fail> {
     let problem = read_problem(alloc, kind, instance)?;
     let solution = read_sol(alloc, solution)?;
@@ -154,7 +154,7 @@ fn sums_up_routes(rt: HostRuntime) -> Result<(), Fail> {
     Ok(())
 }
 
-/// What is said of an instance that is refused.
+// What is said of an instance that is refused.
 fn instance_refused(alloc: Global, text: &[u8]) -> Result<String, Fail> {
     match read_lilim(alloc, text) {
         Ok(_) => Err(Fail::from("taken")),
@@ -162,7 +162,7 @@ fn instance_refused(alloc: Global, text: &[u8]) -> Result<String, Fail> {
     }
 }
 
-/// What is said of a solution that is refused.
+// What is said of a solution that is refused.
 fn solution_refused(alloc: Global, text: &[u8]) -> Result<String, Fail> {
     match read_sol(alloc, text) {
         Ok(_) => Err(Fail::from("taken")),

@@ -60,7 +60,7 @@ fn spot_of(problem: &Problem, number: u32) -> Option<Spot> {
     }
 }
 
-/// What a text is read as: its figures and two of its stops.
+// What a text is read as: its figures and two of its stops.
 fn reading(
     alloc: Global,
     kind: Kind,
@@ -334,7 +334,7 @@ fn tells_the_line_of_a_long_number(rt: HostRuntime) -> Result<(), Fail> {
     Ok(())
 }
 
-/// A Li-Lim text of as many pairs as a problem can have, in which stop 2k is the delivery of stop 2k-1.
+// A Li-Lim text of as many pairs as a problem can have, in which stop 2k is the delivery of stop 2k-1.
 fn lilim_of_most_pairs(alloc: Global) -> Result<Vec<u8>, AllocError> {
     let mut text = Vec::new(alloc);
     text.extend_from_slice(b"40000 1000000 1\n0 0 0 0 0 100000000 0 0 0\n")?;
@@ -370,7 +370,7 @@ fn put_section(alloc: Global, text: &mut Vec<u8>, section: Section) -> Result<()
     Ok(())
 }
 
-/// A `.vrp` text of as many customers as a problem can have.
+// A `.vrp` text of as many customers as a problem can have.
 fn vrp_of_most_customers(alloc: Global) -> Result<Vec<u8>, AllocError> {
     let mut text = Vec::new(alloc);
     text.extend_from_slice(

@@ -5,7 +5,7 @@ use text_lines::{
     Lines, Number, Words, digits_len, digits_to_u32, is_blank_line, trim_blanks_start,
 };
 
-/// Whether the lines of a text are these and no more.
+// Whether the lines of a text are these and no more.
 fn has_lines(text: &[u8], wanted: &[&[u8]]) -> bool {
     let mut lines = Lines::new(text);
     for line in wanted {
@@ -16,7 +16,7 @@ fn has_lines(text: &[u8], wanted: &[&[u8]]) -> bool {
     lines.next().is_none()
 }
 
-/// Whether the words of a line are these and no more.
+// Whether the words of a line are these and no more.
 fn has_words(line: &[u8], wanted: &[&[u8]]) -> bool {
     let mut words = Words::new(line);
     for word in wanted {

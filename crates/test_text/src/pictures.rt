@@ -18,8 +18,8 @@ fn stop_at(number: u32, x: i32, y: i32, demand: i32, latest: u32) -> Stop {
     }
 }
 
-/// A pickup at (3, 4) and its delivery at (6, 8), with the depot at (0, 0). The greater side is 8 long, so the scale is
-/// 4000 / 8 = 500 and the unit 500 * 8 / 400 = 10.
+// A pickup at (3, 4) and its delivery at (6, 8), with the depot at (0, 0). The greater side is 8 long, so the scale is
+// 4000 / 8 = 500 and the unit 500 * 8 / 400 = 10.
 fn one_pair(alloc: Global) -> Result<Problem, Fail> {
     let depot = Stop {
         service: 0,
@@ -32,7 +32,7 @@ fn one_pair(alloc: Global) -> Result<Problem, Fail> {
     Ok(problem)
 }
 
-/// The picture of one route.
+// The picture of one route.
 fn drawn(alloc: Global, stops: &[u32], verdict: Verdict) -> Result<String, Fail> {
     let problem = one_pair(alloc)?;
     let mut route = Route::new(alloc);
@@ -41,7 +41,7 @@ fn drawn(alloc: Global, stops: &[u32], verdict: Verdict) -> Result<String, Fail>
     Ok(String::from_utf8(svg)?)
 }
 
-/// The first line that the text has not.
+// The first line that the text has not.
 fn missing<'a>(text: &str, lines: &[&'a str]) -> Option<&'a str> {
     for line in lines {
         if !text.contains(*line) {

@@ -11,7 +11,7 @@ use std::test::Fail;
 /// The most customers that a problem can have.
 const CUSTOMERS: u32 = limits::MAX_STOP_NUMBER;
 
-/// Whether the routes are these and no more.
+// Whether the routes are these and no more.
 fn are_routes(routes: &[Route], wanted: &[&[u32]]) -> bool {
     if routes.len() != wanted.len() {
         return false;
@@ -24,7 +24,7 @@ fn are_routes(routes: &[Route], wanted: &[&[u32]]) -> bool {
     true
 }
 
-/// Whether a text is read as these routes and this cost.
+// Whether a text is read as these routes and this cost.
 fn is_read_as(alloc: Global, text: &[u8], routes: &[&[u32]], cost: u64) -> Result<bool, Fail> {
     let solution = read_sol(alloc, text)?;
     Ok(solution.cost == cost && are_routes(solution.routes.as_slice(), routes))
@@ -141,7 +141,7 @@ fn stop_at(number: u32, x: i32, y: i32, demand: i32) -> Stop
     }
 }
 
-/// Three customers of a fleet of three.
+// Three customers of a fleet of three.
 fn three_customers(alloc: Global) -> Result<Problem, Fail>
     ensures all { IfOk result (λ problem. AreLiveOnce problem (2 ∷ 1 ∷ 3 ∷ [])) }
     ensures two { IfOk result (λ problem. AreLiveOnce problem (2 ∷ 1 ∷ [])) }
@@ -157,7 +157,7 @@ fn three_customers(alloc: Global) -> Result<Problem, Fail>
     Ok(problem)
 }
 
-/// Two routes, and a third vehicle that stays idle.
+// Two routes, and a third vehicle that stays idle.
 fn two_routes(alloc: Global, first: &[u32], second: &[u32]) -> Result<Routes, AllocError>
     ensures { IfOk result (λ routes. concat routes ≡ first.now ++ second.now) }
 {
@@ -188,7 +188,7 @@ fn writes_no_plan_that_leaves_a_request_out(rt: HostRuntime) -> Result<(), Fail>
     Ok(())
 }
 
-/// A fleet of as many as the customers, which all stand one to the right of the depot.
+// A fleet of as many as the customers, which all stand one to the right of the depot.
 fn customers(alloc: Global) -> Result<Problem, Fail> {
     let mut problem = Problem::new(alloc, Kind::Vrp, stop_at(0, 0, 0, 0), 10, CUSTOMERS)?;
     for before in 0..CUSTOMERS {
@@ -197,7 +197,7 @@ fn customers(alloc: Global) -> Result<Problem, Fail> {
     Ok(problem)
 }
 
-/// All customers, by number.
+// All customers, by number.
 fn numbers(alloc: Global) -> Result<Vec<u32>, AllocError> {
     let mut numbers = Vec::new(alloc);
     for before in 0..CUSTOMERS {
@@ -206,7 +206,7 @@ fn numbers(alloc: Global) -> Result<Vec<u32>, AllocError> {
     Ok(numbers)
 }
 
-/// Whether each of these numbers is a customer's and greater than the one before it.
+// Whether each of these numbers is a customer's and greater than the one before it.
 fn rise_and_live(problem: &Problem, numbers: &[u32]) -> bool
     ensures { result ≡ true → AreLiveOnce problem.now numbers.now }
 {
@@ -220,7 +220,7 @@ fn rise_and_live(problem: &Problem, numbers: &[u32]) -> bool
     true
 }
 
-/// One route of all.
+// One route of all.
 fn one_route(alloc: Global, numbers: &[u32]) -> Result<Routes, AllocError>
     ensures { IfOk result (λ routes. concat routes ≡ numbers.now) }
 {
@@ -228,7 +228,7 @@ fn one_route(alloc: Global, numbers: &[u32]) -> Result<Routes, AllocError>
     Ok(Routes::from(vec![in alloc; route]?))
 }
 
-/// A route for each.
+// A route for each.
 fn own_routes(alloc: Global, numbers: &[u32]) -> Result<Routes, AllocError>
     ensures { IfOk result (λ routes. concat routes ≡ numbers.now) }
 {
@@ -239,7 +239,7 @@ fn own_routes(alloc: Global, numbers: &[u32]) -> Result<Routes, AllocError>
     Ok(Routes::from(routes))
 }
 
-/// `Route #1: 1 2 3 ..`, and the cost.
+// `Route #1: 1 2 3 ..`, and the cost.
 fn text_of_one_route(alloc: Global) -> Result<Vec<u8>, AllocError> {
     let mut text = Vec::new(alloc);
     text.extend_from_slice(b"Route #1:")?;
@@ -251,7 +251,7 @@ fn text_of_one_route(alloc: Global) -> Result<Vec<u8>, AllocError> {
     Ok(text)
 }
 
-/// `Route #1: 1`, `Route #2: 2` and so on, and the cost.
+// `Route #1: 1`, `Route #2: 2` and so on, and the cost.
 fn text_of_own_routes(alloc: Global) -> Result<Vec<u8>, AllocError> {
     let mut text = Vec::new(alloc);
     for before in 0..CUSTOMERS {
@@ -281,7 +281,7 @@ fn reads_the_most_routes(rt: HostRuntime) -> Result<(), Fail> {
     Ok(())
 }
 
-/// The problem of all customers, and their numbers.
+// The problem of all customers, and their numbers.
 fn all_customers(alloc: Global) -> Result<(Problem, Vec<u32>), Fail>
     ensures { IfOk result (λ made. AreLiveOnce made.0 made.1.items) }
 {
@@ -317,7 +317,7 @@ fn text_of(alloc: Global, shape: Shape) -> Result<Vec<u8>, AllocError> {
     }
 }
 
-/// What is written of these routes.
+// What is written of these routes.
 fn written(alloc: Global, shape: Shape) -> Result<Vec<u8>, Fail> {
     let made = all_customers(alloc)?;
     let routes = routes_of(alloc, shape, &made.1)?;

@@ -1,4 +1,4 @@
-// What lines, words and numbers mean, each law for every text.
+//! What lines, words and numbers mean, each law for every text.
 ghost use Rattle.std.specs.Prelude.{◌≡◌, []};
 ghost use Rattle.text_lines.specs.Lines.{AreCutAtLineFeeds, EndAtFeeds, EndWithText, lines_of};
 ghost use Rattle.text_lines.specs.Words.{AreMadeOfWords};

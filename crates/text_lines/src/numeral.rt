@@ -1,4 +1,4 @@
-//! Words that are numbers.
+//! Words that are numbers, of any length.
 ghost use Rattle.std.specs.Prelude.{◌≡◌, ◌+◌, ◌*◌, ◌^◌, ◌<◌, ◌≤◌, ◌↔◌, ℕ, true, Some, None, pos, ◌≤ℤ◌, ◌<ℤ◌, IsTrue, IfSome, is_some, length, take};
 ghost use Rattle.std.specs.Char.{digit_value, is_ascii_digit};
 ghost use Rattle.std.specs.List.{list_all, prefix_len};
@@ -11,7 +11,7 @@ ghost use Rattle.text_lines.specs.Numbers.{IsFittingValue, below, digits_of, int
 use crate::word_iter::ends_word;
 use std::marker::Model;
 
-/// Each number of so many digits fits a `u64`.
+// Each number of so many digits fits a `u64`.
 const LONGEST_FITTING: usize = 19;
 
 /// A word that is a number, of any length.
@@ -71,7 +71,7 @@ impl<'a> Number<'a> {
         Some((number, rest))
     }
 
-    /// The integer that a word is: a minus or no sign, and 1 to 20 digits.
+    /// The integer that a word of the command text is: a minus or no sign, and 1 to 20 digits.
     #[inline]
     pub fn parse_integer(word: &'a [u8]) -> Option<Number<'a>>
         ensures { result ≡ integer_of word.now }
@@ -88,7 +88,7 @@ impl<'a> Number<'a> {
         })
     }
 
-    /// The number, if it lies in these limits.
+    /// The number, if it lies in these limits, both inclusive.
     #[inline]
     pub fn within(&self, least: i32, most: i32) -> Option<i32>
         ensures { SomeIff result ((least ≤ℤ self.now) × (self.now ≤ℤ most)) self.now }
@@ -130,7 +130,7 @@ impl<'a> Number<'a> {
     }
 }
 
-/// The value of a word of digits, if a `u32` can hold it.
+/// The value of a word that is digits and nothing else, if a `u32` can hold it.
 #[inline]
 pub fn digits_to_u32(word: &[u8]) -> Option<u32>
     ensures { result ≡ below (2 ^ 32) (digits_of word.now) }

@@ -33,7 +33,8 @@ impl<'a> Words<'a> {
         Words { rest: line }
     }
 
-    /// The number that the next word is, if it is one and lies in these limits. The word is taken in any case.
+    /// The number that the next word is, if there is a word, it is a number and lies in these limits, both inclusive.
+    /// The word is taken in any case.
     #[inline(always)]
     pub fn next_number(&mut self, least: i32, most: i32) -> Option<i32>
         ensures rest { self.new ≡ drop 1 self.old }

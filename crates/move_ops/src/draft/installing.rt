@@ -1,3 +1,4 @@
+//! Other routes for vehicles of a draft, in memory that others left; the cost goes with them.
 // Other routes for vehicles of a draft.
 ghost use Rattle.std.specs.Prelude.{◌≡◌, ◌≤◌, ◌^◌, true, All, IfSome, IfOk, OnOk, length};
 ghost use Rattle.move_ops.specs.Pairing.{are_paired};
@@ -21,7 +22,7 @@ use plan_audit::passes_are_local;
 use plan_types::{Cost, OutOfMemory, Pins, Problem, numbers_are_below_the_next};
 
 impl Draft {
-    // Makes these changes, where there are some; answers whether it did.
+    /// Makes these changes, where there are some; answers whether it did.
     pub(crate) fn apply(
         &mut self,
         problem: &Problem,
@@ -48,7 +49,7 @@ impl Draft {
         }
     }
 
-    // Gives some vehicles other tours.
+    /// Gives some vehicles other tours.
     pub(crate) fn install(
         &mut self,
         problem: &Problem,
@@ -125,7 +126,7 @@ impl Draft {
         Ok(tours)
     }
 
-    // The tour of another route for a vehicle, whose pairs are known to be whole, in memory that is left of others where there is some.
+    /// The tour of another route for a vehicle, whose pairs are known to be whole, in memory that is left of others where there is some.
     pub(crate) fn feasible_tour(
         &mut self,
         problem: &Problem,
@@ -158,7 +159,7 @@ impl Draft {
         self.tours[(vehicle - 1) as usize].table().distance()
     }
 
-    // The tour of another route for a vehicle, in memory that is left of others where there is some.
+    /// The tour of another route for a vehicle, in memory that is left of others where there is some.
     pub(crate) fn new_tour(
         &mut self,
         problem: &Problem,

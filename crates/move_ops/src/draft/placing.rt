@@ -1,3 +1,9 @@
+//! Requests put into a draft.
+//!
+//! The route that is tried stands in one list that the draft keeps, and its table in spare memory, so once
+//! these are large enough a request that is put in takes none. Where its vehicle then has its route of the
+//! base again, as when the request is put back where it was, the route and table in the log are put back, and
+//! nothing is computed.
 // Requests put into a draft.
 ghost use Rattle.std.specs.Prelude.{◌≡◌, ◌≤◌, ◌^◌, length, Some, IfOk, OnOk};
 ghost use Rattle.route_sched.specs.Cost.{cost_of, total_length, unplanned_count};

@@ -1,3 +1,8 @@
+//! Stops of a draft that take one another's places: two requests are exchanged, or the ends of two routes
+//! (2-opt*).
+//!
+//! Such moves are refused often, so their routes are judged before any table is made: the limits first, since
+//! they are broken more often, and then the pairs.
 // Stops of a draft that take one another's places.
 ghost use Rattle.std.specs.Prelude.{◌≡◌, ◌≤◌, ◌⊎◌, nat_eq, map, length, IsSome, IfSome, IfOk, OnOk};
 ghost use Rattle.std.specs.List.{concat, IsDistinct};

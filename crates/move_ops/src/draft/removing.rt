@@ -1,3 +1,10 @@
+//! Requests taken out of a draft.
+//!
+//! A removal looks at the routes where the requests' stops are seated: since a stop stands once, no other
+//! route has it. A request's stops leave together, so the pairs that stay are whole and the limits alone are
+//! asked. Hardly any removal breaks one, so a route is judged as its table is made in spare memory
+//! (`Tour::remade_if_feasible`), which drives it once; the memory of a table whose route is refused goes back
+//! to the allocator.
 // Requests taken out of a draft.
 ghost use Rattle.std.specs.Prelude.{◌≡◌, ◌≤◌, ◌+◌, ◌∷◌, [], length, nat_eq, true, false, ℕ, All, IsSome, IfSome, IfOk, OnOk, MatchOption};
 ghost use Rattle.route_sched.specs.Cost.{has_stop};
@@ -209,7 +216,7 @@ impl Draft {
         }
     }
 
-    // Adds the vehicles of the request's stops.
+    /// Adds the vehicles of the request's stops.
     pub(crate) fn note_request(
         &self,
         request: &Request,

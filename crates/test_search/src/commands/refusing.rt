@@ -124,7 +124,7 @@ const BEFORE_A_LOAD: [Step; 9] = [
     Step::Deviation(u32::MAX),
 ];
 
-/// The refusal that `check` and `apply` both tell.
+// The refusal that `check` and `apply` both tell.
 fn refusal(alloc: Global, state: &State, step: Step) -> Option<Refusal> {
     let command = command(step);
     let told = check(state, &command).err()?;
@@ -140,7 +140,7 @@ fn of_what_is_not_loaded(rt: HostRuntime) {
     }
 }
 
-/// The place of the first example that does not hold.
+// The place of the first example that does not hold.
 fn first_broken(alloc: Global, examples: &[Example]) -> Result<Option<usize>, Fail> {
     for index in 0..examples.len() {
         let (given, steps, step, told) = examples[index];
@@ -160,7 +160,7 @@ fn of_what_is_loaded(rt: HostRuntime) -> Result<(), Fail> {
     Ok(())
 }
 
-/// The job when it has made so many steps.
+// The job when it has made so many steps.
 fn with_steps(job: Job, steps: u64) -> Job
     requires { steps ≤ 2 ^ 60 }
 {
@@ -176,7 +176,7 @@ fn with_steps(job: Job, steps: u64) -> Job
     Job::from_parts(problem, pins, plan, work, deviation, seed, steps)
 }
 
-/// The state of three customers when it has made all steps but so many.
+// The state of three customers when it has made all steps but so many.
 fn near_the_last_step(alloc: Global, left: u64) -> Result<State, Fail> {
     match loaded(alloc, THREE)? {
         State::Loaded(job) => {

@@ -9,7 +9,7 @@ use plan_types::Plan;
 use std::alloc::Global;
 use std::test::Fail;
 
-/// The job with another plan and working plan.
+// The job with another plan and working plan.
 fn with_plans(job: Job, plan: Plan, work: Plan) -> Job
     requires plan { passes job.problem job.pins plan.routes ≡ true }
     requires work { passes job.problem job.pins work.routes ≡ true }
@@ -25,7 +25,7 @@ fn with_plans(job: Job, plan: Plan, work: Plan) -> Job
     Job::from_parts(problem, pins, plan, work, deviation, seed, steps)
 }
 
-/// The job with this plan; the empty state where it does not pass.
+// The job with this plan; the empty state where it does not pass.
 fn with_plan(alloc: Global, job: Job, plan: Plan) -> Result<State, Fail> {
     if !is_passing(alloc, &job.problem, &job.pins, &plan)? {
         return Ok(State::Empty);
@@ -34,13 +34,13 @@ fn with_plan(alloc: Global, job: Job, plan: Plan) -> Result<State, Fail> {
     Ok(State::Loaded(with_plans(job, plan, work)))
 }
 
-/// So many customers on a grid.
+// So many customers on a grid.
 fn loaded(alloc: Global, customers: u32, capacity: u32, fleet: u32) -> Result<State, Fail> {
     let problem = grid(alloc, customers, capacity, fleet)?;
     Ok(applied(alloc, &State::Empty, Command::Load(problem, 0))?)
 }
 
-/// As many requests as there can be but one and as many vehicles, and one route of all stops.
+// As many requests as there can be but one and as many vehicles, and one route of all stops.
 fn largest(alloc: Global) -> Result<State, Fail> {
     match loaded(alloc, 39_999, 1_000_000, 40_000)? {
         State::Loaded(job) => with_plan(alloc, job, one_route(alloc, 39_999, 40_000)?),
@@ -48,7 +48,7 @@ fn largest(alloc: Global) -> Result<State, Fail> {
     }
 }
 
-/// How many requests there are, the next number, and the steps made; zeros before the first Load.
+// How many requests there are, the next number, and the steps made; zeros before the first Load.
 fn numbers(state: &State) -> (usize, u32, u64) {
     match state {
         State::Empty => (0, 0, 0),
@@ -60,7 +60,7 @@ fn numbers(state: &State) -> (usize, u32, u64) {
     }
 }
 
-/// The names of the unplanned requests.
+// The names of the unplanned requests.
 fn unplanned(alloc: Global, state: &State) -> Result<Vec<u32>, Fail> {
     match state {
         State::Empty => Ok(Vec::new(alloc)),
@@ -78,7 +78,7 @@ const ON_THE_LARGEST: [Step; 4] = [
     Step::Withdraw(20_000),
 ];
 
-/// A second state like the largest.
+// A second state like the largest.
 fn copied(alloc: Global) -> Result<State, Fail> {
     let state = largest(alloc)?;
     Ok(state.copy()?)

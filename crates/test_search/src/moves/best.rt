@@ -14,19 +14,19 @@ use plan_types::{Kind, Pins, Plan, Problem, Request};
 use std::alloc::Global;
 use std::test::Fail;
 
-type Place = (u64, u64, u64);
+type Insertion = (u64, u64, u64);
 
 /// No insertion has this place.
-const NOT_ASKED: Place = (0, 0, 0);
+const NOT_ASKED: Insertion = (0, 0, 0);
 
-/// What `best_insertion` answers, and what the plan's tables do, if that is the same.
+// What `best_insertion` answers, and what the plan's tables do, if that is the same.
 fn best(
     alloc: Global,
     problem: &Problem,
     pins: &[u32],
     plan: &[u32],
     name: u32,
-) -> Result<Option<Place>, Fail> {
+) -> Result<Option<Insertion>, Fail> {
     let pins = pins_of(alloc, pins)?;
     let plan = plan_of(alloc, plan)?;
     if !is_passing(alloc, problem, &pins, &plan)? {
@@ -45,7 +45,7 @@ fn best_by_tables(
     pins: &Pins,
     plan: &Plan,
     name: u32,
-) -> Result<Option<Place>, Fail>
+) -> Result<Option<Insertion>, Fail>
     requires { passes problem.now pins.now.routes plan.now.routes ≡ true }
 {
     plans_pass_without_pins();
@@ -56,7 +56,7 @@ fn best_by_tables(
     Ok(None)
 }
 
-/// Whether the name is of a live and unplanned request.
+// Whether the name is of a live and unplanned request.
 fn is_free(
     alloc: Global,
     problem: &Problem,
@@ -76,7 +76,13 @@ fn is_free(
 }
 
 /// A problem, pins, a plan, an unplanned request, and its best place.
-type Example = (Given, &'static [u32], &'static [u32], u32, Option<Place>);
+type Example = (
+    Given,
+    &'static [u32],
+    &'static [u32],
+    u32,
+    Option<Insertion>,
+);
 
 const EXAMPLES: [Example; 11] = [
     (FOUR, &[], &[1, 0, 2, 0, 4, 0, 0], 3, Some((2, 1, 1))),
@@ -154,7 +160,7 @@ fn a_place_in_the_largest_route(rt: HostRuntime) -> Result<(), Fail> {
     Ok(())
 }
 
-/// 65 pairs, 64 at the depot and one at (3, 4), in one route, and one more at (3, 4), with a fleet of one that carries one of them.
+// 65 pairs, 64 at the depot and one at (3, 4), in one route, and one more at (3, 4), with a fleet of one that carries one of them.
 fn pairs_at_the_depot(alloc: Global) -> Result<Problem, Fail> {
     let depot = stop_at(0, (0, 0), 0, 1_000);
     let mut problem = Problem::new(alloc, Kind::LiLim, depot, 1, 1)?;

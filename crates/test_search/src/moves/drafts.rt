@@ -17,7 +17,7 @@ enum Edit {
     Cross(u64, u64, u64, u64),
 }
 
-/// Whether the edit was made.
+// Whether the edit was made.
 fn make(draft: &mut Draft, problem: &Problem, pins: &Pins, edit: Edit) -> Result<bool, OutOfMemory>
     requires { IsDraftOf problem.now pins.now.routes draft.old }
     ensures { OnOk result (IsDraftOf problem.now pins.now.routes draft.new) }
@@ -33,7 +33,7 @@ fn make(draft: &mut Draft, problem: &Problem, pins: &Pins, edit: Edit) -> Result
     }
 }
 
-/// The draft's routes after the edit, whether it was made, and how far all drive then.
+// The draft's routes after the edit, whether it was made, and how far all drive then.
 fn edited(
     alloc: Global,
     draft: &mut Draft,
@@ -113,7 +113,7 @@ const EXAMPLES: [Example; 8] = [
     ),
 ];
 
-/// What the edit makes of a draft of the plan, and then its routes once it is dropped, perhaps after it was taken.
+// What the edit makes of a draft of the plan, and then its routes once it is dropped, perhaps after it was taken.
 fn told(
     alloc: Global,
     problem: &Problem,

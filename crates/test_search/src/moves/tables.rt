@@ -10,7 +10,7 @@ use plan_types::{Plan, Problem, Route};
 use std::alloc::Global;
 use std::test::Fail;
 
-/// Whether the tables of one plan, with those of these vehicles built anew, are the tables of another one.
+// Whether the tables of one plan, with those of these vehicles built anew, are the tables of another one.
 fn is_refreshed(
     alloc: Global,
     problem: &Problem,
@@ -64,7 +64,7 @@ fn are_vehicles(problem: &Problem, vehicles: &[u32]) -> bool
     true
 }
 
-/// Whether the plans have as many routes, and differ at these vehicles alone.
+// Whether the plans have as many routes, and differ at these vehicles alone.
 fn differ_only_at(before: &Plan, after: &Plan, vehicles: &[u32]) -> bool
     ensures { IsTrue result → DifferOnlyAt vehicles.now before.now.routes after.now.routes }
 {

@@ -2,7 +2,7 @@ use Rattle.std.proofs.Common.{◌≡◌, ℕ, List, Ok, sym, ◌∙◌, subst}
 use Rattle.state_codec.specs.Bytes.{state_bytes}
 use Rattle.state_codec.specs.Refused.{Decodes}
 use Rattle.checkpoint.specs.Stores.{snapshot_in}
-use Rattle.checkpoint.specs.Reads.{IsFront}
+use Rattle.checkpoint.specs.Reads.{IsImageFront}
 use Rattle.checkpoint.specs.Holds.{Holds, layout_of}
 use Rattle.checkpoint.specs.Holdless.{IsOfBytes, HoldsNothing, UnlessUnread}
 use Rattle.checkpoint.proofs.Loading.{journal_refused, codec_refused, of_bytes}
@@ -12,7 +12,7 @@ pub returns-in-Ok-clause-found : goal.returns-in-Ok-clause-found
 returns-in-Ok-clause-found c sectors image parts =
     let header = c.args.opened.now.header in
     let decoded : Decodes c.args.version c.args.bytes.now (Ok c.in-Ok.state) = subst (Decodes c.args.version c.args.bytes.now) c.in-Ok.is c.requires.decodes in
-    let whole : IsFront sectors c.deref.result.now image = subst (λ (f : List ℕ). IsFront sectors f image) (sym c.deref.ensures.value) parts.whole in
+    let whole : IsImageFront sectors c.deref.result.now image = subst (λ (f : List ℕ). IsImageFront sectors f image) (sym c.deref.ensures.value) parts.whole in
     let snapshot : snapshot_in (layout_of c.args.version) image header.sequence header.length ≡ state_bytes c.args.version c.in-Ok.state = sym parts.snapshot ∙ decoded.0 in
     journal_refused (λ loaded. Holds c.args.version image loaded.state loaded.commands.items loaded.place) c.args.version image header c.in-Ok.state parts.counts
     (λ journal. record { state = c.in-Ok.state; snapshot = snapshot; facts = c.with_journal.ensures.facts; told = decoded.1; journal = journal })

@@ -1,5 +1,5 @@
 use Rattle.std.proofs.Common.{ℕ, List, sym, ◌∙◌, subst, arith}
-use Rattle.checkpoint.specs.Reads.{IsFront}
+use Rattle.checkpoint.specs.Reads.{IsImageFront}
 use Rattle.checkpoint.proofs.FaultKinds.{no_fault_more}
 use Rattle.checkpoint.proofs.loads.read_front.Goals as goal
 
@@ -9,10 +9,10 @@ returns-in-Ok-current_header-clause-found g c honest =
     let start = c.args.device.now in
     let from = c.read_run.ensures.honest honest in
     let size = g.met.D.Sectors.image_size start (d.seen start) from (g.met.D.Sectors.reads_possible start from) in
-    let whole : IsFront (d.len start) c.in-Ok.front.items (d.seen start) = record { size = size; room = omega (arith, c.requires); is = sym (c.in-Ok.ensures.bytes honest) } in (
+    let whole : IsImageFront (d.len start) c.in-Ok.front.items (d.seen start) = record { size = size; room = omega (arith, c.requires); is = sym (c.in-Ok.ensures.bytes honest) } in (
       whole,
       c.in-Ok-current_header.ensures.found (d.seen start)
-          (subst (λ (n : ℕ). IsFront n c.deref.result.now (d.seen start)) (sym c.len-sectors.ensures) (subst (λ (f : List ℕ). IsFront (d.len start) f (d.seen start)) (sym c.deref.ensures.value) whole)),
+          (subst (λ (n : ℕ). IsImageFront n c.deref.result.now (d.seen start)) (sym c.len-sectors.ensures) (subst (λ (f : List ℕ). IsImageFront (d.len start) f (d.seen start)) (sym c.deref.ensures.value) whole)),
     )
 
 pub returns-in-Err-current_header-clause-fault : goal.returns-in-Err-current_header-clause-fault

@@ -3,7 +3,7 @@ use Rattle.std.proofs.Common.{◌≡◌, ◌∙◌, Some, ap, subst, length}
 use Rattle.std.proofs.lemmas.Result.{IfErr-weaker}
 use Rattle.std.proofs.KnownBytes.{prepend_known-nil}
 use Rattle.std.specs.Io.KnownBytes.{prepend_known}
-use Rattle.command_serving.specs.Input.{Counts, left_of}
+use Rattle.command_serving.specs.Input.{CountsTaken, left_of}
 use Rattle.command_serving.specs.Served.{HasCause}
 use Rattle.command_serving.specs.Serving.{IsCause}
 use Rattle.command_serving.proofs.AskedLemmas.{cause_of, whole_input}
@@ -23,7 +23,7 @@ returns-clause-cause g c = λ input known.
     let left = c.serve_lines.new.input.left in
     let read = g.R.Source.has_failed c.serve_lines.new.reader in
     let written = g.W.Sink.has_failed c.serve_lines.new.writer in
-    let counted = subst (λ k. Counts k 1000000000000 rest left) start
-    (subst (λ l. Counts (left_of g.R.Source.remaining c.new-input.result c.args.reader.now) l rest left) c.new-input.ensures.left c.serve_lines.ensures.counted) in
+    let counted = subst (λ k. CountsTaken k 1000000000000 rest left) start
+    (subst (λ l. CountsTaken (left_of g.R.Source.remaining c.new-input.result c.args.reader.now) l rest left) c.new-input.ensures.left c.serve_lines.ensures.counted) in
     IfErr-weaker c.serve_lines.result (λ f. IsCause f read written left) (λ f. HasCause f read written (length input))
     (λ f cause. cause_of f read written left (length input) (λ none. whole_input input rest left counted none) cause) c.serve_lines.ensures.cause

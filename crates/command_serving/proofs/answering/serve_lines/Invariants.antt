@@ -2,7 +2,7 @@
 use Rattle.std.proofs.Common.{◌≡◌, ℕ, List, Some}
 use Rattle.command_text.specs.Cutting.{pieces_of}
 use Rattle.command_text.specs.Readings.{IsReading, Reading}
-use Rattle.command_serving.specs.Input.{Counts, left_of}
+use Rattle.command_serving.specs.Input.{CountsTaken, left_of}
 use Rattle.command_serving.specs.Serving.{ServesOn}
 use Rattle.command_serving.specs.declared.answering.Goes.TheVariants.{On}
 use Rattle.command_serving.proofs.answering.serve_lines.Given as goal
@@ -11,7 +11,7 @@ abbrev pub invariant-loop-asked : goal.invariant-loop-asked
 invariant-loop-asked g l =
     ((reading : Reading) (bytes : List ℕ) → IsReading reading → left_of g.R.Source.remaining l.fn.input l.fn.reader ≡ Some bytes
     → ServesOn reading l.fn.session (pieces_of bytes) (g.W.Sink.contents l.fn.writer) (g.W.Sink.contents l.writer) l.session On (left_of g.R.Source.remaining l.input l.reader))
-    × Counts (left_of g.R.Source.remaining l.fn.input l.fn.reader) l.fn.input.left (left_of g.R.Source.remaining l.input l.reader) l.input.left
+    × CountsTaken (left_of g.R.Source.remaining l.fn.input l.fn.reader) l.fn.input.left (left_of g.R.Source.remaining l.input l.reader) l.input.left
 
 abbrev pub decreases-loop-asked : goal.decreases-loop-asked
 decreases-loop-asked g l = l.input.left

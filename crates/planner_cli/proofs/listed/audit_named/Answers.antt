@@ -3,7 +3,7 @@ use Rattle.std.proofs.Common.{◌++◌, ◌∷◌, [], codes, inl, inr, refl, ru
 use Rattle.std.specs.Io.KnownBytes.{Appends}
 use Rattle.std.proofs.KnownBytes.{Appends-trans}
 use Rattle.std.proofs.lemmas.Result.{IfOk-weaker}
-use Rattle.planner_cli.specs.Telling.{line}
+use Rattle.command_text.specs.Answers.{line}
 use Rattle.planner_cli.proofs.TellLemmas.{tabs}
 use Rattle.planner_cli.proofs.listed.audit_named.Goals as goal
 

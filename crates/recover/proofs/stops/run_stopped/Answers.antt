@@ -1,7 +1,7 @@
 use Rattle.std.proofs.Common.{◌≡◌, ◌∙◌, ℕ, ap, sym, subst}
-use Rattle.sector_disk.specs.CourseLaws.{course_counts_now}
+use Rattle.sector_disk.specs.HistoryLaws.{history_counts_now}
 use Rattle.sector_disk.specs.MemDevice.{memory}
-use Rattle.sector_disk.specs.Memory.{MayLeave, MayHaveLeft, clock_of, course_of, seen_of}
+use Rattle.sector_disk.specs.Memory.{MayLeave, MayHaveLeft, clock_of, history_of, seen_of}
 use Rattle.command_core.specs.declared.states.State.{State}
 use Rattle.recover.specs.Replies.{kept, acked}
 use Rattle.recover.specs.Headline.{IsRecovered}
@@ -22,6 +22,6 @@ returns-clause-recovered c =
     let counted : c.calls-calls.result ≡ (memory new).calls = c.calls-calls.ensures ∙ ap (λ d. (memory d).calls) c.close-device.ensures.device in
     let left : MayHaveLeft (memory new) (clock_of (memory old)) c.calls-calls.result image =
     subst (λ (m : ℕ). MayHaveLeft (memory new) (clock_of (memory old)) m image) (sym counted)
-    (course_counts_now (course_of (memory new)) (clock_of (memory old)) image moments.later possible) in
+    (history_counts_now (history_of (memory new)) (clock_of (memory old)) image moments.later possible) in
     subst (λ (s : State). GivesUnlessFailed (IsRecovered s (kept commands replies) (acked c.calls-calls.result replies)) answer) c.fuse.ensures.state
     (c.recovery_keeps_every_acknowledged_command.ensures old new c.fuse.new.self.state commands replies c.calls-calls.result image answer moments left (c.open.ensures.opens tt))

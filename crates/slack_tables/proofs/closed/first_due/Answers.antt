@@ -12,7 +12,7 @@ loop-i-init c = record {
 pub loop-i-preserved : goal.loop-i-preserved
 loop-i-preserved c = let behind = c.loop-i.invariant.behind in record {
   behind = omega arith;
-  closed = closed-more c.args.limits c.args.places.now c.args.pickup.now c.args.kept c.loop-i.i c.loop-i.invariant.closed (closed-due c.args.limits c.args.places.now c.args.pickup.now c.loop-i.i c.requires.tight c.detours_save_at_most_one.ensures c.small_place.result.now c.small_place.ensures.place (sym c.is_due_before.ensures ∙ c.if-not-is_due_before.false));
+  closed = closed-more c.args.limits c.args.places.now c.args.pickup.now c.args.kept c.loop-i.i c.loop-i.invariant.closed (closed-due c.args.limits c.args.places.now c.args.pickup.now c.loop-i.i c.requires.tight c.detours_save_at_most_one.ensures c.small_row.result.now c.small_row.ensures.place (sym c.is_due_before.ensures ∙ c.if-not-is_due_before.false));
 }
 
 pub returns-then-not-is_due_before-clause-closed : goal.returns-then-not-is_due_before-clause-closed

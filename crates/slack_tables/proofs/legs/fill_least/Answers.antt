@@ -30,7 +30,7 @@ loop-k-preserved c =
       behind = let behind = is.behind in omega arith;
       least = subst (λ x. AreLeastFrom c.args.places.now c.args.stop.now (c.loop-k.k - 1) (set c.loop-k.least (c.loop-k.k - 1) x)) (sym (to_z-of_z w64 c.lesser.result fits))
           (least-more c.args.places.now c.args.stop.now (c.loop-k.k - 1) c.loop-k.least c.detour.result c.lesser.result (subst (λ k. AreLeastFrom c.args.places.now c.args.stop.now k c.loop-k.least) next is.least) (omega arith)
-          (λ d. subst (λ x. x ≤ℤ detour_of c.args.places.now c.args.stop.now (c.loop-k.k - 1) d) (sym (c.detour.ensures.value)) (detour-below c.args.places.now c.args.stop.now (c.loop-k.k - 1) d _ _ c.least_leg_at-to.result c.loop-k.from (c.small_place-here.ensures.place d) (c.small_place-next.ensures.place d) (c.least_leg_at-to.ensures.value d) (subst (λ k. c.loop-k.from ≤ distance (get_or c.args.places.now k d).at.stop c.args.stop.now) next (is.from d))))
+          (λ d. subst (λ x. x ≤ℤ detour_of c.args.places.now c.args.stop.now (c.loop-k.k - 1) d) (sym (c.detour.ensures.value)) (detour-below c.args.places.now c.args.stop.now (c.loop-k.k - 1) d _ _ c.least_leg_at-to.result c.loop-k.from (c.small_row-here.ensures.place d) (c.small_row-next.ensures.place d) (c.least_leg_at-to.ensures.value d) (subst (λ k. c.loop-k.from ≤ distance (get_or c.args.places.now k d).at.stop c.args.stop.now) next (is.from d))))
           made c.detour.ensures.small);
       from = c.least_leg_at-to.ensures.value;
       bound = c.least_leg_at-to.ensures.bound;

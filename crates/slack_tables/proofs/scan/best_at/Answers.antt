@@ -4,13 +4,13 @@ use Rattle.std.proofs.lemmas.Int.{to_z-of_z}
 use Rattle.nint_dist.specs.Distance.{distance}
 use Rattle.slack_tables.specs.Best.{IsFirstOf}
 use Rattle.slack_tables.specs.Scan.{AddsDelivery, AreDear}
-use Rattle.slack_tables.specs.declared.progress.Place.{Place}
+use Rattle.slack_tables.specs.declared.progress.Row.{Row}
 use Rattle.slack_tables.proofs.ScanLemmas.{deliveries-none, never-sum}
 use Rattle.slack_tables.proofs.WalkLemmas.{underway-begin, near-begin, not-begun}
 use Rattle.slack_tables.proofs.scan.best_at.Goals as goal
 
 pub best_delivery-requires-clause-underway : goal.best_delivery-requires-clause-underway
-best_delivery-requires-clause-underway c = λ d. underway-begin c.args.trip.now.limits c.args.places.now c.args.trip.now.pickup c.args.trip.now.delivery c.args.i d c.args.trip.now c.small_place-before.result.now c.leg_at-to.result c.leg_at-onward.result refl refl (c.small_place-before.ensures.place d) (c.leg_at-to.ensures.value d ∙ ap (λ (e : Place). distance e.at.stop c.args.trip.now.pickup) (sym (c.small_place-before.ensures.place d))) c.in-Some.first refl c.requires.trip.across (c.leg_at-onward.ensures.value d) (sym c.in-Some.is ∙ c.pick_up.ensures.value)
+best_delivery-requires-clause-underway c = λ d. underway-begin c.args.trip.now.limits c.args.places.now c.args.trip.now.pickup c.args.trip.now.delivery c.args.i d c.args.trip.now c.small_row-before.result.now c.leg_at-to.result c.leg_at-onward.result refl refl (c.small_row-before.ensures.place d) (c.leg_at-to.ensures.value d ∙ ap (λ (e : Row). distance e.at.stop c.args.trip.now.pickup) (sym (c.small_row-before.ensures.place d))) c.in-Some.first refl c.requires.trip.across (c.leg_at-onward.ensures.value d) (sym c.in-Some.is ∙ c.pick_up.ensures.value)
 
 pub best_delivery-requires-clause-near : goal.best_delivery-requires-clause-near
 best_delivery-requires-clause-near c = λ d. near-begin c.args.trip.now.limits c.args.places.now c.args.trip.now.pickup c.args.trip.now.delivery c.args.i d c.in-Some.first c.in-Some.ensures.near
@@ -27,7 +27,7 @@ returns-then-is_closed c = λ d. deliveries-none c.args.trip.now.limits c.args.p
 
 pub returns-in_default : goal.returns-in_default
 returns-in_default c = λ d. deliveries-none c.args.trip.now.limits c.args.places.now c.args.trip.now.pickup c.args.trip.now.delivery c.args.i d c.args.below (λ j x behind last some.
-    (let never = not-begun c.args.trip.now.limits c.args.places.now c.args.trip.now.pickup c.args.trip.now.delivery c.args.i d c.args.trip.now c.small_place-before.result.now c.leg_at-to.result c.leg_at-onward.result refl refl (c.small_place-before.ensures.place d) (c.leg_at-to.ensures.value d ∙ ap (λ (e : Place). distance e.at.stop c.args.trip.now.pickup) (sym (c.small_place-before.ensures.place d))) (sym c.in_default.is ∙ c.pick_up.ensures.value) j behind last in
+    (let never = not-begun c.args.trip.now.limits c.args.places.now c.args.trip.now.pickup c.args.trip.now.delivery c.args.i d c.args.trip.now c.small_row-before.result.now c.leg_at-to.result c.leg_at-onward.result refl refl (c.small_row-before.ensures.place d) (c.leg_at-to.ensures.value d ∙ ap (λ (e : Row). distance e.at.stop c.args.trip.now.pickup) (sym (c.small_row-before.ensures.place d))) (sym c.in_default.is ∙ c.pick_up.ensures.value) j behind last in
     absurd (never-sum _ x never some)))
 
 pub returns : goal.returns

@@ -5,7 +5,7 @@ use Rattle.nint_dist.specs.Distance.{distance}
 use Rattle.slack_tables.specs.Best.{IsFirstOf}
 use Rattle.slack_tables.specs.Ride.{served_below}
 use Rattle.slack_tables.specs.Scan.{AddsDelivery, offered}
-use Rattle.slack_tables.specs.declared.progress.Place.{Place}
+use Rattle.slack_tables.specs.declared.progress.Row.{Row}
 use Rattle.slack_tables.proofs.DetourLemmas.{first-reach, dear-behind}
 use Rattle.slack_tables.proofs.ScanLemmas.{deliveries-begin, delivery-more, deliveries-stop, never-sum, bits-below}
 use Rattle.slack_tables.proofs.WalkLemmas.{underway-more, near-more, near-small, not-last, over, offered-here}
@@ -26,16 +26,16 @@ pub serve_below-distance-requires-clause-at : goal.serve_below-distance-requires
 serve_below-distance-requires-clause-at c =
     let within = c.loop-j.invariant.within in
     let order = c.loop-j.invariant.order in
-    (near-small c.args.places.now c.loop-j.j c.small_place-tail.result.now c.loop-j.on c.requires.places c.requires.few (omega arith) within (c.loop-j.invariant.near c.small_place-tail.result.now)).0
+    (near-small c.args.places.now c.loop-j.j c.small_row-tail.result.now c.loop-j.on c.requires.places c.requires.few (omega arith) within (c.loop-j.invariant.near c.small_row-tail.result.now)).0
 
 pub serve_below-distance-requires-clause-to : goal.serve_below-distance-requires-clause-to
-serve_below-distance-requires-clause-to c = let to = (c.loop-j.invariant.near c.small_place-tail.result.now).to_delivery in omega arith
+serve_below-distance-requires-clause-to c = let to = (c.loop-j.invariant.near c.small_row-tail.result.now).to_delivery in omega arith
 
 pub go_on-requires-clause-ride : goal.go_on-requires-clause-ride
 go_on-requires-clause-ride c =
     let within = c.loop-j.invariant.within in
     let order = c.loop-j.invariant.order in
-    let small = (near-small c.args.places.now c.loop-j.j c.small_place-tail.result.now c.loop-j.on c.requires.places c.requires.few (omega arith) within (c.loop-j.invariant.near c.small_place-tail.result.now)).0 in
+    let small = (near-small c.args.places.now c.loop-j.j c.small_row-tail.result.now c.loop-j.on c.requires.places c.requires.few (omega arith) within (c.loop-j.invariant.near c.small_row-tail.result.now)).0 in
     let start = small.start in
     let load = small.load in
     let far = small.distance in
@@ -45,19 +45,19 @@ pub go_on-requires-clause-onward : goal.go_on-requires-clause-onward
 go_on-requires-clause-onward c =
     let within = c.loop-j.invariant.within in
     let order = c.loop-j.invariant.order in
-    let onward = (near-small c.args.places.now c.loop-j.j c.small_place-tail.result.now c.loop-j.on c.requires.places c.requires.few (omega arith) within (c.loop-j.invariant.near c.small_place-tail.result.now)).1 in
+    let onward = (near-small c.args.places.now c.loop-j.j c.small_row-tail.result.now c.loop-j.on c.requires.places c.requires.few (omega arith) within (c.loop-j.invariant.near c.small_row-tail.result.now)).1 in
     omega arith
 
 pub overflow_add-reach : goal.overflow_add-reach
 overflow_add-reach c =
-    let near = near-small c.args.places.now (c.args.i + 1) c.small_place-next.result.now c.args.first c.requires.places c.requires.few (omega arith) (omega arith) (c.requires.near c.small_place-next.result.now) in
+    let near = near-small c.args.places.now (c.args.i + 1) c.small_row-next.result.now c.args.first c.requires.places c.requires.few (omega arith) (omega arith) (c.requires.near c.small_row-next.result.now) in
     let far = near.0.distance in
     let onward = near.1 in
     search rules
 
 pub is_hopeless-requires-clause-reach : goal.is_hopeless-requires-clause-reach
 is_hopeless-requires-clause-reach c =
-    let near = near-small c.args.places.now (c.args.i + 1) c.small_place-next.result.now c.args.first c.requires.places c.requires.few (omega arith) (omega arith) (c.requires.near c.small_place-next.result.now) in
+    let near = near-small c.args.places.now (c.args.i + 1) c.small_row-next.result.now c.args.first c.requires.places c.requires.few (omega arith) (omega arith) (c.requires.near c.small_row-next.result.now) in
     let far = near.0.distance in
     let onward = near.1 in
     omega arith
@@ -67,13 +67,13 @@ returns-then-is_hopeless c = λ d.
     (let within = c.loop-j.invariant.within in
     let order = c.loop-j.invariant.order in
     let bound : SFits w64 c.loop-j.best.bound = search rules in
-    let served = subst (λ x. c.serve_below-distance.result ≡ served_below x c.args.trip.now.limits c.loop-j.on.ride c.loop-j.on.service c.loop-j.on.to_delivery c.args.trip.now.delivery c.leg_at.result c.small_place-tail.result.now) (to_z-of_z w64 c.loop-j.best.bound bound) c.serve_below-distance.ensures in
+    let served = subst (λ x. c.serve_below-distance.result ≡ served_below x c.args.trip.now.limits c.loop-j.on.ride c.loop-j.on.service c.loop-j.on.to_delivery c.args.trip.now.delivery c.leg_at.result c.small_row-tail.result.now) (to_z-of_z w64 c.loop-j.best.bound bound) c.serve_below-distance.ensures in
     let below : SFits w64 c.args.below = record { sfits = c.ranges.below.sfits } in
     let next_bound : SFits w64 c.offer.new.self.bound = search rules in
     let so = delivery-more c.args.trip.now.limits c.args.places.now c.args.trip.now.pickup c.args.trip.now.delivery c.args.i d _ c.loop-j.j c.loop-j.best (c.loop-j.invariant.best d) _ c.offer.new.self order within refl
-    (offered-here c.args.trip.now.limits c.args.places.now c.args.trip.now.pickup c.args.trip.now.delivery c.args.i d c.loop-j.j c.loop-j.on order within (c.loop-j.invariant.underway d) c.loop-j.best c.offer.new.self c.small_place-tail.result.now c.leg_at.result (c.small_place-tail.ensures.place d) (c.leg_at.ensures.value d ∙ ap (λ (e : Place). distance e.at.stop c.args.trip.now.delivery) (sym (c.small_place-tail.ensures.place d))) (c.offer.ensures ∙ ap (λ o. offered c.loop-j.best o c.args.i c.loop-j.j) served)) in
+    (offered-here c.args.trip.now.limits c.args.places.now c.args.trip.now.pickup c.args.trip.now.delivery c.args.i d c.loop-j.j c.loop-j.on order within (c.loop-j.invariant.underway d) c.loop-j.best c.offer.new.self c.small_row-tail.result.now c.leg_at.result (c.small_row-tail.ensures.place d) (c.leg_at.ensures.value d ∙ ap (λ (e : Row). distance e.at.stop c.args.trip.now.delivery) (sym (c.small_row-tail.ensures.place d))) (c.offer.ensures ∙ ap (λ o. offered c.loop-j.best o c.args.i c.loop-j.j) served)) in
     let dear = bits-below c.offer.new.self.bound _ next_bound (c.is_hopeless.ensures.dear c.if-is_hopeless.true) in
-    let rest = dear-behind c.args.trip.now.limits c.args.places.now c.args.trip.now.pickup c.args.trip.now.delivery c.args.i d c.requires.ways c.args.least.now c.requires.least c.offer.new.self.bound (c.loop-j.j - 1) _ _ (omega arith) (c.is_hopeless.ensures.within c.if-is_hopeless.true) (let far = first-reach c.args.trip.now.limits c.args.places.now c.args.trip.now.pickup c.args.trip.now.delivery c.args.i d c.requires.ways c.args.first (c.requires.underway d) in omega arith) (ap (λ (e : Place). e.at.distance) (c.small_place-next.ensures.place d)) dear in
+    let rest = dear-behind c.args.trip.now.limits c.args.places.now c.args.trip.now.pickup c.args.trip.now.delivery c.args.i d c.requires.ways c.args.least.now c.requires.least c.offer.new.self.bound (c.loop-j.j - 1) _ _ (omega arith) (c.is_hopeless.ensures.within c.if-is_hopeless.true) (let far = first-reach c.args.trip.now.limits c.args.places.now c.args.trip.now.pickup c.args.trip.now.delivery c.args.i d c.requires.ways c.args.first (c.requires.underway d) in omega arith) (ap (λ (e : Row). e.at.distance) (c.small_row-next.ensures.place d)) dear in
     subst (λ x. IsFirstOf (AddsDelivery c.args.trip.now.limits c.args.places.now c.args.trip.now.pickup c.args.trip.now.delivery c.args.i x d) c.offer.new.self.found) (to_z-of_z w64 c.args.below below)
     (deliveries-stop c.args.trip.now.limits c.args.places.now c.args.trip.now.pickup c.args.trip.now.delivery c.args.i d _ (c.loop-j.j + 1) c.offer.new.self so (λ k x h l some. rest k x (omega arith) l some)))
 
@@ -82,10 +82,10 @@ returns-in_default c = λ d.
     (let within = c.loop-j.invariant.within in
     let order = c.loop-j.invariant.order in
     let bound : SFits w64 c.loop-j.best.bound = search rules in
-    let served = subst (λ x. c.serve_below-distance.result ≡ served_below x c.args.trip.now.limits c.loop-j.on.ride c.loop-j.on.service c.loop-j.on.to_delivery c.args.trip.now.delivery c.leg_at.result c.small_place-tail.result.now) (to_z-of_z w64 c.loop-j.best.bound bound) c.serve_below-distance.ensures in
+    let served = subst (λ x. c.serve_below-distance.result ≡ served_below x c.args.trip.now.limits c.loop-j.on.ride c.loop-j.on.service c.loop-j.on.to_delivery c.args.trip.now.delivery c.leg_at.result c.small_row-tail.result.now) (to_z-of_z w64 c.loop-j.best.bound bound) c.serve_below-distance.ensures in
     let below : SFits w64 c.args.below = record { sfits = c.ranges.below.sfits } in
     let so = delivery-more c.args.trip.now.limits c.args.places.now c.args.trip.now.pickup c.args.trip.now.delivery c.args.i d _ c.loop-j.j c.loop-j.best (c.loop-j.invariant.best d) _ c.offer.new.self order within refl
-    (offered-here c.args.trip.now.limits c.args.places.now c.args.trip.now.pickup c.args.trip.now.delivery c.args.i d c.loop-j.j c.loop-j.on order within (c.loop-j.invariant.underway d) c.loop-j.best c.offer.new.self c.small_place-tail.result.now c.leg_at.result (c.small_place-tail.ensures.place d) (c.leg_at.ensures.value d ∙ ap (λ (e : Place). distance e.at.stop c.args.trip.now.delivery) (sym (c.small_place-tail.ensures.place d))) (c.offer.ensures ∙ ap (λ o. offered c.loop-j.best o c.args.i c.loop-j.j) served)) in
+    (offered-here c.args.trip.now.limits c.args.places.now c.args.trip.now.pickup c.args.trip.now.delivery c.args.i d c.loop-j.j c.loop-j.on order within (c.loop-j.invariant.underway d) c.loop-j.best c.offer.new.self c.small_row-tail.result.now c.leg_at.result (c.small_row-tail.ensures.place d) (c.leg_at.ensures.value d ∙ ap (λ (e : Row). distance e.at.stop c.args.trip.now.delivery) (sym (c.small_row-tail.ensures.place d))) (c.offer.ensures ∙ ap (λ o. offered c.loop-j.best o c.args.i c.loop-j.j) served)) in
     let rest = over c.args.trip.now.limits c.args.places.now c.args.trip.now.pickup c.args.trip.now.delivery c.args.i d c.loop-j.j c.loop-j.on order within (c.loop-j.invariant.underway d) c.leg_at.result (sym c.in_default.is ∙ c.go_on.ensures.value d) in
     subst (λ x. IsFirstOf (AddsDelivery c.args.trip.now.limits c.args.places.now c.args.trip.now.pickup c.args.trip.now.delivery c.args.i x d) c.offer.new.self.found) (to_z-of_z w64 c.args.below below)
     (deliveries-stop c.args.trip.now.limits c.args.places.now c.args.trip.now.pickup c.args.trip.now.delivery c.args.i d _ (c.loop-j.j + 1) c.offer.new.self so (λ k x h l some. absurd (never-sum _ x (rest k (omega arith) l) some))))
@@ -95,12 +95,12 @@ loop-j-preserved c =
     let within = c.loop-j.invariant.within in
     let order = c.loop-j.invariant.order in
     let bound : SFits w64 c.loop-j.best.bound = search rules in
-    let served = subst (λ x. c.serve_below-distance.result ≡ served_below x c.args.trip.now.limits c.loop-j.on.ride c.loop-j.on.service c.loop-j.on.to_delivery c.args.trip.now.delivery c.leg_at.result c.small_place-tail.result.now) (to_z-of_z w64 c.loop-j.best.bound bound) c.serve_below-distance.ensures in
+    let served = subst (λ x. c.serve_below-distance.result ≡ served_below x c.args.trip.now.limits c.loop-j.on.ride c.loop-j.on.service c.loop-j.on.to_delivery c.args.trip.now.delivery c.leg_at.result c.small_row-tail.result.now) (to_z-of_z w64 c.loop-j.best.bound bound) c.serve_below-distance.ensures in
     record {
       order = omega arith;
-      within = let more = not-last c.args.trip.now.limits c.args.places.now c.args.trip.now.pickup c.args.trip.now.delivery c.args.i c.small_place-tail.result.now c.loop-j.j c.loop-j.on order within c.leg_at.result c.in-Some.next (sym c.in-Some.is ∙ c.go_on.ensures.value c.small_place-tail.result.now) in omega arith;
+      within = let more = not-last c.args.trip.now.limits c.args.places.now c.args.trip.now.pickup c.args.trip.now.delivery c.args.i c.small_row-tail.result.now c.loop-j.j c.loop-j.on order within c.leg_at.result c.in-Some.next (sym c.in-Some.is ∙ c.go_on.ensures.value c.small_row-tail.result.now) in omega arith;
       best = λ d. delivery-more c.args.trip.now.limits c.args.places.now c.args.trip.now.pickup c.args.trip.now.delivery c.args.i d _ c.loop-j.j c.loop-j.best (c.loop-j.invariant.best d) _ c.offer.new.self order within refl
-          (offered-here c.args.trip.now.limits c.args.places.now c.args.trip.now.pickup c.args.trip.now.delivery c.args.i d c.loop-j.j c.loop-j.on order within (c.loop-j.invariant.underway d) c.loop-j.best c.offer.new.self c.small_place-tail.result.now c.leg_at.result (c.small_place-tail.ensures.place d) (c.leg_at.ensures.value d ∙ ap (λ (e : Place). distance e.at.stop c.args.trip.now.delivery) (sym (c.small_place-tail.ensures.place d))) (c.offer.ensures ∙ ap (λ o. offered c.loop-j.best o c.args.i c.loop-j.j) served));
+          (offered-here c.args.trip.now.limits c.args.places.now c.args.trip.now.pickup c.args.trip.now.delivery c.args.i d c.loop-j.j c.loop-j.on order within (c.loop-j.invariant.underway d) c.loop-j.best c.offer.new.self c.small_row-tail.result.now c.leg_at.result (c.small_row-tail.ensures.place d) (c.leg_at.ensures.value d ∙ ap (λ (e : Row). distance e.at.stop c.args.trip.now.delivery) (sym (c.small_row-tail.ensures.place d))) (c.offer.ensures ∙ ap (λ o. offered c.loop-j.best o c.args.i c.loop-j.j) served));
       underway = λ d. underway-more c.args.trip.now.limits c.args.places.now c.args.trip.now.pickup c.args.trip.now.delivery c.args.i d c.loop-j.j c.loop-j.on order within (c.loop-j.invariant.underway d) c.requires.ways c.requires.from_one c.leg_at.result c.in-Some.next (c.leg_at.ensures.value d) (sym c.in-Some.is ∙ c.go_on.ensures.value d);
       near = λ d. near-more c.args.trip.now.limits c.args.places.now c.args.trip.now.pickup c.args.trip.now.delivery c.args.i d c.loop-j.j c.loop-j.on order within (c.loop-j.invariant.near d) c.requires.ways c.requires.from_one c.leg_at.result c.in-Some.next c.leg_at.ensures.bound (sym c.in-Some.is ∙ c.go_on.ensures.value d) c.in-Some.ensures.near;
     }

@@ -1,5 +1,5 @@
 use Rattle.std.proofs.Common.{◌<◌, ◌≤◌, length}
-use Rattle.slack_tables.specs.declared.progress.Place.{Place}
+use Rattle.slack_tables.specs.declared.progress.Row.{Row}
 use Rattle.slack_tables.proofs.ScanLemmas.{DeliveriesSoFar}
 use Rattle.slack_tables.specs.Walk.{IsUnderway, IsNearWay}
 use Rattle.slack_tables.proofs.scan.best_delivery.Given as goal
@@ -8,7 +8,7 @@ abbrev pub invariant-loop-j : goal.invariant-loop-j
 invariant-loop-j l = record {
   order : l.fn.i < l.j;
   within : l.j ≤ length l.places;
-  best : (d : Place) → DeliveriesSoFar l.trip.limits l.places l.trip.pickup l.trip.delivery l.i d l.fn.below l.j l.best;
-  underway : (d : Place) → IsUnderway l.trip.limits l.places l.trip.pickup l.trip.delivery l.i l.j d l.on;
-  near : (d : Place) → IsNearWay l.places l.j d l.on;
+  best : (d : Row) → DeliveriesSoFar l.trip.limits l.places l.trip.pickup l.trip.delivery l.i d l.fn.below l.j l.best;
+  underway : (d : Row) → IsUnderway l.trip.limits l.places l.trip.pickup l.trip.delivery l.i l.j d l.on;
+  near : (d : Row) → IsNearWay l.places l.j d l.on;
 }

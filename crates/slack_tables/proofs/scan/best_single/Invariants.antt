@@ -1,13 +1,13 @@
 use Rattle.std.proofs.Common.{◌^◌, ◌-◌, ◌<◌, ◌≤◌, get_or}
 use Rattle.nint_dist.specs.Distance.{distance}
-use Rattle.slack_tables.specs.declared.progress.Place.{Place}
+use Rattle.slack_tables.specs.declared.progress.Row.{Row}
 use Rattle.slack_tables.proofs.ScanLemmas.{SinglesSoFar}
 use Rattle.slack_tables.proofs.scan.best_single.Given as goal
 
 abbrev pub invariant-loop-i : goal.invariant-loop-i
 invariant-loop-i l = record {
   behind : l.kept < l.i;
-  to : (d : Place) → l.to ≤ distance (get_or l.places (l.i - 1) d).at.stop l.stop;
+  to : (d : Row) → l.to ≤ distance (get_or l.places (l.i - 1) d).at.stop l.stop;
   bound : l.to ≤ 2 ^ 33;
-  best : (d : Place) → SinglesSoFar l.limits l.places l.stop l.kept d l.fn.below l.i l.best;
+  best : (d : Row) → SinglesSoFar l.limits l.places l.stop l.kept d l.fn.below l.i l.best;
 }

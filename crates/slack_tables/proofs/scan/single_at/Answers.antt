@@ -3,7 +3,7 @@ use mir.Val.{SFits}
 use Rattle.std.proofs.lemmas.Int.{ints, to_z-of_z}
 use Rattle.nint_dist.specs.Distance.{distance}
 use Rattle.slack_tables.specs.Ride.{ride_of, price, served_below}
-use Rattle.slack_tables.specs.declared.progress.Place.{Place}
+use Rattle.slack_tables.specs.declared.progress.Row.{Row}
 use Rattle.slack_tables.specs.declared.ride.Ride.{Ride}
 use Rattle.slack_tables.proofs.DetourLemmas.{served-dear}
 use Rattle.slack_tables.proofs.ScanLemmas.{bits-below}
@@ -17,18 +17,18 @@ returns-then-price-below c = λ d.
     let fits : SFits w64 c.price.result = search rules in
     let le = bits-below c.args.below _ below (subst (λ (x : ℤ). to_z w64 (of_z w64 c.args.below) ≤ℤ x) (to_z-of_z w64 c.price.result fits) (int_le-true _ _ c.if-price-below.true)) in
     let start = ap (λ (r : Ride). r.distance) c.ride_of-ride.ensures in
-    let before = ap (λ (e : Place). e.at.distance) (c.small_place-before.ensures.place d) in
-    let end = ap (λ (e : Place). e.at.distance) (c.small_place-tail.ensures.place d) in
+    let before = ap (λ (e : Row). e.at.distance) (c.small_row-before.ensures.place d) in
+    let end = ap (λ (e : Row). e.at.distance) (c.small_row-tail.ensures.place d) in
     let dear : c.args.below ≤ℤ price (ride_of (get_or c.args.places.now (c.args.i - 1) d).at) c.args.least.to c.args.least.from (get_or c.args.places.now c.args.i d) = omega (arith, ints) in
     served-dear c.args.below c.args.limits (ride_of (get_or c.args.places.now (c.args.i - 1) d).at) (get_or c.args.places.now (c.args.i - 1) d).at.stop.service (distance (get_or c.args.places.now (c.args.i - 1) d).at.stop c.args.stop.now) c.args.stop.now (distance (get_or c.args.places.now c.args.i d).at.stop c.args.stop.now) (get_or c.args.places.now c.args.i d) c.args.least.to c.args.least.from (c.requires.to d) (c.requires.from d) dear)
 
 pub returns : goal.returns
 returns c = λ d.
     (let below : SFits w64 c.args.below = record { sfits = c.ranges.below.sfits } in
-    let raw = subst (λ x. c.serve_below.result ≡ served_below x c.args.limits c.ride_of-ride.result c.small_place-before.result.now.at.stop.service c.leg_at.result c.args.stop.now c.leg_at-2.result c.small_place-tail.result.now) (to_z-of_z w64 c.args.below below) c.serve_below.ensures in
-    let ride = ap (λ r. served_below c.args.below c.args.limits r c.small_place-before.result.now.at.stop.service c.leg_at.result c.args.stop.now c.leg_at-2.result c.small_place-tail.result.now) c.ride_of-ride.ensures in
-    let to = ap (λ n. served_below c.args.below c.args.limits (ride_of c.small_place-before.result.now.at) c.small_place-before.result.now.at.stop.service n c.args.stop.now c.leg_at-2.result c.small_place-tail.result.now) (c.leg_at.ensures.value d) in
-    let from = ap (λ n. served_below c.args.below c.args.limits (ride_of c.small_place-before.result.now.at) c.small_place-before.result.now.at.stop.service (distance (get_or c.args.places.now (c.args.i - 1) d).at.stop c.args.stop.now) c.args.stop.now n c.small_place-tail.result.now) (c.leg_at-2.ensures.value d) in
-    let before = ap (λ (e : Place). served_below c.args.below c.args.limits (ride_of e.at) e.at.stop.service (distance (get_or c.args.places.now (c.args.i - 1) d).at.stop c.args.stop.now) c.args.stop.now (distance (get_or c.args.places.now c.args.i d).at.stop c.args.stop.now) c.small_place-tail.result.now) (c.small_place-before.ensures.place d) in
-    let tail = ap (λ (e : Place). served_below c.args.below c.args.limits (ride_of (get_or c.args.places.now (c.args.i - 1) d).at) (get_or c.args.places.now (c.args.i - 1) d).at.stop.service (distance (get_or c.args.places.now (c.args.i - 1) d).at.stop c.args.stop.now) c.args.stop.now (distance (get_or c.args.places.now c.args.i d).at.stop c.args.stop.now) e) (c.small_place-tail.ensures.place d) in
+    let raw = subst (λ x. c.serve_below.result ≡ served_below x c.args.limits c.ride_of-ride.result c.small_row-before.result.now.at.stop.service c.leg_at.result c.args.stop.now c.leg_at-2.result c.small_row-tail.result.now) (to_z-of_z w64 c.args.below below) c.serve_below.ensures in
+    let ride = ap (λ r. served_below c.args.below c.args.limits r c.small_row-before.result.now.at.stop.service c.leg_at.result c.args.stop.now c.leg_at-2.result c.small_row-tail.result.now) c.ride_of-ride.ensures in
+    let to = ap (λ n. served_below c.args.below c.args.limits (ride_of c.small_row-before.result.now.at) c.small_row-before.result.now.at.stop.service n c.args.stop.now c.leg_at-2.result c.small_row-tail.result.now) (c.leg_at.ensures.value d) in
+    let from = ap (λ n. served_below c.args.below c.args.limits (ride_of c.small_row-before.result.now.at) c.small_row-before.result.now.at.stop.service (distance (get_or c.args.places.now (c.args.i - 1) d).at.stop c.args.stop.now) c.args.stop.now n c.small_row-tail.result.now) (c.leg_at-2.ensures.value d) in
+    let before = ap (λ (e : Row). served_below c.args.below c.args.limits (ride_of e.at) e.at.stop.service (distance (get_or c.args.places.now (c.args.i - 1) d).at.stop c.args.stop.now) c.args.stop.now (distance (get_or c.args.places.now c.args.i d).at.stop c.args.stop.now) c.small_row-tail.result.now) (c.small_row-before.ensures.place d) in
+    let tail = ap (λ (e : Row). served_below c.args.below c.args.limits (ride_of (get_or c.args.places.now (c.args.i - 1) d).at) (get_or c.args.places.now (c.args.i - 1) d).at.stop.service (distance (get_or c.args.places.now (c.args.i - 1) d).at.stop c.args.stop.now) c.args.stop.now (distance (get_or c.args.places.now c.args.i d).at.stop c.args.stop.now) e) (c.small_row-tail.ensures.place d) in
     raw ∙ (ride ∙ (to ∙ (from ∙ (before ∙ tail)))))

@@ -14,7 +14,7 @@ loop-k-init c =
     let front = c.same_front-front.ensures.front in
     let at = at-begin stops c.problem.inside.depot c.leaving.result (place-first p route ∙ sym (ap (λ q. q.depot) c.problem.view_is)) c.leaving.ensures in
     let within = within-begin c.problem.inside.depot c.leaving.result c.problem.invariant.valid.depot.visit c.leaving.ensures in
-    let first = open-to-more stops 0 c.args.places.now _ _ (open-to-none stops c.args.places.now) (omega arith) (omega arith) at within c.open_place.ensures in
+    let first = open-to-more stops 0 c.args.places.now _ _ (open-to-none stops c.args.places.now) (omega arith) (omega arith) at within c.open_row.ensures in
     let come = c.behind_front-at.ensures route front in
     record {
       long = c.copy_front.ensures.len ∙ (length-set c.args.places.now 0 _ ∙ c.requires.count);
@@ -36,7 +36,7 @@ loop-k-preserved c =
     let within = within-next k _ _ is.within c.driven_on-at.ensures.near in
     record {
       long = length-set c.loop-k.places (c.loop-k.k + 1) _ ∙ is.long;
-      opened = open-to-more stops (c.loop-k.k + 1) c.loop-k.places _ _ is.opened (omega arith) (omega arith) at within c.open_place-in-loop-k.ensures;
+      opened = open-to-more stops (c.loop-k.k + 1) c.loop-k.places _ _ is.opened (omega arith) (omega arith) at within c.open_row-in-loop-k.ensures;
       at = at;
       within = within;
     }
@@ -53,5 +53,5 @@ returns c =
     let back = place-return p c.args.route.now c.loop-k.k c.loop-k-test.false in
     let at = at-more stops c.loop-k.k _ _ _ is.at (ap (λ q. q.depot) c.problem.view_is ∙ sym back) c.driven_on.ensures.value in
     let within = within-next c.loop-k.k _ _ is.within c.driven_on.ensures.near in
-    let opened = open-to-more stops (length c.args.route.now + 1) c.loop-k.places _ c.open_place-2.result (subst (λ k. AreOpenTo stops (k + 1) c.loop-k.places) last is.opened) (omega arith) (omega arith) (subst (λ k. IsAt stops (k + 1) c.driven_on.result) last at) (subst (λ k. IsWithin (k + 1) c.driven_on.result) last within) c.open_place-2.ensures in
-    open-to-all stops (length c.args.route.now + 1 + 1) _ opened (omega (arith, length-set c.loop-k.places (length c.args.route.now + 1) c.open_place-2.result))
+    let opened = open-to-more stops (length c.args.route.now + 1) c.loop-k.places _ c.open_row-2.result (subst (λ k. AreOpenTo stops (k + 1) c.loop-k.places) last is.opened) (omega arith) (omega arith) (subst (λ k. IsAt stops (k + 1) c.driven_on.result) last at) (subst (λ k. IsWithin (k + 1) c.driven_on.result) last within) c.open_row-2.ensures in
+    open-to-all stops (length c.args.route.now + 1 + 1) _ opened (omega (arith, length-set c.loop-k.places (length c.args.route.now + 1) c.open_row-2.result))

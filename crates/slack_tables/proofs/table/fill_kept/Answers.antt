@@ -2,7 +2,7 @@ use Rattle.std.proofs.Common.{◌≡◌, ◌∙◌, ◌+◌, length, refl, sym, 
 use Rattle.plan_types.specs.Instance.{IsInstance}
 use Rattle.route_sched.specs.Route.{place}
 use Rattle.slack_tables.specs.Filled.{EachIsTimely, IsFilled}
-use Rattle.slack_tables.specs.Opened.{leaving, open_place}
+use Rattle.slack_tables.specs.Opened.{leaving, open_row}
 use Rattle.slack_tables.proofs.KeptLemmas.{kept-whole}
 use Rattle.slack_tables.proofs.TableLemmas.{route_timely, route_may_end, course-is, known-as}
 use Rattle.slack_tables.proofs.table.fill_kept.Goals as goal
@@ -56,5 +56,5 @@ returns-clause-made c = λ kept.
     let filled : IsFilled c.args.problem.now.kind c.drive_route.new.places c.fill_slack.new.places = subst (λ q. IsFilled q.kind c.drive_route.new.places c.fill_slack.new.places) c.problem.view_is c.fill_slack.ensures in
     record {
       known = known-as p route valid keep old c.drive_route.ensures long new c.fill_slack.auto.places c.requires.few filled _ refl;
-      course = course-is p route valid keep old c.drive_route.ensures long new c.fill_slack.auto.places c.requires.few filled (open_place (leaving c.args.problem.now.depot));
+      course = course-is p route valid keep old c.drive_route.ensures long new c.fill_slack.auto.places c.requires.few filled (open_row (leaving c.args.problem.now.depot));
     })

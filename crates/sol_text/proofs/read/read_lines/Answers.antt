@@ -4,12 +4,12 @@ use Rattle.sol_text.specs.Reading.{reading, with_routes}
 use Rattle.sol_text.proofs.ReadLemmas.{said-blank, said-route, said-cost, said-err, said-end, fewer}
 use Rattle.sol_text.proofs.read.read_lines.Goals as goal
 
-pub returns-in_err-read_line : goal.returns-in_err-read_line
-returns-in_err-read_line c =
+pub returns-in_err-parse_line : goal.returns-in_err-parse_line
+returns-in_err-parse_line c =
     let is = c.loop-line.invariant in
     let p = err_from_is_err_and c.from_residual.result c.from_residual.ensures.1 in
     rw (p.1, p.2)
-    (elim c.in_err-read_line.ensures [
+    (elim c.in_err-parse_line.ensures [
       | inl memory ↦ inl memory
       | inr fault ↦ inr (said-err _ c.loop-line.routes.items c.loop-line.number _ _ _ c.in-Some.ensures.steps is.said _ fault)
     ])
@@ -19,7 +19,7 @@ loop-line-preserved-in-Blank c =
     let is = c.loop-line.invariant in
     record {
       few = fewer _ c.loop-line.routes.items c.loop-line.number _ _ _ c.in-Some.ensures.steps is.said _ is.few;
-      said = said-blank _ c.loop-line.routes.items c.loop-line.number _ _ _ c.in-Some.ensures.steps is.said (c.in_ok-read_line.ensures ∙ ap Ok c.in-Blank.is);
+      said = said-blank _ c.loop-line.routes.items c.loop-line.number _ _ _ c.in-Some.ensures.steps is.said (c.in_ok-parse_line.ensures ∙ ap Ok c.in-Blank.is);
     }
 
 pub loop-line-preserved : goal.loop-line-preserved
@@ -28,13 +28,13 @@ loop-line-preserved c =
     record {
       few = fewer _ c.loop-line.routes.items c.loop-line.number _ _ _ c.in-Some.ensures.steps is.said _ is.few;
       said =
-          said-route _ c.loop-line.routes.items c.loop-line.number _ _ _ c.in-Some.ensures.steps is.said c.in-Route.route (c.in_ok-read_line.ensures ∙ ap Ok c.in-Route.is)
+          said-route _ c.loop-line.routes.items c.loop-line.number _ _ _ c.in-Some.ensures.steps is.said c.in-Route.route (c.in_ok-parse_line.ensures ∙ ap Ok c.in-Route.is)
           ∙ ap (λ rs. with_routes rs (reading (c.loop-line.number + 1) c.next.new.self)) (sym c.in_ok-push-in-Route.ensures.items);
     }
 
 pub returns-in-Cost : goal.returns-in-Cost
 returns-in-Cost c =
-    said-cost _ c.loop-line.routes.items c.loop-line.number _ _ _ c.in-Some.ensures.steps c.loop-line.invariant.said c.in-Cost.cost (c.in_ok-read_line.ensures ∙ ap Ok c.in-Cost.is)
+    said-cost _ c.loop-line.routes.items c.loop-line.number _ _ _ c.in-Some.ensures.steps c.loop-line.invariant.said c.in-Cost.cost (c.in_ok-parse_line.ensures ∙ ap Ok c.in-Cost.is)
     ∙ ap (λ rs. Ok (record { routes = rs; cost = c.in-Cost.cost })) (sym c.from.ensures)
 
 pub returns : goal.returns

@@ -1,6 +1,6 @@
 use Rattle.std.proofs.Common.{◌≡◌, ◌-◌, []}
 use Rattle.state_codec.specs.Reading.{times, next_request}
-use Rattle.state_codec.specs.Filled.{IsFilled}
+use Rattle.state_codec.specs.Filled.{IsFilledBelow}
 use Rattle.state_codec.proofs.FieldLaws.{IsBytes}
 use Rattle.state_codec.proofs.requests.requests_at.Given as goal
 
@@ -9,5 +9,5 @@ abbrev pub invariant-loop : goal.invariant-loop
 invariant-loop l = record {
   read : times (next_request l.version l.next) (l.count - l.counter) l.problem.requests l.rest ≡ times (next_request l.version l.next) l.count [] l.bytes;
   bytes : IsBytes l.rest;
-  filled : IsFilled l.fn.problem l.next l.problem;
+  filled : IsFilledBelow l.fn.problem l.next l.problem;
 }

@@ -1,4 +1,4 @@
-use Rattle.sector_disk.specs.Memory.{course_of}
+use Rattle.sector_disk.specs.Memory.{history_of}
 use Rattle.sector_disk.specs.MemDevice.{memory}
 use Rattle.sector_disk.specs.MemoryLaws.{memory_reads_possible}
 use Rattle.sector_disk.proofs.Calls.{sync_case}
@@ -9,16 +9,16 @@ pub returns-clause-reads : goal.returns-clause-reads
 returns-clause-reads c = λ _.
     let d = c.args.self.now in
     let possible = memory_reads_possible (memory d) d.kept.whole d.kept.fit in
-    sync_seen (course_of (memory d)) (course_of (memory c.try_sync.new.self)) possible c.try_sync.result (sync_case (memory d) (memory c.try_sync.new.self) c.try_sync.result c.try_sync.ensures.exact)
+    sync_seen (history_of (memory d)) (history_of (memory c.try_sync.new.self)) possible c.try_sync.result (sync_case (memory d) (memory c.try_sync.new.self) c.try_sync.result c.try_sync.ensures.exact)
 
 pub returns-clause-durable : goal.returns-clause-durable
 returns-clause-durable c = λ _.
     let d = c.args.self.now in
     let possible = memory_reads_possible (memory d) d.kept.whole d.kept.fit in
-    sync_durable (course_of (memory d)) (course_of (memory c.try_sync.new.self)) possible c.try_sync.result (sync_case (memory d) (memory c.try_sync.new.self) c.try_sync.result c.try_sync.ensures.exact)
+    sync_durable (history_of (memory d)) (history_of (memory c.try_sync.new.self)) possible c.try_sync.result (sync_case (memory d) (memory c.try_sync.new.self) c.try_sync.result c.try_sync.ensures.exact)
 
 pub returns-clause-moments : goal.returns-clause-moments
 returns-clause-moments c = λ _.
     let d = c.args.self.now in
     let possible = memory_reads_possible (memory d) d.kept.whole d.kept.fit in
-    sync_moments (course_of (memory d)) (course_of (memory c.try_sync.new.self)) possible c.try_sync.result (sync_case (memory d) (memory c.try_sync.new.self) c.try_sync.result c.try_sync.ensures.exact)
+    sync_moments (history_of (memory d)) (history_of (memory c.try_sync.new.self)) possible c.try_sync.result (sync_case (memory d) (memory c.try_sync.new.self) c.try_sync.result c.try_sync.ensures.exact)

@@ -1,5 +1,5 @@
 use Rattle.std.proofs.Common.{◌+◌, ◌≤◌, ◌/◌, length, arith}
-use Rattle.sector_disk.specs.Memory.{len_of, course_of}
+use Rattle.sector_disk.specs.Memory.{len_of, history_of}
 use Rattle.sector_disk.specs.MemDevice.{memory}
 use Rattle.sector_disk.specs.MemoryLaws.{whole_sectors, memory_reads_possible}
 use Rattle.sector_disk.proofs.Calls.{write_case}
@@ -13,7 +13,7 @@ returns-clause-written c = λ _.
     let inside : c.args.first + length c.args.bytes.now / 512 ≤ len_of (memory d) = omega (arith, whole, c.requires.inside) in
     let possible = memory_reads_possible (memory d) d.kept.whole d.kept.fit in
     let case = write_case (memory d) (memory c.try_write.new.self) c.args.first c.args.bytes.now c.try_write.result c.try_write.ensures.exact in
-    write_seen (course_of (memory d)) (course_of (memory c.try_write.new.self)) c.args.first c.args.bytes.now whole inside possible c.try_write.result case
+    write_seen (history_of (memory d)) (history_of (memory c.try_write.new.self)) c.args.first c.args.bytes.now whole inside possible c.try_write.result case
 
 pub returns-clause-contents : goal.returns-clause-contents
 returns-clause-contents c = λ _.
@@ -22,7 +22,7 @@ returns-clause-contents c = λ _.
     let inside : c.args.first + length c.args.bytes.now / 512 ≤ len_of (memory d) = omega (arith, whole, c.requires.inside) in
     let possible = memory_reads_possible (memory d) d.kept.whole d.kept.fit in
     let case = write_case (memory d) (memory c.try_write.new.self) c.args.first c.args.bytes.now c.try_write.result c.try_write.ensures.exact in
-    write_contents (course_of (memory d)) (course_of (memory c.try_write.new.self)) c.args.first c.args.bytes.now whole inside possible c.try_write.result case
+    write_contents (history_of (memory d)) (history_of (memory c.try_write.new.self)) c.args.first c.args.bytes.now whole inside possible c.try_write.result case
 
 pub returns-clause-within : goal.returns-clause-within
 returns-clause-within c = λ _.
@@ -31,7 +31,7 @@ returns-clause-within c = λ _.
     let inside : c.args.first + length c.args.bytes.now / 512 ≤ len_of (memory d) = omega (arith, whole, c.requires.inside) in
     let possible = memory_reads_possible (memory d) d.kept.whole d.kept.fit in
     let case = write_case (memory d) (memory c.try_write.new.self) c.args.first c.args.bytes.now c.try_write.result c.try_write.ensures.exact in
-    write_within (course_of (memory d)) (course_of (memory c.try_write.new.self)) c.args.first c.args.bytes.now whole inside possible c.try_write.result case
+    write_within (history_of (memory d)) (history_of (memory c.try_write.new.self)) c.args.first c.args.bytes.now whole inside possible c.try_write.result case
 
 pub returns-clause-moments : goal.returns-clause-moments
 returns-clause-moments c = λ _.
@@ -40,4 +40,4 @@ returns-clause-moments c = λ _.
     let inside : c.args.first + length c.args.bytes.now / 512 ≤ len_of (memory d) = omega (arith, whole, c.requires.inside) in
     let possible = memory_reads_possible (memory d) d.kept.whole d.kept.fit in
     let case = write_case (memory d) (memory c.try_write.new.self) c.args.first c.args.bytes.now c.try_write.result c.try_write.ensures.exact in
-    write_moments (course_of (memory d)) (course_of (memory c.try_write.new.self)) c.args.first c.args.bytes.now whole inside possible c.try_write.result case
+    write_moments (history_of (memory d)) (history_of (memory c.try_write.new.self)) c.args.first c.args.bytes.now whole inside possible c.try_write.result case

@@ -1,34 +1,34 @@
 use Rattle.std.proofs.Common.{w32, w64, ap, ◌∙◌, arith}
 use mir.Val.{SFits}
 use Rattle.std.proofs.lemmas.Int.{ints, to_z-of_z}
-use Rattle.slack_tables.specs.declared.progress.Place.{Place}
+use Rattle.slack_tables.specs.declared.progress.Row.{Row}
 use Rattle.slack_tables.proofs.SpanLemmas.{span-begun}
 use Rattle.slack_tables.proofs.span.Span.begun.Goals as goal
 
 pub returns-clause-within : goal.returns-clause-within
 returns-clause-within c =
-    let first = c.small_place-first.ensures.small.at.visit in
+    let first = c.small_row-first.ensures.small.at.visit in
     let low_x = first.x.0 in
     let high_x = first.x.1 in
     let low_y = first.y.0 in
     let high_y = first.y.1 in
-    let load = c.small_place-end.ensures.small.at.load in
+    let load = c.small_row-end.ensures.small.at.load in
     let tips = c.tips.ensures.small in
-    let fx : SFits w32 c.small_place-first.result.now.at.stop.x = record { sfits = omega (arith, ints) } in
-    let fy : SFits w32 c.small_place-first.result.now.at.stop.y = record { sfits = omega (arith, ints) } in
+    let fx : SFits w32 c.small_row-first.result.now.at.stop.x = record { sfits = omega (arith, ints) } in
+    let fy : SFits w32 c.small_row-first.result.now.at.stop.y = record { sfits = omega (arith, ints) } in
     let ft : SFits w64 c.tips.result = record { sfits = omega (arith, ints) } in
-    let fo : SFits w64 c.small_place-end.result.now.at.load = record { sfits = omega (arith, ints) } in
-    rw (to_z-of_z w32 c.small_place-first.result.now.at.stop.x fx, to_z-of_z w32 c.small_place-first.result.now.at.stop.y fy, to_z-of_z w64 c.tips.result ft, to_z-of_z w64 c.small_place-end.result.now.at.load fo)
-    (span-begun c.args.places.now c.small_place-first.result.now c.tips.result c.small_place-end.result.now.at.load c.small_place-first.ensures.place tips (omega arith))
+    let fo : SFits w64 c.small_row-end.result.now.at.load = record { sfits = omega (arith, ints) } in
+    rw (to_z-of_z w32 c.small_row-first.result.now.at.stop.x fx, to_z-of_z w32 c.small_row-first.result.now.at.stop.y fy, to_z-of_z w64 c.tips.result ft, to_z-of_z w64 c.small_row-end.result.now.at.load fo)
+    (span-begun c.args.places.now c.small_row-first.result.now c.tips.result c.small_row-end.result.now.at.load c.small_row-first.ensures.place tips (omega arith))
 
 pub returns-clause-ends : goal.returns-clause-ends
 returns-clause-ends c =
-    let load = c.small_place-end.ensures.small.at.load in
+    let load = c.small_row-end.ensures.small.at.load in
     let tips = c.tips.ensures.small in
     let ft : SFits w64 c.tips.result = record { sfits = omega (arith, ints) } in
-    let fo : SFits w64 c.small_place-end.result.now.at.load = record { sfits = omega (arith, ints) } in
+    let fo : SFits w64 c.small_row-end.result.now.at.load = record { sfits = omega (arith, ints) } in
     record {
       first = λ d. rw (to_z-of_z w64 c.tips.result ft) (c.tips.ensures.first d);
       last = λ d. rw (to_z-of_z w64 c.tips.result ft) (c.tips.ensures.last d);
-      load = λ d. to_z-of_z w64 c.small_place-end.result.now.at.load fo ∙ ap (λ (e : Place). e.at.load) (c.small_place-end.ensures.place d);
+      load = λ d. to_z-of_z w64 c.small_row-end.result.now.at.load fo ∙ ap (λ (e : Row). e.at.load) (c.small_row-end.ensures.place d);
     }

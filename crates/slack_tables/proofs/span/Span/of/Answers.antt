@@ -11,7 +11,7 @@ loop-k-preserved c =
     let some = is.some in
     record {
       some = omega arith;
-      within = span-more c.args.places.now c.loop-k.k c.loop-k.span c.extended-span.result c.small_place-before.result.now c.small_place-here.result.now (omega arith) is.within c.small_place-before.ensures.place c.small_place-here.ensures.place c.extended-span.ensures.inside c.extended-span.ensures.wider c.extended-span.ensures.edge c.extended-span.ensures.longer c.extended-span.ensures.small;
+      within = span-more c.args.places.now c.loop-k.k c.loop-k.span c.extended-span.result c.small_row-before.result.now c.small_row-here.result.now (omega arith) is.within c.small_row-before.ensures.place c.small_row-here.ensures.place c.extended-span.ensures.inside c.extended-span.ensures.wider c.extended-span.ensures.edge c.extended-span.ensures.longer c.extended-span.ensures.small;
       ends = ends-same c.loop-k.span c.extended-span.result c.args.places.now c.extended-span.ensures.tips c.extended-span.ensures.load is.ends;
     }
 

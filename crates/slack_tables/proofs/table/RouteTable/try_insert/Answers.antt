@@ -7,7 +7,7 @@ use Rattle.slack_tables.specs.Course.{Course, route_of}
 use Rattle.slack_tables.specs.Driven.{with_between, with_pair}
 use Rattle.slack_tables.specs.Insertion.{request_named, inserted, ArePlaces, IsAdded}
 use Rattle.slack_tables.specs.Inside.{AreKnown}
-use Rattle.slack_tables.specs.Opened.{leaving, open_place}
+use Rattle.slack_tables.specs.Opened.{leaving, open_row}
 use Rattle.slack_tables.proofs.InsertLemmas.{limits_of, single-added, pair-added}
 use Rattle.slack_tables.proofs.table.RouteTable.try_insert.Goals as goal
 
@@ -35,7 +35,7 @@ returns-in-Single c =
     let named : request_named c.args.problem.now c.args.name ≡ Some (Single c.in-Single.stop) = c.live_request.ensures.found ∙ ap (λ r. Some r) c.in-Single.is in
     let table : AreKnown c.args.self.now c.self.inside.places.items = subst (λ q. AreKnown q c.self.inside.places.items) c.self.view_is c.self.invariant.0 in
     let are : ArePlaces (Single c.in-Single.stop) (length (route_of c.args.self.now)) c.args.i c.args.j = subst (λ o. IsSomeAnd o (λ r. ArePlaces r (length (route_of c.args.self.now)) c.args.i c.args.j)) named c.requires.places in
-    let d = open_place (leaving c.in-Single.stop) in
+    let d = open_row (leaving c.in-Single.stop) in
     let made = c.single_added.ensures d in
     let limits = ap (λ (q : Course). with_between (limits_of q) c.as_slice-places.result.now (c.args.i - 1) (c.in-Single.stop ∷ []) c.args.i d) c.self.view_is in
     let items = ap (λ xs. with_between (limits_of c.args.self.now) xs (c.args.i - 1) (c.in-Single.stop ∷ []) c.args.i d) c.as_slice-places.ensures.value in
@@ -47,7 +47,7 @@ returns-in-Pair c =
     let named : request_named c.args.problem.now c.args.name ≡ Some (Pair c.in-Pair.pickup c.in-Pair.delivery) = c.live_request.ensures.found ∙ ap (λ r. Some r) c.in-Pair.is in
     let table : AreKnown c.args.self.now c.self.inside.places.items = subst (λ q. AreKnown q c.self.inside.places.items) c.self.view_is c.self.invariant.0 in
     let are : ArePlaces (Pair c.in-Pair.pickup c.in-Pair.delivery) (length (route_of c.args.self.now)) c.args.i c.args.j = subst (λ o. IsSomeAnd o (λ r. ArePlaces r (length (route_of c.args.self.now)) c.args.i c.args.j)) named c.requires.places in
-    let d = open_place (leaving c.in-Pair.pickup) in
+    let d = open_row (leaving c.in-Pair.pickup) in
     let made = c.pair_added.ensures d in
     let limits = ap (λ (q : Course). with_pair (limits_of q) c.as_slice-places.result.now c.in-Pair.pickup c.in-Pair.delivery c.args.i c.args.j d) c.self.view_is in
     let items = ap (λ xs. with_pair (limits_of c.args.self.now) xs c.in-Pair.pickup c.in-Pair.delivery c.args.i c.args.j d) c.as_slice-places.ensures.value in

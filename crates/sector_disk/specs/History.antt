@@ -2,7 +2,7 @@
 use Rattle.std.specs.Prelude.{ℕ, List, length}
 use Rattle.sector_disk.specs.Model.{Disk, Event, run, IsImage, MightHaveLeft}
 
-pub record Course : Type 0 where
+pub record History : Type 0 where
   pub sectors : ℕ
   pub start : Disk
   pub events : List Event
@@ -10,18 +10,18 @@ pub record Course : Type 0 where
   pub calls : ℕ
 
 -- the device of the model now
-abbrev pub disk_in : Course → Disk
+abbrev pub disk_in : History → Disk
 disk_in c = run c.start c.events
 
-abbrev pub seen_in : Course → List ℕ
+abbrev pub seen_in : History → List ℕ
 seen_in c = (disk_in c).seen
 
-abbrev pub MayLeaveIn : Course → List ℕ → Type 0
+abbrev pub MayLeaveIn : History → List ℕ → Type 0
 MayLeaveIn c image = IsImage c.sectors (disk_in c) image
 
 -- the moments are numbered by the events so far
-abbrev pub clock_in : Course → ℕ
+abbrev pub clock_in : History → ℕ
 clock_in c = length c.events
 
-abbrev pub MayHaveLeftIn : Course → ℕ → ℕ → List ℕ → Type 0
+abbrev pub MayHaveLeftIn : History → ℕ → ℕ → List ℕ → Type 0
 MayHaveLeftIn c from calls image = MightHaveLeft c.sectors c.start c.events c.calls from calls image
