@@ -63,11 +63,12 @@ pub(crate) const RUN_ANSWERS: &str =
     checkpoint                 a snapshot, so that less is repeated at the next run\n\n\
     A command ends with one of these lines:\n  \
     ok                         it is done, and no stop loses it\n  \
-    no NAME                    it is refused, and nothing changed; of an instance: no NAME LINE\n  \
-    fault device               the store failed; it may be there or not at the next run\n\
-    A search tells `at STEPS UNPLANNED VEHICLES DISTANCE` before that, piece by piece: no stop loses these steps.\n\n\
+    no NAME                    it is refused and changes nothing; of an instance: no NAME LINE\n  \
+    fault device               the store failed; it may be there or not at the next run\n\n\
+    A search tells `at STEPS UNPLANNED VEHICLES DISTANCE` before that, piece by piece: these steps stand, whatever\n\
+    is answered behind them.\n\n\
     Where the store can't be opened, it prints `store NAME` or `cannot read PATH` alone (status 2, 3 or 4).\n\
-    Status 0 says that the input was served, whatever the answers.";
+    Status 0 says that the input was read to its end, or to a `load` that is cut short, whatever the answers.";
 
 pub(crate) const AUDITS_ABOUT: &str = "Audits a list of solutions";
 

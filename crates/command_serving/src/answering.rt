@@ -5,7 +5,8 @@ ghost use Rattle.std.specs.Prelude.{◌≡◌, ◌≤◌, ◌++◌, IfErr, IfOk,
 ghost use Rattle.std.specs.Io.KnownBytes.{Appends};
 ghost use Rattle.plan_types.specs.Instance.{Instance};
 ghost use Rattle.instance_read.specs.declared.faults.ReadFault.{ReadFault};
-ghost use Rattle.command_text.specs.Answering.{counts_of, plain, printed, refused, searched, searched_or, steps_to_search, steps_to_reach, shown, unless_broken};
+ghost use Rattle.command_text.specs.Answering.{counts_of, plain, printed, refused, searched, searched_or, shown, unless_broken};
+ghost use Rattle.command_text.specs.Answering.{steps_to_reach, steps_to_search};
 ghost use Rattle.command_text.specs.Cutting.{pieces_of};
 ghost use Rattle.command_text.specs.Laws.{cut_at};
 ghost use Rattle.command_text.specs.Readings.{IsReading, Reading};

@@ -2,7 +2,7 @@
 //! whole input's answers. `command_serving` serves a session by it, `plan_solve` tells its steps by it.
 //!
 //! Entry functions: `read_line` for a line; `Answer::line`, `at_line`, `show` and `print` for an answer;
-//! `search_steps`, `reach_steps` and `next_count` for the pieces of a search.
+//! `steps_to_search`, `steps_to_reach` and `next_count` for the pieces of a search.
 //!
 //! Source: this project's own.
 //!
@@ -31,7 +31,7 @@
 //! - `FirstWord`: whether the first word of a line in parts is `load`
 //! - `Answer::line`, `at_line`, `show`, `print`: each byte; `print` is read back as the plan's routes and distance, and
 //!   tells how many requests are unplanned
-//! - `search_steps`, `reach_steps`, `next_count`: how many steps a line makes, or why it is refused, and the next piece
+//! - `steps_to_search`, `steps_to_reach`, `next_count`: how many steps a line makes, or why it is refused, and the next piece
 //! - `read_instance`: what the text spells or its first fault, or want of memory
 //! - `pieces_follow`: an input is cut into lines, each `load` line with the bytes that it announces
 //! - `states_follow`: the state that an input leaves is the one after the commands that were carried out

@@ -29,7 +29,7 @@
 //!
 //! Said by `specs/Lilim.antt`, `Pairs.antt`, `Vrp.antt`, `VrpLines.antt` and `Faults.antt`. Proved:
 //! - `read_lilim`, `read_vrp`: `value`, the problem is the one that the text spells (`SpellsLilim`, `SpellsVrp`);
-//!   `fault`, else the least fault by class, line and kind, or want of memory (`Tells`)
+//!   `fault`, else the least fault by class, line and kind, or want of memory (`TellsFirstFault`)
 //! - `sections_have_a_line_for_each_node`: a section of nodes has as many lines as the first DIMENSION line says
 //! - `depots_are_two_words`: the list of depots is over with its second word
 //! - `eof_is_the_end`: nothing counts behind EOF
