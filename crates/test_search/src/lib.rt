@@ -9,6 +9,8 @@
 #![tactic(auto)]
 
 #[cfg(test)]
+mod annealing;
+#[cfg(test)]
 mod builders;
 #[cfg(test)]
 mod commands;

@@ -1,0 +1,175 @@
+-- What annealing steps keep, proved.
+use Rattle.std.proofs.Common.{◌≡◌, ℕ, zero, suc, ◌+◌, ◌-◌, ◌<◌, ◌==◌, Bool, true, false, cond, List, length, slice_index, Option, Some, None, IsTrue, refl, sym, ap, subst, ◌∙◌, inl, inr, arith, eqb}
+use Rattle.std.specs.Option.{option_map}
+use Rattle.std.proofs.lemmas.Bool.{both_ways, eq-eqb}
+use Rattle.plan_types.specs.Cost.{cost_at_most, CostsAreTotal, CostsAreTransitive}
+use Rattle.plan_types.specs.Instance.{Instance}
+use Rattle.plan_types.specs.declared.plans.Cost.{Cost}
+use Rattle.plan_types.specs.declared.plans.Plan.{Plan}
+use Rattle.route_sched.specs.Cost.{cost_of}
+use Rattle.move_ops.specs.Moves.{removed}
+use Rattle.move_ops.specs.Drafts.{Drafted, base_of, draft_of, IsMade}
+use Rattle.seeded_search.specs.Words.{step_words}
+use Rattle.seeded_search.specs.Steps.{unplanned_names, is_near}
+use Rattle.seeded_search.specs.StepLaws.{BothPass}
+use Rattle.seeded_search.specs.Working.{walked_by, HasTaken}
+use Rattle.seeded_search.specs.declared.walk.Walk.{Walk}
+use Rattle.seeded_search.proofs.WalkLemmas.{Passes, removed_passes, placed_all_passes, taken_walk}
+use Rattle.anneal_search.specs.Orders.{ordered}
+use Rattle.anneal_search.specs.Strings.{ruined_names}
+use Rattle.anneal_search.specs.Annealing.{Walked, walked, recreated, candidate, annealed, annealed_by, anneal_step, anneal_steps}
+use Rattle.anneal_search.specs.AnnealLaws.{AnnealStepsAddUp, AnnealStepsKeepPassing, AnnealedNeverCostMore}
+use Rattle.anneal_search.specs.Going.{HasImproved, IsGoing}
+
+none_some : {X : Type 0} (x : X) → None ≡ Some x → ⊥
+none_some x h = cc
+
+some_same : {X : Type 0} (x y : X) → Some x ≡ Some y → x ≡ y
+some_same x y h = cc
+
+-- ---- the candidate
+module _ (p : Instance) (pins routes : List (List ℕ)) (words names : List ℕ) (ruined : names ≡ ruined_names p pins routes words) where
+  pub none_ruined : length names ≡ 0 → candidate p pins routes words ≡ None
+  unfolding candidate
+  none_ruined none =
+      ap (λ b. cond b None (option_map (recreated p pins (slice_index words 2)) (removed p pins routes (ruined_names p pins routes words))))
+      (eq-eqb (length (ruined_names p pins routes words)) 0 (ap length (sym ruined) ∙ none))
+
+  pub some_ruined : (length names == 0) ≡ false → candidate p pins routes words ≡ option_map (recreated p pins (slice_index words 2)) (removed p pins routes names)
+  unfolding candidate
+  some_ruined some =
+      ap (λ b. cond b None (option_map (recreated p pins (slice_index words 2)) (removed p pins routes (ruined_names p pins routes words))))
+      (ap (λ (ns : List ℕ). length ns == 0) (sym ruined) ∙ some)
+      ∙ ap (λ ns. option_map (recreated p pins (slice_index words 2)) (removed p pins routes ns)) (sym ruined)
+
+-- nothing is removed
+pub not_removed : (f : List (List ℕ) → List (List ℕ)) (answer : Option (List (List ℕ))) (made : Bool) (old new : Drafted) → IsMade answer made old new → made ≡ false → IsMade (option_map f answer) false old new
+not_removed f None made old new h is = (refl, h.1)
+not_removed f (Some left) made old new h is = absurd (both_ways made is h.0)
+
+-- what is left is put in again
+pub removed_and_more : (f : List (List ℕ) → List (List ℕ)) (answer : Option (List (List ℕ))) (made : Bool) (old left new : Drafted) → IsMade answer made old left → made ≡ true → draft_of new ≡ f (draft_of left)
+    → IsMade (option_map f answer) true old new
+removed_and_more f None made old left new h is more = absurd (both_ways made h.0 is)
+removed_and_more f (Some routes) made old left new h is more = (refl, more ∙ ap f h.1)
+
+-- ---- what it replaces
+module _ (p : Instance) (pins : List (List ℕ)) (deviation : ℕ) (old improved new : Walk) (cost work : Cost) (cost_is : cost ≡ cost_of p (draft_of old.draft))
+    (better : HasImproved p pins old improved) (taken : HasTaken p pins improved new) where
+  base_is : base_of new.draft ≡ draft_of old.draft
+  base_is = taken.base ∙ ap draft_of better.draft
+
+  pub settled : work ≡ cost_of p (base_of old.draft) → is_near deviation cost work ≡ true → walked_by new ≡ annealed p deviation (walked_by old) (draft_of old.draft)
+  settled work_is near =
+      let c = draft_of old.draft in
+      let incumbent : new.incumbent.routes ≡ cond (cost_at_most (cost_of p (draft_of old.draft)) (cost_of p old.incumbent.routes)) (draft_of old.draft) old.incumbent.routes =
+      ap (λ (plan : Plan). plan.routes) taken.incumbent ∙ better.incumbent in
+      let there : is_near deviation (cost_of p (draft_of old.draft)) (cost_of p (base_of old.draft)) ≡ true = ap (λ a. is_near deviation a (cost_of p (base_of old.draft))) (sym cost_is) ∙ (ap (is_near deviation cost) (sym work_is) ∙ near) in
+      ap (λ routes. walked routes (base_of new.draft)) incumbent
+      ∙ (ap (walked (cond (cost_at_most (cost_of p (draft_of old.draft)) (cost_of p old.incumbent.routes)) (draft_of old.draft) old.incumbent.routes)) base_is
+      ∙ sym (ap (λ b. cond b (walked (cond (cost_at_most (cost_of p (draft_of old.draft)) (cost_of p old.incumbent.routes)) (draft_of old.draft) old.incumbent.routes) (draft_of old.draft)) (walked_by old)) there))
+
+  pub goes_on : IsGoing p pins (record { walk = new; work = cost })
+  goes_on = record {
+    walk = taken_walk p pins improved new taken better.keeps.incumbent better.keeps.best better.keeps.idle;
+    work = cost_is ∙ ap (cost_of p) (sym base_is);
+  }
+
+-- ---- many steps
+module _ (p : Instance) (pins : List (List ℕ)) (deviation seed : ℕ) where
+  pub walked_more : (n count k : ℕ) (s new : Walked) (words : List ℕ) (key number : ℕ) (all : Walked) → anneal_steps p pins deviation seed (n + k) (count - k) s ≡ all → k < count
+      → words ≡ step_words key number → key ≡ seed → number ≡ n + k → new ≡ annealed_by p deviation s (candidate p pins s.working words) → anneal_steps p pins deviation seed (n + (k + 1)) (count - (k + 1)) new ≡ all
+  unfolding anneal_step anneal_steps
+  walked_more n count k s new words key number all so_far within is_words is_seed is_number made =
+      let one : count - k ≡ suc (count - (k + 1)) = omega arith in
+      let there : n + k + 1 ≡ n + (k + 1) = omega arith in
+      let same : new ≡ anneal_step p pins deviation seed (n + k) s =
+      made ∙ ap (λ ws. annealed_by p deviation s (candidate p pins s.working ws)) (is_words ∙ (ap (λ x. step_words x number) is_seed ∙ ap (step_words seed) is_number)) in
+      ap (λ m. anneal_steps p pins deviation seed m (count - (k + 1)) new) (sym there)
+      ∙ (ap (λ t. anneal_steps p pins deviation seed (n + k + 1) (count - (k + 1)) t) same ∙ (ap (λ m. anneal_steps p pins deviation seed (n + k) m s) (sym one) ∙ so_far))
+
+  steps_more : (b a n : ℕ) (s : Walked) → anneal_steps p pins deviation seed n (a + b) s ≡ anneal_steps p pins deviation seed (n + a) b (anneal_steps p pins deviation seed n a s)
+  unfolding anneal_steps
+  steps_more b zero n s =
+      let none : 0 + b ≡ b = omega arith in
+      let here : n ≡ n + 0 = omega arith in
+      ap (λ k. anneal_steps p pins deviation seed n k s) none ∙ ap (λ m. anneal_steps p pins deviation seed m b s) here
+  steps_more b (suc a) n s =
+      let one : suc a + b ≡ suc (a + b) = omega arith in
+      let there : n + 1 + a ≡ n + suc a = omega arith in
+      ap (λ k. anneal_steps p pins deviation seed n k s) one
+      ∙ steps_more b a (n + 1) (anneal_step p pins deviation seed n s)
+      ∙ ap (λ m. anneal_steps p pins deviation seed m b (anneal_steps p pins deviation seed (n + 1) a (anneal_step p pins deviation seed n s))) there
+
+  -- what a candidate's plan passes
+  recreated_passes : (w : ℕ) (left : List (List ℕ)) → Passes p pins left → Passes p pins (recreated p pins w left)
+  recreated_passes w left pass = placed_all_passes p pins (ordered p w (unplanned_names p left)) left pass
+
+  candidate_passes : (routes : List (List ℕ)) (words : List ℕ) (y : List (List ℕ)) → candidate p pins routes words ≡ Some y → Passes p pins y
+  unfolding candidate
+  candidate_passes routes words y is = by (eqb (length (ruined_names p pins routes words)) 0) (removed p pins routes (ruined_names p pins routes words)) refl is
+    where
+      by : (b : Bool) (o : Option (List (List ℕ))) → removed p pins routes (ruined_names p pins routes words) ≡ o → cond b None (option_map (recreated p pins (slice_index words 2)) o) ≡ Some y → Passes p pins y
+      by true o e is = absurd (none_some y is)
+      by false None e is = absurd (none_some y is)
+      by false (Some left) e is =
+          subst (Passes p pins) (some_same (recreated p pins (slice_index words 2) left) y is)
+          (recreated_passes (slice_index words 2) left (removed_passes p pins routes (ruined_names p pins routes words) left e))
+
+  annealed_passes : (s : Walked) (c : List (List ℕ)) → Passes p pins c → BothPass p pins s → BothPass p pins (annealed p deviation s c)
+  annealed_passes s c pass both = by (is_near deviation (cost_of p c) (cost_of p s.working)) (cost_at_most (cost_of p c) (cost_of p s.incumbent))
+    where
+      by : (near less : Bool) → BothPass p pins (cond near (walked (cond less c s.incumbent) c) s)
+      by true true = record { incumbent = pass; working = pass }
+      by true false = record { incumbent = both.incumbent; working = pass }
+      by false less = both
+
+  step_passes : (n : ℕ) (s : Walked) → BothPass p pins s → BothPass p pins (anneal_step p pins deviation seed n s)
+  unfolding anneal_step
+  step_passes n s both = by (candidate p pins s.working (step_words seed n)) refl
+    where
+      by : (o : Option (List (List ℕ))) → candidate p pins s.working (step_words seed n) ≡ o → BothPass p pins (annealed_by p deviation s o)
+      by None e = both
+      by (Some c) e = annealed_passes s c (candidate_passes s.working (step_words seed n) c e) both
+
+  steps_pass : (count n : ℕ) (s : Walked) → BothPass p pins s → BothPass p pins (anneal_steps p pins deviation seed n count s)
+  unfolding anneal_steps
+  steps_pass zero n s both = both
+  steps_pass (suc count) n s both = steps_pass count (n + 1) (anneal_step p pins deviation seed n s) (step_passes n s both)
+
+  module _ (total : CostsAreTotal) (transitive : CostsAreTransitive) where
+    same_cost : (a : Cost) → IsTrue (cost_at_most a a)
+    same_cost a = elim (total a a) [ inl t ↦ t | inr t ↦ t ]
+
+    annealed_cost : (s : Walked) (c : List (List ℕ)) → IsTrue (cost_at_most (cost_of p (annealed p deviation s c).incumbent) (cost_of p s.incumbent))
+    annealed_cost s c = by (is_near deviation (cost_of p c) (cost_of p s.working)) (cost_at_most (cost_of p c) (cost_of p s.incumbent)) refl
+      where
+        by : (near less : Bool) → cost_at_most (cost_of p c) (cost_of p s.incumbent) ≡ less
+            → IsTrue (cost_at_most (cost_of p (cond near (walked (cond less c s.incumbent) c) s).incumbent) (cost_of p s.incumbent))
+        by true true e = e
+        by true false e = same_cost (cost_of p s.incumbent)
+        by false less e = same_cost (cost_of p s.incumbent)
+
+    step_cost : (n : ℕ) (s : Walked) → IsTrue (cost_at_most (cost_of p (anneal_step p pins deviation seed n s).incumbent) (cost_of p s.incumbent))
+    unfolding anneal_step
+    step_cost n s = by (candidate p pins s.working (step_words seed n))
+      where
+        by : (o : Option (List (List ℕ))) → IsTrue (cost_at_most (cost_of p (annealed_by p deviation s o).incumbent) (cost_of p s.incumbent))
+        by None = same_cost (cost_of p s.incumbent)
+        by (Some c) = annealed_cost s c
+
+    steps_cost : (count n : ℕ) (s : Walked) → IsTrue (cost_at_most (cost_of p (anneal_steps p pins deviation seed n count s).incumbent) (cost_of p s.incumbent))
+    unfolding anneal_steps
+    steps_cost zero n s = same_cost (cost_of p s.incumbent)
+    steps_cost (suc count) n s =
+        transitive (cost_of p (anneal_steps p pins deviation seed (n + 1) count (anneal_step p pins deviation seed n s)).incumbent) (cost_of p (anneal_step p pins deviation seed n s).incumbent) (cost_of p s.incumbent)
+        (steps_cost count (n + 1) (anneal_step p pins deviation seed n s)) (step_cost n s)
+
+pub anneal_steps_add_up : AnnealStepsAddUp
+anneal_steps_add_up p pins deviation seed n a b s = steps_more p pins deviation seed b a n s
+
+pub anneal_steps_keep_passing : AnnealStepsKeepPassing
+anneal_steps_keep_passing p pins deviation seed n count s both = steps_pass p pins deviation seed count n s both
+
+pub annealed_never_cost_more : CostsAreTotal → CostsAreTransitive → AnnealedNeverCostMore
+annealed_never_cost_more total transitive p pins deviation seed n count s = steps_cost p pins deviation seed total transitive count n s

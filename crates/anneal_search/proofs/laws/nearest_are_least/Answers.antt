@@ -1,0 +1,5 @@
+use Rattle.anneal_search.proofs.NearestLemmas.{nearest_are_least}
+use Rattle.anneal_search.proofs.laws.nearest_are_least.Goals as goal
+
+pub returns : goal.returns
+returns c = nearest_are_least

@@ -1,0 +1,5 @@
+use Rattle.anneal_search.proofs.OrderLemmas.{orders_are_rising}
+use Rattle.anneal_search.proofs.laws.orders_are_rising.Goals as goal
+
+pub returns : goal.returns
+returns c = orders_are_rising

@@ -1,0 +1,11 @@
+-- what public contracts reach
+pub mod Draws
+pub mod Sorting
+pub mod Orders
+pub mod Nearest
+pub mod Strings
+pub mod Annealing
+pub mod AnnealLaws
+pub mod StringLaws
+-- of private functions alone
+pub mod Going

@@ -1,0 +1,61 @@
+//! The candidate that the words of a step make of a plan.
+ghost use Rattle.std.specs.Prelude.{◌≡◌, IfOk, OnOk};
+ghost use Rattle.move_ops.specs.Drafts.{base_of, draft_of, IsDraftOf, IsMade};
+ghost use Rattle.seeded_search.specs.Steps.{movable_names};
+ghost use Rattle.anneal_search.specs.Annealing.{candidate, recreated};
+
+use crate::orders::ordered;
+use crate::strings::ruined_names;
+use move_ops::Draft;
+use plan_types::{OutOfMemory, Pins, Problem};
+use seeded_search::{Lists, place_all};
+use std::alloc::Global;
+
+/// Makes of the draft what the words of a step make of it, if anything: the requests of some strings are taken out, and all that are
+/// unplanned then are put in again.
+pub(crate) fn make(
+    alloc: Global,
+    problem: &Problem,
+    pins: &Pins,
+    draft: &mut Draft,
+    movable: &[u32],
+    words: &[u32; 16],
+) -> Result<bool, OutOfMemory>
+    requires draft { IsDraftOf problem.now pins.now.routes draft.old }
+    requires movable { movable.now
+        ≡ movable_names problem.now pins.now.routes (draft_of draft.old) }
+    ensures is { OnOk result (IsDraftOf problem.now pins.now.routes draft.new) }
+    ensures base { OnOk result (base_of draft.new ≡ base_of draft.old) }
+    ensures made { IfOk result (λ made.
+        IsMade (candidate problem.now pins.now.routes (draft_of draft.old) words.now) made
+        draft.old draft.new) }
+{
+    let names = ruined_names(alloc, problem, pins, draft, movable, words)?;
+    if names.is_empty() {
+        return Ok(false);
+    }
+    if !draft.remove(problem, pins, &names)? {
+        return Ok(false);
+    }
+    recreate(alloc, problem, pins, draft, words[2])?;
+    Ok(true)
+}
+
+// Puts each unplanned request in where it is best then, in the order that the word picks.
+fn recreate(
+    alloc: Global,
+    problem: &Problem,
+    pins: &Pins,
+    draft: &mut Draft,
+    word: u32,
+) -> Result<(), OutOfMemory>
+    requires { IsDraftOf problem.now pins.now.routes draft.old }
+    ensures is { OnOk result (IsDraftOf problem.now pins.now.routes draft.new) }
+    ensures base { OnOk result (base_of draft.new ≡ base_of draft.old) }
+    ensures draft { OnOk result (draft_of draft.new
+        ≡ recreated problem.now pins.now.routes word (draft_of draft.old)) }
+{
+    let lists = Lists::build(alloc, problem, pins, draft)?;
+    let order = ordered(alloc, problem, word, &lists.unplanned)?;
+    place_all(problem, pins, draft, &order)
+}

@@ -1,0 +1,57 @@
+//! A second search: annealing, whose steps tear strings of neighbouring stops out of routes and put their
+//! requests in again.
+//!
+//! `anneal_steps` makes many steps and `anneal_step` one, both in the form of `search_steps` and `search_step`
+//! (`seeded_search`) and asking the same. No command calls them yet.
+//!
+//! Modules, in reading order:
+//! - `draws`: what a word draws, and what is left of it.
+//! - `routes`: the routes nearest to a stop.
+//! - `strings`: the strings, and the requests that go with them.
+//! - `orders`: the order in which requests are put in again.
+//! - `candidates`: the candidate that a step's words make.
+//! - `search`: what it replaces; one step, and many.
+//! - `laws`: what nearest stops, strings and orders mean, and what steps keep, without code.
+//!
+//! Specs: `Annealing` (a step, as a definition that computes), below it `Draws`, `Strings` with `Nearest`, and
+//! `Orders` with `Sorting`; `AnnealLaws` and `StringLaws`. `Going` follows the code.
+//!
+//! Source: Christiaens and Vanden Berghe, Slack Induction by String Removals (2020), in whole numbers; Dueck
+//! and Scheuer, Threshold Accepting (1990).
+//!
+//! How a step works: its words draw a stop, and cut a string of neighbouring stops around it out of each of
+//! the nearest routes. The requests that can be moved and have a stop in a string are removed at once. All
+//! that are unplanned then are put in where they are best, one after another, in an order by one of sixteen
+//! keys. The candidate becomes the working plan where it is near the working plan itself, so annealing climbs
+//! step by step; it then becomes the incumbent too where it costs no more.
+//!
+//! This first form looks at each stop to find the nearest routes, and at each request to find those that are
+//! unplanned, and sorts by insertion. What stands below (`Walk`, `Draft`) is shared with the search.
+//!
+//! Proved:
+//! - `draw` is the whole part and the rest of `w m / 2^32`, `ordered` the order that a word picks;
+//! - `anneal_step` and `anneal_steps` give exactly the plans of the definition's step and steps (`found`),
+//!   which pass (`passing`), or tell want of memory;
+//! - what the definitions mean: the nearest stop of a route is nearest (`nearest_are_least`), the routes rise
+//!   by theirs (`routes_are_rising`); a string has that stop, lies in the route and takes out no more than it
+//!   may (`strings_lie_around`); an order has the same names, rising by key, salt and name
+//!   (`orders_are_rising`);
+//! - the laws of steps: steps add up, however they are cut (`anneal_steps_add_up`); plans that pass are walked
+//!   on to such (`anneal_steps_keep_passing`); the incumbent never costs more (`annealed_never_cost_more`).
+#![tactic(auto)]
+
+mod candidates;
+mod draws;
+mod laws;
+mod orders;
+mod routes;
+mod search;
+mod strings;
+
+pub use draws::{Drawn, draw};
+pub use laws::{
+    anneal_steps_add_up, anneal_steps_keep_passing, annealed_never_cost_more, nearest_are_least,
+    orders_are_rising, routes_are_rising, strings_lie_around,
+};
+pub use orders::ordered;
+pub use search::{anneal_step, anneal_steps};
