@@ -2,22 +2,26 @@
 use Rattle.std.proofs.Common.{◌≡◌, ℕ, ◌≤◌, List, take, sym, subst}
 use Rattle.std.specs.Prelude.{Result, Ok, Err}
 use Rattle.std.proofs.lemmas.List.{take-take, length-take-le}
+use Rattle.sector_disk.specs.declared.sectors.Sectors as sectors
+use Rattle.plan_audit.specs.Locality.{TestsSayPass}
 use Rattle.command_core.specs.Runs.{IsState, after, last_change}
 use Rattle.command_core.specs.RunLaws.{RunsKeepFacts, PlansNeverCostMore, IsNoWorse}
 use Rattle.command_core.specs.declared.states.State.{State}
 use Rattle.command_core.specs.declared.states.State.TheVariants.{Empty, Loaded}
 use Rattle.command_core.specs.declared.commands.Command.{Command}
+use Rattle.state_codec.specs.declared.version.Version.TheVariants.{Two}
 use Rattle.checkpoint.specs.declared.faults.StoreFault.{StoreFault}
 use Rattle.checkpoint.specs.declared.faults.StoreFault.TheVariants.{NotFormatted, BadVersion, Codec, Spent, OutOfMemory, DeviceFault}
 use Rattle.recover.specs.StandsFor.{StandsFor}
 use Rattle.recover.specs.Replies.{kept, acked}
 use Rattle.recover.specs.Moments.{StandsForSome}
-use Rattle.recover.specs.Opening.{GivesUnlessFailed}
+use Rattle.recover.specs.Opening.{GivesUnlessFailed, Opens}
 use Rattle.recover.specs.Headline.{HasPassingPlan, IsRecovered, Headline}
 
-passing : (state : State) → IsState state → HasPassingPlan state
-passing Empty h = tt
-passing (Loaded job) h = h.plan
+-- the test that the invariant of a job asks says what the auditor's verdict is
+pub passing : TestsSayPass → (state : State) → IsState state → HasPassingPlan state
+passing say Empty h = tt
+passing say (Loaded job) h = (_, (say job.problem job.pins job.plan).0 h.plan)
 
 weaker : (P Q : State → Type 0) → ((state : State) → P state → Q state) → (outcome : Result State StoreFault) → GivesUnlessFailed P outcome → GivesUnlessFailed Q outcome
 weaker P Q so (Ok state) h = so state h
@@ -28,9 +32,9 @@ weaker P Q so (Err BadVersion) h = elim h [ ]
 weaker P Q so (Err (Codec _)) h = elim h [ ]
 weaker P Q so (Err Spent) h = elim h [ ]
 
-module _ (keep : RunsKeepFacts) (never_more : PlansNeverCostMore) where
+module _ (keep : RunsKeepFacts) (never_more : PlansNeverCostMore) (say : TestsSayPass) where
   -- what an image stands for keeps the facts of states
-  pub stands_state : (image : List ℕ) (state : State) → StandsFor image state → IsState state
+  pub stands_state : (image : List ℕ) (state : State) → StandsFor Two image state → IsState state
   stands_state image state stands = subst IsState stands.leads (keep stands.snapshot stands.commands stands.holds.facts stands.accepted)
 
   recovered : (begun : State) (commands : List Command) (acknowledged : ℕ) (image : List ℕ) → (stop : StandsForSome begun commands acknowledged image)
@@ -41,7 +45,7 @@ module _ (keep : RunsKeepFacts) (never_more : PlansNeverCostMore) where
     one_more = stop.one_more;
     within = stop.within;
     state = same;
-    plan = passing given (subst IsState (sym same) (stands_state image (after begun (take stop.count commands)) stop.stands));
+    plan = passing say given (subst IsState (sym same) (stands_state image (after begun (take stop.count commands)) stop.stands));
     cost = λ q from to. costs q from to;
   }
     where
@@ -51,9 +55,16 @@ module _ (keep : RunsKeepFacts) (never_more : PlansNeverCostMore) where
           subst (λ (cs : List Command). IsNoWorse (after begun cs) given) (take-take q stop.count commands to)
           (subst (λ (s : State). IsNoWorse (after begun (take q (take stop.count commands))) s) (sym same) now.0)
 
-  pub headline : {D : Type 0} (clock : D → ℕ) (since : D → ℕ → ℕ → List ℕ → Type 0) → Headline clock since
-  headline clock since old new begun commands replies m image outcome promised left opens =
-      let stop = promised.each m image left in
-      weaker (λ given. given ≡ after begun (take stop.count (kept commands replies))) (IsRecovered begun (kept commands replies) (acked m replies))
-      (recovered begun (kept commands replies) (acked m replies) image stop)
-      outcome (opens (after begun (take stop.count (kept commands replies))) stop.stands)
+  -- what opening gives of an image that a stop may leave
+  pub gives : (begun : State) (commands : List Command) (acknowledged : ℕ) (image : List ℕ) → StandsForSome begun commands acknowledged image
+      → (outcome : Result State StoreFault) → Opens Two image outcome → GivesUnlessFailed (IsRecovered begun commands acknowledged) outcome
+  gives begun commands acknowledged image stop outcome opens =
+      weaker (λ given. given ≡ after begun (take stop.count commands)) (IsRecovered begun commands acknowledged)
+      (recovered begun commands acknowledged image stop)
+      outcome (opens (after begun (take stop.count commands)) stop.stands)
+
+  pub headline : {D E : Type 0} (on : sectors.Ghosts D) (again : sectors.Ghosts E) → Headline on again
+  headline on again old new commands replies m image device left outcome whole honest leaves stopped reads settled opens =
+      gives old.state (kept commands replies) (acked m replies) (again.seen device)
+      (subst (StandsForSome old.state (kept commands replies) (acked m replies)) (sym reads) (leaves whole honest m image stopped))
+      outcome (opens settled)

@@ -4,3 +4,7 @@ mod StepLemmas
 mod SessionLemmas
 mod Replays
 mod Openings
+mod Upgrades
+mod RoundLemmas
+mod FoldLemmas
+mod Joins

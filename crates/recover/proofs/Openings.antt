@@ -5,7 +5,7 @@ use Rattle.command_core.specs.Runs.{after, AreAccepted}
 use Rattle.command_core.specs.declared.states.State.{State}
 use Rattle.command_core.specs.declared.commands.Command.{Command}
 use Rattle.state_codec.specs.declared.fault.CodecFault.TheVariants as codec
-use Rattle.state_codec.specs.declared.version.Version.TheVariants.{Two}
+use Rattle.state_codec.specs.declared.version.Version.{Version}
 use Rattle.checkpoint.specs.declared.faults.StoreFault.{StoreFault}
 use Rattle.checkpoint.specs.declared.faults.StoreFault.TheVariants.{NotFormatted, BadVersion, Codec, Spent, OutOfMemory, DeviceFault}
 use Rattle.checkpoint.specs.declared.places.Place.{Place}
@@ -16,57 +16,58 @@ use Rattle.recover.specs.StandsFor.{StandsFor}
 use Rattle.recover.specs.Opening.{Opens, StandsForNone, IsReplayed}
 use Rattle.recover.specs.Repeating.{IsOfRepeating, IsRepeated}
 
--- what holds nothing stands for nothing
-pub stands_for_none : (image : List ℕ) (fault : StoreFault) → UnlessUnread (HoldsNothing Two image) fault → UnlessUnread (StandsForNone image) fault
-stands_for_none image DeviceFault h = tt
-stands_for_none image OutOfMemory h = tt
-stands_for_none image NotFormatted h = inl h
-stands_for_none image BadVersion h = inl h
-stands_for_none image (Codec fault) h = inl h
-stands_for_none image Spent h = inl h
+module _ (version : Version) where
+  -- what holds nothing stands for nothing
+  pub stands_for_none : (image : List ℕ) (fault : StoreFault) → UnlessUnread (HoldsNothing version image) fault → UnlessUnread (StandsForNone version image) fault
+  stands_for_none image DeviceFault h = tt
+  stands_for_none image OutOfMemory h = tt
+  stands_for_none image NotFormatted h = inl h
+  stands_for_none image BadVersion h = inl h
+  stands_for_none image (Codec fault) h = inl h
+  stands_for_none image Spent h = inl h
 
--- nor does what holds commands that are refused
-pub refused_record : (image : List ℕ) (snapshot : State) (commands : List Command) (place : Place) → Holds Two image snapshot commands place
-    → (fault : StoreFault) → IsOfRepeating snapshot commands fault → UnlessUnread (StandsForNone image) fault
-refused_record image snapshot commands place holds OutOfMemory h = tt
-refused_record image snapshot commands place holds (Codec codec.BadField) h = inr (refl, record { snapshot = snapshot; commands = commands; place = place; holds = holds; refused = h })
-refused_record image snapshot commands place holds (Codec codec.Truncated) h = elim h [ ]
-refused_record image snapshot commands place holds (Codec (codec.PlanRefused rule)) h = elim h [ ]
-refused_record image snapshot commands place holds (Codec codec.OutOfMemory) h = elim h [ ]
-refused_record image snapshot commands place holds NotFormatted h = elim h [ ]
-refused_record image snapshot commands place holds BadVersion h = elim h [ ]
-refused_record image snapshot commands place holds Spent h = elim h [ ]
-refused_record image snapshot commands place holds DeviceFault h = elim h [ ]
+  -- nor does what holds commands that are refused
+  pub refused_record : (image : List ℕ) (snapshot : State) (commands : List Command) (place : Place) → Holds version image snapshot commands place
+      → (fault : StoreFault) → IsOfRepeating snapshot commands fault → UnlessUnread (StandsForNone version image) fault
+  refused_record image snapshot commands place holds OutOfMemory h = tt
+  refused_record image snapshot commands place holds (Codec codec.BadField) h = inr (refl, record { snapshot = snapshot; commands = commands; place = place; holds = holds; refused = h })
+  refused_record image snapshot commands place holds (Codec codec.Truncated) h = elim h [ ]
+  refused_record image snapshot commands place holds (Codec (codec.PlanRefused rule)) h = elim h [ ]
+  refused_record image snapshot commands place holds (Codec codec.OutOfMemory) h = elim h [ ]
+  refused_record image snapshot commands place holds NotFormatted h = elim h [ ]
+  refused_record image snapshot commands place holds BadVersion h = elim h [ ]
+  refused_record image snapshot commands place holds Spent h = elim h [ ]
+  refused_record image snapshot commands place holds DeviceFault h = elim h [ ]
 
--- what was repeated is what the image stands for
-module _ (image : List ℕ) (state : State) (place : Place) (replayed : ℕ) (found : IsRepeated image state place replayed) where
-  pub stands : StandsFor image state
-  stands = record { snapshot = found.snapshot; commands = found.commands; place = place; holds = found.holds; accepted = found.accepted; leads = found.leads }
+  -- what was repeated is what the image stands for
+  module _ (image : List ℕ) (state : State) (place : Place) (replayed : ℕ) (found : IsRepeated version image state place replayed) where
+    pub stands : StandsFor version image state
+    stands = record { snapshot = found.snapshot; commands = found.commands; place = place; holds = found.holds; accepted = found.accepted; leads = found.leads }
 
-  pub is_replayed : IsReplayed image state place replayed
-  is_replayed = record { snapshot = found.snapshot; commands = found.commands; holds = found.holds; steps = found.steps; most = found.most }
+    pub is_replayed : IsReplayed version image state place replayed
+    is_replayed = record { snapshot = found.snapshot; commands = found.commands; holds = found.holds; steps = found.steps; searched = found.searched; most = found.most }
 
-module _ (one : HoldAtMostOne) (never : NeverBoth) (image : List ℕ) where
-  -- an image stands for one state
-  same_state : (state other : State) → StandsFor image state → StandsFor image other → state ≡ other
-  same_state state other a b =
-      let same = one Two image a.snapshot b.snapshot a.commands b.commands a.place b.place a.holds b.holds in
-      sym a.leads ∙ ap (λ (s : State). after s a.commands) same.0 ∙ ap (after b.snapshot) same.1 ∙ b.leads
+  module _ (one : HoldAtMostOne) (never : NeverBoth) (image : List ℕ) where
+    -- an image stands for one state
+    same_state : (state other : State) → StandsFor version image state → StandsFor version image other → state ≡ other
+    same_state state other a b =
+        let same = one version image a.snapshot b.snapshot a.commands b.commands a.place b.place a.holds b.holds in
+        sym a.leads ∙ ap (λ (s : State). after s a.commands) same.0 ∙ ap (after b.snapshot) same.1 ∙ b.leads
 
-  -- and never beside a cause to stand for none
-  stands_without_cause : (state : State) (fault : StoreFault) → StandsFor image state → StandsForNone image fault → ⊥
-  stands_without_cause state fault stands none = ⊎_elim
-      (never Two image stands.snapshot stands.commands stands.place fault stands.holds)
-      (λ broken. let r = broken.1 in
-      let same = one Two image stands.snapshot r.snapshot stands.commands r.commands stands.place r.place stands.holds r.holds in
-      r.refused (subst (λ (s : State). AreAccepted s r.commands) same.0 (subst (AreAccepted stands.snapshot) same.1 stands.accepted)))
-      none
+    -- and never beside a cause to stand for none
+    stands_without_cause : (state : State) (fault : StoreFault) → StandsFor version image state → StandsForNone version image fault → ⊥
+    stands_without_cause state fault stands none = ⊎_elim
+        (never version image stands.snapshot stands.commands stands.place fault stands.holds)
+        (λ broken. let r = broken.1 in
+        let same = one version image stands.snapshot r.snapshot stands.commands r.commands stands.place r.place stands.holds r.holds in
+        r.refused (subst (λ (s : State). AreAccepted s r.commands) same.0 (subst (AreAccepted stands.snapshot) same.1 stands.accepted)))
+        none
 
-  pub opens : (outcome : Result State StoreFault) → MatchResult outcome (StandsFor image) (UnlessUnread (StandsForNone image)) → Opens image outcome
-  opens (Ok given) known state saved = same_state given state known saved
-  opens (Err DeviceFault) known state saved = tt
-  opens (Err OutOfMemory) known state saved = tt
-  opens (Err NotFormatted) known state saved = stands_without_cause state NotFormatted saved known
-  opens (Err BadVersion) known state saved = stands_without_cause state BadVersion saved known
-  opens (Err (Codec fault)) known state saved = stands_without_cause state (Codec fault) saved known
-  opens (Err Spent) known state saved = stands_without_cause state Spent saved known
+    pub opens : (outcome : Result State StoreFault) → MatchResult outcome (StandsFor version image) (UnlessUnread (StandsForNone version image)) → Opens version image outcome
+    opens (Ok given) known state saved = same_state given state known saved
+    opens (Err DeviceFault) known state saved = tt
+    opens (Err OutOfMemory) known state saved = tt
+    opens (Err NotFormatted) known state saved = stands_without_cause state NotFormatted saved known
+    opens (Err BadVersion) known state saved = stands_without_cause state BadVersion saved known
+    opens (Err (Codec fault)) known state saved = stands_without_cause state (Codec fault) saved known
+    opens (Err Spent) known state saved = stands_without_cause state Spent saved known

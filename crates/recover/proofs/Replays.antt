@@ -1,73 +1,113 @@
 -- The commands of records add search steps and begin nothing anew.
-use Rattle.std.proofs.Common.{◌≡◌, ℕ, ◌+◌, ◌-◌, ◌*◌, ◌≤◌, List, [], ◌∷◌, length, refl, sym, ◌∙◌, ap, arith}
-use Rattle.std.specs.Prelude.{None}
+use Rattle.std.proofs.Common.{◌≡◌, ℕ, ◌+◌, ◌-◌, ◌*◌, ◌^◌, ◌<◌, ◌≤◌, List, [], ◌∷◌, length, refl, sym, ◌∙◌, ap, subst, arith}
+use Rattle.std.specs.Prelude.{sum_by, None}
 use Rattle.std.proofs.lemmas.List.Elements.{recursion_from_All}
+use Rattle.std.proofs.lemmas.List.Sums.{sum_by-cons}
 use Rattle.std.specs.List.{AllByRecursion}
 use Rattle.command_core.specs.Effects.{effect}
 use Rattle.command_core.specs.Refusing.{refusal}
-use Rattle.command_core.specs.Runs.{after, AreAccepted}
+use Rattle.command_core.specs.Runs.{after, AreAccepted, steps_of}
 use Rattle.command_core.specs.declared.states.State.{State}
 use Rattle.command_core.specs.declared.states.State.TheVariants.{Empty, Loaded}
 use Rattle.command_core.specs.declared.commands.Command.{Command}
 use Rattle.command_core.specs.declared.commands.Command.TheVariants.{Load, Add, Add1, Withdraw, Pin, Unpin, Build, Search, Checkpoint, Deviation}
-use Rattle.state_codec.specs.declared.version.Version.TheVariants.{Two}
+use Rattle.state_codec.specs.declared.version.Version.{Version}
 use Rattle.state_codec.specs.Limits.{IsRecorded}
 use Rattle.checkpoint.specs.declared.places.Place.{Place}
 use Rattle.checkpoint.specs.Holds.{Holds}
-use Rattle.recover.specs.Opening.{steps_in}
+use Rattle.checkpoint.specs.Laws.{HoldAtMostOne}
+use Rattle.recover.specs.Opening.{steps_in, IsToRepeat}
 use Rattle.recover.specs.Repeating.{IsRepeated}
 
--- no more than this many steps, which the second state has made beside those of the first
-record Adds (bound : ℕ) (old new : State) : Type 0 where
-  pub steps : ℕ
-  pub sum : steps_in new ≡ steps_in old + steps
-  pub most : steps ≤ bound
+none : (old new : State) → steps_in new ≡ steps_in old → steps_in new ≡ steps_in old + 0
+none old new same = omega (arith, same)
 
-none : (old new : State) → steps_in new ≡ steps_in old → Adds 256 old new
-none old new same = record { steps = 0; sum = omega (arith, same); most = omega arith }
+module _ (version : Version) where
+  -- what an accepted command that has a record adds to the steps of a state
+  adds_one : (s : State) (c : Command) → IsRecorded version c → refusal s c ≡ None → steps_in (effect s c) ≡ steps_in s + steps_of c
+  adds_one Empty (Load p seed) recorded accepted = elim recorded [ ]
+  adds_one Empty (Add q a b) recorded accepted = cc accepted
+  adds_one Empty (Add1 q a) recorded accepted = cc accepted
+  adds_one Empty (Withdraw name) recorded accepted = cc accepted
+  adds_one Empty (Pin v k) recorded accepted = cc accepted
+  adds_one Empty (Unpin v) recorded accepted = cc accepted
+  adds_one Empty Build recorded accepted = cc accepted
+  adds_one Empty (Search count) recorded accepted = cc accepted
+  adds_one Empty Checkpoint recorded accepted = cc accepted
+  adds_one Empty (Deviation d) recorded accepted = cc accepted
+  adds_one (Loaded j) (Load p seed) recorded accepted = elim recorded [ ]
+  adds_one (Loaded j) (Add q a b) recorded accepted = none (Loaded j) (effect (Loaded j) (Add q a b)) refl
+  adds_one (Loaded j) (Add1 q a) recorded accepted = none (Loaded j) (effect (Loaded j) (Add1 q a)) refl
+  adds_one (Loaded j) (Withdraw name) recorded accepted = none (Loaded j) (effect (Loaded j) (Withdraw name)) refl
+  adds_one (Loaded j) (Pin v k) recorded accepted = none (Loaded j) (effect (Loaded j) (Pin v k)) refl
+  adds_one (Loaded j) (Unpin v) recorded accepted = none (Loaded j) (effect (Loaded j) (Unpin v)) refl
+  adds_one (Loaded j) Build recorded accepted = none (Loaded j) (effect (Loaded j) Build) refl
+  adds_one (Loaded j) (Search count) recorded accepted = refl
+  adds_one (Loaded j) Checkpoint recorded accepted = elim recorded [ ]
+  adds_one (Loaded j) (Deviation d) recorded accepted = none (Loaded j) (effect (Loaded j) (Deviation d)) refl
 
-adds_one : (s : State) (c : Command) → IsRecorded Two c → refusal s c ≡ None → Adds 256 s (effect s c)
-adds_one Empty (Load p seed) recorded accepted = elim recorded [ ]
-adds_one Empty (Add q a b) recorded accepted = cc accepted
-adds_one Empty (Add1 q a) recorded accepted = cc accepted
-adds_one Empty (Withdraw name) recorded accepted = cc accepted
-adds_one Empty (Pin v k) recorded accepted = cc accepted
-adds_one Empty (Unpin v) recorded accepted = cc accepted
-adds_one Empty Build recorded accepted = cc accepted
-adds_one Empty (Search count) recorded accepted = cc accepted
-adds_one Empty Checkpoint recorded accepted = cc accepted
-adds_one Empty (Deviation d) recorded accepted = cc accepted
-adds_one (Loaded j) (Load p seed) recorded accepted = elim recorded [ ]
-adds_one (Loaded j) (Add q a b) recorded accepted = none _ _ refl
-adds_one (Loaded j) (Add1 q a) recorded accepted = none _ _ refl
-adds_one (Loaded j) (Withdraw name) recorded accepted = none _ _ refl
-adds_one (Loaded j) (Pin v k) recorded accepted = none _ _ refl
-adds_one (Loaded j) (Unpin v) recorded accepted = none _ _ refl
-adds_one (Loaded j) Build recorded accepted = none _ _ refl
-adds_one (Loaded j) (Search count) recorded accepted = record { steps = count; sum = refl; most = recorded.1 }
-adds_one (Loaded j) Checkpoint recorded accepted = elim recorded [ ]
-adds_one (Loaded j) (Deviation d) recorded accepted = none _ _ refl
+  adds : (s : State) (cs : List Command) → AllByRecursion (IsRecorded version) cs → AreAccepted s cs → steps_in (after s cs) ≡ steps_in s + sum_by steps_of cs
+  adds s [] recorded accepted = none s s refl
+  adds s (c ∷ cs) recorded accepted =
+      let first = adds_one s c recorded.0 accepted.1 in
+      let rest = adds (effect s c) cs recorded.1 accepted.2 in
+      subst (λ (n : ℕ). steps_in (after (effect s c) cs) ≡ steps_in s + n) (sym (sum_by-cons steps_of c cs)) (omega (arith, first, rest))
 
-adds : (s : State) (cs : List Command) → AllByRecursion (IsRecorded Two) cs → AreAccepted s cs → Adds (256 * length cs) s (after s cs)
-adds s [] recorded accepted = record { steps = 0; sum = omega arith; most = omega arith }
-adds s (c ∷ cs) recorded accepted =
-    let first = adds_one s c recorded.0 accepted.1 in
-    let rest = adds (effect s c) cs recorded.1 accepted.2 in
-    record { steps = first.steps + rest.steps; sum = omega (arith, first.sum, rest.sum); most = omega (arith, first.most, rest.most) }
+  -- a record has at most 256 steps
+  few_of : (c : Command) → IsRecorded version c → steps_of c ≤ 256
+  few_of (Load p seed) recorded = elim recorded [ ]
+  few_of (Add q a b) recorded = omega arith
+  few_of (Add1 q a) recorded = omega arith
+  few_of (Withdraw name) recorded = omega arith
+  few_of (Pin v k) recorded = omega arith
+  few_of (Unpin v) recorded = omega arith
+  few_of Build recorded = omega arith
+  few_of (Search count) recorded = recorded.1
+  few_of Checkpoint recorded = elim recorded [ ]
+  few_of (Deviation d) recorded = omega arith
 
--- What an image holds, and the commands repeated: the steps that the state has made beside the snapshot's are those of its searches.
-pub repeated : (image : List ℕ) (snapshot : State) (commands : List Command) (place : Place) → Holds Two image snapshot commands place → AreAccepted snapshot commands
-    → place.used ≤ 256 → (state : State) → after snapshot commands ≡ state → IsRepeated image state place (steps_in state - steps_in snapshot)
-repeated image snapshot commands place holds accepted room state leads =
-    let added = adds snapshot commands (recursion_from_All (IsRecorded Two) commands holds.recorded) accepted in
-    let now : steps_in state ≡ steps_in snapshot + added.steps = ap steps_in (sym leads) ∙ added.sum in
-    let few : length commands ≤ 256 = omega (arith, holds.used, room) in
-    record {
-      snapshot = snapshot;
-      commands = commands;
-      holds = holds;
-      accepted = accepted;
-      leads = leads;
-      steps = omega (arith, now);
-      most = omega (arith, now, added.most, few);
-    }
+  few : (cs : List Command) → AllByRecursion (IsRecorded version) cs → sum_by steps_of cs ≤ 256 * length cs
+  few [] recorded = omega arith
+  few (c ∷ cs) recorded =
+      let first = few_of c recorded.0 in
+      let rest = few cs recorded.1 in
+      subst (λ (n : ℕ). n ≤ 256 * length (c ∷ cs)) (sym (sum_by-cons steps_of c cs)) (omega (arith, first, rest))
+
+  module _ (image : List ℕ) (snapshot : State) (commands : List Command) (place : Place) (holds : Holds version image snapshot commands place) (room : place.used ≤ 256) where
+    all_recorded : AllByRecursion (IsRecorded version) commands
+    all_recorded = recursion_from_All (IsRecorded version) commands holds.recorded
+
+    -- so that what a store holds has at most 65,536
+    few_held : sum_by steps_of commands ≤ 65536
+    few_held = omega (arith, few commands all_recorded, holds.used, room)
+
+    -- What an image holds, and the commands repeated: the steps that the state has made beside the snapshot's are those of its searches.
+    pub repeated : AreAccepted snapshot commands → (state : State) → after snapshot commands ≡ state → IsRepeated version image state place (steps_in state - steps_in snapshot)
+    repeated accepted state leads =
+        let now : steps_in state ≡ steps_in snapshot + sum_by steps_of commands = ap steps_in (sym leads) ∙ adds snapshot commands all_recorded accepted in
+        record {
+          snapshot = snapshot;
+          commands = commands;
+          holds = holds;
+          accepted = accepted;
+          leads = leads;
+          steps = omega (arith, now);
+          searched = omega (arith, now);
+          most = omega (arith, now, few_held);
+        }
+
+    -- What is counted before they are repeated is what opening repeats, since an image holds one list of commands.
+    pub to_repeat : HoldAtMostOne → (steps : ℕ) → (sum_by steps_of commands < 2 ^ 64 → steps ≡ sum_by steps_of commands) → IsToRepeat version image steps
+    to_repeat one steps counted =
+        let now : steps ≡ sum_by steps_of commands = counted (omega (arith, few_held)) in
+        record {
+          snapshot = snapshot;
+          commands = commands;
+          place = place;
+          holds = holds;
+          searched = now;
+          most = omega (arith, now, few_held);
+          agrees = λ state other replayed opened.
+              let same = one version image opened.snapshot snapshot opened.commands commands other place opened.holds holds in
+              opened.searched ∙ ap (λ (cs : List Command). sum_by steps_of cs) same.1 ∙ sym now;
+        }

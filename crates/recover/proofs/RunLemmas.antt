@@ -10,6 +10,7 @@ use Rattle.command_core.specs.Effects.{effect}
 use Rattle.command_core.specs.Runs.{after, AreAccepted}
 use Rattle.command_core.specs.declared.states.State.{State}
 use Rattle.command_core.specs.declared.commands.Command.{Command}
+use Rattle.state_codec.specs.declared.version.Version.TheVariants.{Two}
 use Rattle.checkpoint.specs.declared.places.Place.{Place}
 use Rattle.recover.specs.declared.denials.Denial.{Denial}
 use Rattle.recover.specs.declared.denials.Denial.TheVariants.{Broken, Core, Spent, OutOfMemory, DeviceFault}
@@ -45,7 +46,7 @@ early begun command more few all image same some =
       one_more = omega (arith, same, some.one_more);
       within = omega (arith, within);
       accepted = subst (λ (l : List Command). AreAccepted begun l) (sym front) some.accepted;
-      stands = subst (λ (l : List Command). StandsFor image (after begun l)) (sym front) some.stands;
+      stands = subst (λ (l : List Command). StandsFor Two image (after begun l)) (sym front) some.stands;
     }
 
 -- a first part of those behind it, and it
@@ -134,7 +135,7 @@ module _ {D : Type 0} (len calls faults : D → ℕ) (honest : D → Type 0) (cl
     from s m image = calls s.device ≤ m
 
     -- within a run no moment has fewer finished calls than its beginning
-    counted_from : (commands : List Command) (replies : List Reply) (old new : SessionValue D) → Run old commands replies new → honest new.device → All old.device new.device (λ m image. calls old.device ≤ m)
+    pub counted_from : (commands : List Command) (replies : List Reply) (old new : SessionValue D) → Run old commands replies new → honest new.device → All old.device new.device (λ m image. calls old.device ≤ m)
     counted_from [] [] old new run h =
         subst (λ (s : SessionValue D). All old.device s.device (λ m image. calls old.device ≤ m)) (sym run)
         (through.started clock since old.device (λ m image. calls old.device ≤ m) (λ m image left. omega (arith, (only_now old.device m image (subst (λ (s : SessionValue D). honest s.device) run h) left).0)))
@@ -158,7 +159,7 @@ module _ {D : Type 0} (len calls faults : D → ℕ) (honest : D → Type 0) (cl
 
     -- what each image of a session stands for
     abbrev Stands : SessionValue D → Type 0
-    Stands s = (image : List ℕ) → possible s.device image → StandsFor image s.state
+    Stands s = (image : List ℕ) → possible s.device image → StandsFor Two image s.state
 
     -- a command that was refused leaves what those behind it do
     refused : (command : Command) (commands : List Command) (replies : List Reply) (old mid new : SessionValue D) (answer : Result (Unit {0}) Denial) (n : ℕ)

@@ -12,6 +12,7 @@ use Rattle.command_core.specs.Runs.{AreAccepted, is_recorded}
 use Rattle.command_core.specs.declared.refusals.Refusal.{Refusal}
 use Rattle.command_core.specs.declared.states.State.{State}
 use Rattle.command_core.specs.declared.commands.Command.{Command}
+use Rattle.state_codec.specs.declared.version.Version.TheVariants.{Two}
 use Rattle.checkpoint.specs.declared.places.Place.{Place}
 use Rattle.recover.specs.declared.denials.Denial.{Denial}
 use Rattle.recover.specs.declared.denials.Denial.TheVariants.{Broken, Core, Spent, DeviceFault}
@@ -26,7 +27,7 @@ use Rattle.recover.proofs.RunLemmas.{unacked, one_acked}
 use Rattle.recover.proofs.StepLemmas.{held}
 
 -- images that hold a state and commands stand for the state after these
-pub stands_of : (images : List ℕ → Type 0) (state : State) (place : Place) → AllHold images state place → (image : List ℕ) → images image → StandsFor image state
+pub stands_of : (images : List ℕ → Type 0) (state : State) (place : Place) → AllHold images state place → (image : List ℕ) → images image → StandsFor Two image state
 stands_of images state place all image left = held images state place all image (all.each image left)
 
 -- why there is no denial
@@ -91,11 +92,11 @@ place_fits place command unspent first last used = from (is_snapshot_due place c
 
 -- moments of a command that was carried out, and of one within which the device failed
 module _ (state : State) (command : Command) (accepted : AreAccepted state (command ∷ [])) (next : State) (same : next ≡ effect state command) (calls steps n m : ℕ) (image : List ℕ) (step : IsInStep state next calls steps m image) where
-  none : (all : ℕ) → all ≡ 0 → StandsFor image state → StandsForSome state (command ∷ []) all image
+  none : (all : ℕ) → all ≡ 0 → StandsFor Two image state → StandsForSome state (command ∷ []) all image
   none all e stands = record { count = 0; all_acknowledged = omega (arith, e); one_more = omega arith; within = omega arith; accepted = tt; stands = stands }
 
-  one : (all : ℕ) → all ≤ 1 → StandsFor image next → StandsForSome state (command ∷ []) all image
-  one all le stands = record { count = 1; all_acknowledged = omega (arith, le); one_more = omega arith; within = omega arith; accepted = accepted; stands = subst (λ (s : State). StandsFor image s) same stands }
+  one : (all : ℕ) → all ≤ 1 → StandsFor Two image next → StandsForSome state (command ∷ []) all image
+  one all le stands = record { count = 1; all_acknowledged = omega (arith, le); one_more = omega arith; within = omega arith; accepted = accepted; stands = subst (λ (s : State). StandsFor Two image s) same stands }
 
   pub leaves_ok : (done : Unit {0}) → n ≡ calls + steps → RunLeaves state (command ∷ []) (record { answer = Ok done; calls = n } ∷ []) m image
   leaves_ok done counted =
@@ -115,7 +116,7 @@ module _ (state : State) (command : Command) (accepted : AreAccepted state (comm
 -- a call that does nothing
 module _ {D : Type 0} (calls : D → ℕ) (honest : D → Type 0) (clock : D → ℕ) (since : D → ℕ → ℕ → List ℕ → Type 0) (possible : D → List ℕ → Type 0)
     (only_now : (d : D) (m : ℕ) (image : List ℕ) → honest d → since d (clock d) m image → (m ≡ calls d) × possible d image) (d : D) (h : honest d) where
-  pub still : (state : State) → ((image : List ℕ) → possible d image → StandsFor image state) → (command : Command) (why : Denial) (n : ℕ)
+  pub still : (state : State) → ((image : List ℕ) → possible d image → StandsFor Two image state) → (command : Command) (why : Denial) (n : ℕ)
       → Throughout clock since d d (RunLeaves state (command ∷ []) (record { answer = Err why; calls = n } ∷ []))
   still state stands command why n = through.started clock since d (RunLeaves state (command ∷ []) (record { answer = Err why; calls = n } ∷ [])) (λ m image left.
       let not_yet : acked m (record { answer = Err why; calls = n } ∷ []) ≡ 0 = unacked m (record { answer = Err why; calls = n }) [] refl in record {

@@ -29,7 +29,7 @@ accepted-append state [] more left right = right
 accepted-append state (command ∷ first) more left right = (left.0, left.1, accepted-append (effect state command) first more left.2 right)
 
 module _ (new : State) (next : Place) where
-  pub held_new : (image : List ℕ) → Holds Two image new [] next → StandsFor image new
+  pub held_new : (image : List ℕ) → Holds Two image new [] next → StandsFor Two image new
   held_new image holds = record { snapshot = new; commands = []; place = next; holds = holds; accepted = tt; leads = refl }
 
   pub all_new : (after_it : List ℕ → Type 0) → ((image : List ℕ) → after_it image → Holds Two image new [] next) → AllHold after_it new next
@@ -37,7 +37,7 @@ module _ (new : State) (next : Place) where
 
 -- images that hold a state and commands stand for the state after these
 module _ (images : List ℕ → Type 0) (state : State) (place : Place) (all : AllHold images state place) where
-  pub held : (image : List ℕ) → Holds Two image all.snapshot all.commands place → StandsFor image state
+  pub held : (image : List ℕ) → Holds Two image all.snapshot all.commands place → StandsFor Two image state
   held image holds = record { snapshot = all.snapshot; commands = all.commands; place = place; holds = holds; accepted = all.accepted; leads = all.leads }
 
   module _ (command : Command) (accepted : AreAccepted state (command ∷ [])) (next : Place) where
@@ -47,7 +47,7 @@ module _ (images : List ℕ → Type 0) (state : State) (place : Place) (all : A
     leads_on : after all.snapshot (all.commands ++ command ∷ []) ≡ effect state command
     leads_on = after-append all.snapshot all.commands (command ∷ []) ∙ ap (λ (s : State). effect s command) all.leads
 
-    pub held_more : (image : List ℕ) → Holds Two image all.snapshot (all.commands ++ command ∷ []) next → StandsFor image (effect state command)
+    pub held_more : (image : List ℕ) → Holds Two image all.snapshot (all.commands ++ command ∷ []) next → StandsFor Two image (effect state command)
     held_more image holds = record { snapshot = all.snapshot; commands = all.commands ++ command ∷ []; place = next; holds = holds; accepted = accepted_more; leads = leads_on }
 
     -- with one command more

@@ -6,6 +6,7 @@ use Rattle.command_core.specs.Effects.{effect}
 use Rattle.command_core.specs.Refusing.{refusal}
 use Rattle.command_core.specs.Runs.{AreAccepted, is_recorded}
 use Rattle.command_core.specs.declared.commands.Command.{Command}
+use Rattle.state_codec.specs.declared.version.Version.TheVariants.{Two}
 use Rattle.checkpoint.specs.declared.places.Place.{Place}
 use Rattle.checkpoint.specs.Refused.{one_more_fault}
 use Rattle.recover.specs.declared.denials.Denial.{Denial}
@@ -96,7 +97,7 @@ module _ {D : Type 0} (len calls faults : D → ℕ) (honest : D → Type 0) (cl
     pub honest_before : honest new.device → honest old.device
     pub moments : old.is_broken ≡ false → honest new.device → Throughout clock since old.device new.device (RunLeaves old.state (command ∷ []) (reply ∷ []))
     pub counts : honest new.device → Throughout clock since old.device new.device (IsBetween (calls old.device) (calls old.device + calls_of old.place command))
-    pub stands : new.is_broken ≡ false → honest new.device → (image : List ℕ) → possible new.device image → StandsFor image new.state
+    pub stands : new.is_broken ≡ false → honest new.device → (image : List ℕ) → possible new.device image → StandsFor Two image new.state
 
   -- One reply for each command, each as `apply` gives it, one after another.
   abbrev pub IsRun : SessionValue D → List Command → List Reply → SessionValue D → Type 0

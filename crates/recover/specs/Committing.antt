@@ -1,6 +1,7 @@
 -- What a commit does, and what a stop may leave within it.
 use Rattle.std.specs.Prelude.{◌≡◌, ◌⊎◌, ℕ, ◌+◌, ◌≤◌, List, Result, Ok, Err}
 use Rattle.command_core.specs.declared.states.State.{State}
+use Rattle.state_codec.specs.declared.version.Version.TheVariants.{Two}
 use Rattle.checkpoint.specs.declared.faults.StoreFault.{StoreFault}
 use Rattle.checkpoint.specs.declared.faults.StoreFault.TheVariants as store
 use Rattle.checkpoint.specs.Refused.{one_more_fault}
@@ -12,8 +13,8 @@ use Rattle.recover.specs.StandsFor.{StandsFor}
 pub record IsInStep (old new : State) (calls steps m : ℕ) (image : List ℕ) : Type 0 where
   pub from : calls ≤ m
   pub to : m ≤ calls + steps
-  pub either : StandsFor image old ⊎ StandsFor image new
-  pub done : m ≡ calls + steps → StandsFor image new
+  pub either : StandsFor Two image old ⊎ StandsFor Two image new
+  pub done : m ≡ calls + steps → StandsFor Two image new
 
 -- what a store that has a free place tells when it is not changed
 abbrev pub cause : StoreFault → CommitFault

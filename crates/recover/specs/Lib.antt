@@ -6,7 +6,12 @@ pub mod Moments
 pub mod Opening
 pub mod Sessions
 pub mod Applying
+pub mod Upgrading
 pub mod Headline
+pub mod Reopening
+pub mod Joining
+pub mod Rounds
+pub mod Folds
 -- of private functions alone
 pub mod Committing
 pub mod Repeating

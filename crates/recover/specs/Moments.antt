@@ -3,6 +3,7 @@ use Rattle.std.specs.Prelude.{ℕ, ◌+◌, ◌≤◌, List, length, take}
 use Rattle.command_core.specs.Runs.{after, AreAccepted}
 use Rattle.command_core.specs.declared.states.State.{State}
 use Rattle.command_core.specs.declared.commands.Command.{Command}
+use Rattle.state_codec.specs.declared.version.Version.TheVariants.{Two}
 use Rattle.recover.specs.declared.replies.Reply.{Reply}
 use Rattle.recover.specs.StandsFor.{StandsFor}
 use Rattle.recover.specs.Replies.{kept, acked}
@@ -14,7 +15,7 @@ pub record StandsForSome (state : State) (commands : List Command) (acknowledged
   pub one_more : count ≤ acknowledged + 1
   pub within : count ≤ length commands
   pub accepted : AreAccepted state (take count commands)
-  pub stands : StandsFor image (after state (take count commands))
+  pub stands : StandsFor Two image (after state (take count commands))
 
 -- What a run from this state promises of each image that a stop may leave when m calls of the device have finished.
 abbrev pub RunLeaves : State → List Command → List Reply → ℕ → List ℕ → Type 0

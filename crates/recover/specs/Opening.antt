@@ -1,16 +1,19 @@
--- What opening a device gives.
-use Rattle.std.specs.Prelude.{◌≡◌, ◌⊎◌, ℕ, ◌+◌, ◌≤◌, List, Result, Ok, Err, ⊤}
-use Rattle.command_core.specs.Runs.{AreAccepted}
+-- What opening a device gives, by the version of its store.
+use Rattle.std.specs.Prelude.{◌≡◌, ◌⊎◌, ℕ, ◌+◌, ◌<◌, ◌≤◌, List, sum_by, Result, Ok, Err, IsErrOf, ⊤}
+use Rattle.sector_disk.specs.declared.sectors.Sectors as sectors
+use Rattle.command_core.specs.Runs.{AreAccepted, steps_of}
 use Rattle.command_core.specs.declared.states.State.{State}
 use Rattle.command_core.specs.declared.states.State.TheVariants.{Empty, Loaded}
 use Rattle.command_core.specs.declared.commands.Command.{Command}
 use Rattle.state_codec.specs.declared.fault.CodecFault.TheVariants.{BadField}
-use Rattle.state_codec.specs.declared.version.Version.TheVariants.{Two}
+use Rattle.state_codec.specs.declared.version.Version.{Version}
 use Rattle.checkpoint.specs.declared.faults.StoreFault.{StoreFault}
 use Rattle.checkpoint.specs.declared.faults.StoreFault.TheVariants.{NotFormatted, BadVersion, Codec, Spent, OutOfMemory, DeviceFault}
 use Rattle.checkpoint.specs.declared.places.Place.{Place}
 use Rattle.checkpoint.specs.Holds.{Holds}
 use Rattle.checkpoint.specs.Holdless.{HoldsNothing}
+use Rattle.checkpoint.specs.Reads.{IsUnchanged}
+use Rattle.checkpoint.specs.Refused.{faults_after_reading}
 use Rattle.recover.specs.StandsFor.{StandsFor}
 
 -- A state is given, and it has P, unless memory was refused or the device failed.
@@ -24,20 +27,20 @@ GivesUnlessFailed P (Err (Codec fault)) = ⊥
 GivesUnlessFailed P (Err Spent) = ⊥
 
 -- What opening a device promises of the image that its reads give: if it stands for a state, then that one is given.
-abbrev pub Opens : List ℕ → Result State StoreFault → Type 0
-Opens image outcome = (state : State) → StandsFor image state → GivesUnlessFailed (λ given. given ≡ state) outcome
+abbrev pub Opens : Version → List ℕ → Result State StoreFault → Type 0
+Opens version image outcome = (state : State) → StandsFor version image state → GivesUnlessFailed (λ given. given ≡ state) outcome
 
 -- The image holds a state and commands, and one of them is refused by the state that those before it leave.
-pub record HoldsRefused (image : List ℕ) : Type 0 where
+pub record HoldsRefused (version : Version) (image : List ℕ) : Type 0 where
   pub snapshot : State
   pub commands : List Command
   pub place : Place
-  pub holds : Holds Two image snapshot commands place
+  pub holds : Holds version image snapshot commands place
   pub refused : ¬ AreAccepted snapshot commands
 
 -- Why an image stands for no state: it holds nothing, or commands that are not all accepted, which is told as BadField.
-abbrev pub StandsForNone : List ℕ → StoreFault → Type 0
-StandsForNone image fault = HoldsNothing Two image fault ⊎ ((fault ≡ Codec BadField) × HoldsRefused image)
+abbrev pub StandsForNone : Version → List ℕ → StoreFault → Type 0
+StandsForNone version image fault = HoldsNothing version image fault ⊎ ((fault ≡ Codec BadField) × HoldsRefused version image)
 
 -- the search steps that a state has made
 abbrev pub steps_in : State → ℕ
@@ -45,13 +48,51 @@ steps_in Empty = 0
 steps_in (Loaded job) = job.steps
 
 -- The journal that the image holds goes on at this place, and so many search steps are repeated: those of the state less those of the
--- snapshot.
-pub record IsReplayed (image : List ℕ) (state : State) (place : Place) (replayed : ℕ) : Type 0 where
+-- snapshot, which are those of the searches among the commands.
+pub record IsReplayed (version : Version) (image : List ℕ) (state : State) (place : Place) (replayed : ℕ) : Type 0 where
   pub snapshot : State
   pub commands : List Command
-  pub holds : Holds Two image snapshot commands place
+  pub holds : Holds version image snapshot commands place
   pub steps : steps_in state ≡ steps_in snapshot + replayed
+  pub searched : replayed ≡ sum_by steps_of commands
   pub most : replayed ≤ 65536
+
+-- So many search steps does opening repeat of the image: those of the searches among the commands that it holds.
+pub record IsToRepeat (version : Version) (image : List ℕ) (steps : ℕ) : Type 0 where
+  pub snapshot : State
+  pub commands : List Command
+  pub place : Place
+  pub holds : Holds version image snapshot commands place
+  pub searched : steps ≡ sum_by steps_of commands
+  pub most : steps ≤ 65536
+  -- where the image is opened, whatever it gives
+  pub agrees : (state : State) (other : Place) (replayed : ℕ) → IsReplayed version image state other replayed → replayed ≡ steps
+
+-- The device was read, and not called otherwise: it is as it was, but that it may have failed.
+module _ {D : Type 0} (on : sectors.Ghosts D) where
+  pub record IsOnlyRead {T : Type 0} (answer : Result T StoreFault) (old new : D) : Type 0 where
+    pub same_len : on.len new ≡ on.len old
+    pub same_calls : on.calls new ≡ on.calls old
+    pub fault : on.faults new ≡ faults_after_reading answer (on.faults old)
+    pub honest : on.honest new → on.honest old
+    pub kept : on.honest new → IsUnchanged on.clock on.possible_since on.possible on.seen on.calls old new
+    -- a device that is smaller than any store is not called
+    pub small : on.len old < 802 → new ≡ old
+    pub told : on.len old < 802 → IsErrOf answer NotFormatted
+
+-- What reads give after a refusal: what they gave before, or, where the device failed, an image that a stop might have left before.
+abbrev pub ReadsAfter : StoreFault → (List ℕ → Type 0) → List ℕ → List ℕ → Type 0
+ReadsAfter DeviceFault possible before after = possible after
+ReadsAfter NotFormatted possible before after = after ≡ before
+ReadsAfter BadVersion possible before after = after ≡ before
+ReadsAfter (Codec fault) possible before after = after ≡ before
+ReadsAfter Spent possible before after = after ≡ before
+ReadsAfter OutOfMemory possible before after = after ≡ before
+
+-- and after an opening
+abbrev pub ReadsAgain : {T : Type 0} → Result T StoreFault → (List ℕ → Type 0) → List ℕ → List ℕ → Type 0
+ReadsAgain (Ok x) possible before after = after ≡ before
+ReadsAgain (Err fault) possible before after = ReadsAfter fault possible before after
 
 -- of what opening answers: the state, or why there is none
 abbrev pub outcome : {T D : Type 0} → (T → State) → Result T (StoreFault × D) → Result State StoreFault

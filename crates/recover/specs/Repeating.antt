@@ -1,12 +1,12 @@
 -- What repeating the commands of a store gives.
-use Rattle.std.specs.Prelude.{◌≡◌, ℕ, ◌+◌, ◌≤◌, List, ⊤}
-use Rattle.command_core.specs.Runs.{after, AreAccepted}
+use Rattle.std.specs.Prelude.{◌≡◌, ℕ, ◌+◌, ◌≤◌, List, sum_by, ⊤}
+use Rattle.command_core.specs.Runs.{after, AreAccepted, steps_of}
 use Rattle.command_core.specs.declared.states.State.{State}
 use Rattle.command_core.specs.declared.commands.Command.{Command}
 use Rattle.command_core.specs.declared.refusals.Refusal.{Refusal}
 use Rattle.command_core.specs.declared.refusals.Refusal.TheVariants as refusals
 use Rattle.state_codec.specs.declared.fault.CodecFault.TheVariants.{Truncated, BadField, PlanRefused, OutOfMemory}
-use Rattle.state_codec.specs.declared.version.Version.TheVariants.{Two}
+use Rattle.state_codec.specs.declared.version.Version.{Version}
 use Rattle.checkpoint.specs.declared.faults.StoreFault.{StoreFault}
 use Rattle.checkpoint.specs.declared.faults.StoreFault.TheVariants as store
 use Rattle.checkpoint.specs.declared.places.Place.{Place}
@@ -38,11 +38,12 @@ IsOfRepeating snapshot commands store.Spent = ⊥
 IsOfRepeating snapshot commands store.DeviceFault = ⊥
 
 -- Of this image, whose place is this: the state after its commands, and how many steps they make.
-pub record IsRepeated (image : List ℕ) (state : State) (place : Place) (replayed : ℕ) : Type 0 where
+pub record IsRepeated (version : Version) (image : List ℕ) (state : State) (place : Place) (replayed : ℕ) : Type 0 where
   pub snapshot : State
   pub commands : List Command
-  pub holds : Holds Two image snapshot commands place
+  pub holds : Holds version image snapshot commands place
   pub accepted : AreAccepted snapshot commands
   pub leads : after snapshot commands ≡ state
   pub steps : steps_in state ≡ steps_in snapshot + replayed
+  pub searched : replayed ≡ sum_by steps_of commands
   pub most : replayed ≤ 65536

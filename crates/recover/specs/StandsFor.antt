@@ -1,17 +1,17 @@
--- What an image stands for: the state that a stop which leaves it has saved.
+-- What an image of a version stands for: the state that a stop which leaves it has saved.
 use Rattle.std.specs.Prelude.{◌≡◌, ℕ, List}
 use Rattle.command_core.specs.Runs.{after, AreAccepted}
 use Rattle.command_core.specs.declared.states.State.{State}
 use Rattle.command_core.specs.declared.commands.Command.{Command}
-use Rattle.state_codec.specs.declared.version.Version.TheVariants.{Two}
+use Rattle.state_codec.specs.declared.version.Version.{Version}
 use Rattle.checkpoint.specs.declared.places.Place.{Place}
 use Rattle.checkpoint.specs.Holds.{Holds}
 
 -- The image holds a state and commands. Each of them is accepted in turn, and this state is the one after them.
-pub record StandsFor (image : List ℕ) (state : State) : Type 0 where
+pub record StandsFor (version : Version) (image : List ℕ) (state : State) : Type 0 where
   pub snapshot : State
   pub commands : List Command
   pub place : Place
-  pub holds : Holds Two image snapshot commands place
+  pub holds : Holds version image snapshot commands place
   pub accepted : AreAccepted snapshot commands
   pub leads : after snapshot commands ≡ state

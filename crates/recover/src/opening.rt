@@ -8,20 +8,22 @@ ghost use Rattle.std.specs.Prelude.{◌≡◌, ◌+◌, ◌<◌, ◌≤◌, ◌^
 ghost use Rattle.command_core.specs.Runs.{IsState};
 ghost use Rattle.sector_disk.specs.Sectors.{Throughout, Only};
 ghost use Rattle.state_codec.specs.declared.version.Version.TheVariants.{Two};
-ghost use Rattle.checkpoint.specs.Reads.{IsStanding};
-ghost use Rattle.checkpoint.specs.Holds.{Holds};
+ghost use Rattle.checkpoint.specs.Reads.{IsStanding, IsUnchanged};
+ghost use Rattle.checkpoint.specs.Layouts.{sectors_in};
+ghost use Rattle.checkpoint.specs.Holds.{Holds, layout_of};
 ghost use Rattle.checkpoint.specs.Holdless.{HoldsNothing, IsOfLoad, UnlessUnread};
 ghost use Rattle.checkpoint.specs.Refused.{faults_after_reading};
 ghost use Rattle.recover.specs.StandsFor.{StandsFor};
 ghost use Rattle.recover.specs.Applying.{IsBetween};
-ghost use Rattle.recover.specs.Opening.{Opens, StandsForNone, IsReplayed, outcome, device_after};
+ghost use Rattle.recover.specs.Opening.{Opens, StandsForNone, IsReplayed, IsToRepeat, IsOnlyRead, ReadsAgain, outcome, device_after};
 ghost use Rattle.recover.specs.Repeating.{IsRepeated};
 
-use crate::repeating::{repeat, steps_in};
+use crate::repeating::{repeat, steps_among, steps_in};
 use crate::sessions::Session;
-use checkpoint::{Loaded, Place, StoreFault, images_hold_one_thing, load_latest};
+use checkpoint::{Loaded, Place, StoreFault, images_hold_one_thing, load_latest, load_latest_v1};
 use command_core::State;
 use sector_disk::{DeviceFault, Sectors};
+use state_codec::version::Version;
 use std::alloc::Global;
 
 /// The sectors of the smallest store of any version.
@@ -37,19 +39,49 @@ pub(crate) struct Recovered {
     pub replayed: u64,
 }
 
-// What the image that reads give holds, once it is durable: one call that finishes, and none on a device that is smaller than any store.
-fn read_settled<D: Sectors>(alloc: Global, device: &mut D) -> Result<Loaded, StoreFault>
+// What the image that reads give holds, by the layout, bytes and limits of a version. It reads only.
+fn load<D: Sectors>(alloc: Global, device: &mut D, version: Version) -> Result<Loaded, StoreFault>
     ensures small { D.len device.old < 802 → device.new ≡ device.old }
     ensures told { D.len device.old < 802 → IsErrOf result StoreFault.NotFormatted }
     ensures fails { IfErr result IsOfLoad }
     ensures standing { IfOk result
-        (λ loaded. IsStanding 8450 (D.len device.old) loaded.state loaded.place) }
+        (λ loaded. IsStanding (sectors_in (layout_of version)) (D.len device.old) loaded.state loaded.place) }
     ensures found { D.honest device.new
         → MatchResult result (λ loaded.
-        Holds Two (D.seen device.old) loaded.state loaded.commands.items loaded.place)
-        (UnlessUnread (HoldsNothing Two (D.seen device.old))) }
+        Holds version (D.seen device.old) loaded.state loaded.commands.items loaded.place)
+        (UnlessUnread (HoldsNothing version (D.seen device.old))) }
+    ensures same_len { D.len device.new ≡ D.len device.old }
+    ensures same_calls { D.calls device.new ≡ D.calls device.old }
+    ensures fault { D.faults device.new ≡ faults_after_reading result (D.faults device.old) }
+    ensures honest { D.honest device.new → D.honest device.old }
+    ensures kept { D.honest device.new
+        → IsUnchanged D.clock D.possible_since D.possible D.seen D.calls device.old device.new }
+{
+    match version {
+        Version::One => load_latest_v1(alloc, device),
+        Version::Two => load_latest(alloc, device),
+    }
+}
+
+// The same once that image is durable: one call that finishes, and none on a device that is smaller than any store.
+fn read_settled<D: Sectors>(
+    alloc: Global,
+    device: &mut D,
+    version: Version,
+) -> Result<Loaded, StoreFault>
+    ensures small { D.len device.old < 802 → device.new ≡ device.old }
+    ensures told { D.len device.old < 802 → IsErrOf result StoreFault.NotFormatted }
+    ensures fails { IfErr result IsOfLoad }
+    ensures standing { IfOk result
+        (λ loaded. IsStanding (sectors_in (layout_of version)) (D.len device.old) loaded.state loaded.place) }
+    ensures found { D.honest device.new
+        → MatchResult result (λ loaded.
+        Holds version (D.seen device.old) loaded.state loaded.commands.items loaded.place)
+        (UnlessUnread (HoldsNothing version (D.seen device.old))) }
     ensures only { D.honest device.new
         → OnOk result (Only (D.seen device.old) (D.possible device.new)) }
+    ensures reads { D.honest device.new
+        → ReadsAgain result (D.possible device.old) (D.seen device.old) (D.seen device.new) }
     ensures same_len { D.len device.new ≡ D.len device.old }
     ensures finished { OnOk result (D.calls device.new ≡ D.calls device.old + 1) }
     ensures fault { D.faults device.new ≡ faults_after_reading result (D.faults device.old) }
@@ -62,24 +94,30 @@ fn read_settled<D: Sectors>(alloc: Global, device: &mut D) -> Result<Loaded, Sto
         return Err(StoreFault::NotFormatted);
     }
     match device.sync() {
-        Ok(()) => load_latest(alloc, device),
+        Ok(()) => load(alloc, device, version),
         Err(DeviceFault) => Err(StoreFault::DeviceFault),
     }
 }
 
-// The state that the device's store stands for: what is read, with the commands of the records repeated.
-fn recover<D: Sectors>(alloc: Global, device: &mut D) -> Result<Recovered, StoreFault>
+/// The state that the device's store of a version stands for: what is read, with the commands of the records repeated.
+pub(crate) fn recover<D: Sectors>(
+    alloc: Global,
+    device: &mut D,
+    version: Version,
+) -> Result<Recovered, StoreFault>
     ensures small { D.len device.old < 802 → device.new ≡ device.old }
     ensures told { D.len device.old < 802 → IsErrOf result StoreFault.NotFormatted }
     ensures fails { IfErr result IsOfLoad }
     ensures standing { IfOk result
-        (λ found. IsStanding 8450 (D.len device.old) found.state found.place) }
+        (λ found. IsStanding (sectors_in (layout_of version)) (D.len device.old) found.state found.place) }
     ensures found { D.honest device.new
         → MatchResult result (λ found.
-        IsRepeated (D.seen device.old) found.state found.place found.replayed)
-        (UnlessUnread (StandsForNone (D.seen device.old))) }
+        IsRepeated version (D.seen device.old) found.state found.place found.replayed)
+        (UnlessUnread (StandsForNone version (D.seen device.old))) }
     ensures only { D.honest device.new
         → OnOk result (Only (D.seen device.old) (D.possible device.new)) }
+    ensures reads { D.honest device.new
+        → ReadsAgain result (D.possible device.old) (D.seen device.old) (D.seen device.new) }
     ensures same_len { D.len device.new ≡ D.len device.old }
     ensures finished { OnOk result (D.calls device.new ≡ D.calls device.old + 1) }
     ensures fault { D.faults device.new ≡ faults_after_reading result (D.faults device.old) }
@@ -88,7 +126,7 @@ fn recover<D: Sectors>(alloc: Global, device: &mut D) -> Result<Recovered, Store
         → Throughout D.clock D.possible_since device.old device.new
         (λ m image. IsBetween (D.calls device.old) (D.calls device.old + 1) m image × D.possible device.old image) }
 {
-    let loaded = read_settled(alloc, device)?;
+    let loaded = read_settled(alloc, device, version)?;
     let begun = steps_in(&loaded.state);
     let state = repeat(alloc, loaded.state, &loaded.commands)?;
     Ok(Recovered {
@@ -96,6 +134,23 @@ fn recover<D: Sectors>(alloc: Global, device: &mut D) -> Result<Recovered, Store
         state,
         place: loaded.place,
     })
+}
+
+/// How many search steps opening this device is to repeat: those of the searches among the records, by reading alone, so that it can be
+/// told before the first of them is made.
+///
+/// Reads may give what is not durable yet, which the sync of `open` then keeps: what is read here is what `open` reads. Records whose
+/// commands are not all accepted are refused by `open` alone.
+pub fn steps_to_repeat<D: Sectors>(alloc: Global, device: &mut D) -> Result<u64, StoreFault>
+    ensures found { D.honest device.new
+        → MatchResult result (IsToRepeat Two (D.seen device.old))
+        (UnlessUnread (HoldsNothing Two (D.seen device.old))) }
+    ensures fails { IfErr result IsOfLoad }
+    ensures reads { IsOnlyRead D.Sectors result device.old device.new }
+{
+    images_hold_one_thing();
+    let loaded = load(alloc, device, Version::Two)?;
+    Ok(steps_among(&loaded.commands))
 }
 
 /// An opened store.
@@ -110,16 +165,17 @@ impl<D: Sectors> Session<D> {
     /// Opens the store on a device: a sync, and then it reads alone and repeats the commands of the records.
     ///
     /// The state is the one that the image which reads give stands for. It is refused only where that image stands for none, where memory is
-    /// refused or where the device fails, and hands the device back. At each moment within the call a stop leaves an image that it might have
-    /// left before, and after `Ok` one that stands for the state. A device of fewer than 802 sectors is `NotFormatted`, and is not called.
+    /// refused or where the device fails, and hands the device back: unless that failed, reads give the same then, so that opening it again
+    /// gives what this opening would have given. At each moment within the call a stop leaves an image that it might have left before, and
+    /// after `Ok` one that stands for the state. A device of fewer than 802 sectors is `NotFormatted`, and is not called.
     pub fn open(alloc: Global, device: D) -> Result<Opened<D>, (StoreFault, D)>
         ensures given { IfOk result (λ o. D.honest o.session.device
-            → StandsFor (D.seen device) o.session.state) }
+            → StandsFor Two (D.seen device) o.session.state) }
         ensures refused { D.honest (device_after (λ o. o.session.device) result)
             → IfErr (outcome (λ o. o.session.state) result)
-            (UnlessUnread (StandsForNone (D.seen device))) }
+            (UnlessUnread (StandsForNone Two (D.seen device))) }
         ensures opens { D.honest (device_after (λ o. o.session.device) result)
-            → Opens (D.seen device) (outcome (λ o. o.session.state) result) }
+            → Opens Two (D.seen device) (outcome (λ o. o.session.state) result) }
         ensures fails { IfErr (outcome (λ o. o.session.state) result) IsOfLoad }
         ensures fault { D.faults (device_after (λ o. o.session.device) result)
             ≡ faults_after_reading (outcome (λ o. o.session.state) result) (D.faults device) }
@@ -128,19 +184,22 @@ impl<D: Sectors> Session<D> {
             → Throughout D.clock D.possible_since device
             (device_after (λ o. o.session.device) result)
             (λ m image. IsBetween (D.calls device) (D.calls device + 1) m image × D.possible device image) }
+        ensures reads { D.honest (device_after (λ o. o.session.device) result)
+            → ReadsAgain (outcome (λ o. o.session.state) result) (D.possible device) (D.seen device)
+            (D.seen (device_after (λ o. o.session.device) result)) }
         ensures stands { IfOk result (λ o. D.honest o.session.device → (image : List ℕ)
-            → D.possible o.session.device image → StandsFor image o.session.state) }
+            → D.possible o.session.device image → StandsFor Two image o.session.state) }
         ensures finished { IfOk result (λ o. D.calls o.session.device ≡ D.calls device + 1) }
         ensures whole { IfOk result (λ o. o.session.is_broken ≡ false) }
         ensures facts { IfOk result (λ o. IsState o.session.state) }
         ensures replayed { IfOk result (λ o. D.honest o.session.device
-            → IsReplayed (D.seen device) o.session.state o.session.place o.replayed) }
+            → IsReplayed Two (D.seen device) o.session.state o.session.place o.replayed) }
         ensures same_len { D.len (device_after (λ o. o.session.device) result) ≡ D.len device }
         ensures honest { D.honest (device_after (λ o. o.session.device) result) → D.honest device }
     {
         images_hold_one_thing();
         let mut device = device;
-        match recover(alloc, &mut device) {
+        match recover(alloc, &mut device, Version::Two) {
             Ok(found) => Ok(Opened {
                 session: Session::over(device, found.state, found.place),
                 replayed: found.replayed,

@@ -1,10 +1,11 @@
 //! Lists of commands.
-ghost use Rattle.std.specs.Prelude.{◌≡◌, false, OnErr, IfOk};
+ghost use Rattle.std.specs.Prelude.{◌≡◌, ◌≤◌, [], length, false, OnErr, IfOk};
+ghost use Rattle.std.specs.Vec.{vec_capacity};
 ghost use Rattle.sector_disk.specs.Sectors.{Throughout};
 ghost use Rattle.recover.specs.Moments.{RunLeaves};
 ghost use Rattle.recover.specs.Applying.{IsRun};
 
-use crate::replies::Run;
+use crate::replies::{Reply, Run};
 use crate::sessions::Session;
 use command_core::Command;
 use sector_disk::{OutOfMemory, Sectors};
@@ -24,11 +25,29 @@ impl<D: Sectors> Session<D> {
         ensures moments { IfOk result (λ run. self.old.is_broken ≡ false → D.honest self.new.device
             → Throughout D.clock D.possible_since self.old.device self.new.device (RunLeaves self.old.state commands.items run.replies.items)) }
     {
+        let replies = Vec::with_capacity(alloc, commands.len())?;
+        Ok(self.run_into(alloc, commands, replies))
+    }
+
+    // Carries commands out as `run` does. There is room for the answers.
+    pub(crate) fn run_into(
+        &mut self,
+        alloc: Global,
+        commands: Vec<Command>,
+        replies: Vec<Reply>,
+    ) -> Run
+        requires empty { replies.items ≡ [] }
+        requires room { length commands.items ≤ vec_capacity replies }
+        ensures replies { IsRun D.len D.calls D.faults D.honest D.clock D.possible_since D.possible
+            self.old commands.items result.replies.items self.new }
+        ensures moments { self.old.is_broken ≡ false → D.honest self.new.device
+            → Throughout D.clock D.possible_since self.old.device self.new.device (RunLeaves self.old.state commands.items result.replies.items) }
+    {
         self.images_stand_for_the_state();
-        let mut replies = Vec::with_capacity(alloc, commands.len())?;
+        let mut replies = replies;
         for command in commands {
             replies.push(self.apply(alloc, command)).unwrap();
         }
-        Ok(Run { replies })
+        Run { replies }
     }
 }

@@ -2,6 +2,7 @@
 ghost use Rattle.std.specs.Prelude.{◌≡◌, ◌+◌, false, true, List, [], ◌∷◌, ℕ, None, OnOk};
 ghost use Rattle.command_core.specs.Runs.{IsState};
 ghost use Rattle.sector_disk.specs.Sectors.{Throughout};
+ghost use Rattle.state_codec.specs.declared.version.Version.TheVariants.{Two};
 ghost use Rattle.recover.specs.StandsFor.{StandsFor};
 ghost use Rattle.recover.specs.Moments.{RunLeaves};
 ghost use Rattle.recover.specs.Applying.{denial, calls_of, IsAnswer, Makes, IsBetween, faults_after_answer};
@@ -91,7 +92,7 @@ impl<D: Sectors> Session<D> {
             → Throughout D.clock D.possible_since self.old.device self.new.device
             (IsBetween (D.calls self.old.device) (D.calls self.old.device + calls_of self.old.place command)) }
         ensures stands { self.new.is_broken ≡ false → D.honest self.new.device → (image : List ℕ)
-            → D.possible self.new.device image → StandsFor image self.new.state }
+            → D.possible self.new.device image → StandsFor Two image self.new.state }
     {
         let answer = self.answer(alloc, &command);
         Reply {
@@ -181,7 +182,7 @@ impl<D: Sectors> Session<D> {
     /// Unless the session is broken and while its device is honest, each image that a stop may leave stands for the state.
     pub fn images_stand_for_the_state(&self)
         ensures { self.now.is_broken ≡ false → D.honest self.now.device → (image : List ℕ)
-            → D.possible self.now.device image → StandsFor image self.now.state }
+            → D.possible self.now.device image → StandsFor Two image self.now.state }
     {
         let _device = &self.device;
     }
@@ -198,7 +199,7 @@ impl<D: Sectors> Session<D> {
     pub fn is_broken(&self) -> bool
         ensures broken { result ≡ self.now.is_broken }
         ensures stands { result ≡ false → D.honest self.now.device → (image : List ℕ)
-            → D.possible self.now.device image → StandsFor image self.now.state }
+            → D.possible self.now.device image → StandsFor Two image self.now.state }
     {
         self.is_broken
     }
@@ -207,18 +208,20 @@ impl<D: Sectors> Session<D> {
     pub fn close(self) -> D
         ensures device { result ≡ self.device }
         ensures stands { self.is_broken ≡ false → D.honest result → (image : List ℕ)
-            → D.possible result image → StandsFor image self.state }
+            → D.possible result image → StandsFor Two image self.state }
     {
         self.device
     }
 }
 
 impl Session<MemDevice> {
+    ghost use Rattle.std.specs.Prelude.{Some};
     ghost use Rattle.sector_disk.specs.MemDevice.{memory};
     ghost use Rattle.sector_disk.specs.Memory.{IsSameDevice};
 
     /// After `k` more finished calls each call of the device fails.
     pub(crate) fn fuse(&mut self, k: u64)
+        ensures set { (memory self.new.device).fuse ≡ Some k }
         ensures device { IsSameDevice (memory self.old.device) (memory self.new.device) }
         ensures state { self.new.state ≡ self.old.state }
         ensures place { self.new.place ≡ self.old.place }

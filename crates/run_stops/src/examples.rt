@@ -115,7 +115,8 @@ pub(crate) fn states_of(alloc: Global, commands: &[Command]) -> io::Result<Vec<V
     Ok(states)
 }
 
-fn applied(alloc: Global, state: &State, command: &Command) -> io::Result<State> {
+/// The state after a command that is accepted.
+pub(crate) fn applied(alloc: Global, state: &State, command: &Command) -> io::Result<State> {
     match apply(alloc, state, command) {
         Ok(next) => Ok(next),
         Err(_) => Err(failed()),

@@ -84,8 +84,8 @@ impl<'a> Image<'a> {
     }
 }
 
-// Writes a sector that begins with these bytes.
-fn put(device: &mut MemDevice, sector: u64, front: &[u8]) -> io::Result<()> {
+/// Writes a sector that begins with these bytes.
+pub(crate) fn put(device: &mut MemDevice, sector: u64, front: &[u8]) -> io::Result<()> {
     let mut bytes = [0; 512];
     for (to, from) in bytes.iter_mut().zip(front) {
         *to = *from;

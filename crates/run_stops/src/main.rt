@@ -3,7 +3,10 @@
 //! of it.
 //!
 //! - `examples`: commands and their states; `stops`: runs that are stopped; `images`: stores by hand
-//! - `memory`: five commands where memory is refused once, by the word `memory` and `tests/refused_allocations.py`
+//! - `upgrades`: a store of version 1 that is taken over
+//! - `rounds`: stores that are opened, run and stopped again and again
+//! - `memory`: five commands where memory is refused once, by the word `memory` and `tests/refused_allocations.py`; by the word
+//!   `upgrade` an upgrade
 //!
 //! `rt ci` runs it without words, and compares what it prints with `stdout`.
 #![tactic(auto)]
@@ -11,12 +14,16 @@
 mod examples;
 mod images;
 mod memory;
+mod rounds;
 mod stops;
+mod upgrades;
 
 use crate::examples::{five_commands, load_one, load_pairs, load_three, states_of};
 use crate::images::{print_headers, print_snapshots};
 use crate::memory::run_once;
+use crate::rounds::print_rounds;
 use crate::stops::{Ended, SECTORS, Tally, answer, choices_of, fresh, open, place_of, stopped};
+use crate::upgrades::{print_upgrades, upgrade_once};
 use command_core::Command;
 use recover::Session;
 use sector_disk::{MemDevice, Sectors};
@@ -30,14 +37,24 @@ fn main(rt: HostRuntime) -> io::Result<()> {
         if word.as_str() == "memory" {
             return with_refused_memory(&rt, alloc);
         }
+        if word.as_str() == "upgrade" {
+            return upgraded_with_refused_memory(&rt, alloc);
+        }
     }
     print_stops(&rt, alloc)?;
-    print_openings(&rt, alloc)
+    print_openings(&rt, alloc)?;
+    print_upgrades(&rt, alloc)?;
+    print_rounds(&rt, alloc)
 }
 
 // The five commands once, for a run in which some allocation is refused: what answered that.
 fn with_refused_memory<R: Print>(rt: &R, alloc: Global) -> io::Result<()> {
     println!(rt; "{}", run_once(alloc)?.as_str())
+}
+
+// The same of an upgrade.
+fn upgraded_with_refused_memory<R: Print>(rt: &R, alloc: Global) -> io::Result<()> {
+    println!(rt; "{}", upgrade_once(alloc)?.as_str())
 }
 
 fn print_stops<R: Print>(rt: &R, alloc: Global) -> io::Result<()> {

@@ -17,9 +17,10 @@ pub(crate) enum Refused {
     Nowhere,
     /// Making the device, formatting or opening it. Once more, it is done.
     Before,
-    /// A command, with OutOfMemory and the state as before. Once more, it is carried out.
+    /// A command, with OutOfMemory and the state as before; or an upgrade, with OutOfMemory. Once more, it is carried out.
     Command,
-    /// A write or a sync of the device, so DeviceFault. Opened again, the state is the one before the command or after it.
+    /// A write or a sync of the device, so DeviceFault. Opened again, the state is the one before the command or after it. An upgrade is done
+    /// once more.
     Device,
     /// None of these.
     Otherwise,

@@ -5,19 +5,20 @@
 //! - A failed write may have reached any of its sectors, and after a failed write or sync reads may give any one possible
 //!   image.
 //! - A write or sync at the last count makes no call of the file, and so is not in the record.
+//! - A device holds its file's lock until it is dropped (`opened_file`), so that two never share a file.
 //! - `create` syncs the file's folder too, so that a new file outlasts a power cut; where the system has no sync for a
 //!   folder, it goes on. It does not claim that what it gives is settled.
-ghost use Rattle.std.specs.Prelude.{◌≡◌, ◌+◌, ◌-◌, ◌*◌, ◌%◌, ◌^◌, ◌<◌, ◌≤◌, ◌↔◌, [], List, ℕ, length, take, drop, OnOk, OnErr, IfOk, IsErr, IsErrOf, IsTrue, Ok, min, ◌≢◌, ◌/◌};
-ghost use Rattle.std.specs.Fs.{metadata_len, file_type, IsFile};
+//! - What the system said of a failed call is kept for whoever tells it (`cause`); no clause speaks of it.
+ghost use Rattle.std.specs.Prelude.{◌≡◌, ◌+◌, ◌-◌, ◌*◌, ◌%◌, ◌^◌, ◌<◌, ◌≤◌, ◌↔◌, [], List, ℕ, length, take, drop, OnOk, OnErr, IfOk, IfErr, IsErr, IsErrAnd, IsErrOf, IsTrue, min, ◌≢◌};
 ghost use Rattle.sector_disk.specs.FileRecord.{all_inside};
 
 use crate::file_calls::{FileCalls, HostFile, SECTOR};
+use crate::opened_file::{OpenedFile, sync_folder};
 use crate::{DeviceFault, Sectors, Start};
-use std::fs::{File, Files, Metadata, OpenOptions};
+use std::fs::{File, Files};
 use std::io;
 use std::io::ErrorKind;
 use std::marker::PhantomData;
-use std::path::Path;
 use thiserror::Error;
 
 /// Why a file is not opened as a device.
@@ -31,6 +32,44 @@ pub enum FileFault {
     BadLength,
     #[error("out of memory")]
     OutOfMemory,
+    /// Another process, or another device of this one, has the file open.
+    #[error("the file is in use")]
+    InUse,
+}
+
+/// A file that is not opened as a device, and what the system said, if it was asked.
+#[derive(Clone, Copy, Debug)]
+pub struct FileRefusal {
+    pub fault: FileFault,
+    pub cause: Option<io::Error>,
+}
+
+impl From<FileFault> for FileRefusal {
+    ghost use Rattle.std.specs.Prelude.{◌≡◌};
+
+    ghost from_gives = { λ fault refusal. refusal.fault ≡ fault };
+
+    fn from(fault: FileFault) -> FileRefusal {
+        FileRefusal { fault, cause: None }
+    }
+}
+
+impl From<io::Error> for FileRefusal {
+    ghost use Rattle.std.specs.Prelude.{◌≢◌};
+    ghost use Rattle.sector_disk.specs.declared.file_device.FileFault.TheVariants.{BadLength};
+
+    ghost from_gives = { λ _ refusal. refusal.fault ≢ BadLength };
+
+    fn from(error: io::Error) -> FileRefusal {
+        let fault = match error.kind() {
+            ErrorKind::OutOfMemory => FileFault::OutOfMemory,
+            _ => FileFault::NoFile,
+        };
+        FileRefusal {
+            fault,
+            cause: Some(error),
+        }
+    }
 }
 
 /// A file's length is below 2^63.
@@ -44,44 +83,9 @@ pub struct FileDevice<S: Start, F: FileCalls = HostFile> {
     sectors: u64,
     calls: u64,
     faults: u64,
+    cause: Option<io::Error>,
     ghost offsets: { 512 * sectors < 2 ^ 64 },
     ghost inside: { IsTrue (all_inside (512 * sectors) (F.FileCalls.entries file)) },
-}
-
-fn fault_of(error: io::Error) -> FileFault
-    ensures { result ≢ FileFault.BadLength }
-{
-    match error.kind() {
-        ErrorKind::OutOfMemory => FileFault::OutOfMemory,
-        _ => FileFault::NoFile,
-    }
-}
-
-// How many sectors a file of this length has.
-fn sectors_of(len: u64) -> Result<u64, FileFault>
-    ensures whole { len % 512 ≡ 0 → result ≡ Ok (len / 512) }
-    ensures other { len % 512 ≢ 0 → IsErrOf result FileFault.BadLength }
-{
-    if len % SECTOR == 0 {
-        Ok(len / SECTOR)
-    } else {
-        Err(FileFault::BadLength)
-    }
-}
-
-// How many sectors a file has, if it is a plain file of whole sectors.
-fn sectors_in(metadata: &Metadata) -> Result<u64, FileFault>
-    ensures sectors { IfOk result
-        (λ n. IsFile (file_type metadata.now) × (metadata_len metadata.now ≡ 512 * n)) }
-    ensures offsets { IfOk result (λ n. 512 * n < 2 ^ 64) }
-    ensures no_file { IsErrOf result FileFault.NoFile → IsFile (file_type metadata.now) → ⊥ }
-    ensures other_length { IsErrOf result FileFault.BadLength
-        → metadata_len metadata.now % 512 ≢ 0 }
-{
-    if !metadata.is_file() {
-        return Err(FileFault::NoFile);
-    }
-    sectors_of(metadata.len())
 }
 
 impl<S: Start, F: FileCalls> FileDevice<S, F> {
@@ -100,11 +104,12 @@ impl<S: Start, F: FileCalls> FileDevice<S, F> {
             sectors,
             calls: 0,
             faults: 0,
+            cause: None,
         }
     }
 
-    // A call that fails.
-    fn fail(&mut self) -> Result<(), DeviceFault>
+    // A call that fails, with what the system said, if it was asked.
+    fn fail(&mut self, cause: Option<io::Error>) -> Result<(), DeviceFault>
         ensures fails { IsErr result }
         ensures fault { self.new.faults ≡ min (self.old.faults + 1) (2 ^ 64 - 1) }
         ensures file { self.new.file ≡ self.old.file }
@@ -112,7 +117,13 @@ impl<S: Start, F: FileCalls> FileDevice<S, F> {
         ensures calls { self.new.calls ≡ self.old.calls }
     {
         self.faults = self.faults.saturating_add(1);
+        self.cause = cause;
         Err(DeviceFault)
+    }
+
+    /// What the system said of the call that failed last; none where no call failed, or the count of calls was spent.
+    pub fn cause(&self) -> Option<io::Error> {
+        self.cause
     }
 }
 
@@ -125,55 +136,66 @@ impl<S: Start> FileDevice<S> {
         rt: &R,
         path: &str,
         sectors: u64,
-        _start: S,
+        start: S,
     ) -> Result<FileDevice<S>, FileFault>
         ensures unused { IfOk result (IsUnused ⟦<HostFile as FileCalls>⟧.entries) }
         ensures len { IfOk result (λ device. device_len device ≡ sectors) }
         ensures too_long { IsErrOf result FileFault.BadLength ↔ (2 ^ 54 ≤ sectors) }
     {
-        if sectors > MAX_SECTORS {
-            return Err(FileFault::BadLength);
+        match FileDevice::create_or_cause(rt, path, sectors, start) {
+            Ok(device) => Ok(device),
+            Err(refusal) => Err(refusal.fault),
         }
-        let file = OpenOptions::new()
-            .read(true)
-            .write(true)
-            .create(true)
-            .open(rt, path)
-            .map_err(fault_of)?;
-        file.set_len(sectors * SECTOR).map_err(fault_of)?;
-        file.sync_all().map_err(fault_of)?;
-        sync_folder(rt, path).map_err(fault_of)?;
-        Ok(FileDevice::over(HostFile::new(file), sectors))
+    }
+
+    /// `create`, which says with a fault what the system said.
+    pub fn create_or_cause<R: Files<File = File>>(
+        rt: &R,
+        path: &str,
+        sectors: u64,
+        _start: S,
+    ) -> Result<FileDevice<S>, FileRefusal>
+        ensures unused { IfOk result (IsUnused ⟦<HostFile as FileCalls>⟧.entries) }
+        ensures len { IfOk result (λ device. device_len device ≡ sectors) }
+        ensures too_long { 2 ^ 54 ≤ sectors
+            → IsErrAnd result (λ refusal. refusal.fault ≡ FileFault.BadLength) }
+        ensures not_too_long { sectors < 2 ^ 54
+            → IfErr result (λ refusal. refusal.fault ≢ FileFault.BadLength) }
+    {
+        if sectors > MAX_SECTORS {
+            return Err(FileRefusal::from(FileFault::BadLength));
+        }
+        let opened = OpenedFile::open_locked(rt, path, true)?;
+        opened.resize(sectors * SECTOR)?;
+        sync_folder(rt, path)?;
+        Ok(FileDevice::over(HostFile::new(opened.into_file()), sectors))
     }
 
     /// Opens the file at `path`.
     pub fn at<R: Files<File = File>>(
         rt: &R,
         path: &str,
-        _start: S,
+        start: S,
     ) -> Result<FileDevice<S>, FileFault>
         ensures unused { IfOk result (IsUnused ⟦<HostFile as FileCalls>⟧.entries) }
     {
-        let file = OpenOptions::new()
-            .read(true)
-            .write(true)
-            .open(rt, path)
-            .map_err(fault_of)?;
-        let sectors = sectors_in(&file.metadata().map_err(fault_of)?)?;
-        Ok(FileDevice::over(HostFile::new(file), sectors))
+        match FileDevice::at_or_cause(rt, path, start) {
+            Ok(device) => Ok(device),
+            Err(refusal) => Err(refusal.fault),
+        }
     }
-}
 
-// Puts a new file's name on the disk.
-fn sync_folder<R: Files<File = File>>(rt: &R, path: &str) -> io::Result<()> {
-    let folder = match Path::new(path).parent() {
-        Some(parent) if !parent.as_str().is_empty() => parent.as_str(),
-        _ => ".",
-    };
-    match File::open(rt, folder)?.sync_all() {
-        // Some file systems have no sync of a folder.
-        Err(error) if error.kind() == ErrorKind::InvalidInput => Ok(()),
-        synced => synced,
+    /// `at`, which says with a fault what the system said.
+    pub fn at_or_cause<R: Files<File = File>>(
+        rt: &R,
+        path: &str,
+        _start: S,
+    ) -> Result<FileDevice<S>, FileRefusal>
+        ensures unused { IfOk result (IsUnused ⟦<HostFile as FileCalls>⟧.entries) }
+    {
+        let opened = OpenedFile::open_locked(rt, path, false)?;
+        let sectors = opened.sectors()?;
+        Ok(FileDevice::over(HostFile::new(opened.into_file()), sectors))
     }
 }
 
@@ -214,18 +236,18 @@ impl<S: Start, F: FileCalls> Sectors for FileDevice<S, F> {
     }
 
     fn read(&mut self, first: u64, into: &mut [u8]) -> Result<(), DeviceFault> {
-        if self.file.read(first, into).is_err() {
-            return self.fail();
+        if let Err(error) = self.file.read(first, into) {
+            return self.fail(Some(error));
         }
         Ok(())
     }
 
     fn write(&mut self, first: u64, bytes: &[u8]) -> Result<(), DeviceFault> {
         if self.calls == u64::MAX {
-            return self.fail();
+            return self.fail(None);
         }
-        if self.file.write(first, bytes).is_err() {
-            return self.fail();
+        if let Err(error) = self.file.write(first, bytes) {
+            return self.fail(Some(error));
         }
         self.calls += 1;
         Ok(())
@@ -233,10 +255,10 @@ impl<S: Start, F: FileCalls> Sectors for FileDevice<S, F> {
 
     fn sync(&mut self) -> Result<(), DeviceFault> {
         if self.calls == u64::MAX {
-            return self.fail();
+            return self.fail(None);
         }
-        if self.file.sync().is_err() {
-            return self.fail();
+        if let Err(error) = self.file.sync() {
+            return self.fail(Some(error));
         }
         self.calls += 1;
         Ok(())

@@ -8,13 +8,14 @@
 //! - `sectors`: the trait, with what each call promises of an honest device
 //! - `mem_device`: a device in memory, whose calls fail and whose sectors are lost as a test asks
 //! - `file_device`: a device over a plain file
+//! - `opened_file`: that file as it is opened: its lock first, then its length
 //! - `file_calls`, `answer`, `record`: that file's calls, each noted with its answer where only clauses read
 //! - `start`: what is supposed of a file as it is opened
 //! - `laws`: what the model means
 //!
 //! The model is this project's own, and the usual one of a disk with a write cache: a sector is old or new after a stop,
 //! never a mixture within it, and a successful sync makes all earlier writes durable. `specs/Model.antt` and
-//! `specs/Course.antt` say it, `specs/Sectors.antt` what a call's clauses name, `specs/Memory.antt` and
+//! `specs/History.antt` say it, `specs/Sectors.antt` what a call's clauses name, `specs/Memory.antt` and
 //! `specs/FileRecord.antt` the two devices, `specs/Laws.antt` the laws.
 //!
 //! Proved:
@@ -26,8 +27,12 @@
 //! - After a sync there is one image (`one_image_after_a_sync`), within a write each sector is old or new
 //!   (`old_or_new_within_a_write`).
 //!
-//! Trusted, since no proof shows it: that `HostFile` makes each call that it notes, that `create` syncs the file and its
-//! folder, that nobody else writes the file, and that what the next opening finds is an image that the model allows.
+//! - The lock of a file is taken before its length is looked at or set: what does that wants an `OpenedFile` whose lock was
+//!   taken.
+//!
+//! Trusted, since no proof shows it: that `HostFile` makes each call that it notes, that `OpenedFile` asks for the lock and the
+//! system keeps it, that `create` syncs the file and its folder, that nobody writes the file without asking for its lock, and
+//! that what the next opening finds is an image that the model allows.
 #![tactic(auto)]
 
 mod answer;
@@ -35,12 +40,13 @@ mod file_calls;
 mod file_device;
 mod laws;
 mod mem_device;
+mod opened_file;
 mod record;
 mod sectors;
 mod start;
 
 pub use file_calls::{FileCalls, HostFile};
-pub use file_device::{FileDevice, FileFault};
+pub use file_device::{FileDevice, FileFault, FileRefusal};
 pub use laws::{
     a_crash_may_choose_any_image, a_file_can_stay_honest, a_file_is_as_a_device_in_memory,
     old_or_new_within_a_write, one_image_after_a_sync,

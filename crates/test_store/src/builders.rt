@@ -1,6 +1,7 @@
 //! What the examples share: sectors, states as bytes, and stores.
 
 use checkpoint::{format, format_with};
+use recover::{Opened, Session};
 use sector_disk::{DeviceFault, MemDevice, SECTOR_SIZE, Sectors};
 use state_codec::decode_state;
 use std::alloc::Global;
@@ -78,4 +79,11 @@ pub fn loaded_store(alloc: Global) -> Result<MemDevice, Fail> {
     let mut device = MemDevice::new(alloc, SECTORS)?;
     format_with(alloc, &mut device, &decode_state(alloc, &LOADED)?)?;
     Ok(device)
+}
+
+pub fn open(alloc: Global, device: MemDevice) -> Result<Opened<MemDevice>, Fail> {
+    match Session::open(alloc, device) {
+        Ok(opened) => Ok(opened),
+        Err((fault, _)) => Err(fault.into()),
+    }
 }

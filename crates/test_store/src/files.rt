@@ -4,6 +4,8 @@ use crate::builders::{read_sector, write_sector};
 use sector_disk::{FileDevice, FileFault, Sectors, Unknown};
 use std::fs;
 use std::fs::{File, Files};
+use std::io::ErrorKind;
+use std::os::unix::fs::MetadataExt;
 use std::test::Fail;
 
 fn file_len(rt: &HostRuntime, path: &str) -> Result<u64, Fail> {
@@ -91,6 +93,30 @@ fn an_empty_file_becomes_zeros(rt: HostRuntime) -> Result<(), Fail> {
     Ok(fs::remove_file(&rt, path)?)
 }
 
+#[test]
+fn a_new_file_has_no_hole(rt: HostRuntime) -> Result<(), Fail> {
+    let path = "whole.disk";
+    FileDevice::create(&rt, path, 8450, Unknown)?;
+    let blocks = fs::metadata(&rt, path)?.blocks();
+    assert!(rt; blocks >= 8450);
+    Ok(fs::remove_file(&rt, path)?)
+}
+
+#[test]
+fn a_file_is_one_devices_at_a_time(rt: HostRuntime) -> Result<(), Fail> {
+    let path = "used.disk";
+    let mut device = FileDevice::create(&rt, path, 3, Unknown)?;
+    write_sector(&rt, &mut device, 0, &[7; 512])?;
+    assert!(rt; fault_at(&rt, path) == Some(FileFault::InUse));
+    assert!(rt; fault_of_making(&rt, path, 1) == Some(FileFault::InUse));
+    // The file that is in use was neither cut nor written.
+    assert!(rt; read_sector(&rt, &mut device, 0) == Some([7; 512]));
+    assert!(rt; file_len(&rt, path)? == 1536);
+    drop(device);
+    assert!(rt; fault_at(&rt, path).is_none());
+    Ok(fs::remove_file(&rt, path)?)
+}
+
 // Why there is no device at this path.
 fn fault_at(rt: &HostRuntime, path: &str) -> Option<FileFault> {
     FileDevice::at(rt, path, Unknown).err()
@@ -109,6 +135,28 @@ fn what_is_no_device_is_told(rt: HostRuntime) {
         fault_of_making(&rt, "no/folder.disk", 1),
         Some(FileFault::NoFile)
     );
+}
+
+// The kind of the system's words, where there is no device at this path.
+fn cause_at(rt: &HostRuntime, path: &str) -> Option<ErrorKind> {
+    let refusal = FileDevice::at_or_cause(rt, path, Unknown).err()?;
+    Some(refusal.cause?.kind())
+}
+
+// The same, where none is made.
+fn cause_of_making(rt: &HostRuntime, path: &str) -> Option<ErrorKind> {
+    let refusal = FileDevice::create_or_cause(rt, path, 1, Unknown).err()?;
+    Some(refusal.cause?.kind())
+}
+
+#[test]
+fn the_words_of_the_system_are_kept(rt: HostRuntime) {
+    assert!(rt; cause_at(&rt, "missing.disk") == Some(ErrorKind::NotFound));
+    assert!(rt; cause_at(&rt, ".") == Some(ErrorKind::IsADirectory));
+    assert!(rt; cause_of_making(&rt, "no/folder.disk") == Some(ErrorKind::NotFound));
+    // A device of the system opens, and is no plain file.
+    assert!(rt; fault_of_making(&rt, "/dev/null", 1) == Some(FileFault::NoFile));
+    assert!(rt; cause_of_making(&rt, "/dev/null").is_none());
 }
 
 #[test]
@@ -130,7 +178,10 @@ fn a_failed_read_counts(rt: HostRuntime) -> Result<(), Fail> {
     let mut device = FileDevice::create(&rt, path, 2, Unknown)?;
     // Somebody cuts the file, so a read of its end is short.
     fs::write(&rt, path, [0u8; 700].as_slice())?;
+    assert!(rt; device.cause().is_none());
     assert!(rt; read_sector(&rt, &mut device, 1).is_none());
+    let cause = device.cause().map(|error| error.kind());
+    assert!(rt; cause == Some(ErrorKind::UnexpectedEof));
     assert!(rt; write_sector(&rt, &mut device, 0, &[1; 512]).is_ok());
     assert!(rt; (device.calls(), device.faults()) == (1, 1));
     Ok(fs::remove_file(&rt, path)?)

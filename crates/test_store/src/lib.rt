@@ -6,6 +6,8 @@
 //! - `codecs`: states and records as bytes
 //! - `checkpoints`: what a device holds
 //! - `recoveries`: sessions, stops and opening
+//! - `rounds`: a store that is stopped and opened again and again
+//! - `upgrades`: stores of version 1, taken over
 //!
 //! Proved is that no step of them fails and no `requires` is broken.
 #![tactic(auto)]
@@ -22,3 +24,7 @@ mod devices;
 mod files;
 #[cfg(test)]
 mod recoveries;
+#[cfg(test)]
+mod rounds;
+#[cfg(test)]
+mod upgrades;

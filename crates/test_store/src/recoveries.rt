@@ -1,11 +1,11 @@
 //! Sessions over a store: commands, stops and recovery.
 
 use crate::builders::{
-    LOADED, SECTORS, empty_store, header, loaded_store, sector_of, write_sector,
+    LOADED, SECTORS, empty_store, header, loaded_store, open, sector_of, write_sector,
 };
 use checkpoint::{Place, StoreFault, commit_record};
 use command_core::{Command, Refusal, Spot, State};
-use recover::{Denial, Opened, Session};
+use recover::{Denial, Session};
 use sector_disk::{MemDevice, Sectors};
 use state_codec::{CodecFault, decode_state};
 use std::alloc::Global;
@@ -16,13 +16,6 @@ fn load(alloc: Global) -> Result<Command, Fail> {
     match decode_state(alloc, &LOADED)? {
         State::Loaded(job) => Ok(Command::Load(job.problem.copy()?, 0)),
         State::Empty => Err(StoreFault::NotFormatted.into()),
-    }
-}
-
-fn open(alloc: Global, device: MemDevice) -> Result<Opened<MemDevice>, Fail> {
-    match Session::open(alloc, device) {
-        Ok(opened) => Ok(opened),
-        Err((fault, _)) => Err(fault.into()),
     }
 }
 

@@ -14,5 +14,5 @@ returns-clause-found g c honest =
     let steps : c.saturating_sub.result ≡ steps_in state - steps_in loaded.state = search rules in
     let accepted = subst (λ (commands : List Command). AreAccepted loaded.state commands) c.deref.ensures.value c.in_ok-state.ensures.accepted in
     let leads = subst (λ (commands : List Command). after loaded.state commands ≡ state) c.deref.ensures.value c.in_ok-state.ensures.leads in
-    subst (λ (n : ℕ). IsRepeated image state loaded.place n) (sym steps)
-    (repeated image loaded.state loaded.commands.items loaded.place (c.in_ok-loaded.ensures.found honest) accepted c.in_ok-loaded.ensures.standing.used state leads)
+    subst (λ (n : ℕ). IsRepeated c.args.version image state loaded.place n) (sym steps)
+    (repeated c.args.version image loaded.state loaded.commands.items loaded.place (c.in_ok-loaded.ensures.found honest) c.in_ok-loaded.ensures.standing.used accepted state leads)

@@ -6,7 +6,7 @@ use Rattle.command_core.specs.declared.commands.Command.{Command}
 use Rattle.recover.specs.declared.replies.Reply.{Reply}
 use Rattle.recover.specs.Applying.{IsRun}
 use Rattle.recover.proofs.RunLemmas.{run_more, honest_back, run_leaves}
-use Rattle.recover.proofs.sessions.Session.run.Goals as goal
+use Rattle.recover.proofs.sessions.Session.run_into.Goals as goal
 
 nothing_left : {X : Type 0} (l : List X) → length l ≡ 0 → l ≡ []
 nothing_left [] h = refl

@@ -1,0 +1,78 @@
+-- Rounds, one after another, as a fold over states.
+use Rattle.std.proofs.Common.{◌≡◌, ℕ, List, [], ◌∷◌, take, sym, ◌∙◌, ap, subst}
+use Rattle.sector_disk.specs.declared.mem_device.MemDevice.{MemDevice}
+use Rattle.plan_audit.specs.Locality.{TestsSayPass}
+use Rattle.command_core.specs.Runs.{after, AreAccepted}
+use Rattle.command_core.specs.RunLaws.{RunsKeepFacts, PlansNeverCostMore, RunsAreOneSearch, IsNoWorse}
+use Rattle.command_core.specs.declared.states.State.{State}
+use Rattle.command_core.specs.declared.commands.Command.{Command}
+use Rattle.recover.specs.declared.replies.Run.{Run}
+use Rattle.recover.specs.declared.rounds.Round.{Round}
+use Rattle.state_codec.specs.declared.version.Version.TheVariants.{Two}
+use Rattle.recover.specs.StandsFor.{StandsFor}
+use Rattle.recover.specs.Replies.{kept}
+use Rattle.recover.specs.Sessions.{SessionValue}
+use Rattle.recover.specs.Rounds.{seen_in, AreRounds, IsOpened, EndsRounds}
+use Rattle.recover.specs.Folds.{AreCounts, standing, LeadsTo, IsFold}
+use Rattle.recover.proofs.Headlines.{passing, stands_state}
+use Rattle.recover.proofs.StepLemmas.{after-append, accepted-append}
+use Rattle.recover.proofs.RoundLemmas.{reads_possible}
+
+-- the commands of the rounds that stand lead from what the device stood for to what it stands for now
+record Folds (begun : State) (rounds : List Round) (runs : List Run) (left : MemDevice) : Type 0 where
+  pub counts : List ℕ
+  pub one_each : AreCounts rounds runs counts
+  pub accepted : AreAccepted begun (standing rounds runs counts)
+  pub stands : StandsFor Two (seen_in left) (after begun (standing rounds runs counts))
+
+folds : (rounds : List Round) (runs : List Run) (device left : MemDevice) (begun : State) → AreRounds device rounds runs left → StandsFor Two (seen_in device) begun → Folds begun rounds runs left
+folds [] [] device left begun are stands = record { counts = []; one_each = tt; accepted = tt; stands = subst (λ (d : MemDevice). StandsFor Two (seen_in d) begun) (sym are) stands }
+folds (round ∷ rounds) (run ∷ runs) device left begun are stands =
+    let here = are.1 in
+    let some = here.images (seen_in are.0) (reads_possible are.0) in
+    let mine : List Command = take some.count (kept round.commands.items run.replies.items) in
+    let same : here.first.state ≡ begun = here.opened.alone begun stands in
+    let rest = folds rounds runs are.0 left (after begun mine) are.2 (subst (λ (s : State). StandsFor Two (seen_in are.0) (after s mine)) same some.stands) in
+    let more : List Command = standing rounds runs rest.counts in record {
+      counts = some.count ∷ rest.counts;
+      one_each = (record { all_acknowledged = some.all_acknowledged; one_more = some.one_more; within = some.within }, rest.one_each);
+      accepted = accepted-append begun mine more (subst (λ (s : State). AreAccepted s mine) same some.accepted) rest.accepted;
+      stands = subst (λ (s : State). StandsFor Two (seen_in left) s) (sym (after-append begun mine more)) rest.stands;
+    }
+folds [] (run ∷ runs) device left begun are stands = elim are [ ]
+folds (round ∷ rounds) [] device left begun are stands = elim are [ ]
+
+-- what the device stood for at first
+record Begins (device : MemDevice) : Type 0 where
+  pub begun : State
+  pub stands : StandsFor Two (seen_in device) begun
+
+begins : (rounds : List Round) (runs : List Run) (device left : MemDevice) (session : SessionValue MemDevice) → AreRounds device rounds runs left → IsOpened left session → Begins device
+begins [] [] device left session are opened = record { begun = session.state; stands = subst (λ (d : MemDevice). StandsFor Two (seen_in d) session.state) are opened.stands }
+begins (round ∷ rounds) (run ∷ runs) device left session are opened = record { begun = are.1.first.state; stands = are.1.opened.stands }
+begins [] (run ∷ runs) device left session are opened = elim are [ ]
+begins (round ∷ rounds) [] device left session are opened = elim are [ ]
+
+module _ (keep : RunsKeepFacts) (never_more : PlansNeverCostMore) (one_search : RunsAreOneSearch) (say : TestsSayPass) where
+  leads_to : (begun : State) (commands : List Command) (given : State) (image : List ℕ) → AreAccepted begun commands → given ≡ after begun commands → StandsFor Two image given
+      → LeadsTo begun commands given
+  leads_to begun commands given image accepted same stands = record {
+    accepted = accepted;
+    state = same;
+    plan = passing say given (stands_state keep never_more say image given stands);
+    cost = λ q from to. subst (λ (s : State). IsNoWorse (after begun (take q commands)) s) (sym same) (never_more begun commands q accepted from to).0;
+    search = λ before searches job split all reached.
+        same ∙ sym (ap (after begun) split) ∙ after-append begun before searches ∙ ap (λ (s : State). after s searches) reached ∙ one_search job searches all;
+  }
+
+  pub is_fold : (device : MemDevice) (rounds : List Round) (runs : List Run) (session : SessionValue MemDevice) → EndsRounds device rounds runs session
+      → IsFold (seen_in device) rounds runs session.state
+  is_fold device rounds runs session ends =
+      let at = begins rounds runs device ends.left session ends.done ends.opened in
+      let all = folds rounds runs device ends.left at.begun ends.done at.stands in record {
+        begun = at.begun;
+        stands = at.stands;
+        counts = all.counts;
+        one_each = all.one_each;
+        leads = leads_to at.begun (standing rounds runs all.counts) session.state (seen_in ends.left) all.accepted (ends.opened.alone _ all.stands) ends.opened.stands;
+      }

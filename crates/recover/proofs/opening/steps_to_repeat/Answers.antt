@@ -1,0 +1,14 @@
+use Rattle.std.proofs.Common.{◌≡◌, ◌^◌, ◌<◌, List, subst}
+use Rattle.std.specs.Prelude.{sum_by}
+use Rattle.command_core.specs.Runs.{steps_of}
+use Rattle.command_core.specs.declared.commands.Command.{Command}
+use Rattle.state_codec.specs.declared.version.Version.TheVariants.{Two}
+use Rattle.recover.proofs.Replays.{to_repeat}
+use Rattle.recover.proofs.opening.steps_to_repeat.Goals as goal
+
+pub returns-clause-found : goal.returns-clause-found
+returns-clause-found g c honest =
+    let loaded = c.in_ok-loaded.loaded in
+    to_repeat Two (g.D.Sectors.seen c.args.device.now) loaded.state loaded.commands.items loaded.place (c.in_ok-loaded.ensures.found honest) c.in_ok-loaded.ensures.standing.used
+    c.images_hold_one_thing.ensures.one c.steps_among.result
+    (subst (λ (cs : List Command). sum_by steps_of cs < 2 ^ 64 → c.steps_among.result ≡ sum_by steps_of cs) c.deref.ensures.value c.steps_among.ensures)

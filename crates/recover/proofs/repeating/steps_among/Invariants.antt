@@ -1,0 +1,7 @@
+use Rattle.std.proofs.Common.{◌≡◌, ◌<◌, ◌^◌, take}
+use Rattle.std.specs.Prelude.{sum_by}
+use Rattle.command_core.specs.Runs.{steps_of}
+use Rattle.recover.proofs.repeating.steps_among.Given as goal
+
+abbrev pub invariant-loop-command : goal.invariant-loop-command
+invariant-loop-command l = sum_by steps_of l.commands < 2 ^ 64 → l.steps ≡ sum_by steps_of (take l.command-index l.commands)

@@ -1,0 +1,98 @@
+-- What an upgrade answers, and what it makes of the two devices.
+use Rattle.std.specs.Prelude.{◌≡◌, ◌⊎◌, ℕ, ◌+◌, ◌<◌, List, [], Result, Ok, Err, OnOk, IfOk, ⊤}
+use Rattle.sector_disk.specs.Sectors.{Throughout}
+use Rattle.sector_disk.specs.declared.sectors.Sectors as sectors
+use Rattle.command_core.specs.declared.states.State.{State}
+use Rattle.state_codec.specs.declared.version.Version.TheVariants.{One, Two}
+use Rattle.checkpoint.specs.Layouts.{version_2}
+use Rattle.checkpoint.specs.Stores.{IsUnformatted}
+use Rattle.checkpoint.specs.Holds.{Holds}
+use Rattle.checkpoint.specs.Holdless.{IsOfLoad, UnlessUnread}
+use Rattle.checkpoint.specs.Moments.{IsInFormat}
+use Rattle.checkpoint.specs.Refused.{faults_of_store, faults_of_format}
+use Rattle.checkpoint.specs.declared.faults.FormatFault.TheVariants as format
+use Rattle.checkpoint.specs.declared.faults.StoreFault.TheVariants.{NotFormatted}
+use Rattle.checkpoint.specs.declared.places.Place.{Place}
+use Rattle.recover.specs.declared.upgrading.UpgradeFault.{UpgradeFault}
+use Rattle.recover.specs.declared.upgrading.UpgradeFault.TheVariants.{Old, New}
+use Rattle.recover.specs.Applying.{IsBetween}
+use Rattle.recover.specs.Opening.{StandsForNone}
+use Rattle.recover.specs.StandsFor.{StandsFor}
+
+-- where the journal of a new store goes on
+abbrev pub first_place : Place
+first_place = record { sequence = 1; used = 0 }
+
+-- what holds where the old device's store was read
+abbrev pub OnRead : {T : Type 0} → Result T UpgradeFault → Type 0 → Type 0
+OnRead (Ok x) P = P
+OnRead (Err (Old fault)) P = ⊤
+OnRead (Err (New format.TooSmall)) P = ⊤
+OnRead (Err (New format.DeviceFault)) P = P
+OnRead (Err (New format.OutOfMemory)) P = P
+
+-- what holds where the new device was called
+abbrev pub OnWritten : {T : Type 0} → Result T UpgradeFault → Type 0 → Type 0
+OnWritten (Ok x) P = P
+OnWritten (Err (Old fault)) P = ⊤
+OnWritten (Err (New format.TooSmall)) P = ⊤
+OnWritten (Err (New format.DeviceFault)) P = P
+OnWritten (Err (New format.OutOfMemory)) P = ⊤
+
+-- Each device counts the failed call that is told of it, and no other.
+abbrev pub faults_of_old : {T : Type 0} → Result T UpgradeFault → ℕ → ℕ
+faults_of_old (Ok x) faults = faults
+faults_of_old (Err (Old fault)) faults = faults_of_store fault faults
+faults_of_old (Err (New fault)) faults = faults
+
+abbrev pub faults_of_new : {T : Type 0} → Result T UpgradeFault → ℕ → ℕ
+faults_of_new (Ok x) faults = faults
+faults_of_new (Err (Old fault)) faults = faults
+faults_of_new (Err (New fault)) faults = faults_of_format fault faults
+
+-- What a refusal leaves as it was: both devices where the new one is too small, else the new one unless it failed.
+abbrev pub IsKeptByUpgrade : {D E : Type 0} → UpgradeFault → D → D → E → E → Type 0
+IsKeptByUpgrade (Old fault) old old_after new new_after = new_after ≡ new
+IsKeptByUpgrade (New format.TooSmall) old old_after new new_after = (old_after ≡ old) × (new_after ≡ new)
+IsKeptByUpgrade (New format.DeviceFault) old old_after new new_after = ⊤
+IsKeptByUpgrade (New format.OutOfMemory) old old_after new new_after = new_after ≡ new
+
+module _ {D : Type 0} (on : sectors.Ghosts D) where
+  -- The old device is synced and read, and never written to: at each moment each of its images is one of those at entry.
+  pub record IsReadOnly {T : Type 0} (answer : Result T UpgradeFault) (old after : D) : Type 0 where
+    pub same_len : on.len after ≡ on.len old
+    pub finished : OnRead answer (on.calls after ≡ on.calls old + 1)
+    pub fault : on.faults after ≡ faults_of_old answer (on.faults old)
+    pub honest : on.honest after → on.honest old
+    pub moments : on.honest after → Throughout on.clock on.possible_since old after (λ m image. IsBetween (on.calls old) (on.calls old + 1) m image × on.possible old image)
+    pub small : on.len old < 802 → after ≡ old
+    pub told : on.len old < 802 → (answer ≡ Err (Old NotFormatted)) ⊎ (answer ≡ Err (New format.TooSmall))
+
+  -- Why the old store is refused: its image stands for no state of version 1, or memory was refused or the device failed.
+  abbrev pub IsOfOldStore : UpgradeFault → D → D → Type 0
+  IsOfOldStore (Old fault) old after = IsOfLoad fault × (on.honest after → UnlessUnread (StandsForNone One (on.seen old)) fault)
+  IsOfOldStore (New fault) old after = ⊤
+
+module _ {E : Type 0} (on : sectors.Ghosts E) where
+  -- The new device gets the six calls of a format, or none.
+  pub record IsWrittenAnew {T : Type 0} (answer : Result T UpgradeFault) (new after : E) : Type 0 where
+    pub same_len : on.len after ≡ on.len new
+    pub finished : OnOk answer (on.calls after ≡ on.calls new + 6)
+    pub fault : on.faults after ≡ faults_of_new answer (on.faults new)
+    pub honest : on.honest after → on.honest new
+
+module _ {D E : Type 0} (on_old : sectors.Ghosts D) (on_new : sectors.Ghosts E) where
+  -- What a refusal tells of the old store, and what it leaves.
+  abbrev pub IsRefusal : UpgradeFault → D → D → E → E → Type 0
+  IsRefusal fault old old_after new new_after = IsOfOldStore on_old fault old old_after × IsKeptByUpgrade fault old old_after new new_after
+
+  -- The new store is made of the state that the old device stood for. From the first successful sync to the header's write each image of the
+  -- new device is unformatted; after Ok each holds that state and no command, and so stands for it.
+  pub record IsMadeOfOld (answer : Result Place UpgradeFault) (old old_after : D) (new new_after : E) : Type 0 where
+    pub state : State
+    pub stood : on_old.honest old_after → StandsFor One (on_old.seen old) state
+    pub place : IfOk answer (λ place. place ≡ first_place)
+    pub moments : on_new.honest new_after
+        → Throughout on_new.clock on_new.possible_since new new_after (IsInFormat (IsUnformatted version_2) (λ image. Holds Two image state [] first_place) (on_new.calls new))
+    pub holds : on_new.honest new_after → OnOk answer ((image : List ℕ) → on_new.possible new_after image → Holds Two image state [] first_place)
+    pub stands : on_new.honest new_after → OnOk answer ((image : List ℕ) → on_new.possible new_after image → StandsFor Two image state)

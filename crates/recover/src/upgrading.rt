@@ -1,0 +1,73 @@
+//! A store of version 1 is taken over into one of the version that is written.
+//!
+//! The old device is read as `open` reads one, by version 1's bytes and limits, and the new one made as `format` makes it, with the
+//! state that was read. So version 1 has no writer, and the old store stays as it was.
+ghost use Rattle.std.specs.Prelude.{◌≡◌, ◌<◌, ◌↔◌, IfErr, IsErrOf};
+ghost use Rattle.recover.specs.Names.{upgrade_fault_name};
+ghost use Rattle.recover.specs.Upgrading.{OnWritten, IsMadeOfOld, IsReadOnly, IsRefusal, IsWrittenAnew};
+
+use crate::opening::recover;
+use checkpoint::{FormatFault, Place, StoreFault, format_with};
+use sector_disk::Sectors;
+use state_codec::version::Version;
+use std::alloc::Global;
+use thiserror::Error;
+
+/// The sectors of a store.
+const SECTORS: u64 = 8450;
+
+/// Why a store was not upgraded.
+#[derive(Clone, Copy, Debug, PartialEq, Eq, Error)]
+pub enum UpgradeFault {
+    /// The old device's store was not read, and the new device not called.
+    #[error("the old store: {0}")]
+    Old(StoreFault),
+    /// The new device's store was not made. After `DeviceFault` it has none until one is made.
+    #[error("the new store: {0}")]
+    New(FormatFault),
+}
+
+impl UpgradeFault {
+    /// The name of the fault within, as answers print it.
+    pub fn name(&self) -> &'static str
+        ensures { result.now ≡ upgrade_fault_name self.now }
+    {
+        match self {
+            UpgradeFault::Old(fault) => fault.name(),
+            UpgradeFault::New(fault) => fault.name(),
+        }
+    }
+}
+
+/// Makes a store on the new device, of the state that the old one's store of version 1 stands for.
+///
+/// `New(TooSmall)` below 8,450 sectors, before either device is called. Then the old device is synced and read and the commands of its
+/// records are repeated, all by version 1's limits; it is never written to, so that it stands for its state at each moment, also where the
+/// upgrade is refused. Then the new device gets the six calls of a format. From its first sync to its header's write each image of it is
+/// `NotFormatted`, and after `Ok` each stands for the old one's state. Want of memory for the snapshot comes before the first of these calls.
+pub fn upgrade<D: Sectors, E: Sectors>(
+    alloc: Global,
+    old: &mut D,
+    new: &mut E,
+) -> Result<Place, UpgradeFault>
+    ensures too_small { IsErrOf result (UpgradeFault.New FormatFault.TooSmall)
+        ↔ E.len new.old < 8450 }
+    ensures refused { IfErr result (λ fault.
+        IsRefusal D.Sectors E.Sectors fault old.old old.new new.old new.new) }
+    ensures reads { IsReadOnly D.Sectors result old.old old.new }
+    ensures writes { IsWrittenAnew E.Sectors result new.old new.new }
+    ensures makes { OnWritten result
+        (IsMadeOfOld D.Sectors E.Sectors result old.old old.new new.old new.new) }
+{
+    if new.len() < SECTORS {
+        return Err(UpgradeFault::New(FormatFault::TooSmall));
+    }
+    let found = match recover(alloc, old, Version::One) {
+        Ok(found) => found,
+        Err(fault) => return Err(UpgradeFault::Old(fault)),
+    };
+    match format_with(alloc, new, &found.state) {
+        Ok(place) => Ok(place),
+        Err(fault) => Err(UpgradeFault::New(fault)),
+    }
+}

@@ -1,0 +1,275 @@
+//! Lists of rounds by a generator: what each round leaves is what the fold over rounds allows.
+
+use crate::examples::{applied, failed, load_three};
+use crate::stops::{SECTORS, fresh, open};
+use command_core::{Command, Spot, State, check};
+use recover::{Denial, Halt, Round, Run, Session, run_round, run_rounds};
+use sector_disk::MemDevice;
+use state_codec::{decode_state, encode_state};
+use std::alloc::Global;
+use std::io;
+
+/// How many lists there are.
+const LISTS: u64 = 200;
+
+/// Knuth's linear congruential generator (MMIX), of which the upper bits count.
+#[derive(Drop)]
+struct Random {
+    state: u64,
+}
+
+impl Random {
+    /// The numbers of a round, by its list and its place there.
+    fn of_round(list: u64, place: u64) -> Random {
+        let mut random = Random {
+            state: list.wrapping_mul(64).wrapping_add(place),
+        };
+        random.step();
+        random
+    }
+
+    fn step(&mut self) {
+        self.state = self
+            .state
+            .wrapping_mul(6_364_136_223_846_793_005)
+            .wrapping_add(1_442_695_040_888_963_407);
+    }
+
+    fn below(&mut self, bound: u32) -> u32 {
+        self.step();
+        ((self.state >> 32) as u32).checked_rem(bound).unwrap_or(0)
+    }
+}
+
+// A command: some are refused, by the state that they meet.
+fn command_of(alloc: Global, random: &mut Random) -> io::Result<Command> {
+    Ok(match random.below(12) {
+        0 => load_three(alloc)?,
+        1 | 2 => Command::Build,
+        3 | 4 | 5 => Command::Search(random.below(65) as u16),
+        6 => Command::Deviation(random.below(20)),
+        7 => Command::Pin(random.below(3), random.below(3)),
+        8 => Command::Unpin(random.below(3)),
+        9 => Command::Withdraw(random.below(5)),
+        10 => added(random),
+        _ => Command::Checkpoint,
+    })
+}
+
+fn added(random: &mut Random) -> Command {
+    Command::Add1 {
+        demand: random.below(4),
+        spot: Spot {
+            x: random.below(9) as i32,
+            y: random.below(9) as i32,
+            earliest: 0,
+            latest: random.below(100),
+            service: 0,
+        },
+    }
+}
+
+// Up to five commands; of the first round a load stands before them.
+fn commands_of(alloc: Global, random: &mut Random, place: u64) -> io::Result<Vec<Command>> {
+    let mut commands = Vec::new(alloc);
+    if place == 0 {
+        commands.push(load_three(alloc)?)?;
+    }
+    for _ in 0..random.below(6) {
+        commands.push(command_of(alloc, random)?)?;
+    }
+    Ok(commands)
+}
+
+// Of four rounds three are stopped, after any number of calls that their commands may make, with any choice for each sector.
+fn halt_of(alloc: Global, random: &mut Random) -> io::Result<Option<Halt>> {
+    if random.below(4) == 0 {
+        return Ok(None);
+    }
+    let calls = u64::from(random.below(14));
+    let mut choices = Vec::with_capacity(alloc, SECTORS as usize)?;
+    for _ in 0..SECTORS {
+        choices.push(random.below(4))?;
+    }
+    Ok(Some(Halt { calls, choices }))
+}
+
+fn round_of(alloc: Global, list: u64, place: u64) -> io::Result<Round> {
+    let mut random = Random::of_round(list, place);
+    let commands = commands_of(alloc, &mut random, place)?;
+    let stop = halt_of(alloc, &mut random)?;
+    Ok(Round { commands, stop })
+}
+
+/// What a round left.
+#[derive(Drop)]
+struct Left {
+    /// The state, as bytes.
+    state: Vec<u8>,
+    /// What the commands were answered.
+    answers: Vec<Result<(), Denial>>,
+}
+
+// Carries out a round, and opens the device to see what it left.
+fn left_by(alloc: Global, device: MemDevice, round: Round) -> io::Result<(Left, MemDevice)> {
+    match run_round(alloc, device, round) {
+        Ok((run, device)) => left_of(alloc, &run, open(alloc, device)?.session),
+        Err(_) => Err(failed()),
+    }
+}
+
+fn left_of(alloc: Global, run: &Run, session: Session<MemDevice>) -> io::Result<(Left, MemDevice)> {
+    let left = Left {
+        state: encode_state(alloc, session.state())?,
+        answers: answers_of(alloc, run)?,
+    };
+    Ok((left, session.close()))
+}
+
+fn answers_of(alloc: Global, run: &Run) -> io::Result<Vec<Result<(), Denial>>> {
+    let mut answers = Vec::with_capacity(alloc, run.replies.len())?;
+    for reply in &run.replies {
+        answers.push(reply.answer)?;
+    }
+    Ok(answers)
+}
+
+/// What a round left, beside its answers.
+#[derive(Clone, Copy, PartialEq, Eq)]
+enum Outcome {
+    /// The state after all acknowledged commands, and no call failed.
+    Whole,
+    /// That state, where the device failed in a command.
+    Without,
+    /// The state after that command.
+    With,
+    /// None of these, or an answer that the fold does not give.
+    Other,
+}
+
+fn is_left(alloc: Global, state: &State, left: &Left) -> io::Result<bool> {
+    Ok(encode_state(alloc, state)?.as_slice() == left.state.as_slice())
+}
+
+// What a round left that began from this state.
+fn outcome_of(
+    alloc: Global,
+    list: u64,
+    place: u64,
+    begun: &[u8],
+    left: &Left,
+) -> io::Result<Outcome> {
+    let commands = commands_of(alloc, &mut Random::of_round(list, place), place)?;
+    match decode_state(alloc, begun) {
+        Ok(begun) if left.answers.len() == commands.len() => repeated(
+            alloc, begun, &commands, left,
+        ),
+        _ => Ok(Outcome::Other),
+    }
+}
+
+// Its commands are applied once more, by their answers.
+fn repeated(alloc: Global, begun: State, commands: &[Command], left: &Left) -> io::Result<Outcome> {
+    let mut state = begun;
+    for (command, answer) in commands.iter().zip(&left.answers) {
+        match answer {
+            Ok(()) => state = applied(alloc, &state, command)?,
+            Err(Denial::DeviceFault) => return broken_off(alloc, &state, command, left),
+            Err(Denial::Core(refusal)) if check(&state, command) == Err(*refusal) => {}
+            Err(_) => return Ok(Outcome::Other),
+        }
+    }
+    Ok(if is_left(alloc, &state, left)? {
+        Outcome::Whole
+    } else {
+        Outcome::Other
+    })
+}
+
+// The same of a command in which the device failed.
+fn broken_off(alloc: Global, state: &State, command: &Command, left: &Left) -> io::Result<Outcome> {
+    if is_left(alloc, state, left)? {
+        return Ok(Outcome::Without);
+    }
+    if is_left(alloc, &applied(alloc, state, command)?, left)? {
+        return Ok(Outcome::With);
+    }
+    Ok(Outcome::Other)
+}
+
+/// How often each outcome was met.
+#[derive(Default, Drop)]
+struct Outcomes {
+    whole: u32,
+    without: u32,
+    with: u32,
+    other: u32,
+}
+
+impl Outcomes {
+    fn add(&mut self, outcome: Outcome) {
+        let count = match outcome {
+            Outcome::Whole => &mut self.whole,
+            Outcome::Without => &mut self.without,
+            Outcome::With => &mut self.with,
+            Outcome::Other => &mut self.other,
+        };
+        *count = count.saturating_add(1);
+    }
+
+    fn print<R: Print>(&self, rt: &R) -> io::Result<()> {
+        println!(rt;
+            "{} {} {} {}",
+            self.whole > 0,
+            self.without > 0,
+            self.with > 0,
+            self.other > 0
+        )
+    }
+}
+
+// How many rounds a list has, 1..=8.
+fn len_of(list: u64) -> u64 {
+    u64::from(Random::of_round(list, 63).below(8)).saturating_add(1)
+}
+
+// Carries out the rounds of a list one by one, adds their outcomes, and gives the state that is left.
+fn add_list(alloc: Global, list: u64, outcomes: &mut Outcomes) -> io::Result<Vec<u8>> {
+    let mut device = fresh(alloc)?;
+    let mut state = encode_state(alloc, &State::Empty)?;
+    for place in 0..len_of(list) {
+        let (left, next) = left_by(alloc, device, round_of(alloc, list, place)?)?;
+        outcomes.add(outcome_of(alloc, list, place, &state, &left)?);
+        state = left.state;
+        device = next;
+    }
+    Ok(state)
+}
+
+// The state that `run_rounds` leaves of all rounds of a list.
+fn left_by_all(alloc: Global, list: u64) -> io::Result<Vec<u8>> {
+    let mut rounds = Vec::new(alloc);
+    for place in 0..len_of(list) {
+        rounds.push(round_of(alloc, list, place)?)?;
+    }
+    match run_rounds(alloc, fresh(alloc)?, rounds) {
+        Ok(rounds) => Ok(encode_state(alloc, rounds.session.state())?),
+        Err(_) => Err(failed()),
+    }
+}
+
+/// Prints whether each round of 200 lists left what the fold allows, and all of them together what they left one by one.
+pub(crate) fn print_rounds<R: Print>(rt: &R, alloc: Global) -> io::Result<()> {
+    println!(rt;
+        "{LISTS} lists of up to 8 rounds: whether rounds were met that no stop broke off, that lost the command then, that kept it, others"
+    )?;
+    let mut outcomes = Outcomes::default();
+    let mut same: u64 = 0;
+    for list in 0..LISTS {
+        if add_list(alloc, list, &mut outcomes)? == left_by_all(alloc, list)? {
+            same = same.saturating_add(1);
+        }
+    }
+    outcomes.print(rt)?;
+    println!(rt; "the same state at once: {same}")
+}
