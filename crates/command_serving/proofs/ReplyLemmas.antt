@@ -9,9 +9,9 @@ use Rattle.command_core.specs.declared.commands.Command.TheVariants as command
 use Rattle.command_core.specs.declared.refusals.Refusal.TheVariants as core
 use Rattle.command_core.specs.declared.states.State.{State}
 use Rattle.command_core.specs.declared.states.State.TheVariants.{Empty, Loaded}
-use Rattle.command_text.specs.Answering.{Fate, Done, NoMemory, Failed, Reply, Serving, answered, by_fate, load, next_fate, plain, printed, shown, told, tried, unless_broken, with_text}
+use Rattle.command_text.specs.Answering.{Fate, Done, NoMemory, Failed, Reply, Serving, answered, by_fate, load, next_fate, next_stated, plain, printed, shown, stated, told, tried, unless_broken, with_text}
 use Rattle.command_text.specs.Answering.{Spent as SpentFate}
-use Rattle.command_text.specs.Answers.{answer_text, line}
+use Rattle.command_text.specs.Answers.{answer_text, line, next_text}
 use Rattle.command_text.specs.Readings.{IsUnlessMemory}
 use Rattle.command_text.specs.Showing.{print_text, show_text}
 use Rattle.route_sched.specs.Cost.{unplanned_count}
@@ -39,16 +39,25 @@ pub tells_fate : {D : Type 0} (s : SessionValue D) (f : Serving → Reply) (fate
     → Tells s f (line (answer_text a)) s silent
 tells_fate s f fates a says = record { fates = fates; commands = []; says = λ later. says later ∙ answered_is (as_serving s later) a; state = refl; few = omega arith }
 
--- a text, and `ok` behind it
-pub tells_text : {D : Type 0} (s : SessionValue D) (f : Serving → Reply) (text : List ℕ) → ((later : List Fate) → f (as_serving s (Done ∷ later)) ≡ with_text text (answered (as_serving s later) answer.Ok))
+-- a text, and `ok` behind it, after these fates
+tells_text_after : {D : Type 0} (s : SessionValue D) (f : Serving → Reply) (fates : List Fate) (text : List ℕ) → ((later : List Fate) → f (as_serving s (fates ++ later)) ≡ with_text text (answered (as_serving s later) answer.Ok))
     → Tells s f (text ++ line (answer_text answer.Ok)) s silent
-tells_text s f text says = record {
-  fates = Done ∷ [];
+tells_text_after s f fates text says = record {
+  fates = fates;
   commands = [];
   says = λ later. says later ∙ ap (λ (t : List ℕ). record { text = t; commands = []; left = as_serving s later }) (sym (append-nil (text ++ line (answer_text answer.Ok))));
   state = refl;
   few = omega arith;
 }
+
+pub tells_text : {D : Type 0} (s : SessionValue D) (f : Serving → Reply) (text : List ℕ) → ((later : List Fate) → f (as_serving s (Done ∷ later)) ≡ with_text text (answered (as_serving s later) answer.Ok))
+    → Tells s f (text ++ line (answer_text answer.Ok)) s silent
+tells_text s f text says = tells_text_after s f (Done ∷ []) text says
+
+-- a line that is no try
+pub tells_stated : {D : Type 0} (s : SessionValue D) (f : Serving → Reply) (text : List ℕ) → ((later : List Fate) → f (as_serving s later) ≡ stated (as_serving s later) text)
+    → Tells s f (line text ++ line (answer_text answer.Ok)) s silent
+tells_stated s f text says = tells_text_after s f [] (line text) says
 
 -- ---- a session without a job
 
@@ -129,6 +138,9 @@ module _ {D : Type 0} (s : SessionValue D) (j : JobValue) (whole : s.is_broken �
 
   pub show_unmade : Tells s (λ t. unless_broken t (shown t t.state)) (line (answer_text (answer.Refused core.OutOfMemory))) s silent
   show_unmade = tells_fate s (λ t. unless_broken t (shown t t.state)) (NoMemory ∷ []) (answer.Refused core.OutOfMemory) (λ later. with_job shown (as_serving s (NoMemory ∷ later)) j whole is)
+
+  pub next_done : Tells s (λ t. unless_broken t (next_stated t t.state)) (line (next_text j) ++ line (answer_text answer.Ok)) s silent
+  next_done = tells_stated s (λ t. unless_broken t (next_stated t t.state)) (next_text j) (λ later. with_job next_stated (as_serving s later) j whole is)
 
   planned_is : (t : Serving) → (unplanned_count j.problem j.plan == 0) ≡ true → printed t (Loaded j) ≡ told (next_fate t.fates) (tried t) (print_text j)
   planned_is t e = rw e refl

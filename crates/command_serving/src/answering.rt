@@ -5,7 +5,7 @@ ghost use Rattle.std.specs.Prelude.{◌≡◌, ◌≤◌, ◌++◌, IfErr, IfOk,
 ghost use Rattle.std.specs.Io.KnownBytes.{Appends};
 ghost use Rattle.plan_types.specs.Instance.{Instance};
 ghost use Rattle.instance_read.specs.declared.faults.ReadFault.{ReadFault};
-ghost use Rattle.command_text.specs.Answering.{counts_of, plain, printed, refused, searched, searched_or, shown, unless_broken};
+ghost use Rattle.command_text.specs.Answering.{counts_of, next_stated, plain, printed, refused, searched, searched_or, shown, unless_broken};
 ghost use Rattle.command_text.specs.Answering.{steps_to_reach, steps_to_search};
 ghost use Rattle.command_text.specs.Cutting.{pieces_of};
 ghost use Rattle.command_text.specs.Laws.{cut_at};
@@ -22,8 +22,8 @@ use crate::input::{Input, LoadText, Unread};
 use crate::streams::{Failed, Sink, Source};
 use command_core::{Command, Job, Refusal, State};
 use command_text::{
-    Answer, Asked, at_line, next_count, pieces_follow, print, read_instance, show, states_follow,
-    steps_to_reach, steps_to_search,
+    Answer, Asked, at_line, help_lines, next_count, next_line, pieces_follow, print, read_instance,
+    show, states_follow, steps_to_reach, steps_to_search,
 };
 use plan_types::Kind;
 use recover::{Denial, Session};
@@ -166,6 +166,8 @@ fn serve_asked<D: Sectors, R: Source, W: Sink>(
         Asked::Reach(goal) => once(serve_reach(alloc, session, writer, goal), Goes::On),
         Asked::Print => once(serve_print(alloc, session, writer), Goes::On),
         Asked::Show => once(serve_show(alloc, session, writer), Goes::On),
+        Asked::Next => once(serve_next(session, writer), Goes::On),
+        Asked::Help => once(tell_line(writer, help_lines()), Goes::On),
     }
 }
 
@@ -213,6 +215,16 @@ fn tell_text<W: Sink>(writer: &mut W, text: &[u8]) -> Result<(), Failed>
     ensures failed { OnErr result (W.has_failed writer.new ≡ true) }
 {
     writer.put(text)?;
+    tell(writer, Answer::Ok)
+}
+
+// Writes a line, and `ok` behind it.
+fn tell_line<W: Sink>(writer: &mut W, text: &[u8]) -> Result<(), Failed>
+    ensures bytes { Puts (W.contents writer.old) (W.contents writer.new) result
+        (line text.now ++ line (answer_text Answer.Ok)) }
+    ensures failed { OnErr result (W.has_failed writer.new ≡ true) }
+{
+    put_line(writer, text)?;
     tell(writer, Answer::Ok)
 }
 
@@ -442,5 +454,16 @@ fn serve_show<D: Sectors, W: Sink>(
     match show(alloc, job) {
         Ok(text) => tell_text(writer, text.as_bytes()),
         Err(_) => tell(writer, Answer::Refused(Refusal::OutOfMemory)),
+    }
+}
+
+fn serve_next<D: Sectors, W: Sink>(session: &Session<D>, writer: &mut W) -> Result<(), Failed>
+    ensures answers { Answers result session.now (λ s. unless_broken s (next_stated s s.state))
+        (W.contents writer.old) (W.contents writer.new) session.now silent }
+    ensures failed { OnErr result (W.has_failed writer.new ≡ true) }
+{
+    match job_of(session) {
+        Ok(job) => tell_line(writer, next_line(job).as_bytes()),
+        Err(answer) => tell(writer, answer),
     }
 }

@@ -12,11 +12,13 @@
 //!
 //! Modules, in reading order:
 //! - `streams`: `Source`, `Sink`, and `Watched`, which makes one of each reader and writer of std
+//! - `since`: what a writer held at a moment, for clauses alone
+//! - `strict`: `Strict`, a sink whose `flush` fails behind a line that tells a refusal or a failed device
 //! - `ahead`: what was read and not yet taken
 //! - `input`: an input as lines and the bytes that follow a line
 //! - `answering`: `serve`, and a function for each kind of line
 //!
-//! Said by `specs/Served.antt` and `Streams.antt`. Proved of `serve`, where the bytes of the input are known:
+//! Said by `specs/Served.antt`, `Streams.antt` and `Strict.antt`. Proved of `serve`, where the bytes of the input are known:
 //! - `serves`, after `Ok` (`IsServed`): all is served, what is appended is the answer to the input, and the state
 //!   is the one after the commands that were carried out
 //! - `serves`, behind a `ServeFault` (`IsCutShort`): the answers to a first part of the input stand whole, and of
@@ -24,6 +26,9 @@
 //!   the next tells
 //! - `cause` (`HasCause`): `ReadFault` only where the source has failed or the input has 10^12 bytes, `WriteFault` only
 //!   where the sink has failed
+//! - `Strict::stopped`: what the last whole line tells that went through it (`TellsLast`, of `specs/Strict.antt`), unless the
+//!   writer has failed (`last_lines_are_ended` says what that line is); a `flush` that is `Ok` follows a line that tells neither, so serving over it ends behind the first
+//!   answer that does
 //! - what a whole line asks for does not depend on the pieces in which its bytes come (`input`)
 //!
 //! Not excluded by these clauses: a try that answers `OutOfMemory` though there is memory, and a `Watched` that fails
@@ -34,7 +39,10 @@
 mod ahead;
 mod answering;
 mod input;
+mod since;
 mod streams;
+mod strict;
 
 pub use answering::{ServeFault, serve};
 pub use streams::{Failed, Sink, Source, Watched};
+pub use strict::{Stopped, Strict, last_lines_are_ended};

@@ -51,7 +51,7 @@ pub trait Sink {
 /// A reader or a writer, and whether a call of it as a source or a sink has failed.
 #[derive(Drop)]
 pub struct Watched<T> {
-    inner: T,
+    pub(crate) inner: T,
     has_failed: bool,
 }
 
@@ -65,6 +65,13 @@ impl<T> Watched<T> {
             inner,
             has_failed: false,
         }
+    }
+
+    /// Whether a call as a source or a sink has failed.
+    pub fn has_failed(&self) -> bool
+        ensures { result ≡ self.now.has_failed }
+    {
+        self.has_failed
     }
 
     /// The reader or writer itself.
@@ -98,7 +105,11 @@ impl<W: Write> Sink for Watched<W> {
 
     ghost has_failed = { λ w. w.has_failed };
 
-    fn put(&mut self, text: &[u8]) -> Result<(), Failed> {
+    fn put(&mut self, text: &[u8]) -> Result<(), Failed>
+        ensures bytes { Puts (W.contents self.old.inner) (W.contents self.new.inner) result text.now }
+        ensures failed { OnErr result (self.new.has_failed ≡ true) }
+        ensures noted { self.new.has_failed ≡ false → self.old.has_failed ≡ false }
+    {
         let mut written = 0;
         while written < text.len() {
             match write_once(&mut self.inner, &text[written..]) {
@@ -112,7 +123,11 @@ impl<W: Write> Sink for Watched<W> {
         Ok(())
     }
 
-    fn flush(&mut self) -> Result<(), Failed> {
+    fn flush(&mut self) -> Result<(), Failed>
+        ensures bytes { Keeps (W.contents self.old.inner) (W.contents self.new.inner) }
+        ensures failed { OnErr result (self.new.has_failed ≡ true) }
+        ensures noted { self.new.has_failed ≡ false → self.old.has_failed ≡ false }
+    {
         if self.inner.flush().is_err() {
             self.has_failed = true;
             return Err(Failed);

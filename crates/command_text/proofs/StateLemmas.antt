@@ -11,14 +11,14 @@ use Rattle.command_core.specs.declared.states.State.TheVariants.{Empty, Loaded}
 use Rattle.command_core.specs.declared.commands.Command.{Command}
 use Rattle.command_core.specs.declared.commands.Command.TheVariants as command
 use Rattle.command_core.specs.declared.refusals.Refusal.{Refusal}
-use Rattle.command_text.specs.Answering.{Fate, Done, NoMemory, Spent, Failed, Serving, Reply, answered, by_fate, carried, counts_of, load, loaded, next_fate, asked_reply, printed, steps_to_reach, refused, reply, steps_to_search, searched, searched_or, served, shown, told, tried, unless_broken, unless_refused, with_text, at_line}
+use Rattle.command_text.specs.Answering.{Fate, Done, NoMemory, Spent, Failed, Serving, Reply, answered, by_fate, carried, counts_of, load, loaded, next_fate, next_stated, asked_reply, printed, steps_to_reach, refused, reply, steps_to_search, searched, searched_or, served, shown, told, tried, unless_broken, unless_refused, with_text, at_line}
 use Rattle.command_text.specs.Cutting.{Piece, is_short}
 use Rattle.command_text.specs.Laws.{StatesFollow}
 use Rattle.command_text.specs.Readings.{Reading}
 use Rattle.command_text.specs.Showing.{print_text, show_text}
 use Rattle.command_text.specs.declared.answers.Answer.TheVariants as answer
 use Rattle.command_text.specs.declared.asked.Asked.{Asked}
-use Rattle.command_text.specs.declared.asked.Asked.TheVariants.{Nothing, BadLine, BadLoad, LoadRange, Load, Plain, Refused, Search, Reach, Print, Show}
+use Rattle.command_text.specs.declared.asked.Asked.TheVariants.{Nothing, BadLine, BadLoad, LoadRange, Load, Plain, Refused, Search, Reach, Print, Show, Next, Help}
 
 abbrev Follows : Serving → Reply → Type 0
 Follows s r = r.left.state ≡ after s.state r.commands
@@ -65,6 +65,10 @@ prints s Empty = refl
 prints s (Loaded j) =
     one_of (unplanned_count j.problem j.plan == 0) s (told (next_fate s.fates) (tried s) (print_text j)) (answered s answer.Unplanned) (tells (next_fate s.fates) (tried s) (print_text j)) refl
 
+states_next : (s : Serving) (state : State) → Follows s (next_stated s state)
+states_next s Empty = refl
+states_next s (Loaded j) = refl
+
 refuses : (s : Serving) (state : State) (r : Refusal) → Follows s (refused s state r)
 refuses s Empty r = refl
 refuses s (Loaded j) r = refl
@@ -96,6 +100,8 @@ answers reading s (Search n) text short = unbroken s (searched_or s (steps_to_se
 answers reading s (Reach n) text short = unbroken s (searched_or s (steps_to_reach s.state n)) (searches_or s (steps_to_reach s.state n))
 answers reading s Print text short = unbroken s (printed s s.state) (prints s s.state)
 answers reading s Show text short = unbroken s (shown s s.state) (shows s s.state)
+answers reading s Next text short = unbroken s (next_stated s s.state) (states_next s s.state)
+answers reading s Help text short = refl
 
 replies : (reading : Reading) (s : Serving) (p : Piece) → Follows s (reply reading s p)
 unfolding reply

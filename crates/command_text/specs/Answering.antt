@@ -11,14 +11,14 @@ use Rattle.command_core.specs.declared.commands.Command.{Command}
 use Rattle.command_core.specs.declared.commands.Command.TheVariants as command
 use Rattle.command_core.specs.declared.refusals.Refusal.{Refusal}
 use Rattle.command_core.specs.declared.refusals.Refusal.TheVariants.{NoInstance, Range, StepsSpent, OutOfMemory}
-use Rattle.command_text.specs.Answers.{answer_text, at_text, line}
+use Rattle.command_text.specs.Answers.{answer_text, at_text, help_text, line, next_text}
 use Rattle.command_text.specs.Cutting.{Piece, is_short, pieces_of}
 use Rattle.command_text.specs.Readings.{Reading}
 use Rattle.command_text.specs.Showing.{print_text, show_text}
 use Rattle.command_text.specs.declared.answers.Answer.{Answer}
 use Rattle.command_text.specs.declared.answers.Answer.TheVariants as answer
 use Rattle.command_text.specs.declared.asked.Asked.{Asked}
-use Rattle.command_text.specs.declared.asked.Asked.TheVariants.{Nothing, BadLine, BadLoad, LoadRange, Load, Plain, Refused, Search, Reach, Print, Show}
+use Rattle.command_text.specs.declared.asked.Asked.TheVariants.{Nothing, BadLine, BadLoad, LoadRange, Load, Plain, Refused, Search, Reach, Print, Show, Next, Help}
 
 -- What became of a try: it was done; memory was refused; there is no room left in the store; the device failed. A try is a command that session
 -- and state accept, the text of a `load`, or a `show` or `print` that has something to tell.
@@ -134,6 +134,14 @@ printed s Empty = answered s (answer.Refused NoInstance)
 printed s (Loaded j) =
     if unplanned_count j.problem j.plan == 0 then told (next_fate s.fates) (tried s) (print_text j) else answered s answer.Unplanned
 
+-- lines that take no memory, then `ok`
+abbrev pub stated : Serving → List ℕ → Reply
+stated s text = with_text (line text) (answered s answer.Ok)
+
+abbrev pub next_stated : Serving → State → Reply
+next_stated s Empty = answered s (answer.Refused NoInstance)
+next_stated s (Loaded j) = stated s (next_text j)
+
 -- the text of a load, by what it spells
 abbrev pub loaded : Serving → ℕ → Result Instance ReadFault → Reply
 loaded s seed (Ok p) = by_fate (next_fate s.fates) (tried s) (command.Load p seed) (λ t. answered t answer.Ok)
@@ -162,6 +170,8 @@ asked_reply reading s (Search n) text short = unless_broken s (searched_or s (st
 asked_reply reading s (Reach n) text short = unless_broken s (searched_or s (steps_to_reach s.state n))
 asked_reply reading s Print text short = unless_broken s (printed s s.state)
 asked_reply reading s Show text short = unless_broken s (shown s s.state)
+asked_reply reading s Next text short = unless_broken s (next_stated s s.state)
+asked_reply reading s Help text short = stated s help_text
 
 unfoldable pub reply : Reading → Serving → Piece → Reply
 reply reading s piece = asked_reply reading s piece.asked piece.text (is_short piece)

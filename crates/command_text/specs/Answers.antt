@@ -7,6 +7,7 @@ use Rattle.command_core.specs.Names.{refusal_name}
 use Rattle.instance_read.specs.Names.{kind_name}
 use Rattle.instance_read.specs.declared.faults.ReadFaultKind.{ReadFaultKind}
 use Rattle.instance_read.specs.declared.faults.ReadFaultKind.TheVariants.{OutOfMemory}
+use Rattle.command_text.specs.declared.help.TheConstants.{HELP}
 use Rattle.command_text.specs.declared.answers.Answer.{Answer}
 use Rattle.command_text.specs.declared.answers.Answer.TheVariants.{Ok, BadLine, Truncated, Broken, Refused, Read, Unplanned, Spent, DeviceFault}
 
@@ -38,6 +39,14 @@ answer_text DeviceFault = codes "fault device"
 -- `U V D`
 abbrev pub cost_text : Cost → List ℕ
 cost_text cost = decimal cost.unplanned ++ codes " " ++ decimal cost.vehicles ++ codes " " ++ decimal cost.distance
+
+-- the number that the next order gets: `next N`
+abbrev pub next_text : JobValue → List ℕ
+next_text j = codes "next " ++ decimal j.problem.next_number
+
+-- what `help` tells: the text of this constant
+unfoldable pub help_text : List ℕ
+help_text = HELP.now
 
 -- how far a search is: `at STEPS UNPLANNED VEHICLES DISTANCE`
 abbrev pub at_text : JobValue → List ℕ

@@ -15,7 +15,7 @@ use Rattle.command_text.specs.declared.fields.Field.{Field}
 use Rattle.command_text.specs.declared.verbs.Verb.{Verb}
 use Rattle.command_text.specs.declared.verbs.Verb.TheVariants as verb
 use Rattle.command_text.specs.declared.asked.Asked.{Asked}
-use Rattle.command_text.specs.declared.asked.Asked.TheVariants.{Nothing, BadLine, BadLoad, LoadRange, Load, Plain, Refused, Search, Reach, Print, Show}
+use Rattle.command_text.specs.declared.asked.Asked.TheVariants.{Nothing, BadLine, BadLoad, LoadRange, Load, Plain, Refused, Search, Reach, Print, Show, Next, Help}
 
 -- An integer as a field may hold it: as an `i32` does, and as a `u64` does.
 abbrev pub field_of : ℤ → Field
@@ -73,6 +73,8 @@ bare_asked verb.Build = Plain command.Build
 bare_asked verb.Checkpoint = Plain command.Checkpoint
 bare_asked verb.Print = Print
 bare_asked verb.Show = Show
+bare_asked verb.Next = Next
+bare_asked verb.Help = Help
 bare_asked _ = BadLine
 
 -- with one: R, V, N or D
@@ -142,7 +144,9 @@ verb_named word =
     if bytes_eq (codes "reach") word then Some verb.Reach else
     if bytes_eq (codes "deviation") word then Some verb.Deviation else
     if bytes_eq (codes "print") word then Some verb.Print else
-    if bytes_eq (codes "show") word then Some verb.Show else None
+    if bytes_eq (codes "show") word then Some verb.Show else
+    if bytes_eq (codes "next") word then Some verb.Next else
+    if bytes_eq (codes "help") word then Some verb.Help else None
 
 -- what the words behind a command's name make of it
 abbrev pub verb_asked : Option Verb → List (List ℕ) → Asked

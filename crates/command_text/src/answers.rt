@@ -2,7 +2,7 @@
 ghost use Rattle.std.specs.Prelude.{◌≡◌, ◌≤◌, ◌+◌, ◌++◌, [], codes, decimal, length};
 ghost use Rattle.instance_read.specs.Names.{kind_name};
 ghost use Rattle.route_sched.specs.Cost.{cost_of};
-ghost use Rattle.command_text.specs.Answers.{at_text, cost_text, no_text, read_text};
+ghost use Rattle.command_text.specs.Answers.{at_text, cost_text, next_text, no_text, read_text};
 
 use command_core::{Job, Refusal};
 use instance_read::{ReadFault, ReadFaultKind};
@@ -173,5 +173,15 @@ pub fn at_line(job: &Job) -> Line
     line.put_number(job.steps);
     line.put(" ");
     line.put_cost(cost);
+    line
+}
+
+/// The number that the next order gets, the pickup's of a pair: `next N`.
+pub fn next_line(job: &Job) -> Line
+    ensures { result ≡ next_text job.now }
+{
+    let mut line = Line::new();
+    line.put("next ");
+    line.put_number(u64::from(job.problem.next_number));
     line
 }

@@ -40,6 +40,10 @@ pub enum Asked {
     Reach(u64),
     Print,
     Show,
+    /// The number that the next order gets.
+    Next,
+    /// What lines there are.
+    Help,
 }
 
 /// What a line asks for; the line is given without its line end. Takes no memory.
@@ -124,6 +128,8 @@ fn bare_asked(verb: Verb) -> Asked
         Verb::Checkpoint => Asked::Plain(Command::Checkpoint),
         Verb::Print => Asked::Print,
         Verb::Show => Asked::Show,
+        Verb::Next => Asked::Next,
+        Verb::Help => Asked::Help,
         _ => Asked::BadLine,
     }
 }

@@ -1,8 +1,8 @@
 //! The command text, without device and stream: what a line asks for, the bytes that answer it, and the definition of a
 //! whole input's answers. `command_serving` serves a session by it, `plan_solve` tells its steps by it.
 //!
-//! Entry functions: `read_line` for a line; `Answer::line`, `at_line`, `show` and `print` for an answer;
-//! `steps_to_search`, `steps_to_reach` and `next_count` for the pieces of a search.
+//! Entry functions: `read_line` for a line; `Answer::line`, `at_line`, `next_line`, `help_lines`, `show` and `print` for
+//! an answer; `steps_to_search`, `steps_to_reach` and `next_count` for the pieces of a search.
 //!
 //! Source: this project's own.
 //!
@@ -23,14 +23,15 @@
 //! - `steps`: how many steps a line makes
 //! - `instances`: the text behind a `load` line
 //! - `answers`: the lines that answer
+//! - `help`: what `help` tells
 //! - `showing`: what `show` and `print` write
 //! - `laws`: how an input is cut and answered
 //!
 //! Said by `specs/Asking.antt`, `Cutting.antt`, `Answers.antt`, `Showing.antt` and `Answering.antt`. Proved:
 //! - `read_line`: what a line of any length asks for (`asked`), without memory
 //! - `FirstWord`: whether the first word of a line in parts is `load`
-//! - `Answer::line`, `at_line`, `show`, `print`: each byte; `print` is read back as the plan's routes and distance, and
-//!   tells how many requests are unplanned
+//! - `Answer::line`, `at_line`, `next_line`, `help_lines`, `show`, `print`: each byte; `print` is read back as the plan's
+//!   routes and distance, and tells how many requests are unplanned
 //! - `steps_to_search`, `steps_to_reach`, `next_count`: how many steps a line makes, or why it is refused, and the next piece
 //! - `read_instance`: what the text spells or its first fault, or want of memory
 //! - `pieces_follow`: an input is cut into lines, each `load` line with the bytes that it announces
@@ -41,15 +42,17 @@ mod answers;
 mod asked;
 mod fields;
 mod first_word;
+mod help;
 mod instances;
 mod laws;
 mod showing;
 mod steps;
 mod verbs;
 
-pub use answers::{Answer, Line, at_line};
+pub use answers::{Answer, Line, at_line, next_line};
 pub use asked::{Asked, MAX_LEN, MAX_LINE, MAX_SEARCH, read_line};
 pub use first_word::FirstWord;
+pub use help::{HELP, help_lines};
 pub use instances::read_instance;
 pub use laws::{pieces_follow, states_follow};
 pub use showing::{Text, print, show};

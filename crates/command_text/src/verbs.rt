@@ -20,6 +20,8 @@ pub(crate) enum Verb {
     Deviation,
     Print,
     Show,
+    Next,
+    Help,
 }
 
 /// The command that a word names.
@@ -65,6 +67,12 @@ pub(crate) fn verb_named(word: &[u8]) -> Option<Verb>
     }
     if is_word(word, b"show") {
         return Some(Verb::Show);
+    }
+    if is_word(word, b"next") {
+        return Some(Verb::Next);
+    }
+    if is_word(word, b"help") {
+        return Some(Verb::Help);
     }
     None
 }

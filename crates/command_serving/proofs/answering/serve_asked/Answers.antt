@@ -1,16 +1,18 @@
 -- By what the line asks for.
-use Rattle.std.proofs.Common.{refl, subst, sym, None}
+use Rattle.std.proofs.Common.{◌++◌, refl, subst, sym, None}
 use Rattle.std.proofs.lemmas.Result.{err_from_is_err_and}
 use Rattle.command_core.specs.declared.refusals.Refusal.TheVariants as core
-use Rattle.command_text.specs.Answering.{answered, plain, refused, unless_broken}
-use Rattle.command_text.specs.Answers.{answer_text, line}
+use Rattle.command_text.specs.Answering.{answered, plain, refused, stated, unless_broken}
+use Rattle.command_text.specs.Answers.{answer_text, help_text, line}
 use Rattle.command_text.specs.Laws.{cut_at}
 use Rattle.command_text.specs.declared.answers.Answer.TheVariants as answer
 use Rattle.command_text.specs.declared.asked.Asked.TheVariants as asked
 use Rattle.command_serving.specs.Input.{left_of}
+use Rattle.command_serving.specs.Streams.{Puts}
 use Rattle.command_serving.specs.Serving.{GoesOn, ServesOn}
 use Rattle.command_serving.specs.declared.answering.Goes.TheVariants.{On}
 use Rattle.command_serving.proofs.AskedLemmas.{cut_at_once, line_ends, line_on, load_on, nothing_on}
+use Rattle.command_serving.proofs.ReplyLemmas.{tells_stated}
 use Rattle.command_serving.proofs.ServingLemmas.{answers_told, tells_same}
 use Rattle.command_serving.proofs.answering.serve_asked.Goals as goal
 
@@ -112,6 +114,29 @@ returns-in-Show-clause-serves g c = λ reading rest is known.
     subst (λ a. GoesOn c.once-in-Show.result reading old (cut_at a rest) before after new left) (sym c.in-Show.is)
     (line_on reading asked.Show rest old new before after left c.once-in-Show.result c.serve_show.result c.once-in-Show.ensures refl known
     (c.serve_show.ensures.answers))
+
+pub returns-in-Next-clause-serves : goal.returns-in-Next-clause-serves
+returns-in-Next-clause-serves g c = λ reading rest is known.
+    let old = c.args.session.now in
+    let new = c.args.session.now in
+    let before = g.W.Sink.contents c.args.writer.now in
+    let after = g.W.Sink.contents c.serve_next.new.writer in
+    let left = left_of g.R.Source.remaining c.args.input.now c.args.reader.now in
+    subst (λ a. GoesOn c.once-in-Next.result reading old (cut_at a rest) before after new left) (sym c.in-Next.is)
+    (line_on reading asked.Next rest old new before after left c.once-in-Next.result c.serve_next.result c.once-in-Next.ensures refl known
+    (c.serve_next.ensures.answers))
+
+pub returns-in-Help-clause-serves : goal.returns-in-Help-clause-serves
+returns-in-Help-clause-serves g c = λ reading rest is known.
+    let old = c.args.session.now in
+    let new = c.args.session.now in
+    let before = g.W.Sink.contents c.args.writer.now in
+    let after = g.W.Sink.contents c.tell_line.new.writer in
+    let left = left_of g.R.Source.remaining c.args.input.now c.args.reader.now in
+    let told = subst (λ t. Puts before after c.tell_line.result (line t ++ line (answer_text answer.Ok))) c.help_lines.ensures c.tell_line.ensures.bytes in
+    subst (λ a. GoesOn c.once-in-Help.result reading old (cut_at a rest) before after new left) (sym c.in-Help.is)
+    (line_on reading asked.Help rest old new before after left c.once-in-Help.result c.tell_line.result c.once-in-Help.ensures refl known
+    (answers_told c.tell_line.result old new (λ s. stated s help_text) None (line help_text ++ line (answer_text answer.Ok)) before after (tells_stated old (λ s. stated s help_text) help_text (λ later. refl)) told))
 
 pub returns-in-Nothing-clause-serves : goal.returns-in-Nothing-clause-serves
 returns-in-Nothing-clause-serves g c = λ reading rest is known.

@@ -1,0 +1,46 @@
+//! What `help` tells of the lines, their answers and the names of refusals. The program's own help shows it too.
+ghost use Rattle.std.specs.Prelude.{◌≡◌};
+ghost use Rattle.command_text.specs.Answers.{help_text};
+
+/// The lines that are read, how they are answered, and why one is refused; without the line feed at the end.
+pub const HELP: &str = "Each line asks for one thing:\n  \
+    load lilim|vrp SEED LEN    a new instance: the LEN bytes behind this line\n  \
+    build                      puts each unplanned request at its best place\n  \
+    search N, reach N          N search steps, or as many as lead to step N\n  \
+    deviation D                how much longer a plan the search may go on from\n  \
+    add Q X Y E L S X Y E L S  a new pair: demand, then x, y, window and service of both its stops\n  \
+    add1 Q X Y E L S           a new request of one stop\n  \
+    withdraw R                 takes out the request with this name\n  \
+    pin V K, unpin V           keeps the first K stops of vehicle V as they are, or none\n  \
+    show, print                the state, or the plan as a solution's text\n  \
+    next                       `next N`: the number that the next order gets, its pickup's if a pair\n  \
+    checkpoint                 a snapshot, so that less is repeated at the next run\n  \
+    help                       these lines\n\n\
+    Each answer ends with one of these lines:\n  \
+    ok                         it is done, and no stop loses it\n  \
+    no NAME                    it is refused and changes nothing; of an instance: no NAME LINE\n  \
+    fault device               the store failed; it may be there or not at the next run\n\n\
+    A search tells `at STEPS UNPLANNED VEHICLES DISTANCE` before that, piece by piece: these steps\n\
+    stand, whatever is answered behind them.\n\n\
+    The names of refusals:\n  \
+    BadLine        there is no such line, another number of words belongs to it, or one is no integer\n  \
+    Truncated      the input ends before LEN bytes; the run ends\n  \
+    Broken         the device failed before in this run\n  \
+    NoInstance     nothing is loaded yet\n  \
+    Range          a number is outside its limits, or a window ends before it begins\n  \
+    NoSuchRequest  no request has this name; a pair's is the number of its pickup\n  \
+    Pinned         a stop of the request is pinned\n  \
+    NoSuchPlace    there is no such vehicle, or its route has fewer stops\n  \
+    NotARoute      the first K stops alone are no route: goods are still aboard, or a stop is late\n  \
+    NumbersSpent   a stop would get a number above 40,000\n  \
+    StepsSpent     the steps would pass 2^60\n  \
+    Unplanned      a request is in no route, so there is no solution to print\n  \
+    Spent          the store can't be written any more\n  \
+    OutOfMemory    memory was refused; the same line may be asked again";
+
+/// The bytes of these lines.
+pub fn help_lines() -> &'static [u8]
+    ensures { result.now ≡ help_text }
+{
+    HELP.as_bytes()
+}
