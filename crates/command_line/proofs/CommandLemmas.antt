@@ -23,8 +23,8 @@ use Rattle.std.proofs.lemmas.Slice.Eq.{bytes_eq-Decides}
 use Rattle.clap.proofs.WalkLemmas.{first_value-rows, list_any-map}
 use Rattle.clap.proofs.OnLiterals.{clap_on_literals}
 use Rattle.command_line.specs.declared.words.Invocation.{Invocation}
-use Rattle.command_line.specs.Asked.{IsRefusal, ArePositional, Asked, PathsAsked, ReadsWords, asked_by, asks_help, audit, audits, draw, explain, format, is_positional_word, kind_named, list_asked, list_from, list_in, paths_asked, paths_from, paths_in, run, seed_named, seed_or_none, solve, steps_named, store_asked, store_in, task_asked, task_from, task_in, task_with, told_by, told_of, usage_status_of}
-use Rattle.command_line.specs.CommandLine.{IsKindNames, IsPlannerCommand, audits_app, paths_app, planner_app, solve_app, store_app}
+use Rattle.command_line.specs.Asked.{IsRefusal, ArePositional, Asked, PathsAsked, ReadsWords, asked_by, asks_help, audit, audits, draw, explain, format, is_positional_word, kind_named, list_asked, list_from, list_in, load, load_asked, load_from, load_in, load_with, paths_asked, paths_from, paths_in, run, run_asked, run_from, run_in, run_with, seed_named, seed_or_none, solve, steps_named, store_asked, store_in, task_asked, task_from, task_in, task_with, told_by, told_by_other, told_of, told_of_store, upgrade, upgrade_asked, upgrade_in, usage_status_of}
+use Rattle.command_line.specs.CommandLine.{IsKindNames, IsModeNames, IsPlannerCommand, audits_app, load_app, paths_app, planner_app, run_app, solve_app, store_app, upgrade_app}
 
 -- ---- a word that does not begin with a hyphen is a value
 
@@ -85,12 +85,12 @@ or_else-nil (k ∷ ks) = refl
 
 -- ---- the two levels
 
-abbrev the_app : Bor (List (Bor Text)) → App
-the_app names = built (planner_app names)
+abbrev the_app : Bor (List (Bor Text)) → Bor (List (Bor Text)) → App
+the_app names modes = built (planner_app names modes)
 
-pub no_words : (names : Bor (List (Bor Text))) → built_fault (the_app names) nothing_held [] ≡ []
+pub no_words : (names modes : Bor (List (Bor Text))) → built_fault (the_app names modes) nothing_held [] ≡ []
 unfolding clap_on_literals
-no_words names = refl
+no_words names modes = refl
 
 -- ---- the words `KIND INSTANCE SOLUTION`
 
@@ -352,6 +352,193 @@ module _ (names : Bor (List (Bor Text))) where
       → task_in (rows_at (solve_shape names) (k ∷ i ∷ n ∷ s ∷ [])).1 ≡ task_asked (k ∷ i ∷ n ∷ s ∷ [])
   seeded_rows k i n s p q r t = rw (task_kind_walked k p, task_instance_walked k i q, task_steps_walked k i n r, task_seed_walked k i n s t) refl
 
+-- ---- the words `STORE [strict]` of `run`
+
+abbrev run_shape : Bor (List (Bor Text)) → Shape
+run_shape modes = built_leaf (run_app modes).top
+
+abbrev run_fault : Bor (List (Bor Text)) → List Text → Kinds
+run_fault modes words = level_fault (run_shape modes) [] nothing_held words false []
+
+module _ (modes : Bor (List (Bor Text))) where
+  abbrev run_rules : List Rule
+  run_rules = (run_shape modes).rules
+
+  abbrev run_store : Text → Held
+  run_store w = (after_value run_rules nothing_held 1 w).held
+
+  abbrev run_mode : Text → Text → Held
+  run_mode w m = (after_value run_rules (run_store w) 2 m).held
+
+  abbrev run_mode_fault : Text → Text → Kinds
+  run_mode_fault w m = settle_fault run_rules false (run_mode w m)
+
+  no_run : run_fault modes [] ≡ missing
+  unfolding clap_on_literals
+  no_run = refl
+
+  run_store_walked : (w : Text) → is_positional_word w ≡ true → walked run_rules [] (standing nothing_held 1) w ≡ standing (run_store w) 2
+  run_store_walked w p = walked-value run_rules nothing_held 1 w p
+
+  run_mode_walked : (w m : Text) → is_positional_word m ≡ true → walked run_rules [] (standing (run_store w) 2) m ≡ standing (run_mode w m) 3
+  run_mode_walked w m p = walked-value run_rules (run_store w) 2 m p
+
+  run_store_turn : (w : Text) → is_positional_word w ≡ true → turn_fault (run_shape modes) [] (standing nothing_held 1) w ≡ []
+  run_store_turn w p = turn_fault-value (run_shape modes) nothing_held 1 w p
+
+  run_mode_turn : (w m : Text) → is_positional_word m ≡ true → turn_fault (run_shape modes) [] (standing (run_store w) 2) m ≡ []
+  run_mode_turn w m p = turn_fault-value (run_shape modes) (run_store w) 2 m p
+
+  stray_run_turn : (w m x : Text) → is_positional_word x ≡ true → turn_fault (run_shape modes) [] (standing (run_mode w m) 3) x ≡ kind.UnknownArgument ∷ []
+  stray_run_turn w m x p = turn_fault-value (run_shape modes) (run_mode w m) 3 x p
+
+  one_of_run : (w : Text) → is_positional_word w ≡ true → run_fault modes (w ∷ []) ≡ []
+  unfolding walk_fault defaults_fault
+  one_of_run w p = rw (run_store_walked w p, run_store_turn w p) refl
+
+  two_of_run : (w m : Text) → is_positional_word w ≡ true → is_positional_word m ≡ true → run_fault modes (w ∷ m ∷ []) ≡ or_else (run_mode_fault w m) []
+  unfolding walk_fault defaults_fault
+  two_of_run w m p q = rw (run_store_walked w p, run_store_turn w p, run_mode_walked w m q, run_mode_turn w m q) refl
+
+  three_of_run : (w m x : Text) (rest : List Text) → is_positional_word w ≡ true → is_positional_word m ≡ true → is_positional_word x ≡ true
+      → walk_fault (run_shape modes) [] (walk_from nothing_held) (w ∷ m ∷ x ∷ rest) ≡ kind.UnknownArgument ∷ []
+  unfolding walk_fault
+  three_of_run w m x rest p q r = rw (run_store_turn w p, run_store_walked w p, run_mode_turn w m q, run_mode_walked w m q, stray_run_turn w m x r) refl
+
+  run_rows : (w : Text) → is_positional_word w ≡ true → run_in (rows_at (run_shape modes) (w ∷ [])).1 ≡ run_asked (w ∷ [])
+  run_rows w p = rw (run_store_walked w p) refl
+
+  strict_rows : (w m : Text) → is_positional_word w ≡ true → is_positional_word m ≡ true → run_in (rows_at (run_shape modes) (w ∷ m ∷ [])).1 ≡ run_asked (w ∷ m ∷ [])
+  strict_rows w m p q = rw (run_store_walked w p, run_mode_walked w m q) refl
+
+-- ---- the words `STORE KIND INSTANCE [SEED]` of `load`
+
+abbrev load_shape : Bor (List (Bor Text)) → Shape
+load_shape names = built_leaf (load_app names).top
+
+abbrev load_fault : Bor (List (Bor Text)) → List Text → Kinds
+load_fault names words = level_fault (load_shape names) [] nothing_held words false []
+
+module _ (names : Bor (List (Bor Text))) where
+  abbrev load_rules : List Rule
+  load_rules = (load_shape names).rules
+
+  abbrev load_store : Text → Held
+  load_store w = (after_value load_rules nothing_held 1 w).held
+
+  abbrev load_kind : Text → Text → Held
+  load_kind w k = (after_value load_rules (load_store w) 2 k).held
+
+  abbrev load_instance : Text → Text → Text → Held
+  load_instance w k i = (after_value load_rules (load_kind w k) 3 i).held
+
+  abbrev load_seed : Text → Text → Text → Text → Held
+  load_seed w k i s = (after_value load_rules (load_instance w k i) 4 s).held
+
+  abbrev load_kind_fault : Text → Text → Kinds
+  load_kind_fault w k = settle_fault load_rules false (load_kind w k)
+
+  no_load : load_fault names [] ≡ missing
+  unfolding clap_on_literals
+  no_load = refl
+
+  load_store_walked : (w : Text) → is_positional_word w ≡ true → walked load_rules [] (standing nothing_held 1) w ≡ standing (load_store w) 2
+  load_store_walked w p = walked-value load_rules nothing_held 1 w p
+
+  load_kind_walked : (w k : Text) → is_positional_word k ≡ true → walked load_rules [] (standing (load_store w) 2) k ≡ standing (load_kind w k) 3
+  load_kind_walked w k p = walked-value load_rules (load_store w) 2 k p
+
+  load_instance_walked : (w k i : Text) → is_positional_word i ≡ true → walked load_rules [] (standing (load_kind w k) 3) i ≡ standing (load_instance w k i) 4
+  load_instance_walked w k i p = walked-value load_rules (load_kind w k) 3 i p
+
+  load_seed_walked : (w k i s : Text) → is_positional_word s ≡ true → walked load_rules [] (standing (load_instance w k i) 4) s ≡ standing (load_seed w k i s) 5
+  load_seed_walked w k i s p = walked-value load_rules (load_instance w k i) 4 s p
+
+  load_store_turn : (w : Text) → is_positional_word w ≡ true → turn_fault (load_shape names) [] (standing nothing_held 1) w ≡ []
+  load_store_turn w p = turn_fault-value (load_shape names) nothing_held 1 w p
+
+  load_kind_turn : (w k : Text) → is_positional_word k ≡ true → turn_fault (load_shape names) [] (standing (load_store w) 2) k ≡ []
+  load_kind_turn w k p = turn_fault-value (load_shape names) (load_store w) 2 k p
+
+  load_instance_turn : (w k i : Text) → is_positional_word i ≡ true → turn_fault (load_shape names) [] (standing (load_kind w k) 3) i ≡ load_kind_fault w k
+  load_instance_turn w k i p = turn_fault-value (load_shape names) (load_kind w k) 3 i p
+
+  load_seed_turn : (w k i s : Text) → is_positional_word s ≡ true → turn_fault (load_shape names) [] (standing (load_instance w k i) 4) s ≡ []
+  load_seed_turn w k i s p = turn_fault-value (load_shape names) (load_instance w k i) 4 s p
+
+  stray_load_turn : (w k i s x : Text) → is_positional_word x ≡ true → turn_fault (load_shape names) [] (standing (load_seed w k i s) 5) x ≡ kind.UnknownArgument ∷ []
+  stray_load_turn w k i s x p = turn_fault-value (load_shape names) (load_seed w k i s) 5 x p
+
+  one_of_load : (w : Text) → is_positional_word w ≡ true → load_fault names (w ∷ []) ≡ missing
+  unfolding walk_fault defaults_fault
+  one_of_load w p = rw (load_store_walked w p, load_store_turn w p) refl
+
+  two_of_load : (w k : Text) → is_positional_word w ≡ true → is_positional_word k ≡ true → load_fault names (w ∷ k ∷ []) ≡ or_else (load_kind_fault w k) missing
+  unfolding walk_fault defaults_fault
+  two_of_load w k p q = rw (load_store_walked w p, load_store_turn w p, load_kind_walked w k q, load_kind_turn w k q) refl
+
+  three_of_load : (w k i : Text) → is_positional_word w ≡ true → is_positional_word k ≡ true → is_positional_word i ≡ true → load_fault names (w ∷ k ∷ i ∷ []) ≡ or_else (or_else (load_kind_fault w k) []) []
+  unfolding walk_fault defaults_fault
+  three_of_load w k i p q r =
+      rw (load_store_walked w p, load_store_turn w p, load_kind_walked w k q, load_kind_turn w k q, load_instance_walked w k i r, load_instance_turn w k i r) refl
+
+  -- what a walk that ends so may still fail by
+  abbrev load_rest : Held → Kinds
+  load_rest h =
+      or_else [] (or_else (settle_fault load_rules (load_shape names).args_override_self h)
+      (or_else (defaults_fault (settled load_rules h).rows load_rules) (check_fault (load_shape names) (finished load_rules h) false)))
+
+  sown_fault : (w k i s : Text) → is_positional_word w ≡ true → is_positional_word k ≡ true → is_positional_word i ≡ true → is_positional_word s ≡ true
+      → walk_fault (load_shape names) [] (walk_from nothing_held) (w ∷ k ∷ i ∷ s ∷ []) ≡ or_else (load_kind_fault w k) []
+  unfolding walk_fault
+  sown_fault w k i s p q r t =
+      rw (
+        load_store_turn w p,
+        load_store_walked w p,
+        load_kind_turn w k q,
+        load_kind_walked w k q,
+        load_instance_turn w k i r,
+        load_instance_walked w k i r,
+        load_seed_turn w k i s t,
+      ) refl
+
+  sown_walk : (w k i s : Text) → is_positional_word w ≡ true → is_positional_word k ≡ true → is_positional_word i ≡ true → is_positional_word s ≡ true
+      → walk load_rules [] nothing_held (w ∷ k ∷ i ∷ s ∷ []) ≡ standing (load_seed w k i s) 5
+  sown_walk w k i s p q r t = rw (load_store_walked w p, load_kind_walked w k q, load_instance_walked w k i r, load_seed_walked w k i s t) refl
+
+  sown_rest : (w k i s : Text) → load_rest (load_seed w k i s) ≡ []
+  unfolding defaults_fault
+  sown_rest w k i s = refl
+
+  four_of_load : (w k i s : Text) → is_positional_word w ≡ true → is_positional_word k ≡ true → is_positional_word i ≡ true → is_positional_word s ≡ true
+      → load_fault names (w ∷ k ∷ i ∷ s ∷ []) ≡ or_else (or_else (load_kind_fault w k) []) []
+  four_of_load w k i s p q r t =
+      ap₂ {C = Kinds} (λ (f : Kinds) (x : Walk). or_else f (load_rest x.held)) (sown_fault w k i s p q r t) (sown_walk w k i s p q r t)
+      ∙ ap (or_else (or_else (load_kind_fault w k) [])) (sown_rest w k i s)
+
+  five_of_load : (w k i s x : Text) (rest : List Text) → is_positional_word w ≡ true → is_positional_word k ≡ true → is_positional_word i ≡ true → is_positional_word s ≡ true → is_positional_word x ≡ true
+      → walk_fault (load_shape names) [] (walk_from nothing_held) (w ∷ k ∷ i ∷ s ∷ x ∷ rest) ≡ or_else (load_kind_fault w k) (kind.UnknownArgument ∷ [])
+  unfolding walk_fault
+  five_of_load w k i s x rest p q r t u =
+      rw (
+        load_store_turn w p,
+        load_store_walked w p,
+        load_kind_turn w k q,
+        load_kind_walked w k q,
+        load_instance_turn w k i r,
+        load_instance_walked w k i r,
+        load_seed_turn w k i s t,
+        load_seed_walked w k i s t,
+        stray_load_turn w k i s x u,
+      ) refl
+
+  load_rows : (w k i : Text) → is_positional_word w ≡ true → is_positional_word k ≡ true → is_positional_word i ≡ true → load_in (rows_at (load_shape names) (w ∷ k ∷ i ∷ [])).1 ≡ load_asked (w ∷ k ∷ i ∷ [])
+  load_rows w k i p q r = rw (load_store_walked w p, load_kind_walked w k q, load_instance_walked w k i r) refl
+
+  sown_rows : (w k i s : Text) → is_positional_word w ≡ true → is_positional_word k ≡ true → is_positional_word i ≡ true → is_positional_word s ≡ true
+      → load_in (rows_at (load_shape names) (w ∷ k ∷ i ∷ s ∷ [])).1 ≡ load_asked (w ∷ k ∷ i ∷ s ∷ [])
+  sown_rows w k i s p q r t = rw (load_store_walked w p, load_kind_walked w k q, load_instance_walked w k i r, load_seed_walked w k i s t) refl
+
 -- ---- what the parse of the words tells
 
 -- each kind is a mistake's
@@ -564,85 +751,238 @@ judged_store Help does name (w ∷ x ∷ rest) p =
     let px = both_true (is_positional_word x) _ pw.1 in
     inr (inl (fault_first _ _ (subst IsFault (sym (two_stores name w x rest pw.0 px.0)) (refl, tt))), refl)
 
+-- the fault of a word that is to be `strict`
+abbrev unless_strict : Bool → Kinds
+unless_strict true = []
+unless_strict false = kind.InvalidValue ∷ []
+
+strict_by : (a : Bool) → or_else (if (a || false) then [] else kind.InvalidValue ∷ []) [] ≡ unless_strict a
+strict_by true = refl
+strict_by false = refl
+
+accepts_modes : (modes : Bor (List (Bor Text))) (m : Text) → IsModeNames modes → list_any (λ name. bytes_eq name.now m) modes.now ≡ (bytes_eq (codes "strict") m || false)
+accepts_modes modes m named = list_any-map (λ t. bytes_eq t m) (λ (n : Bor Text). n.now) modes.now ∙ ap (list_any (λ t. bytes_eq t m)) named
+
+known_mode : (modes : Bor (List (Bor Text))) (m : Text) → IsModeNames modes
+    → or_else (if list_any (λ name. bytes_eq name.now m) modes.now then [] else kind.InvalidValue ∷ []) [] ≡ unless_strict (bytes_eq (codes "strict") m)
+known_mode modes m named = ap (λ b. or_else (if b then [] else kind.InvalidValue ∷ []) []) (accepts_modes modes m named) ∙ strict_by (bytes_eq (codes "strict") m)
+
+judged_mode : (Help : Type 0) (a : Bool) (store : Text) (faults : Kinds) (told : Option Asked) → faults ≡ unless_strict a → (if a then Some (run store true) else None) ≡ told
+    → IsJudged Help faults (if a then Some (run store true) else None) told
+judged_mode Help true store faults told f same = inl (f, same)
+judged_mode Help false store faults told f same = inr (inl (subst IsFault (sym f) (refl, tt)), refl)
+
+judged_run : (Help : Type 0) (modes : Bor (List (Bor Text))) (words : List Text) → IsModeNames modes → ArePositional words
+    → IsJudged Help (run_fault modes words) (run_asked words) (run_in (rows_at (run_shape modes) words).1)
+judged_run Help modes [] named p = failed Help _ missing _ (no_run modes) (refl, tt)
+judged_run Help modes (w ∷ []) named p =
+    let pw = both_true (is_positional_word w) _ p in
+    inl (one_of_run modes w pw.0, sym (run_rows modes w pw.0))
+judged_run Help modes (w ∷ m ∷ []) named p =
+    let pw = both_true (is_positional_word w) _ p in
+    let pm = both_true (is_positional_word m) _ pw.1 in
+    judged_mode Help (bytes_eq (codes "strict") m) w _ _ (two_of_run modes w m pw.0 pm.0 ∙ or_else-nil _ ∙ known_mode modes m named) (sym (strict_rows modes w m pw.0 pm.0))
+judged_run Help modes (w ∷ m ∷ x ∷ rest) named p =
+    let pw = both_true (is_positional_word w) _ p in
+    let pm = both_true (is_positional_word m) _ pw.1 in
+    let px = both_true (is_positional_word x) _ pm.1 in
+    inr (inl (fault_first _ _ (subst IsFault (sym (three_of_run modes w m x rest pw.0 pm.0 px.0)) (refl, tt))), refl)
+
+-- nothing is loaded without a kind
+no_kind_no_load : (w : Text) (o : Option Kind) (i : Text) (s : Option ℕ) → o ≡ None → option_map load (load_from w o i s) ≡ None
+no_kind_no_load w o i s none = ap (λ o. option_map load (load_from w o i s)) none
+
+judged_load : (Help : Type 0) (names : Bor (List (Bor Text))) (words : List Text) → IsKindNames names → ArePositional words
+    → IsJudged Help (load_fault names words) (option_map load (load_asked words)) (option_map load (load_in (rows_at (load_shape names) words).1))
+judged_load Help names [] kinds p = failed Help _ missing _ (no_load names) (refl, tt)
+judged_load Help names (w ∷ []) kinds p = failed Help _ missing _ (one_of_load names w (both_true _ _ p).0) (refl, tt)
+judged_load Help names (w ∷ k ∷ []) kinds p =
+    failed Help _ _ _ (two_of_load names w k (both_true _ _ p).0 (both_true _ _ (both_true _ _ p).1).0)
+    (fault_then (load_kind_fault names w k) missing (kind_mistakes _ k (known_fault names k kinds)) (refl, tt))
+judged_load Help names (w ∷ k ∷ i ∷ []) kinds p =
+    let pw = both_true (is_positional_word w) _ p in
+    let pk = both_true (is_positional_word k) _ pw.1 in
+    let pi = both_true (is_positional_word i) _ pk.1 in
+    judged_kind Help (bytes_eq (codes "lilim") k) (bytes_eq (codes "vrp") k) _ _ _
+    (three_of_load names w k i pw.0 pk.0 pi.0 ∙ or_else-nil _ ∙ or_else-nil _ ∙ known_fault names k kinds) (no_kind_no_load w (kind_named k) i (Some 0))
+    (sym (ap (option_map load) (load_rows names w k i pw.0 pk.0 pi.0)))
+judged_load Help names (w ∷ k ∷ i ∷ s ∷ []) kinds p =
+    let pw = both_true (is_positional_word w) _ p in
+    let pk = both_true (is_positional_word k) _ pw.1 in
+    let pi = both_true (is_positional_word i) _ pk.1 in
+    let ps = both_true (is_positional_word s) _ pi.1 in
+    judged_kind Help (bytes_eq (codes "lilim") k) (bytes_eq (codes "vrp") k) _ _ _
+    (four_of_load names w k i s pw.0 pk.0 pi.0 ps.0 ∙ or_else-nil _ ∙ or_else-nil _ ∙ known_fault names k kinds) (no_kind_no_load w (kind_named k) i (seed_named s))
+    (sym (ap (option_map load) (sown_rows names w k i s pw.0 pk.0 pi.0 ps.0)))
+judged_load Help names (w ∷ k ∷ i ∷ s ∷ x ∷ rest) kinds p =
+    let pw = both_true (is_positional_word w) _ p in
+    let pk = both_true (is_positional_word k) _ pw.1 in
+    let pi = both_true (is_positional_word i) _ pk.1 in
+    let ps = both_true (is_positional_word s) _ pi.1 in
+    let px = both_true (is_positional_word x) _ ps.1 in
+    inr (
+      inl (fault_first _ _ (subst IsFault (sym (five_of_load names w k i s x rest pw.0 pk.0 pi.0 ps.0 px.0))
+          (fault_then (load_kind_fault names w k) (kind.UnknownArgument ∷ []) (kind_mistakes _ k (known_fault names k kinds)) (refl, tt)))),
+      refl,
+    )
+
+-- ---- the words `OLD NEW` of `upgrade`
+
+abbrev upgrade_shape : Shape
+upgrade_shape = built_leaf upgrade_app.top
+
+abbrev upgrade_fault : List Text → Kinds
+upgrade_fault words = level_fault upgrade_shape [] nothing_held words false []
+
+abbrev held_old : Text → Held
+held_old o = (after_value upgrade_shape.rules nothing_held 1 o).held
+
+abbrev held_new : Text → Text → Held
+held_new o n = (after_value upgrade_shape.rules (held_old o) 2 n).held
+
+no_stores : upgrade_fault [] ≡ missing
+unfolding clap_on_literals
+no_stores = refl
+
+old_walked : (o : Text) → is_positional_word o ≡ true → walked upgrade_shape.rules [] (standing nothing_held 1) o ≡ standing (held_old o) 2
+old_walked o p = walked-value upgrade_shape.rules nothing_held 1 o p
+
+new_walked : (o n : Text) → is_positional_word n ≡ true → walked upgrade_shape.rules [] (standing (held_old o) 2) n ≡ standing (held_new o n) 3
+new_walked o n p = walked-value upgrade_shape.rules (held_old o) 2 n p
+
+old_turn : (o : Text) → is_positional_word o ≡ true → turn_fault upgrade_shape [] (standing nothing_held 1) o ≡ []
+old_turn o p = turn_fault-value upgrade_shape nothing_held 1 o p
+
+new_turn : (o n : Text) → is_positional_word n ≡ true → turn_fault upgrade_shape [] (standing (held_old o) 2) n ≡ []
+new_turn o n p = turn_fault-value upgrade_shape (held_old o) 2 n p
+
+stray_new_turn : (o n x : Text) → is_positional_word x ≡ true → turn_fault upgrade_shape [] (standing (held_new o n) 3) x ≡ kind.UnknownArgument ∷ []
+stray_new_turn o n x p = turn_fault-value upgrade_shape (held_new o n) 3 x p
+
+old_alone : (o : Text) → is_positional_word o ≡ true → upgrade_fault (o ∷ []) ≡ missing
+unfolding walk_fault defaults_fault
+old_alone o p = rw (old_walked o p, old_turn o p) refl
+
+old_and_new : (o n : Text) → is_positional_word o ≡ true → is_positional_word n ≡ true → upgrade_fault (o ∷ n ∷ []) ≡ []
+unfolding walk_fault defaults_fault
+old_and_new o n p q = rw (old_walked o p, old_turn o p, new_walked o n q, new_turn o n q) refl
+
+three_stores : (o n x : Text) (rest : List Text) → is_positional_word o ≡ true → is_positional_word n ≡ true → is_positional_word x ≡ true
+    → walk_fault upgrade_shape [] (walk_from nothing_held) (o ∷ n ∷ x ∷ rest) ≡ kind.UnknownArgument ∷ []
+unfolding walk_fault
+three_stores o n x rest p q r = rw (old_turn o p, old_walked o p, new_turn o n q, new_walked o n q, stray_new_turn o n x r) refl
+
+upgrade_rows : (o n : Text) → is_positional_word o ≡ true → is_positional_word n ≡ true → upgrade_in (rows_at upgrade_shape (o ∷ n ∷ [])).1 ≡ Some (upgrade o n)
+upgrade_rows o n p q = rw (old_walked o p, new_walked o n q) refl
+
+judged_upgrade : (Help : Type 0) (words : List Text) → ArePositional words → IsJudged Help (upgrade_fault words) (upgrade_asked words) (upgrade_in (rows_at upgrade_shape words).1)
+judged_upgrade Help [] p = failed Help _ missing _ no_stores (refl, tt)
+judged_upgrade Help (o ∷ []) p = failed Help _ missing _ (old_alone o (both_true _ _ p).0) (refl, tt)
+judged_upgrade Help (o ∷ n ∷ []) p =
+    let po = both_true (is_positional_word o) _ p in
+    let pn = both_true (is_positional_word n) _ po.1 in
+    inl (old_and_new o n po.0 pn.0, sym (upgrade_rows o n po.0 pn.0))
+judged_upgrade Help (o ∷ n ∷ x ∷ rest) p =
+    let po = both_true (is_positional_word o) _ p in
+    let pn = both_true (is_positional_word n) _ po.1 in
+    let px = both_true (is_positional_word x) _ pn.1 in
+    inr (inl (fault_first _ _ (subst IsFault (sym (three_stores o n x rest po.0 pn.0 px.0)) (refl, tt))), refl)
+
 -- ---- the subcommands
 
 -- the first word is a subcommand, `help`, or a word too many
-abbrev stop_in : Bor (List (Bor Text)) → List Text → Option (Text × List Row)
-stop_in names words = entered (the_app names) (stop_after (the_app names).top.rules (names_of (the_app names)) words)
+abbrev stop_in : Bor (List (Bor Text)) → Bor (List (Bor Text)) → List Text → Option (Text × List Row)
+stop_in names modes words = entered (the_app names modes) (stop_after (the_app names modes).top.rules (names_of (the_app names modes)) words)
 
-module _ (names : Bor (List (Bor Text))) (words : List Text) where
+module _ (names modes : Bor (List (Bor Text))) (words : List Text) where
   abbrev top_walk : Text → Walk
-  top_walk name = fold (walked (the_app names).top.rules (names_of (the_app names))) (stopped_at name []) words
+  top_walk name = fold (walked (the_app names modes).top.rules (names_of (the_app names modes))) (stopped_at name []) words
 
   top_walked : (name : Text) → top_walk name ≡ stopped_at name words
-  top_walked name = stopped_walk (the_app names).top.rules (names_of (the_app names)) name [] words
+  top_walked name = stopped_walk (the_app names modes).top.rules (names_of (the_app names modes)) name [] words
 
-  top_fault : (name : Text) → walk_fault (the_app names).top (names_of (the_app names)) (stopped_at name []) words ≡ []
-  top_fault name = stopped_fault (the_app names).top (names_of (the_app names)) name [] words
+  top_fault : (name : Text) → walk_fault (the_app names modes).top (names_of (the_app names modes)) (stopped_at name []) words ≡ []
+  top_fault name = stopped_fault (the_app names modes).top (names_of (the_app names modes)) name [] words
 
-  audit_words_fault : built_fault (the_app names) nothing_held (codes "audit" ∷ words) ≡ paths_fault (codes "audit") names words
+  audit_words_fault : built_fault (the_app names modes) nothing_held (codes "audit" ∷ words) ≡ paths_fault (codes "audit") names words
   unfolding clap_on_literals
   audit_words_fault = rw (top_walked (codes "audit"), top_fault (codes "audit")) (or_else-nil (paths_fault (codes "audit") names words))
 
-  audit_stop : told_of (stop_in names (codes "audit" ∷ words)) ≡ option_map audit (paths_in (rows_at (paths_shape (codes "audit") names) words).1)
+  audit_stop : told_of (stop_in names modes (codes "audit" ∷ words)) ≡ option_map audit (paths_in (rows_at (paths_shape (codes "audit") names) words).1)
   unfolding clap_on_literals
-  audit_stop = ap (λ (w : Walk). told_of (entered (the_app names) w.stopped)) (top_walked (codes "audit"))
+  audit_stop = ap (λ (w : Walk). told_of (entered (the_app names modes) w.stopped)) (top_walked (codes "audit"))
 
-  audits_words_fault : built_fault (the_app names) nothing_held (codes "audits" ∷ words) ≡ audits_fault names words
+  audits_words_fault : built_fault (the_app names modes) nothing_held (codes "audits" ∷ words) ≡ audits_fault names words
   unfolding clap_on_literals
   audits_words_fault = rw (top_walked (codes "audits"), top_fault (codes "audits")) (or_else-nil (audits_fault names words))
 
-  audits_stop : told_of (stop_in names (codes "audits" ∷ words)) ≡ list_in (rows_at (audits_shape names) words).1
+  audits_stop : told_of (stop_in names modes (codes "audits" ∷ words)) ≡ list_in (rows_at (audits_shape names) words).1
   unfolding clap_on_literals
-  audits_stop = ap (λ (w : Walk). told_of (entered (the_app names) w.stopped)) (top_walked (codes "audits"))
+  audits_stop = ap (λ (w : Walk). told_of (entered (the_app names modes) w.stopped)) (top_walked (codes "audits"))
 
-  explain_words_fault : built_fault (the_app names) nothing_held (codes "explain" ∷ words) ≡ paths_fault (codes "explain") names words
+  explain_words_fault : built_fault (the_app names modes) nothing_held (codes "explain" ∷ words) ≡ paths_fault (codes "explain") names words
   unfolding clap_on_literals
   explain_words_fault = rw (top_walked (codes "explain"), top_fault (codes "explain")) (or_else-nil (paths_fault (codes "explain") names words))
 
-  explain_stop : told_of (stop_in names (codes "explain" ∷ words)) ≡ option_map explain (paths_in (rows_at (paths_shape (codes "explain") names) words).1)
+  explain_stop : told_of (stop_in names modes (codes "explain" ∷ words)) ≡ option_map explain (paths_in (rows_at (paths_shape (codes "explain") names) words).1)
   unfolding clap_on_literals
-  explain_stop = ap (λ (w : Walk). told_of (entered (the_app names) w.stopped)) (top_walked (codes "explain"))
+  explain_stop = ap (λ (w : Walk). told_of (entered (the_app names modes) w.stopped)) (top_walked (codes "explain"))
 
-  draw_words_fault : built_fault (the_app names) nothing_held (codes "draw" ∷ words) ≡ paths_fault (codes "draw") names words
+  draw_words_fault : built_fault (the_app names modes) nothing_held (codes "draw" ∷ words) ≡ paths_fault (codes "draw") names words
   unfolding clap_on_literals
   draw_words_fault = rw (top_walked (codes "draw"), top_fault (codes "draw")) (or_else-nil (paths_fault (codes "draw") names words))
 
-  draw_stop : told_of (stop_in names (codes "draw" ∷ words)) ≡ option_map draw (paths_in (rows_at (paths_shape (codes "draw") names) words).1)
+  draw_stop : told_of (stop_in names modes (codes "draw" ∷ words)) ≡ option_map draw (paths_in (rows_at (paths_shape (codes "draw") names) words).1)
   unfolding clap_on_literals
-  draw_stop = ap (λ (w : Walk). told_of (entered (the_app names) w.stopped)) (top_walked (codes "draw"))
+  draw_stop = ap (λ (w : Walk). told_of (entered (the_app names modes) w.stopped)) (top_walked (codes "draw"))
 
-  solve_words_fault : built_fault (the_app names) nothing_held (codes "solve" ∷ words) ≡ solve_fault names words
+  solve_words_fault : built_fault (the_app names modes) nothing_held (codes "solve" ∷ words) ≡ solve_fault names words
   unfolding clap_on_literals
   solve_words_fault = rw (top_walked (codes "solve"), top_fault (codes "solve")) (or_else-nil (solve_fault names words))
 
-  solve_stop : told_of (stop_in names (codes "solve" ∷ words)) ≡ option_map solve (task_in (rows_at (solve_shape names) words).1)
+  solve_stop : told_of (stop_in names modes (codes "solve" ∷ words)) ≡ option_map solve (task_in (rows_at (solve_shape names) words).1)
   unfolding clap_on_literals
-  solve_stop = ap (λ (w : Walk). told_of (entered (the_app names) w.stopped)) (top_walked (codes "solve"))
+  solve_stop = ap (λ (w : Walk). told_of (entered (the_app names modes) w.stopped)) (top_walked (codes "solve"))
 
-  format_words_fault : built_fault (the_app names) nothing_held (codes "format" ∷ words) ≡ store_fault (codes "format") words
+  format_words_fault : built_fault (the_app names modes) nothing_held (codes "format" ∷ words) ≡ store_fault (codes "format") words
   unfolding clap_on_literals
   format_words_fault = rw (top_walked (codes "format"), top_fault (codes "format")) (or_else-nil (store_fault (codes "format") words))
 
-  format_stop : told_of (stop_in names (codes "format" ∷ words)) ≡ option_map format (store_in (rows_at (store_shape (codes "format")) words).1)
+  format_stop : told_of (stop_in names modes (codes "format" ∷ words)) ≡ option_map format (store_in (rows_at (store_shape (codes "format")) words).1)
   unfolding clap_on_literals
-  format_stop = ap (λ (w : Walk). told_of (entered (the_app names) w.stopped)) (top_walked (codes "format"))
+  format_stop = ap (λ (w : Walk). told_of (entered (the_app names modes) w.stopped)) (top_walked (codes "format"))
 
-  run_words_fault : built_fault (the_app names) nothing_held (codes "run" ∷ words) ≡ store_fault (codes "run") words
+  load_words_fault : built_fault (the_app names modes) nothing_held (codes "load" ∷ words) ≡ load_fault names words
   unfolding clap_on_literals
-  run_words_fault = rw (top_walked (codes "run"), top_fault (codes "run")) (or_else-nil (store_fault (codes "run") words))
+  load_words_fault = rw (top_walked (codes "load"), top_fault (codes "load")) (or_else-nil (load_fault names words))
 
-  run_stop : told_of (stop_in names (codes "run" ∷ words)) ≡ option_map run (store_in (rows_at (store_shape (codes "run")) words).1)
+  load_stop : told_of (stop_in names modes (codes "load" ∷ words)) ≡ option_map load (load_in (rows_at (load_shape names) words).1)
   unfolding clap_on_literals
-  run_stop = ap (λ (w : Walk). told_of (entered (the_app names) w.stopped)) (top_walked (codes "run"))
+  load_stop = ap (λ (w : Walk). told_of (entered (the_app names modes) w.stopped)) (top_walked (codes "load"))
 
-help_fault : (names : Bor (List (Bor Text))) (words : List Text) → IsSomeKind (built_fault (the_app names) nothing_held (codes "help" ∷ words))
+  run_words_fault : built_fault (the_app names modes) nothing_held (codes "run" ∷ words) ≡ run_fault modes words
+  unfolding clap_on_literals
+  run_words_fault = rw (top_walked (codes "run"), top_fault (codes "run")) (or_else-nil (run_fault modes words))
+
+  run_stop : told_of (stop_in names modes (codes "run" ∷ words)) ≡ run_in (rows_at (run_shape modes) words).1
+  unfolding clap_on_literals
+  run_stop = ap (λ (w : Walk). told_of (entered (the_app names modes) w.stopped)) (top_walked (codes "run"))
+
+  upgrade_words_fault : built_fault (the_app names modes) nothing_held (codes "upgrade" ∷ words) ≡ upgrade_fault words
+  unfolding clap_on_literals
+  upgrade_words_fault = rw (top_walked (codes "upgrade"), top_fault (codes "upgrade")) (or_else-nil (upgrade_fault words))
+
+  upgrade_stop : told_of (stop_in names modes (codes "upgrade" ∷ words)) ≡ upgrade_in (rows_at upgrade_shape words).1
+  unfolding clap_on_literals
+  upgrade_stop = ap (λ (w : Walk). told_of (entered (the_app names modes) w.stopped)) (top_walked (codes "upgrade"))
+
+help_fault : (names modes : Bor (List (Bor Text))) (words : List Text) → IsSomeKind (built_fault (the_app names modes) nothing_held (codes "help" ∷ words))
 unfolding clap_on_literals
-help_fault names words = tt
+help_fault names modes words = tt
 
 abbrev all_names : Names
 all_names =
-    (codes "audit", []) ∷ (codes "audits", []) ∷ (codes "explain", []) ∷ (codes "draw", []) ∷ (codes "solve", []) ∷ (codes "format", []) ∷ (codes "run", []) ∷ (codes "help", []) ∷ []
+    (codes "audit", []) ∷ (codes "audits", []) ∷ (codes "explain", []) ∷ (codes "draw", []) ∷ (codes "solve", []) ∷ (codes "format", []) ∷ (codes "load", []) ∷ (codes "run", []) ∷ (codes "upgrade", []) ∷ (codes "help", []) ∷ []
 
 -- the word is no subcommand's name
 record IsOther (w : Text) : Type 0 where
@@ -653,81 +993,93 @@ record IsOther (w : Text) : Type 0 where
   no_draw : bytes_eq (codes "draw") w ≡ false
   no_solve : bytes_eq (codes "solve") w ≡ false
   no_format : bytes_eq (codes "format") w ≡ false
+  no_load : bytes_eq (codes "load") w ≡ false
   no_run : bytes_eq (codes "run") w ≡ false
+  no_upgrade : bytes_eq (codes "upgrade") w ≡ false
 
 no_subcommand : (w : Text) → IsOther w → bytes_eq (codes "help") w ≡ false → subcommand_met all_names idle w ≡ None
-no_subcommand w o h = rw (o.no_audit, o.no_audits, o.no_explain, o.no_draw, o.no_solve, o.no_format, o.no_run, h) refl
+no_subcommand w o h = rw (o.no_audit, o.no_audits, o.no_explain, o.no_draw, o.no_solve, o.no_format, o.no_load, o.no_run, o.no_upgrade, h) refl
 
 turn_fault-stray : (s : Shape) (w : Text) → IsOther w → bytes_eq (codes "help") w ≡ false → turn_fault s all_names (standing nothing_held 1) w ≡ step_fault s 1 nothing_held value
 turn_fault-stray s w o h = rw (no_subcommand w o h, word_passes s w nothing_held o.positional, word_is_value s.rules 1 w nothing_held o.positional) refl
 
-stray_first : (names : Bor (List (Bor Text))) (w : Text) (words : List Text) → IsOther w → bytes_eq (codes "help") w ≡ false
-    → IsFault (walk_fault (the_app names).top all_names (walk_from nothing_held) (w ∷ words))
+stray_first : (names modes : Bor (List (Bor Text))) (w : Text) (words : List Text) → IsOther w → bytes_eq (codes "help") w ≡ false
+    → IsFault (walk_fault (the_app names modes).top all_names (walk_from nothing_held) (w ∷ words))
 unfolding walk_fault
-stray_first names w words o h = fault_first _ _ (subst IsFault (sym (turn_fault-stray (the_app names).top w o h)) (refl, (refl, tt)))
+stray_first names modes w words o h = fault_first _ _ (subst IsFault (sym (turn_fault-stray (the_app names modes).top w o h)) (refl, (refl, tt)))
 
-judged_other : (names : Bor (List (Bor Text))) (w : Text) (words : List Text) (is_help : Bool) → bytes_eq (codes "help") w ≡ is_help → IsOther w
-    → IsFault (built_fault (the_app names) nothing_held (w ∷ words)) ⊎ ((asks_help (w ∷ words) ≡ true) × IsSomeKind (built_fault (the_app names) nothing_held (w ∷ words)))
-judged_other names w words true h o =
+judged_other : (names modes : Bor (List (Bor Text))) (w : Text) (words : List Text) (is_help : Bool) → bytes_eq (codes "help") w ≡ is_help → IsOther w
+    → IsFault (built_fault (the_app names modes) nothing_held (w ∷ words)) ⊎ ((asks_help (w ∷ words) ≡ true) × IsSomeKind (built_fault (the_app names modes) nothing_held (w ∷ words)))
+judged_other names modes w words true h o =
     let is : codes "help" ≡ w = (bytes_eq-Decides (codes "help") w).0 h in
-    inr (h, subst (λ (v : Text). IsSomeKind (built_fault (the_app names) nothing_held (v ∷ words))) is (help_fault names words))
-judged_other names w words false h o = inl (fault_first _ _ (stray_first names w words o h))
+    inr (h, subst (λ (v : Text). IsSomeKind (built_fault (the_app names modes) nothing_held (v ∷ words))) is (help_fault names modes words))
+judged_other names modes w words false h o = inl (fault_first _ _ (stray_first names modes w words o h))
 
 -- the words that follow a subcommand's name are judged
-judged_named : (names : Bor (List (Bor Text))) (Help : Type 0) (name w : Text) (words : List Text) (fault : Kinds) (asked told : Option Asked) → name ≡ w
-    → built_fault (the_app names) nothing_held (name ∷ words) ≡ fault → told_of (stop_in names (name ∷ words)) ≡ told → IsJudged Help fault asked told
-    → IsJudged Help (built_fault (the_app names) nothing_held (w ∷ words)) asked (told_of (stop_in names (w ∷ words)))
-judged_named names Help name w words fault asked told is f t j =
-    subst (λ (v : Text). IsJudged Help (built_fault (the_app names) nothing_held (v ∷ words)) asked (told_of (stop_in names (v ∷ words)))) is
-    (subst (λ x. IsJudged Help x asked (told_of (stop_in names (name ∷ words)))) (sym f) (subst (λ x. IsJudged Help fault asked x) (sym t) j))
+judged_named : (names modes : Bor (List (Bor Text))) (Help : Type 0) (name w : Text) (words : List Text) (fault : Kinds) (asked told : Option Asked) → name ≡ w
+    → built_fault (the_app names modes) nothing_held (name ∷ words) ≡ fault → told_of (stop_in names modes (name ∷ words)) ≡ told → IsJudged Help fault asked told
+    → IsJudged Help (built_fault (the_app names modes) nothing_held (w ∷ words)) asked (told_of (stop_in names modes (w ∷ words)))
+judged_named names modes Help name w words fault asked told is f t j =
+    subst (λ (v : Text). IsJudged Help (built_fault (the_app names modes) nothing_held (v ∷ words)) asked (told_of (stop_in names modes (v ∷ words)))) is
+    (subst (λ x. IsJudged Help x asked (told_of (stop_in names modes (name ∷ words)))) (sym f) (subst (λ x. IsJudged Help fault asked x) (sym t) j))
 
 -- what the words behind the first one ask for, by whether it is the name of each subcommand
-abbrev asked_if : List Text → Bool → Bool → Bool → Bool → Bool → Bool → Bool → Option Asked
-asked_if words is_audit is_audits is_explain is_draw is_solve is_format is_run =
+abbrev asked_if : List Text → Bool → Bool → Bool → Bool → Bool → Bool → Bool → Bool → Bool → Option Asked
+asked_if words is_audit is_audits is_explain is_draw is_solve is_format is_load is_run is_upgrade =
     if is_audit then option_map audit (paths_asked words)
     else (if is_audits then list_asked words
     else (if is_explain then option_map explain (paths_asked words)
     else (if is_draw then option_map draw (paths_asked words)
     else (if is_solve then option_map solve (task_asked words)
     else (if is_format then option_map format (store_asked words)
-    else (if is_run then option_map run (store_asked words) else None))))))
+    else (if is_load then option_map load (load_asked words)
+    else (if is_run then run_asked words
+    else (if is_upgrade then upgrade_asked words else None))))))))
 
-judged_first : (names : Bor (List (Bor Text))) (w : Text) (words : List Text) (is_audit is_audits is_explain is_draw is_solve is_format is_run : Bool)
+judged_first : (names modes : Bor (List (Bor Text))) (w : Text) (words : List Text) (is_audit is_audits is_explain is_draw is_solve is_format is_load is_run is_upgrade : Bool)
     → bytes_eq (codes "audit") w ≡ is_audit → bytes_eq (codes "audits") w ≡ is_audits → bytes_eq (codes "explain") w ≡ is_explain → bytes_eq (codes "draw") w ≡ is_draw
-    → bytes_eq (codes "solve") w ≡ is_solve → bytes_eq (codes "format") w ≡ is_format → bytes_eq (codes "run") w ≡ is_run → IsKindNames names → ArePositional (w ∷ words)
-    → IsJudged (asks_help (w ∷ words) ≡ true) (built_fault (the_app names) nothing_held (w ∷ words)) (asked_if words is_audit is_audits is_explain is_draw is_solve is_format is_run)
-    (told_of (stop_in names (w ∷ words)))
-judged_first names w words true is_audits is_explain is_draw is_solve is_format is_run e1 e2 e3 e4 e5 e6 e7 kinds p =
+    → bytes_eq (codes "solve") w ≡ is_solve → bytes_eq (codes "format") w ≡ is_format → bytes_eq (codes "load") w ≡ is_load → bytes_eq (codes "run") w ≡ is_run → bytes_eq (codes "upgrade") w ≡ is_upgrade → IsKindNames names → IsModeNames modes → ArePositional (w ∷ words)
+    → IsJudged (asks_help (w ∷ words) ≡ true) (built_fault (the_app names modes) nothing_held (w ∷ words)) (asked_if words is_audit is_audits is_explain is_draw is_solve is_format is_load is_run is_upgrade)
+    (told_of (stop_in names modes (w ∷ words)))
+judged_first names modes w words true is_audits is_explain is_draw is_solve is_format is_load is_run is_upgrade e1 e2 e3 e4 e5 e6 e7 e8 e9 kinds named p =
     let rest = (both_true _ _ p).1 in
-    judged_named names _ (codes "audit") w words _ _ _ ((bytes_eq-Decides (codes "audit") w).0 e1) (audit_words_fault names words) (audit_stop names words)
+    judged_named names modes _ (codes "audit") w words _ _ _ ((bytes_eq-Decides (codes "audit") w).0 e1) (audit_words_fault names modes words) (audit_stop names modes words)
     (judged_paths _ audit (codes "audit") names words kinds rest)
-judged_first names w words false true is_explain is_draw is_solve is_format is_run e1 e2 e3 e4 e5 e6 e7 kinds p =
+judged_first names modes w words false true is_explain is_draw is_solve is_format is_load is_run is_upgrade e1 e2 e3 e4 e5 e6 e7 e8 e9 kinds named p =
     let rest = (both_true _ _ p).1 in
-    judged_named names _ (codes "audits") w words _ _ _ ((bytes_eq-Decides (codes "audits") w).0 e2) (audits_words_fault names words) (audits_stop names words)
+    judged_named names modes _ (codes "audits") w words _ _ _ ((bytes_eq-Decides (codes "audits") w).0 e2) (audits_words_fault names modes words) (audits_stop names modes words)
     (judged_list _ names words kinds rest)
-judged_first names w words false false true is_draw is_solve is_format is_run e1 e2 e3 e4 e5 e6 e7 kinds p =
+judged_first names modes w words false false true is_draw is_solve is_format is_load is_run is_upgrade e1 e2 e3 e4 e5 e6 e7 e8 e9 kinds named p =
     let rest = (both_true _ _ p).1 in
-    judged_named names _ (codes "explain") w words _ _ _ ((bytes_eq-Decides (codes "explain") w).0 e3) (explain_words_fault names words) (explain_stop names words)
+    judged_named names modes _ (codes "explain") w words _ _ _ ((bytes_eq-Decides (codes "explain") w).0 e3) (explain_words_fault names modes words) (explain_stop names modes words)
     (judged_paths _ explain (codes "explain") names words kinds rest)
-judged_first names w words false false false true is_solve is_format is_run e1 e2 e3 e4 e5 e6 e7 kinds p =
+judged_first names modes w words false false false true is_solve is_format is_load is_run is_upgrade e1 e2 e3 e4 e5 e6 e7 e8 e9 kinds named p =
     let rest = (both_true _ _ p).1 in
-    judged_named names _ (codes "draw") w words _ _ _ ((bytes_eq-Decides (codes "draw") w).0 e4) (draw_words_fault names words) (draw_stop names words)
+    judged_named names modes _ (codes "draw") w words _ _ _ ((bytes_eq-Decides (codes "draw") w).0 e4) (draw_words_fault names modes words) (draw_stop names modes words)
     (judged_paths _ draw (codes "draw") names words kinds rest)
-judged_first names w words false false false false true is_format is_run e1 e2 e3 e4 e5 e6 e7 kinds p =
+judged_first names modes w words false false false false true is_format is_load is_run is_upgrade e1 e2 e3 e4 e5 e6 e7 e8 e9 kinds named p =
     let rest = (both_true _ _ p).1 in
-    judged_named names _ (codes "solve") w words _ _ _ ((bytes_eq-Decides (codes "solve") w).0 e5) (solve_words_fault names words) (solve_stop names words)
+    judged_named names modes _ (codes "solve") w words _ _ _ ((bytes_eq-Decides (codes "solve") w).0 e5) (solve_words_fault names modes words) (solve_stop names modes words)
     (judged_task _ names words kinds rest)
-judged_first names w words false false false false false true is_run e1 e2 e3 e4 e5 e6 e7 kinds p =
+judged_first names modes w words false false false false false true is_load is_run is_upgrade e1 e2 e3 e4 e5 e6 e7 e8 e9 kinds named p =
     let rest = (both_true _ _ p).1 in
-    judged_named names _ (codes "format") w words _ _ _ ((bytes_eq-Decides (codes "format") w).0 e6) (format_words_fault names words) (format_stop names words)
+    judged_named names modes _ (codes "format") w words _ _ _ ((bytes_eq-Decides (codes "format") w).0 e6) (format_words_fault names modes words) (format_stop names modes words)
     (judged_store _ format (codes "format") words rest)
-judged_first names w words false false false false false false true e1 e2 e3 e4 e5 e6 e7 kinds p =
+judged_first names modes w words false false false false false false true is_run is_upgrade e1 e2 e3 e4 e5 e6 e7 e8 e9 kinds named p =
     let rest = (both_true _ _ p).1 in
-    judged_named names _ (codes "run") w words _ _ _ ((bytes_eq-Decides (codes "run") w).0 e7) (run_words_fault names words) (run_stop names words)
-    (judged_store _ run (codes "run") words rest)
-judged_first names w words false false false false false false false e1 e2 e3 e4 e5 e6 e7 kinds p =
+    judged_named names modes _ (codes "load") w words _ _ _ ((bytes_eq-Decides (codes "load") w).0 e7) (load_words_fault names modes words) (load_stop names modes words)
+    (judged_load _ names words kinds rest)
+judged_first names modes w words false false false false false false false true is_upgrade e1 e2 e3 e4 e5 e6 e7 e8 e9 kinds named p =
+    let rest = (both_true _ _ p).1 in
+    judged_named names modes _ (codes "run") w words _ _ _ ((bytes_eq-Decides (codes "run") w).0 e8) (run_words_fault names modes words) (run_stop names modes words)
+    (judged_run _ modes words named rest)
+judged_first names modes w words false false false false false false false false true e1 e2 e3 e4 e5 e6 e7 e8 e9 kinds named p =
+    let rest = (both_true _ _ p).1 in
+    judged_named names modes _ (codes "upgrade") w words _ _ _ ((bytes_eq-Decides (codes "upgrade") w).0 e9) (upgrade_words_fault names modes words) (upgrade_stop names modes words)
+    (judged_upgrade _ words rest)
+judged_first names modes w words false false false false false false false false false e1 e2 e3 e4 e5 e6 e7 e8 e9 kinds named p =
     inr (
-      judged_other names w words (bytes_eq (codes "help") w) refl (record {
+      judged_other names modes w words (bytes_eq (codes "help") w) refl (record {
         positional = (both_true _ _ p).0;
         no_audit = e1;
         no_audits = e2;
@@ -735,18 +1087,20 @@ judged_first names w words false false false false false false false e1 e2 e3 e4
         no_draw = e4;
         no_solve = e5;
         no_format = e6;
-        no_run = e7;
+        no_load = e7;
+        no_run = e8;
+        no_upgrade = e9;
       }),
       refl,
     )
 
 -- the parse of words that do not begin with a hyphen
-pub judged_words : (names : Bor (List (Bor Text))) (words : List Text) → IsKindNames names → ArePositional words
-    → IsJudged (asks_help words ≡ true) (built_fault (the_app names) nothing_held words) (asked_by words) (told_of (stop_in names words))
-judged_words names [] kinds p = inl (no_words names, refl)
-judged_words names (w ∷ words) kinds p =
-    judged_first names w words (bytes_eq (codes "audit") w) (bytes_eq (codes "audits") w) (bytes_eq (codes "explain") w) (bytes_eq (codes "draw") w) (bytes_eq (codes "solve") w)
-    (bytes_eq (codes "format") w) (bytes_eq (codes "run") w) refl refl refl refl refl refl refl kinds p
+pub judged_words : (names modes : Bor (List (Bor Text))) (words : List Text) → IsKindNames names → IsModeNames modes → ArePositional words
+    → IsJudged (asks_help words ≡ true) (built_fault (the_app names modes) nothing_held words) (asked_by words) (told_of (stop_in names modes words))
+judged_words names modes [] kinds named p = inl (no_words names modes, refl)
+judged_words names modes (w ∷ words) kinds named p =
+    judged_first names modes w words (bytes_eq (codes "audit") w) (bytes_eq (codes "audits") w) (bytes_eq (codes "explain") w) (bytes_eq (codes "draw") w) (bytes_eq (codes "solve") w)
+    (bytes_eq (codes "format") w) (bytes_eq (codes "load") w) (bytes_eq (codes "run") w) (bytes_eq (codes "upgrade") w) refl refl refl refl refl refl refl refl refl kinds named p
 
 -- ---- the values of words
 
@@ -796,12 +1150,30 @@ module _ (f : Found) where
       let named' : kind_named k ≡ Some kind = sym named in
       rw (value_is f (codes "KIND") (Some k) ek, value_is f (codes "LIST") (Some l) el, named') refl
 
+  -- of `upgrade`
+  pub no_old : None ≡ first_value f (codes "OLD") → None ≡ upgrade_in (rows_of f)
+  no_old eo = rw (value_is f (codes "OLD") None eo) refl
+
+  pub no_new : (o : Text) → Some o ≡ first_value f (codes "OLD") → None ≡ first_value f (codes "NEW") → None ≡ upgrade_in (rows_of f)
+  no_new o eo en = rw (value_is f (codes "OLD") (Some o) eo, value_is f (codes "NEW") None en) refl
+
+  pub upgrade_found : (o n : Text) → Some o ≡ first_value f (codes "OLD") → Some n ≡ first_value f (codes "NEW") → Some (upgrade o n) ≡ upgrade_in (rows_of f)
+  upgrade_found o n eo en = rw (value_is f (codes "OLD") (Some o) eo, value_is f (codes "NEW") (Some n) en) refl
+
   -- of `solve`
   abbrev IsValue : Text → Option Text → Type 0
   IsValue id o = o ≡ first_value f id
 
   pub task_is : (k i n : Option Text) → IsValue (codes "KIND") k → IsValue (codes "INSTANCE") i → IsValue (codes "STEPS") n → task_in (rows_of f) ≡ task_with k i n (first_of (codes "SEED") (rows_of f))
   task_is k i n ek ei en = rw (value_is f (codes "KIND") k ek, value_is f (codes "INSTANCE") i ei, value_is f (codes "STEPS") n en) refl
+
+  -- of `run`
+  pub run_is : (w m : Option Text) → IsValue (codes "STORE") w → IsValue (codes "strict") m → run_in (rows_of f) ≡ run_with w m
+  run_is w m ew em = rw (value_is f (codes "STORE") w ew, value_is f (codes "strict") m em) refl
+
+  -- of `load`
+  pub load_is : (w k i : Option Text) → IsValue (codes "STORE") w → IsValue (codes "KIND") k → IsValue (codes "INSTANCE") i → load_in (rows_of f) ≡ load_with w k i (first_of (codes "SEED") (rows_of f))
+  load_is w k i ew ek ei = rw (value_is f (codes "STORE") w ew, value_is f (codes "KIND") k ek, value_is f (codes "INSTANCE") i ei) refl
 
 -- words that ask for no task
 pub no_task_kind : (i n s : Option Text) → task_with None i n s ≡ None
@@ -838,26 +1210,73 @@ pub task_found : (k i n : Text) (s : Option Text) (kind : Kind) (steps seed : �
 task_found k i n s kind steps seed ek en es =
     ap (λ o. task_from o i (steps_named n) (seed_or_none s)) ek ∙ (ap (λ o. task_from (Some kind) i o (seed_or_none s)) en ∙ ap (λ o. task_from (Some kind) i (Some steps) o) es)
 
+is_not : (b : Bool) → (b ≡ true → ⊥) → b ≡ false
+is_not true n = absurd (n refl)
+is_not false n = refl
+
+-- a word behind the store that is not `strict`
+pub other_mode : (w m : Text) → (m ≡ codes "strict" → ⊥) → run_with (Some w) (Some m) ≡ None
+other_mode w m n = rw (is_not (bytes_eq (codes "strict") m) (λ e. n (sym ((bytes_eq-Decides (codes "strict") m).0 e)))) refl
+
+pub strict_mode : (w m : Text) → m ≡ codes "strict" → run_with (Some w) (Some m) ≡ Some (run w true)
+strict_mode w m is = ap (λ (x : Text). run_from w x) is
+
+-- words that load nothing
+pub no_load_store : (k i s : Option Text) → load_with None k i s ≡ None
+no_load_store k i s = refl
+
+pub no_load_kind : (w : Text) (i s : Option Text) → load_with (Some w) None i s ≡ None
+no_load_kind w i s = refl
+
+pub no_kind_of_load : (w k : Text) (i s : Option Text) → kind_named k ≡ None → load_with (Some w) (Some k) i s ≡ None
+no_kind_of_load w k None s e = refl
+no_kind_of_load w k (Some i) s e = ap (λ o. load_from w o i (seed_or_none s)) e
+
+pub no_load_instance : (w k : Text) (s : Option Text) → load_with (Some w) (Some k) None s ≡ None
+no_load_instance w k s = refl
+
+no_seed_to_load : (w : Text) (o : Option Kind) (i : Text) → load_from w o i None ≡ None
+no_seed_to_load w None i = refl
+no_seed_to_load w (Some k) i = refl
+
+pub bad_load_seed : (w k i : Text) (s : Option Text) → seed_or_none s ≡ None → load_with (Some w) (Some k) (Some i) s ≡ None
+bad_load_seed w k i s e = ap (λ o. load_from w (kind_named k) i o) e ∙ no_seed_to_load w (kind_named k) i
+
+pub load_found : (w k i : Text) (s : Option Text) (kind : Kind) (seed : ℕ) → kind_named k ≡ Some kind → seed_or_none s ≡ Some seed
+    → load_with (Some w) (Some k) (Some i) s ≡ Some (record { store = w; kind = kind; instance = i; seed = seed })
+load_found w k i s kind seed ek es = ap (λ o. load_from w o i (seed_or_none s)) ek ∙ ap (λ o. load_from w (Some kind) i o) es
+
+-- ---- the name of a command that takes no solution
+
+other_name : (name w : Text) → (w ≡ name → ⊥) → bytes_eq name w ≡ false
+other_name name w n = is_not (bytes_eq name w) (λ e. n (sym ((bytes_eq-Decides name w).0 e)))
+
+pub told_other : (w : Text) (rows : List Row) → (w ≡ codes "audit" → ⊥) → (w ≡ codes "explain" → ⊥) → (w ≡ codes "draw" → ⊥) → told_by w rows ≡ told_by_other w rows
+told_other w rows a e d = rw (other_name (codes "audit") w a, other_name (codes "explain") w e, other_name (codes "draw") w d) refl
+
+pub told_run : (w : Text) (rows : List Row) → (w ≡ codes "format" → ⊥) → (w ≡ codes "load" → ⊥) → (w ≡ codes "upgrade" → ⊥) → told_of_store w rows ≡ run_in rows
+told_run w rows f l u = rw (other_name (codes "format") w f, other_name (codes "load") w l, other_name (codes "upgrade") w u) refl
+
 -- ---- the parse
 
-simple_app : (names : Bor (List (Bor Text))) → is_simple_and_free (planner_app names) ≡ true
-simple_app names = refl
+simple_app : (names modes : Bor (List (Bor Text))) → is_simple_and_free (planner_app names modes) ≡ true
+simple_app names modes = refl
 
-is_simple_app : (names : Bor (List (Bor Text))) → is_simple (planner_app names) ≡ true
-is_simple_app names = refl
+is_simple_app : (names modes : Bor (List (Bor Text))) → is_simple (planner_app names modes) ≡ true
+is_simple_app names modes = refl
 
 pub is_simple_command : (command : Command) → IsPlannerCommand command → is_simple_and_free (app_of command) ≡ true
-is_simple_command command h = ap is_simple_and_free h.app ∙ simple_app h.names
+is_simple_command command h = ap is_simple_and_free h.app ∙ simple_app h.names h.mode_names
 
-judged_app : (names : Bor (List (Bor Text))) (texts : List Text) → IsKindNames names → ArePositional (drop 1 texts)
-    → IsJudged (asks_help (drop 1 texts) ≡ true) (fault_of (planner_app names) texts) (asked_by (drop 1 texts)) (told_of (subcommand_of (planner_app names) texts))
-judged_app names texts kinds p = judged_words names (drop 1 texts) kinds p
+judged_app : (names modes : Bor (List (Bor Text))) (texts : List Text) → IsKindNames names → IsModeNames modes → ArePositional (drop 1 texts)
+    → IsJudged (asks_help (drop 1 texts) ≡ true) (fault_of (planner_app names modes) texts) (asked_by (drop 1 texts)) (told_of (subcommand_of (planner_app names modes) texts))
+judged_app names modes texts kinds named p = judged_words names modes (drop 1 texts) kinds named p
 
 pub judged : (command : Command) (texts : List Text) → IsPlannerCommand command → ArePositional (drop 1 texts)
     → IsJudged (asks_help (drop 1 texts) ≡ true) (fault_of (app_of command) texts) (asked_by (drop 1 texts)) (told_of (subcommand_of (app_of command) texts))
 judged command texts h p =
     subst (λ (a : App). IsJudged (asks_help (drop 1 texts) ≡ true) (fault_of a texts) (asked_by (drop 1 texts)) (told_of (subcommand_of a texts))) (sym h.app)
-    (judged_app h.names texts h.kinds p)
+    (judged_app h.names h.mode_names texts h.kinds h.modes p)
 
 mistakes : (faults : Kinds) → IsFault faults → AreMistakes faults
 mistakes [] h = absurd h
@@ -896,7 +1315,7 @@ accepted Help faults asked told (inr failing) none =
 pub parsed : (command : Command) (texts : List Text) (m : ArgMatches) → IsPlannerCommand command → ArePositional (drop 1 texts) → (is_simple_and_free (app_of command) ≡ true → fault_of (app_of command) texts ≡ [])
     → HasMatchesOf (app_of command) texts m → asked_by (drop 1 texts) ≡ told_of (subcommand_rows_of m)
 parsed command texts m h p no_fault matches =
-    accepted _ _ _ _ (judged command texts h p) (no_fault (is_simple_command command h)) ∙ ap told_of (sym (matches (ap is_simple h.app ∙ is_simple_app h.names)).1)
+    accepted _ _ _ _ (judged command texts h p) (no_fault (is_simple_command command h)) ∙ ap told_of (sym (matches (ap is_simple h.app ∙ is_simple_app h.names h.mode_names)).1)
 
 -- `?` passes the error up as it is
 pub passed_up : (words : List Text) (r : Result Invocation Error) (e : Error) → IsErrAnd r (λ y. y ≡ e) → IsRefusal words e → ReadsWords words r

@@ -12,7 +12,8 @@ use Rattle.command_text.specs.Asking.{field_in}
 use Rattle.text_lines.specs.Numbers.{below, digits_of}
 use Rattle.command_line.specs.declared.words.Paths.{Paths}
 use Rattle.command_line.specs.declared.words.Invocation.{Invocation}
-use Rattle.command_line.specs.declared.words.Invocation.TheVariants.{Audit, Audits, BuiltIn, Draw, Explain, Format, Run, Solve}
+use Rattle.command_line.specs.declared.words.Invocation.TheVariants.{Audit, Audits, BuiltIn, Draw, Explain, Format, Load, Run, Solve, Upgrade}
+use Rattle.command_line.specs.declared.words.Loading.{Loading}
 use Rattle.command_line.specs.declared.words.Task.{Task}
 
 -- two files of a kind of instance, by their paths
@@ -28,8 +29,16 @@ pub record TaskAsked : Type 0 where
   pub steps : ℕ
   pub seed : ℕ
 
+-- a store's file, and an instance's file with the seed of its searches
+pub record LoadAsked : Type 0 where
+  pub store : Text
+  pub kind : Kind
+  pub instance : Text
+  pub seed : ℕ
+
 -- The audit of the two built-in texts, or of two files; the audits of a list; the audit of two files with what it rests on, or the picture
--- of the solution; the solving of an instance; a store made in a file, or commands over one.
+-- of the solution; the solving of an instance; a store made in a file, an instance loaded into one, or commands over one; a store made of an
+-- old one.
 pub data Asked : Type 0 where
   built_in : Asked
   audit : PathsAsked → Asked
@@ -38,13 +47,18 @@ pub data Asked : Type 0 where
   draw : PathsAsked → Asked
   solve : TaskAsked → Asked
   format : Text → Asked
-  run : Text → Asked
+  load : LoadAsked → Asked
+  run : Text → Bool → Asked
+  upgrade : Text → Text → Asked
 
 abbrev pub paths_of : Paths → PathsAsked
 paths_of paths = record { kind = paths.kind; instance = paths.instance.now; solution = paths.solution.now }
 
 abbrev pub task_of : Task → TaskAsked
 task_of task = record { kind = task.kind; instance = task.instance.now; steps = task.steps; seed = task.seed }
+
+abbrev pub load_of : Loading → LoadAsked
+load_of loading = record { store = loading.store.now; kind = loading.kind; instance = loading.instance.now; seed = loading.seed }
 
 abbrev pub asked_of : Invocation → Asked
 asked_of BuiltIn = built_in
@@ -54,7 +68,9 @@ asked_of (Explain paths) = explain (paths_of paths)
 asked_of (Draw paths) = draw (paths_of paths)
 asked_of (Solve task) = solve (task_of task)
 asked_of (Format store) = format store.now
-asked_of (Run store) = run store.now
+asked_of (Load loading) = load (load_of loading)
+asked_of (Run store is_strict) = run store.now is_strict
+asked_of (Upgrade old new) = upgrade old.now new.now
 
 -- the kind of instance that a word names
 abbrev pub kind_named : Text → Option Kind
@@ -99,6 +115,30 @@ abbrev pub store_asked : List Text → Option Text
 store_asked (store ∷ []) = Some store
 store_asked _ = None
 
+abbrev pub load_from : Text → Option Kind → Text → Option ℕ → Option LoadAsked
+load_from store (Some kind) instance (Some seed) = Some (record { store = store; kind = kind; instance = instance; seed = seed })
+load_from _ _ _ _ = None
+
+-- `STORE [strict]`
+abbrev pub run_from : Text → Text → Option Asked
+run_from store mode = if bytes_eq (codes "strict") mode then Some (run store true) else None
+
+abbrev pub run_asked : List Text → Option Asked
+run_asked (store ∷ []) = Some (run store false)
+run_asked (store ∷ mode ∷ []) = run_from store mode
+run_asked _ = None
+
+-- `STORE KIND INSTANCE [SEED]`
+abbrev pub load_asked : List Text → Option LoadAsked
+load_asked (store ∷ kind ∷ instance ∷ []) = load_from store (kind_named kind) instance (Some 0)
+load_asked (store ∷ kind ∷ instance ∷ seed ∷ []) = load_from store (kind_named kind) instance (seed_named seed)
+load_asked _ = None
+
+-- `OLD NEW`
+abbrev pub upgrade_asked : List Text → Option Asked
+upgrade_asked (old ∷ new ∷ []) = Some (upgrade old new)
+upgrade_asked _ = None
+
 -- what the command of this name asks for with these words; no other has this name
 abbrev pub asked_with : List Text → Text → Option Asked
 asked_with words command = if bytes_eq (codes "audit") command then option_map audit (paths_asked words)
@@ -107,7 +147,9 @@ asked_with words command = if bytes_eq (codes "audit") command then option_map a
     else (if bytes_eq (codes "draw") command then option_map draw (paths_asked words)
     else (if bytes_eq (codes "solve") command then option_map solve (task_asked words)
     else (if bytes_eq (codes "format") command then option_map format (store_asked words)
-    else (if bytes_eq (codes "run") command then option_map run (store_asked words) else None))))))
+    else (if bytes_eq (codes "load") command then option_map load (load_asked words)
+    else (if bytes_eq (codes "run") command then run_asked words
+    else (if bytes_eq (codes "upgrade") command then upgrade_asked words else None))))))))
 
 -- no words, or a command with its own
 abbrev pub asked_by : List Text → Option Asked
@@ -142,9 +184,37 @@ task_in rows = task_with (first_of (codes "KIND") rows) (first_of (codes "INSTAN
 abbrev pub store_in : List Row → Option Text
 store_in rows = first_of (codes "STORE") rows
 
--- what `format` or `run` asks for
+-- those of `STORE [strict]`
+abbrev pub run_with : Option Text → Option Text → Option Asked
+run_with (Some store) None = Some (run store false)
+run_with (Some store) (Some mode) = run_from store mode
+run_with None _ = None
+
+abbrev pub run_in : List Row → Option Asked
+run_in rows = run_with (first_of (codes "STORE") rows) (first_of (codes "strict") rows)
+
+-- those of `STORE KIND INSTANCE [SEED]`
+abbrev pub load_with : Option Text → Option Text → Option Text → Option Text → Option LoadAsked
+load_with (Some store) (Some kind) (Some instance) seed = load_from store (kind_named kind) instance (seed_or_none seed)
+load_with _ _ _ _ = None
+
+abbrev pub load_in : List Row → Option LoadAsked
+load_in rows = load_with (first_of (codes "STORE") rows) (first_of (codes "KIND") rows) (first_of (codes "INSTANCE") rows) (first_of (codes "SEED") rows)
+
+-- those of `OLD NEW`
+abbrev pub upgrade_from : Option Text → Option Text → Option Asked
+upgrade_from (Some old) (Some new) = Some (upgrade old new)
+upgrade_from _ _ = None
+
+abbrev pub upgrade_in : List Row → Option Asked
+upgrade_in rows = upgrade_from (first_of (codes "OLD") rows) (first_of (codes "NEW") rows)
+
+-- what `format`, `load`, `upgrade` or `run` asks for
 abbrev pub told_of_store : Text → List Row → Option Asked
-told_of_store name rows = if bytes_eq (codes "format") name then option_map format (store_in rows) else option_map run (store_in rows)
+told_of_store name rows =
+    if bytes_eq (codes "format") name then option_map format (store_in rows)
+    else (if bytes_eq (codes "load") name then option_map load (load_in rows)
+    else (if bytes_eq (codes "upgrade") name then upgrade_in rows else run_in rows))
 
 -- what a subcommand asks for that takes no solution; there is no other one than these
 abbrev pub told_by_other : Text → List Row → Option Asked

@@ -36,25 +36,50 @@ solve_app names =
 abbrev pub store_app : Text → App
 store_app name = with_rule (new_app name) (word_rule (codes "STORE"))
 
+-- a word that may be left out, and is one of the names
+abbrev pub mode_rule : Bor (List (Bor Text)) → Rule
+mode_rule modes = record (new_rule (codes "strict")) { parser = Some (Names modes) }
+
+-- `run STORE [strict]`
+abbrev pub run_app : Bor (List (Bor Text)) → App
+run_app modes = with_rule (with_rule (new_app (codes "run")) (word_rule (codes "STORE"))) (mode_rule modes)
+
+-- `load STORE KIND INSTANCE [SEED]`
+abbrev pub load_app : Bor (List (Bor Text)) → App
+load_app names =
+    with_rule (with_rule (with_rule (with_rule (new_app (codes "load")) (word_rule (codes "STORE"))) (kind_rule names)) (word_rule (codes "INSTANCE"))) (new_rule (codes "SEED"))
+
+-- `upgrade OLD NEW`
+abbrev pub upgrade_app : App
+upgrade_app = with_rule (with_rule (new_app (codes "upgrade")) (word_rule (codes "OLD"))) (word_rule (codes "NEW"))
+
 -- a command that tells its version
 abbrev pub versioned_app : Text → App
 versioned_app name = on_top (λ s. record s { has_version = true }) (new_app name)
 
 -- one level of subcommands
-abbrev pub planner_app : Bor (List (Bor Text)) → App
-planner_app names =
+abbrev pub planner_app : Bor (List (Bor Text)) → Bor (List (Bor Text)) → App
+planner_app names modes =
     let audit = with_subcommand (versioned_app (codes "planner")) (paths_app (codes "audit") names).top in
     let audits = with_subcommand audit (audits_app names).top in
     let explain = with_subcommand audits (paths_app (codes "explain") names).top in
     let draw = with_subcommand explain (paths_app (codes "draw") names).top in
     let solve = with_subcommand draw (solve_app names).top in
-    with_subcommand (with_subcommand solve (store_app (codes "format")).top) (store_app (codes "run")).top
+    let format = with_subcommand solve (store_app (codes "format")).top in
+    let load = with_subcommand format (load_app names).top in
+    with_subcommand (with_subcommand load (run_app modes).top) upgrade_app.top
 
 abbrev pub kind_words : List Text
 kind_words = codes "lilim" ∷ codes "vrp" ∷ []
 
 abbrev pub IsKindNames : Bor (List (Bor Text)) → Type 0
 IsKindNames names = map (λ name. name.now) names.now ≡ kind_words
+
+abbrev pub mode_words : List Text
+mode_words = codes "strict" ∷ []
+
+abbrev pub IsModeNames : Bor (List (Bor Text)) → Type 0
+IsModeNames modes = map (λ name. name.now) modes.now ≡ mode_words
 
 -- the argument is this word, and of this command alone
 pub record IsWord (r : Rule) (arg : Arg) : Type 0 where
@@ -69,4 +94,6 @@ pub record IsLeafCommand (a : App) (command : Command) : Type 0 where
 pub record IsPlannerCommand (command : Command) : Type 0 where
   pub names : Bor (List (Bor Text))
   pub kinds : IsKindNames names
-  pub app : app_of command ≡ planner_app names
+  pub mode_names : Bor (List (Bor Text))
+  pub modes : IsModeNames mode_names
+  pub app : app_of command ≡ planner_app names mode_names

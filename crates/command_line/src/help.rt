@@ -10,7 +10,7 @@ pub(crate) const ABOUT: &str =
 pub(crate) const STATUSES: &str =
     "Answers go to standard output. The status says how the program ended:\n  \
     0   done; of an audit: the solution keeps all rules\n  \
-    1   the solution breaks a rule, or requests stay unplanned\n  \
+    1   the solution breaks a rule, requests stay unplanned, or `run strict` ended at a refusal\n  \
     2   a text or a store is refused\n  \
     3   a file or a device failed, or an answer could not be written\n  \
     4   there was no memory\n  \
@@ -44,31 +44,40 @@ pub(crate) const FORMAT_ABOUT: &str = "Makes an empty store, in a new file or in
 pub(crate) const FORMAT_ANSWERS: &str = "It prints one line:\n  \
     ok                  the store is empty and durable (status 0)\n  \
     cannot read PATH    the file can't be opened to be read and written (status 3)\n  \
+    store InUse         another program has the store open (status 3)\n  \
     store DeviceFault   a write or a sync failed; the file is no store until format succeeds (status 3)\n  \
-    store OutOfMemory   (status 4)";
+    store OutOfMemory   (status 4)\n\n\
+    What the system says of a file or a device that failed stands on standard error.";
+
+pub(crate) const LOAD_ABOUT: &str =
+    "Loads an instance into a store, which it makes where there is no file";
+
+pub(crate) const LOAD_ANSWERS: &str =
+    "The instance is read first. A store that holds one already stays as it is: the line `load` of `run`\n\
+    begins it anew. It prints one line:\n  \
+    ok                  the store holds the instance, and no stop loses it (status 0)\n  \
+    store Loaded        the store holds an instance already; it stays as it is (status 2)\n  \
+    instance NAME LINE  the first fault of the instance's text (status 2)\n  \
+    cannot read PATH    the file can't be read, or that of the store not be opened or made (status 3)\n  \
+    store NAME          why the store was not opened, as `run` tells it, or made (status 2, 3 or 4)\n  \
+    fault device        a write or a sync of the instance failed; `run` tells whether it is there (status 3)\n  \
+    no Spent            the store can't be written any more (status 2)\n  \
+    no OutOfMemory      the store stays as it is (status 4)\n  \
+    out of memory       there was none for the instance (status 4)\n\n\
+    What the system says of a file or a device that failed stands on standard error.";
 
 pub(crate) const RUN_ABOUT: &str = "Opens a store and does the commands of standard input";
 
-pub(crate) const RUN_ANSWERS: &str =
-    "It prints `opened STEPS`, the search steps that were repeated, and then answers each line:\n  \
-    load lilim|vrp SEED LEN    a new instance: the LEN bytes behind this line\n  \
-    build                      puts each unplanned request at its best place\n  \
-    search N, reach N          N search steps, or as many as lead to step N\n  \
-    deviation D                how much longer a plan the search may go on from\n  \
-    add Q X Y E L S X Y E L S  a new request: demand, and its pickup and delivery with x, y, window and service\n  \
-    add1 Q X Y E L S           a new request of one stop\n  \
-    withdraw R                 takes the request out\n  \
-    pin V K, unpin V           keeps the first K stops of vehicle V as they are, or none\n  \
-    show, print                the state, or the plan as a solution's text\n  \
-    checkpoint                 a snapshot, so that less is repeated at the next run\n\n\
-    A command ends with one of these lines:\n  \
-    ok                         it is done, and no stop loses it\n  \
-    no NAME                    it is refused and changes nothing; of an instance: no NAME LINE\n  \
-    fault device               the store failed; it may be there or not at the next run\n\n\
-    A search tells `at STEPS UNPLANNED VEHICLES DISTANCE` before that, piece by piece: these steps stand, whatever\n\
-    is answered behind them.\n\n\
-    Where the store can't be opened, it prints `store NAME` or `cannot read PATH` alone (status 2, 3 or 4).\n\
-    Status 0 says that the input was read to its end, or to a `load` that is cut short, whatever the answers.";
+pub(crate) const UPGRADE_ABOUT: &str = "Takes a store of version 1 over into a new one";
+
+pub(crate) const UPGRADE_ANSWERS: &str =
+    "NEW becomes a store of the version that this planner writes, with the state of OLD, in place of whatever\n\
+    the file holds. OLD stays as it is. It prints one line:\n  \
+    ok                the new store is durable (status 0)\n  \
+    same store        both words name one file; nothing was touched (status 64)\n  \
+    cannot read PATH  the file can't be opened to be read and written (status 3)\n  \
+    store NAME        why OLD was not read, as `run` tells it (status 2, 3 or 4)\n  \
+    new NAME          why NEW was not made: DeviceFault, InUse or OutOfMemory (status 3 or 4)";
 
 pub(crate) const AUDITS_ABOUT: &str = "Audits a list of solutions";
 

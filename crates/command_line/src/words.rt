@@ -3,18 +3,19 @@
 //! Words that begin with a hyphen are `clap`'s, and the contract speaks of the other ones, since an exact clause
 //! would have to speak of UTF-8 within each word. `--` alone counts as no words, as `clap` has it.
 ghost use Rattle.std.specs.Prelude.{◌≡◌, IfOk, codes, drop, map, option_and_then, option_map};
-ghost use Rattle.clap.specs.Words.{App, Rule, app_of, first_of, found_of, kind_of, rows_of, subcommand_rows_of, with_rule, with_subcommand};
+ghost use Rattle.clap.specs.Words.{App, Rule, app_of, first_of, found_of, kind_of, new_rule, rows_of, subcommand_rows_of, with_rule, with_subcommand};
 ghost use Rattle.command_text.specs.Asking.{field_in};
-ghost use Rattle.command_line.specs.Asked.{ArePositional, ReadsWords, asked_of, paths_in, paths_of, kind_named, list_in, seed_named, seed_or_none, steps_named, store_in, task_in, task_of, told_by, told_by_other, told_of, told_of_store};
-ghost use Rattle.command_line.specs.CommandLine.{IsKindNames, IsLeafCommand, IsPlannerCommand, IsWord, audits_app, paths_app, kind_rule, solve_app, store_app, word_rule};
+ghost use Rattle.command_line.specs.Asked.{ArePositional, ReadsWords, asked_of, paths_in, paths_of, run_in, kind_named, list_in, load_in, load_of, seed_named, seed_or_none, steps_named, store_in, task_in, task_of, told_by, told_by_other, told_of, told_of_store, upgrade_in};
+ghost use Rattle.command_line.specs.CommandLine.{IsKindNames, IsLeafCommand, IsModeNames, IsPlannerCommand, IsWord, audits_app, load_app, mode_rule, paths_app, kind_rule, run_app, solve_app, store_app, upgrade_app, word_rule};
 
 use crate::help::{
     ABOUT, AUDIT_ABOUT, AUDIT_ANSWERS, AUDITS_ABOUT, AUDITS_ANSWERS, DRAW_ABOUT, DRAW_ANSWERS,
-    EXPLAIN_ABOUT, EXPLAIN_ANSWERS, FORMAT_ABOUT, FORMAT_ANSWERS, RUN_ABOUT, RUN_ANSWERS,
-    SOLVE_ABOUT, SOLVE_ANSWERS, STATUSES, VERSION,
+    EXPLAIN_ABOUT, EXPLAIN_ANSWERS, FORMAT_ABOUT, FORMAT_ANSWERS, LOAD_ABOUT, LOAD_ANSWERS,
+    RUN_ABOUT, SOLVE_ABOUT, SOLVE_ANSWERS, STATUSES, UPGRADE_ABOUT, UPGRADE_ANSWERS, VERSION,
 };
 use clap::error::ErrorKind;
 use clap::{Arg, ArgMatches, Command, Error};
+use command_text::HELP;
 use plan_types::{Kind, OutOfMemory};
 use std::alloc::Global;
 use std::convert::AsStr;
@@ -38,6 +39,16 @@ pub struct Task<'a> {
     pub seed: u64,
 }
 
+/// A store and an instance, by the paths of their files as they stand.
+#[derive(Clone, Copy, Debug)]
+pub struct Loading<'a> {
+    pub store: &'a str,
+    pub kind: Kind,
+    pub instance: &'a str,
+    /// What the searches of the store draw their numbers by.
+    pub seed: u64,
+}
+
 /// What the words of the command line ask for.
 #[derive(Clone, Copy, Debug)]
 pub enum Invocation<'a> {
@@ -55,14 +66,26 @@ pub enum Invocation<'a> {
     Solve(Task<'a>),
     /// `format STORE`: an empty store in the file of this path.
     Format { store: &'a str },
-    /// `run STORE`: the commands of standard input, over the store in this file.
-    Run { store: &'a str },
+    /// `load STORE KIND INSTANCE [SEED]`: the instance in this file, loaded into the store in the file of this path.
+    Load(Loading<'a>),
+    /// `run STORE [strict]`: the commands of standard input, over the store in this file; by `strict` up to the first that is
+    /// refused or fails.
+    Run { store: &'a str, is_strict: bool },
+    /// `upgrade OLD NEW`: a store in the file NEW, of the state that the store of version 1 in OLD stands for.
+    Upgrade { old: &'a str, new: &'a str },
 }
 
 /// The greatest number of steps.
 const MAX_STEPS: u32 = 1_000_000_000;
 
+const BAD_STEPS: &str =
+    "STEPS is 0 to 1000000000 and SEED 0 to 18446744073709551615, in digits alone";
+
+const BAD_SEED: &str = "SEED is 0 to 18446744073709551615, in digits alone";
+
 static KIND_WORDS: [&str; 2] = ["lilim", "vrp"];
+
+static MODE_WORDS: [&str; 1] = ["strict"];
 
 /// Reads the words of the command line, the program's name first.
 ///
@@ -77,18 +100,22 @@ pub fn read_words<'a, S: AsStr>(alloc: Global, words: &'a [S]) -> Result<Invocat
     let matches = planner_command(alloc)?.try_get_matches_from(words)?;
     match asked_words(&matches) {
         Some(invocation) => Ok(invocation),
-        None => Err(bad_number(alloc)?),
+        None => Err(bad_number(alloc, &matches)?),
     }
 }
 
-// The error for words that the parser let pass: a number is none, or too great.
-fn bad_number(alloc: Global) -> Result<Error, OutOfMemory>
+// The error for words that the parser let pass, with the usage of their command: a number is none, or too great.
+fn bad_number(alloc: Global, matches: &ArgMatches<'_>) -> Result<Error, OutOfMemory>
     ensures { IfOk result (λ error. kind_of error ≡ ErrorKind.InvalidValue) }
 {
-    planner_command(alloc)?.error(
-        ErrorKind::InvalidValue,
-        "STEPS is 0 to 1000000000 and SEED 0 to 18446744073709551615, in digits alone",
-    )
+    match matches.subcommand_name() {
+        Some("load") => load_command(alloc, kind_names())?
+            .bin_name("planner load")?
+            .error(ErrorKind::InvalidValue, BAD_SEED),
+        _ => solve_command(alloc, kind_names())?
+            .bin_name("planner solve")?
+            .error(ErrorKind::InvalidValue, BAD_STEPS),
+    }
 }
 
 fn planner_command<'a>(alloc: Global) -> Result<Command<'a>, OutOfMemory>
@@ -108,8 +135,10 @@ fn planner_command<'a>(alloc: Global) -> Result<Command<'a>, OutOfMemory>
     let planner = with_command(planner, draw)?;
     let planner = with_command(planner, solve_command(alloc, kinds)?)?;
     let format = store_command(alloc, "format", FORMAT_ABOUT, FORMAT_ANSWERS)?;
-    let run = store_command(alloc, "run", RUN_ABOUT, RUN_ANSWERS)?;
-    with_command(with_command(planner, format)?, run)
+    let planner = with_command(planner, format)?;
+    let planner = with_command(planner, load_command(alloc, kinds)?)?;
+    let planner = with_command(planner, run_command(alloc, mode_names())?)?;
+    with_command(planner, upgrade_command(alloc)?)
 }
 
 // The words that name a kind of instance.
@@ -117,6 +146,13 @@ fn kind_names<'a>() -> &'a [&'a str]
     ensures { IsKindNames result }
 {
     KIND_WORDS.as_slice()
+}
+
+// The words that name how `run` serves.
+fn mode_names<'a>() -> &'a [&'a str]
+    ensures { IsModeNames result }
+{
+    MODE_WORDS.as_slice()
 }
 
 // A command whose one word is the path of a store.
@@ -132,6 +168,36 @@ fn store_command<'a>(
     with_word(command, word(alloc, "STORE", "The file of the store"))
 }
 
+fn run_command<'a>(alloc: Global, modes: &'a [&'a str]) -> Result<Command<'a>, OutOfMemory>
+    ensures { IfOk result (IsLeafCommand (run_app modes.entry)) }
+{
+    let command = Command::new(alloc, "run").about(RUN_ABOUT).after_help(HELP);
+    let command = with_word(command, word(alloc, "STORE", "The file of the store"))?;
+    with_word(command, mode_word(alloc, modes))
+}
+
+fn load_command<'a>(alloc: Global, kinds: &'a [&'a str]) -> Result<Command<'a>, OutOfMemory>
+    ensures { IfOk result (IsLeafCommand (load_app kinds.entry)) }
+{
+    let command = Command::new(alloc, "load")
+        .about(LOAD_ABOUT)
+        .after_help(LOAD_ANSWERS);
+    let command = with_word(command, word(alloc, "STORE", "The file of the store"))?;
+    let command = with_word(command, kind_word(alloc, kinds))?;
+    let command = with_word(command, instance_word(alloc))?;
+    with_word(command, seed_word(alloc))
+}
+
+fn upgrade_command<'a>(alloc: Global) -> Result<Command<'a>, OutOfMemory>
+    ensures { IfOk result (IsLeafCommand upgrade_app) }
+{
+    let command = Command::new(alloc, "upgrade")
+        .about(UPGRADE_ABOUT)
+        .after_help(UPGRADE_ANSWERS);
+    let command = with_word(command, word(alloc, "OLD", "The file of the old store"))?;
+    with_word(command, word(alloc, "NEW", "The file of the new store"))
+}
+
 // A command of the words `KIND INSTANCE SOLUTION`.
 fn paths_command<'a>(
     alloc: Global,
@@ -144,8 +210,15 @@ fn paths_command<'a>(
 {
     let command = Command::new(alloc, name).about(about).after_help(answers);
     let command = with_word(command, kind_word(alloc, kinds))?;
-    let command = with_word(command, word(alloc, "INSTANCE", "The file of the instance"))?;
-    with_word(command, word(alloc, "SOLUTION", "The file of the solution"))
+    let command = with_word(command, instance_word(alloc))?;
+    with_word(
+        command,
+        word(
+            alloc,
+            "SOLUTION",
+            "The file of the solution; - is standard input",
+        ),
+    )
 }
 
 fn audits_command<'a>(alloc: Global, kinds: &'a [&'a str]) -> Result<Command<'a>, OutOfMemory>
@@ -168,13 +241,12 @@ fn solve_command<'a>(alloc: Global, kinds: &'a [&'a str]) -> Result<Command<'a>,
         .about(SOLVE_ABOUT)
         .after_help(SOLVE_ANSWERS);
     let command = with_word(command, kind_word(alloc, kinds))?;
-    let command = with_word(command, word(alloc, "INSTANCE", "The file of the instance"))?;
+    let command = with_word(command, instance_word(alloc))?;
     let command = with_word(
         command,
         word(alloc, "STEPS", "How many steps the search makes"),
     )?;
-    let seed = Arg::new(alloc, "SEED").help("What the search draws its numbers by; 0 without it");
-    with_word(command, seed)
+    with_word(command, seed_word(alloc))
 }
 
 // The word that names a kind of instance.
@@ -182,6 +254,31 @@ fn kind_word<'a>(alloc: Global, kinds: &'a [&'a str]) -> Arg<'a>
     ensures { IsWord (kind_rule kinds.entry) result }
 {
     word(alloc, "KIND", "The format of the instance").value_parser(kinds)
+}
+
+// The word that says how `run` serves.
+fn mode_word<'a>(alloc: Global, modes: &'a [&'a str]) -> Arg<'a>
+    ensures { IsWord (mode_rule modes.entry) result }
+{
+    Arg::new(alloc, "strict")
+        .help("Ends at the first answer `no` (status 1) or `fault device` (status 3)")
+        .value_parser(modes)
+}
+
+fn instance_word<'a>(alloc: Global) -> Arg<'a>
+    ensures { IsWord (word_rule (codes "INSTANCE")) result }
+{
+    word(
+        alloc,
+        "INSTANCE",
+        "The file of the instance; - is standard input",
+    )
+}
+
+fn seed_word<'a>(alloc: Global) -> Arg<'a>
+    ensures { IsWord (new_rule (codes "SEED")) result }
+{
+    Arg::new(alloc, "SEED").help("What the search draws its numbers by; 0 without it")
 }
 
 // A word that has to stand there.
@@ -240,7 +337,7 @@ fn other_words<'a>(name: &str, words: &ArgMatches<'a>) -> Option<Invocation<'a>>
     }
 }
 
-// What the words behind `format` or `run` ask for.
+// What the words behind `format`, `load`, `run` or `upgrade` ask for.
 fn store_words<'a>(name: &str, words: &ArgMatches<'a>) -> Option<Invocation<'a>>
     ensures { option_map asked_of result ≡ told_of_store name.now (rows_of (found_of words.now)) }
 {
@@ -248,10 +345,37 @@ fn store_words<'a>(name: &str, words: &ArgMatches<'a>) -> Option<Invocation<'a>>
         "format" => Some(Invocation::Format {
             store: store_word(words)?,
         }),
-        _ => Some(Invocation::Run {
-            store: store_word(words)?,
-        }),
+        "load" => Some(Invocation::Load(loading_words(words)?)),
+        "upgrade" => upgrade_words(words),
+        _ => run_words(words),
     }
+}
+
+// `None` where the path is missing, or a word behind it is not `strict`.
+fn run_words<'a>(matches: &ArgMatches<'a>) -> Option<Invocation<'a>>
+    ensures { option_map asked_of result ≡ run_in (rows_of (found_of matches.now)) }
+{
+    let store = matches.get_str("STORE")?;
+    match matches.get_str("strict") {
+        None => Some(Invocation::Run {
+            store,
+            is_strict: false,
+        }),
+        Some("strict") => Some(Invocation::Run {
+            store,
+            is_strict: true,
+        }),
+        Some(_) => None,
+    }
+}
+
+// `None` where a path is missing.
+fn upgrade_words<'a>(matches: &ArgMatches<'a>) -> Option<Invocation<'a>>
+    ensures { option_map asked_of result ≡ upgrade_in (rows_of (found_of matches.now)) }
+{
+    let old = matches.get_str("OLD")?;
+    let new = matches.get_str("NEW")?;
+    Some(Invocation::Upgrade { old, new })
 }
 
 // The path of the store, or `None` where it is missing.
@@ -296,6 +420,22 @@ fn task_words<'a>(matches: &ArgMatches<'a>) -> Option<Task<'a>>
         kind,
         instance,
         steps,
+        seed,
+    })
+}
+
+// `None` where a word is missing or names no kind, or no number.
+fn loading_words<'a>(matches: &ArgMatches<'a>) -> Option<Loading<'a>>
+    ensures { option_map load_of result ≡ load_in (rows_of (found_of matches.now)) }
+{
+    let store = matches.get_str("STORE")?;
+    let kind = kind_of_word(matches.get_str("KIND")?)?;
+    let instance = matches.get_str("INSTANCE")?;
+    let seed = seed_of_words(matches)?;
+    Some(Loading {
+        store,
+        kind,
+        instance,
         seed,
     })
 }

@@ -2,7 +2,7 @@
 //! stop or at once, and audits plans.
 //!
 //! All that it does is `planner_cli::run_words`. `main` hands on the words and standard error, and names `Unknown`,
-//! which stands for what no code can know: what the store's file is as it is opened. A word that is not UTF-8 ends
+//! which stands for what no code can know: what a store's file is as it is opened. A word that is not UTF-8 ends
 //! with 64 and a text of our own, since std's arguments and paths, and `clap`'s words, are `str`.
 #![tactic(auto)]
 
@@ -15,7 +15,7 @@ use std::process::ExitCode;
 
 fn main(rt: HostRuntime) -> ExitCode {
     let status = match words_of(&rt) {
-        Ok(words) => run_words(&rt, Unknown, &mut rt.stderr(), words.as_slice()),
+        Ok(words) => run_words(&rt, Unknown, Unknown, &mut rt.stderr(), words.as_slice()),
         Err(status) => status,
     };
     ExitCode::from(status)

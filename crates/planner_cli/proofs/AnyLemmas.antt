@@ -5,15 +5,17 @@ use Rattle.std.specs.Borrow.{Bor}
 use Rattle.std.specs.Io.KnownBytes.{Appends}
 use Rattle.std.specs.declared.io.ErrorKind.{ErrorKind}
 use Rattle.plan_types.specs.declared.requests.Kind.{Kind}
-use Rattle.command_line.specs.Asked.{TaskAsked}
+use Rattle.command_line.specs.Asked.{LoadAsked, TaskAsked}
 use Rattle.text_lines.specs.Lines.{lines_of}
 use Rattle.planner_cli.specs.Drawn.{TellsDrawn}
 use Rattle.planner_cli.specs.Explained.{TellsExplained}
 use Rattle.planner_cli.specs.Files.{Gave, IsToldOfFiles, IsUnread}
 use Rattle.planner_cli.specs.Listed.{AreTold, IsToldOfLine, TellsLines, TellsList, list_path}
+use Rattle.planner_cli.specs.Loading.{LoadsText, TellsLoad}
 use Rattle.planner_cli.specs.Solving.{TellsSolving, TellsTask}
 use Rattle.planner_cli.specs.Telling.{TellsUnread}
-use Rattle.planner_cli.specs.Whatever.{TellsAnyDrawn, TellsAnyExplained, TellsAnyList, TellsAnyTask, anything}
+use Rattle.planner_cli.specs.Whatever.{TellsAnyDrawn, TellsAnyExplained, TellsAnyList, TellsAnyLoad, TellsAnyTask, anything}
+use Rattle.sector_disk.specs.declared.sectors.Sectors as sectors
 
 pub either : {A B C : Type 0} → A ⊎ B → (A → C) → (B → C) → C
 either (inl a) f h = f a
@@ -100,3 +102,14 @@ module _ {V E : Type 0} (post : Bor (List ℕ) → Result V E → Type 0) (items
           → TellsAnyTask task output after errors later status
       at (Ok x) gave told = (Ok (items x), any_text task.instance x gave, told)
       at (Err e) gave told = (Err (kind e), any_error task.instance e gave, told)
+
+  module _ {D N : Type 0} (on_old : sectors.Ghosts D) (on_new : sectors.Ghosts N) (IsOld : D → Type 0) (IsNew : N → Type 0) where
+    pub any_load : (asked : LoadAsked) (before after : Option (List ℕ)) (status : ℕ) → TellsLoad on_old on_new IsOld IsNew post items kind asked before after status
+        → TellsAnyLoad on_old on_new IsOld IsNew asked before after status
+    any_load asked before after status t = at t.0 t.1 t.2
+      where
+        at : (given : Result V E) → Gave post asked.instance given
+            → MatchResult given (λ x. LoadsText on_old on_new IsOld IsNew asked (items x) before after status) (λ e. TellsUnread asked.instance (kind e) before after status)
+            → TellsAnyLoad on_old on_new IsOld IsNew asked before after status
+        at (Ok x) gave told = (Ok (items x), any_text asked.instance x gave, told)
+        at (Err e) gave told = (Err (kind e), any_error asked.instance e gave, told)

@@ -1,18 +1,29 @@
 -- What is told line by line.
-use Rattle.std.proofs.Common.{◌≡◌, ◌∙◌, ◌<◌, ℕ, Bool, List, [], ◌∷◌, ◌++◌, Option, Some, None, Result, Ok, Err, refl, sym, ap, subst, arith, append_assoc, append-nil}
-use Rattle.std.specs.Prelude.{◌≢◌, ◌↔◌, IfErr, IsErrOf, max}
+use Rattle.std.proofs.Common.{◌≡◌, ◌∙◌, ◌<◌, ◌||◌, ℕ, Bool, true, false, true≢false, List, [], ◌∷◌, ◌++◌, Option, Some, None, Result, Ok, Err, refl, sym, ap, subst, arith, append_assoc, append-nil}
+use Rattle.std.specs.Prelude.{◌≢◌, ◌↔◌, IfErr, IsErrOf, MatchResult, OnOk, max}
 use Rattle.std.specs.Borrow.{Bor}
 use Rattle.std.specs.Result.{result_err}
 use Rattle.std.specs.Io.KnownBytes.{Appends, Keeps}
 use Rattle.std.specs.declared.io.ErrorKind.{ErrorKind}
 use Rattle.std.proofs.KnownBytes.{Appends-nil, Appends-trans}
 use Rattle.plan_types.specs.declared.requests.Kind.{Kind}
-use Rattle.checkpoint.specs.declared.faults.FormatFault.{FormatFault}
-use Rattle.checkpoint.specs.declared.faults.FormatFault.TheVariants.{TooSmall}
-use Rattle.command_serving.specs.Served.{HasCause}
+use Rattle.command_core.specs.Effects.{effect}
+use Rattle.command_core.specs.declared.commands.Command.{Command}
+use Rattle.command_core.specs.declared.states.State.{State}
+use Rattle.command_core.specs.declared.states.State.TheVariants.{Empty, Loaded}
+use Rattle.command_serving.specs.Served.{HasCause, IsCutShort, IsServed}
+use Rattle.command_text.specs.Cutting.{pieces_of}
+use Rattle.command_text.specs.Readings.{Reading}
+use Rattle.command_serving.specs.Strict.{is_stopped}
 use Rattle.command_serving.specs.declared.answering.ServeFault.{ServeFault}
 use Rattle.command_serving.specs.declared.answering.ServeFault.TheVariants as fault
+use Rattle.command_serving.specs.declared.strict.Stopped.{Stopped}
 use Rattle.planner_cli.specs.Listed.{AreTold, TellsLine, TellsLines}
+use Rattle.planner_cli.specs.Loading.{holds_instance}
+use Rattle.planner_cli.specs.Running.{stop_unless}
+use Rattle.recover.specs.Applying.{Makes}
+use Rattle.recover.specs.Sessions.{SessionValue}
+use Rattle.recover.specs.declared.denials.Denial.{Denial}
 
 pub flushed : (a b c : Option (List ℕ)) (text : List ℕ) → Appends a b text → Keeps b c → Appends a c text
 flushed None b c text written kept = tt
@@ -20,17 +31,61 @@ flushed (Some x) None c text written kept = absurd written
 flushed (Some x) (Some y) None text written kept = absurd kept
 flushed (Some x) (Some y) (Some z) text written kept = kept ∙ written
 
--- where nothing is told behind it, a fault of the writer keeps its cause
-pub cause_behind : {T : Type 0} (served : Result T ServeFault) (reader writer later : Bool) (len : ℕ) → (served ≡ Err fault.WriteFault → later ≡ writer)
-    → IfErr served (λ f. HasCause f reader writer len) → IfErr served (λ f. HasCause f reader later len)
-cause_behind (Ok done) reader writer later len kept cause = tt
-cause_behind (Err fault.ReadFault) reader writer later len kept cause = cause
-cause_behind (Err fault.WriteFault) reader writer later len kept cause = kept refl ∙ cause
+-- a writer that has failed has failed, whatever it was stopped at
+failed_anyway : (writer : Bool) (stopped : Option Stopped) → writer ≡ true → (writer || is_stopped stopped) ≡ true
+failed_anyway true stopped is = refl
+failed_anyway false stopped is = absurd (true≢false (sym is))
+
+pub unless_stopped : {T : Type 0} (served : Result T ServeFault) (reader writer : Bool) (len : ℕ) → IfErr served (λ f. HasCause f reader writer len)
+    → IfErr served (λ f. HasCause f reader (writer || is_stopped None) len)
+unless_stopped (Ok done) reader writer len cause = tt
+unless_stopped (Err fault.ReadFault) reader writer len cause = cause
+unless_stopped (Err fault.WriteFault) reader writer len cause = failed_anyway writer None cause
+
+-- what a strict writer was stopped at is told where the writer itself has not failed
+one_of_both : (writer : Bool) (told stopped : Option Stopped) → stopped ≡ stop_unless writer told → (writer || is_stopped told) ≡ true → (writer || is_stopped stopped) ≡ true
+one_of_both true told stopped is failed = refl
+one_of_both false told stopped is failed = ap is_stopped is ∙ failed
+
+pub stopped_by : {T : Type 0} (served : Result T ServeFault) (reader writer : Bool) (told stopped : Option Stopped) (len : ℕ) → stopped ≡ stop_unless writer told
+    → IfErr served (λ f. HasCause f reader (writer || is_stopped told) len) → IfErr served (λ f. HasCause f reader (writer || is_stopped stopped) len)
+stopped_by (Ok done) reader writer told stopped len is cause = tt
+stopped_by (Err fault.ReadFault) reader writer told stopped len is cause = cause
+stopped_by (Err fault.WriteFault) reader writer told stopped len is cause = one_of_both writer told stopped is cause
+
+pub stopped_out : {T : Type 0} (served : Result T ServeFault) (reader writer out : Bool) (told stopped : Option Stopped) (len : ℕ) → out ≡ writer → stopped ≡ stop_unless writer told
+    → IfErr served (λ f. HasCause f reader (writer || is_stopped told) len) → IfErr served (λ f. HasCause f reader (out || is_stopped stopped) len)
+stopped_out served reader writer out told stopped len same is cause =
+    subst (λ (b : Bool). IfErr served (λ f. HasCause f reader (b || is_stopped stopped) len)) (sym same) (stopped_by served reader writer told stopped len is cause)
+
+-- what was served between the same texts
+pub served_between : {T D : Type 0} (served : Result T ServeFault) (reading : Reading) (old new : SessionValue D) (input : List ℕ) (b b' a a' : Option (List ℕ)) → b' ≡ b → a' ≡ a
+    → MatchResult served (λ _. IsServed reading old input b' a' new) (λ _. IsCutShort reading old (pieces_of input) b' a' new)
+    → MatchResult served (λ _. IsServed reading old input b a new) (λ _. IsCutShort reading old (pieces_of input) b a new)
+served_between served reading old new input b b' a a' first last given =
+    subst (λ (x : Option (List ℕ)). MatchResult served (λ _. IsServed reading old input x a new) (λ _. IsCutShort reading old (pieces_of input) x a new)) first
+    (subst (λ (x : Option (List ℕ)). MatchResult served (λ _. IsServed reading old input b' x new) (λ _. IsCutShort reading old (pieces_of input) b' x new)) last given)
 
 -- a device of a store's sectors is not too small
-pub not_too_small : {T : Type 0} (made : Result T FormatFault) (len : ℕ) → IsErrOf made TooSmall ↔ (len < 8450) → len ≡ 8450 → result_err made ≢ Some TooSmall
-not_too_small (Ok x) len small is told = absurd cc
-not_too_small (Err f) len small is told = let same : f ≡ TooSmall = cc in absurd (omega (arith, is, small.0 (ap (λ x. Err x) same)))
+pub not_too_small : {T E : Type 0} (made : Result T E) (fault : E) (len : ℕ) → IsErrOf made fault ↔ (len < 8450) → len ≡ 8450 → result_err made ≢ Some fault
+not_too_small (Ok x) fault len small is told = absurd cc
+not_too_small (Err f) fault len small is told = let same : f ≡ fault = cc in absurd (omega (arith, is, small.0 (ap (λ x. Err x) same)))
+
+-- two errors that are the same, part by part
+pub same_parts : {T A B : Type 0} (r s : Result T (A × B)) (a b : A) (x y : B) → r ≡ Err (a, x) → s ≡ Err (b, y) → r ≡ s → (a ≡ b) × (x ≡ y)
+same_parts {T} {A} {B} r s a b x y er es e =
+    let same : (a, x) ≡ (b, y) = cc in
+    (ap (λ (p : A × B). p.0) same, ap (λ (p : A × B). p.1) same)
+
+pub is_empty : (s : State) → holds_instance s ≡ false → s ≡ Empty
+is_empty Empty e = refl
+is_empty (Loaded job) e = absurd (true≢false e)
+
+-- after Ok, what holds of the state of a session that is not broken holds of the state that the command makes of the empty one
+pub begun : {T D : Type 0} (answer : Result T Denial) (old new : SessionValue D) (command : Command) (Holds : State → Type 0) → old.state ≡ Empty → Makes answer old command new
+    → (new.is_broken ≡ false → Holds new.state) → OnOk answer (Holds (effect Empty command))
+begun (Ok done) old new command Holds empty makes stands = subst Holds (makes.state ∙ ap (λ s. effect s command) empty) (stands makes.is_broken)
+begun (Err denial) old new command Holds empty makes stands = tt
 
 -- two paths with tabs behind them, and what follows
 pub tabs : (i s a : List ℕ) → (i ++ 9 ∷ (s ++ 9 ∷ [])) ++ a ≡ i ++ 9 ∷ (s ++ 9 ∷ a)

@@ -1,6 +1,7 @@
 -- what public contracts reach
 pub mod Answer
 pub mod AnswerText
+pub mod Statuses
 pub use Rattle.command_line.specs.Asked
 pub use Rattle.command_serving.specs.Served
 pub use Rattle.command_serving.specs.Streams
@@ -11,7 +12,9 @@ pub mod Explained
 pub mod Files
 pub mod Formatting
 pub mod Listed
+pub mod Loading
 pub mod Running
 pub mod Solving
 pub mod Telling
+pub mod Upgrading
 pub mod Whatever

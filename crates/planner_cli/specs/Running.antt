@@ -1,5 +1,5 @@
 -- What the word `run` does: it opens a store, tells how many search steps were repeated, and serves the input over it.
-use Rattle.std.specs.Prelude.{◌≡◌, ◌⊎◌, ℕ, ◌+◌, ◌<◌, Bool, false, List, [], ◌++◌, length, codes, decimal, Option, Some, Result, Ok, Err, IfErr, MatchResult, ⊤}
+use Rattle.std.specs.Prelude.{◌≡◌, ◌≢◌, ◌⊎◌, ℕ, ◌+◌, ◌<◌, ◌||◌, Bool, true, false, List, [], ◌++◌, length, codes, decimal, Option, Some, None, Result, Ok, Err, IfErr, MatchResult, ⊤}
 use Rattle.std.specs.Io.KnownBytes.{Appends}
 use Rattle.checkpoint.specs.Holdless.{IsOfLoad, UnlessUnread}
 use Rattle.checkpoint.specs.Refused.{faults_of_store}
@@ -7,8 +7,11 @@ use Rattle.checkpoint.specs.declared.faults.StoreFault.{StoreFault}
 use Rattle.checkpoint.specs.declared.faults.StoreFault.TheVariants.{NotFormatted}
 use Rattle.command_core.specs.Runs.{IsState}
 use Rattle.command_serving.specs.Served.{HasCause, IsCutShort, IsServed}
+use Rattle.command_serving.specs.Strict.{is_stopped}
 use Rattle.command_serving.specs.declared.answering.ServeFault.{ServeFault}
 use Rattle.command_serving.specs.declared.answering.ServeFault.TheVariants as serve
+use Rattle.command_serving.specs.declared.strict.Stopped.{Stopped}
+use Rattle.command_serving.specs.declared.strict.Stopped.TheVariants as stop
 use Rattle.command_text.specs.Cutting.{pieces_of}
 use Rattle.command_text.specs.Readings.{IsReading, Reading}
 use Rattle.command_text.specs.Answers.{line}
@@ -20,6 +23,7 @@ use Rattle.recover.specs.StandsFor.{StandsFor}
 use Rattle.sector_disk.specs.Sectors.{Throughout}
 use Rattle.sector_disk.specs.declared.file_device.FileFault.{FileFault}
 use Rattle.sector_disk.specs.declared.sectors.Sectors as sectors
+use Rattle.state_codec.specs.declared.version.Version.TheVariants.{Two}
 
 -- An input whose bytes are known was served, or the serving cut short, and for this cause, as `serve` says it.
 pub record Serves {D : Type 0} (served : Result ⊤ ServeFault) (old : SessionValue D) (input : List ℕ) (before after : Option (List ℕ)) (reader_failed writer_failed : Bool) (new : SessionValue D) : Type 0 where
@@ -40,28 +44,52 @@ served_status (Err serve.WriteFault) = 3
 abbrev pub TellsServed : {T : Type 0} → Result T ServeFault → Option (List ℕ) → Option (List ℕ) → ℕ → Type 0
 TellsServed served before after status = (status ≡ served_status served) × Appends before after (served_line served)
 
+-- why a store was not opened
+abbrev pub TellsFault : StoreFault → Option (List ℕ) → Option (List ℕ) → ℕ → Type 0
+TellsFault fault before after status = (status ≡ store_status fault) × Appends before after (store_line fault)
+
 -- how many search steps were repeated
 abbrev pub opened_line : ℕ → List ℕ
 opened_line replayed = line (codes "opened " ++ decimal replayed)
 
+-- what a strict serving ended at, unless the writer has failed
+abbrev pub stop_unless : Bool → Option Stopped → Option Stopped
+stop_unless true told = None
+stop_unless false told = told
+
+-- An input was served, by `strict` up to an answer that lets none follow, which is `stopped`. `known` are the bytes of the input, where they are
+-- known.
+pub record IsEnded {D : Type 0} (old : SessionValue D) (is_strict : Bool) (known opened : Option (List ℕ)) (served : Result ⊤ ServeFault) (stopped : Option Stopped) (answered : Option (List ℕ)) (reader_failed writer_failed : Bool) (new : SessionValue D) : Type 0 where
+  pub serves : (input : List ℕ) → known ≡ Some input → Serves served old input opened answered reader_failed (writer_failed || is_stopped stopped) new
+  pub plain : is_strict ≡ false → stopped ≡ None
+
+-- By the answer that a strict serving ended at, if it did.
+abbrev pub TellsEnded : {T : Type 0} → Result T ServeFault → Option Stopped → Option (List ℕ) → Option (List ℕ) → ℕ → Type 0
+TellsEnded served None before after status = TellsServed served before after status
+TellsEnded served (Some stop.Refused) before after status = (status ≡ 1) × Appends before after []
+TellsEnded served (Some stop.DeviceFault) before after status = (status ≡ 3) × Appends before after []
+
 -- Over a session that was opened: first it is told how many steps were repeated, then stand the answers to the input, and behind them that
--- the input can't be read, if so it was. `known` are the bytes of the input, where they are known.
-pub record RunsSession {D : Type 0} (old : SessionValue D) (replayed : ℕ) (known before after : Option (List ℕ)) (reader_failed writer_failed : Bool) (status : ℕ) : Type 0 where
+-- the input can't be read, if so it was.
+pub record RunsSession {D : Type 0} (old : SessionValue D) (replayed : ℕ) (is_strict : Bool) (known before after : Option (List ℕ)) (reader_failed writer_failed : Bool) (status : ℕ) : Type 0 where
   pub opened : Option (List ℕ)
   pub tells_opened : Appends before opened (opened_line replayed)
   pub served : Result ⊤ ServeFault
+  pub stopped : Option Stopped
   pub answered : Option (List ℕ)
+  pub failed : Bool
   pub new : SessionValue D
-  pub serves : (input : List ℕ) → known ≡ Some input → Serves served old input opened answered reader_failed writer_failed new
-  pub tells : TellsServed served answered after status
+  pub ends : IsEnded old is_strict known opened served stopped answered reader_failed failed new
+  pub kept : served ≢ Err serve.ReadFault → writer_failed ≡ failed
+  pub tells : TellsEnded served stopped answered after status
 
 module _ {D : Type 0} (on : sectors.Ghosts D) where
   -- Opening the device gave this session: it has the state that the image stands for which reads gave, and is whole.
   pub record IsOpened (device : D) (session : SessionValue D) (replayed : ℕ) : Type 0 where
-    pub given : on.honest session.device → StandsFor (on.seen device) session.state
-    pub opens : on.honest session.device → Opens (on.seen device) (Ok session.state)
-    pub replays : on.honest session.device → IsReplayed (on.seen device) session.state session.place replayed
-    pub stands : on.honest session.device → (image : List ℕ) → on.possible session.device image → StandsFor image session.state
+    pub given : on.honest session.device → StandsFor Two (on.seen device) session.state
+    pub opens : on.honest session.device → Opens Two (on.seen device) (Ok session.state)
+    pub replays : on.honest session.device → IsReplayed Two (on.seen device) session.state session.place replayed
+    pub stands : on.honest session.device → (image : List ℕ) → on.possible session.device image → StandsFor Two image session.state
     pub moments : on.honest session.device
         → Throughout on.clock on.possible_since device session.device (λ m image. IsBetween (on.calls device) (on.calls device + 1) m image × on.possible device image)
     pub honest : on.honest session.device → on.honest device
@@ -73,20 +101,26 @@ module _ {D : Type 0} (on : sectors.Ghosts D) where
 
   -- Opening the device was refused: its image stands for no state, or could not be read.
   pub record IsRefused (device after : D) (fault : StoreFault) : Type 0 where
-    pub refused : on.honest after → UnlessUnread (StandsForNone (on.seen device)) fault
-    pub opens : on.honest after → Opens (on.seen device) (Err fault)
+    pub refused : on.honest after → UnlessUnread (StandsForNone Two (on.seen device)) fault
+    pub opens : on.honest after → Opens Two (on.seen device) (Err fault)
     pub fails : IsOfLoad fault
     pub small : on.len device < 802 → (fault ≡ NotFormatted) × (after ≡ device)
+    pub honest : on.honest after → on.honest device
     pub faults : on.faults after ≡ faults_of_store fault (on.faults device)
 
+  -- Opening the device gave a session of which `OnOpened` speaks, or was refused, and `OnRefused` speaks of the device and why.
+  abbrev pub OpensDevice : D → (SessionValue D → ℕ → Type 0) → (D → StoreFault → Type 0) → Type 0
+  OpensDevice device OnOpened OnRefused =
+      ((session : SessionValue D) × (replayed : ℕ) × IsOpened device session replayed × OnOpened session replayed)
+      ⊎ ((fault : StoreFault) × (later : D) × IsRefused device later fault × OnRefused later fault)
+
   -- The store on the device is opened and the input served over it, or it is told why it can't be opened.
-  abbrev pub RunsDevice : D → Option (List ℕ) → Option (List ℕ) → Option (List ℕ) → Bool → Bool → ℕ → Type 0
-  RunsDevice device known before after reader_failed writer_failed status =
-      ((session : SessionValue D) × (replayed : ℕ) × IsOpened device session replayed × RunsSession session replayed known before after reader_failed writer_failed status)
-      ⊎ ((fault : StoreFault) × (later : D) × IsRefused device later fault × (status ≡ store_status fault) × Appends before after (store_line fault))
+  abbrev pub RunsDevice : D → Bool → Option (List ℕ) → Option (List ℕ) → Option (List ℕ) → Bool → Bool → ℕ → Type 0
+  RunsDevice device is_strict known before after reader_failed writer_failed status =
+      OpensDevice device (λ session replayed. RunsSession session replayed is_strict known before after reader_failed writer_failed status) (λ later fault. TellsFault fault before after status)
 
   -- The same for the device over a file, or it is told why there is none. `IsNew` is what is known of the device.
-  abbrev pub RunsStore : (D → Type 0) → List ℕ → Option (List ℕ) → Option (List ℕ) → Option (List ℕ) → Bool → Bool → ℕ → Type 0
-  RunsStore IsNew path known before after reader_failed writer_failed status =
-      ((device : D) × IsNew device × RunsDevice device known before after reader_failed writer_failed status)
+  abbrev pub RunsStore : (D → Type 0) → List ℕ → Bool → Option (List ℕ) → Option (List ℕ) → Option (List ℕ) → Bool → Bool → ℕ → Type 0
+  RunsStore IsNew path is_strict known before after reader_failed writer_failed status =
+      ((device : D) × IsNew device × RunsDevice device is_strict known before after reader_failed writer_failed status)
       ⊎ ((fault : FileFault) × (status ≡ open_status fault) × Appends before after (open_line path fault))

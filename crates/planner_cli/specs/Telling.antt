@@ -1,5 +1,5 @@
 -- What the program prints, line by line, and the status that goes with it.
-use Rattle.std.specs.Prelude.{◌≡◌, ℕ, List, [], ◌∷◌, ◌++◌, codes, Option, Some, None, Result, Ok, Err, IfOk, Bool, true, false, if◌then◌else◌}
+use Rattle.std.specs.Prelude.{◌≡◌, ℕ, List, ◌++◌, codes, Option, Some, None, Result, Ok, Err, IfOk, Bool, true, false, if◌then◌else◌}
 use Rattle.std.specs.Io.KnownBytes.{Appends}
 use Rattle.std.specs.declared.io.ErrorKind.{ErrorKind}
 use Rattle.std.specs.declared.io.ErrorKind.TheVariants as kind
@@ -10,12 +10,22 @@ use Rattle.checkpoint.specs.declared.faults.FormatFault.{FormatFault}
 use Rattle.checkpoint.specs.declared.faults.FormatFault.TheVariants as format
 use Rattle.checkpoint.specs.declared.faults.StoreFault.{StoreFault}
 use Rattle.checkpoint.specs.declared.faults.StoreFault.TheVariants as store
+use Rattle.instance_read.specs.Names.{kind_name}
+use Rattle.instance_read.specs.declared.faults.ReadFault.{ReadFault}
+use Rattle.instance_read.specs.declared.faults.ReadFaultKind.{ReadFaultKind}
+use Rattle.instance_read.specs.declared.faults.ReadFaultKind.TheVariants as read
+use Rattle.recover.specs.Names.{denial_name}
+use Rattle.recover.specs.declared.denials.Denial.{Denial}
+use Rattle.recover.specs.declared.denials.Denial.TheVariants as denial
+use Rattle.recover.specs.declared.upgrading.UpgradeFault.{UpgradeFault}
+use Rattle.recover.specs.declared.upgrading.UpgradeFault.TheVariants as upgrade
 use Rattle.sector_disk.specs.declared.file_device.FileFault.{FileFault}
 use Rattle.sector_disk.specs.declared.file_device.FileFault.TheVariants as file
 use Rattle.std.specs.declared.alloc.AllocError.{AllocError}
 use Rattle.plan_types.specs.declared.requests.Kind.{Kind}
 use Rattle.command_text.specs.Answers.{line}
 use Rattle.planner_cli.specs.Answer.{IsAnswer}
+use Rattle.planner_cli.specs.AnswerText.{fault_text}
 use Rattle.planner_cli.specs.declared.answer.AuditAnswer.{AuditAnswer}
 
 -- it tells want of memory
@@ -62,11 +72,20 @@ abbrev pub open_line : List ℕ → FileFault → List ℕ
 open_line path file.NoFile = line (codes "cannot read " ++ path)
 open_line path file.BadLength = line (codes "store BadLength")
 open_line path file.OutOfMemory = line (codes "store OutOfMemory")
+open_line path file.InUse = line (codes "store InUse")
 
 abbrev pub open_status : FileFault → ℕ
 open_status file.NoFile = 3
 open_status file.BadLength = 2
 open_status file.OutOfMemory = 4
+open_status file.InUse = 3
+
+-- a new store's file, where an old store's was opened
+abbrev pub new_line : List ℕ → FileFault → List ℕ
+new_line path file.NoFile = line (codes "cannot read " ++ path)
+new_line path file.BadLength = line (codes "new BadLength")
+new_line path file.OutOfMemory = line (codes "new OutOfMemory")
+new_line path file.InUse = line (codes "new InUse")
 
 -- what came of a format
 abbrev pub format_line : Option FormatFault → List ℕ
@@ -87,6 +106,51 @@ abbrev pub store_status : StoreFault → ℕ
 store_status store.DeviceFault = 3
 store_status store.OutOfMemory = 4
 store_status _ = 2
+
+-- what a session answered to a command
+abbrev pub is_device_fault : Denial → Bool
+is_device_fault denial.DeviceFault = true
+is_device_fault _ = false
+
+abbrev pub denial_line : Denial → List ℕ
+denial_line denial = if is_device_fault denial then line (codes "fault device") else line (codes "no " ++ denial_name denial)
+
+abbrev pub denial_status : Denial → ℕ
+denial_status denial.DeviceFault = 3
+denial_status denial.OutOfMemory = 4
+denial_status _ = 2
+
+abbrev pub TellsAnswered : {T : Type 0} → Result T Denial → Option (List ℕ) → Option (List ℕ) → ℕ → Type 0
+TellsAnswered (Ok done) before after status = (status ≡ 0) × Appends before after (line (codes "ok"))
+TellsAnswered (Err denial) before after status = (status ≡ denial_status denial) × Appends before after (denial_line denial)
+
+-- the first fault of an instance's text, or want of memory for it
+abbrev pub wants_memory : ReadFaultKind → Bool
+wants_memory read.OutOfMemory = true
+wants_memory _ = false
+
+abbrev pub instance_fault_line : ReadFault → List ℕ
+instance_fault_line fault = if wants_memory fault.kind then line (codes "out of memory") else line (fault_text (codes "instance") (kind_name fault.kind) fault.line)
+
+abbrev pub instance_fault_status : ReadFault → ℕ
+instance_fault_status fault = if wants_memory fault.kind then 4 else 2
+
+abbrev pub TellsInstanceFault : ReadFault → Option (List ℕ) → Option (List ℕ) → ℕ → Type 0
+TellsInstanceFault fault before after status = (status ≡ instance_fault_status fault) × Appends before after (instance_fault_line fault)
+
+-- what came of an upgrade
+abbrev pub unmade_line : FormatFault → List ℕ
+unmade_line fault = line (codes "new " ++ format_fault_name fault)
+
+abbrev pub upgrade_line : Option UpgradeFault → List ℕ
+upgrade_line None = line (codes "ok")
+upgrade_line (Some (upgrade.Old fault)) = store_line fault
+upgrade_line (Some (upgrade.New fault)) = unmade_line fault
+
+abbrev pub upgrade_status : Option UpgradeFault → ℕ
+upgrade_status None = 0
+upgrade_status (Some (upgrade.Old fault)) = store_status fault
+upgrade_status (Some (upgrade.New fault)) = format_status (Some fault)
 
 -- the parser's text is printed, but where it found no memory for it
 abbrev pub is_usage_printed : clap_kind.ErrorKind → Bool

@@ -84,7 +84,8 @@ pub(crate) fn examine(
     Ok(Examined::Judged(problem, solution, verdict))
 }
 
-fn read_instance(alloc: Global, kind: Kind, text: &[u8]) -> Result<Problem, ReadFault>
+/// Reads the text of an instance.
+pub(crate) fn read_instance(alloc: Global, kind: Kind, text: &[u8]) -> Result<Problem, ReadFault>
     ensures value { IfOk result (SpellsInstance kind text.now) }
     ensures fault { IfErr result (TellsFirstFault (InstanceFault kind text.now)) }
 {

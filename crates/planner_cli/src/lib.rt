@@ -6,7 +6,8 @@
 //! Source: this project's own; status 64 is `EX_USAGE` of BSD's `sysexits.h`.
 //!
 //! How it works: each word of the program has one private function over whatever reads a file, reader and writer
-//! (`audit_read`, `audits_read`, `explain_read`, `draw_read`, `solve_read`, `format_store`, `run_store`).
+//! (`audit_read`, `audits_read`, `explain_read`, `draw_read`, `solve_read`, `load_read`, `format_store`, `run_store`,
+//! `upgrade_store`).
 //! `run_words` hands them paths and the standard streams.
 //!
 //! Modules, in reading order:
@@ -16,23 +17,32 @@
 //! - `telling`: lines for files and stores that can't be read, made or opened
 //! - `audited`, `listed`: the words `audit` and `audits`
 //! - `explained`, `drawn`, `solved`: the words `explain`, `draw` and `solve`
-//! - `stores`: the words `format` and `run`
+//! - `opened`: the opening of a store
+//! - `stores`: the words `format`, `run` and `upgrade`
+//! - `loaded`: the word `load`
 //! - `program`: `run_words`
 //!
 //! Said by `specs/Answer.antt`, and word by word by `Files.antt`, `Listed.antt`, `Explained.antt`, `Drawn.antt`,
-//! `Solving.antt`, `Formatting.antt` and `Running.antt`. Proved:
+//! `Solving.antt`, `Formatting.antt`, `Loading.antt`, `Running.antt` and `Upgrading.antt`, which statuses by
+//! `Statuses.antt`. Proved:
 //! - `audit_text`: line and status are those of the first fault or of the verdict on what the texts spell; the
 //!   status is 0 exactly where both spell a value and the solution keeps the rules, serves every request, keeps the
 //!   fleet and prints the distance that it drives (`SaysSound`)
-//! - `run_words`: which statuses can be; of standard streams no contract says what they give or hold
+//! - `run_words`: which statuses each word can end with; of standard streams no contract says what they give or hold
 //! - `audits_read` (`TellsList`): of each line what `audit` tells of that pair alone, or `bad line`; the greatest
 //!   status
 //! - `explain_read` (`TellsExplained`), `draw_read` (`TellsDrawn`), `solve_read` (`TellsTask`): the audit's line
 //!   and what it rests on; the picture; the text of a solution, or why there is none
-//! - `run_store` (`RunsStore`): the device that `FileDevice::at` gives is opened, and what `serve` writes over that
+//! - `run_store` (`RunsStore`): the device that `FileDevice::at_or_cause` gives is opened, and what `serve` writes over that
 //!   session stands behind `opened N`; 3 where the reader or the writer failed, with `cannot read input` for the
 //!   reader
 //! - `format_store` (`FormatsStore`): a device of 8,450 sectors, and what `format` of `checkpoint` made of it
+//! - `load_read` (`TellsLoad`): the instance's first fault, before any store is opened; else a store that was found or made is
+//!   opened, left as it is where it holds an instance, and begun with `Load` where it is empty: after `ok` each image that a
+//!   stop may leave stands for the state that `Load` makes of the empty one. A device over a file that was just made is
+//!   formatted only where opening told that it holds no store
+//! - `upgrade_store` (`UpgradesStore`): `same store` where the words are the same; a device over the old file, then one of
+//!   8,450 sectors over the new one, and what `upgrade` of `recover` made of both
 //! - the functions that read the system's files say the same of files that hold whatever they do (`TellsAnyFiles`)
 #![tactic(auto)]
 
@@ -42,6 +52,8 @@ mod audited;
 mod drawn;
 mod explained;
 mod listed;
+mod loaded;
+mod opened;
 mod program;
 mod solved;
 pub mod status;
@@ -50,6 +62,6 @@ mod telling;
 
 pub use answer::{AuditAnswer, Line};
 pub use audit::audit_text;
-pub use command_line::{Invocation, Paths, Task, read_words};
+pub use command_line::{Invocation, Loading, Paths, Task, read_words};
 pub use command_serving::{Failed, ServeFault, Sink, Source, Watched, serve};
 pub use program::run_words;

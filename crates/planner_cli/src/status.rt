@@ -2,7 +2,7 @@
 
 /// What was asked for was done; for an audit, the solution passes.
 pub const DONE: u8 = 0;
-/// The solution breaks a rule.
+/// The solution breaks a rule, or a strict serving ended at a refusal.
 pub const BROKEN: u8 = 1;
 /// A text is refused.
 pub const REFUSED: u8 = 2;

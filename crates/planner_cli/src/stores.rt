@@ -1,27 +1,35 @@
-//! Stores in files: `format`, and `run` over standard input.
+//! Stores in files: `format`, `run` over standard input, and `upgrade`.
 //!
-//! `cannot read PATH` has no word of the system beside it here: `FileFault` does not carry the system's error.
-//! `audit` tells that on standard error.
-ghost use Rattle.std.specs.Prelude.{◌≡◌, ◌≤◌, Err, IfOk, OnErr};
-ghost use Rattle.command_serving.specs.declared.answering.ServeFault.TheVariants.{ReadFault, WriteFault};
+//! What the system said of a file that can't be opened or made, and of a device's call that failed, is told on standard
+//! error; no clause speaks of it.
+ghost use Rattle.std.specs.Prelude.{◌≡◌, ◌≢◌, ◌≤◌, Err, IfOk, OnOk, false, true};
+ghost use Rattle.std.specs.Io.KnownBytes.{Appends};
+ghost use Rattle.command_serving.specs.declared.answering.ServeFault.TheVariants.{ReadFault};
 ghost use Rattle.sector_disk.specs.FileDevice.{IsUnused};
 ghost use Rattle.planner_cli.specs.Formatting.{FormatsStore};
-ghost use Rattle.planner_cli.specs.Running.{RunsDevice, RunsSession, RunsStore, TellsServed};
+ghost use Rattle.planner_cli.specs.Statuses.{IsUpgradeStatus};
+ghost use Rattle.planner_cli.specs.Upgrading.{TellsSame, UpgradesOnto, UpgradesStore};
+ghost use Rattle.planner_cli.specs.Running.{IsEnded, RunsDevice, RunsSession, RunsStore, TellsEnded, TellsServed, opened_line, stop_unless};
 
-use crate::status::{DONE, FILE};
-use crate::telling::{tell_file_fault, tell_format, tell_store_fault};
+use crate::opened::open_session;
+use crate::status::{BROKEN, DONE, FILE, USAGE};
+use crate::telling::{
+    tell_cause, tell_file_fault, tell_format, tell_new_fault, tell_store_fault, tell_upgrade,
+    write_line,
+};
 use checkpoint::format;
-use command_serving::{ServeFault, Watched, serve};
-use recover::{Opened, Session};
+use command_serving::{ServeFault, Stopped, Strict, Watched, serve};
+use recover::{Opened, Session, upgrade};
 use sector_disk::{FileCalls, FileDevice, HostFile, Sectors, Start};
 use std::alloc::Global;
 use std::fs::File;
-use std::io;
 use std::io::{Read, Write};
+use std::os::unix::fs::MetadataExt;
 use std::rt::Files;
+use std::{fs, io};
 
 /// How many sectors a store has.
-const STORE_SECTORS: u64 = 8450;
+pub(crate) const STORE_SECTORS: u64 = 8450;
 
 /// Makes an empty store in the file, and tells what came of it.
 pub(crate) fn format_store<R, T: Start, W: Write>(
@@ -31,78 +39,287 @@ pub(crate) fn format_store<R, T: Start, W: Write>(
     output: &mut W,
 ) -> io::Result<u8>
 where
-    R: Files<File = File> + AllocGlobal,
+    R: Files<File = File> + Eprint + AllocGlobal,
     ensures status { IfOk result (λ status. status ≤ 4) }
     ensures formats { IfOk result (FormatsStore ⟦<FileDevice<T> as Sectors>⟧
         (IsUnused ⟦<HostFile as FileCalls>⟧.entries) store.now
         (W.contents output.old) (W.contents output.new)) }
 {
-    match FileDevice::create(rt, store, STORE_SECTORS, start) {
-        Ok(mut device) => tell_format(output, format(rt.alloc(), &mut device).err()),
-        Err(fault) => tell_file_fault(output, store, fault),
+    match FileDevice::create_or_cause(rt, store, STORE_SECTORS, start) {
+        Ok(mut device) => {
+            let made = format(rt.alloc(), &mut device);
+            tell_cause(rt, store, device.cause());
+            tell_format(output, made.err())
+        }
+        Err(refusal) => {
+            tell_cause(rt, store, refusal.cause);
+            tell_file_fault(output, store, refusal.fault)
+        }
     }
 }
 
-/// Opens the store in the file, and serves the input over it.
+/// Opens the store in the file, and serves the input over it, by `is_strict` up to the first answer that tells a refusal or a
+/// failed device.
 pub(crate) fn run_store<R, T: Start, I: Read, W: Write>(
     rt: &R,
     start: T,
     store: &str,
+    is_strict: bool,
     input: &mut Watched<I>,
-    output: &mut Watched<W>,
-) -> io::Result<u8>
+    output: Watched<W>,
+) -> (io::Result<u8>, Watched<W>)
 where
-    R: Files<File = File> + AllocGlobal,
-    ensures status { IfOk result (λ status. status ≤ 4) }
-    ensures runs { IfOk result (RunsStore ⟦<FileDevice<T> as Sectors>⟧
-        (IsUnused ⟦<HostFile as FileCalls>⟧.entries) store.now (I.remaining input.old.inner)
-        (W.contents output.old.inner) (W.contents output.new.inner)
-        input.new.has_failed output.new.has_failed) }
+    R: Files<File = File> + Eprint + AllocGlobal,
+    ensures status { IfOk result.0 (λ status. status ≤ 4) }
+    ensures runs { IfOk result.0 (RunsStore ⟦<FileDevice<T> as Sectors>⟧
+        (IsUnused ⟦<HostFile as FileCalls>⟧.entries) store.now is_strict
+        (I.remaining input.old.inner) (W.contents output.inner) (W.contents result.1.inner)
+        input.new.has_failed result.1.has_failed) }
 {
-    match FileDevice::at(rt, store, start) {
-        Ok(device) => run_device(rt.alloc(), device, input, output),
-        Err(fault) => tell_file_fault(output, store, fault),
+    match FileDevice::at_or_cause(rt, store, start) {
+        Ok(device) => {
+            let (told, device, output) = run_device(rt.alloc(), device, is_strict, input, output);
+            tell_cause(rt, store, device.cause());
+            (told, output)
+        }
+        Err(refusal) => {
+            let mut output = output;
+            tell_cause(rt, store, refusal.cause);
+            (tell_file_fault(&mut output, store, refusal.fault), output)
+        }
     }
 }
 
-// Opens the store on the device, and serves the input over it.
+/// Makes a store in the new file, of the state that the store of version 1 in the old one stands for, and tells what came of
+/// it. The old file is opened before the new one is made, and neither is touched where both are one.
+pub(crate) fn upgrade_store<R, T: Start, U: Start, W: Write>(
+    rt: &R,
+    start: T,
+    start_of_new: U,
+    old: &str,
+    new: &str,
+    output: &mut W,
+) -> io::Result<u8>
+where
+    R: Files<File = File> + Eprint + AllocGlobal,
+    ensures status { IfOk result IsUpgradeStatus }
+    ensures upgrades { IfOk result (UpgradesStore ⟦<FileDevice<T> as Sectors>⟧
+        ⟦<FileDevice<U> as Sectors>⟧ (IsUnused ⟦<HostFile as FileCalls>⟧.entries)
+        (IsUnused ⟦<HostFile as FileCalls>⟧.entries) old.now new.now
+        (W.contents output.old) (W.contents output.new)) }
+{
+    if old == new {
+        return tell_same(output);
+    }
+    if are_one_file(rt, old, new) {
+        return tell_same(output);
+    }
+    match FileDevice::at_or_cause(rt, old, start) {
+        Ok(device) => upgrade_onto(rt, device, start_of_new, old, new, output),
+        Err(refusal) => {
+            tell_cause(rt, old, refusal.cause);
+            tell_file_fault(output, old, refusal.fault)
+        }
+    }
+}
+
+// Whether both paths lead to one file, by whatever links.
+fn are_one_file<R: Files>(rt: &R, old: &str, new: &str) -> bool {
+    let Ok(old) = fs::metadata(rt, old) else {
+        return false;
+    };
+    let Ok(new) = fs::metadata(rt, new) else {
+        return false;
+    };
+    old.dev() == new.dev() && old.ino() == new.ino()
+}
+
+fn tell_same<W: Write>(output: &mut W) -> io::Result<u8>
+    ensures { IfOk result (TellsSame (W.contents output.old) (W.contents output.new)) }
+{
+    write_line(output, b"same store")?;
+    Ok(USAGE)
+}
+
+// Makes the new file, and upgrades the store on the device over the old one into it.
+fn upgrade_onto<R, T: Start, U: Start, W: Write>(
+    rt: &R,
+    mut device: FileDevice<T>,
+    start: U,
+    old: &str,
+    new: &str,
+    output: &mut W,
+) -> io::Result<u8>
+where
+    R: Files<File = File> + Eprint + AllocGlobal,
+    ensures status { IfOk result (λ status. status ≤ 4) }
+    ensures upgrades { IfOk result (UpgradesOnto ⟦<FileDevice<T> as Sectors>⟧
+        ⟦<FileDevice<U> as Sectors>⟧ (IsUnused ⟦<HostFile as FileCalls>⟧.entries) device new.now
+        (W.contents output.old) (W.contents output.new)) }
+{
+    match FileDevice::create_or_cause(rt, new, STORE_SECTORS, start) {
+        Ok(mut made) => {
+            let upgraded = upgrade(rt.alloc(), &mut device, &mut made);
+            tell_cause(rt, old, device.cause());
+            tell_cause(rt, new, made.cause());
+            tell_upgrade(output, upgraded.err())
+        }
+        Err(refusal) => {
+            tell_cause(rt, new, refusal.cause);
+            tell_new_fault(output, new, refusal.fault)
+        }
+    }
+}
+
+// Opens the store on the device, serves the input over it, and gives the device and the output back.
 fn run_device<D: Sectors + Drop, I: Read, W: Write>(
     alloc: Global,
     device: D,
+    is_strict: bool,
     input: &mut Watched<I>,
-    output: &mut Watched<W>,
-) -> io::Result<u8>
-    ensures status { IfOk result (λ status. status ≤ 4) }
-    ensures runs { IfOk result (RunsDevice D.Sectors device (I.remaining input.old.inner)
-        (W.contents output.old.inner) (W.contents output.new.inner)
-        input.new.has_failed output.new.has_failed) }
+    output: Watched<W>,
+) -> (io::Result<u8>, D, Watched<W>)
+    ensures status { IfOk result.0 (λ status. status ≤ 4) }
+    ensures runs { IfOk result.0 (RunsDevice D.Sectors device is_strict
+        (I.remaining input.old.inner) (W.contents output.inner) (W.contents result.2.inner)
+        input.new.has_failed result.2.has_failed) }
 {
-    match Session::open(alloc, device) {
-        Ok(opened) => serve_opened(alloc, opened, input, output),
-        Err((fault, _)) => tell_store_fault(output, fault),
+    match open_session(alloc, device) {
+        Ok(opened) => {
+            let Opened {
+                mut session,
+                replayed,
+            } = opened;
+            let (told, output) = serve_opened(
+                alloc,
+                &mut session,
+                replayed,
+                is_strict,
+                input,
+                output,
+            );
+            (told, session.close(), output)
+        }
+        Err((fault, device)) => {
+            let mut output = output;
+            (tell_store_fault(&mut output, fault), device, output)
+        }
     }
 }
 
 // Tells how many steps were repeated, and serves the input.
 fn serve_opened<D: Sectors + Drop, I: Read, W: Write>(
     alloc: Global,
-    opened: Opened<D>,
+    session: &mut Session<D>,
+    replayed: u64,
+    is_strict: bool,
     input: &mut Watched<I>,
-    output: &mut Watched<W>,
+    output: Watched<W>,
+) -> (io::Result<u8>, Watched<W>)
+    ensures status { IfOk result.0 (λ status. status ≤ 4) }
+    ensures runs { IfOk result.0 (RunsSession session.old replayed is_strict
+        (I.remaining input.old.inner) (W.contents output.inner) (W.contents result.1.inner)
+        input.new.has_failed result.1.has_failed) }
+{
+    let mut output = output;
+    match tell_opened(replayed, &mut output) {
+        Ok(()) => {
+            let ended = serve_input(alloc, session, is_strict, input, output);
+            let mut output = ended.output;
+            (tell_ended(ended.served, ended.stopped, &mut output), output)
+        }
+        Err(error) => (Err(error), output),
+    }
+}
+
+fn tell_opened<W: Write>(replayed: u64, output: &mut W) -> io::Result<()>
+    ensures { OnOk result (Appends (W.contents output.old) (W.contents output.new)
+        (opened_line replayed)) }
+{
+    writeln!(output, "opened {replayed}")?;
+    output.flush()
+}
+
+/// What came of serving an input, and the output as it is left.
+#[derive(Drop)]
+struct Ended<W: Write> {
+    served: Result<(), ServeFault>,
+    /// What a strict serving ended at.
+    stopped: Option<Stopped>,
+    output: Watched<W>,
+}
+
+// Serves the input.
+fn serve_input<D: Sectors + Drop, I: Read, W: Write>(
+    alloc: Global,
+    session: &mut Session<D>,
+    is_strict: bool,
+    input: &mut Watched<I>,
+    output: Watched<W>,
+) -> Ended<W>
+    ensures { IsEnded session.old is_strict (I.remaining input.old.inner)
+        (W.contents output.inner) result.served result.stopped (W.contents result.output.inner)
+        input.new.has_failed result.output.has_failed session.new }
+{
+    if is_strict {
+        return serve_strictly(alloc, session, input, output);
+    }
+    let mut output = output;
+    let served = serve(alloc, session, input, &mut output);
+    Ended {
+        served,
+        stopped: None,
+        output,
+    }
+}
+
+// Serves the input up to the first answer that tells a refusal or a failed device.
+fn serve_strictly<D: Sectors + Drop, I: Read, W: Write>(
+    alloc: Global,
+    session: &mut Session<D>,
+    input: &mut Watched<I>,
+    output: Watched<W>,
+) -> Ended<W>
+    ensures { IsEnded session.old true (I.remaining input.old.inner)
+        (W.contents output.inner) result.served result.stopped (W.contents result.output.inner)
+        input.new.has_failed result.output.has_failed session.new }
+{
+    let mut answers = Strict::new(output);
+    let served = serve(alloc, session, input, &mut answers);
+    let stopped = stop_of(&answers);
+    Ended {
+        served,
+        stopped,
+        output: answers.into_inner(),
+    }
+}
+
+// What the last answer tells, where the writer has not failed.
+fn stop_of<W: Write>(answers: &Strict<W>) -> Option<Stopped>
+    ensures { result ≡ stop_unless answers.now.writer.has_failed answers.now.told }
+{
+    if answers.has_failed() {
+        return None;
+    }
+    answers.stopped()
+}
+
+// Gives the status of what was served, by the answer that a strict serving ended at, if it did.
+fn tell_ended<W: Write>(
+    served: Result<(), ServeFault>,
+    stopped: Option<Stopped>,
+    output: &mut W,
 ) -> io::Result<u8>
     ensures status { IfOk result (λ status. status ≤ 4) }
-    ensures runs { IfOk result (RunsSession opened.session opened.replayed (I.remaining input.old.inner)
-        (W.contents output.old.inner) (W.contents output.new.inner)
-        input.new.has_failed output.new.has_failed) }
+    ensures told { IfOk result (TellsEnded served stopped
+        (W.contents output.old) (W.contents output.new)) }
+    ensures kept { served ≢ Err ReadFault → output.new ≡ output.old }
 {
-    let Opened {
-        mut session,
-        replayed,
-    } = opened;
-    writeln!(output, "opened {replayed}")?;
-    output.flush()?;
-    let served = serve(alloc, &mut session, input, output);
-    tell_served(served, output)
+    match stopped {
+        Some(Stopped::Refused) => Ok(BROKEN),
+        Some(Stopped::DeviceFault) => Ok(FILE),
+        None => tell_served(served, output),
+    }
 }
 
 // Tells an input that can't be read, and gives the status of what was served.
@@ -110,8 +327,7 @@ fn tell_served<W: Write>(served: Result<(), ServeFault>, output: &mut W) -> io::
     ensures status { IfOk result (λ status. status ≤ 4) }
     ensures told { IfOk result (TellsServed served
         (W.contents output.old) (W.contents output.new)) }
-    ensures fails { OnErr result (served ≡ Err ReadFault) }
-    ensures kept { served ≡ Err WriteFault → output.new ≡ output.old }
+    ensures kept { served ≢ Err ReadFault → output.new ≡ output.old }
 {
     match served {
         Ok(()) => Ok(DONE),

@@ -1,12 +1,14 @@
 //! What the program prints, and the status that goes with it.
 ghost use Rattle.std.specs.Prelude.{◌≡◌, ◌≢◌, ◌≤◌, ◌++◌, ◌∷◌, [], IfOk, MatchResult, OnOk, codes};
 ghost use Rattle.std.specs.Io.KnownBytes.{Appends};
-ghost use Rattle.planner_cli.specs.Telling.{TellsAnswer, TellsUnread, format_line, format_status, is_memory, open_line, open_status, store_line, store_status};
+ghost use Rattle.planner_cli.specs.Telling.{TellsAnswer, TellsAnswered, TellsInstanceFault, TellsUnread, denial_line, denial_status, format_line, format_status, is_device_fault, is_memory, new_line, open_line, open_status, store_line, store_status, unmade_line, upgrade_line, upgrade_status, wants_memory};
 
 use crate::answer::AuditAnswer;
 use crate::status::{DONE, FILE, OUT_OF_MEMORY, REFUSED};
 use checkpoint::{FormatFault, StoreFault};
+use instance_read::{ReadFault, ReadFaultKind};
 use plan_types::OutOfMemory;
+use recover::{Denial, UpgradeFault};
 use sector_disk::FileFault;
 use std::io;
 use std::io::{ErrorKind, Write};
@@ -91,6 +93,46 @@ pub(crate) fn tell_file_fault<W: Write>(
             write_line(output, b"store OutOfMemory")?;
             Ok(OUT_OF_MEMORY)
         }
+        FileFault::InUse => {
+            write_line(output, b"store InUse")?;
+            Ok(FILE)
+        }
+    }
+}
+
+/// Tells a new store's file that can't be opened or made, where an old store's was opened.
+pub(crate) fn tell_new_fault<W: Write>(
+    output: &mut W,
+    path: &str,
+    fault: FileFault,
+) -> io::Result<u8>
+    ensures { IfOk result (λ status. (status ≡ open_status fault)
+        × Appends (W.contents output.old) (W.contents output.new) (new_line path.now fault)) }
+{
+    match fault {
+        FileFault::NoFile => {
+            writeln!(output, "cannot read {path}")?;
+            Ok(FILE)
+        }
+        FileFault::BadLength => {
+            write_line(output, b"new BadLength")?;
+            Ok(REFUSED)
+        }
+        FileFault::OutOfMemory => {
+            write_line(output, b"new OutOfMemory")?;
+            Ok(OUT_OF_MEMORY)
+        }
+        FileFault::InUse => {
+            write_line(output, b"new InUse")?;
+            Ok(FILE)
+        }
+    }
+}
+
+/// Tells on standard error what the system said of the file, if it was asked.
+pub(crate) fn tell_cause<R: Eprint>(rt: &R, path: &str, cause: Option<io::Error>) {
+    if let Some(error) = cause {
+        let _ = eprintln!(rt; "planner: {path}: {error}");
     }
 }
 
@@ -130,4 +172,98 @@ pub(crate) fn tell_store_fault<W: Write>(output: &mut W, fault: StoreFault) -> i
         StoreFault::OutOfMemory => OUT_OF_MEMORY,
         _ => REFUSED,
     })
+}
+
+/// Tells what a session answered to a command.
+pub(crate) fn tell_answer<W: Write>(output: &mut W, answer: Result<(), Denial>) -> io::Result<u8>
+    ensures { IfOk result (TellsAnswered answer (W.contents output.old) (W.contents output.new)) }
+{
+    match answer {
+        Ok(()) => {
+            write_line(output, b"ok")?;
+            Ok(DONE)
+        }
+        Err(denial) => tell_denial(output, denial),
+    }
+}
+
+fn tell_denial<W: Write>(output: &mut W, denial: Denial) -> io::Result<u8>
+    ensures { IfOk result (λ status. (status ≡ denial_status denial)
+        × Appends (W.contents output.old) (W.contents output.new) (denial_line denial)) }
+{
+    if is_device_fault(denial) {
+        write_line(output, b"fault device")?;
+    } else {
+        let name = denial.name();
+        writeln!(output, "no {name}")?;
+    }
+    Ok(denial_status(denial))
+}
+
+fn is_device_fault(denial: Denial) -> bool
+    ensures { result ≡ is_device_fault denial }
+{
+    match denial {
+        Denial::DeviceFault => true,
+        _ => false,
+    }
+}
+
+fn denial_status(denial: Denial) -> u8
+    ensures { result ≡ denial_status denial }
+{
+    match denial {
+        Denial::DeviceFault => FILE,
+        Denial::OutOfMemory => OUT_OF_MEMORY,
+        _ => REFUSED,
+    }
+}
+
+/// Tells the first fault of an instance's text, or want of memory for it.
+pub(crate) fn tell_instance_fault<W: Write>(output: &mut W, fault: ReadFault) -> io::Result<u8>
+    ensures { IfOk result (TellsInstanceFault fault (W.contents output.old)
+        (W.contents output.new)) }
+{
+    if wants_memory(fault.kind) {
+        write_line(output, b"out of memory")?;
+        return Ok(OUT_OF_MEMORY);
+    }
+    let name = fault.name();
+    let line = fault.line;
+    writeln!(output, "instance {name} {line}")?;
+    Ok(REFUSED)
+}
+
+fn wants_memory(kind: ReadFaultKind) -> bool
+    ensures { result ≡ wants_memory kind }
+{
+    match kind {
+        ReadFaultKind::OutOfMemory => true,
+        _ => false,
+    }
+}
+
+/// Tells what came of an upgrade.
+pub(crate) fn tell_upgrade<W: Write>(output: &mut W, fault: Option<UpgradeFault>) -> io::Result<u8>
+    ensures { IfOk result (λ status. (status ≡ upgrade_status fault)
+        × Appends (W.contents output.old) (W.contents output.new) (upgrade_line fault)) }
+{
+    let Some(fault) = fault else {
+        write_line(output, b"ok")?;
+        return Ok(DONE);
+    };
+    match fault {
+        UpgradeFault::Old(fault) => tell_store_fault(output, fault),
+        UpgradeFault::New(fault) => tell_unmade(output, fault),
+    }
+}
+
+// Tells why the new store was not made.
+fn tell_unmade<W: Write>(output: &mut W, fault: FormatFault) -> io::Result<u8>
+    ensures { IfOk result (λ status. (status ≡ format_status (Some fault))
+        × Appends (W.contents output.old) (W.contents output.new) (unmade_line fault)) }
+{
+    let name = fault.name();
+    writeln!(output, "new {name}")?;
+    Ok(unformatted_status(fault))
 }

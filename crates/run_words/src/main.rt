@@ -20,7 +20,7 @@ fn main(rt: HostRuntime) -> io::Result<()> {
     for list in lists.as_str().lines() {
         println!(rt; "> {list}")?;
         let words = words_of(rt.alloc(), list)?;
-        let status = run_words(&rt, Unknown, &mut rt.stderr(), words.as_slice());
+        let status = run_words(&rt, Unknown, Unknown, &mut rt.stderr(), words.as_slice());
         println!(rt; "= {status}")?;
     }
     Ok(())

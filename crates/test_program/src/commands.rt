@@ -2,8 +2,8 @@
 
 use command_core::{Command, Job, Refusal, State, apply};
 use command_text::{
-    Answer, Asked, FirstWord, at_line, next_count, print, read_instance, read_line, show,
-    steps_to_reach, steps_to_search,
+    Answer, Asked, FirstWord, at_line, next_count, next_line, print, read_instance, read_line,
+    show, steps_to_reach, steps_to_search,
 };
 use instance_read::{ReadFault, ReadFaultKind};
 use plan_types::Kind;
@@ -32,6 +32,8 @@ fn summary(asked: &Asked) -> (&'static str, u64) {
         Asked::Reach(goal) => ("reach", *goal),
         Asked::Print => ("print", 0),
         Asked::Show => ("show", 0),
+        Asked::Next => ("next", 0),
+        Asked::Help => ("help", 0),
     }
 }
 
@@ -53,7 +55,7 @@ fn command_summary(command: &Command) -> (&'static str, u64) {
 /// A line, the word for what it asks, and the first number of that.
 type Reading = (&'static [u8], &'static str, u64);
 
-const READINGS: [Reading; 46] = [
+const READINGS: [Reading; 50] = [
     (b"", "nothing", 0),
     (b" \t ", "nothing", 0),
     (b"\r", "bad line", 0),
@@ -67,6 +69,10 @@ const READINGS: [Reading; 46] = [
     (b"print", "print", 0),
     (b"show now", "bad line", 0),
     (b"show", "show", 0),
+    (b"next", "next", 0),
+    (b"next 1", "bad line", 0),
+    (b" help", "help", 0),
+    (b"help me", "bad line", 0),
     (b"search 1", "search", 1),
     (b"search 1000000000", "search", 1_000_000_000),
     (b"search 1000000001", "Range", 0),
@@ -267,6 +273,24 @@ fn shows_pins_routes_and_unplanned(rt: HostRuntime) -> Result<(), Fail> {
     let state = loaded(rt.alloc(), Kind::LiLim, TWO_PAIRS)?;
     let state = check_moves(&rt, state, &PIN_MOVES)?;
     assert!(rt; print(rt.alloc(), job_of(&state)?).is_err());
+    Ok(())
+}
+
+// What `next` tells.
+fn is_next(state: &State, text: &[u8]) -> Result<bool, Fail> {
+    Ok(next_line(job_of(state)?).as_bytes() == text)
+}
+
+#[test]
+fn tells_the_next_number(rt: HostRuntime) -> Result<(), Fail> {
+    let state = loaded(rt.alloc(), Kind::LiLim, TWO_PAIRS)?;
+    assert!(rt; is_next(&state, b"next 5")?);
+    let state = after(rt.alloc(), &state, b"add 1 1 1 0 9 0 1 1 0 9 0")?;
+    assert!(rt; is_next(&state, b"next 7")?);
+    let state = after(rt.alloc(), &state, b"add1 1 1 1 0 9 0")?;
+    assert!(rt; is_next(&state, b"next 8")?);
+    let state = after(rt.alloc(), &state, b"withdraw 7")?;
+    assert!(rt; is_next(&state, b"next 8")?);
     Ok(())
 }
 

@@ -8,7 +8,7 @@ use std::process::Abort;
 use std::test::Fail;
 
 /// Words, and what they ask for, as `Debug` has it.
-const READINGS: [(&[&str], &str); 7] = [
+const READINGS: [(&[&str], &str); 10] = [
     (&["planner"], "BuiltIn"),
     (
         &["planner", "audit", "vrp", "a b.vrp", "c.sol"],
@@ -26,7 +26,22 @@ const READINGS: [(&[&str], &str); 7] = [
         &["planner", "format", "a b.store"],
         "Format { store: \"a b.store\" }",
     ),
-    (&["planner", "run", "c.store"], "Run { store: \"c.store\" }"),
+    (
+        &["planner", "run", "c.store"],
+        "Run { store: \"c.store\", is_strict: false }",
+    ),
+    (
+        &["planner", "run", "c.store", "strict"],
+        "Run { store: \"c.store\", is_strict: true }",
+    ),
+    (
+        &["planner", "load", "d.store", "vrp", "a.vrp", "7"],
+        "Load(Loading { store: \"d.store\", kind: Vrp, instance: \"a.vrp\", seed: 7 })",
+    ),
+    (
+        &["planner", "upgrade", "a.store", "b.store"],
+        "Upgrade { old: \"a.store\", new: \"b.store\" }",
+    ),
     (
         &["planner", "draw", "lilim", "a.txt", "b.sol"],
         "Draw(Paths { kind: LiLim, instance: \"a.txt\", solution: \"b.sol\" })",
@@ -50,7 +65,7 @@ fn reads_words(rt: HostRuntime) -> Result<(), Fail> {
     check_readings(&rt, &READINGS)
 }
 
-const REFUSALS: [(&[&str], ErrorKind); 15] = [
+const REFUSALS: [(&[&str], ErrorKind); 17] = [
     (
         &["planner", "audit", "lilim", "a"],
         ErrorKind::MissingRequiredArgument,
@@ -88,11 +103,19 @@ const REFUSALS: [(&[&str], ErrorKind); 15] = [
     ),
     (&["planner", "check"], ErrorKind::InvalidSubcommand),
     (&["planner", "--kind", "vrp"], ErrorKind::UnknownArgument),
-    (&["planner", "run", "a", "b"], ErrorKind::UnknownArgument),
+    (&["planner", "run", "a", "b"], ErrorKind::InvalidValue),
+    (
+        &["planner", "run", "a", "strict", "b"],
+        ErrorKind::UnknownArgument,
+    ),
+    (
+        &["planner", "load", "a", "vrp"],
+        ErrorKind::MissingRequiredArgument,
+    ),
     (&["planner", "format"], ErrorKind::MissingRequiredArgument),
     (
-        &["planner", "upgrade", "a", "b"],
-        ErrorKind::InvalidSubcommand,
+        &["planner", "upgrade", "a"],
+        ErrorKind::MissingRequiredArgument,
     ),
     (&["planner", "--version"], ErrorKind::DisplayVersion),
     (&["planner", "help"], ErrorKind::DisplayHelp),

@@ -13,5 +13,5 @@ returns c =
     } in
     let kind = kind_app c.args.name.now c.args.kinds in
     let one = c.in_ok-command.ensures (new_app c.args.name.now) (kind_rule c.args.kinds) leaf c.kind_word.ensures in
-    let two = c.in_ok-command-2.ensures kind (word_rule (codes "INSTANCE")) one c.word.ensures in
-    c.with_word-3.ensures (with_rule kind (word_rule (codes "INSTANCE"))) (word_rule (codes "SOLUTION")) two c.word-2.ensures
+    let two = c.in_ok-command-2.ensures kind (word_rule (codes "INSTANCE")) one c.instance_word.ensures in
+    c.with_word-3.ensures (with_rule kind (word_rule (codes "INSTANCE"))) (word_rule (codes "SOLUTION")) two c.word.ensures

@@ -4,13 +4,15 @@ use Rattle.std.proofs.lemmas.Result.{IfOk-weaker}
 use Rattle.clap.specs.Simple.{app_of_fields, on_top}
 use Rattle.clap.specs.Words.{Shape, Text, app_of, new_app, with_subcommand}
 use Rattle.clap.specs.declared.builder.command.Command.{Command}
-use Rattle.command_line.specs.CommandLine.{IsKindNames, audits_app, paths_app, planner_app, solve_app, store_app, versioned_app}
+use Rattle.command_line.specs.CommandLine.{IsKindNames, IsModeNames, audits_app, load_app, paths_app, planner_app, run_app, solve_app, store_app, upgrade_app, versioned_app}
 use Rattle.command_line.proofs.words.planner_command.Goals as goal
 
 pub returns : goal.returns
 returns c =
     let names : Bor (List (Bor Text)) = c.kind_names-kinds.result in
     let kinds : IsKindNames names = c.kind_names-kinds.ensures in
+    let modes : Bor (List (Bor Text)) = c.mode_names.result in
+    let named : IsModeNames modes = c.mode_names.ensures in
     let new_is : app_of c.about.result ≡ new_app (codes "planner") = ap app_of_fields c.about.ensures ∙ c.new.ensures.app in
     let none_is : app_of c.after_help-planner.result ≡ versioned_app (codes "planner") =
     ap app_of_fields c.after_help-planner.ensures ∙ (ap app_of_fields c.version.ensures ∙ ap (on_top (λ (s : Shape). record s { has_version = true })) new_is) in
@@ -24,6 +26,10 @@ returns c =
     let three = c.in_ok-planner-3.ensures audits (paths_app (codes "explain") names) two c.in_ok-explain.ensures in
     let four = c.in_ok-planner-4.ensures explain (paths_app (codes "draw") names) three c.in_ok-draw.ensures in
     let five = c.in_ok-planner-5.ensures draw (solve_app names) four c.in_ok-solve_command.ensures in
-    let six = c.in_ok-with_command.ensures solve (store_app (codes "format")) five c.in_ok-format.ensures in
-    IfOk-weaker c.with_command-7.result _ _ (λ (command : Command) (is : app_of command ≡ planner_app names). record { names = names; kinds = kinds; app = is })
-    (c.with_command-7.ensures (with_subcommand solve (store_app (codes "format")).top) (store_app (codes "run")) six c.in_ok-run.ensures)
+    let six = c.in_ok-planner-6.ensures solve (store_app (codes "format")) five c.in_ok-format.ensures in
+    let format = with_subcommand solve (store_app (codes "format")).top in
+    let seven = c.in_ok-planner-7.ensures format (load_app names) six c.in_ok-load_command.ensures in
+    let load = with_subcommand format (load_app names).top in
+    let eight = c.in_ok-planner-8.ensures load (run_app modes) seven c.in_ok-run_command.ensures in
+    IfOk-weaker c.with_command-9.result _ _ (λ (command : Command) (is : app_of command ≡ planner_app names modes). record { names = names; kinds = kinds; mode_names = modes; modes = named; app = is })
+    (c.with_command-9.ensures (with_subcommand load (run_app modes).top) upgrade_app eight c.in_ok-upgrade_command.ensures)

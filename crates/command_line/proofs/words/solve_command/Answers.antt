@@ -1,8 +1,8 @@
 -- The command with its four words, the last of which may be left out.
-use Rattle.std.proofs.Common.{◌∙◌, ap, codes, rules}
+use Rattle.std.proofs.Common.{◌∙◌, ap, codes}
 use Rattle.clap.specs.Simple.{app_of_fields}
 use Rattle.clap.specs.Words.{new_app, new_rule, with_rule}
-use Rattle.command_line.specs.CommandLine.{IsLeafCommand, IsWord, kind_app, kind_rule, word_rule}
+use Rattle.command_line.specs.CommandLine.{IsLeafCommand, kind_app, kind_rule, word_rule}
 use Rattle.command_line.proofs.words.solve_command.Goals as goal
 
 pub returns : goal.returns
@@ -13,8 +13,7 @@ returns c =
     } in
     let kind = kind_app (codes "solve") c.args.kinds in
     let one = c.in_ok-command.ensures (new_app (codes "solve")) (kind_rule c.args.kinds) leaf c.kind_word.ensures in
-    let two = c.in_ok-command-2.ensures kind (word_rule (codes "INSTANCE")) one c.word.ensures in
+    let two = c.in_ok-command-2.ensures kind (word_rule (codes "INSTANCE")) one c.instance_word.ensures in
     let instance = with_rule kind (word_rule (codes "INSTANCE")) in
-    let three = c.in_ok-command-3.ensures instance (word_rule (codes "STEPS")) two c.word-2.ensures in
-    let seed : IsWord (new_rule (codes "SEED")) c.help-seed.result = record { rule = search rules; local = search rules } in
-    c.with_word-4.ensures (with_rule instance (word_rule (codes "STEPS"))) (new_rule (codes "SEED")) three seed
+    let three = c.in_ok-command-3.ensures instance (word_rule (codes "STEPS")) two c.word.ensures in
+    c.with_word-4.ensures (with_rule instance (word_rule (codes "STEPS"))) (new_rule (codes "SEED")) three c.seed_word.ensures

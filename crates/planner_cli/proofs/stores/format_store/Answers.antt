@@ -1,8 +1,9 @@
 -- What the format made of the device over the file, or why there is none.
-use Rattle.std.proofs.Common.{◌≡◌, ◌≤◌, Err, ap, arith, inl, inr, subst}
+use Rattle.std.proofs.Common.{◌≡◌, ◌<◌, arith, inl, inr, subst}
 use Rattle.std.specs.Prelude.{◌^◌, IfOk}
 use Rattle.std.specs.Io.KnownBytes.{Appends}
 use Rattle.std.specs.Result.{result_err}
+use Rattle.checkpoint.specs.declared.faults.FormatFault.TheVariants.{TooSmall}
 use Rattle.std.proofs.lemmas.Result.{IfOk-weaker}
 use Rattle.planner_cli.specs.Telling.{format_line, format_status}
 use Rattle.planner_cli.proofs.TellLemmas.{not_too_small}
@@ -10,14 +11,14 @@ use Rattle.planner_cli.proofs.stores.format_store.Goals as goal
 
 pub returns-in-Ok-clause-formats : goal.returns-in-Ok-clause-formats
 returns-in-Ok-clause-formats g c =
-    let made = c.format.result in
+    let made = c.format-made.result in
     let before = g.W.Write.contents c.args.output.now in
     let after = g.W.Write.contents c.tell_format.new.output in
-    let given = c.format.ensures in
+    let given = c.format-made.ensures in
     IfOk-weaker c.tell_format.result (λ status. (status ≡ format_status (result_err made)) × Appends before after (format_line (result_err made))) _
     (λ status told. inl (
       c.in-Ok.device,
-      c.format.new.device,
+      c.format-made.new.device,
       made,
       c.in-Ok.ensures.unused,
       c.in-Ok.ensures.len,
@@ -31,7 +32,7 @@ returns-in-Ok-clause-formats g c =
         faults = given.fault;
         same_len = given.same_len;
       },
-      not_too_small made _ given.too_small c.in-Ok.ensures.len,
+      not_too_small made TooSmall _ given.too_small c.in-Ok.ensures.len,
       told.0,
       told.1,
     ))
@@ -39,10 +40,5 @@ returns-in-Ok-clause-formats g c =
 
 pub returns-in-Err-clause-formats : goal.returns-in-Err-clause-formats
 returns-in-Err-clause-formats g c =
-    IfOk-weaker c.tell_file_fault.result _ _
-    (λ status told. inr (
-      c.in-Err.fault,
-      λ is. let long : 2 ^ 54 ≤ 8450 = c.in-Err.ensures.too_long.0 (ap (λ x. Err x) is) in absurd (omega (arith, long)),
-      told.0,
-      told.1,
-    )) c.tell_file_fault.ensures
+    let short : 8450 < 2 ^ 54 = omega arith in
+    IfOk-weaker c.tell_file_fault.result _ _ (λ status told. inr (c.in-Err.refusal.fault, c.in-Err.ensures.not_too_long short, told.0, told.1)) c.tell_file_fault.ensures

@@ -1,0 +1,40 @@
+-- The session was empty, and answered the command.
+use Rattle.std.proofs.Common.{◌≡◌, List, ℕ, false, inr, rules}
+use Rattle.std.proofs.lemmas.Result.{IfOk-weaker}
+use Rattle.command_core.specs.declared.states.State.TheVariants.{Empty}
+use Rattle.planner_cli.specs.Loading.{holds_instance}
+use Rattle.planner_cli.proofs.TellLemmas.{begun, is_empty}
+use Rattle.recover.specs.StandsFor.{StandsFor}
+use Rattle.state_codec.specs.declared.version.Version.TheVariants.{Two}
+use Rattle.planner_cli.proofs.loaded.begin_opened.Goals as goal
+
+pub returns-clause-begins : goal.returns-clause-begins
+returns-clause-begins g c =
+    let old = c.args.opened.session in
+    let new = c.apply-reply.new.self in
+    let left = c.close-2.result in
+    let given = c.apply-reply.ensures in
+    let holds_none : holds_instance old.state ≡ false = search rules in
+    let empty : old.state ≡ Empty = is_empty old.state holds_none in
+    IfOk-weaker c.tell_answer.result _ _
+    (λ status told. inr (record {
+      empty = empty;
+      reply = c.apply-reply.result;
+      new = new;
+      applied = record {
+        answer = given.answer;
+        makes = given.makes;
+        count = given.count;
+        finished = given.finished;
+        fault = given.fault;
+        same_len = given.same_len;
+        honest_before = given.honest;
+        moments = given.moments;
+        counts = given.counts;
+        stands = given.stands;
+      };
+      device = c.close-2.ensures.device;
+      stands = begun c.apply-reply.result.answer old new c.args.command
+          (λ s. g.D.Sectors.honest left → (image : List ℕ) → g.D.Sectors.possible left image → StandsFor Two image s) empty given.makes c.close-2.ensures.stands;
+      told = told;
+    })) c.tell_answer.ensures

@@ -1,0 +1,104 @@
+-- What the word `load` does: it reads an instance, and begins the store in a file with it, which it makes where there is none.
+use Rattle.std.specs.Prelude.{◌≡◌, ◌⊎◌, ℕ, Bool, true, false, List, codes, Option, Some, Result, MatchResult, OnOk}
+use Rattle.std.specs.Borrow.{Bor}
+use Rattle.std.specs.Io.KnownBytes.{Appends}
+use Rattle.std.specs.declared.io.ErrorKind.{ErrorKind}
+use Rattle.plan_types.specs.Instance.{Instance}
+use Rattle.instance_read.specs.Faults.{TellsFirstFault}
+use Rattle.instance_read.specs.declared.faults.ReadFault.{ReadFault}
+use Rattle.checkpoint.specs.declared.faults.FormatFault.{FormatFault}
+use Rattle.checkpoint.specs.declared.faults.StoreFault.TheVariants.{NotFormatted}
+use Rattle.checkpoint.specs.declared.places.Place.{Place}
+use Rattle.command_core.specs.Effects.{effect}
+use Rattle.command_core.specs.declared.commands.Command.{Command}
+use Rattle.command_core.specs.declared.commands.Command.TheVariants.{Load}
+use Rattle.command_core.specs.declared.states.State.{State}
+use Rattle.command_core.specs.declared.states.State.TheVariants.{Empty, Loaded}
+use Rattle.command_line.specs.Asked.{LoadAsked}
+use Rattle.command_text.specs.Answers.{line}
+use Rattle.command_text.specs.Readings.{InstanceFault, SpellsInstance}
+use Rattle.planner_cli.specs.Files.{Gave}
+use Rattle.planner_cli.specs.Formatting.{IsFormatted}
+use Rattle.planner_cli.specs.Running.{OpensDevice, TellsFault}
+use Rattle.planner_cli.specs.Telling.{TellsAnswered, TellsInstanceFault, TellsUnread, format_line, format_status, open_line, open_status}
+use Rattle.recover.specs.Applying.{IsApplied}
+use Rattle.recover.specs.Sessions.{SessionValue}
+use Rattle.recover.specs.StandsFor.{StandsFor}
+use Rattle.recover.specs.declared.replies.Reply.{Reply}
+use Rattle.sector_disk.specs.declared.file_device.FileFault.{FileFault}
+use Rattle.sector_disk.specs.declared.sectors.Sectors as sectors
+use Rattle.state_codec.specs.declared.version.Version.TheVariants.{Two}
+
+abbrev pub holds_instance : State → Bool
+holds_instance Empty = false
+holds_instance (Loaded job) = true
+
+-- the store holds an instance already
+abbrev pub TellsHeld : Option (List ℕ) → Option (List ℕ) → ℕ → Type 0
+TellsHeld before after status = (status ≡ 2) × Appends before after (line (codes "store Loaded"))
+
+-- `left` is the device as it is left.
+module _ {D : Type 0} (on : sectors.Ghosts D) where
+  -- The session holds an instance: it and its device stay as they are.
+  pub record IsHeld (session : SessionValue D) (before after : Option (List ℕ)) (left : D) (status : ℕ) : Type 0 where
+    pub held : holds_instance session.state ≡ true
+    pub same : left ≡ session.device
+    pub told : TellsHeld before after status
+
+  -- The session is empty, and answered the command. After Ok each image that a stop may leave stands for the state that the command makes of
+  -- the empty one.
+  pub record IsBegun (old : SessionValue D) (command : Command) (before after : Option (List ℕ)) (left : D) (status : ℕ) : Type 0 where
+    pub empty : old.state ≡ Empty
+    pub reply : Reply
+    pub new : SessionValue D
+    pub applied : IsApplied on.len on.calls on.faults on.honest on.clock on.possible_since on.possible old command reply new
+    pub device : left ≡ new.device
+    pub stands : OnOk reply.answer (on.honest left → (image : List ℕ) → on.possible left image → StandsFor Two image (effect Empty command))
+    pub told : TellsAnswered reply.answer before after status
+
+  abbrev pub BeginsSession : SessionValue D → Command → Option (List ℕ) → Option (List ℕ) → D → ℕ → Type 0
+  BeginsSession session command before after left status = IsHeld session before after left status ⊎ IsBegun session command before after left status
+
+  -- the store on the device is opened and begun, or it is told why it can't be opened
+  abbrev pub BeginsDevice : D → Command → Option (List ℕ) → Option (List ℕ) → D → ℕ → Type 0
+  BeginsDevice device command before after left status =
+      OpensDevice on device (λ session replayed. BeginsSession session command before after left status) (λ later fault. (left ≡ later) × TellsFault fault before after status)
+
+  -- an empty store is made on the device and begun, or it is told why it is not made
+  abbrev pub BeginsFormatted : D → Command → Option (List ℕ) → Option (List ℕ) → D → ℕ → Type 0
+  BeginsFormatted device command before after left status =
+      (new : D) × (made : Result Place FormatFault) × IsFormatted on device new made
+      × MatchResult made (λ place. BeginsDevice new command before after left status)
+      (λ fault. (left ≡ new) × (status ≡ format_status (Some fault)) × Appends before after (format_line (Some fault)))
+
+  -- The same on a device over a file that was just made. It is formatted only where it holds no store.
+  abbrev pub BeginsMade : D → Command → Option (List ℕ) → Option (List ℕ) → D → ℕ → Type 0
+  BeginsMade device command before after left status =
+      OpensDevice on device (λ session replayed. BeginsSession session command before after left status)
+      (λ later fault. ((fault ≡ NotFormatted) × BeginsFormatted later command before after left status) ⊎ ((left ≡ later) × TellsFault fault before after status))
+
+  -- A file of 8,450 sectors is made, and a store in it begun, or it is told why there is none. `IsNew` is what is known of the device over it.
+  abbrev pub BeginsNew : (D → Type 0) → List ℕ → Command → Option (List ℕ) → Option (List ℕ) → ℕ → Type 0
+  BeginsNew IsNew path command before after status =
+      ((device : D) × (left : D) × IsNew device × (on.len device ≡ 8450) × BeginsMade device command before after left status)
+      ⊎ ((fault : FileFault) × (status ≡ open_status fault) × Appends before after (open_line path fault))
+
+module _ {D E : Type 0} (on_old : sectors.Ghosts D) (on_new : sectors.Ghosts E) (IsOld : D → Type 0) (IsNew : E → Type 0) where
+  -- the store in the file is begun, or one in a new file, or it is told why neither is opened
+  abbrev pub BeginsStore : List ℕ → Command → Option (List ℕ) → Option (List ℕ) → ℕ → Type 0
+  BeginsStore path command before after status =
+      ((device : D) × (left : D) × IsOld device × BeginsDevice on_old device command before after left status)
+      ⊎ (BeginsNew on_new IsNew path command before after status ⊎ ((fault : FileFault) × (status ≡ open_status fault) × Appends before after (open_line path fault)))
+
+  -- a text is read, and the store begun with the instance that it spells, or its first fault told
+  abbrev pub LoadsText : LoadAsked → List ℕ → Option (List ℕ) → Option (List ℕ) → ℕ → Type 0
+  LoadsText asked text before after status =
+      (found : Result Instance ReadFault)
+      × MatchResult found (λ problem. SpellsInstance asked.kind text problem × BeginsStore asked.store (Load problem asked.seed) before after status)
+      (λ fault. TellsFirstFault (InstanceFault asked.kind text) fault × TellsInstanceFault fault before after status)
+
+  -- so it is with the text in a file, or that can't be read
+  abbrev pub TellsLoad : {V F : Type 0} → (Bor (List ℕ) → Result V F → Type 0) → (V → List ℕ) → (F → ErrorKind) → LoadAsked → Option (List ℕ) → Option (List ℕ) → ℕ → Type 0
+  TellsLoad {V} {F} post items kind asked before after status =
+      (given : Result V F) × Gave post asked.instance given
+      × MatchResult given (λ x. LoadsText asked (items x) before after status) (λ e. TellsUnread asked.instance (kind e) before after status)
