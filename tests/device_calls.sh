@@ -1,7 +1,7 @@
 #!/bin/sh
-# Checks which calls of the system a device over a file makes, and in which order: `create` sets the length, and syncs the
-# file and its folder; each write is one write at its offset, and each sync is the file's own. Wants strace, and
-# `run_benchmarks` built (by `rt run` in its folder).
+# Checks which calls of the system a device over a file makes, and in which order: `create` takes the file's lock, writes
+# zeros where it gets longer, and syncs the file and its folder; each write is one write at its offset, and each sync is the
+# file's own. Wants strace, and `run_benchmarks` built (by `rt run` in its folder).
 set -u
 
 top=$(CDPATH='' cd -- "$(dirname -- "$0")/.." && pwd -P) || exit 1
@@ -21,7 +21,7 @@ fi
 folder=$(mktemp -d) || exit 1
 trap 'rm -rf -- "$folder"' EXIT
 
-strace -o "$folder/calls" -e trace=open,openat,ftruncate,fsync,fdatasync,pwrite64,pread64,write,read \
+strace -o "$folder/calls" -e trace=open,openat,flock,ftruncate,fsync,fdatasync,pwrite64,pread64,write,read \
     "$program" device "$folder/new.disk" 4 3 || exit 1
 
 # Names the files for their descriptors, and leaves out what was opened before the device.
@@ -48,7 +48,8 @@ awk -v folder="$folder" '
 
 cat >"$folder/wanted" <<'END'
 open file
-ftruncate 2048 file
+flock file
+pwrite64 2048 at 0 file
 fsync file
 open folder
 fsync folder

@@ -1,9 +1,10 @@
 #!/usr/bin/env python3
-"""What a session answers where one allocation is refused.
+"""What a session and an upgrade answer where one allocation is refused.
 
-Runs the five commands of `run_stops` again and again, first with the first allocation of the whole program refused, then
-with the second one, and so on until none is refused. Each run has to end as promised: the first call that answers otherwise
-than with ample memory answers OutOfMemory and leaves all as it was, or DeviceFault where a write or a sync found no memory.
+Runs the five commands of `run_stops`, and its upgrade of a store of version 1, again and again, first with the first
+allocation of the whole program refused, then with the second one, and so on until none is refused. Each run has to end as
+promised: the first call that answers otherwise than with ample memory answers OutOfMemory and leaves all as it was, or
+DeviceFault where a write or a sync found no memory; an upgrade is done once more then.
 The program compares the states itself and says so; where its own memory was refused it ends with status 1.
 
 Wants a C compiler, for the few lines that refuse an allocation, and `run_stops` built (by `rt run` in its folder).
@@ -19,9 +20,11 @@ import tempfile
 
 PROGRAM = pathlib.Path(__file__).resolve().parent.parent / "crates/run_stops/out/run_stops"
 
-# Status and output that a refused allocation may have: status 1 where it is the program's own.
-MET = {"refused before the first command", "OutOfMemory", "DeviceFault"}
-PROMISED = {(0, answer) for answer in MET | {"nothing was refused"}} | {(1, "")}
+# By the program's word, what some refused allocation has to lead to.
+MET = {
+    "memory": {"refused before the first command", "OutOfMemory", "DeviceFault"},
+    "upgrade": {"OutOfMemory", "DeviceFault"},
+}
 
 # Stands before the C library's functions. Refuses the allocation whose number is in REFUSED, and says in the end how many there were.
 SHIM = r"""
@@ -48,11 +51,25 @@ int posix_memalign(void **p, size_t n, size_t m) { REAL("posix_memalign", placed
 """
 
 
-def run_refused(shim, number):
-    """Status and output of the program whose allocation of this number is refused, 0 for none, and how many it made."""
+def run_refused(shim, word, number):
+    """Status and output of the program with this word whose allocation of this number is refused, 0 for none, and how many it made."""
     environment = {**os.environ, "LD_PRELOAD": str(shim), "REFUSED": str(number)}
-    done = subprocess.run([PROGRAM, "memory"], capture_output=True, text=True, env=environment, timeout=60, check=False)
+    done = subprocess.run([PROGRAM, word], capture_output=True, text=True, env=environment, timeout=60, check=False)
     return done.returncode, done.stdout.strip(), int(done.stderr.split()[-1])
+
+
+def refuse_each(shim, word):
+    """Refuses each allocation of the program with this word in turn. Status 1 is told where one was the program's own."""
+    status, answer, allocations = run_refused(shim, word, 0)
+    if (status, answer) != (0, "nothing was refused") or allocations == 0:
+        sys.exit(f"refused_allocations: {word}: {answer}, status {status}, {allocations} allocations")
+    answers = collections.Counter(run_refused(shim, word, number)[:2] for number in range(1, allocations + 1))
+    promised = {(0, answer) for answer in MET[word] | {"nothing was refused"}} | {(1, "")}
+    wrong = {answer: count for answer, count in answers.items() if answer not in promised}
+    missing = MET[word] - {answer for status, answer in answers if status == 0}
+    if wrong or missing:
+        sys.exit(f"refused_allocations: {word}: {wrong}, and none is {missing}")
+    print(f"refused_allocations: {word}: {allocations} allocations refused in turn, each as promised: {dict(answers)}")
 
 
 def main():
@@ -66,15 +83,8 @@ def main():
         source, shim = pathlib.Path(folder) / "shim.c", pathlib.Path(folder) / "shim.so"
         source.write_text(SHIM, encoding="ascii")
         subprocess.run([compiler, "-O1", "-shared", "-fPIC", "-o", shim, source], check=True)
-        status, answer, allocations = run_refused(shim, 0)
-        if (status, answer) != (0, "nothing was refused") or allocations == 0:
-            sys.exit(f"refused_allocations: {answer}, status {status}, {allocations} allocations")
-        answers = collections.Counter(run_refused(shim, number)[:2] for number in range(1, allocations + 1))
-    wrong = {answer: count for answer, count in answers.items() if answer not in PROMISED}
-    missing = MET - {answer for status, answer in answers if status == 0}
-    if wrong or missing:
-        sys.exit(f"refused_allocations: {wrong}, and none is {missing}")
-    print(f"refused_allocations: {allocations} allocations refused in turn, each as promised: {dict(answers)}")
+        for word in MET:
+            refuse_each(shim, word)
 
 
 if __name__ == "__main__":

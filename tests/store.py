@@ -2,9 +2,13 @@
 """Runs the built program over a real file, as a dispatcher would.
 
 1. format, run, load, build, search, show; then run again: the same show.
-2. kill -9 at random moments of a long search: what was acknowledged is there after the next run, the plan that is printed
-   passes the audit, and the search that is continued to n steps has the plan of n steps done at once.
-3. With strace: no `ok` or `at` line is written before the sync that it stands on has returned.
+2. load: it makes the store, byte for byte as format and the line `load` do; a store that holds an instance stays as it is, and a
+   text that is refused leaves no file. strict: nothing is done behind a refusal, and the status tells it.
+3. kill -9 at random moments of a long search, each fifth time SIGINT or SIGTERM: what was acknowledged is there after the next
+   run, the plan that is printed passes the audit, and the search that is continued to n steps has the plan of n steps at once.
+4. With strace: no `ok` or `at` line is written before the sync that it stands on has returned.
+5. Two programs at once on one store: the second is refused and changes nothing; after kill -9 the store opens again.
+6. A full disk, on a small tmpfs: it is told when the store is made; one that is full later is told behind `fault device`.
 
 Words: how often the program is stopped (200 where there are none). Wants the program that rt ci leaves.
 """
@@ -12,6 +16,7 @@ import os
 import random
 import re
 import shutil
+import signal
 import subprocess
 import sys
 import tempfile
@@ -78,6 +83,66 @@ def check_session(folder):
     print("store: a session goes on where it was")
 
 
+def contents(path):
+    with open(path, "rb") as file:
+        return file.read()
+
+
+def load(store, status, line, instance=INSTANCE, seed="7"):
+    got = subprocess.run([PROGRAM, "load", store, "lilim", instance, seed], capture_output=True)
+    if (got.returncode, got.stdout, got.stderr) != (status, line + b"\n", b""):
+        fail(f"load: status {got.returncode}, {got.stdout!r}, {got.stderr!r}; wanted {status}, {line!r}")
+
+
+def check_load(folder):
+    store, other = os.path.join(folder, "load.store"), os.path.join(folder, "line.store")
+    bad = os.path.join(folder, "bad.txt")
+    with open(bad, "wb") as file:
+        file.write(contents(INSTANCE)[:-20])
+    got = subprocess.run([PROGRAM, "load", store, "lilim", bad], capture_output=True)
+    if got.returncode != 2 or not got.stdout.startswith(b"instance "):
+        fail(f"load of a bad instance: status {got.returncode}, {got.stdout!r}")
+    if os.path.exists(store):
+        fail("load of a bad instance left a file")
+    format_store(other)
+    empty = contents(other)
+    run(other, load_lines())
+    load(store, 0, b"ok")
+    made = contents(store)
+    if made != contents(other):
+        fail("load made another store than format and the line load")
+    load(store, 2, b"store Loaded")
+    load(store, 2, b"store Loaded", seed="8")
+    if contents(store) != made:
+        fail("load changed a store that holds an instance")
+    with open(store, "wb") as file:
+        file.write(empty)
+    load(store, 0, b"ok", seed="8")
+    if contents(store) == made:
+        fail("load makes nothing of its seed")
+    run(other, load_lines(8))
+    if run(store, b"build\nsearch 500\nshow\n") != run(other, b"build\nsearch 500\nshow\n"):
+        fail("load over an empty store begins another search than the line load")
+    print("store: load begins a store, and leaves one that is begun")
+
+
+def check_strict(folder):
+    store = os.path.join(folder, "strict.store")
+    load(store, 0, b"ok")
+    lines = b"build\nsearch 10\nwithdraw 40000\nsearch 10\n"
+    got = subprocess.run([PROGRAM, "run", store, "strict"], input=lines, capture_output=True)
+    answers = got.stdout.split(b"\n")
+    if got.returncode != 1 or len(answers) != 6 or answers[4:] != [b"no NoSuchRequest", b""]:
+        fail(f"strict: status {got.returncode}, {got.stdout!r}")
+    shown = run(store, b"show\n")
+    if not shown.startswith("requests 53 next 107\nsteps 10 "):
+        fail(f"strict: a line behind a refusal was done: {shown[:80]!r}")
+    got = subprocess.run([PROGRAM, "run", store, "strict"], input=b"search 10\nshow\n", capture_output=True)
+    if got.returncode != 0 or not got.stdout.endswith(b"\nok\n"):
+        fail(f"strict: status {got.returncode}, {got.stdout!r}")
+    print("store: a strict session ends at a refusal")
+
+
 def plan_at_once(folder):
     """The state that STEPS steps at once lead to."""
     store = os.path.join(folder, "once.store")
@@ -86,13 +151,20 @@ def plan_at_once(folder):
     return run(store, b"show\n")
 
 
-def stopped_run(store, moment):
-    """Runs a search towards STEPS, kills it after so many seconds, and gives the last step that was acknowledged."""
-    with subprocess.Popen([PROGRAM, "run", store], stdin=subprocess.PIPE, stdout=subprocess.PIPE) as process:
+def heed_interrupts():
+    # Where this script runs in the background, SIGINT may be ignored, and what it starts would ignore it too.
+    signal.signal(signal.SIGINT, signal.SIG_DFL)
+
+
+def stopped_run(store, moment, stop):
+    """Runs a search towards STEPS, stops it after so many seconds, and gives the last step that was acknowledged."""
+    with subprocess.Popen(
+        [PROGRAM, "run", store], stdin=subprocess.PIPE, stdout=subprocess.PIPE, preexec_fn=heed_interrupts
+    ) as process:
         process.stdin.write(b"reach %d\n" % STEPS)
         process.stdin.flush()
         time.sleep(moment)
-        process.kill()
+        process.send_signal(stop)
         text = process.stdout.read().decode()
     ats = [int(line.split()[1]) for line in text.split("\n")[:-1] if line.startswith("at ")]
     return ats[-1] if ats else 0
@@ -109,7 +181,8 @@ def check_stops(folder, stops):
             format_store(store)
             run(store, load_lines() + b"build\n")
             begun, known = begun + 1, 0
-        acknowledged = stopped_run(store, rng.uniform(0.002, 0.12))
+        stop = {4: signal.SIGINT, 9: signal.SIGTERM}.get(made % 10, signal.SIGKILL)
+        acknowledged = stopped_run(store, rng.uniform(0.002, 0.12), stop)
         made += 1
         shown, printed, rest = run(store, b"show\nprint\n").split("\nok\n")
         if rest:
@@ -162,6 +235,95 @@ def check_calls(folder):
     print("store: no answer is written before its sync has returned")
 
 
+def refused(*words):
+    """These words answer that the store is in use."""
+    got = subprocess.run([PROGRAM, *words], input=b"build\n", capture_output=True)
+    if (got.returncode, got.stdout, got.stderr) != (3, b"store InUse\n", b""):
+        fail(f"{words} beside a run: status {got.returncode}, {got.stdout!r}, {got.stderr!r}")
+
+
+def check_two_at_once(folder):
+    store = os.path.join(folder, "shared.store")
+    link = os.path.join(folder, "link.store")
+    format_store(store)
+    os.symlink(store, link)
+    with subprocess.Popen([PROGRAM, "run", store], stdin=subprocess.PIPE, stdout=subprocess.PIPE) as process:
+        process.stdin.write(load_lines() + b"build\n")
+        process.stdin.flush()
+        told = [process.stdout.readline() for _ in range(3)]
+        if told != [b"opened 0\n", b"ok\n", b"ok\n"]:
+            fail(f"shared: {told}")
+        with open(store, "rb") as file:
+            before = file.read()
+        for path in [store, link]:
+            refused("run", path)
+            refused("format", path)
+            refused("load", path, "lilim", INSTANCE)
+        with open(store, "rb") as file:
+            if file.read() != before:
+                fail("shared: a refused program changed the store")
+        process.kill()
+    if not run(store, b"show\n").startswith("requests 53 next 107\n"):
+        fail("shared: the plan is lost after kill -9")
+    format_store(store)
+    print("store: a second program on a store is refused, and none after kill -9")
+
+
+def check_full(folder):
+    disk = os.path.join(folder, "disk")
+    os.mkdir(disk)
+    mounted = ["mount", "-t", "tmpfs", "-o", "size=5m", "tmpfs", disk]
+    if shutil.which("mount") is None or subprocess.run(mounted, capture_output=True).returncode != 0:
+        print("skipped: store, a full disk, since no tmpfs may be mounted here")
+        return
+    try:
+        check_full_disk(os.path.join(disk, "full.store"), os.path.join(disk, "other"))
+    finally:
+        subprocess.run(["umount", disk], check=True)
+    print("store: a full disk is told with the system's words")
+
+
+def fill(path):
+    """Takes what room there is."""
+    with open(path, "wb", buffering=0) as file:
+        try:
+            while True:
+                file.write(bytes(4096))
+        except OSError:
+            pass
+
+
+def check_full_disk(store, other):
+    words = f"planner: {store}: No space left on device (os error 28)\n".encode()
+    with open(other, "wb") as file:
+        file.write(bytes(2_000_000))
+    got = subprocess.run([PROGRAM, "format", store], capture_output=True)
+    wanted = (3, f"cannot read {store}\n".encode(), words)
+    if (got.returncode, got.stdout, got.stderr) != wanted:
+        fail(f"full: format: status {got.returncode}, {got.stdout!r}, {got.stderr!r}")
+    if os.path.getsize(store) != 0:
+        fail("full: what was written of the store is still there")
+    os.remove(store)
+    got = subprocess.run([PROGRAM, "load", store, "lilim", INSTANCE], capture_output=True)
+    if (got.returncode, got.stdout, got.stderr) != wanted:
+        fail(f"full: load: status {got.returncode}, {got.stdout!r}, {got.stderr!r}")
+    os.remove(other)
+    format_store(store)
+    # With the room that the store has taken, a disk that is full behind it does no harm.
+    fill(other)
+    run(store, load_lines() + b"build\ncheckpoint\n")
+    with subprocess.Popen(
+        [PROGRAM, "run", store], stdin=subprocess.PIPE, stdout=subprocess.PIPE, stderr=subprocess.PIPE
+    ) as process:
+        process.stdout.readline()
+        # Somebody cuts the store, and the room is gone.
+        os.truncate(store, 0)
+        fill(other + "-more")
+        told, errors = process.communicate(b"checkpoint\nshow\n")
+    if (process.returncode, told, errors) != (0, b"fault device\nno Broken\n", words):
+        fail(f"full: run: status {process.returncode}, {told!r}, {errors!r}")
+
+
 def main():
     if not os.access(PROGRAM, os.X_OK):
         print(f"skipped: store, since {PROGRAM} is not built (rt ci builds it)")
@@ -169,7 +331,11 @@ def main():
     stops = int(sys.argv[1]) if len(sys.argv) > 1 else 200
     with tempfile.TemporaryDirectory() as folder:
         check_session(folder)
+        check_load(folder)
+        check_strict(folder)
         check_calls(folder)
+        check_two_at_once(folder)
+        check_full(folder)
         check_stops(folder, stops)
 
 

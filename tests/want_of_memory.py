@@ -23,7 +23,7 @@ WANT, FAULT = "want of memory", "faults"
 VALUES = {
     WANT: re.compile(r"(.*::)?(AllocError|AllocFailed|OutOfMemory|OUT_OF_MEMORY|Dropped|dropped)"),
     FAULT: re.compile(
-        r"(.*::)?(DeviceFault|Failed|Unread|WriteFault|NoFile|BadLength|FILE|ReadFailed|WriteFailed|SyncFailed|fault_of|not_read"
+        r"(.*::)?(DeviceFault|Failed|Unread|WriteFault|NoFile|BadLength|InUse|FILE|ReadFailed|WriteFailed|SyncFailed|fault_of|not_read"
         r"|[A-Z]\w*::ReadFault|ErrorKind::\w+|Error(::[a-z]\w*)?)"
     ),
 }

@@ -40,6 +40,11 @@ expect 2 'instance FieldCount 1' '' audit lilim one-pair.sol one-pair.sol
 expect 3 'cannot read nowhere' 'planner: nowhere: No such file or directory (os error 2)' audit lilim one-pair.txt nowhere
 expect 0 'Says whether a solution keeps the rules, and the first rule that it breaks' '' audit --help
 
+got=$("$program" audit lilim - lc101.sol <lc101.txt)
+[ "$got" = 'pass 0 10 829' ] || fail "audit of an instance on standard input: $got"
+got=$("$program" solve lilim lc101.txt 100 2>/dev/null | "$program" audit lilim lc101.txt -)
+[ "${got%% *}" = 'pass' ] || fail "audit of a solution on standard input: $got"
+
 expect 64 '' 'error: the following required arguments were not provided:' audit
 expect 64 '' "error: unexpected argument 'more' found" audit lilim one-pair.txt one-pair.sol more
 expect 64 '' "error: invalid value 'LILIM' for '<KIND>'" audit LILIM one-pair.txt one-pair.sol
@@ -67,6 +72,7 @@ expect 3 '' 'planner: nowhere: No such file or directory (os error 2)' solve lil
 expect 64 '' 'error: STEPS is 0 to 1000000000 and SEED 0 to 18446744073709551615, in digits alone' solve lilim one-pair.txt 1000000001
 expect 64 '' 'error: STEPS is 0 to 1000000000 and SEED 0 to 18446744073709551615, in digits alone' solve lilim one-pair.txt +3
 expect 64 '' 'error: STEPS is 0 to 1000000000 and SEED 0 to 18446744073709551615, in digits alone' solve lilim one-pair.txt 3 18446744073709551616
+[ "$("$program" solve lilim one-pair.txt +3 2>&1 | sed -n 3p)" = 'Usage: planner solve <KIND> <INSTANCE> <STEPS> [SEED]' ] || fail "solve: not its own usage"
 [ "$("$program" solve lilim one-pair.txt 3 2>/dev/null)" = "$(cat one-pair.sol)" ] || fail "solve: not the one plan of one pair"
 [ "$("$program" solve lilim one-pair.txt 3 2>&1 >/dev/null)" = "$(printf 'at %d 0 1 20\n' 0 1 2 3)" ] || fail "solve: not a line for each step"
 # A second pair that no vehicle can serve beside the first: one vehicle, and both are due at the same time at places apart.
@@ -74,6 +80,16 @@ printf '1 10 1\n0 0 0 0 0 100 0 0 0\n1 30 0 4 0 30 0 0 2\n2 31 0 -4 0 60 0 1 0\n
 expect 1 '' 'at 0 1 1 62' solve lilim "$folder/two-pairs.txt" 1
 [ "$("$program" solve lilim "$folder/two-pairs.txt" 0 2>&1)" = "$(printf 'at 0 1 1 62\nunplanned 1\n')" ] || fail "solve: two pairs for one vehicle"
 "$program" solve lilim lc101.txt 500 9 >"$folder/lc101.sol" 2>/dev/null && "$program" audit lilim lc101.txt "$folder/lc101.sol" >/dev/null || fail "audit does not pass what solve prints"
+
+# An instance on standard input is loaded into a store that is not there yet, and a text that is refused leaves none.
+"$program" load "$folder/day.store" lilim - 7 <one-pair.sol >/dev/null
+status=$?
+[ "$status" = 2 ] && [ ! -e "$folder/day.store" ] || fail "load of a bad instance: status $status, wanted 2, or a store is there"
+[ "$("$program" load "$folder/day.store" lilim - 7 <lc101.txt)" = 'ok' ] || fail "load of an instance on standard input"
+expect 2 'store Loaded' '' load "$folder/day.store" lilim one-pair.txt
+expect 3 'cannot read nowhere/day.store' 'planner: nowhere/day.store: No such file or directory (os error 2)' load nowhere/day.store lilim one-pair.txt
+expect 64 '' 'error: SEED is 0 to 18446744073709551615, in digits alone' load "$folder/day.store" lilim one-pair.txt 7.5
+expect 64 '' "error: invalid value 'careful' for '[strict]'" run "$folder/day.store" careful
 
 # One answer for each line of a list, whatever the others are.
 printf 'one-pair.txt\tone-pair.sol\none-pair.txt\nnowhere\tone-pair.sol\none-pair.txt\tone-pair-reversed.sol' >"$folder/pairs"

@@ -1,0 +1,152 @@
+#!/usr/bin/env python3
+"""Takes stores of version 1 over into new ones by the built program, on real files.
+
+The old store is written here by the table of version 1 in docs/FORMATS.md: one customer, just loaded, and two records, that
+build and search 256 steps. Wants the program that rt ci leaves.
+"""
+import os
+import struct
+import subprocess
+import sys
+import tempfile
+
+TOP = os.path.dirname(os.path.dirname(os.path.abspath(__file__)))
+PROGRAM = os.path.join(TOP, "crates", "planner", "out", "planner")
+SECTOR, OLD_SECTORS, NEW_BYTES = 512, 802, 4_326_400
+# Where version 1 has the snapshot of an odd sequence.
+HALF = 530
+LATEST = 100_000_000
+NO_FILE = "No such file or directory (os error 2)"
+
+
+def fail(text):
+    print("upgrade: " + text)
+    sys.exit(1)
+
+
+def state():
+    """One customer of demand 6 at (3, 4), capacity 10, by version 1's shorter fields."""
+    head = struct.pack(">BBQQIHH", 1, 2, 0, 0, 10, 1, 2)
+    depot = struct.pack(">iiII", 0, 0, 0, LATEST)
+    stop = struct.pack(">HiiiIII", 1, 3, 4, 6, 0, LATEST, 0)
+    return head + depot + struct.pack(">HB", 1, 1) + stop + struct.pack(">HH", 0, 0)
+
+
+def old_store():
+    image = bytearray(OLD_SECTORS * SECTOR)
+    bytes_of_state = state()
+    pieces = {
+        1: b"PDRSTORE" + struct.pack(">IQQ", 1, 1, len(bytes_of_state)),
+        2: struct.pack(">QIB", 1, 0, 6),
+        3: struct.pack(">QIBH", 1, 1, 7, 256),
+        HALF: bytes_of_state,
+    }
+    for sector, piece in pieces.items():
+        image[sector * SECTOR : sector * SECTOR + len(piece)] = piece
+    return bytes(image)
+
+
+def expect(status, line, told, *words):
+    """The program ends so, prints this line, and tells this on standard error."""
+    got = subprocess.run([PROGRAM, *words], capture_output=True, text=True)
+    wanted = (status, line + "\n", f"planner: {told}\n" if told else "")
+    if (got.returncode, got.stdout, got.stderr) != wanted:
+        fail(f"{words}: {got.returncode}, {got.stdout!r}, {got.stderr!r}; wanted {wanted}")
+
+
+def write(path, contents):
+    with open(path, "wb") as file:
+        file.write(contents)
+
+
+def holds(path, contents):
+    with open(path, "rb") as file:
+        if file.read() != contents:
+            fail(f"{path} was changed")
+
+
+def check_new(new):
+    """The new store opens with the plan of the old one, and repeats nothing."""
+    if os.path.getsize(new) != NEW_BYTES:
+        fail(f"the new store has {os.path.getsize(new)} bytes")
+    got = subprocess.run([PROGRAM, "run", new], input=b"print\nshow\n", capture_output=True).stdout.decode()
+    lines = got.split("\n")
+    for line in ["opened 0", "Route #1: 1", "Cost 10", "requests 1 next 2", "steps 256 place 4096", "cost 0 0 10"]:
+        if line not in lines:
+            fail(f"the new store: {line!r} is not in {got!r}")
+
+
+def check_files(folder):
+    old, new = os.path.join(folder, "old.store"), os.path.join(folder, "new.store")
+    write(old, old_store())
+    expect(0, "ok", "", "upgrade", old, new)
+    holds(old, old_store())
+    check_new(new)
+    expect(2, "store BadVersion", "", "run", old)
+    # a store that is there already is replaced, also by one that was upgraded before
+    expect(0, "ok", "", "upgrade", old, new)
+    check_new(new)
+    expect(2, "store BadVersion", "", "upgrade", new, os.path.join(folder, "newer.store"))
+    write(new, b"a note")
+    expect(0, "ok", "", "upgrade", old, new)
+    check_new(new)
+
+
+def check_one_file(folder):
+    old, link, name = (os.path.join(folder, name) for name in ["one.store", "link.store", "name.store"])
+    write(old, old_store())
+    os.symlink("one.store", link)
+    os.link(old, name)
+    for new in [old, os.path.join(folder, ".", "one.store"), link, name]:
+        expect(64, "same store", "", "upgrade", old, new)
+    holds(old, old_store())
+    missing = os.path.join(folder, "missing.store")
+    expect(64, "same store", "", "upgrade", missing, missing)
+
+
+def check_refusals(folder):
+    old, new = os.path.join(folder, "short.store"), os.path.join(folder, "unmade.store")
+    missing = os.path.join(folder, "missing.store")
+    expect(3, f"cannot read {missing}", f"{missing}: {NO_FILE}", "upgrade", missing, new)
+    if os.path.exists(new):
+        fail("the new store was made where there is no old one")
+    write(old, old_store()[: 801 * SECTOR])
+    expect(2, "store NotFormatted", "", "upgrade", old, new)
+    write(old, old_store()[:-1])
+    expect(2, "store BadLength", "", "upgrade", old, new)
+    write(old, old_store())
+    nowhere = os.path.join(folder, "no", "new.store")
+    expect(3, f"cannot read {nowhere}", f"{nowhere}: {NO_FILE}", "upgrade", old, nowhere)
+    expect(3, f"cannot read {folder}", f"{folder}: Is a directory (os error 21)", "upgrade", old, folder)
+    holds(old, old_store())
+
+
+def check_in_use(folder):
+    """Neither store may be open in another process."""
+    old, new = os.path.join(folder, "used-old.store"), os.path.join(folder, "used.store")
+    write(old, old_store())
+    expect(0, "ok", "", "format", new)
+    with subprocess.Popen([PROGRAM, "run", new], stdin=subprocess.PIPE, stdout=subprocess.PIPE) as process:
+        if process.stdout.readline() != b"opened 0\n":
+            fail("run: the store was not opened")
+        expect(3, "new InUse", "", "upgrade", old, new)
+        expect(3, "store InUse", "", "upgrade", new, old)
+        process.stdin.close()
+        process.wait()
+    holds(old, old_store())
+    expect(0, "ok", "", "upgrade", old, new)
+
+
+def main():
+    if not os.access(PROGRAM, os.X_OK):
+        print(f"skipped: upgrade, since {PROGRAM} is not built (rt ci builds it)")
+        return
+    with tempfile.TemporaryDirectory() as folder:
+        check_files(folder)
+        check_one_file(folder)
+        check_refusals(folder)
+        check_in_use(folder)
+    print("upgrade: stores of version 1 are taken over, and what can't be is told and left alone")
+
+
+main()
