@@ -35,9 +35,13 @@ impl Random {
             .wrapping_add(1_442_695_040_888_963_407);
     }
 
-    fn below(&mut self, bound: u32) -> u32 {
+    fn below(&mut self, bound: u16) -> u16 {
         self.step();
-        ((self.state >> 32) as u32).checked_rem(bound).unwrap_or(0)
+        ((self.state >> 48) as u16).checked_rem(bound).unwrap_or(0)
+    }
+
+    fn number_below(&mut self, bound: u16) -> u32 {
+        u32::from(self.below(bound))
     }
 }
 
@@ -46,11 +50,11 @@ fn command_of(alloc: Global, random: &mut Random) -> io::Result<Command> {
     Ok(match random.below(12) {
         0 => load_three(alloc)?,
         1 | 2 => Command::Build,
-        3 | 4 | 5 => Command::Search(random.below(65) as u16),
-        6 => Command::Deviation(random.below(20)),
-        7 => Command::Pin(random.below(3), random.below(3)),
-        8 => Command::Unpin(random.below(3)),
-        9 => Command::Withdraw(random.below(5)),
+        3 | 4 | 5 => Command::Search(random.below(65)),
+        6 => Command::Deviation(random.number_below(20)),
+        7 => Command::Pin(random.number_below(3), random.number_below(3)),
+        8 => Command::Unpin(random.number_below(3)),
+        9 => Command::Withdraw(random.number_below(5)),
         10 => added(random),
         _ => Command::Checkpoint,
     })
@@ -58,12 +62,12 @@ fn command_of(alloc: Global, random: &mut Random) -> io::Result<Command> {
 
 fn added(random: &mut Random) -> Command {
     Command::Add1 {
-        demand: random.below(4),
+        demand: random.number_below(4),
         spot: Spot {
-            x: random.below(9) as i32,
-            y: random.below(9) as i32,
+            x: i32::from(random.below(9)),
+            y: i32::from(random.below(9)),
             earliest: 0,
-            latest: random.below(100),
+            latest: random.number_below(100),
             service: 0,
         },
     }
@@ -89,7 +93,7 @@ fn halt_of(alloc: Global, random: &mut Random) -> io::Result<Option<Halt>> {
     let calls = u64::from(random.below(14));
     let mut choices = Vec::with_capacity(alloc, SECTORS as usize)?;
     for _ in 0..SECTORS {
-        choices.push(random.below(4))?;
+        choices.push(random.number_below(4))?;
     }
     Ok(Some(Halt { calls, choices }))
 }
