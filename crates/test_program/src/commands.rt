@@ -281,16 +281,21 @@ fn is_next(state: &State, text: &[u8]) -> Result<bool, Fail> {
     Ok(next_line(job_of(state)?).as_bytes() == text)
 }
 
+/// A line of an order or of one that is withdrawn, and what `next` tells behind it.
+const ORDERS: [(&[u8], &[u8]); 3] = [
+    (b"add 1 1 1 0 9 0 1 1 0 9 0", b"next 7"),
+    (b"add1 1 1 1 0 9 0", b"next 8"),
+    (b"withdraw 7", b"next 8"),
+];
+
 #[test]
 fn tells_the_next_number(rt: HostRuntime) -> Result<(), Fail> {
-    let state = loaded(rt.alloc(), Kind::LiLim, TWO_PAIRS)?;
+    let mut state = loaded(rt.alloc(), Kind::LiLim, TWO_PAIRS)?;
     assert!(rt; is_next(&state, b"next 5")?);
-    let state = after(rt.alloc(), &state, b"add 1 1 1 0 9 0 1 1 0 9 0")?;
-    assert!(rt; is_next(&state, b"next 7")?);
-    let state = after(rt.alloc(), &state, b"add1 1 1 1 0 9 0")?;
-    assert!(rt; is_next(&state, b"next 8")?);
-    let state = after(rt.alloc(), &state, b"withdraw 7")?;
-    assert!(rt; is_next(&state, b"next 8")?);
+    for (line, text) in &ORDERS {
+        state = after(rt.alloc(), &state, line)?;
+        assert!(rt; is_next(&state, text)?, "{line:?}");
+    }
     Ok(())
 }
 
