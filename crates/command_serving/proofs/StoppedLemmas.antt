@@ -32,7 +32,7 @@ module _ {D : Type 0} (on : sectors.Ghosts D) where
             (asks_both first last old cut.told (λ s. served reading s (pieces_of input)) (still reading cut.counts cut.behind) cut.text cut.answered.says cut.answered.asks cut.tells.asks []);
       }
 
-weaker : (P Q : State → Type 0) → ((state : State) → P state → Q state) → (outcome : Result State StoreFault) → GivesUnlessFailed P outcome → GivesUnlessFailed Q outcome
+pub weaker : (P Q : State → Type 0) → ((state : State) → P state → Q state) → (outcome : Result State StoreFault) → GivesUnlessFailed P outcome → GivesUnlessFailed Q outcome
 weaker P Q so (Ok state) h = so state h
 weaker P Q so (Err OutOfMemory) h = tt
 weaker P Q so (Err DeviceFault) h = tt
@@ -42,7 +42,7 @@ weaker P Q so (Err (Codec _)) h = elim h [ ]
 weaker P Q so (Err Spent) h = elim h [ ]
 
 -- a first part of what was kept is one of what is asked for
-recovered_of : (begun : State) (keeps all : List Command) (acknowledged : ℕ) (given : State) → BeginsWith keeps all → IsRecovered begun keeps acknowledged given → IsRecovered begun all acknowledged given
+pub recovered_of : (begun : State) (keeps all : List Command) (acknowledged : ℕ) (given : State) → BeginsWith keeps all → IsRecovered begun keeps acknowledged given → IsRecovered begun all acknowledged given
 recovered_of begun keeps all acknowledged given asks r =
     let front : (q : ℕ) → q ≤ length keeps → take q all ≡ take q keeps = λ q le. ap (take q) asks.whole ∙ take-append-le q keeps asks.rest le in
     let longer : length all ≡ length keeps + length asks.rest = ap length asks.whole ∙ length-append keeps asks.rest in

@@ -92,6 +92,7 @@ pub fn serve<D: Sectors, R: Source, W: Sink>(
         → EndsOrIsCut D.Sectors result reading session.old input
         (W.contents writer.old) (W.contents writer.new) session.new }
     ensures moments { RunsLeave D.Sectors session.old session.new }
+    ensures origin { W.origin writer.new ≡ W.origin writer.old }
     ensures cause { (input : List ℕ) → R.remaining reader.old ≡ Some input
         → IfErr result (λ fault. HasCause fault (R.has_failed reader.new)
         (W.has_failed writer.new) (length input)) }
@@ -114,6 +115,7 @@ fn serve_lines<D: Sectors, R: Source, W: Sink>(
         → left_of R.remaining input.old reader.old ≡ Some bytes
         → EndsOrIsCut D.Sectors result reading session.old bytes
         (W.contents writer.old) (W.contents writer.new) session.new }
+    ensures origin { W.origin writer.new ≡ W.origin writer.old }
     ensures cause { IfErr result (λ fault. IsCause fault (R.has_failed reader.new)
         (W.has_failed writer.new) input.new.left) }
     ensures counted { CountsTaken (left_of R.remaining input.old reader.old) input.old.left
@@ -145,6 +147,7 @@ fn serve_asked<D: Sectors, R: Source, W: Sink>(
         → GoesOn D.Sectors result reading session.old (cut_at asked rest)
         (W.contents writer.old) (W.contents writer.new) session.new
         (left_of R.remaining input.new reader.new) }
+    ensures origin { W.origin writer.new ≡ W.origin writer.old }
     ensures cause { IfErr result (λ fault. IsCause fault (R.has_failed reader.new)
         (W.has_failed writer.new) input.new.left) }
     ensures counted { CountsTaken (left_of R.remaining input.old reader.old) input.old.left
@@ -186,6 +189,7 @@ fn once(written: Result<(), Failed>, goes: Goes) -> Result<Goes, ServeFault>
 fn put<W: Sink>(writer: &mut W, text: &[u8]) -> Result<(), Failed>
     ensures bytes { Puts (W.contents writer.old) (W.contents writer.new) result text.now }
     ensures failed { OnErr result (W.has_failed writer.new ≡ true) }
+    ensures origin { W.origin writer.new ≡ W.origin writer.old }
 {
     writer.put(text)?;
     writer.flush()
@@ -195,6 +199,7 @@ fn put<W: Sink>(writer: &mut W, text: &[u8]) -> Result<(), Failed>
 fn put_line<W: Sink>(writer: &mut W, text: &[u8]) -> Result<(), Failed>
     ensures bytes { Puts (W.contents writer.old) (W.contents writer.new) result (line text.now) }
     ensures failed { OnErr result (W.has_failed writer.new ≡ true) }
+    ensures origin { W.origin writer.new ≡ W.origin writer.old }
 {
     writer.put(text)?;
     put(writer, b"\n")
@@ -205,6 +210,7 @@ fn tell<W: Sink>(writer: &mut W, answer: Answer) -> Result<(), Failed>
     ensures bytes { Puts (W.contents writer.old) (W.contents writer.new) result
         (line (answer_text answer)) }
     ensures failed { OnErr result (W.has_failed writer.new ≡ true) }
+    ensures origin { W.origin writer.new ≡ W.origin writer.old }
 {
     put_line(writer, answer.line().as_bytes())
 }
@@ -214,6 +220,7 @@ fn tell_text<W: Sink>(writer: &mut W, text: &[u8]) -> Result<(), Failed>
     ensures bytes { Puts (W.contents writer.old) (W.contents writer.new) result
         (text.now ++ line (answer_text Answer.Ok)) }
     ensures failed { OnErr result (W.has_failed writer.new ≡ true) }
+    ensures origin { W.origin writer.new ≡ W.origin writer.old }
 {
     writer.put(text)?;
     tell(writer, Answer::Ok)
@@ -224,6 +231,7 @@ fn tell_line<W: Sink>(writer: &mut W, text: &[u8]) -> Result<(), Failed>
     ensures bytes { Puts (W.contents writer.old) (W.contents writer.new) result
         (line text.now ++ line (answer_text Answer.Ok)) }
     ensures failed { OnErr result (W.has_failed writer.new ≡ true) }
+    ensures origin { W.origin writer.new ≡ W.origin writer.old }
 {
     put_line(writer, text)?;
     tell(writer, Answer::Ok)
@@ -310,6 +318,7 @@ fn serve_load<D: Sectors, W: Sink>(
         → Answers D.Sectors result session.old (load_told text reading kind seed bytes)
         (W.contents writer.old) (W.contents writer.new) session.new silent }
     ensures failed { OnErr result (W.has_failed writer.new ≡ true) }
+    ensures origin { W.origin writer.new ≡ W.origin writer.old }
 {
     match text {
         LoadText::Short => tell(writer, Answer::Truncated),
@@ -361,6 +370,7 @@ fn serve_search<D: Sectors, W: Sink>(
         (λ s. unless_broken s (searched_or s (steps_to_search s.state steps)))
         (W.contents writer.old) (W.contents writer.new) session.new silent }
     ensures failed { OnErr result (W.has_failed writer.new ≡ true) }
+    ensures origin { W.origin writer.new ≡ W.origin writer.old }
 {
     if session.is_broken() {
         return tell(writer, Answer::Broken);
@@ -381,6 +391,7 @@ fn serve_reach<D: Sectors, W: Sink>(
         (λ s. unless_broken s (searched_or s (steps_to_reach s.state goal)))
         (W.contents writer.old) (W.contents writer.new) session.new silent }
     ensures failed { OnErr result (W.has_failed writer.new ≡ true) }
+    ensures origin { W.origin writer.new ≡ W.origin writer.old }
 {
     if session.is_broken() {
         return tell(writer, Answer::Broken);
@@ -401,6 +412,7 @@ fn search<D: Sectors, W: Sink>(
     ensures answers { Answers D.Sectors result session.old (λ s. searched s (counts_of steps))
         (W.contents writer.old) (W.contents writer.new) session.new silent }
     ensures failed { OnErr result (W.has_failed writer.new ≡ true) }
+    ensures origin { W.origin writer.new ≡ W.origin writer.old }
 {
     let mut left = steps;
     while left > 0 {
@@ -419,6 +431,7 @@ fn tell_progress<D: Sectors, W: Sink>(session: &Session<D>, writer: &mut W) -> R
     ensures bytes { Puts (W.contents writer.old) (W.contents writer.new) result
         (at_line_of session.now) }
     ensures failed { OnErr result (W.has_failed writer.new ≡ true) }
+    ensures origin { W.origin writer.new ≡ W.origin writer.old }
 {
     match session.state() {
         State::Loaded(job) => put_line(writer, at_line(job).as_bytes()),
@@ -434,6 +447,7 @@ fn serve_print<D: Sectors, W: Sink>(
     ensures answers { Answers D.Sectors result session.now (λ s. unless_broken s (printed s s.state))
         (W.contents writer.old) (W.contents writer.new) session.now silent }
     ensures failed { OnErr result (W.has_failed writer.new ≡ true) }
+    ensures origin { W.origin writer.new ≡ W.origin writer.old }
 {
     let job = match job_of(session) {
         Ok(job) => job,
@@ -454,6 +468,7 @@ fn serve_show<D: Sectors, W: Sink>(
     ensures answers { Answers D.Sectors result session.now (λ s. unless_broken s (shown s s.state))
         (W.contents writer.old) (W.contents writer.new) session.now silent }
     ensures failed { OnErr result (W.has_failed writer.new ≡ true) }
+    ensures origin { W.origin writer.new ≡ W.origin writer.old }
 {
     let job = match job_of(session) {
         Ok(job) => job,
@@ -469,6 +484,7 @@ fn serve_next<D: Sectors, W: Sink>(session: &Session<D>, writer: &mut W) -> Resu
     ensures answers { Answers D.Sectors result session.now (λ s. unless_broken s (next_stated s s.state))
         (W.contents writer.old) (W.contents writer.new) session.now silent }
     ensures failed { OnErr result (W.has_failed writer.new ≡ true) }
+    ensures origin { W.origin writer.new ≡ W.origin writer.old }
 {
     match job_of(session) {
         Ok(job) => tell_line(writer, next_line(job).as_bytes()),

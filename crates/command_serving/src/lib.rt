@@ -36,6 +36,8 @@
 //! - `Strict::stopped`: what the last whole line tells that went through it (`TellsLast`, of `specs/Strict.antt`), unless the
 //!   writer has failed (`last_lines_are_ended` says what that line is); a `flush` that is `Ok` follows a line that tells neither, so serving over it ends behind the first
 //!   answer that does
+//! - `origin`: where a sink began to follow what is written, no serving changes, so of a `Strict` the last line is that of the
+//!   answers
 //! - what a whole line asks for does not depend on the pieces in which its bytes come (`input`)
 //!
 //! Not excluded by these clauses: a try that answers `OutOfMemory` though there is memory, an answer handed on before what

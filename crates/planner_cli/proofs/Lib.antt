@@ -1,3 +1,4 @@
 pub mod AnyLemmas
 pub mod SpelledLemmas
+pub mod StopLemmas
 pub mod TellLemmas

@@ -1,5 +1,5 @@
 -- Line by line, until there is none or the serving ends.
-use Rattle.std.proofs.Common.{subst, sym}
+use Rattle.std.proofs.Common.{◌∙◌, refl, subst, sym}
 use Rattle.std.proofs.lemmas.Result.{err_from_is_err_and}
 use Rattle.std.proofs.KnownBytes.{Keeps-refl}
 use Rattle.std.specs.Prelude.{MatchResult}
@@ -16,7 +16,7 @@ use Rattle.command_serving.proofs.answering.serve_lines.Goals as goal
 pub loop-asked-init : goal.loop-asked-init
 loop-asked-init g c =
     let left = left_of g.R.Source.remaining c.args.input.now c.args.reader.now in
-    (λ reading bytes is known. input_begun reading c.args.session.now bytes (g.W.Sink.contents c.args.writer.now) left known, counts_kept left left c.args.input.now.left (Keeps-refl left))
+    (λ reading bytes is known. input_begun reading c.args.session.now bytes (g.W.Sink.contents c.args.writer.now) left known, refl, counts_kept left left c.args.input.now.left (Keeps-refl left))
 
 pub returns-in_err-asked-clause-serves : goal.returns-in_err-asked-clause-serves
 returns-in_err-asked-clause-serves g c = λ reading bytes is known.
@@ -88,6 +88,7 @@ loop-asked-preserved g c =
     let cuts = subst (λ asked. CutsNext asked left next) c.in-Some.is c.in_ok-asked.ensures.cuts in (
       λ reading bytes is known. line_served reading old mid new (pieces_of bytes) before sofar after c.in-Some.asked left next behind On (c.loop-asked.invariant.0 reading bytes is known) cuts
           (λ rest q. subst (λ goes. ServesOn g.D.Sectors reading mid (cut_at c.in-Some.asked rest) sofar after new goes behind) c.in-On.is (c.in_ok-serve_asked.ensures.serves reading rest is q)),
+      c.serve_asked.ensures.origin ∙ c.loop-asked.invariant.1,
       counts_on first next behind c.args.input.now.left c.next_asked.new.self.left c.serve_asked.new.input.left
-          (counts_on first left next c.args.input.now.left c.loop-asked.input.left c.next_asked.new.self.left c.loop-asked.invariant.1 c.next_asked.ensures.counted) c.serve_asked.ensures.counted,
+          (counts_on first left next c.args.input.now.left c.loop-asked.input.left c.next_asked.new.self.left c.loop-asked.invariant.2 c.next_asked.ensures.counted) c.serve_asked.ensures.counted,
     )
