@@ -1,3 +1,4 @@
 pub mod AnyLemmas
+pub mod OpenLemmas
 pub mod SpelledLemmas
 pub mod TellLemmas

@@ -10,6 +10,7 @@ pub mod Drawn
 pub mod Examined
 pub mod Explained
 pub mod Files
+pub mod Foretold
 pub mod Formatting
 pub mod Listed
 pub mod Loading

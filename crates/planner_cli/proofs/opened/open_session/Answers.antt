@@ -1,34 +1,13 @@
--- What opening the device gave.
-use Rattle.std.proofs.Common.{refl}
-use Rattle.checkpoint.specs.declared.faults.StoreFault.TheVariants.{NotFormatted}
-use Rattle.planner_cli.proofs.TellLemmas.{same_parts}
+-- What opening the device behind the reading gave is said of the device as it was, and what was told before it.
+use Rattle.std.proofs.Common.{inr, refl}
+use Rattle.std.proofs.KnownBytes.{Appends-nil}
+use Rattle.std.proofs.lemmas.Result.{MatchResult-weaker, on_ok_weaker}
+use Rattle.planner_cli.proofs.OpenLemmas.{failed_first, opened_behind, opened_told, refused_behind, refused_told}
 use Rattle.planner_cli.proofs.opened.open_session.Goals as goal
 
-pub returns-in-Ok : goal.returns-in-Ok
-returns-in-Ok g c =
-    let given = c.in-Ok.ensures in
-    record {
-      given = given.given;
-      opens = given.opens;
-      replays = given.replayed;
-      stands = given.stands;
-      moments = given.moments;
-      honest = given.honest;
-      facts = given.facts;
-      whole = given.whole;
-      finished = given.finished;
-      faults = given.fault;
-      same_len = given.same_len;
-    }
-
-pub returns-in-Err : goal.returns-in-Err
-returns-in-Err g c =
-    let given = c.in-Err.ensures in
-    record {
-      refused = given.refused;
-      opens = given.opens;
-      fails = given.fails;
-      small = λ short. same_parts _ _ c.in-Err.fault NotFormatted c.in-Err.device c.args.device refl refl (given.small short);
-      honest = given.honest;
-      faults = given.fault;
-    }
+pub returns-in-Ok-clause-opens : goal.returns-in-Ok-clause-opens
+returns-in-Ok-clause-opens g c =
+    let read = c.steps_to_repeat.new.device in
+    MatchResult-weaker c.open_silently-opened.result c.open_silently-opened.ensures
+    (λ o behind. opened_behind _ c.args.device read c.steps_to_repeat.result c.in-Ok.steps c.in-Ok.is c.steps_to_repeat.ensures.reads o.session o.replayed behind)
+    (λ r behind. refused_behind _ c.args.device read c.steps_to_repeat.result c.in-Ok.steps c.in-Ok.is c.steps_to_repeat.ensures.reads r.1 r.0 behind)
