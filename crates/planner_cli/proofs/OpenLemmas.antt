@@ -36,31 +36,34 @@ opens_none never image BadVersion nothing state stands = never Two image stands.
 opens_none never image (Codec fault) nothing state stands = never Two image stands.snapshot stands.commands stands.place (Codec fault) stands.holds nothing
 opens_none never image Spent nothing state stands = never Two image stands.snapshot stands.commands stands.place Spent stands.holds nothing
 
+abbrev unread : StoreFault → Result ℕ StoreFault
+unread fault = Err fault
+
+abbrev found : ℕ → Result ℕ StoreFault
+found steps = Ok steps
+
 -- one cause, and not that there is none
-same_fault : (answer : Result ℕ StoreFault) (fault other : StoreFault) → answer ≡ Err fault → answer ≡ Err other → fault ≡ other
-same_fault answer fault other is told = cc
+same_fault : (answer other : Result ℕ StoreFault) (fault cause : StoreFault) → answer ≡ Err fault → other ≡ Err cause → answer ≡ other → fault ≡ cause
+same_fault answer other fault cause is told same = cc
 
 not_refused : (answer : Result ℕ StoreFault) (steps : ℕ) (fault : StoreFault) → answer ≡ Ok steps → answer ≡ Err fault → ⊥
 not_refused answer steps fault is told = absurd cc
 
 module _ {D : Type 0} (on : sectors.Ghosts D) (old read : D) where
-  -- reading it was refused
-  pub failed_first : NeverBoth → (answer : Result ℕ StoreFault) (fault : StoreFault) → answer ≡ Err fault → IsOnlyRead on answer old read → IsOfLoad fault
+  -- Reading it was refused, and so is opening it.
+  pub failed_first : NeverBoth → (fault : StoreFault) → IsOnlyRead on (unread fault) old read → IsOfLoad fault
       → (on.honest read → UnlessUnread (HoldsNothing Two (on.seen old)) fault) → IsRefused on old read fault
-  failed_first never answer fault is only fails nothing = record {
+  failed_first never fault only fails nothing = record {
     refused = λ honest. stands_for_none (on.seen old) fault (nothing honest);
     opens = λ honest. opens_none never (on.seen old) fault (nothing honest);
     fails = fails;
-    small = λ short. (same_fault answer fault NotFormatted is (only.told short), only.small short);
+    small = λ short. (same_fault (unread fault) (unread NotFormatted) fault NotFormatted refl refl (only.told short), only.small short);
     honest = only.honest;
-    faults = subst (λ (r : Result ℕ StoreFault). on.faults read ≡ faults_after_reading r (on.faults old)) is only.fault;
+    faults = only.fault;
   }
 
-  -- it was read
-  module _ (answer : Result ℕ StoreFault) (steps : ℕ) (is : answer ≡ Ok steps) (only : IsOnlyRead on answer old read) where
-    same_faults : on.faults read ≡ on.faults old
-    same_faults = subst (λ (r : Result ℕ StoreFault). on.faults read ≡ faults_after_reading r (on.faults old)) is only.fault
-
+  -- It was read, and then opened.
+  module _ (steps : ℕ) (only : IsOnlyRead on (found steps) old read) where
     kept : on.honest read → IsUnchanged on.clock on.possible_since on.possible on.seen on.calls old read
     kept = only.kept
 
@@ -69,9 +72,9 @@ module _ {D : Type 0} (on : sectors.Ghosts D) (old read : D) where
       refused = λ honest. subst (λ (image : List ℕ). UnlessUnread (StandsForNone Two image) fault) (kept (behind.honest honest)).reads (behind.refused honest);
       opens = λ honest. subst (λ (image : List ℕ). Opens Two image (Err fault)) (kept (behind.honest honest)).reads (behind.opens honest);
       fails = behind.fails;
-      small = λ short. absurd (not_refused answer steps NotFormatted is (only.told short));
+      small = λ short. absurd (not_refused (found steps) steps NotFormatted refl (only.told short));
       honest = λ honest. only.honest (behind.honest honest);
-      faults = behind.faults ∙ ap (faults_of_store fault) same_faults;
+      faults = behind.faults ∙ ap (faults_of_store fault) only.fault;
     }
 
     -- a moment of the opening is one in which the images are those before the reading
@@ -103,19 +106,6 @@ module _ {D : Type 0} (on : sectors.Ghosts D) (old read : D) where
           facts = behind.facts;
           whole = behind.whole;
           finished = behind.finished ∙ ap (λ (n : ℕ). n + 1) only.same_calls;
-          faults = behind.faults ∙ same_faults;
+          faults = behind.faults ∙ only.fault;
           same_len = behind.same_len ∙ only.same_len;
         }
-
-  -- So many steps were told behind the reading, which found them in the image.
-  module _ (steps : ℕ) (found : on.honest read → IsToRepeat Two (on.seen old) steps) (errors later : Option (List ℕ)) (told : Appends errors later (repeating_line steps)) where
-    pub opened_told : (session : SessionValue D) (replayed : ℕ) → (on.honest session.device → on.honest read)
-        → (on.honest session.device → IsReplayed Two (on.seen old) session.state session.place replayed) → IsForetold on session.device (λ n. replayed ≡ n) errors later
-    opened_told session replayed earlier replays = record {
-      steps = steps;
-      told = told;
-      counts = λ honest. (found (earlier honest)).agrees session.state session.place replayed (replays honest);
-    }
-
-    pub refused_told : (after : D) (fault : StoreFault) → (on.honest after → on.honest read) → IsForetold on after (IsOfImage on old fault) errors later
-    refused_told after fault earlier = record { steps = steps; told = told; counts = λ honest. inl (found (earlier honest)) }
