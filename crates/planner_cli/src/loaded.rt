@@ -143,7 +143,7 @@ fn begin_made<D: Sectors + Drop, W: Write, E: Write>(
         (W.contents output.old) (W.contents output.new) result.1) }
 {
     let opening = open_session(alloc, device, errors);
-    match opening.opened {
+    match opening.into_opened() {
         Ok(opened) => begin_opened(alloc, opened, command, output),
         Err((StoreFault::NotFormatted, device)) => begin_formatted(alloc, device, command, output, errors),
         Err((fault, device)) => (tell_store_fault(output, fault), device),
@@ -182,7 +182,7 @@ fn begin_device<D: Sectors + Drop, W: Write, E: Write>(
         (W.contents output.old) (W.contents output.new) result.1) }
 {
     let opening = open_session(alloc, device, errors);
-    match opening.opened {
+    match opening.into_opened() {
         Ok(opened) => begin_opened(alloc, opened, command, output),
         Err((fault, device)) => (tell_store_fault(output, fault), device),
     }

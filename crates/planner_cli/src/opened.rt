@@ -24,6 +24,16 @@ pub(crate) struct Opening<D: Sectors> {
     pub opened: Result<Opened<D>, (StoreFault, D)>,
 }
 
+impl<D: Sectors> Opening<D> {
+    /// The session, or why there is none, for whom the line on standard error is the reader's alone.
+    pub(crate) fn into_opened(self) -> Result<Opened<D>, (StoreFault, D)>
+        ensures { result ≡ self.opened }
+    {
+        let Opening { opened, .. } = self;
+        opened
+    }
+}
+
 /// Opens the store on the device, or tells why it can't be opened and gives the device back. Before a search step is repeated
 /// it is told on `errors` how many are.
 pub(crate) fn open_session<D: Sectors, E: Write>(

@@ -188,7 +188,7 @@ fn run_device<D: Sectors + Drop, I: Read, W: Write, E: Write>(
         input.new.has_failed result.2.has_failed) }
 {
     let opening = open_session(alloc, device, errors);
-    match opening.opened {
+    match opening.into_opened() {
         Ok(opened) => {
             let Opened {
                 mut session,
