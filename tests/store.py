@@ -9,6 +9,7 @@
 4. With strace: no `ok` or `at` line is written before the sync that it stands on has returned.
 5. Two programs at once on one store: the second is refused and changes nothing; after kill -9 the store opens again.
 6. A full disk, on a small tmpfs: it is told when the store is made; one that is full later is told behind `fault device`.
+7. Search steps that are repeated: how many stands on standard error before, by `run` and `load`, and nothing where none are.
 
 Words: how often the program is stopped (200 where there are none). Wants the program that rt ci leaves.
 """
@@ -83,14 +84,35 @@ def check_session(folder):
     print("store: a session goes on where it was")
 
 
+def check_repeating(folder):
+    store = os.path.join(folder, "repeat.store")
+    load(store, 0, b"ok")
+    run(store, b"build\nsearch 300\nsearch 5\n")
+    once = b"planner: repeating 305 search steps\n"
+    for words in [["run", store], ["run", store, "strict"]]:
+        # Both streams in one pipe, by which the line comes first.
+        got = subprocess.run([PROGRAM, *words], input=b"next\n", stdout=subprocess.PIPE, stderr=subprocess.STDOUT)
+        if (got.returncode, got.stdout) != (0, once + b"opened 305\nnext 107\nok\n"):
+            fail(f"repeating: {words[2:]}: status {got.returncode}, {got.stdout!r}")
+    load(store, 2, b"store Loaded", errors=once)
+    # Whoever can't be told loses nothing else.
+    got = subprocess.run(["sh", "-c", 'exec "$0" run "$1" 2>&-', PROGRAM, store], input=b"checkpoint\n", capture_output=True)
+    if (got.returncode, got.stdout) != (0, b"opened 305\nok\n"):
+        fail(f"repeating, with no standard error: status {got.returncode}, {got.stdout!r}")
+    got = subprocess.run([PROGRAM, "run", store], input=b"", capture_output=True)
+    if (got.returncode, got.stdout, got.stderr) != (0, b"opened 0\n", b""):
+        fail(f"repeating none: status {got.returncode}, {got.stdout!r}, {got.stderr!r}")
+    print("store: search steps are told before they are repeated")
+
+
 def contents(path):
     with open(path, "rb") as file:
         return file.read()
 
 
-def load(store, status, line, instance=INSTANCE, seed="7"):
+def load(store, status, line, instance=INSTANCE, seed="7", errors=b""):
     got = subprocess.run([PROGRAM, "load", store, "lilim", instance, seed], capture_output=True)
-    if (got.returncode, got.stdout, got.stderr) != (status, line + b"\n", b""):
+    if (got.returncode, got.stdout, got.stderr) != (status, line + b"\n", errors):
         fail(f"load: status {got.returncode}, {got.stdout!r}, {got.stderr!r}; wanted {status}, {line!r}")
 
 
@@ -333,6 +355,7 @@ def main():
         check_session(folder)
         check_load(folder)
         check_strict(folder)
+        check_repeating(folder)
         check_calls(folder)
         check_two_at_once(folder)
         check_full(folder)

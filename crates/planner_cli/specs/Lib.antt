@@ -13,6 +13,7 @@ pub mod Drawn
 pub mod Examined
 pub mod Explained
 pub mod Files
+pub mod Foretold
 pub mod Formatting
 pub mod Listed
 pub mod Loading

@@ -60,14 +60,15 @@ where
 }
 
 /// Opens the store in the file, and serves the input over it, by `is_strict` up to the first answer that tells a refusal or a
-/// failed device.
-pub(crate) fn run_store<R, T: Start, I: Read, W: Write>(
+/// failed device. How many search steps opening repeats is told on `errors` first.
+pub(crate) fn run_store<R, T: Start, I: Read, W: Write, E: Write>(
     rt: &R,
     start: T,
     store: &str,
     is_strict: bool,
     input: &mut Watched<I>,
     output: Watched<W>,
+    errors: &mut E,
 ) -> (io::Result<u8>, Watched<W>)
 where
     R: Files<File = File> + Eprint + AllocGlobal,
@@ -79,7 +80,8 @@ where
 {
     match FileDevice::at_or_cause(rt, store, start) {
         Ok(device) => {
-            let (told, device, output) = run_device(rt.alloc(), device, is_strict, input, output);
+            let (told, device, output) =
+                run_device(rt.alloc(), device, is_strict, input, output, errors);
             tell_cause(rt, store, device.cause());
             (told, output)
         }
@@ -173,19 +175,21 @@ where
 }
 
 // Opens the store on the device, serves the input over it, and gives the device and the output back.
-fn run_device<D: Sectors + Drop, I: Read, W: Write>(
+fn run_device<D: Sectors + Drop, I: Read, W: Write, E: Write>(
     alloc: Global,
     device: D,
     is_strict: bool,
     input: &mut Watched<I>,
     output: Watched<W>,
+    errors: &mut E,
 ) -> (io::Result<u8>, D, Watched<W>)
     ensures status { IfOk result.0 (λ status. status ≤ 4) }
     ensures runs { IfOk result.0 (RunsDevice D.Sectors device is_strict
         (I.remaining input.old.inner) (W.contents output.inner) (W.contents result.2.inner)
         input.new.has_failed result.2.has_failed) }
 {
-    match open_session(alloc, device) {
+    let opening = open_session(alloc, device, errors);
+    match opening.into_opened() {
         Ok(opened) => {
             let Opened {
                 mut session,
