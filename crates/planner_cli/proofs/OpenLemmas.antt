@@ -1,16 +1,14 @@
 -- What opening a device promises behind a reading of it is promised of the device as it was before.
-use Rattle.std.proofs.Common.{◌≡◌, ◌<◌, ◌+◌, ◌∙◌, inl, inr, ℕ, List, Option, Result, Ok, Err, refl, sym, ap, subst, arith}
-use Rattle.std.specs.Io.KnownBytes.{Appends}
+use Rattle.std.proofs.Common.{◌≡◌, ◌+◌, ◌∙◌, inl, ℕ, List, Result, Ok, Err, refl, ap, subst, arith}
 use Rattle.checkpoint.specs.Holdless.{HoldsNothing, IsOfLoad, UnlessUnread}
 use Rattle.checkpoint.specs.Laws.{NeverBoth}
 use Rattle.checkpoint.specs.Reads.{IsUnchanged}
-use Rattle.checkpoint.specs.Refused.{faults_after_reading, faults_of_store}
+use Rattle.checkpoint.specs.Refused.{faults_of_store}
 use Rattle.checkpoint.specs.declared.faults.StoreFault.{StoreFault}
 use Rattle.checkpoint.specs.declared.faults.StoreFault.TheVariants.{NotFormatted, BadVersion, Codec, Spent, OutOfMemory, DeviceFault}
-use Rattle.planner_cli.specs.Foretold.{IsForetold, IsOfImage, repeating_line}
 use Rattle.planner_cli.specs.Running.{IsOpened, IsRefused}
 use Rattle.recover.specs.Applying.{IsBetween}
-use Rattle.recover.specs.Opening.{IsOnlyRead, IsReplayed, IsToRepeat, Opens, StandsForNone}
+use Rattle.recover.specs.Opening.{IsOnlyRead, IsReplayed, Opens, StandsForNone}
 use Rattle.recover.specs.Sessions.{SessionValue}
 use Rattle.recover.specs.StandsFor.{StandsFor}
 use Rattle.sector_disk.specs.Sectors.{Throughout}
@@ -58,6 +56,7 @@ module _ {D : Type 0} (on : sectors.Ghosts D) (old read : D) where
     opens = λ honest. opens_none never (on.seen old) fault (nothing honest);
     fails = fails;
     small = λ short. (same_fault (unread fault) (unread NotFormatted) fault NotFormatted refl refl (only.told short), only.small short);
+    moments = λ honest. weakened on.clock on.possible_since old read _ _ (λ m image at. ((omega (arith, at.0), omega (arith, at.0)), at.1)) (only.kept honest).moments;
     honest = only.honest;
     faults = only.fault;
   }
@@ -66,16 +65,6 @@ module _ {D : Type 0} (on : sectors.Ghosts D) (old read : D) where
   module _ (steps : ℕ) (only : IsOnlyRead on (found steps) old read) where
     kept : on.honest read → IsUnchanged on.clock on.possible_since on.possible on.seen on.calls old read
     kept = only.kept
-
-    pub refused_behind : (after : D) (fault : StoreFault) → IsRefused on read after fault → IsRefused on old after fault
-    refused_behind after fault behind = record {
-      refused = λ honest. subst (λ (image : List ℕ). UnlessUnread (StandsForNone Two image) fault) (kept (behind.honest honest)).reads (behind.refused honest);
-      opens = λ honest. subst (λ (image : List ℕ). Opens Two image (Err fault)) (kept (behind.honest honest)).reads (behind.opens honest);
-      fails = behind.fails;
-      small = λ short. absurd (not_refused (found steps) steps NotFormatted refl (only.told short));
-      honest = λ honest. only.honest (behind.honest honest);
-      faults = behind.faults ∙ ap (faults_of_store fault) only.fault;
-    }
 
     -- a moment of the opening is one in which the images are those before the reading
     within : (m : ℕ) (image : List ℕ) → on.honest read → IsBetween (on.calls read) (on.calls read + 1) m image × on.possible read image
@@ -92,6 +81,17 @@ module _ {D : Type 0} (on : sectors.Ghosts D) (old read : D) where
         joined on.clock on.possible_since old read after _
         (weakened on.clock on.possible_since old read _ _ (λ m image at. before m image at) (kept honest).moments)
         (weakened on.clock on.possible_since read after _ _ (λ m image at. within m image honest at) behind)
+
+    pub refused_behind : (after : D) (fault : StoreFault) → IsRefused on read after fault → IsRefused on old after fault
+    refused_behind after fault behind = record {
+      refused = λ honest. subst (λ (image : List ℕ). UnlessUnread (StandsForNone Two image) fault) (kept (behind.honest honest)).reads (behind.refused honest);
+      opens = λ honest. subst (λ (image : List ℕ). Opens Two image (Err fault)) (kept (behind.honest honest)).reads (behind.opens honest);
+      fails = behind.fails;
+      small = λ short. absurd (not_refused (found steps) steps NotFormatted refl (only.told short));
+      moments = λ honest. moments after (behind.honest honest) (behind.moments honest);
+      honest = λ honest. only.honest (behind.honest honest);
+      faults = behind.faults ∙ ap (faults_of_store fault) only.fault;
+    }
 
     pub opened_behind : (session : SessionValue D) (replayed : ℕ) → IsOpened on read session replayed → IsOpened on old session replayed
     opened_behind session replayed behind =

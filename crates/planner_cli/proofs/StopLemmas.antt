@@ -8,11 +8,11 @@ use Rattle.command_core.specs.declared.commands.Command.{Command}
 use Rattle.command_core.specs.declared.states.State.{State}
 use Rattle.command_serving.specs.Acts.{Act, commands_of, kept_of, replies_of}
 use Rattle.command_serving.specs.Serving.{IsAppliedOn}
-use Rattle.command_serving.specs.Stopped.{IsRunOfInput, ServingsAreRuns, asked_by}
+use Rattle.command_serving.specs.Stopped.{IsRunOfInput, ServedHeadline, ServingsAreRuns, asked_by}
 use Rattle.command_serving.proofs.ActLemmas.{honest_before}
 use Rattle.command_serving.proofs.StoppedLemmas.{recovered_of, weaker}
 use Rattle.command_text.specs.Cutting.{pieces_of}
-use Rattle.planner_cli.specs.Recovering.{RunHeadline, acts_in}
+use Rattle.planner_cli.specs.Recovering.{RunHeadline, ServedRunHeadline, acts_in}
 use Rattle.planner_cli.specs.Running.{IsOpened}
 use Rattle.recover.specs.Applying.{IsAnswer, IsBetween, Makes, calls_of, denial, is_snapshot_due}
 use Rattle.recover.specs.Headline.{Headline, IsRecovered, LeavesFirstPart}
@@ -115,3 +115,8 @@ run_headline on again law runs run device m image other left outcome is honest s
     weaker (IsRecovered session.state (kept_of acts) (acked m (replies_of acts))) (IsRecovered session.state asked (acked m (replies_of acts)))
     (λ given found. recovered_of session.state (kept_of acts) asked (acked m (replies_of acts)) given done.asks found) outcome
     (law (record session { device = device }) new (commands_of acts) (replies_of acts) m image other left outcome is.opened.whole honest leaves stop reads settled opens)
+
+pub served_run_headline : {D E : Type 0} (on : sectors.Ghosts D) (again : sectors.Ghosts E) → ServedHeadline on again → ServedRunHeadline on again
+served_run_headline on again law run device m image other left outcome is honest stop reads settled opens =
+    law run.reading is.session is.runs.new run.input is.runs.opened is.runs.answered is.runs.served m image other left outcome ((is.runs.ends.serves run.input is.knows).serves run.reading is.reads)
+    is.opened.whole honest is.runs.ends.moments stop reads settled opens

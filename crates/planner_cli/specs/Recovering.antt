@@ -46,16 +46,30 @@ module _ {D : Type 0} (on : sectors.Ghosts D) where
       ((is.runs.ends.serves run.input is.knows).serves run.reading is.reads)
 
 module _ {D E : Type 0} (on : sectors.Ghosts D) (again : sectors.Ghosts E) where
-  -- the law
-  abbrev pub RunHeadline : Type 0
-  RunHeadline = (run : Run) (device : D) (m : ℕ) (image : List ℕ) (other left : E) (outcome : Result State StoreFault)
+  -- the conclusion: of a run that was stopped when m calls had finished
+  abbrev pub GivesFirstPart : (run : Run) (device : D) → RunsOver on run device → ℕ → Result State StoreFault → Type 0
+  GivesFirstPart run device is m outcome =
+      let acts = acts_in on run device is in
+      GivesUnlessFailed (IsRecovered is.session.state (asked_by run.reading is.session (pieces_of run.input) acts) (acked m (replies_of acts))) outcome
+
+  -- Law: behind the opening, for every device. Within it each image is one of those before (`moments` of `IsOpened`, and of `IsRefused`).
+  abbrev pub ServedRunHeadline : Type 0
+  ServedRunHeadline = (run : Run) (device : D) (m : ℕ) (image : List ℕ) (other left : E) (outcome : Result State StoreFault)
       -- a run over a device that has answered as the model says
       → (is : RunsOver on run device) → on.honest is.runs.new.device
-      -- each image that a stop might have left before it stands for the state that was opened, as format, session and stop leave it
-      → ((before : List ℕ) → on.possible device before → StandsFor Two before is.session.state)
-      -- a stop at a moment since, when m calls had finished, which left this image
-      → on.possible_since is.runs.new.device (on.clock device) m image
+      -- a stop at a moment since the store was opened, when m calls had finished, which left this image
+      → on.possible_since is.runs.new.device (on.clock is.session.device) m image
       -- an opening of a device whose reads give it, and that has answered as the model says
       → again.seen other ≡ image → again.honest left → GivesWhatStands again other outcome left
-      → let acts = acts_in on run device is in
-      GivesUnlessFailed (IsRecovered is.session.state (asked_by run.reading is.session (pieces_of run.input) acts) (acked m (replies_of acts))) outcome
+      → GivesFirstPart run device is m outcome
+
+  -- law: the opening included, where each image that a stop might have left before stands for the state that was opened, as format, session and
+  -- stop leave it
+  abbrev pub RunHeadline : Type 0
+  RunHeadline = (run : Run) (device : D) (m : ℕ) (image : List ℕ) (other left : E) (outcome : Result State StoreFault)
+      → (is : RunsOver on run device) → on.honest is.runs.new.device
+      → ((before : List ℕ) → on.possible device before → StandsFor Two before is.session.state)
+      -- a stop at a moment since the device was handed over
+      → on.possible_since is.runs.new.device (on.clock device) m image
+      → again.seen other ≡ image → again.honest left → GivesWhatStands again other outcome left
+      → GivesFirstPart run device is m outcome

@@ -102,12 +102,14 @@ module _ {D : Type 0} (on : sectors.Ghosts D) where
     pub faults : on.faults session.device ≡ on.faults device
     pub same_len : on.len session.device ≡ on.len device
 
-  -- Opening the device was refused: its image stands for no state, or could not be read.
+  -- Opening the device was refused: its image stands for no state, or could not be read. At each moment of it each image is one of those before.
   pub record IsRefused (device after : D) (fault : StoreFault) : Type 0 where
     pub refused : on.honest after → UnlessUnread (StandsForNone Two (on.seen device)) fault
     pub opens : on.honest after → Opens Two (on.seen device) (Err fault)
     pub fails : IsOfLoad fault
     pub small : on.len device < 802 → (fault ≡ NotFormatted) × (after ≡ device)
+    pub moments : on.honest after
+        → Throughout on.clock on.possible_since device after (λ m image. IsBetween (on.calls device) (on.calls device + 1) m image × on.possible device image)
     pub honest : on.honest after → on.honest device
     pub faults : on.faults after ≡ faults_of_store fault (on.faults device)
 

@@ -37,9 +37,9 @@
 //! - `run_store` (`RunsStore`): the device that `FileDevice::at_or_cause` gives is opened, and what `serve` writes over that
 //!   session stands behind `opened N`; 3 where the reader or the writer failed, with `cannot read input` for the
 //!   reader
-//! - `stopped_runs_recover` (`RunHeadline` in `specs/Recovering.antt`): stopped at any moment of `run` over a device, its
-//!   opening included, opening it gives the state after a first part of the commands of its input, with every one acknowledged
-//!   by then, and at most one more
+//! - `stopped_runs_recover` (`ServedRunHeadline`, `RunHeadline` in `specs/Recovering.antt`): stopped at any moment of `run` over
+//!   a device, opening it gives the state after a first part of the commands of its input, with every one acknowledged by
+//!   then, and at most one more
 //! - `format_store` (`FormatsStore`): a device of 8,450 sectors, and what `format` of `checkpoint` made of it
 //! - `load_read` (`TellsLoad`): the instance's first fault, before any store is opened; else a store that was found or made is
 //!   opened, left as it is where it holds an instance, and begun with `Load` where it is empty: after `ok` each image that a

@@ -66,10 +66,7 @@ pub(crate) fn open_session<D: Sectors, E: Write>(
 }
 
 // Opens the store on the device, and tells nothing.
-fn open_silently<D: Sectors>(
-    alloc: Global,
-    device: D,
-) -> Result<Opened<D>, (StoreFault, D)>
+fn open_silently<D: Sectors>(alloc: Global, device: D) -> Result<Opened<D>, (StoreFault, D)>
     ensures { MatchResult result
         (λ opened. IsOpened D.Sectors device opened.session opened.replayed)
         (λ refused. IsRefused D.Sectors device refused.1 refused.0) }

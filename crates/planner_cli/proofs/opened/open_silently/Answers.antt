@@ -29,6 +29,7 @@ returns-in-Err g c =
       opens = given.opens;
       fails = given.fails;
       small = λ short. same_parts _ _ c.in-Err.fault NotFormatted c.in-Err.device c.args.device refl refl (given.small short);
+      moments = given.moments;
       honest = given.honest;
       faults = given.fault;
     }
