@@ -1,16 +1,14 @@
 -- What opening a device promises behind a reading of it is promised of the device as it was before.
-use Rattle.std.proofs.Common.{◌≡◌, ◌<◌, ◌+◌, ◌∙◌, inl, inr, ℕ, List, Option, Result, Ok, Err, refl, sym, ap, subst, arith}
-use Rattle.std.specs.Io.KnownBytes.{Appends}
+use Rattle.std.proofs.Common.{◌≡◌, ◌+◌, ◌∙◌, inl, ℕ, List, Result, Ok, Err, refl, ap, subst, arith}
 use Rattle.checkpoint.specs.Holdless.{HoldsNothing, IsOfLoad, UnlessUnread}
 use Rattle.checkpoint.specs.Laws.{NeverBoth}
 use Rattle.checkpoint.specs.Reads.{IsUnchanged}
-use Rattle.checkpoint.specs.Refused.{faults_after_reading, faults_of_store}
+use Rattle.checkpoint.specs.Refused.{faults_of_store}
 use Rattle.checkpoint.specs.declared.faults.StoreFault.{StoreFault}
 use Rattle.checkpoint.specs.declared.faults.StoreFault.TheVariants.{NotFormatted, BadVersion, Codec, Spent, OutOfMemory, DeviceFault}
-use Rattle.planner_cli.specs.Foretold.{IsForetold, IsOfImage, repeating_line}
 use Rattle.planner_cli.specs.Running.{IsOpened, IsRefused}
 use Rattle.recover.specs.Applying.{IsBetween}
-use Rattle.recover.specs.Opening.{IsOnlyRead, IsReplayed, IsToRepeat, Opens, StandsForNone}
+use Rattle.recover.specs.Opening.{IsOnlyRead, IsReplayed, Opens, StandsForNone}
 use Rattle.recover.specs.Sessions.{SessionValue}
 use Rattle.recover.specs.StandsFor.{StandsFor}
 use Rattle.sector_disk.specs.Sectors.{Throughout}

@@ -56,7 +56,15 @@ where
         Err(fault) => return tell_instance_fault(output, fault),
     };
     let command = Command::Load(problem, loading.seed);
-    begin_store(rt, start, start_of_new, loading.store, command, output, errors)
+    begin_store(
+        rt,
+        start,
+        start_of_new,
+        loading.store,
+        command,
+        output,
+        errors,
+    )
 }
 
 // Begins the store in the file with the command.
@@ -145,7 +153,9 @@ fn begin_made<D: Sectors + Drop, W: Write, E: Write>(
     let opening = open_session(alloc, device, errors);
     match opening.into_opened() {
         Ok(opened) => begin_opened(alloc, opened, command, output),
-        Err((StoreFault::NotFormatted, device)) => begin_formatted(alloc, device, command, output, errors),
+        Err((StoreFault::NotFormatted, device)) => begin_formatted(
+            alloc, device, command, output, errors,
+        ),
         Err((fault, device)) => (tell_store_fault(output, fault), device),
     }
 }

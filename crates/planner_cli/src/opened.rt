@@ -25,7 +25,7 @@ pub(crate) struct Opening<D: Sectors> {
 }
 
 impl<D: Sectors> Opening<D> {
-    /// The session, or why there is none, for whom the line on standard error is the reader's alone.
+    /// The session, or why there is none, and the device: what was told is of no account for it.
     pub(crate) fn into_opened(self) -> Result<Opened<D>, (StoreFault, D)>
         ensures { result ≡ self.opened }
     {
@@ -66,10 +66,7 @@ pub(crate) fn open_session<D: Sectors, E: Write>(
 }
 
 // Opens the store on the device, and tells nothing.
-fn open_silently<D: Sectors>(
-    alloc: Global,
-    device: D,
-) -> Result<Opened<D>, (StoreFault, D)>
+fn open_silently<D: Sectors>(alloc: Global, device: D) -> Result<Opened<D>, (StoreFault, D)>
     ensures { MatchResult result
         (λ opened. IsOpened D.Sectors device opened.session opened.replayed)
         (λ refused. IsRefused D.Sectors device refused.1 refused.0) }

@@ -90,8 +90,15 @@ where
         Invocation::Run { store, is_strict } => {
             let mut commands = Watched::new(rt.reader());
             let answers = Watched::new(output);
-            let (told, _answers) =
-                run_store(rt, start, store, is_strict, &mut commands, answers, errors);
+            let (told, _answers) = run_store(
+                rt,
+                start,
+                store,
+                is_strict,
+                &mut commands,
+                answers,
+                errors,
+            );
             status_of(told)
         }
         Invocation::Upgrade { old, new } => {

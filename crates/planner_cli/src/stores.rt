@@ -79,8 +79,14 @@ where
 {
     match FileDevice::at_or_cause(rt, store, start) {
         Ok(device) => {
-            let (told, device, output) =
-                run_device(rt.alloc(), device, is_strict, input, output, errors);
+            let (told, device, output) = run_device(
+                rt.alloc(),
+                device,
+                is_strict,
+                input,
+                output,
+                errors,
+            );
             tell_cause(rt, store, device.cause());
             (told, output)
         }

@@ -1,7 +1,7 @@
 -- What opening the device behind the reading gave is said of the device as it was, and what was told before it.
 use Rattle.std.proofs.Common.{inr, refl}
 use Rattle.std.proofs.KnownBytes.{Appends-nil}
-use Rattle.std.proofs.lemmas.Result.{MatchResult-weaker, on_ok_weaker}
+use Rattle.std.proofs.lemmas.Result.{MatchResult-weaker}
 use Rattle.planner_cli.proofs.OpenLemmas.{failed_first, opened_behind, refused_behind}
 use Rattle.planner_cli.proofs.opened.open_session.Goals as goal
 
