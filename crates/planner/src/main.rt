@@ -24,8 +24,9 @@ const LAST_STANDARD: RawFd = 2;
 
 fn main(rt: HostRuntime) -> ExitCode {
     // Open until all is done.
-    let Ok(_stand_ins) = stand_ins(&rt) else {
-        return ExitCode::from(status::FILE);
+    let _stand_ins = match stand_ins(&rt) {
+        Ok(stand_ins) => stand_ins,
+        Err(error) => return ExitCode::from(unopened_status(error.kind())),
     };
     let status = match words_of(&rt) {
         Ok(words) => run_words(&rt, Unknown, Unknown, &mut rt.stderr(), words.as_slice()),
@@ -45,6 +46,14 @@ fn stand_ins<R: Files<File = File> + AllocGlobal>(rt: &R) -> io::Result<Vec<File
         held.push(file)?;
     }
     Ok(held)
+}
+
+// The status where the system opened no folder, or memory was refused.
+fn unopened_status(kind: ErrorKind) -> u8 {
+    match kind {
+        ErrorKind::OutOfMemory => status::OUT_OF_MEMORY,
+        _ => status::FILE,
+    }
 }
 
 // The words of the command line, the program's name first, or the status that tells why there are none.

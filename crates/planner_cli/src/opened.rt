@@ -25,7 +25,7 @@ pub(crate) struct Opening<D: Sectors> {
 }
 
 impl<D: Sectors> Opening<D> {
-    /// The session, or why there is none, for whom the line on standard error is the reader's alone.
+    /// The session, or why there is none, and the device: what was told is of no account for it.
     pub(crate) fn into_opened(self) -> Result<Opened<D>, (StoreFault, D)>
         ensures { result ≡ self.opened }
     {
