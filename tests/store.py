@@ -9,6 +9,8 @@
 4. With strace: no `ok` or `at` line is written before the sync that it stands on has returned.
 5. Two programs at once on one store: the second is refused and changes nothing; after kill -9 the store opens again.
 6. A full disk, on a small tmpfs: it is told when the store is made; one that is full later is told behind `fault device`.
+7. Search steps that are repeated: how many stands on standard error before, by `run` and `load`, and nothing where none are.
+   Standard streams that are closed: the store is not taken for one of them.
 
 Words: how often the program is stopped (200 where there are none). Wants the program that rt ci leaves.
 """
@@ -83,14 +85,50 @@ def check_session(folder):
     print("store: a session goes on where it was")
 
 
+def check_repeating(folder):
+    store = os.path.join(folder, "repeat.store")
+    load(store, 0, b"ok")
+    run(store, b"build\nsearch 300\nsearch 5\n")
+    once = b"planner: repeating 305 search steps\n"
+    for words in [["run", store], ["run", store, "strict"]]:
+        # Both streams in one pipe, by which the line comes first.
+        got = subprocess.run([PROGRAM, *words], input=b"next\n", stdout=subprocess.PIPE, stderr=subprocess.STDOUT)
+        if (got.returncode, got.stdout) != (0, once + b"opened 305\nnext 107\nok\n"):
+            fail(f"repeating: {words[2:]}: status {got.returncode}, {got.stdout!r}")
+    load(store, 2, b"store Loaded", errors=once)
+    check_closed_streams(store, once)
+    run(store, b"checkpoint\n")
+    got = subprocess.run([PROGRAM, "run", store], input=b"", capture_output=True)
+    if (got.returncode, got.stdout, got.stderr) != (0, b"opened 0\n", b""):
+        fail(f"repeating none: status {got.returncode}, {got.stdout!r}, {got.stderr!r}")
+    print("store: search steps are told before they are repeated")
+
+
+def check_closed_streams(store, once):
+    """The number of a stream that is closed is not the store's: nothing is read of the store or written over it in its place."""
+    before = contents(store)
+    cases = [
+        ("<&-", (3, b"opened 305\ncannot read input\n", once)),
+        (">&-", (3, b"", once)),
+        ("2>&-", (0, b"opened 305\nnext 107\nok\n", b"")),
+        ("<&- >&- 2>&-", (3, b"", b"")),
+    ]
+    for closed, wanted in cases:
+        got = subprocess.run(["sh", "-c", f'exec "$0" run "$1" {closed}', PROGRAM, store], input=b"next\n", capture_output=True)
+        if (got.returncode, got.stdout, got.stderr) != wanted:
+            fail(f"{closed}: status {got.returncode}, {got.stdout!r}, {got.stderr!r}; wanted {wanted}")
+        if contents(store) != before:
+            fail(f"{closed}: the store was changed")
+
+
 def contents(path):
     with open(path, "rb") as file:
         return file.read()
 
 
-def load(store, status, line, instance=INSTANCE, seed="7"):
+def load(store, status, line, instance=INSTANCE, seed="7", errors=b""):
     got = subprocess.run([PROGRAM, "load", store, "lilim", instance, seed], capture_output=True)
-    if (got.returncode, got.stdout, got.stderr) != (status, line + b"\n", b""):
+    if (got.returncode, got.stdout, got.stderr) != (status, line + b"\n", errors):
         fail(f"load: status {got.returncode}, {got.stdout!r}, {got.stderr!r}; wanted {status}, {line!r}")
 
 
@@ -159,7 +197,11 @@ def heed_interrupts():
 def stopped_run(store, moment, stop):
     """Runs a search towards STEPS, stops it after so many seconds, and gives the last step that was acknowledged."""
     with subprocess.Popen(
-        [PROGRAM, "run", store], stdin=subprocess.PIPE, stdout=subprocess.PIPE, preexec_fn=heed_interrupts
+        [PROGRAM, "run", store],
+        stdin=subprocess.PIPE,
+        stdout=subprocess.PIPE,
+        stderr=subprocess.DEVNULL,
+        preexec_fn=heed_interrupts,
     ) as process:
         process.stdin.write(b"reach %d\n" % STEPS)
         process.stdin.flush()
@@ -333,6 +375,7 @@ def main():
         check_session(folder)
         check_load(folder)
         check_strict(folder)
+        check_repeating(folder)
         check_calls(folder)
         check_two_at_once(folder)
         check_full(folder)

@@ -15,6 +15,7 @@ use Rattle.command_text.specs.declared.asked.Asked.{Asked}
 use Rattle.command_text.specs.declared.asked.Asked.TheVariants.{Load, Nothing}
 use Rattle.recover.specs.Sessions.{SessionValue}
 use Rattle.command_serving.specs.Input.{CountsTaken, Cuts, Loads}
+use Rattle.command_serving.specs.Acts.{carried_of, fates_of, kept_of, unfailed}
 use Rattle.command_serving.specs.Served.{HasCause, IsCutShort, IsServed, Leads, Tells, as_serving, preceded, still}
 use Rattle.command_serving.specs.Serving.{Answers, CutOff, GoesOn, IsCause, Serves, ServesOn, goes_behind, goes_on, load_told, pieces_behind, silent, still_searched}
 use Rattle.command_serving.specs.declared.answering.Goes.{Goes}
@@ -23,7 +24,9 @@ use Rattle.command_serving.specs.declared.answering.Goes.TheVariants.{On, ToEnd}
 use Rattle.command_serving.specs.declared.input.LoadText.{LoadText}
 use Rattle.command_serving.specs.declared.input.LoadText.TheVariants.{Dropped, Short, Whole}
 use Rattle.command_serving.specs.declared.answering.ServeFault.TheVariants as fault
-use Rattle.command_serving.proofs.ServingLemmas.{answers_as, leads_nothing, leads_on, serves_as, serves_nothing, serves_on, tells_nothing}
+use Rattle.command_serving.proofs.ActLemmas.{begins_as, begins_before}
+use Rattle.command_serving.proofs.ServingLemmas.{answers_as, leads_as, leads_nothing, leads_on, leads_to, serves_as, serves_nothing, serves_on, tells_as, tells_nothing, tells_to}
+use Rattle.sector_disk.specs.declared.sectors.Sectors as sectors
 
 -- ---- a piece, and those behind it
 
@@ -42,31 +45,32 @@ reply_is reading s p = refl
 joined_silent : (t : List ℕ) (c : List Command) (s : Serving) (r : Reply) → joined_replies (preceded t c (silent s)) r ≡ preceded t c r
 joined_silent t c s r = ap₂ {C = Reply} (λ (x : List ℕ) (y : List Command). record { text = x ++ r.text; commands = y ++ r.commands; left = r.left }) (append-nil t) (append-nil c)
 
-asked_serves : {D : Type 0} (reading : Reading) (old new : SessionValue D) (p : Piece) (ps : List Piece) (x y : Option (List ℕ))
-    → Serves old (λ s. asked_reply reading s p.asked p.text (is_short p)) x y new silent → Serves old (λ s. served reading s (p ∷ ps)) x y new (λ s. served reading s ps)
-asked_serves reading old new p ps x y serves = record {
-  text = serves.text;
-  leads = record {
-    fates = serves.leads.fates;
-    commands = serves.leads.commands;
-    says = λ later.
-        served_cons reading (as_serving old (serves.leads.fates ++ later)) p ps
-        ∙ ap (λ (r : Reply). joined_replies r (served reading r.left ps)) (reply_is reading (as_serving old (serves.leads.fates ++ later)) p ∙ serves.leads.says later)
-        ∙ joined_silent serves.text serves.leads.commands (as_serving new later) (served reading (as_serving new later) ps);
-    state = serves.leads.state;
-  };
-  written = serves.written;
-}
+asked_serves : {D : Type 0} {on : sectors.Ghosts D} (reading : Reading) (old new : SessionValue D) (p : Piece) (ps : List Piece) (x y : Option (List ℕ))
+    → Serves on old (λ s. asked_reply reading s p.asked p.text (is_short p)) x y new silent → Serves on old (λ s. served reading s (p ∷ ps)) x y new (λ s. served reading s ps)
+asked_serves reading old new p ps x y serves =
+    let first : (s : Serving) → served reading s (p ∷ ps) ≡ (let r = asked_reply reading s p.asked p.text (is_short p) in joined_replies r (served reading r.left ps)) =
+    λ s. served_cons reading s p ps ∙ ap (λ (r : Reply). joined_replies r (served reading r.left ps)) (reply_is reading s p) in
+    let acts = serves.leads.acts in
+    record {
+      text = serves.text;
+      leads = record {
+        acts = acts;
+        run = serves.leads.run;
+        says = λ later.
+            first (as_serving old (fates_of acts ++ later)) ∙ ap (λ (r : Reply). joined_replies r (served reading r.left ps)) (serves.leads.says later)
+            ∙ joined_silent serves.text (carried_of acts) (as_serving new later) (served reading (as_serving new later) ps);
+        asks = λ later.
+            begins_as (kept_of acts) _ _ (ap (λ (r : Reply). r.commands) (first (as_serving old (unfailed (fates_of acts) ++ later))))
+            (begins_before (kept_of acts) _ _ (serves.leads.asks later));
+        state = serves.leads.state;
+      };
+      written = serves.written;
+    }
 
-ended_serves : {D : Type 0} (reading : Reading) (old new : SessionValue D) (f : Serving → Reply) (x y : Option (List ℕ)) → Serves old f x y new (λ s. served reading s []) → Serves old f x y new silent
+ended_serves : {D : Type 0} {on : sectors.Ghosts D} (reading : Reading) (old new : SessionValue D) (f : Serving → Reply) (x y : Option (List ℕ)) → Serves on old f x y new (λ s. served reading s []) → Serves on old f x y new silent
 ended_serves reading old new f x y serves = record {
   text = serves.text;
-  leads = record {
-    fates = serves.leads.fates;
-    commands = serves.leads.commands;
-    says = λ later. serves.leads.says later ∙ ap (preceded serves.text serves.leads.commands) (served_none reading (as_serving new later));
-    state = serves.leads.state;
-  };
+  leads = leads_to old new f (λ s. served reading s []) silent serves.text (λ fates. served_none reading (as_serving new fates)) serves.leads;
   written = serves.written;
 }
 
@@ -75,7 +79,7 @@ ended_serves reading old new f x y serves = record {
 joined_on : (t : List ℕ) (c : List Command) (r q : Reply) → joined_replies (preceded t c r) q ≡ preceded t c (joined_replies r q)
 joined_on t c r q = ap₂ {C = Reply} (λ (x : List ℕ) (y : List Command). record { text = x; commands = y; left = q.left }) (append_assoc t r.text q.text) (append_assoc c r.commands q.commands)
 
-module _ {D : Type 0} (reading : Reading) (old new : SessionValue D) (p : Piece) (ps : List Piece) (x y : Option (List ℕ)) where
+module _ {D : Type 0} (on : sectors.Ghosts D) (reading : Reading) (old new : SessionValue D) (p : Piece) (ps : List Piece) (x y : Option (List ℕ)) where
   -- an answer, and those to the pieces behind it
   abbrev with_rest : (Serving → Reply) → Serving → Reply
   with_rest f s = let r = f s in joined_replies r (served reading r.left ps)
@@ -86,52 +90,42 @@ module _ {D : Type 0} (reading : Reading) (old new : SessionValue D) (p : Piece)
   served_first : (s : Serving) → served reading s (p ∷ ps) ≡ with_rest asks s
   served_first s = served_cons reading s p ps ∙ ap (λ (r : Reply). joined_replies r (served reading r.left ps)) (reply_is reading s p)
 
-  leads_first : (told : SessionValue D) (g : Serving → Reply) (t : List ℕ) → Leads old asks t told g → Leads old (λ s. served reading s (p ∷ ps)) t told (with_rest g)
-  leads_first told g t l = record {
-    fates = l.fates;
-    commands = l.commands;
+  leads_within : (told : SessionValue D) (f g : Serving → Reply) (t : List ℕ) → Leads on old f t told g → Leads on old (with_rest f) t told (with_rest g)
+  leads_within told f g t l = record {
+    acts = l.acts;
+    run = l.run;
     says = λ later.
-        served_first (as_serving old (l.fates ++ later)) ∙ ap (λ (r : Reply). joined_replies r (served reading r.left ps)) (l.says later)
-        ∙ joined_on t l.commands (g (as_serving told later)) (served reading (g (as_serving told later)).left ps);
+        ap (λ (r : Reply). joined_replies r (served reading r.left ps)) (l.says later) ∙ joined_on t (carried_of l.acts) (g (as_serving told later)) (served reading (g (as_serving told later)).left ps);
+    asks = λ later. begins_before (kept_of l.acts) _ _ (l.asks later);
     state = l.state;
   }
 
-  tells_first : (g : Serving → Reply) (t : List ℕ) → Tells old asks t new g → Tells old (λ s. served reading s (p ∷ ps)) t new (with_rest g)
-  tells_first g t l = record {
-    fates = l.fates;
-    commands = l.commands;
-    says = λ later.
-        served_first (as_serving old (l.fates ++ later)) ∙ ap (λ (r : Reply). joined_replies r (served reading r.left ps)) (l.says later)
-        ∙ joined_on t l.commands (g (as_serving new later)) (served reading (g (as_serving new later)).left ps);
-    state = l.state;
-    few = l.few;
-  }
+  leads_first : (told : SessionValue D) (g : Serving → Reply) (t : List ℕ) → Leads on old asks t told g → Leads on old (λ s. served reading s (p ∷ ps)) t told (with_rest g)
+  leads_first told g t l = leads_as old told (with_rest asks) (λ s. served reading s (p ∷ ps)) (with_rest g) t (λ fates. served_first (as_serving old fates)) (leads_within told asks g t l)
 
-  tells_within : (told : SessionValue D) (f g : Serving → Reply) (t : List ℕ) → Tells told f t new g → Tells told (with_rest f) t new (with_rest g)
+  tells_within : (told : SessionValue D) (f g : Serving → Reply) (t : List ℕ) → Tells on told f t new g → Tells on told (with_rest f) t new (with_rest g)
   tells_within told f g t l = record {
-    fates = l.fates;
-    commands = l.commands;
+    acts = l.acts;
+    run = l.run;
     says = λ later.
-        ap (λ (r : Reply). joined_replies r (served reading r.left ps)) (l.says later) ∙ joined_on t l.commands (g (as_serving new later)) (served reading (g (as_serving new later)).left ps);
+        ap (λ (r : Reply). joined_replies r (served reading r.left ps)) (l.says later) ∙ joined_on t (carried_of l.acts) (g (as_serving new later)) (served reading (g (as_serving new later)).left ps);
+    asks = λ later. begins_before (kept_of l.acts) _ _ (l.asks later);
     state = l.state;
     few = l.few;
   }
+
+  tells_first : (g : Serving → Reply) (t : List ℕ) → Tells on old asks t new g → Tells on old (λ s. served reading s (p ∷ ps)) t new (with_rest g)
+  tells_first g t l = tells_as old new (with_rest asks) (λ s. served reading s (p ∷ ps)) (with_rest g) t (λ fates. served_first (as_serving old fates)) (tells_within old asks g t l)
 
   -- what is left of a search, and the pieces behind it
   rest_is : (later : Option (List ℕ)) (s : Serving) → with_rest (still_searched later) s ≡ still reading later ps s
   rest_is None s = refl
   rest_is (Some counts) s = refl
 
-  tells_still : (told : SessionValue D) (f : Serving → Reply) (later : Option (List ℕ)) (t : List ℕ) → Tells told f t new (with_rest (still_searched later)) → Tells told f t new (still reading later ps)
-  tells_still told f later t l = record {
-    fates = l.fates;
-    commands = l.commands;
-    says = λ fates. l.says fates ∙ ap (preceded t l.commands) (rest_is later (as_serving new fates));
-    state = l.state;
-    few = l.few;
-  }
+  tells_still : (told : SessionValue D) (f : Serving → Reply) (later : Option (List ℕ)) (t : List ℕ) → Tells on told f t new (with_rest (still_searched later)) → Tells on told f t new (still reading later ps)
+  tells_still told f later t l = tells_to told new f (with_rest (still_searched later)) (still reading later ps) t (λ fates. rest_is later (as_serving new fates)) l
 
-  pub asked_cut : CutOff old asks x y new → IsCutShort reading old (p ∷ ps) x y new
+  pub asked_cut : CutOff on old asks x y new → IsCutShort on reading old (p ∷ ps) x y new
   asked_cut (inl c) = record {
     counts = None;
     front = [];
@@ -171,44 +165,44 @@ module _ {D : Type 0} (reading : Reading) (old new : SessionValue D) (p : Piece)
 
 -- ---- a line with no bytes behind it
 
-line_served_on : {D : Type 0} (reading : Reading) (a : Asked) (rest : List ℕ) (old new : SessionValue D) (x y known : Option (List ℕ)) → cut_at a rest ≡ record { asked = a; text = [] } ∷ pieces_of rest → known ≡ Some rest
-    → Serves old (λ s. asked_reply reading s a [] (is_short (record { asked = a; text = [] }))) x y new silent → ServesOn reading old (cut_at a rest) x y new On known
-line_served_on reading a rest old new x y known cut is serves = record {
+line_served_on : {D : Type 0} {on : sectors.Ghosts D} (reading : Reading) (a : Asked) (rest : List ℕ) (old new : SessionValue D) (x y known : Option (List ℕ)) → cut_at a rest ≡ record { asked = a; text = [] } ∷ pieces_of rest → known ≡ Some rest
+    → Serves on old (λ s. asked_reply reading s a [] (is_short (record { asked = a; text = [] }))) x y new silent → ServesOn on reading old (cut_at a rest) x y new On known
+line_served_on {on = on} reading a rest old new x y known cut is serves = record {
   left = rest;
   is_known = is;
   front = record { asked = a; text = [] } ∷ [];
   split = cut;
-  serves = subst (λ ps. Serves old (λ s. served reading s ps) x y new (λ s. served reading s (pieces_of rest))) (sym cut)
+  serves = subst (λ ps. Serves on old (λ s. served reading s ps) x y new (λ s. served reading s (pieces_of rest))) (sym cut)
       (asked_serves reading old new (record { asked = a; text = [] }) (pieces_of rest) x y serves);
 }
 
-line_served_last : {D : Type 0} (reading : Reading) (a : Asked) (rest : List ℕ) (old new : SessionValue D) (x y known : Option (List ℕ)) → cut_at a rest ≡ record { asked = a; text = [] } ∷ [] → known ≡ Some rest
-    → Serves old (λ s. asked_reply reading s a [] (is_short (record { asked = a; text = [] }))) x y new silent → ServesOn reading old (cut_at a rest) x y new ToEnd known
-line_served_last reading a rest old new x y known cut is serves = record {
+line_served_last : {D : Type 0} {on : sectors.Ghosts D} (reading : Reading) (a : Asked) (rest : List ℕ) (old new : SessionValue D) (x y known : Option (List ℕ)) → cut_at a rest ≡ record { asked = a; text = [] } ∷ [] → known ≡ Some rest
+    → Serves on old (λ s. asked_reply reading s a [] (is_short (record { asked = a; text = [] }))) x y new silent → ServesOn on reading old (cut_at a rest) x y new ToEnd known
+line_served_last {on = on} reading a rest old new x y known cut is serves = record {
   left = rest;
   is_known = is;
   front = record { asked = a; text = [] } ∷ [];
   split = cut;
-  serves = subst (λ ps. Serves old (λ s. served reading s ps) x y new silent) (sym cut)
+  serves = subst (λ ps. Serves on old (λ s. served reading s ps) x y new silent) (sym cut)
       (ended_serves reading old new (λ s. served reading s (record { asked = a; text = [] } ∷ [])) x y (asked_serves reading old new (record { asked = a; text = [] }) [] x y serves));
 }
 
-module _ {D E : Type 0} (reading : Reading) (a : Asked) (rest : List ℕ) (old new : SessionValue D) (x y known : Option (List ℕ)) (r : Result Goes ServeFault) where
+module _ {D E : Type 0} (on : sectors.Ghosts D) (reading : Reading) (a : Asked) (rest : List ℕ) (old new : SessionValue D) (x y known : Option (List ℕ)) (r : Result Goes ServeFault) where
   once_told : (told : Result ⊤ E) (to : Goes) (ps : List Piece) → MatchResult told (λ _. r ≡ Ok to) (λ _. r ≡ Err fault.WriteFault) → cut_at a rest ≡ record { asked = a; text = [] } ∷ ps
-      → Answers told old (λ s. asked_reply reading s a [] (is_short (record { asked = a; text = [] }))) x y new silent
-      → (Serves old (λ s. asked_reply reading s a [] (is_short (record { asked = a; text = [] }))) x y new silent → ServesOn reading old (cut_at a rest) x y new to known)
-      → GoesOn r reading old (cut_at a rest) x y new known
-  once_told (Ok done) to ps is cut answers serves = subst (λ r. GoesOn r reading old (cut_at a rest) x y new known) (sym is) (serves answers)
+      → Answers on told old (λ s. asked_reply reading s a [] (is_short (record { asked = a; text = [] }))) x y new silent
+      → (Serves on old (λ s. asked_reply reading s a [] (is_short (record { asked = a; text = [] }))) x y new silent → ServesOn on reading old (cut_at a rest) x y new to known)
+      → GoesOn on r reading old (cut_at a rest) x y new known
+  once_told (Ok done) to ps is cut answers serves = subst (λ r. GoesOn on r reading old (cut_at a rest) x y new known) (sym is) (serves answers)
   once_told (Err failed) to ps is cut answers serves =
-      subst (λ r. GoesOn r reading old (cut_at a rest) x y new known) (sym is)
-      (subst (λ qs. IsCutShort reading old qs x y new) (sym cut) (asked_cut reading old new (record { asked = a; text = [] }) ps x y answers))
+      subst (λ r. GoesOn on r reading old (cut_at a rest) x y new known) (sym is)
+      (subst (λ qs. IsCutShort on reading old qs x y new) (sym cut) (asked_cut on reading old new (record { asked = a; text = [] }) ps x y answers))
 
   pub line_on : (told : Result ⊤ E) → MatchResult told (λ _. r ≡ Ok On) (λ _. r ≡ Err fault.WriteFault) → cut_at a rest ≡ record { asked = a; text = [] } ∷ pieces_of rest → known ≡ Some rest
-      → Answers told old (λ s. asked_reply reading s a [] (is_short (record { asked = a; text = [] }))) x y new silent → GoesOn r reading old (cut_at a rest) x y new known
+      → Answers on told old (λ s. asked_reply reading s a [] (is_short (record { asked = a; text = [] }))) x y new silent → GoesOn on r reading old (cut_at a rest) x y new known
   line_on told is cut known_is answers = once_told told On (pieces_of rest) is cut answers (line_served_on reading a rest old new x y known cut known_is)
 
   pub line_ends : (told : Result ⊤ E) → MatchResult told (λ _. r ≡ Ok ToEnd) (λ _. r ≡ Err fault.WriteFault) → cut_at a rest ≡ record { asked = a; text = [] } ∷ [] → known ≡ Some rest
-      → Answers told old (λ s. asked_reply reading s a [] (is_short (record { asked = a; text = [] }))) x y new silent → GoesOn r reading old (cut_at a rest) x y new known
+      → Answers on told old (λ s. asked_reply reading s a [] (is_short (record { asked = a; text = [] }))) x y new silent → GoesOn on r reading old (cut_at a rest) x y new known
   line_ends told is cut known_is answers = once_told told ToEnd [] is cut answers (line_served_last reading a rest old new x y known cut known_is)
 
 -- ---- a load
@@ -236,7 +230,7 @@ short_cut kind seed len bytes less =
     ap (λ (text : List ℕ). record { asked = Load kind seed len; text = text } ∷ (if nat_lt (length text) len then [] else pieces_of (drop len bytes))) (take_all len bytes (omega (arith, less)))
     ∙ ap (λ (b : Bool). record { asked = Load kind seed len; text = bytes } ∷ (if b then [] else pieces_of (drop len bytes))) (lt-ltb (length bytes) len less)
 
-module _ {D : Type 0} (reading : Reading) (kind : Kind) (seed len : ℕ) (old new : SessionValue D) (x y : Option (List ℕ)) (r : Result Goes ServeFault) where
+module _ {D : Type 0} (on : sectors.Ghosts D) (reading : Reading) (kind : Kind) (seed len : ℕ) (old new : SessionValue D) (x y : Option (List ℕ)) (r : Result Goes ServeFault) where
   abbrev load_of : List ℕ → Piece
   load_of bytes = record { asked = Load kind seed len; text = bytes }
 
@@ -246,41 +240,41 @@ module _ {D : Type 0} (reading : Reading) (kind : Kind) (seed len : ℕ) (old ne
 
   -- told, with the bytes that came
   told_of : {E : Type 0} (told : Result ⊤ E) (to : Goes) (bytes : List ℕ) (ps : List Piece) (rest left : List ℕ) → MatchResult told (λ _. r ≡ Ok to) (λ _. r ≡ Err fault.WriteFault)
-      → cut_at (Load kind seed len) rest ≡ load_of bytes ∷ ps → Answers told old (λ s. asked_reply reading s (Load kind seed len) bytes (is_short (load_of bytes))) x y new silent
-      → (Serves old (λ s. served reading s (load_of bytes ∷ ps)) x y new (λ s. served reading s ps) → Serves old (λ s. served reading s (load_of bytes ∷ ps)) x y new (goes_on reading to left))
-      → ps ≡ pieces_behind to left → GoesOn r reading old (cut_at (Load kind seed len) rest) x y new (Some left)
-  told_of (Ok done) to bytes ps rest left is cut answers on behind =
-      subst (λ r. GoesOn r reading old (cut_at (Load kind seed len) rest) x y new (Some left)) (sym is)
+      → cut_at (Load kind seed len) rest ≡ load_of bytes ∷ ps → Answers on told old (λ s. asked_reply reading s (Load kind seed len) bytes (is_short (load_of bytes))) x y new silent
+      → (Serves on old (λ s. served reading s (load_of bytes ∷ ps)) x y new (λ s. served reading s ps) → Serves on old (λ s. served reading s (load_of bytes ∷ ps)) x y new (goes_on reading to left))
+      → ps ≡ pieces_behind to left → GoesOn on r reading old (cut_at (Load kind seed len) rest) x y new (Some left)
+  told_of (Ok done) to bytes ps rest left is cut answers ends behind =
+      subst (λ r. GoesOn on r reading old (cut_at (Load kind seed len) rest) x y new (Some left)) (sym is)
       (record {
         left = left;
         is_known = refl;
         front = load_of bytes ∷ [];
         split = cut ∙ ap (λ qs. load_of bytes ∷ qs) behind;
-        serves = subst (λ qs. Serves old (λ s. served reading s qs) x y new (goes_on reading to left)) (sym cut) (on (asked_serves reading old new (load_of bytes) ps x y answers));
+        serves = subst (λ qs. Serves on old (λ s. served reading s qs) x y new (goes_on reading to left)) (sym cut) (ends (asked_serves reading old new (load_of bytes) ps x y answers));
       })
-  told_of (Err failed) to bytes ps rest left is cut answers on behind =
-      subst (λ r. GoesOn r reading old (cut_at (Load kind seed len) rest) x y new (Some left)) (sym is)
-      (subst (λ qs. IsCutShort reading old qs x y new) (sym cut) (asked_cut reading old new (load_of bytes) ps x y answers))
+  told_of (Err failed) to bytes ps rest left is cut answers ends behind =
+      subst (λ r. GoesOn on r reading old (cut_at (Load kind seed len) rest) x y new (Some left)) (sym is)
+      (subst (λ qs. IsCutShort on reading old qs x y new) (sym cut) (asked_cut on reading old new (load_of bytes) ps x y answers))
 
   module _ {E : Type 0} (told : Result ⊤ E) where
     whole_on : (bytes rest left : List ℕ) → rest ≡ bytes ++ left → length bytes ≡ len → MatchResult told (λ _. r ≡ Ok On) (λ _. r ≡ Err fault.WriteFault)
-        → Answers told old (load_told Dropped reading kind seed bytes) x y new silent → GoesOn r reading old (cut_at (Load kind seed len) rest) x y new (Some left)
+        → Answers on told old (load_told Dropped reading kind seed bytes) x y new silent → GoesOn on r reading old (cut_at (Load kind seed len) rest) x y new (Some left)
     whole_on bytes rest left moves is once answers =
         told_of told On bytes (pieces_of left) rest left once (ap (cut_at (Load kind seed len)) moves ∙ load_cut kind seed len bytes left is)
-        (answers_as told old new (load_told Dropped reading kind seed bytes) (λ s. asked_reply reading s (Load kind seed len) bytes (is_short (load_of bytes))) silent x y
+        (answers_as on told old new (load_told Dropped reading kind seed bytes) (λ s. asked_reply reading s (Load kind seed len) bytes (is_short (load_of bytes))) silent x y
         (same_reply bytes false (not_short len bytes is) (load_told Dropped reading kind seed bytes) (λ s. refl)) answers)
         (λ serves. serves) refl
 
     short_on : (bytes rest left : List ℕ) → rest ≡ bytes ++ left → left ≡ [] → length bytes < len → MatchResult told (λ _. r ≡ Ok ToEnd) (λ _. r ≡ Err fault.WriteFault)
-        → Answers told old (load_told Short reading kind seed bytes) x y new silent → GoesOn r reading old (cut_at (Load kind seed len) rest) x y new (Some left)
+        → Answers on told old (load_told Short reading kind seed bytes) x y new silent → GoesOn on r reading old (cut_at (Load kind seed len) rest) x y new (Some left)
     short_on bytes rest left moves end less once answers =
         told_of told ToEnd bytes [] rest left once (ap (cut_at (Load kind seed len)) (moves ∙ ap (λ l. bytes ++ l) end ∙ append-nil bytes) ∙ short_cut kind seed len bytes less)
-        (answers_as told old new (load_told Short reading kind seed bytes) (λ s. asked_reply reading s (Load kind seed len) bytes (is_short (load_of bytes))) silent x y
+        (answers_as on told old new (load_told Short reading kind seed bytes) (λ s. asked_reply reading s (Load kind seed len) bytes (is_short (load_of bytes))) silent x y
         (same_reply bytes true (lt-ltb (length bytes) len less) (load_told Short reading kind seed bytes) (λ s. refl)) answers)
         (λ serves. ended_serves reading old new (λ s. served reading s (load_of bytes ∷ [])) x y serves) refl
 
     load_by : (rest : List ℕ) (text : LoadText) (known : Option (List ℕ)) → Loads len (Some rest) known text → MatchResult told (λ _. r ≡ Ok (goes_behind text)) (λ _. r ≡ Err fault.WriteFault)
-        → ((bytes : List ℕ) → Answers told old (load_told text reading kind seed bytes) x y new silent) → GoesOn r reading old (cut_at (Load kind seed len) rest) x y new known
+        → ((bytes : List ℕ) → Answers on told old (load_told text reading kind seed bytes) x y new silent) → GoesOn on r reading old (cut_at (Load kind seed len) rest) x y new known
     load_by rest (Whole text) None l once answers = absurd l.0
     load_by rest (Whole text) (Some left) l once answers = whole_on text.items rest left l.0 l.1 once (answers text.items)
     load_by rest Dropped None l once answers = absurd l.1
@@ -289,28 +283,33 @@ module _ {D : Type 0} (reading : Reading) (kind : Kind) (seed len : ℕ) (old ne
     load_by rest Short (Some left) l once answers = short_on l.0 rest left l.1 l.3 l.2 once (answers l.0)
 
     pub load_on : (rest : List ℕ) (text : LoadText) (goes : Goes) (before known : Option (List ℕ)) → before ≡ Some rest → Loads len before known text → goes ≡ goes_behind text
-        → MatchResult told (λ _. r ≡ Ok goes) (λ _. r ≡ Err fault.WriteFault) → ((bytes : List ℕ) → Answers told old (load_told text reading kind seed bytes) x y new silent)
-        → GoesOn r reading old (cut_at (Load kind seed len) rest) x y new known
+        → MatchResult told (λ _. r ≡ Ok goes) (λ _. r ≡ Err fault.WriteFault) → ((bytes : List ℕ) → Answers on told old (load_told text reading kind seed bytes) x y new silent)
+        → GoesOn on r reading old (cut_at (Load kind seed len) rest) x y new known
     load_on rest text goes before known is l to once answers =
         load_by rest text known (subst (λ b. Loads len b known text) is l) (subst (λ g. MatchResult told (λ _. r ≡ Ok g) (λ _. r ≡ Err fault.WriteFault)) to once) answers
 
 -- ---- the end
 
-pub all_served : {D : Type 0} (follow : StatesFollow) (reading : Reading) (old new : SessionValue D) (input : List ℕ) (x y : Option (List ℕ)) → Serves old (λ s. served reading s (pieces_of input)) x y new silent
-    → IsServed reading old input x y new
+pub all_served : {D : Type 0} {on : sectors.Ghosts D} (follow : StatesFollow) (reading : Reading) (old new : SessionValue D) (input : List ℕ) (x y : Option (List ℕ)) → Serves on old (λ s. served reading s (pieces_of input)) x y new silent
+    → IsServed on reading old input x y new
 all_served follow reading old new input x y serves =
-    let fates : List Fate = serves.leads.fates ++ [] in
-    let said = serves.leads.says [] in
-    let left : (served reading (as_serving old fates) (pieces_of input)).left ≡ as_serving new [] = ap (λ (r : Reply). r.left) said in
+    let acts = serves.leads.acts in
+    let all : Serving → Reply = λ s. served reading s (pieces_of input) in
+    let said : all (as_serving old (fates_of acts)) ≡ preceded serves.text (carried_of acts) (silent (as_serving new [])) =
+    ap (λ fates. all (as_serving old fates)) (sym (append-nil (fates_of acts))) ∙ serves.leads.says [] in
+    let left : (all (as_serving old (fates_of acts))).left ≡ as_serving new [] = ap (λ (r : Reply). r.left) said in
     record {
-      fates = fates;
+      acts = acts;
+      run = serves.leads.run;
       written = subst (Appends x y) (sym (ap (λ (r : Reply). r.text) said ∙ append-nil serves.text)) serves.written;
       left = left;
-      state = ap (λ (s : Serving). s.state) (sym left) ∙ follow reading (as_serving old fates) (pieces_of input);
+      carried = ap (λ (r : Reply). r.commands) said ∙ append-nil (carried_of acts);
+      asks = begins_as (kept_of acts) _ _ (ap (λ fates. (all (as_serving old fates)).commands) (sym (append-nil (unfailed (fates_of acts))))) (serves.leads.asks []);
+      state = ap (λ (s : Serving). s.state) (sym left) ∙ follow reading (as_serving old (fates_of acts)) (pieces_of input);
     }
 
 -- nothing is asked
-pub nothing_on : {D : Type 0} (reading : Reading) (rest : List ℕ) (s : SessionValue D) (o known : Option (List ℕ)) → known ≡ Some rest → ServesOn reading s (cut_at Nothing rest) o o s On known
+pub nothing_on : {D : Type 0} {on : sectors.Ghosts D} (reading : Reading) (rest : List ℕ) (s : SessionValue D) (o known : Option (List ℕ)) → known ≡ Some rest → ServesOn on reading s (cut_at Nothing rest) o o s On known
 nothing_on reading rest s o known is = line_served_on reading Nothing rest s s o o known refl is (serves_as s s silent (λ t. asked_reply reading t Nothing [] false) silent o o (λ fates. refl) (serves_nothing s silent o))
 
 -- ---- line by line
@@ -318,7 +317,7 @@ nothing_on reading rest s o known is = line_served_on reading Nothing rest s s o
 joined_split : (all front more behind rest : List Piece) → all ≡ front ++ behind → behind ≡ more ++ rest → all ≡ (front ++ more) ++ rest
 joined_split all front more behind rest first second = first ∙ ap (λ ps. front ++ ps) second ∙ sym (append_assoc front more rest)
 
-pub input_begun : {D : Type 0} (reading : Reading) (s : SessionValue D) (input : List ℕ) (o known : Option (List ℕ)) → known ≡ Some input → ServesOn reading s (pieces_of input) o o s On known
+pub input_begun : {D : Type 0} {on : sectors.Ghosts D} (reading : Reading) (s : SessionValue D) (input : List ℕ) (o known : Option (List ℕ)) → known ≡ Some input → ServesOn on reading s (pieces_of input) o o s On known
 input_begun reading s input o known is = record { left = input; is_known = is; front = []; split = refl; serves = serves_nothing s (λ t. served reading t (pieces_of input)) o }
 
 -- the next line is cut off what is left
@@ -326,9 +325,9 @@ cut_known : (a : Asked) (left : List ℕ) (known next : Option (List ℕ)) → k
 cut_known a left known None is cuts = absurd (subst (λ k. Cuts a k None) is cuts)
 cut_known a left known (Some rest) is cuts = (rest, refl, subst (λ k. Cuts a k (Some rest)) is cuts)
 
-module _ {D : Type 0} (reading : Reading) (old mid new : SessionValue D) (pieces : List Piece) (x y z : Option (List ℕ)) where
-  pub line_served : (a : Asked) (known next behind : Option (List ℕ)) (goes : Goes) → ServesOn reading old pieces x y mid On known → Cuts a known next
-      → ((rest : List ℕ) → next ≡ Some rest → ServesOn reading mid (cut_at a rest) y z new goes behind) → ServesOn reading old pieces x z new goes behind
+module _ {D : Type 0} {on : sectors.Ghosts D} (reading : Reading) (old mid new : SessionValue D) (pieces : List Piece) (x y z : Option (List ℕ)) where
+  pub line_served : (a : Asked) (known next behind : Option (List ℕ)) (goes : Goes) → ServesOn on reading old pieces x y mid On known → Cuts a known next
+      → ((rest : List ℕ) → next ≡ Some rest → ServesOn on reading mid (cut_at a rest) y z new goes behind) → ServesOn on reading old pieces x z new goes behind
   line_served a known next behind goes p cuts more =
       let cut = cut_known a p.left known next p.is_known cuts in
       let q = more cut.0 cut.1 in
@@ -338,21 +337,21 @@ module _ {D : Type 0} (reading : Reading) (old mid new : SessionValue D) (pieces
         front = p.front ++ q.front;
         split = joined_split pieces p.front q.front (pieces_of p.left) (pieces_behind goes q.left) p.split (cut.2 ∙ q.split);
         serves = serves_on old mid new (λ s. served reading s pieces) (λ s. served reading s (pieces_of p.left)) (goes_on reading goes q.left) x y z p.serves
-            (subst (λ ps. Serves mid (λ s. served reading s ps) y z new (goes_on reading goes q.left)) (sym cut.2) q.serves);
+            (subst (λ ps. Serves on mid (λ s. served reading s ps) y z new (goes_on reading goes q.left)) (sym cut.2) q.serves);
       }
 
   -- there was no further line
-  pub input_ended : (known : Option (List ℕ)) → pieces_of [] ≡ [] → ServesOn reading old pieces x y mid On known → IfSome known (λ left. left ≡ []) → Serves old (λ s. served reading s pieces) x y mid silent
+  pub input_ended : (known : Option (List ℕ)) → pieces_of [] ≡ [] → ServesOn on reading old pieces x y mid On known → IfSome known (λ left. left ≡ []) → Serves on old (λ s. served reading s pieces) x y mid silent
   input_ended known none p ended =
       let empty : p.left ≡ [] = subst (λ k. IfSome k (λ left. left ≡ [])) p.is_known ended in
       ended_serves reading old mid (λ s. served reading s pieces) x y
-      (subst (λ ps. Serves old (λ s. served reading s pieces) x y mid (λ s. served reading s ps)) (ap pieces_of empty ∙ none) p.serves)
+      (subst (λ ps. Serves on old (λ s. served reading s pieces) x y mid (λ s. served reading s ps)) (ap pieces_of empty ∙ none) p.serves)
 
 -- ---- cut short
 
 -- nothing was under way
-pub cut_between : {D : Type 0} (reading : Reading) (old mid : SessionValue D) (pieces front behind : List Piece) (x y : Option (List ℕ)) → pieces ≡ front ++ behind
-    → Serves old (λ s. served reading s pieces) x y mid (λ s. served reading s behind) → IsCutShort reading old pieces x y mid
+pub cut_between : {D : Type 0} {on : sectors.Ghosts D} (reading : Reading) (old mid : SessionValue D) (pieces front behind : List Piece) (x y : Option (List ℕ)) → pieces ≡ front ++ behind
+    → Serves on old (λ s. served reading s pieces) x y mid (λ s. served reading s behind) → IsCutShort on reading old pieces x y mid
 cut_between reading old mid pieces front behind x y split serves = record {
   counts = None;
   front = front;
@@ -373,12 +372,12 @@ cut_between reading old mid pieces front behind x y split serves = record {
 }
 
 -- nothing was served
-pub cut_at_once : {D : Type 0} (reading : Reading) (old : SessionValue D) (pieces : List Piece) (x : Option (List ℕ)) → IsCutShort reading old pieces x x old
+pub cut_at_once : {D : Type 0} {on : sectors.Ghosts D} (reading : Reading) (old : SessionValue D) (pieces : List Piece) (x : Option (List ℕ)) → IsCutShort on reading old pieces x x old
 cut_at_once reading old pieces x = cut_between reading old old pieces [] pieces x x refl (serves_nothing old (λ s. served reading s pieces) x)
 
 -- behind what was served
-cut_behind : {D : Type 0} (reading : Reading) (old mid new : SessionValue D) (pieces front behind : List Piece) (x y z : Option (List ℕ)) → pieces ≡ front ++ behind
-    → Serves old (λ s. served reading s pieces) x y mid (λ s. served reading s behind) → IsCutShort reading mid behind y z new → IsCutShort reading old pieces x z new
+cut_behind : {D : Type 0} {on : sectors.Ghosts D} (reading : Reading) (old mid new : SessionValue D) (pieces front behind : List Piece) (x y z : Option (List ℕ)) → pieces ≡ front ++ behind
+    → Serves on old (λ s. served reading s pieces) x y mid (λ s. served reading s behind) → IsCutShort on reading mid behind y z new → IsCutShort on reading old pieces x z new
 cut_behind reading old mid new pieces front behind x y z split serves c = record {
   counts = c.counts;
   front = front ++ c.front;
@@ -398,12 +397,12 @@ cut_behind reading old mid new pieces front behind x y z split serves c = record
   written = subst (Appends x z) (sym (append_assoc serves.text c.text (take c.len c.last))) (Appends-trans x y z serves.text (c.text ++ take c.len c.last) serves.written c.written);
 }
 
-module _ {D : Type 0} (reading : Reading) (old mid new : SessionValue D) (pieces : List Piece) (x y z : Option (List ℕ)) where
-  pub line_cut : (a : Asked) (known next : Option (List ℕ)) → ServesOn reading old pieces x y mid On known → Cuts a known next
-      → ((rest : List ℕ) → next ≡ Some rest → IsCutShort reading mid (cut_at a rest) y z new) → IsCutShort reading old pieces x z new
+module _ {D : Type 0} {on : sectors.Ghosts D} (reading : Reading) (old mid new : SessionValue D) (pieces : List Piece) (x y z : Option (List ℕ)) where
+  pub line_cut : (a : Asked) (known next : Option (List ℕ)) → ServesOn on reading old pieces x y mid On known → Cuts a known next
+      → ((rest : List ℕ) → next ≡ Some rest → IsCutShort on reading mid (cut_at a rest) y z new) → IsCutShort on reading old pieces x z new
   line_cut a known next p cuts more =
       let cut = cut_known a p.left known next p.is_known cuts in
-      cut_behind reading old mid new pieces p.front (pieces_of p.left) x y z p.split p.serves (subst (λ ps. IsCutShort reading mid ps y z new) (sym cut.2) (more cut.0 cut.1))
+      cut_behind reading old mid new pieces p.front (pieces_of p.left) x y z p.split p.serves (subst (λ ps. IsCutShort on reading mid ps y z new) (sym cut.2) (more cut.0 cut.1))
 
 -- ---- causes
 

@@ -1,8 +1,11 @@
+pub mod ActLemmas
 pub mod AskedLemmas
+pub mod CauseLemmas
 pub mod CutLemmas
 pub mod InputLemmas
 pub mod LastLineLemmas
 pub mod ReplyLemmas
 pub mod ServingLemmas
+pub mod StoppedLemmas
 pub mod StreamLemmas
 pub mod StrictLemmas

@@ -1,5 +1,5 @@
 -- What is answered to loads, and to lines that change nothing.
-use Rattle.std.proofs.Common.{◌≡◌, ◌∙◌, ℕ, Bool, true, false, List, [], ◌∷◌, ◌++◌, inl, inr, None, Result, Ok, Err, refl, sym, ap, subst, append-nil, arith}
+use Rattle.std.proofs.Common.{◌≡◌, ◌∙◌, ℕ, Bool, true, false, List, [], ◌∷◌, ◌++◌, inl, inr, Option, Some, None, Result, Ok, Err, refl, sym, ap, subst, append-nil, arith}
 use Rattle.plan_types.specs.Instance.{Instance}
 use Rattle.instance_read.specs.Faults.{no_memory}
 use Rattle.instance_read.specs.declared.faults.ReadFault.{ReadFault}
@@ -22,8 +22,11 @@ use Rattle.std.proofs.lemmas.Bool.{eqb-false, eqb-true}
 use Rattle.command_text.specs.declared.answers.Answer.{Answer}
 use Rattle.command_text.specs.declared.answers.Answer.TheVariants as answer
 use Rattle.recover.specs.Sessions.{SessionValue}
+use Rattle.command_serving.specs.Acts.{Act, Text, fates_of}
 use Rattle.command_serving.specs.Served.{Tells, as_serving}
 use Rattle.command_serving.specs.Serving.{HasNoJob, load_reply, silent}
+use Rattle.command_serving.proofs.ActLemmas.{begins_at_all}
+use Rattle.sector_disk.specs.declared.sectors.Sectors as sectors
 use Rattle.command_serving.proofs.ServingLemmas.{answered_is, carried_tried, tells_as}
 
 -- ---- what a session says that is not broken, or is
@@ -34,30 +37,45 @@ when_broken s r e = rw e refl
 pub when_whole : (s : Serving) (r : Reply) → s.is_broken ≡ false → unless_broken s r ≡ r
 when_whole s r e = rw e refl
 
--- an answer that leaves the session as it is, after these fates
-pub tells_fate : {D : Type 0} (s : SessionValue D) (f : Serving → Reply) (fates : List Fate) (a : Answer) → ((later : List Fate) → f (as_serving s (fates ++ later)) ≡ answered (as_serving s later) a)
-    → Tells s f (line (answer_text a)) s silent
-tells_fate s f fates a says = record { fates = fates; commands = []; says = λ later. says later ∙ answered_is (as_serving s later) a; state = refl; few = omega arith }
+-- a text for which there was memory or not, or none
+abbrev pub text_acts : Option Bool → List Act
+text_acts None = []
+text_acts (Some some) = Text some ∷ []
 
--- a text, and `ok` behind it, after these fates
-tells_text_after : {D : Type 0} (s : SessionValue D) (f : Serving → Reply) (fates : List Fate) (text : List ℕ) → ((later : List Fate) → f (as_serving s (fates ++ later)) ≡ with_text text (answered (as_serving s later) answer.Ok))
-    → Tells s f (text ++ line (answer_text answer.Ok)) s silent
-tells_text_after s f fates text says = record {
-  fates = fates;
-  commands = [];
+-- an answer that leaves the session as it is
+pub tells_fate : {D : Type 0} {on : sectors.Ghosts D} (s : SessionValue D) (f : Serving → Reply) (text : Option Bool) (a : Answer) → ((later : List Fate) → f (as_serving s (fates_of (text_acts text) ++ later)) ≡ answered (as_serving s later) a)
+    → Tells on s f (line (answer_text a)) s silent
+tells_fate s f None a says = record { acts = []; run = refl; says = λ later. says later ∙ answered_is (as_serving s later) a; asks = λ later. begins_at_all _; state = refl; few = omega arith }
+tells_fate s f (Some some) a says = record { acts = Text some ∷ []; run = refl; says = λ later. says later ∙ answered_is (as_serving s later) a; asks = λ later. begins_at_all _; state = refl; few = omega arith }
+
+-- a text, and `ok` behind it
+tells_text_after : {D : Type 0} {on : sectors.Ghosts D} (s : SessionValue D) (f : Serving → Reply) (made : Option Bool) (text : List ℕ) → ((later : List Fate) → f (as_serving s (fates_of (text_acts made) ++ later)) ≡ with_text text (answered (as_serving s later) answer.Ok))
+    → Tells on s f (text ++ line (answer_text answer.Ok)) s silent
+tells_text_after s f None text says = record {
+  acts = [];
+  run = refl;
   says = λ later. says later ∙ ap (λ (t : List ℕ). record { text = t; commands = []; left = as_serving s later }) (sym (append-nil (text ++ line (answer_text answer.Ok))));
+  asks = λ later. begins_at_all _;
+  state = refl;
+  few = omega arith;
+}
+tells_text_after s f (Some some) text says = record {
+  acts = Text some ∷ [];
+  run = refl;
+  says = λ later. says later ∙ ap (λ (t : List ℕ). record { text = t; commands = []; left = as_serving s later }) (sym (append-nil (text ++ line (answer_text answer.Ok))));
+  asks = λ later. begins_at_all _;
   state = refl;
   few = omega arith;
 }
 
-pub tells_text : {D : Type 0} (s : SessionValue D) (f : Serving → Reply) (text : List ℕ) → ((later : List Fate) → f (as_serving s (Done ∷ later)) ≡ with_text text (answered (as_serving s later) answer.Ok))
-    → Tells s f (text ++ line (answer_text answer.Ok)) s silent
-tells_text s f text says = tells_text_after s f (Done ∷ []) text says
+pub tells_text : {D : Type 0} {on : sectors.Ghosts D} (s : SessionValue D) (f : Serving → Reply) (text : List ℕ) → ((later : List Fate) → f (as_serving s (Done ∷ later)) ≡ with_text text (answered (as_serving s later) answer.Ok))
+    → Tells on s f (text ++ line (answer_text answer.Ok)) s silent
+tells_text s f text says = tells_text_after s f (Some true) text says
 
 -- a line that is no try
-pub tells_stated : {D : Type 0} (s : SessionValue D) (f : Serving → Reply) (text : List ℕ) → ((later : List Fate) → f (as_serving s later) ≡ stated (as_serving s later) text)
-    → Tells s f (line text ++ line (answer_text answer.Ok)) s silent
-tells_stated s f text says = tells_text_after s f [] (line text) says
+pub tells_stated : {D : Type 0} {on : sectors.Ghosts D} (s : SessionValue D) (f : Serving → Reply) (text : List ℕ) → ((later : List Fate) → f (as_serving s later) ≡ stated (as_serving s later) text)
+    → Tells on s f (line text ++ line (answer_text answer.Ok)) s silent
+tells_stated s f text says = tells_text_after s f None (line text) says
 
 -- ---- a session without a job
 
@@ -88,79 +106,79 @@ by_fates state b (Failed ∷ fates) p seed = refl
 load_is : (s : Serving) (p : Instance) (seed : ℕ) → s.is_broken ≡ false → load (next_fate s.fates) s seed (Ok p) ≡ plain s (command.Load p seed)
 load_is s p seed e = by_fates s.state s.is_broken s.fates p seed ∙ sym (carried_tried s (command.Load p seed) (λ t. answered t answer.Ok) e (load_accepted s.state p seed))
 
-pub load_spelled : {D : Type 0} (old new : SessionValue D) (p : Instance) (seed : ℕ) (text : List ℕ) (found : Result Instance ReadFault) → old.is_broken ≡ false → Ok p ≡ found
-    → Tells old (λ s. plain s (command.Load p seed)) text new silent → Tells old (load_reply seed found) text new silent
+pub load_spelled : {D : Type 0} {on : sectors.Ghosts D} (old new : SessionValue D) (p : Instance) (seed : ℕ) (text : List ℕ) (found : Result Instance ReadFault) → old.is_broken ≡ false → Ok p ≡ found
+    → Tells on old (λ s. plain s (command.Load p seed)) text new silent → Tells on old (load_reply seed found) text new silent
 load_spelled old new p seed text found e is leads =
     tells_as old new (λ s. plain s (command.Load p seed)) (load_reply seed found) silent text
     (λ fates. when_whole (as_serving old fates) (load (next_fate fates) (as_serving old fates) seed found) e
     ∙ ap (load (next_fate fates) (as_serving old fates) seed) (sym is) ∙ load_is (as_serving old fates) p seed e) leads
 
-pub load_faulty : {D : Type 0} (old : SessionValue D) (seed : ℕ) (fault : ReadFault) (found : Result Instance ReadFault) → old.is_broken ≡ false → Err fault ≡ found
-    → Tells old (load_reply seed found) (line (answer_text (answer.Read fault))) old silent
+pub load_faulty : {D : Type 0} {on : sectors.Ghosts D} (old : SessionValue D) (seed : ℕ) (fault : ReadFault) (found : Result Instance ReadFault) → old.is_broken ≡ false → Err fault ≡ found
+    → Tells on old (load_reply seed found) (line (answer_text (answer.Read fault))) old silent
 load_faulty old seed fault found e is =
-    tells_fate old (load_reply seed found) (Done ∷ []) (answer.Read fault)
+    tells_fate old (load_reply seed found) (Some true) (answer.Read fault)
     (λ later. when_whole (as_serving old (Done ∷ later)) (load Done (as_serving old (Done ∷ later)) seed found) e ∙ ap (load Done (as_serving old (Done ∷ later)) seed) (sym is))
 
-pub load_dropped : {D : Type 0} (old : SessionValue D) (seed : ℕ) (found : Result Instance ReadFault) → old.is_broken ≡ false
-    → Tells old (load_reply seed found) (line (answer_text (answer.Refused core.OutOfMemory))) old silent
+pub load_dropped : {D : Type 0} {on : sectors.Ghosts D} (old : SessionValue D) (seed : ℕ) (found : Result Instance ReadFault) → old.is_broken ≡ false
+    → Tells on old (load_reply seed found) (line (answer_text (answer.Refused core.OutOfMemory))) old silent
 load_dropped old seed found e =
-    tells_fate old (load_reply seed found) (NoMemory ∷ []) (answer.Refused core.OutOfMemory)
+    tells_fate old (load_reply seed found) (Some false) (answer.Refused core.OutOfMemory)
     (λ later. when_whole (as_serving old (NoMemory ∷ later)) (load NoMemory (as_serving old (NoMemory ∷ later)) seed found) e)
 
-pub load_broken : {D : Type 0} (old : SessionValue D) (seed : ℕ) (found : Result Instance ReadFault) → old.is_broken ≡ true
-    → Tells old (load_reply seed found) (line (answer_text answer.Broken)) old silent
+pub load_broken : {D : Type 0} {on : sectors.Ghosts D} (old : SessionValue D) (seed : ℕ) (found : Result Instance ReadFault) → old.is_broken ≡ true
+    → Tells on old (load_reply seed found) (line (answer_text answer.Broken)) old silent
 load_broken old seed found e =
-    tells_fate old (load_reply seed found) [] answer.Broken (λ later. when_broken (as_serving old later) (load (next_fate later) (as_serving old later) seed found) e)
+    tells_fate old (load_reply seed found) None answer.Broken (λ later. when_broken (as_serving old later) (load (next_fate later) (as_serving old later) seed found) e)
 
 -- a text that was read as faulty, or not for want of memory
-pub loaded_err : {D : Type 0} (old : SessionValue D) (seed : ℕ) (fault : ReadFault) (found : Result Instance ReadFault) → old.is_broken ≡ false → IsUnlessMemory (Err fault) found
-    → Tells old (load_reply seed found) (line (answer_text (answer.Read fault))) old silent
+pub loaded_err : {D : Type 0} {on : sectors.Ghosts D} (old : SessionValue D) (seed : ℕ) (fault : ReadFault) (found : Result Instance ReadFault) → old.is_broken ≡ false → IsUnlessMemory (Err fault) found
+    → Tells on old (load_reply seed found) (line (answer_text (answer.Read fault))) old silent
 loaded_err old seed fault found e (inl is) = load_faulty old seed fault found e is
-loaded_err old seed fault found e (inr none) =
+loaded_err {on = on} old seed fault found e (inr none) =
     let is : fault ≡ no_memory = cc in
-    subst (λ f. Tells old (load_reply seed found) (line (answer_text (answer.Read f))) old silent) (sym is) (load_dropped old seed found e)
+    subst (λ f. Tells on old (load_reply seed found) (line (answer_text (answer.Read f))) old silent) (sym is) (load_dropped old seed found e)
 
 -- a text that was read
-pub loaded_ok : {D : Type 0} (old new : SessionValue D) (p : Instance) (seed : ℕ) (text : List ℕ) (found : Result Instance ReadFault) → old.is_broken ≡ false → IsUnlessMemory (Ok p) found
-    → Tells old (λ s. plain s (command.Load p seed)) text new silent → Tells old (load_reply seed found) text new silent
+pub loaded_ok : {D : Type 0} {on : sectors.Ghosts D} (old new : SessionValue D) (p : Instance) (seed : ℕ) (text : List ℕ) (found : Result Instance ReadFault) → old.is_broken ≡ false → IsUnlessMemory (Ok p) found
+    → Tells on old (λ s. plain s (command.Load p seed)) text new silent → Tells on old (load_reply seed found) text new silent
 loaded_ok old new p seed text found e (inl is) leads = load_spelled old new p seed text found e is leads
 loaded_ok old new p seed text found e (inr none) leads = absurd cc
 
 -- ---- a text to tell
 
-pub tells_none : {D : Type 0} (g : Serving → State → Reply) (s : SessionValue D) (a : Answer) → ((t : Serving) → g t Empty ≡ answered t (answer.Refused core.NoInstance))
-    → HasNoJob s.is_broken s.state a → Tells s (λ t. unless_broken t (g t t.state)) (line (answer_text a)) s silent
-tells_none g s a empty none = tells_fate s (λ t. unless_broken t (g t t.state)) [] a (λ later. no_job g (as_serving s later) a empty none)
+pub tells_none : {D : Type 0} {on : sectors.Ghosts D} (g : Serving → State → Reply) (s : SessionValue D) (a : Answer) → ((t : Serving) → g t Empty ≡ answered t (answer.Refused core.NoInstance))
+    → HasNoJob s.is_broken s.state a → Tells on s (λ t. unless_broken t (g t t.state)) (line (answer_text a)) s silent
+tells_none g s a empty none = tells_fate s (λ t. unless_broken t (g t t.state)) None a (λ later. no_job g (as_serving s later) a empty none)
 
-module _ {D : Type 0} (s : SessionValue D) (j : JobValue) (whole : s.is_broken ≡ false) (is : s.state ≡ Loaded j) where
-  pub show_done : Tells s (λ t. unless_broken t (shown t t.state)) (show_text j ++ line (answer_text answer.Ok)) s silent
+planned_is : (j : JobValue) (t : Serving) → (unplanned_count j.problem j.plan == 0) ≡ true → printed t (Loaded j) ≡ told (next_fate t.fates) (tried t) (print_text j)
+planned_is j t e = rw e refl
+
+unplanned_is : (j : JobValue) (t : Serving) → (unplanned_count j.problem j.plan == 0) ≡ false → printed t (Loaded j) ≡ answered t answer.Unplanned
+unplanned_is j t e = rw e refl
+
+module _ {D : Type 0} {on : sectors.Ghosts D} (s : SessionValue D) (j : JobValue) (whole : s.is_broken ≡ false) (is : s.state ≡ Loaded j) where
+  pub show_done : Tells on s (λ t. unless_broken t (shown t t.state)) (show_text j ++ line (answer_text answer.Ok)) s silent
   show_done = tells_text s (λ t. unless_broken t (shown t t.state)) (show_text j) (λ later. with_job shown (as_serving s (Done ∷ later)) j whole is)
 
-  pub show_unmade : Tells s (λ t. unless_broken t (shown t t.state)) (line (answer_text (answer.Refused core.OutOfMemory))) s silent
-  show_unmade = tells_fate s (λ t. unless_broken t (shown t t.state)) (NoMemory ∷ []) (answer.Refused core.OutOfMemory) (λ later. with_job shown (as_serving s (NoMemory ∷ later)) j whole is)
+  pub show_unmade : Tells on s (λ t. unless_broken t (shown t t.state)) (line (answer_text (answer.Refused core.OutOfMemory))) s silent
+  show_unmade = tells_fate s (λ t. unless_broken t (shown t t.state)) (Some false) (answer.Refused core.OutOfMemory) (λ later. with_job shown (as_serving s (NoMemory ∷ later)) j whole is)
 
-  pub next_done : Tells s (λ t. unless_broken t (next_stated t t.state)) (line (next_text j) ++ line (answer_text answer.Ok)) s silent
+  pub next_done : Tells on s (λ t. unless_broken t (next_stated t t.state)) (line (next_text j) ++ line (answer_text answer.Ok)) s silent
   next_done = tells_stated s (λ t. unless_broken t (next_stated t t.state)) (next_text j) (λ later. with_job next_stated (as_serving s later) j whole is)
 
-  planned_is : (t : Serving) → (unplanned_count j.problem j.plan == 0) ≡ true → printed t (Loaded j) ≡ told (next_fate t.fates) (tried t) (print_text j)
-  planned_is t e = rw e refl
-
-  unplanned_is : (t : Serving) → (unplanned_count j.problem j.plan == 0) ≡ false → printed t (Loaded j) ≡ answered t answer.Unplanned
-  unplanned_is t e = rw e refl
-
-  pub print_done : (unplanned_count j.problem j.plan == 0) ≡ true → Tells s (λ t. unless_broken t (printed t t.state)) (print_text j ++ line (answer_text answer.Ok)) s silent
+  pub print_done : (unplanned_count j.problem j.plan == 0) ≡ true → Tells on s (λ t. unless_broken t (printed t t.state)) (print_text j ++ line (answer_text answer.Ok)) s silent
   print_done e =
       tells_text s (λ t. unless_broken t (printed t t.state)) (print_text j)
-      (λ later. with_job printed (as_serving s (Done ∷ later)) j whole is ∙ planned_is (as_serving s (Done ∷ later)) e)
+      (λ later. with_job printed (as_serving s (Done ∷ later)) j whole is ∙ planned_is j (as_serving s (Done ∷ later)) e)
 
-  pub print_unmade : (unplanned_count j.problem j.plan == 0) ≡ true → Tells s (λ t. unless_broken t (printed t t.state)) (line (answer_text (answer.Refused core.OutOfMemory))) s silent
+  pub print_unmade : (unplanned_count j.problem j.plan == 0) ≡ true → Tells on s (λ t. unless_broken t (printed t t.state)) (line (answer_text (answer.Refused core.OutOfMemory))) s silent
   print_unmade e =
-      tells_fate s (λ t. unless_broken t (printed t t.state)) (NoMemory ∷ []) (answer.Refused core.OutOfMemory)
-      (λ later. with_job printed (as_serving s (NoMemory ∷ later)) j whole is ∙ planned_is (as_serving s (NoMemory ∷ later)) e)
+      tells_fate s (λ t. unless_broken t (printed t t.state)) (Some false) (answer.Refused core.OutOfMemory)
+      (λ later. with_job printed (as_serving s (NoMemory ∷ later)) j whole is ∙ planned_is j (as_serving s (NoMemory ∷ later)) e)
 
-  pub print_unplanned : (unplanned_count j.problem j.plan == 0) ≡ false → Tells s (λ t. unless_broken t (printed t t.state)) (line (answer_text answer.Unplanned)) s silent
+  pub print_unplanned : (unplanned_count j.problem j.plan == 0) ≡ false → Tells on s (λ t. unless_broken t (printed t t.state)) (line (answer_text answer.Unplanned)) s silent
   print_unplanned e =
-      tells_fate s (λ t. unless_broken t (printed t t.state)) [] answer.Unplanned (λ later. with_job printed (as_serving s later) j whole is ∙ unplanned_is (as_serving s later) e)
+      tells_fate s (λ t. unless_broken t (printed t t.state)) None answer.Unplanned (λ later. with_job printed (as_serving s later) j whole is ∙ unplanned_is j (as_serving s later) e)
 
 -- all are planned where the text was made or memory ran out, and some is not where that is told
 module _ {T : Type 0} (n : ℕ) (r : Result T WriteSolFault) (some : 0 < n → IsErrOf r (write.Unplanned n)) (none : n ≡ 0 → IsOkUnless r write.OutOfMemory) where

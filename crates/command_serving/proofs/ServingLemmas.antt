@@ -16,14 +16,18 @@ use Rattle.command_text.specs.Answering.{Spent as SpentFate}
 use Rattle.command_text.specs.Answers.{answer_text, line}
 use Rattle.command_text.specs.declared.answers.Answer.{Answer}
 use Rattle.command_text.specs.declared.answers.Answer.TheVariants as answer
-use Rattle.recover.specs.Applying.{IsAnswer, IsCutOff, IsDone, Makes, denial, spent}
+use Rattle.recover.specs.Applying.{IsAnswer, IsCutOff, IsDone, spent}
 use Rattle.recover.specs.Sessions.{SessionValue}
 use Rattle.recover.specs.declared.denials.Denial.{Denial}
 use Rattle.recover.specs.declared.denials.Denial.TheVariants.{Broken, Core, DeviceFault, OutOfMemory, Spent}
 use Rattle.command_core.specs.Runs.{after}
 use Rattle.command_serving.specs.Streams.{Puts}
+use Rattle.command_serving.specs.Acts.{Applied, BeginsWith, carried_of, fates_of, kept_of, unfailed}
 use Rattle.command_serving.specs.Served.{Leads, Tells, as_serving, preceded}
-use Rattle.command_serving.specs.Serving.{Answers, Serves, denied, silent, still_searched}
+use Rattle.command_serving.specs.Serving.{Answers, IsAppliedOn, Serves, denied, silent, still_searched}
+use Rattle.command_serving.proofs.ActLemmas.{asks_both, begins_as, begins_at_all, carried_both, fates_before, run_both}
+use Rattle.recover.specs.declared.replies.Reply.{Reply as SessionReply}
+use Rattle.sector_disk.specs.declared.sectors.Sectors as sectors
 
 -- ---- replies that follow one another
 
@@ -35,29 +39,31 @@ after_both : (s : State) (cs ds : List Command) → after s (cs ++ ds) ≡ after
 after_both s [] ds = refl
 after_both s (c ∷ cs) ds = after_both (effect s c) cs ds
 
-pub leads_nothing : {D : Type 0} (s : SessionValue D) (f : Serving → Reply) → Leads s f [] s f
-leads_nothing s f = record { fates = []; commands = []; says = λ later. refl; state = refl }
+pub leads_nothing : {D : Type 0} {on : sectors.Ghosts D} (s : SessionValue D) (f : Serving → Reply) → Leads on s f [] s f
+leads_nothing s f = record { acts = []; run = refl; says = λ later. refl; asks = λ later. begins_at_all _; state = refl }
 
-pub tells_nothing : {D : Type 0} (s : SessionValue D) (f : Serving → Reply) → Tells s f [] s f
-tells_nothing s f = record { fates = []; commands = []; says = λ later. refl; state = refl; few = omega arith }
+pub tells_nothing : {D : Type 0} {on : sectors.Ghosts D} (s : SessionValue D) (f : Serving → Reply) → Tells on s f [] s f
+tells_nothing s f = record { acts = []; run = refl; says = λ later. refl; asks = λ later. begins_at_all _; state = refl; few = omega arith }
 
-pub leads_told : {D : Type 0} (a b : SessionValue D) (f g : Serving → Reply) (t : List ℕ) → Tells a f t b g → Leads a f t b g
-leads_told a b f g t p = record { fates = p.fates; commands = p.commands; says = p.says; state = p.state }
+pub leads_told : {D : Type 0} {on : sectors.Ghosts D} (a b : SessionValue D) (f g : Serving → Reply) (t : List ℕ) → Tells on a f t b g → Leads on a f t b g
+leads_told a b f g t p = record { acts = p.acts; run = p.run; says = p.says; asks = p.asks; state = p.state }
 
-pub leads_on : {D : Type 0} (a b c : SessionValue D) (f g h : Serving → Reply) (t u : List ℕ) → Leads a f t b g → Leads b g u c h → Leads a f (t ++ u) c h
-leads_on a b c f g h t u p q = record {
-  fates = p.fates ++ q.fates;
-  commands = p.commands ++ q.commands;
+pub leads_on : {D : Type 0} {on : sectors.Ghosts D} (a b c : SessionValue D) (f g h : Serving → Reply) (t u : List ℕ) → Leads on a f t b g → Leads on b g u c h → Leads on a f (t ++ u) c h
+leads_on {on = on} a b c f g h t u p q = record {
+  acts = p.acts ++ q.acts;
+  run = run_both on a b c p.acts q.acts p.run q.run;
   says = λ later.
-      ap (λ fates. f (as_serving a fates)) (append_assoc p.fates q.fates later) ∙ p.says (q.fates ++ later) ∙ ap (preceded t p.commands) (q.says later)
-      ∙ preceded_twice t u p.commands q.commands (h (as_serving c later));
-  state = q.state ∙ ap (λ s. after s q.commands) p.state ∙ sym (after_both a.state p.commands q.commands);
+      ap (λ fates. f (as_serving a fates)) (fates_before p.acts q.acts later) ∙ p.says (fates_of q.acts ++ later) ∙ ap (preceded t (carried_of p.acts)) (q.says later)
+      ∙ preceded_twice t u (carried_of p.acts) (carried_of q.acts) (h (as_serving c later))
+      ∙ ap (λ cs. preceded (t ++ u) cs (h (as_serving c later))) (sym (carried_both p.acts q.acts));
+  asks = asks_both p.acts q.acts a b f g t p.says p.asks q.asks;
+  state = q.state ∙ ap (λ s. after s (carried_of q.acts)) p.state ∙ sym (after_both a.state (carried_of p.acts) (carried_of q.acts)) ∙ ap (after a.state) (sym (carried_both p.acts q.acts));
 }
 
-pub serves_nothing : {D : Type 0} (s : SessionValue D) (f : Serving → Reply) (o : Option (List ℕ)) → Serves s f o o s f
+pub serves_nothing : {D : Type 0} {on : sectors.Ghosts D} (s : SessionValue D) (f : Serving → Reply) (o : Option (List ℕ)) → Serves on s f o o s f
 serves_nothing s f o = record { text = []; leads = leads_nothing s f; written = Appends-nil o }
 
-pub serves_on : {D : Type 0} (a b c : SessionValue D) (f g h : Serving → Reply) (x y z : Option (List ℕ)) → Serves a f x y b g → Serves b g y z c h → Serves a f x z c h
+pub serves_on : {D : Type 0} {on : sectors.Ghosts D} (a b c : SessionValue D) (f g h : Serving → Reply) (x y z : Option (List ℕ)) → Serves on a f x y b g → Serves on b g y z c h → Serves on a f x z c h
 serves_on a b c f g h x y z p q = record {
   text = p.text ++ q.text;
   leads = leads_on a b c f g h p.text q.text p.leads q.leads;
@@ -65,28 +71,48 @@ serves_on a b c f g h x y z p q = record {
 }
 
 -- the same replies
-pub leads_as : {D : Type 0} (a b : SessionValue D) (f f' g : Serving → Reply) (t : List ℕ) → ((fates : List Fate) → f' (as_serving a fates) ≡ f (as_serving a fates)) → Leads a f t b g → Leads a f' t b g
-leads_as a b f f' g t same p = record { fates = p.fates; commands = p.commands; says = λ later. same (p.fates ++ later) ∙ p.says later; state = p.state }
+pub leads_as : {D : Type 0} {on : sectors.Ghosts D} (a b : SessionValue D) (f f' g : Serving → Reply) (t : List ℕ) → ((fates : List Fate) → f' (as_serving a fates) ≡ f (as_serving a fates)) → Leads on a f t b g → Leads on a f' t b g
+leads_as a b f f' g t same p = record {
+  acts = p.acts;
+  run = p.run;
+  says = λ later. same (fates_of p.acts ++ later) ∙ p.says later;
+  asks = λ later. begins_as (kept_of p.acts) _ _ (ap (λ (r : Reply). r.commands) (same (unfailed (fates_of p.acts) ++ later))) (p.asks later);
+  state = p.state;
+}
 
-pub tells_as : {D : Type 0} (a b : SessionValue D) (f f' g : Serving → Reply) (t : List ℕ) → ((fates : List Fate) → f' (as_serving a fates) ≡ f (as_serving a fates)) → Tells a f t b g → Tells a f' t b g
-tells_as a b f f' g t same p = record { fates = p.fates; commands = p.commands; says = λ later. same (p.fates ++ later) ∙ p.says later; state = p.state; few = p.few }
+pub tells_as : {D : Type 0} {on : sectors.Ghosts D} (a b : SessionValue D) (f f' g : Serving → Reply) (t : List ℕ) → ((fates : List Fate) → f' (as_serving a fates) ≡ f (as_serving a fates)) → Tells on a f t b g → Tells on a f' t b g
+tells_as a b f f' g t same p = record {
+  acts = p.acts;
+  run = p.run;
+  says = λ later. same (fates_of p.acts ++ later) ∙ p.says later;
+  asks = λ later. begins_as (kept_of p.acts) _ _ (ap (λ (r : Reply). r.commands) (same (unfailed (fates_of p.acts) ++ later))) (p.asks later);
+  state = p.state;
+  few = p.few;
+}
 
-pub serves_as : {D : Type 0} (a b : SessionValue D) (f f' g : Serving → Reply) (x y : Option (List ℕ)) → ((fates : List Fate) → f' (as_serving a fates) ≡ f (as_serving a fates)) → Serves a f x y b g → Serves a f' x y b g
+pub serves_as : {D : Type 0} {on : sectors.Ghosts D} (a b : SessionValue D) (f f' g : Serving → Reply) (x y : Option (List ℕ)) → ((fates : List Fate) → f' (as_serving a fates) ≡ f (as_serving a fates)) → Serves on a f x y b g → Serves on a f' x y b g
 serves_as a b f f' g x y same p = record { text = p.text; leads = leads_as a b f f' g p.text same p.leads; written = p.written }
+
+-- what is answered behind it
+pub leads_to : {D : Type 0} {on : sectors.Ghosts D} (a b : SessionValue D) (f g g' : Serving → Reply) (t : List ℕ) → ((fates : List Fate) → g (as_serving b fates) ≡ g' (as_serving b fates)) → Leads on a f t b g → Leads on a f t b g'
+leads_to a b f g g' t same p = record { acts = p.acts; run = p.run; says = λ later. p.says later ∙ ap (preceded t (carried_of p.acts)) (same later); asks = p.asks; state = p.state }
+
+pub tells_to : {D : Type 0} {on : sectors.Ghosts D} (a b : SessionValue D) (f g g' : Serving → Reply) (t : List ℕ) → ((fates : List Fate) → g (as_serving b fates) ≡ g' (as_serving b fates)) → Tells on a f t b g → Tells on a f t b g'
+tells_to a b f g g' t same p = record { acts = p.acts; run = p.run; says = λ later. p.says later ∙ ap (preceded t (carried_of p.acts)) (same later); asks = p.asks; state = p.state; few = p.few }
 
 -- ---- what was written of an answer
 
-pub serves_told : {D : Type 0} (a b : SessionValue D) (f g : Serving → Reply) (t : List ℕ) (x y : Option (List ℕ)) → Tells a f t b g → Appends x y t → Serves a f x y b g
+pub serves_told : {D : Type 0} {on : sectors.Ghosts D} (a b : SessionValue D) (f g : Serving → Reply) (t : List ℕ) (x y : Option (List ℕ)) → Tells on a f t b g → Appends x y t → Serves on a f x y b g
 serves_told a b f g t x y p written = record { text = t; leads = leads_told a b f g t p; written = written }
 
-pub answers_told : {D T E : Type 0} (r : Result T E) (a b : SessionValue D) (f : Serving → Reply) (later : Option (List ℕ)) (t : List ℕ) (x y : Option (List ℕ)) → Tells a f t b (still_searched later) → Puts x y r t
-    → Answers r a f x y b (still_searched later)
+pub answers_told : {D T E : Type 0} {on : sectors.Ghosts D} (r : Result T E) (a b : SessionValue D) (f : Serving → Reply) (later : Option (List ℕ)) (t : List ℕ) (x y : Option (List ℕ)) → Tells on a f t b (still_searched later) → Puts x y r t
+    → Answers on r a f x y b (still_searched later)
 answers_told (Ok done) a b f later t x y p written = serves_told a b f (still_searched later) t x y p written
 answers_told (Err fault) a b f later t x y p part = inl (record { last = t; later = later; tells = p; len = part.len; written = part.written })
 
 -- behind what a search has told so far
-pub answers_behind : {D T E : Type 0} (r : Result T E) (a b c : SessionValue D) (f : Serving → Reply) (later : Option (List ℕ)) (counts t : List ℕ) (x y z : Option (List ℕ)) → Serves a f x y b (λ s. searched s counts)
-    → Tells b (λ s. searched s counts) t c (still_searched later) → Puts y z r t → Answers r a f x z c (still_searched later)
+pub answers_behind : {D T E : Type 0} {on : sectors.Ghosts D} (r : Result T E) (a b c : SessionValue D) (f : Serving → Reply) (later : Option (List ℕ)) (counts t : List ℕ) (x y z : Option (List ℕ)) → Serves on a f x y b (λ s. searched s counts)
+    → Tells on b (λ s. searched s counts) t c (still_searched later) → Puts y z r t → Answers on r a f x z c (still_searched later)
 answers_behind (Ok done) a b c f later counts t x y z p q written =
     serves_on a b c f (λ s. searched s counts) (still_searched later) x y z p (serves_told b c (λ s. searched s counts) (still_searched later) t y z q written)
 answers_behind (Err fault) a b c f later counts t x y z p q part = inr (record {
@@ -101,10 +127,11 @@ answers_behind (Err fault) a b c f later counts t x y z p q part = inr (record {
   written = Appends-trans x y z p.text (take part.len t) p.written part.written;
 })
 
-pub answers_as : {D T E : Type 0} (r : Result T E) (a b : SessionValue D) (f f' g : Serving → Reply) (x y : Option (List ℕ)) → ((fates : List Fate) → f' (as_serving a fates) ≡ f (as_serving a fates)) → Answers r a f x y b g → Answers r a f' x y b g
-answers_as (Ok done) a b f f' g x y same p = serves_as a b f f' g x y same p
-answers_as (Err fault) a b f f' g x y same (inl p) = inl (record { last = p.last; later = p.later; tells = tells_as a b f f' (still_searched p.later) p.last same p.tells; len = p.len; written = p.written })
-answers_as (Err fault) a b f f' g x y same (inr p) = inr (record {
+pub answers_as : {D T E : Type 0} (on : sectors.Ghosts D) (r : Result T E) (a b : SessionValue D) (f f' g : Serving → Reply) (x y : Option (List ℕ)) → ((fates : List Fate) → f' (as_serving a fates) ≡ f (as_serving a fates)) → Answers on r a f x y b g
+    → Answers on r a f' x y b g
+answers_as on (Ok done) a b f f' g x y same p = serves_as a b f f' g x y same p
+answers_as on (Err fault) a b f f' g x y same (inl p) = inl (record { last = p.last; later = p.later; tells = tells_as a b f f' (still_searched p.later) p.last same p.tells; len = p.len; written = p.written })
+answers_as on (Err fault) a b f f' g x y same (inr p) = inr (record {
   counts = p.counts;
   told = p.told;
   text = p.text;
@@ -121,8 +148,8 @@ answers_as (Err fault) a b f f' g x y same (inr p) = inr (record {
 pub answered_is : (s : Serving) (a : Answer) → answered s a ≡ preceded (line (answer_text a)) [] (silent s)
 answered_is s a = ap (λ (x : List ℕ). record { text = x; commands = []; left = s }) (sym (append-nil (line (answer_text a))))
 
-pub tells_answer : {D : Type 0} (s : SessionValue D) (a : Answer) → Tells s (λ t. answered t a) (line (answer_text a)) s silent
-tells_answer s a = record { fates = []; commands = []; says = λ later. answered_is (as_serving s later) a; state = refl; few = omega arith }
+pub tells_answer : {D : Type 0} {on : sectors.Ghosts D} (s : SessionValue D) (a : Answer) → Tells on s (λ t. answered t a) (line (answer_text a)) s silent
+tells_answer s a = record { acts = []; run = refl; says = λ later. answered_is (as_serving s later) a; asks = λ later. begins_at_all _; state = refl; few = omega arith }
 
 -- ---- a command, by cases of what carries it
 
@@ -141,8 +168,12 @@ carried_tried s c done e f = rw (e, f) refl
 abbrev first_cause : Bool → Option Refusal → Option Denial → Option Denial
 first_cause is_broken refused out = if is_broken then Some Broken else option_or (option_map Core refused) out
 
-module _ {D : Type 0} (T : Type 0) (old new : SessionValue D) (command : Command) where
-  not_denied : (b : Bool) (r : Option Refusal) (out : Option Denial) (x : T) → IsAnswer (first_cause b r out) (Ok x) → (b ≡ false) × (r ≡ None)
+-- a command, with this answer when so many calls had finished
+abbrev pub answers_so : Result (Unit {0}) Denial → ℕ → SessionReply
+answers_so answer n = record { answer = answer; calls = n }
+
+module _ {D : Type 0} (old new : SessionValue D) (command : Command) where
+  not_denied : (b : Bool) (r : Option Refusal) (out : Option Denial) (x : Unit {0}) → IsAnswer (first_cause b r out) (Ok x) → (b ≡ false) × (r ≡ None)
   not_denied true r out x h = absurd cc
   not_denied false (Some r) out x h = absurd cc
   not_denied false None out x h = (refl, refl)
@@ -151,97 +182,112 @@ module _ {D : Type 0} (T : Type 0) (old new : SessionValue D) (command : Command
   done_is is e later =
       ap₂ {C = Serving} (λ state is_broken. record { state = state; is_broken = is_broken; fates = later }) (sym is.state) (e ∙ sym is.is_broken)
 
+spent_only : (out : Bool) (d : Denial) → IsAnswer {T = Unit {0}} (if out then Some Spent else None) (Err d) → (d ≡ Spent) ⊎ ((d ≡ OutOfMemory) ⊎ (d ≡ DeviceFault))
+spent_only true d h = inl cc
+spent_only false OutOfMemory h = inr (inl refl)
+spent_only false DeviceFault h = inr (inr refl)
+spent_only false Broken h = absurd h
+spent_only false (Core r) h = absurd h
+spent_only false Spent h = absurd h
+
+module _ {D : Type 0} (on : sectors.Ghosts D) (old new : SessionValue D) (command : Command) (n : ℕ) where
   -- carried out, and what is answered then
-  pub carried_on : (done : Serving → Reply) (x : T) → IsAnswer (denial old command) (Ok x) → IsDone old command new → Tells old (λ s. carried s command done) [] new done
-  carried_on done x accepted is =
-      let free = not_denied old.is_broken (refusal old.state command) (spent old.place command) x accepted in
+  pub carried_on : (done : Serving → Reply) (x : Unit {0}) → IsAppliedOn on old command (answers_so (Ok x) n) new → Tells on old (λ s. carried s command done) [] new done
+  carried_on done x applied =
+      let free = not_denied old new command old.is_broken (refusal old.state command) (spent old.place command) x applied.answer in
+      let says : (later : List Fate) → carried (as_serving old (Done ∷ later)) command done ≡ preceded [] (command ∷ []) (done (as_serving new later)) =
+      λ later. carried_tried (as_serving old (Done ∷ later)) command done free.0 free.1 ∙ ap (λ s. with_command command (done s)) (done_is old new command applied.makes free.0 later) in
       record {
-        fates = Done ∷ [];
-        commands = command ∷ [];
-        says = λ later. carried_tried (as_serving old (Done ∷ later)) command done free.0 free.1 ∙ ap (λ s. with_command command (done s)) (done_is is free.0 later);
-        state = is.state;
+        acts = Applied command (answers_so (Ok x) n) ∷ [];
+        run = (new, applied, refl);
+        says = says;
+        asks = λ later. record { rest = (done (as_serving new later)).commands; whole = ap (λ (r : Reply). r.commands) (says later) };
+        state = applied.makes.state;
         few = omega arith;
       }
 
-  ends_at : (f : Serving → Reply) (a : Answer) (fates : List Fate) → new ≡ old → ((later : List Fate) → f (as_serving old (fates ++ later)) ≡ answered (as_serving old later) a) → Tells old f (line (answer_text a)) new silent
-  ends_at f a fates same says = record {
-    fates = fates;
-    commands = [];
+  -- an answer that keeps the session as it was
+  ends_at : (f : Serving → Reply) (a : Answer) (why : Denial) → IsAppliedOn on old command (answers_so (Err why) n) new → kept_of (Applied command (answers_so (Err why) n) ∷ []) ≡ [] → new ≡ old
+      → ((later : List Fate) → f (as_serving old (fates_of (Applied command (answers_so (Err why) n) ∷ []) ++ later)) ≡ answered (as_serving old later) a) → Tells on old f (line (answer_text a)) new silent
+  ends_at f a why applied none same says = record {
+    acts = Applied command (answers_so (Err why) n) ∷ [];
+    run = (new, applied, refl);
     says = λ later. says later ∙ answered_is (as_serving old later) a ∙ ap (λ s. preceded (line (answer_text a)) [] (silent (as_serving s later))) (sym same);
+    asks = λ later.
+        let fates : List Fate = unfailed (fates_of (Applied command (answers_so (Err why) n) ∷ [])) ++ later in
+        subst (λ cs. BeginsWith cs (f (as_serving old fates)).commands) (sym none) (begins_at_all (f (as_serving old fates)).commands);
     state = ap (λ s. s.state) same;
     few = omega arith;
   }
 
-  spent_only : (out : Bool) (d : Denial) → IsAnswer {T = T} (if out then Some Spent else None) (Err d) → (d ≡ Spent) ⊎ ((d ≡ OutOfMemory) ⊎ (d ≡ DeviceFault))
-  spent_only true d h = inl cc
-  spent_only false OutOfMemory h = inr (inl refl)
-  spent_only false DeviceFault h = inr (inr refl)
-  spent_only false Broken h = absurd h
-  spent_only false (Core r) h = absurd h
-  spent_only false Spent h = absurd h
-
-  pub carried_off : (done : Serving → Reply) (d : Denial) → IsAnswer {T = T} (denial old command) (Err d) → Makes {T = T} (Err d) old command new → Tells old (λ s. carried s command done) (line (answer_text (denied d))) new silent
-  carried_off done d h makes = off old.is_broken refl (refusal old.state command) refl d h makes
+  pub carried_off : (done : Serving → Reply) (d : Denial) → IsAppliedOn on old command (answers_so (Err d) n) new → Tells on old (λ s. carried s command done) (line (answer_text (denied d))) new silent
+  carried_off done d applied = off old.is_broken refl (refusal old.state command) refl d applied.answer applied
     where
-      by_spent : (d : Denial) → old.is_broken ≡ false → refusal old.state command ≡ None → (d ≡ Spent) ⊎ ((d ≡ OutOfMemory) ⊎ (d ≡ DeviceFault)) → Makes {T = T} (Err d) old command new → Tells old (λ s. carried s command done) (line (answer_text (denied d))) new silent
-      by_spent d e r (inl is) makes =
-          subst (λ x. Makes {T = T} (Err x) old command new → Tells old (λ s. carried s command done) (line (answer_text (denied x))) new silent) (sym is)
-          (λ same. ends_at (λ s. carried s command done) answer.Spent (SpentFate ∷ []) same (λ later. carried_tried (as_serving old (SpentFate ∷ later)) command done e r)) makes
-      by_spent d e r (inr (inl is)) makes =
-          subst (λ x. Makes {T = T} (Err x) old command new → Tells old (λ s. carried s command done) (line (answer_text (denied x))) new silent) (sym is)
-          (λ same. ends_at (λ s. carried s command done) (answer.Refused core.OutOfMemory) (NoMemory ∷ []) same (λ later. carried_tried (as_serving old (NoMemory ∷ later)) command done e r)) makes
-      by_spent d e r (inr (inr is)) makes =
-          subst (λ x. Makes {T = T} (Err x) old command new → Tells old (λ s. carried s command done) (line (answer_text (denied x))) new silent) (sym is)
-          (λ (cut : IsCutOff old command new). record {
-            fates = Failed ∷ [];
-            commands = [];
+      by_spent : (d : Denial) → old.is_broken ≡ false → refusal old.state command ≡ None → (d ≡ Spent) ⊎ ((d ≡ OutOfMemory) ⊎ (d ≡ DeviceFault)) → IsAppliedOn on old command (answers_so (Err d) n) new → Tells on old (λ s. carried s command done) (line (answer_text (denied d))) new silent
+      by_spent d e r (inl is) applied =
+          subst (λ x. IsAppliedOn on old command (answers_so (Err x) n) new → Tells on old (λ s. carried s command done) (line (answer_text (denied x))) new silent) (sym is)
+          (λ applied. ends_at (λ s. carried s command done) answer.Spent Spent applied refl applied.makes (λ later. carried_tried (as_serving old (SpentFate ∷ later)) command done e r)) applied
+      by_spent d e r (inr (inl is)) applied =
+          subst (λ x. IsAppliedOn on old command (answers_so (Err x) n) new → Tells on old (λ s. carried s command done) (line (answer_text (denied x))) new silent) (sym is)
+          (λ applied. ends_at (λ s. carried s command done) (answer.Refused core.OutOfMemory) OutOfMemory applied refl applied.makes (λ later. carried_tried (as_serving old (NoMemory ∷ later)) command done e r)) applied
+      by_spent d e r (inr (inr is)) applied =
+          subst (λ x. IsAppliedOn on old command (answers_so (Err x) n) new → Tells on old (λ s. carried s command done) (line (answer_text (denied x))) new silent) (sym is)
+          (λ (applied : IsAppliedOn on old command (answers_so (Err DeviceFault) n) new).
+          let cut : IsCutOff old command new = applied.makes in record {
+            acts = Applied command (answers_so (Err DeviceFault) n) ∷ [];
+            run = (new, applied, refl);
             says = λ later.
                 let left : record { state = old.state; is_broken = true; fates = later } ≡ as_serving new later =
                 ap₂ {C = Serving} (λ state is_broken. record { state = state; is_broken = is_broken; fates = later }) (sym cut.state) (sym cut.is_broken) in
                 carried_tried (as_serving old (Failed ∷ later)) command done e r
                 ∙ answered_is (record { state = old.state; is_broken = true; fates = later }) answer.DeviceFault
                 ∙ ap (λ s. preceded (line (answer_text answer.DeviceFault)) [] (silent s)) left;
+            asks = λ later. record { rest = (done (record (tried (as_serving old (Done ∷ later))) { state = effect old.state command })).commands; whole = ap (λ (r : Reply). r.commands) (carried_tried (as_serving old (Done ∷ later)) command done e r) };
             state = cut.state;
             few = omega arith;
-          }) makes
+          }) applied
 
-      off : (b : Bool) → old.is_broken ≡ b → (r : Option Refusal) → refusal old.state command ≡ r → (d : Denial) → IsAnswer {T = T} (first_cause b r (spent old.place command)) (Err d) → Makes {T = T} (Err d) old command new
-          → Tells old (λ s. carried s command done) (line (answer_text (denied d))) new silent
-      off true e r f' d h makes =
+      off : (b : Bool) → old.is_broken ≡ b → (r : Option Refusal) → refusal old.state command ≡ r → (d : Denial) → IsAnswer {T = Unit {0}} (first_cause b r (spent old.place command)) (Err d) → IsAppliedOn on old command (answers_so (Err d) n) new
+          → Tells on old (λ s. carried s command done) (line (answer_text (denied d))) new silent
+      off true e r f' d h applied =
           let is : d ≡ Broken = cc in
-          subst (λ x. Makes {T = T} (Err x) old command new → Tells old (λ s. carried s command done) (line (answer_text (denied x))) new silent) (sym is)
-          (λ same. ends_at (λ s. carried s command done) answer.Broken [] same (λ later. carried_broken (as_serving old later) command done e)) makes
-      off false e (Some r) f' d h makes =
+          subst (λ x. IsAppliedOn on old command (answers_so (Err x) n) new → Tells on old (λ s. carried s command done) (line (answer_text (denied x))) new silent) (sym is)
+          (λ applied. ends_at (λ s. carried s command done) answer.Broken Broken applied refl applied.makes (λ later. carried_broken (as_serving old later) command done e)) applied
+      off false e (Some r) f' d h applied =
           let is : d ≡ Core r = cc in
-          subst (λ x. Makes {T = T} (Err x) old command new → Tells old (λ s. carried s command done) (line (answer_text (denied x))) new silent) (sym is)
-          (λ same. ends_at (λ s. carried s command done) (answer.Refused r) [] same (λ later. carried_refused (as_serving old later) command done r e f')) makes
-      off false e None f' d h makes = by_spent d e f' (spent_only _ d h) makes
+          subst (λ x. IsAppliedOn on old command (answers_so (Err x) n) new → Tells on old (λ s. carried s command done) (line (answer_text (denied x))) new silent) (sym is)
+          (λ applied. ends_at (λ s. carried s command done) (answer.Refused r) (Core r) applied refl applied.makes (λ later. carried_refused (as_serving old later) command done r e f')) applied
+      off false e None f' d h applied = by_spent d e f' (spent_only _ d h) applied
 
 -- ---- the forms that calls give
 
-module _ {D T : Type 0} (old new : SessionValue D) (command : Command) (result : Result T Denial) (said : IsAnswer (denial old command) result) (makes : Makes result old command new) where
-  pub goes_on : (done : Serving → Reply) (x : T) → result ≡ Ok x → Tells old (λ s. carried s command done) [] new done
-  goes_on done x e = carried_on T old new command done x (subst (λ r. IsAnswer (denial old command) r) e said) (subst (λ r. Makes r old command new) e makes)
+module _ {D : Type 0} (on : sectors.Ghosts D) (old new : SessionValue D) (command : Command) (reply : SessionReply) (applied : IsAppliedOn on old command reply new) where
+  answered_so : (answer : Result (Unit {0}) Denial) → reply.answer ≡ answer → IsAppliedOn on old command (answers_so answer reply.calls) new
+  answered_so answer e = subst (λ a. IsAppliedOn on old command (answers_so a reply.calls) new) e applied
 
-  pub ends_with : (done : Serving → Reply) (d : Denial) → result ≡ Err d → Tells old (λ s. carried s command done) (line (answer_text (denied d))) new silent
-  ends_with done d e = carried_off T old new command done d (subst (λ r. IsAnswer (denial old command) r) e said) (subst (λ r. Makes r old command new) e makes)
+  pub goes_on : (done : Serving → Reply) (x : Unit {0}) → reply.answer ≡ Ok x → Tells on old (λ s. carried s command done) [] new done
+  goes_on done x e = carried_on on old new command reply.calls done x (answered_so (Ok x) e)
 
-  pub plain_ok : (x : T) → result ≡ Ok x → Tells old (λ s. plain s command) (line (answer_text answer.Ok)) new silent
+  pub ends_with : (done : Serving → Reply) (d : Denial) → reply.answer ≡ Err d → Tells on old (λ s. carried s command done) (line (answer_text (denied d))) new silent
+  ends_with done d e = carried_off on old new command reply.calls done d (answered_so (Err d) e)
+
+  pub plain_ok : (x : Unit {0}) → reply.answer ≡ Ok x → Tells on old (λ s. plain s command) (line (answer_text answer.Ok)) new silent
   plain_ok x e =
       let p = goes_on (λ s. answered s answer.Ok) x e in
       record {
-        fates = p.fates;
-        commands = p.commands;
-        says = λ later. p.says later ∙ ap (preceded [] p.commands) (answered_is (as_serving new later) answer.Ok);
+        acts = p.acts;
+        run = p.run;
+        says = λ later. p.says later ∙ ap (preceded [] (carried_of p.acts)) (answered_is (as_serving new later) answer.Ok);
+        asks = p.asks;
         state = p.state;
         few = p.few;
       }
 
-  pub plain_err : (d : Denial) → result ≡ Err d → Tells old (λ s. plain s command) (line (answer_text (denied d))) new silent
+  pub plain_err : (d : Denial) → reply.answer ≡ Err d → Tells on old (λ s. plain s command) (line (answer_text (denied d))) new silent
   plain_err d e = ends_with (λ s. answered s answer.Ok) d e
 
 -- an answer that leaves the session as it is
-pub tells_same : {D : Type 0} (s : SessionValue D) (f : Serving → Reply) (a : Answer) → ((fates : List Fate) → f (as_serving s fates) ≡ answered (as_serving s fates) a) → Tells s f (line (answer_text a)) s silent
+pub tells_same : {D : Type 0} {on : sectors.Ghosts D} (s : SessionValue D) (f : Serving → Reply) (a : Answer) → ((fates : List Fate) → f (as_serving s fates) ≡ answered (as_serving s fates) a) → Tells on s f (line (answer_text a)) s silent
 tells_same s f a same = tells_as s s (λ t. answered t a) f silent (line (answer_text a)) same (tells_answer s a)
 
 -- ---- a search
@@ -255,28 +301,26 @@ unfolding searched counts_of
 searched_none s = refl
 
 -- a piece is carried out, and then told
-pub piece_done : {D T : Type 0} (old mid : SessionValue D) (count left : ℕ) (ns : List ℕ) (result : Result T Denial) (x : T) → counts_of left ≡ count ∷ ns
-    → IsAnswer (denial old (command.Search count)) result → Makes result old (command.Search count) mid → result ≡ Ok x
-    → Tells old (λ s. searched s (counts_of left)) (at_line mid.state) mid (λ s. searched s ns)
-piece_done old mid count left ns result x counts said makes is =
+pub piece_done : {D : Type 0} {on : sectors.Ghosts D} (old mid : SessionValue D) (count left : ℕ) (ns : List ℕ) (reply : SessionReply) (x : Unit {0}) → counts_of left ≡ count ∷ ns
+    → IsAppliedOn on old (command.Search count) reply mid → reply.answer ≡ Ok x → Tells on old (λ s. searched s (counts_of left)) (at_line mid.state) mid (λ s. searched s ns)
+piece_done {on = on} old mid count left ns reply x counts applied is =
     let done : Serving → Reply = λ t. with_text (at_line t.state) (searched t ns) in
-    let p : Tells old (λ s. searched s (counts_of left)) [] mid done = tells_as old mid (λ s. carried s (command.Search count) done) (λ s. searched s (counts_of left)) done []
-    (λ fates. ap (searched (as_serving old fates)) counts ∙ searched_cons (as_serving old fates) count ns) (goes_on old mid (command.Search count) result said makes done x is) in
-    record { fates = p.fates; commands = p.commands; says = λ later. p.says later; state = p.state; few = p.few }
+    let p : Tells on old (λ s. searched s (counts_of left)) [] mid done = tells_as old mid (λ s. carried s (command.Search count) done) (λ s. searched s (counts_of left)) done []
+    (λ fates. ap (searched (as_serving old fates)) counts ∙ searched_cons (as_serving old fates) count ns) (goes_on on old mid (command.Search count) reply applied done x is) in
+    record { acts = p.acts; run = p.run; says = λ later. p.says later; asks = p.asks; state = p.state; few = p.few }
 
 -- a piece is not carried out
-pub piece_denied : {D T : Type 0} (old new : SessionValue D) (count left : ℕ) (ns : List ℕ) (result : Result T Denial) (d : Denial) → counts_of left ≡ count ∷ ns
-    → IsAnswer (denial old (command.Search count)) result → Makes result old (command.Search count) new → result ≡ Err d
-    → Tells old (λ s. searched s (counts_of left)) (line (answer_text (denied d))) new silent
-piece_denied old new count left ns result d counts said makes is =
+pub piece_denied : {D : Type 0} {on : sectors.Ghosts D} (old new : SessionValue D) (count left : ℕ) (ns : List ℕ) (reply : SessionReply) (d : Denial) → counts_of left ≡ count ∷ ns
+    → IsAppliedOn on old (command.Search count) reply new → reply.answer ≡ Err d → Tells on old (λ s. searched s (counts_of left)) (line (answer_text (denied d))) new silent
+piece_denied {on = on} old new count left ns reply d counts applied is =
     let done : Serving → Reply = λ t. with_text (at_line t.state) (searched t ns) in
     tells_as old new (λ s. carried s (command.Search count) done) (λ s. searched s (counts_of left)) silent (line (answer_text (denied d)))
-    (λ fates. ap (searched (as_serving old fates)) counts ∙ searched_cons (as_serving old fates) count ns) (ends_with old new (command.Search count) result said makes done d is)
+    (λ fates. ap (searched (as_serving old fates)) counts ∙ searched_cons (as_serving old fates) count ns) (ends_with on old new (command.Search count) reply applied done d is)
 
 -- all pieces are done
-pub search_ended : {D : Type 0} (s : SessionValue D) (left : ℕ) → left ≡ 0 → Tells s (λ t. searched t (counts_of left)) (line (answer_text answer.Ok)) s silent
-search_ended s left none =
-    subst (λ n. Tells s (λ t. searched t (counts_of n)) (line (answer_text answer.Ok)) s silent) (sym none)
+pub search_ended : {D : Type 0} {on : sectors.Ghosts D} (s : SessionValue D) (left : ℕ) → left ≡ 0 → Tells on s (λ t. searched t (counts_of left)) (line (answer_text answer.Ok)) s silent
+search_ended {on = on} s left none =
+    subst (λ n. Tells on s (λ t. searched t (counts_of n)) (line (answer_text answer.Ok)) s silent) (sym none)
     (tells_same s (λ t. searched t (counts_of 0)) answer.Ok (λ fates. searched_none (as_serving s fates)))
 
 -- ---- before a search
@@ -293,13 +337,13 @@ search_refused steps s r e f = rw (e, f) refl
 pub search_begun : (steps : State → Result ℕ Refusal) (s : Serving) (n : ℕ) → s.is_broken ≡ false → steps s.state ≡ Ok n → by_steps steps s ≡ searched s (counts_of n)
 search_begun steps s n e f = rw (e, f) refl
 
-pub steps_broken : {D : Type 0} (steps : State → Result ℕ Refusal) (s : SessionValue D) → s.is_broken ≡ true → Tells s (by_steps steps) (line (answer_text answer.Broken)) s silent
+pub steps_broken : {D : Type 0} {on : sectors.Ghosts D} (steps : State → Result ℕ Refusal) (s : SessionValue D) → s.is_broken ≡ true → Tells on s (by_steps steps) (line (answer_text answer.Broken)) s silent
 steps_broken steps s e = tells_same s (by_steps steps) answer.Broken (λ fates. search_broken steps (as_serving s fates) e)
 
-pub steps_refused : {D : Type 0} (steps : State → Result ℕ Refusal) (s : SessionValue D) (r : Refusal) → s.is_broken ≡ false → steps s.state ≡ Err r
-    → Tells s (by_steps steps) (line (answer_text (answer.Refused r))) s silent
+pub steps_refused : {D : Type 0} {on : sectors.Ghosts D} (steps : State → Result ℕ Refusal) (s : SessionValue D) (r : Refusal) → s.is_broken ≡ false → steps s.state ≡ Err r
+    → Tells on s (by_steps steps) (line (answer_text (answer.Refused r))) s silent
 steps_refused steps s r e f = tells_same s (by_steps steps) (answer.Refused r) (λ fates. search_refused steps (as_serving s fates) r e f)
 
-pub steps_begun : {D T E : Type 0} (told : Result T E) (steps : State → Result ℕ Refusal) (s new : SessionValue D) (n : ℕ) (o y : Option (List ℕ)) → s.is_broken ≡ false → steps s.state ≡ Ok n
-    → Answers told s (λ t. searched t (counts_of n)) o y new silent → Answers told s (by_steps steps) o y new silent
-steps_begun told steps s new n o y e f answers = answers_as told s new (λ t. searched t (counts_of n)) (by_steps steps) silent o y (λ fates. search_begun steps (as_serving s fates) n e f) answers
+pub steps_begun : {D T E : Type 0} (on : sectors.Ghosts D) (told : Result T E) (steps : State → Result ℕ Refusal) (s new : SessionValue D) (n : ℕ) (o y : Option (List ℕ)) → s.is_broken ≡ false → steps s.state ≡ Ok n
+    → Answers on told s (λ t. searched t (counts_of n)) o y new silent → Answers on told s (by_steps steps) o y new silent
+steps_begun on told steps s new n o y e f answers = answers_as on told s new (λ t. searched t (counts_of n)) (by_steps steps) silent o y (λ fates. search_begun steps (as_serving s fates) n e f) answers

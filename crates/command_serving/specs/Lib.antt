@@ -1,5 +1,8 @@
 -- what public contracts reach
+pub mod Acts
 pub mod Served
+pub mod Stopped
+pub mod Causes
 pub mod Streams
 pub mod Strict
 pub mod StrictValue

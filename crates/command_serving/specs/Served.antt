@@ -1,5 +1,5 @@
 -- What an input is answered, what it makes of a session, and what stands where the serving ends before the input.
-use Rattle.std.specs.Prelude.{◌≡◌, ◌≤◌, ◌++◌, ◌^◌, ◌⊎◌, ℕ, Bool, true, List, [], length, take, Option, Some, None}
+use Rattle.std.specs.Prelude.{◌≡◌, ◌≤◌, ◌++◌, ◌^◌, ◌⊎◌, ℕ, Bool, true, List, [], length, take, Option, Some, None, Result, MatchResult}
 use Rattle.std.specs.Io.KnownBytes.{Appends}
 use Rattle.command_core.specs.Runs.{after}
 use Rattle.command_core.specs.declared.commands.Command.{Command}
@@ -8,66 +8,81 @@ use Rattle.command_text.specs.Cutting.{Piece, pieces_of}
 use Rattle.command_text.specs.Readings.{Reading}
 use Rattle.command_serving.specs.declared.answering.ServeFault.{ServeFault}
 use Rattle.command_serving.specs.declared.answering.ServeFault.TheVariants as fault
+use Rattle.command_serving.specs.Acts.{Act, BeginsWith, carried_of, commands_of, fates_of, kept_of, replies_of, unfailed}
+use Rattle.recover.specs.Joining.{IsRunOn}
 use Rattle.recover.specs.Sessions.{SessionValue}
+use Rattle.sector_disk.specs.declared.sectors.Sectors as sectors
 
 -- a session, with what becomes of its tries
 abbrev pub as_serving : {D : Type 0} → SessionValue D → List Fate → Serving
 as_serving s fates = record { state = s.state; is_broken = s.is_broken; fates = fates }
 
--- The tries had some fates, one each. What was written is what the session answers to the input by them; the state is that after the
--- commands that it then carries out; and it is broken where it was, or where a try failed.
-pub record IsServed {D : Type 0} (reading : Reading) (old : SessionValue D) (input : List ℕ) (before after_it : Option (List ℕ)) (new : SessionValue D) : Type 0 where
-  pub fates : List Fate
-  pub written : Appends before after_it (served reading (as_serving old fates) (pieces_of input)).text
-  pub left : (served reading (as_serving old fates) (pieces_of input)).left ≡ as_serving new []
-  pub state : new.state ≡ after old.state (served reading (as_serving old fates) (pieces_of input)).commands
-
 -- a text and commands, and then a reply
 abbrev pub preceded : List ℕ → List Command → Reply → Reply
 preceded text commands r = record { text = text ++ r.text; commands = commands ++ r.commands; left = r.left }
-
--- The session went from old to new, with this text: what `from` says of old is, after it, what `to` says of new, where the tries
--- so far ended by some fates, and whatever becomes of the later ones.
-pub record Leads {D : Type 0} (old : SessionValue D) (from : Serving → Reply) (text : List ℕ) (new : SessionValue D) (to : Serving → Reply) : Type 0 where
-  pub fates : List Fate
-  pub commands : List Command
-  pub says : (later : List Fate) → from (as_serving old (fates ++ later)) ≡ preceded text commands (to (as_serving new later))
-  pub state : new.state ≡ after old.state commands
-
--- so it did by one command at most
-pub record Tells {D : Type 0} (old : SessionValue D) (from : Serving → Reply) (text : List ℕ) (new : SessionValue D) (to : Serving → Reply) : Type 0 where
-  pub fates : List Fate
-  pub commands : List Command
-  pub says : (later : List Fate) → from (as_serving old (fates ++ later)) ≡ preceded text commands (to (as_serving new later))
-  pub state : new.state ≡ after old.state commands
-  pub few : length commands ≤ 1
 
 -- what is still to be answered: these counts of a search, if one is under way, and then these pieces
 abbrev pub still : Reading → Option (List ℕ) → List Piece → Serving → Reply
 still reading None pieces s = served reading s pieces
 still reading (Some counts) pieces s = let r = searched s counts in joined_replies r (served reading r.left pieces)
 
--- The serving ended within the pieces, with one answer written in part or not at all. Those before it were written, and the session was then at
--- `told`, with a search and the last pieces still to be answered. It may have carried out the command that the last answer tells: what would be
--- answered behind that one is what the session says now to the rest of the search and the pieces.
-pub record IsCutShort {D : Type 0} (reading : Reading) (old : SessionValue D) (pieces : List Piece) (before after_it : Option (List ℕ)) (new : SessionValue D) : Type 0 where
-  pub counts : Option (List ℕ)
-  pub front : List Piece
-  pub behind : List Piece
-  pub split : pieces ≡ front ++ behind
-  pub told : SessionValue D
-  pub text : List ℕ
-  pub answered : Leads old (λ s. served reading s pieces) text told (still reading counts behind)
-  pub later_counts : Option (List ℕ)
-  -- the piece that the last answer begins, if it begins one
-  pub begun : List Piece
-  pub later_behind : List Piece
-  pub later_split : behind ≡ begun ++ later_behind
-  pub one : length begun ≤ 1
-  pub last : List ℕ
-  pub tells : Tells told (still reading counts behind) last new (still reading later_counts later_behind)
-  pub len : ℕ
-  pub written : Appends before after_it (text ++ take len last)
+module _ {D : Type 0} (on : sectors.Ghosts D) where
+  -- By these acts the session went from old to new: their commands and replies are a run. What was written is what the session answers to the
+  -- input by their fates; the commands that it then carries out are those that were acknowledged, and the state is the one after them. Had the
+  -- device not failed, the input would have asked for the one within which it did, too.
+  pub record IsServed (reading : Reading) (old : SessionValue D) (input : List ℕ) (before after_it : Option (List ℕ)) (new : SessionValue D) : Type 0 where
+    pub acts : List Act
+    pub run : IsRunOn on old (commands_of acts) (replies_of acts) new
+    pub written : Appends before after_it (served reading (as_serving old (fates_of acts)) (pieces_of input)).text
+    pub left : (served reading (as_serving old (fates_of acts)) (pieces_of input)).left ≡ as_serving new []
+    pub carried : (served reading (as_serving old (fates_of acts)) (pieces_of input)).commands ≡ carried_of acts
+    pub asks : BeginsWith (kept_of acts) (served reading (as_serving old (unfailed (fates_of acts))) (pieces_of input)).commands
+    pub state : new.state ≡ after old.state (served reading (as_serving old (fates_of acts)) (pieces_of input)).commands
+
+  -- By these acts the session went from old to new, with this text: what `from` says of old is, after it, what `to` says of new, whatever
+  -- becomes of later tries.
+  pub record Leads (old : SessionValue D) (from : Serving → Reply) (text : List ℕ) (new : SessionValue D) (to : Serving → Reply) : Type 0 where
+    pub acts : List Act
+    pub run : IsRunOn on old (commands_of acts) (replies_of acts) new
+    pub says : (later : List Fate) → from (as_serving old (fates_of acts ++ later)) ≡ preceded text (carried_of acts) (to (as_serving new later))
+    pub asks : (later : List Fate) → BeginsWith (kept_of acts) (from (as_serving old (unfailed (fates_of acts) ++ later))).commands
+    pub state : new.state ≡ after old.state (carried_of acts)
+
+  -- so it did by one act at most
+  pub record Tells (old : SessionValue D) (from : Serving → Reply) (text : List ℕ) (new : SessionValue D) (to : Serving → Reply) : Type 0 where
+    pub acts : List Act
+    pub run : IsRunOn on old (commands_of acts) (replies_of acts) new
+    pub says : (later : List Fate) → from (as_serving old (fates_of acts ++ later)) ≡ preceded text (carried_of acts) (to (as_serving new later))
+    pub asks : (later : List Fate) → BeginsWith (kept_of acts) (from (as_serving old (unfailed (fates_of acts) ++ later))).commands
+    pub state : new.state ≡ after old.state (carried_of acts)
+    pub few : length acts ≤ 1
+
+  -- The serving ended within the pieces, with one answer written in part or not at all. Those before it were written, and the session was then at
+  -- `told`, with a search and the last pieces still to be answered. It may have carried out the command that the last answer tells: what would be
+  -- answered behind that one is what the session says now to the rest of the search and the pieces.
+  pub record IsCutShort (reading : Reading) (old : SessionValue D) (pieces : List Piece) (before after_it : Option (List ℕ)) (new : SessionValue D) : Type 0 where
+    pub counts : Option (List ℕ)
+    pub front : List Piece
+    pub behind : List Piece
+    pub split : pieces ≡ front ++ behind
+    pub told : SessionValue D
+    pub text : List ℕ
+    pub answered : Leads old (λ s. served reading s pieces) text told (still reading counts behind)
+    pub later_counts : Option (List ℕ)
+    -- the piece that the last answer begins, if it begins one
+    pub begun : List Piece
+    pub later_behind : List Piece
+    pub later_split : behind ≡ begun ++ later_behind
+    pub one : length begun ≤ 1
+    pub last : List ℕ
+    pub tells : Tells told (still reading counts behind) last new (still reading later_counts later_behind)
+    pub len : ℕ
+    pub written : Appends before after_it (text ++ take len last)
+
+  -- What a serving says of an input whose bytes are known.
+  abbrev pub EndsOrIsCut : {T E : Type 0} → Result T E → Reading → SessionValue D → List ℕ → Option (List ℕ) → Option (List ℕ) → SessionValue D → Type 0
+  EndsOrIsCut r reading old input before after_it new =
+      MatchResult r (λ _. IsServed reading old input before after_it new) (λ _. IsCutShort reading old (pieces_of input) before after_it new)
 
 -- Why the serving ended: the reader failed, or so many bytes are no longer read; the writer failed.
 abbrev pub HasCause : ServeFault → Bool → Bool → ℕ → Type 0

@@ -9,7 +9,11 @@ use Rattle.plan_types.specs.Instance.{Instance}
 use Rattle.instance_read.specs.declared.faults.ReadFault.{ReadFault}
 use Rattle.command_core.specs.declared.states.State.{State}
 use Rattle.command_core.specs.declared.states.State.TheVariants.{Empty}
+use Rattle.recover.specs.Applying.{IsApplied}
 use Rattle.recover.specs.Sessions.{SessionValue}
+use Rattle.recover.specs.declared.replies.Reply.{Reply as SessionReply}
+use Rattle.command_core.specs.declared.commands.Command.{Command}
+use Rattle.sector_disk.specs.declared.sectors.Sectors as sectors
 use Rattle.command_serving.specs.Served.{IsCutShort, Leads, Tells}
 use Rattle.command_serving.specs.declared.answering.ServeFault.{ServeFault}
 use Rattle.command_serving.specs.declared.answering.ServeFault.TheVariants as fault
@@ -23,14 +27,18 @@ use Rattle.command_serving.specs.declared.answering.Goes.TheVariants.{On, ToEnd}
 use Rattle.command_serving.specs.declared.input.LoadText.{LoadText}
 use Rattle.command_serving.specs.declared.input.LoadText.TheVariants.{Whole, Dropped, Short}
 
+-- what `apply` promises of a command and its reply
+abbrev pub IsAppliedOn : {D : Type 0} → sectors.Ghosts D → SessionValue D → Command → SessionReply → SessionValue D → Type 0
+IsAppliedOn on = IsApplied on.len on.calls on.faults on.honest on.clock on.possible_since on.possible
+
 -- nothing more
 abbrev pub silent : Serving → Reply
 silent s = record { text = []; commands = []; left = s }
 
 -- the text was written
-pub record Serves {D : Type 0} (old : SessionValue D) (from : Serving → Reply) (before after : Option (List ℕ)) (new : SessionValue D) (to : Serving → Reply) : Type 0 where
+pub record Serves {D : Type 0} (on : sectors.Ghosts D) (old : SessionValue D) (from : Serving → Reply) (before after : Option (List ℕ)) (new : SessionValue D) (to : Serving → Reply) : Type 0 where
   pub text : List ℕ
-  pub leads : Leads old from text new to
+  pub leads : Leads on old from text new to
   pub written : Appends before after text
 
 -- what a search of these counts still answers, if one is under way
@@ -39,31 +47,31 @@ still_searched None = silent
 still_searched (Some counts) = λ s. searched s counts
 
 -- one answer was written in part or not at all
-pub record CutAtOnce {D : Type 0} (old : SessionValue D) (from : Serving → Reply) (before after : Option (List ℕ)) (new : SessionValue D) : Type 0 where
+pub record CutAtOnce {D : Type 0} (on : sectors.Ghosts D) (old : SessionValue D) (from : Serving → Reply) (before after : Option (List ℕ)) (new : SessionValue D) : Type 0 where
   pub last : List ℕ
   pub later : Option (List ℕ)
-  pub tells : Tells old from last new (still_searched later)
+  pub tells : Tells on old from last new (still_searched later)
   pub len : ℕ
   pub written : Appends before after (take len last)
 
 -- so it was behind what a search has told
-pub record CutWithin {D : Type 0} (old : SessionValue D) (from : Serving → Reply) (before after : Option (List ℕ)) (new : SessionValue D) : Type 0 where
+pub record CutWithin {D : Type 0} (on : sectors.Ghosts D) (old : SessionValue D) (from : Serving → Reply) (before after : Option (List ℕ)) (new : SessionValue D) : Type 0 where
   pub counts : List ℕ
   pub told : SessionValue D
   pub text : List ℕ
-  pub answered : Leads old from text told (λ s. searched s counts)
+  pub answered : Leads on old from text told (λ s. searched s counts)
   pub last : List ℕ
   pub later : Option (List ℕ)
-  pub tells : Tells told (λ s. searched s counts) last new (still_searched later)
+  pub tells : Tells on told (λ s. searched s counts) last new (still_searched later)
   pub len : ℕ
   pub written : Appends before after (text ++ take len last)
 
-abbrev pub CutOff : {D : Type 0} → SessionValue D → (Serving → Reply) → Option (List ℕ) → Option (List ℕ) → SessionValue D → Type 0
-CutOff old from before after new = CutAtOnce old from before after new ⊎ CutWithin old from before after new
+abbrev pub CutOff : {D : Type 0} → sectors.Ghosts D → SessionValue D → (Serving → Reply) → Option (List ℕ) → Option (List ℕ) → SessionValue D → Type 0
+CutOff on old from before after new = CutAtOnce on old from before after new ⊎ CutWithin on old from before after new
 
 -- the text was written, or the serving cut off
-abbrev pub Answers : {D T E : Type 0} → Result T E → SessionValue D → (Serving → Reply) → Option (List ℕ) → Option (List ℕ) → SessionValue D → (Serving → Reply) → Type 0
-Answers r old from before after new to = MatchResult r (λ _. Serves old from before after new to) (λ _. CutOff old from before after new)
+abbrev pub Answers : {D T E : Type 0} → sectors.Ghosts D → Result T E → SessionValue D → (Serving → Reply) → Option (List ℕ) → Option (List ℕ) → SessionValue D → (Serving → Reply) → Type 0
+Answers on r old from before after new to = MatchResult r (λ _. Serves on old from before after new to) (λ _. CutOff on old from before after new)
 
 -- what is answered to a denial
 abbrev pub denied : Denial → Answer
@@ -106,17 +114,17 @@ pieces_behind On left = pieces_of left
 pieces_behind ToEnd left = []
 
 -- these pieces were served, as far as what is left of an input that is known
-pub record ServesOn {D : Type 0} (reading : Reading) (old : SessionValue D) (pieces : List Piece) (before after : Option (List ℕ)) (new : SessionValue D) (goes : Goes) (known : Option (List ℕ)) : Type 0 where
+pub record ServesOn {D : Type 0} (on : sectors.Ghosts D) (reading : Reading) (old : SessionValue D) (pieces : List Piece) (before after : Option (List ℕ)) (new : SessionValue D) (goes : Goes) (known : Option (List ℕ)) : Type 0 where
   pub left : List ℕ
   pub is_known : known ≡ Some left
   pub front : List Piece
   pub split : pieces ≡ front ++ pieces_behind goes left
-  pub serves : Serves old (λ s. served reading s pieces) before after new (goes_on reading goes left)
+  pub serves : Serves on old (λ s. served reading s pieces) before after new (goes_on reading goes left)
 
 -- these pieces were served, or cut short
-abbrev pub GoesOn : {D : Type 0} → Result Goes ServeFault → Reading → SessionValue D → List Piece → Option (List ℕ) → Option (List ℕ) → SessionValue D → Option (List ℕ) → Type 0
-GoesOn r reading old pieces before after new known =
-    MatchResult r (λ goes. ServesOn reading old pieces before after new goes known) (λ _. IsCutShort reading old pieces before after new)
+abbrev pub GoesOn : {D : Type 0} → sectors.Ghosts D → Result Goes ServeFault → Reading → SessionValue D → List Piece → Option (List ℕ) → Option (List ℕ) → SessionValue D → Option (List ℕ) → Type 0
+GoesOn on r reading old pieces before after new known =
+    MatchResult r (λ goes. ServesOn on reading old pieces before after new goes known) (λ _. IsCutShort on reading old pieces before after new)
 
 -- why it was cut short, by how many bytes are still read
 abbrev pub IsCause : ServeFault → Bool → Bool → ℕ → Type 0

@@ -7,15 +7,15 @@ ghost use Rattle.plan_types.specs.Instance.{Instance};
 ghost use Rattle.instance_read.specs.declared.faults.ReadFault.{ReadFault};
 ghost use Rattle.command_text.specs.Answering.{counts_of, next_stated, plain, printed, refused, searched, searched_or, shown, unless_broken};
 ghost use Rattle.command_text.specs.Answering.{steps_to_reach, steps_to_search};
-ghost use Rattle.command_text.specs.Cutting.{pieces_of};
 ghost use Rattle.command_text.specs.Laws.{cut_at};
 ghost use Rattle.command_text.specs.Readings.{IsReading, Reading};
 ghost use Rattle.command_text.specs.Answers.{answer_text, line};
 ghost use Rattle.command_core.specs.declared.states.State.TheVariants.{Loaded};
 ghost use Rattle.command_serving.specs.Input.{CountsTaken, left_of};
 ghost use Rattle.command_serving.specs.Streams.{Puts};
-ghost use Rattle.command_serving.specs.Served.{HasCause, IsCutShort, IsServed, Tells};
-ghost use Rattle.command_serving.specs.Serving.{Answers, GoesOn, HasNoJob, IsCause, at_line_of, denied, goes_behind, load_reply, load_told, silent};
+ghost use Rattle.command_serving.specs.Served.{EndsOrIsCut, HasCause, Tells};
+ghost use Rattle.command_serving.specs.Serving.{Answers, GoesOn, HasNoJob, IsAppliedOn, IsCause, at_line_of, denied, goes_behind, load_reply, load_told, silent};
+ghost use Rattle.command_serving.specs.Stopped.{RunsLeave};
 ghost use Rattle.command_serving.specs.declared.answering.ServeFault.TheVariants.{WriteFault};
 
 use crate::input::{Input, LoadText, Unread};
@@ -26,7 +26,7 @@ use command_text::{
     show, states_follow, steps_to_reach, steps_to_search,
 };
 use plan_types::Kind;
-use recover::{Denial, Session};
+use recover::{Denial, Reply, Session, runs_add_up};
 use sector_disk::Sectors;
 use sol_text::WriteSolFault;
 use std::alloc::Global;
@@ -88,14 +88,17 @@ pub fn serve<D: Sectors, R: Source, W: Sink>(
     writer: &mut W,
 ) -> Result<(), ServeFault>
     ensures serves { (reading : Reading) (input : List ℕ) → IsReading reading
-        → R.remaining reader.old ≡ Some input → let before = W.contents writer.old in
-        let after = W.contents writer.new in
-        MatchResult result (λ _. IsServed reading session.old input before after session.new)
-        (λ _. IsCutShort reading session.old (pieces_of input) before after session.new) }
+        → R.remaining reader.old ≡ Some input
+        → EndsOrIsCut D.Sectors result reading session.old input
+        (W.contents writer.old) (W.contents writer.new) session.new }
+    ensures moments { RunsLeave D.Sectors session.old session.new }
+    ensures origin { W.origin writer.new ≡ W.origin writer.old }
     ensures cause { (input : List ℕ) → R.remaining reader.old ≡ Some input
         → IfErr result (λ fault. HasCause fault (R.has_failed reader.new)
         (W.has_failed writer.new) (length input)) }
 {
+    session.images_stand_for_the_state();
+    runs_add_up::<D>();
     let mut input = Input::new(alloc);
     serve_lines(alloc, session, reader, &mut input, writer)
 }
@@ -109,10 +112,10 @@ fn serve_lines<D: Sectors, R: Source, W: Sink>(
     writer: &mut W,
 ) -> Result<(), ServeFault>
     ensures serves { (reading : Reading) (bytes : List ℕ) → IsReading reading
-        → left_of R.remaining input.old reader.old ≡ Some bytes → let before = W.contents writer.old in
-        let after = W.contents writer.new in
-        MatchResult result (λ _. IsServed reading session.old bytes before after session.new)
-        (λ _. IsCutShort reading session.old (pieces_of bytes) before after session.new) }
+        → left_of R.remaining input.old reader.old ≡ Some bytes
+        → EndsOrIsCut D.Sectors result reading session.old bytes
+        (W.contents writer.old) (W.contents writer.new) session.new }
+    ensures origin { W.origin writer.new ≡ W.origin writer.old }
     ensures cause { IfErr result (λ fault. IsCause fault (R.has_failed reader.new)
         (W.has_failed writer.new) input.new.left) }
     ensures counted { CountsTaken (left_of R.remaining input.old reader.old) input.old.left
@@ -141,9 +144,10 @@ fn serve_asked<D: Sectors, R: Source, W: Sink>(
 ) -> Result<Goes, ServeFault>
     ensures serves { (reading : Reading) (rest : List ℕ) → IsReading reading
         → left_of R.remaining input.old reader.old ≡ Some rest
-        → GoesOn result reading session.old (cut_at asked rest)
+        → GoesOn D.Sectors result reading session.old (cut_at asked rest)
         (W.contents writer.old) (W.contents writer.new) session.new
         (left_of R.remaining input.new reader.new) }
+    ensures origin { W.origin writer.new ≡ W.origin writer.old }
     ensures cause { IfErr result (λ fault. IsCause fault (R.has_failed reader.new)
         (W.has_failed writer.new) input.new.left) }
     ensures counted { CountsTaken (left_of R.remaining input.old reader.old) input.old.left
@@ -185,6 +189,7 @@ fn once(written: Result<(), Failed>, goes: Goes) -> Result<Goes, ServeFault>
 fn put<W: Sink>(writer: &mut W, text: &[u8]) -> Result<(), Failed>
     ensures bytes { Puts (W.contents writer.old) (W.contents writer.new) result text.now }
     ensures failed { OnErr result (W.has_failed writer.new ≡ true) }
+    ensures origin { W.origin writer.new ≡ W.origin writer.old }
 {
     writer.put(text)?;
     writer.flush()
@@ -194,6 +199,7 @@ fn put<W: Sink>(writer: &mut W, text: &[u8]) -> Result<(), Failed>
 fn put_line<W: Sink>(writer: &mut W, text: &[u8]) -> Result<(), Failed>
     ensures bytes { Puts (W.contents writer.old) (W.contents writer.new) result (line text.now) }
     ensures failed { OnErr result (W.has_failed writer.new ≡ true) }
+    ensures origin { W.origin writer.new ≡ W.origin writer.old }
 {
     writer.put(text)?;
     put(writer, b"\n")
@@ -204,6 +210,7 @@ fn tell<W: Sink>(writer: &mut W, answer: Answer) -> Result<(), Failed>
     ensures bytes { Puts (W.contents writer.old) (W.contents writer.new) result
         (line (answer_text answer)) }
     ensures failed { OnErr result (W.has_failed writer.new ≡ true) }
+    ensures origin { W.origin writer.new ≡ W.origin writer.old }
 {
     put_line(writer, answer.line().as_bytes())
 }
@@ -213,6 +220,7 @@ fn tell_text<W: Sink>(writer: &mut W, text: &[u8]) -> Result<(), Failed>
     ensures bytes { Puts (W.contents writer.old) (W.contents writer.new) result
         (text.now ++ line (answer_text Answer.Ok)) }
     ensures failed { OnErr result (W.has_failed writer.new ≡ true) }
+    ensures origin { W.origin writer.new ≡ W.origin writer.old }
 {
     writer.put(text)?;
     tell(writer, Answer::Ok)
@@ -223,6 +231,7 @@ fn tell_line<W: Sink>(writer: &mut W, text: &[u8]) -> Result<(), Failed>
     ensures bytes { Puts (W.contents writer.old) (W.contents writer.new) result
         (line text.now ++ line (answer_text Answer.Ok)) }
     ensures failed { OnErr result (W.has_failed writer.new ≡ true) }
+    ensures origin { W.origin writer.new ≡ W.origin writer.old }
 {
     put_line(writer, text)?;
     tell(writer, Answer::Ok)
@@ -230,13 +239,20 @@ fn tell_line<W: Sink>(writer: &mut W, text: &[u8]) -> Result<(), Failed>
 
 // Carries the command out. `Ok` comes after its last sync.
 fn applied<D: Sectors>(alloc: Global, session: &mut Session<D>, command: Command) -> Answer
-    ensures { Tells session.old (λ s. plain s command)
+    ensures { Tells D.Sectors session.old (λ s. plain s command)
         (line (answer_text result)) session.new silent }
 {
-    match session.apply(alloc, command).answer {
+    match apply(alloc, session, command).answer {
         Ok(()) => Answer::Ok,
         Err(denial) => denied(denial),
     }
+}
+
+// Applies the command, with all that a session promises of it.
+fn apply<D: Sectors>(alloc: Global, session: &mut Session<D>, command: Command) -> Reply
+    ensures { IsAppliedOn D.Sectors session.old command result session.new }
+{
+    session.apply(alloc, command)
 }
 
 fn denied(denial: Denial) -> Answer
@@ -253,7 +269,7 @@ fn denied(denial: Denial) -> Answer
 
 // What is answered to a command with a number that no field holds.
 fn refused<D: Sectors>(session: &Session<D>, refusal: Refusal) -> Answer
-    ensures { Tells session.now (λ s. unless_broken s (refused s s.state refusal))
+    ensures { Tells D.Sectors session.now (λ s. unless_broken s (refused s s.state refusal))
         (line (answer_text result)) session.now silent }
 {
     if session.is_broken() {
@@ -299,9 +315,10 @@ fn serve_load<D: Sectors, W: Sink>(
     text: LoadText,
 ) -> Result<(), Failed>
     ensures answers { (reading : Reading) (bytes : List ℕ) → IsReading reading
-        → Answers result session.old (load_told text reading kind seed bytes)
+        → Answers D.Sectors result session.old (load_told text reading kind seed bytes)
         (W.contents writer.old) (W.contents writer.new) session.new silent }
     ensures failed { OnErr result (W.has_failed writer.new ≡ true) }
+    ensures origin { W.origin writer.new ≡ W.origin writer.old }
 {
     match text {
         LoadText::Short => tell(writer, Answer::Truncated),
@@ -313,7 +330,7 @@ fn serve_load<D: Sectors, W: Sink>(
 // What is answered to a text for which no memory was found.
 fn dropped<D: Sectors>(session: &Session<D>) -> Answer
     ensures { (seed : ℕ) (found : Result Instance ReadFault)
-        → Tells session.now (load_reply seed found) (line (answer_text result)) session.now silent }
+        → Tells D.Sectors session.now (load_reply seed found) (line (answer_text result)) session.now silent }
 {
     if session.is_broken() {
         Answer::Broken
@@ -331,7 +348,7 @@ fn loaded<D: Sectors>(
     text: &[u8],
 ) -> Answer
     ensures { (reading : Reading) → IsReading reading
-        → Tells session.old (load_reply seed (reading kind text.now))
+        → Tells D.Sectors session.old (load_reply seed (reading kind text.now))
         (line (answer_text result)) session.new silent }
 {
     if session.is_broken() {
@@ -349,10 +366,11 @@ fn serve_search<D: Sectors, W: Sink>(
     writer: &mut W,
     steps: u32,
 ) -> Result<(), Failed>
-    ensures answers { Answers result session.old
+    ensures answers { Answers D.Sectors result session.old
         (λ s. unless_broken s (searched_or s (steps_to_search s.state steps)))
         (W.contents writer.old) (W.contents writer.new) session.new silent }
     ensures failed { OnErr result (W.has_failed writer.new ≡ true) }
+    ensures origin { W.origin writer.new ≡ W.origin writer.old }
 {
     if session.is_broken() {
         return tell(writer, Answer::Broken);
@@ -369,10 +387,11 @@ fn serve_reach<D: Sectors, W: Sink>(
     writer: &mut W,
     goal: u64,
 ) -> Result<(), Failed>
-    ensures answers { Answers result session.old
+    ensures answers { Answers D.Sectors result session.old
         (λ s. unless_broken s (searched_or s (steps_to_reach s.state goal)))
         (W.contents writer.old) (W.contents writer.new) session.new silent }
     ensures failed { OnErr result (W.has_failed writer.new ≡ true) }
+    ensures origin { W.origin writer.new ≡ W.origin writer.old }
 {
     if session.is_broken() {
         return tell(writer, Answer::Broken);
@@ -390,14 +409,15 @@ fn search<D: Sectors, W: Sink>(
     writer: &mut W,
     steps: u32,
 ) -> Result<(), Failed>
-    ensures answers { Answers result session.old (λ s. searched s (counts_of steps))
+    ensures answers { Answers D.Sectors result session.old (λ s. searched s (counts_of steps))
         (W.contents writer.old) (W.contents writer.new) session.new silent }
     ensures failed { OnErr result (W.has_failed writer.new ≡ true) }
+    ensures origin { W.origin writer.new ≡ W.origin writer.old }
 {
     let mut left = steps;
     while left > 0 {
         let count = next_count(left);
-        if let Err(denial) = session.apply(alloc, Command::Search(count)).answer {
+        if let Err(denial) = apply(alloc, session, Command::Search(count)).answer {
             return tell(writer, denied(denial));
         }
         left -= u32::from(count);
@@ -411,6 +431,7 @@ fn tell_progress<D: Sectors, W: Sink>(session: &Session<D>, writer: &mut W) -> R
     ensures bytes { Puts (W.contents writer.old) (W.contents writer.new) result
         (at_line_of session.now) }
     ensures failed { OnErr result (W.has_failed writer.new ≡ true) }
+    ensures origin { W.origin writer.new ≡ W.origin writer.old }
 {
     match session.state() {
         State::Loaded(job) => put_line(writer, at_line(job).as_bytes()),
@@ -423,9 +444,10 @@ fn serve_print<D: Sectors, W: Sink>(
     session: &Session<D>,
     writer: &mut W,
 ) -> Result<(), Failed>
-    ensures answers { Answers result session.now (λ s. unless_broken s (printed s s.state))
+    ensures answers { Answers D.Sectors result session.now (λ s. unless_broken s (printed s s.state))
         (W.contents writer.old) (W.contents writer.new) session.now silent }
     ensures failed { OnErr result (W.has_failed writer.new ≡ true) }
+    ensures origin { W.origin writer.new ≡ W.origin writer.old }
 {
     let job = match job_of(session) {
         Ok(job) => job,
@@ -443,9 +465,10 @@ fn serve_show<D: Sectors, W: Sink>(
     session: &Session<D>,
     writer: &mut W,
 ) -> Result<(), Failed>
-    ensures answers { Answers result session.now (λ s. unless_broken s (shown s s.state))
+    ensures answers { Answers D.Sectors result session.now (λ s. unless_broken s (shown s s.state))
         (W.contents writer.old) (W.contents writer.new) session.now silent }
     ensures failed { OnErr result (W.has_failed writer.new ≡ true) }
+    ensures origin { W.origin writer.new ≡ W.origin writer.old }
 {
     let job = match job_of(session) {
         Ok(job) => job,
@@ -458,9 +481,10 @@ fn serve_show<D: Sectors, W: Sink>(
 }
 
 fn serve_next<D: Sectors, W: Sink>(session: &Session<D>, writer: &mut W) -> Result<(), Failed>
-    ensures answers { Answers result session.now (λ s. unless_broken s (next_stated s s.state))
+    ensures answers { Answers D.Sectors result session.now (λ s. unless_broken s (next_stated s s.state))
         (W.contents writer.old) (W.contents writer.new) session.now silent }
     ensures failed { OnErr result (W.has_failed writer.new ≡ true) }
+    ensures origin { W.origin writer.new ≡ W.origin writer.old }
 {
     match job_of(session) {
         Ok(job) => tell_line(writer, next_line(job).as_bytes()),

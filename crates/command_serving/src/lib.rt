@@ -17,21 +17,31 @@
 //! - `ahead`: what was read and not yet taken
 //! - `input`: an input as lines and the bytes that follow a line
 //! - `answering`: `serve`, and a function for each kind of line
+//! - `laws`: what stops leave of a serving, and the causes of its answers
 //!
-//! Said by `specs/Served.antt`, `Streams.antt` and `Strict.antt`. Proved of `serve`, where the bytes of the input are known:
+//! Said by `specs/Served.antt`, `Acts.antt`, `Stopped.antt`, `Causes.antt`, `Streams.antt` and `Strict.antt`. Proved of `serve`,
+//! where the bytes of the input are known:
 //! - `serves`, after `Ok` (`IsServed`): all is served, what is appended is the answer to the input, and the state
 //!   is the one after the commands that were carried out
 //! - `serves`, behind a `ServeFault` (`IsCutShort`): the answers to a first part of the input stand whole, and of
 //!   the next one a front or nothing; the session is the one that these answers tell, or with the one command that
 //!   the next tells
+//! - `serves`, in both cases (`run`): what was done are acts, whose commands and replies are a run of the session, and the
+//!   answers are those that follow these replies
+//! - `moments` (`RunsLeave`): at each moment a stop leaves the state after a first part of the commands that were kept, with
+//!   each one acknowledged by then. So `stopped_servings_recover` is the headline of an input
+//! - `fates_have_causes`: `no Spent` is told at the last sequence alone, `fault device` where a call of the device failed
 //! - `cause` (`HasCause`): `ReadFault` only where the source has failed or the input has 10^12 bytes, `WriteFault` only
 //!   where the sink has failed
 //! - `Strict::stopped`: what the last whole line tells that went through it (`TellsLast`, of `specs/Strict.antt`), unless the
 //!   writer has failed (`last_lines_are_ended` says what that line is); a `flush` that is `Ok` follows a line that tells neither, so serving over it ends behind the first
 //!   answer that does
+//! - `origin`: where a sink began to follow what is written, no serving changes, so of a `Strict` the last line is that of the
+//!   answers
 //! - what a whole line asks for does not depend on the pieces in which its bytes come (`input`)
 //!
-//! Not excluded by these clauses: a try that answers `OutOfMemory` though there is memory, and a `Watched` that fails
+//! Not excluded by these clauses: a try that answers `OutOfMemory` though there is memory, an answer handed on before what
+//! it tells is durable (device and writer have no common clock in contracts), and a `Watched` that fails
 //! always and notes it, since of std's readers and writers no contract says when a call may fail. Programs show that
 //! neither is so.
 #![tactic(auto)]
@@ -39,10 +49,12 @@
 mod ahead;
 mod answering;
 mod input;
+mod laws;
 mod since;
 mod streams;
 mod strict;
 
 pub use answering::{ServeFault, serve};
+pub use laws::{fates_have_causes, stopped_servings_recover};
 pub use streams::{Failed, Sink, Source, Watched};
 pub use strict::{Stopped, Strict, last_lines_are_ended};

@@ -2,7 +2,7 @@
 //!
 //! Std's `Read` and `Write` don't say when a call may fail. A `Source` and a `Sink` tell whether one has, so that a
 //! fault has a cause which a contract can name. A slice of bytes is a source that never fails.
-ghost use Rattle.std.specs.Prelude.{◌≡◌, ◌<◌, ◌≤◌, ℕ, List, Option, Bool, true, false, Some, IfOk, IfSome, IsNone, OnErr, length, take};
+ghost use Rattle.std.specs.Prelude.{◌≡◌, ◌<◌, ◌≤◌, ℕ, List, Option, Bool, true, false, None, Some, IfOk, IfSome, IsNone, OnErr, length, take};
 ghost use Rattle.std.specs.Io.{ReadsAtMost};
 ghost use Rattle.std.specs.Io.KnownBytes.{Appends, Keeps, ReadConsumes};
 ghost use Rattle.command_serving.specs.Streams.{Puts, ReadsSome, WritesSome};
@@ -37,15 +37,20 @@ pub trait Sink {
     // Whether a call has failed.
     ghost has_failed: { Self → Bool };
 
+    // The bytes that it held when it began to follow what is written, where it does and they are known. No call changes them.
+    ghost origin: { Self → Option (List ℕ) };
+
     /// Writes a text, or where a call fails a first part of it.
     fn put(&mut self, text: &[u8]) -> Result<(), Failed>
         ensures bytes { Puts (contents self.old) (contents self.new) result text.now }
-        ensures failed { OnErr result (has_failed self.new ≡ true) };
+        ensures failed { OnErr result (has_failed self.new ≡ true) }
+        ensures origin { origin self.new ≡ origin self.old };
 
     /// Hands on what was written.
     fn flush(&mut self) -> Result<(), Failed>
         ensures bytes { Keeps (contents self.old) (contents self.new) }
-        ensures failed { OnErr result (has_failed self.new ≡ true) };
+        ensures failed { OnErr result (has_failed self.new ≡ true) }
+        ensures origin { origin self.new ≡ origin self.old };
 }
 
 /// A reader or a writer, and whether a call of it as a source or a sink has failed.
@@ -104,6 +109,8 @@ impl<W: Write> Sink for Watched<W> {
     ghost contents = { λ w. W.contents w.inner };
 
     ghost has_failed = { λ w. w.has_failed };
+
+    ghost origin = { λ _. None };
 
     fn put(&mut self, text: &[u8]) -> Result<(), Failed>
         ensures bytes { Puts (W.contents self.old.inner) (W.contents self.new.inner) result text.now }

@@ -170,11 +170,13 @@ impl<W: Write> Sink for Strict<W> {
 
     ghost has_failed = { λ s. s.writer.has_failed || is_stopped s.told };
 
+    ghost origin = { λ s. s.before };
+
     fn put(&mut self, text: &[u8]) -> Result<(), Failed>
         ensures bytes { Puts (W.contents self.old.writer.inner) (W.contents self.new.writer.inner)
             result text.now }
         ensures failed { OnErr result (self.new.writer.has_failed || is_stopped self.new.told ≡ true) }
-        ensures since { self.new.before ≡ self.old.before }
+        ensures origin { self.new.before ≡ self.old.before }
     {
         self.writer.put(text)?;
         self.last_lines.take_all(text);
@@ -184,7 +186,7 @@ impl<W: Write> Sink for Strict<W> {
     fn flush(&mut self) -> Result<(), Failed>
         ensures bytes { Keeps (W.contents self.old.writer.inner) (W.contents self.new.writer.inner) }
         ensures failed { OnErr result (self.new.writer.has_failed || is_stopped self.new.told ≡ true) }
-        ensures since { self.new.before ≡ self.old.before }
+        ensures origin { self.new.before ≡ self.old.before }
         ensures told { self.new.told ≡ self.old.told }
         ensures lets { OnOk result (self.new.told ≡ None) }
     {

@@ -1,3 +1,5 @@
 pub mod AnyLemmas
+pub mod OpenLemmas
 pub mod SpelledLemmas
+pub mod StopLemmas
 pub mod TellLemmas

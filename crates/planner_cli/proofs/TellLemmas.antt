@@ -1,6 +1,6 @@
 -- What is told line by line.
 use Rattle.std.proofs.Common.{◌≡◌, ◌∙◌, ◌<◌, ◌||◌, ℕ, Bool, true, false, true≢false, List, [], ◌∷◌, ◌++◌, Option, Some, None, Result, Ok, Err, refl, sym, ap, subst, arith, append_assoc, append-nil}
-use Rattle.std.specs.Prelude.{◌≢◌, ◌↔◌, IfErr, IsErrOf, MatchResult, OnOk, max}
+use Rattle.std.specs.Prelude.{◌≢◌, ◌↔◌, IfErr, IsErrOf, OnOk, max}
 use Rattle.std.specs.Borrow.{Bor}
 use Rattle.std.specs.Result.{result_err}
 use Rattle.std.specs.Io.KnownBytes.{Appends, Keeps}
@@ -11,8 +11,7 @@ use Rattle.command_core.specs.Effects.{effect}
 use Rattle.command_core.specs.declared.commands.Command.{Command}
 use Rattle.command_core.specs.declared.states.State.{State}
 use Rattle.command_core.specs.declared.states.State.TheVariants.{Empty, Loaded}
-use Rattle.command_serving.specs.Served.{HasCause, IsCutShort, IsServed}
-use Rattle.command_text.specs.Cutting.{pieces_of}
+use Rattle.command_serving.specs.Served.{EndsOrIsCut, HasCause}
 use Rattle.command_text.specs.Readings.{Reading}
 use Rattle.command_serving.specs.Strict.{is_stopped}
 use Rattle.command_serving.specs.declared.answering.ServeFault.{ServeFault}
@@ -24,6 +23,7 @@ use Rattle.planner_cli.specs.Running.{stop_unless}
 use Rattle.recover.specs.Applying.{Makes}
 use Rattle.recover.specs.Sessions.{SessionValue}
 use Rattle.recover.specs.declared.denials.Denial.{Denial}
+use Rattle.sector_disk.specs.declared.sectors.Sectors as sectors
 
 pub flushed : (a b c : Option (List ℕ)) (text : List ℕ) → Appends a b text → Keeps b c → Appends a c text
 flushed None b c text written kept = tt
@@ -59,12 +59,10 @@ stopped_out served reader writer out told stopped len same is cause =
     subst (λ (b : Bool). IfErr served (λ f. HasCause f reader (b || is_stopped stopped) len)) (sym same) (stopped_by served reader writer told stopped len is cause)
 
 -- what was served between the same texts
-pub served_between : {T D : Type 0} (served : Result T ServeFault) (reading : Reading) (old new : SessionValue D) (input : List ℕ) (b b' a a' : Option (List ℕ)) → b' ≡ b → a' ≡ a
-    → MatchResult served (λ _. IsServed reading old input b' a' new) (λ _. IsCutShort reading old (pieces_of input) b' a' new)
-    → MatchResult served (λ _. IsServed reading old input b a new) (λ _. IsCutShort reading old (pieces_of input) b a new)
-served_between served reading old new input b b' a a' first last given =
-    subst (λ (x : Option (List ℕ)). MatchResult served (λ _. IsServed reading old input x a new) (λ _. IsCutShort reading old (pieces_of input) x a new)) first
-    (subst (λ (x : Option (List ℕ)). MatchResult served (λ _. IsServed reading old input b' x new) (λ _. IsCutShort reading old (pieces_of input) b' x new)) last given)
+pub served_between : {T D : Type 0} (on : sectors.Ghosts D) (served : Result T ServeFault) (reading : Reading) (old new : SessionValue D) (input : List ℕ) (b b' a a' : Option (List ℕ)) → b' ≡ b → a' ≡ a
+    → EndsOrIsCut on served reading old input b' a' new → EndsOrIsCut on served reading old input b a new
+served_between on served reading old new input b b' a a' first last given =
+    subst (λ (x : Option (List ℕ)). EndsOrIsCut on served reading old input x a new) first (subst (λ (x : Option (List ℕ)). EndsOrIsCut on served reading old input b' x new) last given)
 
 -- a device of a store's sectors is not too small
 pub not_too_small : {T E : Type 0} (made : Result T E) (fault : E) (len : ℕ) → IsErrOf made fault ↔ (len < 8450) → len ≡ 8450 → result_err made ≢ Some fault

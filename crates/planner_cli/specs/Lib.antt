@@ -2,6 +2,9 @@
 pub mod Answer
 pub mod AnswerText
 pub mod Statuses
+pub mod Recovering
+pub mod Running
+pub mod Telling
 pub use Rattle.command_line.specs.Asked
 pub use Rattle.command_serving.specs.Served
 pub use Rattle.command_serving.specs.Streams
@@ -10,11 +13,10 @@ pub mod Drawn
 pub mod Examined
 pub mod Explained
 pub mod Files
+pub mod Foretold
 pub mod Formatting
 pub mod Listed
 pub mod Loading
-pub mod Running
 pub mod Solving
-pub mod Telling
 pub mod Upgrading
 pub mod Whatever

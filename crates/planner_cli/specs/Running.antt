@@ -1,18 +1,18 @@
 -- What the word `run` does: it opens a store, tells how many search steps were repeated, and serves the input over it.
-use Rattle.std.specs.Prelude.{◌≡◌, ◌≢◌, ◌⊎◌, ℕ, ◌+◌, ◌<◌, ◌||◌, Bool, true, false, List, [], ◌++◌, length, codes, decimal, Option, Some, None, Result, Ok, Err, IfErr, MatchResult, ⊤}
+use Rattle.std.specs.Prelude.{◌≡◌, ◌≢◌, ◌⊎◌, ℕ, ◌+◌, ◌<◌, ◌||◌, Bool, true, false, List, [], ◌++◌, length, codes, decimal, Option, Some, None, Result, Ok, Err, IfErr, ⊤}
 use Rattle.std.specs.Io.KnownBytes.{Appends}
 use Rattle.checkpoint.specs.Holdless.{IsOfLoad, UnlessUnread}
 use Rattle.checkpoint.specs.Refused.{faults_of_store}
 use Rattle.checkpoint.specs.declared.faults.StoreFault.{StoreFault}
 use Rattle.checkpoint.specs.declared.faults.StoreFault.TheVariants.{NotFormatted}
 use Rattle.command_core.specs.Runs.{IsState}
-use Rattle.command_serving.specs.Served.{HasCause, IsCutShort, IsServed}
-use Rattle.command_serving.specs.Strict.{is_stopped}
+use Rattle.command_serving.specs.Served.{EndsOrIsCut, HasCause}
+use Rattle.command_serving.specs.Stopped.{RunsLeave}
+use Rattle.command_serving.specs.Strict.{TellsLast, is_stopped}
 use Rattle.command_serving.specs.declared.answering.ServeFault.{ServeFault}
 use Rattle.command_serving.specs.declared.answering.ServeFault.TheVariants as serve
 use Rattle.command_serving.specs.declared.strict.Stopped.{Stopped}
 use Rattle.command_serving.specs.declared.strict.Stopped.TheVariants as stop
-use Rattle.command_text.specs.Cutting.{pieces_of}
 use Rattle.command_text.specs.Readings.{IsReading, Reading}
 use Rattle.command_text.specs.Answers.{line}
 use Rattle.planner_cli.specs.Telling.{open_line, open_status, store_line, store_status}
@@ -26,8 +26,8 @@ use Rattle.sector_disk.specs.declared.sectors.Sectors as sectors
 use Rattle.state_codec.specs.declared.version.Version.TheVariants.{Two}
 
 -- An input whose bytes are known was served, or the serving cut short, and for this cause, as `serve` says it.
-pub record Serves {D : Type 0} (served : Result ⊤ ServeFault) (old : SessionValue D) (input : List ℕ) (before after : Option (List ℕ)) (reader_failed writer_failed : Bool) (new : SessionValue D) : Type 0 where
-  pub serves : (reading : Reading) → IsReading reading → MatchResult served (λ _. IsServed reading old input before after new) (λ _. IsCutShort reading old (pieces_of input) before after new)
+pub record Serves {D : Type 0} (on : sectors.Ghosts D) (served : Result ⊤ ServeFault) (old : SessionValue D) (input : List ℕ) (before after : Option (List ℕ)) (reader_failed writer_failed : Bool) (new : SessionValue D) : Type 0 where
+  pub serves : (reading : Reading) → IsReading reading → EndsOrIsCut on served reading old input before after new
   pub cause : IfErr served (λ fault. HasCause fault reader_failed writer_failed (length input))
 
 -- what is told behind the answers
@@ -58,10 +58,13 @@ stop_unless true told = None
 stop_unless false told = told
 
 -- An input was served, by `strict` up to an answer that lets none follow, which is `stopped`. `known` are the bytes of the input, where they are
--- known.
-pub record IsEnded {D : Type 0} (old : SessionValue D) (is_strict : Bool) (known opened : Option (List ℕ)) (served : Result ⊤ ServeFault) (stopped : Option Stopped) (answered : Option (List ℕ)) (reader_failed writer_failed : Bool) (new : SessionValue D) : Type 0 where
-  pub serves : (input : List ℕ) → known ≡ Some input → Serves served old input opened answered reader_failed (writer_failed || is_stopped stopped) new
+-- known. At each moment of it a stop leaves what a run promises.
+pub record IsEnded {D : Type 0} (on : sectors.Ghosts D) (old : SessionValue D) (is_strict : Bool) (known opened : Option (List ℕ)) (served : Result ⊤ ServeFault) (stopped : Option Stopped) (answered : Option (List ℕ)) (reader_failed writer_failed : Bool) (new : SessionValue D) : Type 0 where
+  pub serves : (input : List ℕ) → known ≡ Some input → Serves on served old input opened answered reader_failed (writer_failed || is_stopped stopped) new
   pub plain : is_strict ≡ false → stopped ≡ None
+  pub moments : RunsLeave on old new
+  -- what the last whole line of the answers tells, unless the writer has failed
+  pub last : is_strict ≡ true → writer_failed ≡ false → TellsLast opened answered stopped
 
 -- By the answer that a strict serving ended at, if it did.
 abbrev pub TellsEnded : {T : Type 0} → Result T ServeFault → Option Stopped → Option (List ℕ) → Option (List ℕ) → ℕ → Type 0
@@ -71,7 +74,7 @@ TellsEnded served (Some stop.DeviceFault) before after status = (status ≡ 3) �
 
 -- Over a session that was opened: first it is told how many steps were repeated, then stand the answers to the input, and behind them that
 -- the input can't be read, if so it was.
-pub record RunsSession {D : Type 0} (old : SessionValue D) (replayed : ℕ) (is_strict : Bool) (known before after : Option (List ℕ)) (reader_failed writer_failed : Bool) (status : ℕ) : Type 0 where
+pub record RunsSession {D : Type 0} (on : sectors.Ghosts D) (old : SessionValue D) (replayed : ℕ) (is_strict : Bool) (known before after : Option (List ℕ)) (reader_failed writer_failed : Bool) (status : ℕ) : Type 0 where
   pub opened : Option (List ℕ)
   pub tells_opened : Appends before opened (opened_line replayed)
   pub served : Result ⊤ ServeFault
@@ -79,7 +82,7 @@ pub record RunsSession {D : Type 0} (old : SessionValue D) (replayed : ℕ) (is_
   pub answered : Option (List ℕ)
   pub failed : Bool
   pub new : SessionValue D
-  pub ends : IsEnded old is_strict known opened served stopped answered reader_failed failed new
+  pub ends : IsEnded on old is_strict known opened served stopped answered reader_failed failed new
   pub kept : served ≢ Err serve.ReadFault → writer_failed ≡ failed
   pub tells : TellsEnded served stopped answered after status
 
@@ -99,12 +102,14 @@ module _ {D : Type 0} (on : sectors.Ghosts D) where
     pub faults : on.faults session.device ≡ on.faults device
     pub same_len : on.len session.device ≡ on.len device
 
-  -- Opening the device was refused: its image stands for no state, or could not be read.
+  -- Opening the device was refused: its image stands for no state, or could not be read. At each moment of it each image is one of those before.
   pub record IsRefused (device after : D) (fault : StoreFault) : Type 0 where
     pub refused : on.honest after → UnlessUnread (StandsForNone Two (on.seen device)) fault
     pub opens : on.honest after → Opens Two (on.seen device) (Err fault)
     pub fails : IsOfLoad fault
     pub small : on.len device < 802 → (fault ≡ NotFormatted) × (after ≡ device)
+    pub moments : on.honest after
+        → Throughout on.clock on.possible_since device after (λ m image. IsBetween (on.calls device) (on.calls device + 1) m image × on.possible device image)
     pub honest : on.honest after → on.honest device
     pub faults : on.faults after ≡ faults_of_store fault (on.faults device)
 
@@ -117,7 +122,7 @@ module _ {D : Type 0} (on : sectors.Ghosts D) where
   -- The store on the device is opened and the input served over it, or it is told why it can't be opened.
   abbrev pub RunsDevice : D → Bool → Option (List ℕ) → Option (List ℕ) → Option (List ℕ) → Bool → Bool → ℕ → Type 0
   RunsDevice device is_strict known before after reader_failed writer_failed status =
-      OpensDevice device (λ session replayed. RunsSession session replayed is_strict known before after reader_failed writer_failed status) (λ later fault. TellsFault fault before after status)
+      OpensDevice device (λ session replayed. RunsSession on session replayed is_strict known before after reader_failed writer_failed status) (λ later fault. TellsFault fault before after status)
 
   -- The same for the device over a file, or it is told why there is none. `IsNew` is what is known of the device.
   abbrev pub RunsStore : (D → Type 0) → List ℕ → Bool → Option (List ℕ) → Option (List ℕ) → Option (List ℕ) → Bool → Bool → ℕ → Type 0

@@ -18,12 +18,13 @@
 //! - `audited`, `listed`: the words `audit` and `audits`
 //! - `explained`, `drawn`, `solved`: the words `explain`, `draw` and `solve`
 //! - `opened`: the opening of a store
+//! - `laws`: what stops leave of the word `run`
 //! - `stores`: the words `format`, `run` and `upgrade`
 //! - `loaded`: the word `load`
 //! - `program`: `run_words`
 //!
 //! Said by `specs/Answer.antt`, and word by word by `Files.antt`, `Listed.antt`, `Explained.antt`, `Drawn.antt`,
-//! `Solving.antt`, `Formatting.antt`, `Loading.antt`, `Running.antt` and `Upgrading.antt`, which statuses by
+//! `Solving.antt`, `Formatting.antt`, `Foretold.antt`, `Loading.antt`, `Running.antt` and `Upgrading.antt`, which statuses by
 //! `Statuses.antt`. Proved:
 //! - `audit_text`: line and status are those of the first fault or of the verdict on what the texts spell; the
 //!   status is 0 exactly where both spell a value and the solution keeps the rules, serves every request, keeps the
@@ -36,6 +37,11 @@
 //! - `run_store` (`RunsStore`): the device that `FileDevice::at_or_cause` gives is opened, and what `serve` writes over that
 //!   session stands behind `opened N`; 3 where the reader or the writer failed, with `cannot read input` for the
 //!   reader
+//! - `stopped_runs_recover` (`ServedRunHeadline`, `RunHeadline` in `specs/Recovering.antt`): stopped at any moment of `run` over
+//!   a device, opening it gives the state after a first part of the commands of its input, with every one acknowledged by
+//!   then, and at most one more
+//! - `open_session` (`IsForetold`), by which `run` and `load` open: before a search step is repeated, the line of how many are
+//!   stands on standard error, and nothing where none are, unless a write of it failed
 //! - `format_store` (`FormatsStore`): a device of 8,450 sectors, and what `format` of `checkpoint` made of it
 //! - `load_read` (`TellsLoad`): the instance's first fault, before any store is opened; else a store that was found or made is
 //!   opened, left as it is where it holds an instance, and begun with `Load` where it is empty: after `ok` each image that a
@@ -51,6 +57,7 @@ mod audit;
 mod audited;
 mod drawn;
 mod explained;
+mod laws;
 mod listed;
 mod loaded;
 mod opened;
@@ -64,4 +71,5 @@ pub use answer::{AuditAnswer, Line};
 pub use audit::audit_text;
 pub use command_line::{Invocation, Loading, Paths, Task, read_words};
 pub use command_serving::{Failed, ServeFault, Sink, Source, Watched, serve};
+pub use laws::stopped_runs_recover;
 pub use program::run_words;

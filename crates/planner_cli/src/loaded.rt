@@ -28,13 +28,14 @@ use std::io::{ErrorKind, Write};
 use std::rt::Files;
 
 /// Reads an instance and begins the store in a file with it, which is made where there is none, and tells what came of it.
-pub(crate) fn load_read<F, R, T: Start, U: Start, W: Write>(
+pub(crate) fn load_read<F, R, T: Start, U: Start, W: Write, E: Write>(
     rt: &R,
     start: T,
     start_of_new: U,
     loading: Loading,
     read: &F,
     output: &mut W,
+    errors: &mut E,
 ) -> io::Result<u8>
 where
     F: Fn(&str) -> io::Result<Vec<u8>>,
@@ -55,17 +56,26 @@ where
         Err(fault) => return tell_instance_fault(output, fault),
     };
     let command = Command::Load(problem, loading.seed);
-    begin_store(rt, start, start_of_new, loading.store, command, output)
+    begin_store(
+        rt,
+        start,
+        start_of_new,
+        loading.store,
+        command,
+        output,
+        errors,
+    )
 }
 
 // Begins the store in the file with the command.
-fn begin_store<R, T: Start, U: Start, W: Write>(
+fn begin_store<R, T: Start, U: Start, W: Write, E: Write>(
     rt: &R,
     start: T,
     start_of_new: U,
     store: &str,
     command: Command,
     output: &mut W,
+    errors: &mut E,
 ) -> io::Result<u8>
 where
     R: Files<File = File> + Eprint + AllocGlobal,
@@ -76,13 +86,13 @@ where
 {
     match FileDevice::at_or_cause(rt, store, start) {
         Ok(device) => {
-            let (told, device) = begin_device(rt.alloc(), device, command, output);
+            let (told, device) = begin_device(rt.alloc(), device, command, output, errors);
             tell_cause(rt, store, device.cause());
             told
         }
         Err(refusal) => {
             if is_absent(&refusal) {
-                return begin_new(rt, start_of_new, store, command, output);
+                return begin_new(rt, start_of_new, store, command, output, errors);
             }
             tell_cause(rt, store, refusal.cause);
             tell_file_fault(output, store, refusal.fault)
@@ -99,12 +109,13 @@ fn is_absent(refusal: &FileRefusal) -> bool {
 }
 
 // Makes the file, and begins a store in it with the command.
-fn begin_new<R, U: Start, W: Write>(
+fn begin_new<R, U: Start, W: Write, E: Write>(
     rt: &R,
     start: U,
     store: &str,
     command: Command,
     output: &mut W,
+    errors: &mut E,
 ) -> io::Result<u8>
 where
     R: Files<File = File> + Eprint + AllocGlobal,
@@ -115,7 +126,7 @@ where
 {
     match FileDevice::create_or_cause(rt, store, STORE_SECTORS, start) {
         Ok(device) => {
-            let (told, device) = begin_made(rt.alloc(), device, command, output);
+            let (told, device) = begin_made(rt.alloc(), device, command, output, errors);
             tell_cause(rt, store, device.cause());
             told
         }
@@ -128,29 +139,34 @@ where
 
 // Opens the store on a device over a file that was just made, or formats it where it holds none, and begins it with the
 // command.
-fn begin_made<D: Sectors + Drop, W: Write>(
+fn begin_made<D: Sectors + Drop, W: Write, E: Write>(
     alloc: Global,
     device: D,
     command: Command,
     output: &mut W,
+    errors: &mut E,
 ) -> (io::Result<u8>, D)
     ensures status { IfOk result.0 (λ status. status ≤ 4) }
     ensures begins { IfOk result.0 (BeginsMade D.Sectors device command
         (W.contents output.old) (W.contents output.new) result.1) }
 {
-    match open_session(alloc, device) {
+    let opening = open_session(alloc, device, errors);
+    match opening.into_opened() {
         Ok(opened) => begin_opened(alloc, opened, command, output),
-        Err((StoreFault::NotFormatted, device)) => begin_formatted(alloc, device, command, output),
+        Err((StoreFault::NotFormatted, device)) => begin_formatted(
+            alloc, device, command, output, errors,
+        ),
         Err((fault, device)) => (tell_store_fault(output, fault), device),
     }
 }
 
 // Makes an empty store on the device, and begins it with the command.
-fn begin_formatted<D: Sectors + Drop, W: Write>(
+fn begin_formatted<D: Sectors + Drop, W: Write, E: Write>(
     alloc: Global,
     device: D,
     command: Command,
     output: &mut W,
+    errors: &mut E,
 ) -> (io::Result<u8>, D)
     ensures status { IfOk result.0 (λ status. status ≤ 4) }
     ensures begins { IfOk result.0 (BeginsFormatted D.Sectors device command
@@ -158,23 +174,25 @@ fn begin_formatted<D: Sectors + Drop, W: Write>(
 {
     let mut device = device;
     match format(alloc, &mut device) {
-        Ok(_) => begin_device(alloc, device, command, output),
+        Ok(_) => begin_device(alloc, device, command, output, errors),
         Err(fault) => (tell_format(output, Some(fault)), device),
     }
 }
 
 // Opens the store on the device, and begins it with the command.
-fn begin_device<D: Sectors + Drop, W: Write>(
+fn begin_device<D: Sectors + Drop, W: Write, E: Write>(
     alloc: Global,
     device: D,
     command: Command,
     output: &mut W,
+    errors: &mut E,
 ) -> (io::Result<u8>, D)
     ensures status { IfOk result.0 (λ status. status ≤ 4) }
     ensures begins { IfOk result.0 (BeginsDevice D.Sectors device command
         (W.contents output.old) (W.contents output.new) result.1) }
 {
-    match open_session(alloc, device) {
+    let opening = open_session(alloc, device, errors);
+    match opening.into_opened() {
         Ok(opened) => begin_opened(alloc, opened, command, output),
         Err((fault, device)) => (tell_store_fault(output, fault), device),
     }

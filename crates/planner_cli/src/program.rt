@@ -85,12 +85,20 @@ where
         Invocation::Solve(task) => status_of(solve_file(rt, task, &mut output, errors)),
         Invocation::Format { store } => status_of(format_store(rt, start, store, &mut output)),
         Invocation::Load(loading) => {
-            status_of(load_file(rt, start, start_of_new, loading, &mut output))
+            status_of(load_file(rt, start, start_of_new, loading, &mut output, errors))
         }
         Invocation::Run { store, is_strict } => {
             let mut commands = Watched::new(rt.reader());
             let answers = Watched::new(output);
-            let (told, _answers) = run_store(rt, start, store, is_strict, &mut commands, answers);
+            let (told, _answers) = run_store(
+                rt,
+                start,
+                store,
+                is_strict,
+                &mut commands,
+                answers,
+                errors,
+            );
             status_of(told)
         }
         Invocation::Upgrade { old, new } => {
@@ -215,12 +223,13 @@ where
 }
 
 // Loads the instance in a file into a store.
-fn load_file<R, T: Start, U: Start, W: Write>(
+fn load_file<R, T: Start, U: Start, W: Write, E: Write>(
     rt: &R,
     start: T,
     start_of_new: U,
     loading: Loading,
     output: &mut W,
+    errors: &mut E,
 ) -> io::Result<u8>
 where
     R: Files<File = File> + Eprint + AllocGlobal,
@@ -231,7 +240,7 @@ where
         (W.contents output.old) (W.contents output.new)) }
 {
     let read = |path: &str| read_file(rt, path);
-    load_read(rt, start, start_of_new, loading, &read, output)
+    load_read(rt, start, start_of_new, loading, &read, output, errors)
 }
 
 // Reads a file, or standard input for `-`. Why it can't be read is told on standard error, in the system's words.

@@ -4,6 +4,7 @@
 //! error; no clause speaks of it.
 ghost use Rattle.std.specs.Prelude.{◌≡◌, ◌≢◌, ◌≤◌, Err, IfOk, OnOk, false, true};
 ghost use Rattle.std.specs.Io.KnownBytes.{Appends};
+ghost use Rattle.command_serving.specs.Strict.{TellsLast};
 ghost use Rattle.command_serving.specs.declared.answering.ServeFault.TheVariants.{ReadFault};
 ghost use Rattle.sector_disk.specs.FileDevice.{IsUnused};
 ghost use Rattle.planner_cli.specs.Formatting.{FormatsStore};
@@ -59,14 +60,15 @@ where
 }
 
 /// Opens the store in the file, and serves the input over it, by `is_strict` up to the first answer that tells a refusal or a
-/// failed device.
-pub(crate) fn run_store<R, T: Start, I: Read, W: Write>(
+/// failed device. How many search steps opening repeats is told on `errors` first.
+pub(crate) fn run_store<R, T: Start, I: Read, W: Write, E: Write>(
     rt: &R,
     start: T,
     store: &str,
     is_strict: bool,
     input: &mut Watched<I>,
     output: Watched<W>,
+    errors: &mut E,
 ) -> (io::Result<u8>, Watched<W>)
 where
     R: Files<File = File> + Eprint + AllocGlobal,
@@ -78,7 +80,14 @@ where
 {
     match FileDevice::at_or_cause(rt, store, start) {
         Ok(device) => {
-            let (told, device, output) = run_device(rt.alloc(), device, is_strict, input, output);
+            let (told, device, output) = run_device(
+                rt.alloc(),
+                device,
+                is_strict,
+                input,
+                output,
+                errors,
+            );
             tell_cause(rt, store, device.cause());
             (told, output)
         }
@@ -172,19 +181,21 @@ where
 }
 
 // Opens the store on the device, serves the input over it, and gives the device and the output back.
-fn run_device<D: Sectors + Drop, I: Read, W: Write>(
+fn run_device<D: Sectors + Drop, I: Read, W: Write, E: Write>(
     alloc: Global,
     device: D,
     is_strict: bool,
     input: &mut Watched<I>,
     output: Watched<W>,
+    errors: &mut E,
 ) -> (io::Result<u8>, D, Watched<W>)
     ensures status { IfOk result.0 (λ status. status ≤ 4) }
     ensures runs { IfOk result.0 (RunsDevice D.Sectors device is_strict
         (I.remaining input.old.inner) (W.contents output.inner) (W.contents result.2.inner)
         input.new.has_failed result.2.has_failed) }
 {
-    match open_session(alloc, device) {
+    let opening = open_session(alloc, device, errors);
+    match opening.into_opened() {
         Ok(opened) => {
             let Opened {
                 mut session,
@@ -217,7 +228,7 @@ fn serve_opened<D: Sectors + Drop, I: Read, W: Write>(
     output: Watched<W>,
 ) -> (io::Result<u8>, Watched<W>)
     ensures status { IfOk result.0 (λ status. status ≤ 4) }
-    ensures runs { IfOk result.0 (RunsSession session.old replayed is_strict
+    ensures runs { IfOk result.0 (RunsSession D.Sectors session.old replayed is_strict
         (I.remaining input.old.inner) (W.contents output.inner) (W.contents result.1.inner)
         input.new.has_failed result.1.has_failed) }
 {
@@ -257,7 +268,7 @@ fn serve_input<D: Sectors + Drop, I: Read, W: Write>(
     input: &mut Watched<I>,
     output: Watched<W>,
 ) -> Ended<W>
-    ensures { IsEnded session.old is_strict (I.remaining input.old.inner)
+    ensures { IsEnded D.Sectors session.old is_strict (I.remaining input.old.inner)
         (W.contents output.inner) result.served result.stopped (W.contents result.output.inner)
         input.new.has_failed result.output.has_failed session.new }
 {
@@ -280,7 +291,7 @@ fn serve_strictly<D: Sectors + Drop, I: Read, W: Write>(
     input: &mut Watched<I>,
     output: Watched<W>,
 ) -> Ended<W>
-    ensures { IsEnded session.old true (I.remaining input.old.inner)
+    ensures { IsEnded D.Sectors session.old true (I.remaining input.old.inner)
         (W.contents output.inner) result.served result.stopped (W.contents result.output.inner)
         input.new.has_failed result.output.has_failed session.new }
 {
@@ -296,7 +307,9 @@ fn serve_strictly<D: Sectors + Drop, I: Read, W: Write>(
 
 // What the last answer tells, where the writer has not failed.
 fn stop_of<W: Write>(answers: &Strict<W>) -> Option<Stopped>
-    ensures { result ≡ stop_unless answers.now.writer.has_failed answers.now.told }
+    ensures stop { result ≡ stop_unless answers.now.writer.has_failed answers.now.told }
+    ensures last { answers.now.writer.has_failed ≡ false
+        → TellsLast answers.now.before (W.contents answers.now.writer.inner) result }
 {
     if answers.has_failed() {
         return None;

@@ -1,6 +1,7 @@
 //! What the program prints, and the status that goes with it.
 ghost use Rattle.std.specs.Prelude.{◌≡◌, ◌≢◌, ◌≤◌, ◌++◌, ◌∷◌, [], IfOk, MatchResult, OnOk, codes};
 ghost use Rattle.std.specs.Io.KnownBytes.{Appends};
+ghost use Rattle.planner_cli.specs.Foretold.{repeating_line};
 ghost use Rattle.planner_cli.specs.Telling.{TellsAnswer, TellsAnswered, TellsInstanceFault, TellsUnread, denial_line, denial_status, format_line, format_status, is_device_fault, is_memory, new_line, open_line, open_status, store_line, store_status, unmade_line, upgrade_line, upgrade_status, wants_memory};
 
 use crate::answer::AuditAnswer;
@@ -134,6 +135,17 @@ pub(crate) fn tell_cause<R: Eprint>(rt: &R, path: &str, cause: Option<io::Error>
     if let Some(error) = cause {
         let _ = eprintln!(rt; "planner: {path}: {error}");
     }
+}
+
+/// Tells how many search steps are to be repeated, and nothing where none are.
+pub(crate) fn tell_repeating<E: Write>(steps: u64, errors: &mut E) -> io::Result<()>
+    ensures { OnOk result (Appends (E.contents errors.old) (E.contents errors.new)
+        (repeating_line steps)) }
+{
+    if steps == 0 {
+        return Ok(());
+    }
+    writeln!(errors, "planner: repeating {steps} search steps")
 }
 
 /// Tells what came of a format.

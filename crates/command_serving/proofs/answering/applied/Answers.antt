@@ -8,9 +8,9 @@ use Rattle.command_serving.proofs.ServingLemmas.{plain_err, plain_ok}
 use Rattle.command_serving.proofs.answering.applied.Goals as goal
 
 pub returns-in-Ok : goal.returns-in-Ok
-returns-in-Ok g c = plain_ok c.args.session.now c.apply.new.self c.args.command c.apply.result.answer c.apply.ensures.answer c.apply.ensures.makes c.in-Ok.field-0 c.in-Ok.is
+returns-in-Ok g c = plain_ok g.D.Sectors c.args.session.now c.apply.new.session c.args.command c.apply.result c.apply.ensures c.in-Ok.field-0 c.in-Ok.is
 
 pub returns-in-Err : goal.returns-in-Err
 returns-in-Err g c =
-    subst (λ a. Tells c.args.session.now (λ s. plain s c.args.command) (line (answer_text a)) c.apply.new.self silent) (sym c.denied.ensures)
-    (plain_err c.args.session.now c.apply.new.self c.args.command c.apply.result.answer c.apply.ensures.answer c.apply.ensures.makes c.in-Err.denial c.in-Err.is)
+    subst (λ a. Tells g.D.Sectors c.args.session.now (λ s. plain s c.args.command) (line (answer_text a)) c.apply.new.session silent) (sym c.denied.ensures)
+    (plain_err g.D.Sectors c.args.session.now c.apply.new.session c.args.command c.apply.result c.apply.ensures c.in-Err.denial c.in-Err.is)

@@ -1,5 +1,5 @@
 -- A session that is broken or has no instance tells that first.
-use Rattle.std.proofs.Common.{◌≡◌, ◌∙◌, false, true, sym, refl, inr, []}
+use Rattle.std.proofs.Common.{◌≡◌, ◌∙◌, false, true, sym, refl, inr, None}
 use Rattle.command_core.specs.declared.refusals.Refusal.TheVariants as core
 use Rattle.command_core.specs.declared.states.State.TheVariants.{Empty, Loaded}
 use Rattle.command_text.specs.Answering.{refused, unless_broken}
@@ -12,7 +12,7 @@ pub returns-then-is_broken : goal.returns-then-is_broken
 returns-then-is_broken g c =
     let session = c.args.session.now in
     let broken : session.is_broken ≡ true = sym c.is_broken.ensures.broken ∙ c.if-is_broken.true in
-    tells_fate session (λ s. unless_broken s (refused s s.state c.args.refusal)) [] answer.Broken
+    tells_fate session (λ s. unless_broken s (refused s s.state c.args.refusal)) None answer.Broken
     (λ later. when_broken (as_serving session later) (refused (as_serving session later) session.state c.args.refusal) broken)
 
 pub returns-in-Empty : goal.returns-in-Empty
@@ -20,7 +20,7 @@ returns-in-Empty g c =
     let session = c.args.session.now in
     let whole : session.is_broken ≡ false = sym c.is_broken.ensures.broken ∙ c.if-is_broken.false in
     let empty : session.state ≡ Empty = sym c.state.ensures.state ∙ c.in-Empty.is in
-    tells_fate session (λ s. unless_broken s (refused s s.state c.args.refusal)) [] (answer.Refused core.NoInstance)
+    tells_fate session (λ s. unless_broken s (refused s s.state c.args.refusal)) None (answer.Refused core.NoInstance)
     (λ later. no_job (λ s state. refused s state c.args.refusal) (as_serving session later) (answer.Refused core.NoInstance) (λ t. refl) (inr (whole, empty, refl)))
 
 pub returns-in-Loaded : goal.returns-in-Loaded
@@ -28,5 +28,5 @@ returns-in-Loaded g c =
     let session = c.args.session.now in
     let whole : session.is_broken ≡ false = sym c.is_broken.ensures.broken ∙ c.if-is_broken.false in
     let loaded : session.state ≡ Loaded c.in-Loaded.field-0 = sym c.state.ensures.state ∙ c.in-Loaded.is in
-    tells_fate session (λ s. unless_broken s (refused s s.state c.args.refusal)) [] (answer.Refused c.args.refusal)
+    tells_fate session (λ s. unless_broken s (refused s s.state c.args.refusal)) None (answer.Refused c.args.refusal)
     (λ later. with_job (λ s state. refused s state c.args.refusal) (as_serving session later) c.in-Loaded.field-0 whole loaded)

@@ -1,11 +1,12 @@
--- Nothing is read yet, so what is left of the input is what the reader has.
-use Rattle.std.proofs.Common.{◌≡◌, ◌∙◌, Some, ap, subst, length}
+-- Nothing is read yet, so what is left of the input is what the reader has. A run over a session leaves at each moment a first part of its commands.
+use Rattle.std.proofs.Common.{◌≡◌, ◌∙◌, [], Some, ap, refl, subst, length}
 use Rattle.std.proofs.lemmas.Result.{IfErr-weaker}
 use Rattle.std.proofs.KnownBytes.{prepend_known-nil}
 use Rattle.std.specs.Io.KnownBytes.{prepend_known}
 use Rattle.command_serving.specs.Input.{CountsTaken, left_of}
 use Rattle.command_serving.specs.Served.{HasCause}
 use Rattle.command_serving.specs.Serving.{IsCause}
+use Rattle.command_serving.proofs.ActLemmas.{honest_before}
 use Rattle.command_serving.proofs.AskedLemmas.{cause_of, whole_input}
 use Rattle.command_serving.proofs.answering.serve.Goals as goal
 
@@ -14,6 +15,12 @@ returns-clause-serves g c = λ reading input is known.
     let reader = g.R.Source.remaining c.args.reader.now in
     let start : left_of g.R.Source.remaining c.new-input.result c.args.reader.now ≡ Some input = ap (λ a. prepend_known a reader) c.new-input.ensures.ahead ∙ prepend_known-nil reader ∙ known in
     c.serve_lines.ensures.serves reading input is start
+
+pub returns-clause-moments : goal.returns-clause-moments
+returns-clause-moments g c = λ commands replies run whole honest.
+    let old = c.args.session.now in
+    let stands = c.images_stand_for_the_state.ensures whole (honest_before g.D.Sectors commands replies old c.serve_lines.new.session run honest) in
+    c.runs_add_up.ensures.moments old old c.serve_lines.new.session [] commands [] replies refl run whole honest stands
 
 pub returns-clause-cause : goal.returns-clause-cause
 returns-clause-cause g c = λ input known.

@@ -13,7 +13,7 @@ returns-in-Short-clause-answers g c = λ reading bytes is.
     let old = c.args.session.now in
     let before = g.W.Sink.contents c.args.writer.now in
     let after = g.W.Sink.contents c.tell.new.writer in
-    subst (λ t. Answers c.tell.result old (load_told t reading c.args.kind c.args.seed bytes) before after old silent) (sym c.in-Short.is)
+    subst (λ t. Answers g.D.Sectors c.tell.result old (load_told t reading c.args.kind c.args.seed bytes) before after old silent) (sym c.in-Short.is)
     (answers_told c.tell.result old old (λ s. answered s answer.Truncated) None (line (answer_text answer.Truncated)) before after
     (tells_same old (λ s. answered s answer.Truncated) answer.Truncated (λ fates. refl)) c.tell.ensures.bytes)
 
@@ -23,7 +23,7 @@ returns-in-Dropped-clause-answers g c = λ reading bytes is.
     let before = g.W.Sink.contents c.args.writer.now in
     let after = g.W.Sink.contents c.tell-in-Dropped.new.writer in
     let found = reading c.args.kind bytes in
-    subst (λ t. Answers c.tell-in-Dropped.result old (load_told t reading c.args.kind c.args.seed bytes) before after old silent) (sym c.in-Dropped.is)
+    subst (λ t. Answers g.D.Sectors c.tell-in-Dropped.result old (load_told t reading c.args.kind c.args.seed bytes) before after old silent) (sym c.in-Dropped.is)
     (answers_told c.tell-in-Dropped.result old old (load_reply c.args.seed found) None (line (answer_text c.dropped.result)) before after (c.dropped.ensures c.args.seed found) c.tell-in-Dropped.ensures.bytes)
 
 pub returns-in-Whole-clause-answers : goal.returns-in-Whole-clause-answers
@@ -33,6 +33,6 @@ returns-in-Whole-clause-answers g c = λ reading bytes is.
     let before = g.W.Sink.contents c.args.writer.now in
     let after = g.W.Sink.contents c.tell-in-Whole.new.writer in
     let told = line (answer_text c.loaded.result) in
-    let tells = subst (λ b. Tells old (load_reply c.args.seed (reading c.args.kind b)) told new silent) c.deref.ensures.value (c.loaded.ensures reading is) in
-    subst (λ t. Answers c.tell-in-Whole.result old (load_told t reading c.args.kind c.args.seed bytes) before after new silent) (sym c.in-Whole.is)
+    let tells = subst (λ b. Tells g.D.Sectors old (load_reply c.args.seed (reading c.args.kind b)) told new silent) c.deref.ensures.value (c.loaded.ensures reading is) in
+    subst (λ t. Answers g.D.Sectors c.tell-in-Whole.result old (load_told t reading c.args.kind c.args.seed bytes) before after new silent) (sym c.in-Whole.is)
     (answers_told c.tell-in-Whole.result old new (load_reply c.args.seed (reading c.args.kind c.in-Whole.text.items)) None told before after tells c.tell-in-Whole.ensures.bytes)

@@ -19,7 +19,7 @@ returns-in-Ok-clause-answers g c =
     let whole : session.is_broken ≡ false = sym c.is_broken.ensures.broken ∙ c.if-is_broken.false in
     let is : steps_to_search session.state c.args.steps ≡ Ok c.in-Ok.steps =
     ap (λ state. steps_to_search state c.args.steps) (sym c.state.ensures.state) ∙ sym c.steps_to_search.ensures ∙ c.in-Ok.is in
-    steps_begun c.search.result (λ state. steps_to_search state c.args.steps) session c.search.new.session c.in-Ok.steps (g.W.Sink.contents c.args.writer.now) (g.W.Sink.contents c.search.new.writer) whole is c.search.ensures.answers
+    steps_begun g.D.Sectors c.search.result (λ state. steps_to_search state c.args.steps) session c.search.new.session c.in-Ok.steps (g.W.Sink.contents c.args.writer.now) (g.W.Sink.contents c.search.new.writer) whole is c.search.ensures.answers
 
 pub returns-in-Err-clause-answers : goal.returns-in-Err-clause-answers
 returns-in-Err-clause-answers g c =

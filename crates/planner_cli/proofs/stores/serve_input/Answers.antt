@@ -1,5 +1,5 @@
 -- Served to its end.
-use Rattle.std.proofs.Common.{refl}
+use Rattle.std.proofs.Common.{◌∙◌, true≢false, refl, sym}
 use Rattle.planner_cli.proofs.TellLemmas.{unless_stopped}
 use Rattle.planner_cli.proofs.stores.serve_input.Goals as goal
 
@@ -11,4 +11,6 @@ returns g c =
         cause = unless_stopped c.serve-served.result c.serve-served.new.reader.has_failed c.serve-served.new.writer.has_failed _ (c.serve-served.ensures.cause input known);
       };
       plain = λ plain. refl;
+      moments = c.serve-served.ensures.moments;
+      last = λ strict. absurd (true≢false (sym strict ∙ c.if-is_strict.false));
     }

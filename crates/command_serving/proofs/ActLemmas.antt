@@ -1,0 +1,126 @@
+-- Acts one after another: their commands, fates and runs join.
+use Rattle.std.proofs.Common.{◌≡◌, ◌∙◌, ℕ, true, false, List, [], ◌∷◌, ◌++◌, ◌⊎◌, inl, inr, Result, Ok, Err, refl, sym, ap, subst, append_assoc}
+use Rattle.std.proofs.lemmas.Grind.{flat_map-append}
+use Rattle.sector_disk.specs.declared.sectors.Sectors as sectors
+use Rattle.command_core.specs.declared.commands.Command.{Command}
+use Rattle.command_text.specs.Answering.{Fate, Done, NoMemory, Reply, Serving}
+use Rattle.command_text.specs.Answering.{Spent as SpentFate}
+use Rattle.recover.specs.Joining.{IsRunOn}
+use Rattle.recover.specs.Sessions.{SessionValue}
+use Rattle.recover.specs.declared.denials.Denial.{Denial}
+use Rattle.recover.specs.declared.denials.Denial.TheVariants.{Broken, Core, DeviceFault, OutOfMemory, Spent}
+use Rattle.recover.specs.declared.replies.Reply.{Reply as SessionReply}
+use Rattle.command_serving.specs.Acts.{Act, Applied, Text, BeginsWith, carried_in, carried_of, commands_in, commands_of, fates_in, fates_of, had_it_not_failed, kept_of, replies_in, replies_of, unfailed}
+use Rattle.command_serving.specs.Served.{as_serving, preceded}
+
+-- ---- lists of commands that begin so
+
+pub begins_at_all : (all : List Command) → BeginsWith [] all
+begins_at_all all = record { rest = all; whole = refl }
+
+pub begins_as : (front all same : List Command) → same ≡ all → BeginsWith front all → BeginsWith front same
+begins_as front all same is p = record { rest = p.rest; whole = is ∙ p.whole }
+
+pub begins_before : (front all more : List Command) → BeginsWith front all → BeginsWith front (all ++ more)
+begins_before front all more p = record { rest = p.rest ++ more; whole = ap (λ cs. cs ++ more) p.whole ∙ append_assoc front p.rest more }
+
+begins_behind : (done front all : List Command) → BeginsWith front all → BeginsWith (done ++ front) (done ++ all)
+begins_behind done front all p = record { rest = p.rest; whole = ap (λ cs. done ++ cs) p.whole ∙ sym (append_assoc done front p.rest) }
+
+-- ---- acts that join
+
+pub fates_both : (a b : List Act) → fates_of (a ++ b) ≡ fates_of a ++ fates_of b
+fates_both a b = flat_map-append fates_in a b
+
+pub commands_both : (a b : List Act) → commands_of (a ++ b) ≡ commands_of a ++ commands_of b
+commands_both a b = flat_map-append commands_in a b
+
+pub replies_both : (a b : List Act) → replies_of (a ++ b) ≡ replies_of a ++ replies_of b
+replies_both a b = flat_map-append replies_in a b
+
+pub carried_both : (a b : List Act) → carried_of (a ++ b) ≡ carried_of a ++ carried_of b
+carried_both a b = flat_map-append carried_in a b
+
+unfailed_both : (a b : List Fate) → unfailed (a ++ b) ≡ unfailed a ++ unfailed b
+unfailed_both [] b = refl
+unfailed_both (fate ∷ fates) b = ap (λ fs. had_it_not_failed fate ∷ fs) (unfailed_both fates b)
+
+pub fates_before : (a b : List Act) (later : List Fate) → fates_of (a ++ b) ++ later ≡ fates_of a ++ (fates_of b ++ later)
+fates_before a b later = ap (λ fs. fs ++ later) (fates_both a b) ∙ append_assoc (fates_of a) (fates_of b) later
+
+unfailed_before : (a b : List Act) (later : List Fate) → unfailed (fates_of (a ++ b)) ++ later ≡ unfailed (fates_of a) ++ (unfailed (fates_of b) ++ later)
+unfailed_before a b later =
+    ap (λ fs. unfailed fs ++ later) (fates_both a b) ∙ ap (λ fs. fs ++ later) (unfailed_both (fates_of a) (fates_of b)) ∙ append_assoc (unfailed (fates_of a)) (unfailed (fates_of b)) later
+
+-- The device failed within the first acts, and nothing is kept behind them. Or it didn't.
+abbrev KeptBoth : List Act → List Act → Type 0
+KeptBoth a b = (kept_of (a ++ b) ≡ kept_of a) ⊎ ((kept_of (a ++ b) ≡ carried_of a ++ kept_of b) × (unfailed (fates_of a) ≡ fates_of a))
+
+kept_both : (a b : List Act) → KeptBoth a b
+kept_both [] b = inr (refl, refl)
+kept_both (Text true ∷ acts) b = behind (kept_both acts b)
+  where
+    behind : KeptBoth acts b → KeptBoth (Text true ∷ acts) b
+    behind (inl same) = inl same
+    behind (inr on) = inr (on.0, ap (λ fs. Done ∷ fs) on.1)
+kept_both (Text false ∷ acts) b = behind (kept_both acts b)
+  where
+    behind : KeptBoth acts b → KeptBoth (Text false ∷ acts) b
+    behind (inl same) = inl same
+    behind (inr on) = inr (on.0, ap (λ fs. NoMemory ∷ fs) on.1)
+kept_both (Applied command reply ∷ acts) b = by_answer reply.answer reply.calls (kept_both acts b)
+  where
+    by_answer : (answer : Result (Unit {0}) Denial) (n : ℕ) → KeptBoth acts b → KeptBoth (Applied command (record { answer = answer; calls = n }) ∷ acts) b
+    by_answer (Ok done) n (inl same) = inl (ap (λ cs. command ∷ cs) same)
+    by_answer (Ok done) n (inr on) = inr (ap (λ cs. command ∷ cs) on.0, ap (λ fs. Done ∷ fs) on.1)
+    by_answer (Err DeviceFault) n more = inl refl
+    by_answer (Err OutOfMemory) n (inl same) = inl same
+    by_answer (Err OutOfMemory) n (inr on) = inr (on.0, ap (λ fs. NoMemory ∷ fs) on.1)
+    by_answer (Err Spent) n (inl same) = inl same
+    by_answer (Err Spent) n (inr on) = inr (on.0, ap (λ fs. SpentFate ∷ fs) on.1)
+    by_answer (Err Broken) n more = more
+    by_answer (Err (Core refusal)) n more = more
+
+-- What is asked for, had the device not failed, begins with what both keep.
+pub asks_both : {D : Type 0} (a b : List Act) (first mid : SessionValue D) (f g : Serving → Reply) (text : List ℕ)
+    → ((later : List Fate) → f (as_serving first (fates_of a ++ later)) ≡ preceded text (carried_of a) (g (as_serving mid later)))
+    → ((later : List Fate) → BeginsWith (kept_of a) (f (as_serving first (unfailed (fates_of a) ++ later))).commands)
+    → ((later : List Fate) → BeginsWith (kept_of b) (g (as_serving mid (unfailed (fates_of b) ++ later))).commands)
+    → (later : List Fate) → BeginsWith (kept_of (a ++ b)) (f (as_serving first (unfailed (fates_of (a ++ b)) ++ later))).commands
+asks_both a b first mid f g text says asks more later = by (kept_both a b)
+  where
+    whole : (f (as_serving first (unfailed (fates_of (a ++ b)) ++ later))).commands ≡ (f (as_serving first (unfailed (fates_of a) ++ (unfailed (fates_of b) ++ later)))).commands
+    whole = ap (λ fates. (f (as_serving first fates)).commands) (unfailed_before a b later)
+
+    by : KeptBoth a b → BeginsWith (kept_of (a ++ b)) (f (as_serving first (unfailed (fates_of (a ++ b)) ++ later))).commands
+    by (inl same) = subst (λ cs. BeginsWith cs (f (as_serving first (unfailed (fates_of (a ++ b)) ++ later))).commands) (sym same)
+        (begins_as (kept_of a) _ _ whole (asks (unfailed (fates_of b) ++ later)))
+    by (inr on) =
+        let said : (f (as_serving first (unfailed (fates_of a) ++ (unfailed (fates_of b) ++ later)))).commands ≡ carried_of a ++ (g (as_serving mid (unfailed (fates_of b) ++ later))).commands =
+        ap (λ fates. (f (as_serving first (fates ++ (unfailed (fates_of b) ++ later)))).commands) on.1 ∙ ap (λ (r : Reply). r.commands) (says (unfailed (fates_of b) ++ later)) in
+        subst (λ cs. BeginsWith cs (f (as_serving first (unfailed (fates_of (a ++ b)) ++ later))).commands) (sym on.0)
+        (begins_as (carried_of a ++ kept_of b) _ _ (whole ∙ said) (begins_behind (carried_of a) (kept_of b) _ (more later)))
+
+-- ---- runs that join
+
+module _ {D : Type 0} (on : sectors.Ghosts D) where
+  runs_on : (old mid new : SessionValue D) (commands more : List Command) (answers later : List SessionReply)
+      → IsRunOn on old commands answers mid → IsRunOn on mid more later new → IsRunOn on old (commands ++ more) (answers ++ later) new
+  runs_on old mid new [] more [] later first second = subst (λ (s : SessionValue D). IsRunOn on s more later new) first second
+  runs_on old mid new (command ∷ commands) more (reply ∷ answers) later first second = (first.0, first.1, runs_on first.0 mid new commands more answers later first.2 second)
+  runs_on old mid new [] more (reply ∷ answers) later first second = elim first [ ]
+  runs_on old mid new (command ∷ commands) more [] later first second = elim first [ ]
+
+  pub run_both : (old mid new : SessionValue D) (a b : List Act) → IsRunOn on old (commands_of a) (replies_of a) mid → IsRunOn on mid (commands_of b) (replies_of b) new
+      → IsRunOn on old (commands_of (a ++ b)) (replies_of (a ++ b)) new
+  run_both old mid new a b first second =
+      subst (λ cs. IsRunOn on old cs (replies_of (a ++ b)) new) (sym (commands_both a b))
+      (subst (λ rs. IsRunOn on old (commands_of a ++ commands_of b) rs new) (sym (replies_both a b))
+      (runs_on old mid new (commands_of a) (commands_of b) (replies_of a) (replies_of b) first second))
+
+  -- a device that is honest behind a run was so before it
+  pub honest_before : (commands : List Command) (answers : List SessionReply) (old new : SessionValue D) → IsRunOn on old commands answers new → on.honest new.device → on.honest old.device
+  honest_before [] [] old new run h = subst (λ (s : SessionValue D). on.honest s.device) run h
+  honest_before (command ∷ commands) (reply ∷ answers) old new run h = run.1.honest_before (honest_before commands answers run.0 new run.2 h)
+  honest_before [] (reply ∷ answers) old new run h = elim run [ ]
+  honest_before (command ∷ commands) [] old new run h = elim run [ ]

@@ -1,0 +1,68 @@
+-- The headline of a serving. Stopped at any moment of it, with any choice that the device allows, recovery gives the state after a first part of
+-- the commands that its input asks for, which holds every acknowledged one, and at most one more. Its plan passes the auditor, and costs no more
+-- than any incumbent since the last change of requests or pins.
+use Rattle.std.specs.Prelude.{◌≡◌, ℕ, false, List, ◌++◌, Option, Result, Ok, Err, ⊤}
+use Rattle.command_core.specs.declared.commands.Command.{Command}
+use Rattle.command_core.specs.declared.states.State.{State}
+use Rattle.command_text.specs.Answering.{Fate, served}
+use Rattle.command_text.specs.Cutting.{Piece, pieces_of}
+use Rattle.command_text.specs.Readings.{Reading}
+use Rattle.checkpoint.specs.declared.faults.StoreFault.{StoreFault}
+use Rattle.recover.specs.Headline.{GivesWhatStands, IsRecovered}
+use Rattle.recover.specs.Joining.{IsRunOn}
+use Rattle.recover.specs.Moments.{RunLeaves}
+use Rattle.recover.specs.Opening.{GivesUnlessFailed}
+use Rattle.recover.specs.Replies.{acked}
+use Rattle.recover.specs.Sessions.{SessionValue}
+use Rattle.recover.specs.declared.replies.Reply.{Reply}
+use Rattle.sector_disk.specs.Sectors.{Throughout}
+use Rattle.sector_disk.specs.declared.sectors.Sectors as sectors
+use Rattle.command_serving.specs.Acts.{Act, BeginsWith, commands_of, fates_of, kept_of, replies_of, unfailed}
+use Rattle.command_serving.specs.Served.{EndsOrIsCut, as_serving}
+use Rattle.command_serving.specs.declared.answering.ServeFault.{ServeFault}
+
+-- what an input asks a session to carry out, where its tries have these fates
+abbrev pub asked_commands : {D : Type 0} → Reading → SessionValue D → List Piece → List Fate → List Command
+asked_commands reading session pieces fates = (served reading (as_serving session fates) pieces).commands
+
+-- and where they have the fates of these acts, had the device not failed
+abbrev pub asked_by : {D : Type 0} → Reading → SessionValue D → List Piece → List Act → List Command
+asked_by reading session pieces acts = asked_commands reading session pieces (unfailed (fates_of acts))
+
+module _ {D : Type 0} (on : sectors.Ghosts D) where
+  -- At each moment from old to new each image stands for the state after a first part of the commands that were kept, with all that were
+  -- acknowledged by then and at most one more: of whatever run leads there.
+  abbrev pub RunsLeave : SessionValue D → SessionValue D → Type 0
+  RunsLeave old new = (commands : List Command) (replies : List Reply) → IsRunOn on old commands replies new → old.is_broken ≡ false → on.honest new.device
+      → Throughout on.clock on.possible_since old.device new.device (RunLeaves old.state commands replies)
+
+  -- the acts by which an input was served, or the serving cut short
+  abbrev pub acts_of : (r : Result ⊤ ServeFault) (reading : Reading) (old : SessionValue D) (input : List ℕ) (before after_it : Option (List ℕ)) (new : SessionValue D) → EndsOrIsCut on r reading old input before after_it new → List Act
+  acts_of (Ok done) reading old input before after_it new served = served.acts
+  acts_of (Err fault) reading old input before after_it new cut = cut.answered.acts ++ cut.tells.acts
+
+  -- These acts are a run, and the input asks for the commands that it keeps.
+  pub record IsRunOfInput (reading : Reading) (old : SessionValue D) (input : List ℕ) (acts : List Act) (new : SessionValue D) : Type 0 where
+    pub run : IsRunOn on old (commands_of acts) (replies_of acts) new
+    pub asks : BeginsWith (kept_of acts) (asked_by reading old (pieces_of input) acts)
+
+  -- law: the acts of a serving are one
+  abbrev pub ServingsAreRuns : Type 0
+  ServingsAreRuns = (reading : Reading) (old new : SessionValue D) (input : List ℕ) (before after_it : Option (List ℕ)) (r : Result ⊤ ServeFault)
+      → (served : EndsOrIsCut on r reading old input before after_it new)
+      → IsRunOfInput reading old input (acts_of r reading old input before after_it new served) new
+
+module _ {D E : Type 0} (on : sectors.Ghosts D) (again : sectors.Ghosts E) where
+  -- the law
+  abbrev pub ServedHeadline : Type 0
+  ServedHeadline = (reading : Reading) (old new : SessionValue D) (input : List ℕ) (before after_it : Option (List ℕ)) (r : Result ⊤ ServeFault) (m : ℕ) (image : List ℕ) (device left : E) (outcome : Result State StoreFault)
+      -- an input served over a session that is not broken, as far as it was, and a device that has answered as the model says
+      → (served : EndsOrIsCut on r reading old input before after_it new) → old.is_broken ≡ false → on.honest new.device
+      -- what that leaves at each moment (clause `moments` of `serve`)
+      → RunsLeave on old new
+      -- a stop at a moment since, when m calls had finished, which left this image
+      → on.possible_since new.device (on.clock old.device) m image
+      -- an opening of a device whose reads give it, and that has answered as the model says
+      → again.seen device ≡ image → again.honest left → GivesWhatStands again device outcome left
+      → let acts = acts_of on r reading old input before after_it new served in
+      GivesUnlessFailed (IsRecovered old.state (asked_by reading old (pieces_of input) acts) (acked m (replies_of acts))) outcome

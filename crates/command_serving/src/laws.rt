@@ -1,0 +1,22 @@
+//! What is known of served inputs, from the promises of `serve` and of `open` alone.
+ghost use Rattle.command_serving.specs.Causes.{FaultsAreTold, SpentAtTheLast};
+ghost use Rattle.command_serving.specs.Stopped.{ServedHeadline, ServingsAreRuns};
+
+use recover::recovery_keeps_every_acknowledged_command;
+use sector_disk::Sectors;
+
+/// No room is told where the store's sequences are spent alone, and a failed device where a call has failed.
+pub fn fates_have_causes<D: Sectors>()
+    ensures spent { SpentAtTheLast D.Sectors }
+    ensures faults { FaultsAreTold D.Sectors }
+{}
+
+/// Stopped at any moment of a serving, with any choice that the device allows, recovery gives the state after a first
+/// part of the commands that the input asks for, which holds every acknowledged one, and at most one more. Whether it
+/// ended or was cut short, what the serving did is a run of these commands.
+pub fn stopped_servings_recover<D: Sectors, E: Sectors>()
+    ensures runs { ServingsAreRuns D.Sectors }
+    ensures stopped { ServedHeadline D.Sectors E.Sectors }
+{
+    recovery_keeps_every_acknowledged_command::<D, E>();
+}

@@ -1,0 +1,122 @@
+-- A stop within the opening leaves what stood before it, and one behind it a first part of the commands that were acknowledged by then.
+use Rattle.std.proofs.Common.{◌≡◌, ◌∙◌, ℕ, ◌+◌, ◌≤◌, ◌⊎◌, inl, inr, Bool, true, false, ◌&&◌, cond, List, [], ◌∷◌, refl, sym, ap, subst, arith}
+use Rattle.std.specs.Prelude.{Result, Ok, Err, Option, Some, is_ok, nat_le, if◌then◌else◌}
+use Rattle.std.proofs.lemmas.Bool.{lt-leb}
+use Rattle.std.proofs.lemmas.List.Sums.{sum_by-cons}
+use Rattle.checkpoint.specs.declared.places.Place.{Place}
+use Rattle.command_core.specs.declared.commands.Command.{Command}
+use Rattle.command_core.specs.declared.states.State.{State}
+use Rattle.command_serving.specs.Acts.{Act, commands_of, kept_of, replies_of}
+use Rattle.command_serving.specs.Serving.{IsAppliedOn}
+use Rattle.command_serving.specs.Stopped.{IsRunOfInput, ServedHeadline, ServingsAreRuns, asked_by}
+use Rattle.command_serving.proofs.ActLemmas.{honest_before}
+use Rattle.command_serving.proofs.StoppedLemmas.{recovered_of, weaker}
+use Rattle.command_text.specs.Cutting.{pieces_of}
+use Rattle.planner_cli.specs.Recovering.{RunHeadline, ServedRunHeadline, acts_in}
+use Rattle.planner_cli.specs.Running.{IsOpened}
+use Rattle.recover.specs.Applying.{IsAnswer, IsBetween, Makes, calls_of, denial, is_snapshot_due}
+use Rattle.recover.specs.Headline.{Headline, IsRecovered, LeavesFirstPart}
+use Rattle.recover.specs.Joining.{IsRunOn}
+use Rattle.recover.specs.Moments.{RunLeaves, StandsForSome}
+use Rattle.recover.specs.Replies.{acked, is_acknowledged, kept}
+use Rattle.recover.specs.Sessions.{SessionValue}
+use Rattle.recover.specs.StandsFor.{StandsFor}
+use Rattle.recover.specs.declared.denials.Denial.{Denial}
+use Rattle.recover.specs.declared.denials.Denial.TheVariants.{Broken, Core, DeviceFault, OutOfMemory, Spent}
+use Rattle.recover.specs.declared.replies.Reply.{Reply}
+use Rattle.sector_disk.specs.Sectors.{Throughout}
+use Rattle.sector_disk.specs.declared.sectors.Sectors as sectors
+use Rattle.state_codec.specs.declared.version.Version.TheVariants.{Two}
+
+-- ---- what is acknowledged before a run has made a call
+
+unacked : (m : ℕ) (reply : Reply) (replies : List Reply) → is_acknowledged m reply ≡ false → acked m replies ≡ 0 → acked m (reply ∷ replies) ≡ 0
+unacked m reply replies not_yet none =
+    sum_by-cons (λ r. cond (is_acknowledged m r) 1 0) reply replies ∙ ap (λ (b : Bool). cond b 1 0 + acked m replies) not_yet ∙ ap (λ (k : ℕ). 0 + k) none
+
+some_calls : (place : Place) (command : Command) → 1 ≤ calls_of place command
+some_calls place command = elim (is_snapshot_due place command) as (λ b. 1 ≤ (if b then 4 else 2)) [ true ↦ omega arith | false ↦ omega arith ]
+
+abbrev answers : Result (Unit {0}) Denial → ℕ → Reply
+answers answer n = record { answer = answer; calls = n }
+
+module _ {D : Type 0} (on : sectors.Ghosts D) where
+  -- a broken session acknowledges nothing
+  none_of_broken : (commands : List Command) (replies : List Reply) (old new : SessionValue D) → old.is_broken ≡ true → IsRunOn on old commands replies new → (m : ℕ) → acked m replies ≡ 0
+  none_of_broken [] [] old new broken run m = refl
+  none_of_broken (command ∷ commands) (reply ∷ replies) old new broken run m =
+      let applied : IsAppliedOn on old command reply run.0 = run.1 in
+      let why : denial old command ≡ Some Broken = rw broken refl in
+      let told : reply.answer ≡ Err Broken = subst (λ (o : Option Denial). IsAnswer o reply.answer) why applied.answer in
+      let same : run.0 ≡ old = subst (λ (a : Result (Unit {0}) Denial). Makes a old command run.0) told applied.makes in
+      unacked m reply replies (ap (λ (a : Result (Unit {0}) Denial). is_ok a && nat_le reply.calls m) told)
+      (none_of_broken commands replies run.0 new (ap (λ (s : SessionValue D). s.is_broken) same ∙ broken) run.2 m)
+  none_of_broken [] (reply ∷ replies) old new broken run m = elim run [ ]
+  none_of_broken (command ∷ commands) [] old new broken run m = elim run [ ]
+
+  none_yet : (commands : List Command) (replies : List Reply) (old new : SessionValue D) → IsRunOn on old commands replies new → (m : ℕ) → m ≤ on.calls old.device → acked m replies ≡ 0
+  none_yet [] [] old new run m le = refl
+  none_yet (command ∷ commands) (reply ∷ replies) old new run m le =
+      first reply.answer reply.calls run.1 (none_yet commands replies run.0 new run.2 m) (λ broken. none_of_broken commands replies run.0 new broken run.2 m)
+    where
+      kept_calls : run.0 ≡ old → m ≤ on.calls run.0.device
+      kept_calls same = subst (λ (s : SessionValue D). m ≤ on.calls s.device) (sym same) le
+
+      first : (answer : Result (Unit {0}) Denial) (n : ℕ) → IsAppliedOn on old command (answers answer n) run.0 → (m ≤ on.calls run.0.device → acked m replies ≡ 0)
+          → (run.0.is_broken ≡ true → acked m replies ≡ 0) → acked m (answers answer n ∷ replies) ≡ 0
+      first (Ok done) n applied later broken =
+          let calls : on.calls run.0.device ≡ on.calls old.device + calls_of old.place command = applied.finished in
+          let below : nat_le n m ≡ false = lt-leb n m (omega (arith, le, calls, some_calls old.place command, applied.count)) in
+          unacked m (answers (Ok done) n) replies below (later (omega (arith, le, calls)))
+      first (Err DeviceFault) n applied later broken = unacked m (answers (Err DeviceFault) n) replies refl (broken applied.makes.is_broken)
+      first (Err Broken) n applied later broken = unacked m (answers (Err Broken) n) replies refl (later (kept_calls applied.makes))
+      first (Err (Core r)) n applied later broken = unacked m (answers (Err (Core r)) n) replies refl (later (kept_calls applied.makes))
+      first (Err Spent) n applied later broken = unacked m (answers (Err Spent) n) replies refl (later (kept_calls applied.makes))
+      first (Err OutOfMemory) n applied later broken = unacked m (answers (Err OutOfMemory) n) replies refl (later (kept_calls applied.makes))
+  none_yet [] (reply ∷ replies) old new run m le = elim run [ ]
+  none_yet (command ∷ commands) [] old new run m le = elim run [ ]
+
+  -- nothing is acknowledged yet, and nothing done
+  begun_stands : (state : State) (commands : List Command) (acknowledged : ℕ) (image : List ℕ) → acknowledged ≡ 0 → StandsFor Two image state → StandsForSome state commands acknowledged image
+  begun_stands state commands acknowledged image none stands = record {
+    count = 0;
+    all_acknowledged = omega (arith, none);
+    one_more = omega arith;
+    within = omega arith;
+    accepted = tt;
+    stands = stands;
+  }
+
+  -- The session as it is opened, over the device as it was before that. At each moment since then a stop leaves what the run promises.
+  pub from_before : (device : D) (session new : SessionValue D) (replayed : ℕ) (commands : List Command) (replies : List Reply) → IsOpened on device session replayed → IsRunOn on session commands replies new
+      → (on.honest new.device → Throughout on.clock on.possible_since session.device new.device (RunLeaves session.state commands replies))
+      → ((image : List ℕ) → on.possible device image → StandsFor Two image session.state) → LeavesFirstPart on (record session { device = device }) commands replies new
+  from_before device session new replayed commands replies opened run moments stood whole honest m image stop =
+      let opening = opened.moments (honest_before on commands replies session new run honest) in
+      at opening ((moments honest).before (on.clock device) m image opening.later stop)
+    where
+      at : Throughout on.clock on.possible_since device session.device (λ n i. IsBetween (on.calls device) (on.calls device + 1) n i × on.possible device i)
+          → on.possible_since session.device (on.clock device) m image ⊎ RunLeaves session.state commands replies m image → RunLeaves session.state commands replies m image
+      at opening (inl early) =
+          let left = opening.each m image early in
+          begun_stands session.state (kept commands replies) (acked m replies) image
+          (none_yet commands replies session new run m (omega (arith, left.0.1, opened.finished))) (stood image left.1)
+      at opening (inr some) = some
+
+pub run_headline : {D E : Type 0} (on : sectors.Ghosts D) (again : sectors.Ghosts E) → Headline on again → ServingsAreRuns on → RunHeadline on again
+run_headline on again law runs run device m image other left outcome is honest stood stop reads settled opens =
+    let acts : List Act = acts_in on run device is in
+    let session = is.session in
+    let new = is.runs.new in
+    let done : IsRunOfInput on run.reading session run.input acts new =
+    runs run.reading session new run.input is.runs.opened is.runs.answered is.runs.served ((is.runs.ends.serves run.input is.knows).serves run.reading is.reads) in
+    let asked = asked_by run.reading session (pieces_of run.input) acts in
+    let leaves = from_before on device session new is.replayed (commands_of acts) (replies_of acts) is.opened done.run (is.runs.ends.moments (commands_of acts) (replies_of acts) done.run is.opened.whole) stood in
+    weaker (IsRecovered session.state (kept_of acts) (acked m (replies_of acts))) (IsRecovered session.state asked (acked m (replies_of acts)))
+    (λ given found. recovered_of session.state (kept_of acts) asked (acked m (replies_of acts)) given done.asks found) outcome
+    (law (record session { device = device }) new (commands_of acts) (replies_of acts) m image other left outcome is.opened.whole honest leaves stop reads settled opens)
+
+pub served_run_headline : {D E : Type 0} (on : sectors.Ghosts D) (again : sectors.Ghosts E) → ServedHeadline on again → ServedRunHeadline on again
+served_run_headline on again law run device m image other left outcome is honest stop reads settled opens =
+    law run.reading is.session is.runs.new run.input is.runs.opened is.runs.answered is.runs.served m image other left outcome ((is.runs.ends.serves run.input is.knows).serves run.reading is.reads)
+    is.opened.whole honest is.runs.ends.moments stop reads settled opens

@@ -1,0 +1,75 @@
+-- The headline of the word `run`. Stopped at any moment since the device was handed to it, with any choice that the device allows, opening the
+-- device gives the state after a first part of the commands of its input, which holds every acknowledged one, and at most one more. Its plan
+-- passes the auditor, and costs no more than any incumbent since the last change of requests or pins.
+use Rattle.std.specs.Prelude.{◌≡◌, ℕ, Bool, List, Option, Some, Result}
+use Rattle.checkpoint.specs.declared.faults.StoreFault.{StoreFault}
+use Rattle.command_core.specs.declared.states.State.{State}
+use Rattle.command_serving.specs.Acts.{Act, replies_of}
+use Rattle.command_serving.specs.Stopped.{acts_of, asked_by}
+use Rattle.command_text.specs.Cutting.{pieces_of}
+use Rattle.command_text.specs.Readings.{IsReading, Reading}
+use Rattle.planner_cli.specs.Running.{IsOpened, RunsSession}
+use Rattle.recover.specs.Headline.{GivesWhatStands, IsRecovered}
+use Rattle.recover.specs.Opening.{GivesUnlessFailed}
+use Rattle.recover.specs.Replies.{acked}
+use Rattle.recover.specs.Sessions.{SessionValue}
+use Rattle.recover.specs.StandsFor.{StandsFor}
+use Rattle.sector_disk.specs.declared.sectors.Sectors as sectors
+use Rattle.state_codec.specs.declared.version.Version.TheVariants.{Two}
+
+-- What was run: the words, the bytes of the input, how each kind of text is read, and what came of the streams.
+pub record Run : Type 0 where
+  pub is_strict : Bool
+  pub input : List ℕ
+  pub reading : Reading
+  pub before : Option (List ℕ)
+  pub after : Option (List ℕ)
+  pub reader_failed : Bool
+  pub writer_failed : Bool
+  pub status : ℕ
+
+module _ {D : Type 0} (on : sectors.Ghosts D) where
+  -- the store on the device was opened, and the input served over it
+  pub record RunsOver (run : Run) (device : D) : Type 0 where
+    pub session : SessionValue D
+    pub replayed : ℕ
+    pub opened : IsOpened on device session replayed
+    pub known : Option (List ℕ)
+    pub knows : known ≡ Some run.input
+    pub runs : RunsSession on session replayed run.is_strict known run.before run.after run.reader_failed run.writer_failed run.status
+    pub reads : IsReading run.reading
+
+  -- the acts by which it was
+  abbrev pub acts_in : (run : Run) (device : D) → RunsOver run device → List Act
+  acts_in run device is =
+      acts_of on is.runs.served run.reading is.session run.input is.runs.opened is.runs.answered is.runs.new
+      ((is.runs.ends.serves run.input is.knows).serves run.reading is.reads)
+
+module _ {D E : Type 0} (on : sectors.Ghosts D) (again : sectors.Ghosts E) where
+  -- the conclusion: of a run that was stopped when m calls had finished
+  abbrev pub GivesFirstPart : (run : Run) (device : D) → RunsOver on run device → ℕ → Result State StoreFault → Type 0
+  GivesFirstPart run device is m outcome =
+      let acts = acts_in on run device is in
+      GivesUnlessFailed (IsRecovered is.session.state (asked_by run.reading is.session (pieces_of run.input) acts) (acked m (replies_of acts))) outcome
+
+  -- Law: behind the opening, for every device. Within it each image is one of those before (`moments` of `IsOpened`, and of `IsRefused`).
+  abbrev pub ServedRunHeadline : Type 0
+  ServedRunHeadline = (run : Run) (device : D) (m : ℕ) (image : List ℕ) (other left : E) (outcome : Result State StoreFault)
+      -- a run over a device that has answered as the model says
+      → (is : RunsOver on run device) → on.honest is.runs.new.device
+      -- a stop at a moment since the store was opened, when m calls had finished, which left this image
+      → on.possible_since is.runs.new.device (on.clock is.session.device) m image
+      -- an opening of a device whose reads give it, and that has answered as the model says
+      → again.seen other ≡ image → again.honest left → GivesWhatStands again other outcome left
+      → GivesFirstPart run device is m outcome
+
+  -- law: the opening included, where each image that a stop might have left before stands for the state that was opened, as format, session and
+  -- stop leave it
+  abbrev pub RunHeadline : Type 0
+  RunHeadline = (run : Run) (device : D) (m : ℕ) (image : List ℕ) (other left : E) (outcome : Result State StoreFault)
+      → (is : RunsOver on run device) → on.honest is.runs.new.device
+      → ((before : List ℕ) → on.possible device before → StandsFor Two before is.session.state)
+      -- a stop at a moment since the device was handed over
+      → on.possible_since is.runs.new.device (on.clock device) m image
+      → again.seen other ≡ image → again.honest left → GivesWhatStands again other outcome left
+      → GivesFirstPart run device is m outcome

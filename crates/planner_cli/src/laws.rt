@@ -1,0 +1,17 @@
+//! What is known of stops within the word `run`, from its promises and those of `open` alone.
+ghost use Rattle.planner_cli.specs.Recovering.{RunHeadline, ServedRunHeadline};
+
+use command_serving::stopped_servings_recover;
+use recover::recovery_keeps_every_acknowledged_command;
+use sector_disk::Sectors;
+
+/// Stopped at any moment of `run` over a device, with any choice that the device allows, opening it gives the state after a
+/// first part of the commands of its input, which holds every acknowledged one, and at most one more. Of stops within the
+/// opening it is so where each image that a stop might have left before stands for the state that is opened.
+pub fn stopped_runs_recover<D: Sectors, E: Sectors>()
+    ensures behind { ServedRunHeadline D.Sectors E.Sectors }
+    ensures whole { RunHeadline D.Sectors E.Sectors }
+{
+    recovery_keeps_every_acknowledged_command::<D, E>();
+    stopped_servings_recover::<D, E>();
+}
