@@ -83,7 +83,8 @@ const MAX_STEPS: u32 = 1_000_000_000;
 /// The greatest deviation.
 const MAX_DEVIATION: u32 = 1_000_000_000;
 
-const BAD_STEPS: &str = "STEPS and DEVIATION are 0 to 1000000000 and SEED 0 to 18446744073709551615, in digits alone";
+const BAD_STEPS: &str =
+    "STEPS and DEVIATION are 0 to 1000000000 and SEED 0 to 18446744073709551615, in digits alone";
 
 const BAD_SEED: &str = "SEED is 0 to 18446744073709551615, in digits alone";
 
@@ -286,8 +287,9 @@ fn seed_word<'a>(alloc: Global) -> Arg<'a>
 fn deviation_word<'a>(alloc: Global) -> Arg<'a>
     ensures { IsWord (new_rule (codes "DEVIATION")) result }
 {
-    Arg::new(alloc, "DEVIATION")
-        .help("Searches, and its working plan may be so far from the best one; for researchers")
+    Arg::new(alloc, "DEVIATION").help(
+        "Searches, and its working plan may be so far from the best one; for researchers",
+    )
 }
 
 // A word that has to stand there.

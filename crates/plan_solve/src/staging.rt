@@ -94,12 +94,7 @@ fn stage_telling<W: Write>(
 }
 
 // The job after so many annealing steps, through which its working plan may be so many hundredths of the mean leg from the incumbent.
-fn annealed_with(
-    alloc: Global,
-    job: &Job,
-    hundredths: u32,
-    count: u64,
-) -> Result<Job, OutOfMemory>
+fn annealed_with(alloc: Global, job: &Job, hundredths: u32, count: u64) -> Result<Job, OutOfMemory>
     requires first { job.now.steps < 2 ^ 60 }
     requires last { job.now.steps + count ≤ 2 ^ 60 }
     ensures { IfOk result (λ new. new ≡ annealed (with_share job.now hundredths) count) }
@@ -116,13 +111,7 @@ fn steps_made(job: &Job) -> u64
 }
 
 // With this job, and a line where it has made more twentieths of the steps than at the last line.
-fn behind<W: Write>(
-    job: Job,
-    is_told: bool,
-    parts: u64,
-    steps: u64,
-    progress: &mut W,
-) -> Walk
+fn behind<W: Write>(job: Job, is_told: bool, parts: u64, steps: u64, progress: &mut W) -> Walk
     requires some { 0 < steps }
     requires few { steps < 2 ^ 32 }
     requires most { job.steps ≤ steps }

@@ -63,11 +63,7 @@ fn tell_solved<W: Write, E: Write>(
 }
 
 // Tells the text of the plan, and which requests it leaves out.
-fn tell_plan<W: Write, E: Write>(
-    solved: &Solved,
-    output: &mut W,
-    errors: &mut E,
-) -> io::Result<u8>
+fn tell_plan<W: Write, E: Write>(solved: &Solved, output: &mut W, errors: &mut E) -> io::Result<u8>
     ensures status { IfOk result (λ status. status ≤ 4) }
     ensures told { IfOk result (TellsPlan solved.now.text.items solved.now.unplanned.items
         (W.contents output.old) (W.contents output.new)
