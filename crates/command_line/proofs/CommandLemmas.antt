@@ -23,7 +23,7 @@ use Rattle.std.proofs.lemmas.Slice.Eq.{bytes_eq-Decides}
 use Rattle.clap.proofs.WalkLemmas.{first_value-rows, list_any-map}
 use Rattle.clap.proofs.OnLiterals.{clap_on_literals}
 use Rattle.command_line.specs.declared.words.Invocation.{Invocation}
-use Rattle.command_line.specs.Asked.{IsRefusal, ArePositional, Asked, PathsAsked, ReadsWords, asked_by, asks_help, audit, audits, draw, explain, format, is_positional_word, kind_named, list_asked, list_from, list_in, load, load_asked, load_from, load_in, load_with, paths_asked, paths_from, paths_in, run, run_asked, run_from, run_in, run_with, seed_named, seed_or_none, solve, steps_named, store_asked, store_in, task_asked, task_from, task_in, task_with, told_by, told_by_other, told_of, told_of_store, upgrade, upgrade_asked, upgrade_in, usage_status_of}
+use Rattle.command_line.specs.Asked.{IsRefusal, ArePositional, Asked, PathsAsked, ReadsWords, asked_by, asks_help, audit, audits, deviation_or_none, draw, explain, format, is_positional_word, kind_named, list_asked, list_from, list_in, load, load_asked, load_from, load_in, load_with, paths_asked, paths_from, paths_in, run, run_asked, run_from, run_in, run_with, seed_named, seed_or_none, solve, steps_named, store_asked, store_in, task_asked, task_from, task_in, task_with, told_by, told_by_other, told_of, told_of_store, upgrade, upgrade_asked, upgrade_in, usage_status_of}
 use Rattle.command_line.specs.CommandLine.{IsKindNames, IsModeNames, IsPlannerCommand, audits_app, load_app, paths_app, planner_app, run_app, solve_app, store_app, upgrade_app}
 
 -- ---- a word that does not begin with a hyphen is a value
@@ -225,7 +225,7 @@ module _ (names : Bor (List (Bor Text))) where
   list_rows : (k l : Text) → is_positional_word k ≡ true → is_positional_word l ≡ true → list_in (rows_at (audits_shape names) (k ∷ l ∷ [])).1 ≡ list_asked (k ∷ l ∷ [])
   list_rows k l p q = rw (first_walked k p, list_walked k l q) refl
 
--- ---- the words `KIND INSTANCE STEPS [SEED]` of `solve`
+-- ---- the words `KIND INSTANCE STEPS [SEED [DEVIATION]]` of `solve`
 
 abbrev solve_shape : Bor (List (Bor Text)) → Shape
 solve_shape names = built_leaf (solve_app names).top
@@ -249,6 +249,9 @@ module _ (names : Bor (List (Bor Text))) where
   abbrev task_seed : Text → Text → Text → Text → Held
   task_seed k i n s = (after_value solve_rules (task_steps k i n) 4 s).held
 
+  abbrev task_deviation : Text → Text → Text → Text → Text → Held
+  task_deviation k i n s d = (after_value solve_rules (task_seed k i n s) 5 d).held
+
   abbrev task_fault : Text → Kinds
   task_fault k = settle_fault solve_rules false (task_kind k)
 
@@ -268,6 +271,9 @@ module _ (names : Bor (List (Bor Text))) where
   task_seed_walked : (k i n s : Text) → is_positional_word s ≡ true → walked solve_rules [] (standing (task_steps k i n) 4) s ≡ standing (task_seed k i n s) 5
   task_seed_walked k i n s p = walked-value solve_rules (task_steps k i n) 4 s p
 
+  task_deviation_walked : (k i n s d : Text) → is_positional_word d ≡ true → walked solve_rules [] (standing (task_seed k i n s) 5) d ≡ standing (task_deviation k i n s d) 6
+  task_deviation_walked k i n s d p = walked-value solve_rules (task_seed k i n s) 5 d p
+
   task_kind_turn : (k : Text) → is_positional_word k ≡ true → turn_fault (solve_shape names) [] (standing nothing_held 1) k ≡ []
   task_kind_turn k p = turn_fault-value (solve_shape names) nothing_held 1 k p
 
@@ -280,8 +286,11 @@ module _ (names : Bor (List (Bor Text))) where
   task_seed_turn : (k i n s : Text) → is_positional_word s ≡ true → turn_fault (solve_shape names) [] (standing (task_steps k i n) 4) s ≡ []
   task_seed_turn k i n s p = turn_fault-value (solve_shape names) (task_steps k i n) 4 s p
 
-  stray_task_turn : (k i n s x : Text) → is_positional_word x ≡ true → turn_fault (solve_shape names) [] (standing (task_seed k i n s) 5) x ≡ kind.UnknownArgument ∷ []
-  stray_task_turn k i n s x p = turn_fault-value (solve_shape names) (task_seed k i n s) 5 x p
+  task_deviation_turn : (k i n s d : Text) → is_positional_word d ≡ true → turn_fault (solve_shape names) [] (standing (task_seed k i n s) 5) d ≡ []
+  task_deviation_turn k i n s d p = turn_fault-value (solve_shape names) (task_seed k i n s) 5 d p
+
+  stray_task_turn : (k i n s d x : Text) → is_positional_word x ≡ true → turn_fault (solve_shape names) [] (standing (task_deviation k i n s d) 6) x ≡ kind.UnknownArgument ∷ []
+  stray_task_turn k i n s d x p = turn_fault-value (solve_shape names) (task_deviation k i n s d) 6 x p
 
   one_of_task : (k : Text) → is_positional_word k ≡ true → solve_fault names (k ∷ []) ≡ or_else (task_fault k) missing
   unfolding walk_fault defaults_fault
@@ -291,15 +300,27 @@ module _ (names : Bor (List (Bor Text))) where
   unfolding walk_fault defaults_fault
   two_of_task k i p q = rw (task_kind_walked k p, task_kind_turn k p, task_instance_walked k i q, task_instance_turn k i q) refl
 
-  three_of_task : (k i n : Text) → is_positional_word k ≡ true → is_positional_word i ≡ true → is_positional_word n ≡ true → solve_fault names (k ∷ i ∷ n ∷ []) ≡ or_else (or_else (task_fault k) []) []
-  unfolding walk_fault defaults_fault
-  three_of_task k i n p q r = rw (task_kind_walked k p, task_kind_turn k p, task_instance_walked k i q, task_instance_turn k i q, task_steps_walked k i n r, task_steps_turn k i n r) refl
-
   -- what a walk that ends so may still fail by
   abbrev task_rest : Held → Kinds
   task_rest h =
       or_else [] (or_else (settle_fault solve_rules (solve_shape names).args_override_self h)
       (or_else (defaults_fault (settled solve_rules h).rows solve_rules) (check_fault (solve_shape names) (finished solve_rules h) false)))
+
+  planned_fault : (k i n : Text) → is_positional_word k ≡ true → is_positional_word i ≡ true → is_positional_word n ≡ true → walk_fault (solve_shape names) [] (walk_from nothing_held) (k ∷ i ∷ n ∷ []) ≡ or_else (task_fault k) []
+  unfolding walk_fault
+  planned_fault k i n p q r = rw (task_kind_turn k p, task_kind_walked k p, task_instance_turn k i q, task_instance_walked k i q, task_steps_turn k i n r) refl
+
+  planned_walk : (k i n : Text) → is_positional_word k ≡ true → is_positional_word i ≡ true → is_positional_word n ≡ true → walk solve_rules [] nothing_held (k ∷ i ∷ n ∷ []) ≡ standing (task_steps k i n) 4
+  planned_walk k i n p q r = rw (task_kind_walked k p, task_instance_walked k i q, task_steps_walked k i n r) refl
+
+  planned_rest : (k i n : Text) → task_rest (task_steps k i n) ≡ []
+  unfolding defaults_fault
+  planned_rest k i n = refl
+
+  three_of_task : (k i n : Text) → is_positional_word k ≡ true → is_positional_word i ≡ true → is_positional_word n ≡ true → solve_fault names (k ∷ i ∷ n ∷ []) ≡ or_else (or_else (task_fault k) []) []
+  three_of_task k i n p q r =
+      ap₂ {C = Kinds} (λ (f : Kinds) (w : Walk). or_else f (task_rest w.held)) (planned_fault k i n p q r) (planned_walk k i n p q r)
+      ∙ ap (or_else (or_else (task_fault k) [])) (planned_rest k i n)
 
   seeded_fault : (k i n s : Text) → is_positional_word k ≡ true → is_positional_word i ≡ true → is_positional_word n ≡ true → is_positional_word s ≡ true
       → walk_fault (solve_shape names) [] (walk_from nothing_held) (k ∷ i ∷ n ∷ s ∷ []) ≡ or_else (task_fault k) []
@@ -329,10 +350,10 @@ module _ (names : Bor (List (Bor Text))) where
       ap₂ {C = Kinds} (λ (f : Kinds) (w : Walk). or_else f (task_rest w.held)) (seeded_fault k i n s p q r t) (seeded_walk k i n s p q r t)
       ∙ ap (or_else (or_else (task_fault k) [])) (seeded_rest k i n s)
 
-  five_of_task : (k i n s x : Text) (rest : List Text) → is_positional_word k ≡ true → is_positional_word i ≡ true → is_positional_word n ≡ true → is_positional_word s ≡ true → is_positional_word x ≡ true
-      → walk_fault (solve_shape names) [] (walk_from nothing_held) (k ∷ i ∷ n ∷ s ∷ x ∷ rest) ≡ or_else (task_fault k) (kind.UnknownArgument ∷ [])
+  deviating_fault : (k i n s d : Text) → is_positional_word k ≡ true → is_positional_word i ≡ true → is_positional_word n ≡ true → is_positional_word s ≡ true → is_positional_word d ≡ true
+      → walk_fault (solve_shape names) [] (walk_from nothing_held) (k ∷ i ∷ n ∷ s ∷ d ∷ []) ≡ or_else (task_fault k) []
   unfolding walk_fault
-  five_of_task k i n s x rest p q r t u =
+  deviating_fault k i n s d p q r t u =
       rw (
         task_kind_turn k p,
         task_kind_walked k p,
@@ -342,7 +363,40 @@ module _ (names : Bor (List (Bor Text))) where
         task_steps_walked k i n r,
         task_seed_turn k i n s t,
         task_seed_walked k i n s t,
-        stray_task_turn k i n s x u,
+        task_deviation_turn k i n s d u,
+      ) refl
+
+  deviating_walk : (k i n s d : Text) → is_positional_word k ≡ true → is_positional_word i ≡ true → is_positional_word n ≡ true → is_positional_word s ≡ true → is_positional_word d ≡ true
+      → walk solve_rules [] nothing_held (k ∷ i ∷ n ∷ s ∷ d ∷ []) ≡ standing (task_deviation k i n s d) 6
+  deviating_walk k i n s d p q r t u =
+      rw (task_kind_walked k p, task_instance_walked k i q, task_steps_walked k i n r, task_seed_walked k i n s t, task_deviation_walked k i n s d u) refl
+
+  deviating_rest : (k i n s d : Text) → task_rest (task_deviation k i n s d) ≡ []
+  unfolding defaults_fault
+  deviating_rest k i n s d = refl
+
+  five_of_task : (k i n s d : Text) → is_positional_word k ≡ true → is_positional_word i ≡ true → is_positional_word n ≡ true → is_positional_word s ≡ true → is_positional_word d ≡ true
+      → solve_fault names (k ∷ i ∷ n ∷ s ∷ d ∷ []) ≡ or_else (or_else (task_fault k) []) []
+  five_of_task k i n s d p q r t u =
+      ap₂ {C = Kinds} (λ (f : Kinds) (w : Walk). or_else f (task_rest w.held)) (deviating_fault k i n s d p q r t u) (deviating_walk k i n s d p q r t u)
+      ∙ ap (or_else (or_else (task_fault k) [])) (deviating_rest k i n s d)
+
+  six_of_task : (k i n s d x : Text) (rest : List Text) → is_positional_word k ≡ true → is_positional_word i ≡ true → is_positional_word n ≡ true → is_positional_word s ≡ true → is_positional_word d ≡ true → is_positional_word x ≡ true
+      → walk_fault (solve_shape names) [] (walk_from nothing_held) (k ∷ i ∷ n ∷ s ∷ d ∷ x ∷ rest) ≡ or_else (task_fault k) (kind.UnknownArgument ∷ [])
+  unfolding walk_fault
+  six_of_task k i n s d x rest p q r t u v =
+      rw (
+        task_kind_turn k p,
+        task_kind_walked k p,
+        task_instance_turn k i q,
+        task_instance_walked k i q,
+        task_steps_turn k i n r,
+        task_steps_walked k i n r,
+        task_seed_turn k i n s t,
+        task_seed_walked k i n s t,
+        task_deviation_turn k i n s d u,
+        task_deviation_walked k i n s d u,
+        stray_task_turn k i n s d x v,
       ) refl
 
   task_rows : (k i n : Text) → is_positional_word k ≡ true → is_positional_word i ≡ true → is_positional_word n ≡ true → task_in (rows_at (solve_shape names) (k ∷ i ∷ n ∷ [])).1 ≡ task_asked (k ∷ i ∷ n ∷ [])
@@ -351,6 +405,11 @@ module _ (names : Bor (List (Bor Text))) where
   seeded_rows : (k i n s : Text) → is_positional_word k ≡ true → is_positional_word i ≡ true → is_positional_word n ≡ true → is_positional_word s ≡ true
       → task_in (rows_at (solve_shape names) (k ∷ i ∷ n ∷ s ∷ [])).1 ≡ task_asked (k ∷ i ∷ n ∷ s ∷ [])
   seeded_rows k i n s p q r t = rw (task_kind_walked k p, task_instance_walked k i q, task_steps_walked k i n r, task_seed_walked k i n s t) refl
+
+  deviating_rows : (k i n s d : Text) → is_positional_word k ≡ true → is_positional_word i ≡ true → is_positional_word n ≡ true → is_positional_word s ≡ true → is_positional_word d ≡ true
+      → task_in (rows_at (solve_shape names) (k ∷ i ∷ n ∷ s ∷ d ∷ [])).1 ≡ task_asked (k ∷ i ∷ n ∷ s ∷ d ∷ [])
+  deviating_rows k i n s d p q r t u =
+      rw (task_kind_walked k p, task_instance_walked k i q, task_steps_walked k i n r, task_seed_walked k i n s t, task_deviation_walked k i n s d u) refl
 
 -- ---- the words `STORE [strict]` of `run`
 
@@ -665,8 +724,8 @@ judged_list Help names (k ∷ l ∷ x ∷ rest) kinds p =
     )
 
 -- no task without a kind
-no_kind_no_task : (o : Option Kind) (i : Text) (n s : Option ℕ) → o ≡ None → option_map solve (task_from o i n s) ≡ None
-no_kind_no_task o i n s none = ap (λ o. option_map solve (task_from o i n s)) none
+no_kind_no_task : (o : Option Kind) (i : Text) (n s : Option ℕ) (d : Option (Option ℕ)) → o ≡ None → option_map solve (task_from o i n s d) ≡ None
+no_kind_no_task o i n s d none = ap (λ o. option_map solve (task_from o i n s d)) none
 
 judged_task : (Help : Type 0) (names : Bor (List (Bor Text))) (words : List Text) → IsKindNames names → ArePositional words
     → IsJudged Help (solve_fault names words) (option_map solve (task_asked words)) (option_map solve (task_in (rows_at (solve_shape names) words).1))
@@ -681,7 +740,7 @@ judged_task Help names (k ∷ i ∷ n ∷ []) kinds p =
     let pi = both_true (is_positional_word i) _ pk.1 in
     let pn = both_true (is_positional_word n) _ pi.1 in
     judged_kind Help (bytes_eq (codes "lilim") k) (bytes_eq (codes "vrp") k) _ _ _
-    (three_of_task names k i n pk.0 pi.0 pn.0 ∙ or_else-nil _ ∙ or_else-nil _ ∙ known_fault names k kinds) (no_kind_no_task (kind_named k) i (steps_named n) (Some 0))
+    (three_of_task names k i n pk.0 pi.0 pn.0 ∙ or_else-nil _ ∙ or_else-nil _ ∙ known_fault names k kinds) (no_kind_no_task (kind_named k) i (steps_named n) (Some 0) (Some None))
     (sym (ap (option_map solve) (task_rows names k i n pk.0 pi.0 pn.0)))
 judged_task Help names (k ∷ i ∷ n ∷ s ∷ []) kinds p =
     let pk = both_true (is_positional_word k) _ p in
@@ -689,16 +748,27 @@ judged_task Help names (k ∷ i ∷ n ∷ s ∷ []) kinds p =
     let pn = both_true (is_positional_word n) _ pi.1 in
     let ps = both_true (is_positional_word s) _ pn.1 in
     judged_kind Help (bytes_eq (codes "lilim") k) (bytes_eq (codes "vrp") k) _ _ _
-    (four_of_task names k i n s pk.0 pi.0 pn.0 ps.0 ∙ or_else-nil _ ∙ or_else-nil _ ∙ known_fault names k kinds) (no_kind_no_task (kind_named k) i (steps_named n) (seed_named s))
+    (four_of_task names k i n s pk.0 pi.0 pn.0 ps.0 ∙ or_else-nil _ ∙ or_else-nil _ ∙ known_fault names k kinds) (no_kind_no_task (kind_named k) i (steps_named n) (seed_named s) (Some None))
     (sym (ap (option_map solve) (seeded_rows names k i n s pk.0 pi.0 pn.0 ps.0)))
-judged_task Help names (k ∷ i ∷ n ∷ s ∷ x ∷ rest) kinds p =
+judged_task Help names (k ∷ i ∷ n ∷ s ∷ d ∷ []) kinds p =
     let pk = both_true (is_positional_word k) _ p in
     let pi = both_true (is_positional_word i) _ pk.1 in
     let pn = both_true (is_positional_word n) _ pi.1 in
     let ps = both_true (is_positional_word s) _ pn.1 in
-    let px = both_true (is_positional_word x) _ ps.1 in
+    let pd = both_true (is_positional_word d) _ ps.1 in
+    judged_kind Help (bytes_eq (codes "lilim") k) (bytes_eq (codes "vrp") k) _ _ _
+    (five_of_task names k i n s d pk.0 pi.0 pn.0 ps.0 pd.0 ∙ or_else-nil _ ∙ or_else-nil _ ∙ known_fault names k kinds)
+    (no_kind_no_task (kind_named k) i (steps_named n) (seed_named s) (deviation_or_none (Some d)))
+    (sym (ap (option_map solve) (deviating_rows names k i n s d pk.0 pi.0 pn.0 ps.0 pd.0)))
+judged_task Help names (k ∷ i ∷ n ∷ s ∷ d ∷ x ∷ rest) kinds p =
+    let pk = both_true (is_positional_word k) _ p in
+    let pi = both_true (is_positional_word i) _ pk.1 in
+    let pn = both_true (is_positional_word n) _ pi.1 in
+    let ps = both_true (is_positional_word s) _ pn.1 in
+    let pd = both_true (is_positional_word d) _ ps.1 in
+    let px = both_true (is_positional_word x) _ pd.1 in
     inr (
-      inl (fault_first _ _ (subst IsFault (sym (five_of_task names k i n s x rest pk.0 pi.0 pn.0 ps.0 px.0))
+      inl (fault_first _ _ (subst IsFault (sym (six_of_task names k i n s d x rest pk.0 pi.0 pn.0 ps.0 pd.0 px.0))
           (fault_then (task_fault names k) (kind.UnknownArgument ∷ []) (kind_mistakes _ k (known_fault names k kinds)) (refl, tt)))),
       refl,
     )
@@ -1164,7 +1234,7 @@ module _ (f : Found) where
   abbrev IsValue : Text → Option Text → Type 0
   IsValue id o = o ≡ first_value f id
 
-  pub task_is : (k i n : Option Text) → IsValue (codes "KIND") k → IsValue (codes "INSTANCE") i → IsValue (codes "STEPS") n → task_in (rows_of f) ≡ task_with k i n (first_of (codes "SEED") (rows_of f))
+  pub task_is : (k i n : Option Text) → IsValue (codes "KIND") k → IsValue (codes "INSTANCE") i → IsValue (codes "STEPS") n → task_in (rows_of f) ≡ task_with k i n (first_of (codes "SEED") (rows_of f)) (first_of (codes "DEVIATION") (rows_of f))
   task_is k i n ek ei en = rw (value_is f (codes "KIND") k ek, value_is f (codes "INSTANCE") i ei, value_is f (codes "STEPS") n en) refl
 
   -- of `run`
@@ -1176,39 +1246,51 @@ module _ (f : Found) where
   load_is w k i ew ek ei = rw (value_is f (codes "STORE") w ew, value_is f (codes "KIND") k ek, value_is f (codes "INSTANCE") i ei) refl
 
 -- words that ask for no task
-pub no_task_kind : (i n s : Option Text) → task_with None i n s ≡ None
-no_task_kind i n s = refl
+pub no_task_kind : (i n s d : Option Text) → task_with None i n s d ≡ None
+no_task_kind i n s d = refl
 
-pub no_kind_of_task : (k : Text) (i n s : Option Text) → kind_named k ≡ None → task_with (Some k) i n s ≡ None
-no_kind_of_task k None n s e = refl
-no_kind_of_task k (Some i) None s e = refl
-no_kind_of_task k (Some i) (Some n) s e = ap (λ o. task_from o i (steps_named n) (seed_or_none s)) e
+pub no_kind_of_task : (k : Text) (i n s d : Option Text) → kind_named k ≡ None → task_with (Some k) i n s d ≡ None
+no_kind_of_task k None n s d e = refl
+no_kind_of_task k (Some i) None s d e = refl
+no_kind_of_task k (Some i) (Some n) s d e = ap (λ o. task_from o i (steps_named n) (seed_or_none s) (deviation_or_none d)) e
 
-pub no_task_instance : (k : Text) (n s : Option Text) → task_with (Some k) None n s ≡ None
-no_task_instance k n s = refl
+pub no_task_instance : (k : Text) (n s d : Option Text) → task_with (Some k) None n s d ≡ None
+no_task_instance k n s d = refl
 
-pub no_task_steps : (k i : Text) (s : Option Text) → task_with (Some k) (Some i) None s ≡ None
-no_task_steps k i s = refl
+pub no_task_steps : (k i : Text) (s d : Option Text) → task_with (Some k) (Some i) None s d ≡ None
+no_task_steps k i s d = refl
 
-no_steps_from : (o : Option Kind) (i : Text) (s : Option ℕ) → task_from o i None s ≡ None
-no_steps_from None i s = refl
-no_steps_from (Some k) i s = refl
+no_steps_from : (o : Option Kind) (i : Text) (s : Option ℕ) (d : Option (Option ℕ)) → task_from o i None s d ≡ None
+no_steps_from None i s d = refl
+no_steps_from (Some k) i s d = refl
 
-pub bad_steps : (k i n : Text) (s : Option Text) → steps_named n ≡ None → task_with (Some k) (Some i) (Some n) s ≡ None
-bad_steps k i n s e = ap (λ o. task_from (kind_named k) i o (seed_or_none s)) e ∙ no_steps_from (kind_named k) i (seed_or_none s)
+pub bad_steps : (k i n : Text) (s d : Option Text) → steps_named n ≡ None → task_with (Some k) (Some i) (Some n) s d ≡ None
+bad_steps k i n s d e = ap (λ o. task_from (kind_named k) i o (seed_or_none s) (deviation_or_none d)) e ∙ no_steps_from (kind_named k) i (seed_or_none s) (deviation_or_none d)
 
-no_seed_from : (o : Option Kind) (i : Text) (n : Option ℕ) → task_from o i n None ≡ None
-no_seed_from None i n = refl
-no_seed_from (Some k) i None = refl
-no_seed_from (Some k) i (Some n) = refl
+no_seed_from : (o : Option Kind) (i : Text) (n : Option ℕ) (d : Option (Option ℕ)) → task_from o i n None d ≡ None
+no_seed_from None i n d = refl
+no_seed_from (Some k) i None d = refl
+no_seed_from (Some k) i (Some n) d = refl
 
-pub bad_seed : (k i n : Text) (s : Option Text) → seed_or_none s ≡ None → task_with (Some k) (Some i) (Some n) s ≡ None
-bad_seed k i n s e = ap (λ o. task_from (kind_named k) i (steps_named n) o) e ∙ no_seed_from (kind_named k) i (steps_named n)
+pub bad_seed : (k i n : Text) (s d : Option Text) → seed_or_none s ≡ None → task_with (Some k) (Some i) (Some n) s d ≡ None
+bad_seed k i n s d e = ap (λ o. task_from (kind_named k) i (steps_named n) o (deviation_or_none d)) e ∙ no_seed_from (kind_named k) i (steps_named n) (deviation_or_none d)
 
-pub task_found : (k i n : Text) (s : Option Text) (kind : Kind) (steps seed : ℕ) → kind_named k ≡ Some kind → steps_named n ≡ Some steps → seed_or_none s ≡ Some seed
-    → task_with (Some k) (Some i) (Some n) s ≡ Some (record { kind = kind; instance = i; steps = steps; seed = seed })
-task_found k i n s kind steps seed ek en es =
-    ap (λ o. task_from o i (steps_named n) (seed_or_none s)) ek ∙ (ap (λ o. task_from (Some kind) i o (seed_or_none s)) en ∙ ap (λ o. task_from (Some kind) i (Some steps) o) es)
+no_deviation_from : (o : Option Kind) (i : Text) (n s : Option ℕ) → task_from o i n s None ≡ None
+no_deviation_from None i n s = refl
+no_deviation_from (Some k) i None s = refl
+no_deviation_from (Some k) i (Some n) None = refl
+no_deviation_from (Some k) i (Some n) (Some s) = refl
+
+pub bad_deviation : (k i n : Text) (s d : Option Text) → deviation_or_none d ≡ None → task_with (Some k) (Some i) (Some n) s d ≡ None
+bad_deviation k i n s d e = ap (task_from (kind_named k) i (steps_named n) (seed_or_none s)) e ∙ no_deviation_from (kind_named k) i (steps_named n) (seed_or_none s)
+
+pub task_found : (k i n : Text) (s d : Option Text) (kind : Kind) (steps seed : ℕ) (deviation : Option ℕ) → kind_named k ≡ Some kind → steps_named n ≡ Some steps → seed_or_none s ≡ Some seed
+    → deviation_or_none d ≡ Some deviation
+    → task_with (Some k) (Some i) (Some n) s d ≡ Some (record { kind = kind; instance = i; steps = steps; seed = seed; deviation = deviation })
+task_found k i n s d kind steps seed deviation ek en es ed =
+    ap (λ o. task_from o i (steps_named n) (seed_or_none s) (deviation_or_none d)) ek
+    ∙ (ap (λ o. task_from (Some kind) i o (seed_or_none s) (deviation_or_none d)) en
+    ∙ (ap (λ o. task_from (Some kind) i (Some steps) o (deviation_or_none d)) es ∙ ap (task_from (Some kind) i (Some steps) (Some seed)) ed))
 
 is_not : (b : Bool) → (b ≡ true → ⊥) → b ≡ false
 is_not true n = absurd (n refl)

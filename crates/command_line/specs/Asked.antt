@@ -22,12 +22,13 @@ pub record PathsAsked : Type 0 where
   pub instance : Text
   pub solution : Text
 
--- an instance's file, and a search
+-- an instance's file, and how it is solved
 pub record TaskAsked : Type 0 where
   pub kind : Kind
   pub instance : Text
   pub steps : ℕ
   pub seed : ℕ
+  pub deviation : Option ℕ
 
 -- a store's file, and an instance's file with the seed of its searches
 pub record LoadAsked : Type 0 where
@@ -55,7 +56,7 @@ abbrev pub paths_of : Paths → PathsAsked
 paths_of paths = record { kind = paths.kind; instance = paths.instance.now; solution = paths.solution.now }
 
 abbrev pub task_of : Task → TaskAsked
-task_of task = record { kind = task.kind; instance = task.instance.now; steps = task.steps; seed = task.seed }
+task_of task = record { kind = task.kind; instance = task.instance.now; steps = task.steps; seed = task.seed; deviation = task.deviation }
 
 abbrev pub load_of : Loading → LoadAsked
 load_of loading = record { store = loading.store.now; kind = loading.kind; instance = loading.instance.now; seed = loading.seed }
@@ -100,14 +101,21 @@ abbrev pub list_asked : List Text → Option Asked
 list_asked (kind ∷ list ∷ []) = option_map (λ k. audits k list) (kind_named kind)
 list_asked _ = None
 
-abbrev pub task_from : Option Kind → Text → Option ℕ → Option ℕ → Option TaskAsked
-task_from (Some kind) instance (Some steps) (Some seed) = Some (record { kind = kind; instance = instance; steps = steps; seed = seed })
-task_from _ _ _ _ = None
+-- a deviation, in digits alone; or that none is named
+abbrev pub deviation_or_none : Option Text → Option (Option ℕ)
+deviation_or_none None = Some None
+deviation_or_none (Some word) = option_map (λ d. Some d) (below 1000000001 (digits_of word))
 
--- `KIND INSTANCE STEPS [SEED]`
+abbrev pub task_from : Option Kind → Text → Option ℕ → Option ℕ → Option (Option ℕ) → Option TaskAsked
+task_from (Some kind) instance (Some steps) (Some seed) (Some deviation) = Some (record { kind = kind; instance = instance; steps = steps; seed = seed; deviation = deviation })
+task_from _ _ _ _ _ = None
+
+-- `KIND INSTANCE STEPS [SEED [DEVIATION]]`
 abbrev pub task_asked : List Text → Option TaskAsked
-task_asked (kind ∷ instance ∷ steps ∷ []) = task_from (kind_named kind) instance (steps_named steps) (Some 0)
-task_asked (kind ∷ instance ∷ steps ∷ seed ∷ []) = task_from (kind_named kind) instance (steps_named steps) (seed_named seed)
+task_asked (kind ∷ instance ∷ steps ∷ []) = task_from (kind_named kind) instance (steps_named steps) (Some 0) (Some None)
+task_asked (kind ∷ instance ∷ steps ∷ seed ∷ []) = task_from (kind_named kind) instance (steps_named steps) (seed_named seed) (Some None)
+task_asked (kind ∷ instance ∷ steps ∷ seed ∷ deviation ∷ []) =
+    task_from (kind_named kind) instance (steps_named steps) (seed_named seed) (deviation_or_none (Some deviation))
 task_asked _ = None
 
 -- `STORE`
@@ -172,13 +180,15 @@ list_from _ _ = None
 abbrev pub list_in : List Row → Option Asked
 list_in rows = list_from (first_of (codes "KIND") rows) (first_of (codes "LIST") rows)
 
--- those of `KIND INSTANCE STEPS [SEED]`
-abbrev pub task_with : Option Text → Option Text → Option Text → Option Text → Option TaskAsked
-task_with (Some kind) (Some instance) (Some steps) seed = task_from (kind_named kind) instance (steps_named steps) (seed_or_none seed)
-task_with _ _ _ _ = None
+-- those of `KIND INSTANCE STEPS [SEED [DEVIATION]]`
+abbrev pub task_with : Option Text → Option Text → Option Text → Option Text → Option Text → Option TaskAsked
+task_with (Some kind) (Some instance) (Some steps) seed deviation =
+    task_from (kind_named kind) instance (steps_named steps) (seed_or_none seed) (deviation_or_none deviation)
+task_with _ _ _ _ _ = None
 
 abbrev pub task_in : List Row → Option TaskAsked
 task_in rows = task_with (first_of (codes "KIND") rows) (first_of (codes "INSTANCE") rows) (first_of (codes "STEPS") rows) (first_of (codes "SEED") rows)
+    (first_of (codes "DEVIATION") rows)
 
 -- the value of `STORE`
 abbrev pub store_in : List Row → Option Text

@@ -27,10 +27,11 @@ paths_app name names = with_rule (with_rule (kind_app name names) (word_rule (co
 abbrev pub audits_app : Bor (List (Bor Text)) → App
 audits_app names = with_rule (kind_app (codes "audits") names) (word_rule (codes "LIST"))
 
--- `solve KIND INSTANCE STEPS [SEED]`
+-- `solve KIND INSTANCE STEPS [SEED [DEVIATION]]`
 abbrev pub solve_app : Bor (List (Bor Text)) → App
 solve_app names =
-    with_rule (with_rule (with_rule (kind_app (codes "solve") names) (word_rule (codes "INSTANCE"))) (word_rule (codes "STEPS"))) (new_rule (codes "SEED"))
+    let steps = with_rule (with_rule (kind_app (codes "solve") names) (word_rule (codes "INSTANCE"))) (word_rule (codes "STEPS")) in
+    with_rule (with_rule steps (new_rule (codes "SEED"))) (new_rule (codes "DEVIATION"))
 
 -- a command of this name with the word `STORE`
 abbrev pub store_app : Text → App

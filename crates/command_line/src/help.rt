@@ -111,10 +111,11 @@ pub(crate) const DRAW_ANSWERS: &str =
 pub(crate) const SOLVE_ABOUT: &str = "Finds a solution of an instance";
 
 pub(crate) const SOLVE_ANSWERS: &str =
-    "It builds a plan, searches for a better one, and prints the text of the solution (status 0).\n\
+    "It builds a plan, looks for a better one, and prints the text of the solution (status 0).\n\
+    A plan that leaves requests out is printed without a cost line (status 1).\n\
     On standard error it prints:\n  \
-    at STEPS UNPLANNED VEHICLES DISTANCE    how far it is, at the start and at each twentieth of the steps\n  \
-    unplanned N                             no solution: so many requests are in no route (status 1)\n  \
+    at STEPS UNPLANNED VEHICLES DISTANCE    how far it is, at the start and about each twentieth of the steps\n  \
+    unplanned N: R1 R2 ..                   so many requests are in no route, and which (status 1)\n  \
     instance NAME LINE                      the first fault of the instance's text (status 2)\n  \
     cannot read PATH                        the file can't be read (status 3)\n  \
     out of memory                           (status 4)\n\n\

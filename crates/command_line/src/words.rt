@@ -2,10 +2,10 @@
 //!
 //! Words that begin with a hyphen are `clap`'s, and the contract speaks of the other ones, since an exact clause
 //! would have to speak of UTF-8 within each word. `--` alone counts as no words, as `clap` has it.
-ghost use Rattle.std.specs.Prelude.{◌≡◌, IfOk, codes, drop, map, option_and_then, option_map};
+ghost use Rattle.std.specs.Prelude.{◌≡◌, Some, IfOk, codes, drop, map, option_and_then, option_map};
 ghost use Rattle.clap.specs.Words.{App, Rule, app_of, first_of, found_of, kind_of, new_rule, rows_of, subcommand_rows_of, with_rule, with_subcommand};
 ghost use Rattle.command_text.specs.Asking.{field_in};
-ghost use Rattle.command_line.specs.Asked.{ArePositional, ReadsWords, asked_of, paths_in, paths_of, run_in, kind_named, list_in, load_in, load_of, seed_named, seed_or_none, steps_named, store_in, task_in, task_of, told_by, told_by_other, told_of, told_of_store, upgrade_in};
+ghost use Rattle.command_line.specs.Asked.{ArePositional, ReadsWords, asked_of, paths_in, paths_of, run_in, kind_named, list_in, load_in, load_of, deviation_or_none, seed_named, seed_or_none, steps_named, store_in, task_in, task_of, told_by, told_by_other, told_of, told_of_store, upgrade_in};
 ghost use Rattle.command_line.specs.CommandLine.{IsKindNames, IsLeafCommand, IsModeNames, IsPlannerCommand, IsWord, audits_app, load_app, mode_rule, paths_app, kind_rule, run_app, solve_app, store_app, upgrade_app, word_rule};
 
 use crate::help::{
@@ -29,14 +29,16 @@ pub struct Paths<'a> {
     pub solution: &'a str,
 }
 
-/// An instance, by the path of its file as it stands, and a search from the plan that is built of it.
+/// An instance, by the path of its file as it stands, and the steps from the plan that is built of it.
 #[derive(Clone, Copy, Debug)]
 pub struct Task<'a> {
     pub kind: Kind,
     pub instance: &'a str,
-    /// How many steps the search makes, 0..=1,000,000,000.
+    /// How many steps are made, 0..=1,000,000,000.
     pub steps: u32,
     pub seed: u64,
+    /// How far the search's working plan may be from its best one, 0..=1,000,000,000; `None` where no search is asked for.
+    pub deviation: Option<u32>,
 }
 
 /// A store and an instance, by the paths of their files as they stand.
@@ -62,7 +64,7 @@ pub enum Invocation<'a> {
     Explain(Paths<'a>),
     /// `draw KIND INSTANCE SOLUTION`: the picture of a solution.
     Draw(Paths<'a>),
-    /// `solve KIND INSTANCE STEPS [SEED]`: a solution of the instance in this file.
+    /// `solve KIND INSTANCE STEPS [SEED [DEVIATION]]`: a solution of the instance in this file.
     Solve(Task<'a>),
     /// `format STORE`: an empty store in the file of this path.
     Format { store: &'a str },
@@ -78,8 +80,11 @@ pub enum Invocation<'a> {
 /// The greatest number of steps.
 const MAX_STEPS: u32 = 1_000_000_000;
 
+/// The greatest deviation.
+const MAX_DEVIATION: u32 = 1_000_000_000;
+
 const BAD_STEPS: &str =
-    "STEPS is 0 to 1000000000 and SEED 0 to 18446744073709551615, in digits alone";
+    "STEPS and DEVIATION are 0 to 1000000000 and SEED 0 to 18446744073709551615, in digits alone";
 
 const BAD_SEED: &str = "SEED is 0 to 18446744073709551615, in digits alone";
 
@@ -242,11 +247,9 @@ fn solve_command<'a>(alloc: Global, kinds: &'a [&'a str]) -> Result<Command<'a>,
         .after_help(SOLVE_ANSWERS);
     let command = with_word(command, kind_word(alloc, kinds))?;
     let command = with_word(command, instance_word(alloc))?;
-    let command = with_word(
-        command,
-        word(alloc, "STEPS", "How many steps the search makes"),
-    )?;
-    with_word(command, seed_word(alloc))
+    let command = with_word(command, word(alloc, "STEPS", "How many steps are made"))?;
+    let command = with_word(command, seed_word(alloc))?;
+    with_word(command, deviation_word(alloc))
 }
 
 // The word that names a kind of instance.
@@ -279,6 +282,14 @@ fn seed_word<'a>(alloc: Global) -> Arg<'a>
     ensures { IsWord (new_rule (codes "SEED")) result }
 {
     Arg::new(alloc, "SEED").help("What the search draws its numbers by; 0 without it")
+}
+
+fn deviation_word<'a>(alloc: Global) -> Arg<'a>
+    ensures { IsWord (new_rule (codes "DEVIATION")) result }
+{
+    Arg::new(alloc, "DEVIATION").help(
+        "Searches, and its working plan may be so far from the best one; for researchers",
+    )
 }
 
 // A word that has to stand there.
@@ -416,11 +427,13 @@ fn task_words<'a>(matches: &ArgMatches<'a>) -> Option<Task<'a>>
     let instance = matches.get_str("INSTANCE")?;
     let steps = steps_of_word(matches.get_str("STEPS")?)?;
     let seed = seed_of_words(matches)?;
+    let deviation = deviation_of_words(matches)?;
     Some(Task {
         kind,
         instance,
         steps,
         seed,
+        deviation,
     })
 }
 
@@ -458,6 +471,27 @@ fn steps_of_word(word: &str) -> Option<u32>
         return None;
     }
     Some(steps)
+}
+
+// The deviation that is named, or that none is.
+fn deviation_of_words(matches: &ArgMatches<'_>) -> Option<Option<u32>>
+    ensures { result
+        ≡ deviation_or_none (first_of (codes "DEVIATION") (rows_of (found_of matches.now))) }
+{
+    match matches.get_str("DEVIATION") {
+        Some(word) => deviation_of_word(word),
+        None => Some(None),
+    }
+}
+
+fn deviation_of_word(word: &str) -> Option<Option<u32>>
+    ensures { result ≡ deviation_or_none (Some word.now) }
+{
+    let deviation = digits_to_u32(word.as_bytes())?;
+    if deviation > MAX_DEVIATION {
+        return None;
+    }
+    Some(Some(deviation))
 }
 
 // The seed that is named, or 0 where none is.

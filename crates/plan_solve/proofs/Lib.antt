@@ -1,2 +1,4 @@
 mod AuditedLemmas
+mod SearchLemmas
+mod StageLemmas
 mod SolveLemmas

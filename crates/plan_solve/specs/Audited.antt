@@ -1,5 +1,5 @@
 -- What the auditor says of what is solved.
-use Rattle.std.specs.Prelude.{◌≡◌, ◌<◌, ◌≤◌, ◌^◌, ℕ, List, Option}
+use Rattle.std.specs.Prelude.{◌≡◌, ◌<◌, ◌≤◌, ◌^◌, ℕ, List, [], Option}
 use Rattle.plan_types.specs.Instance.{Instance}
 use Rattle.plan_types.specs.declared.requests.Kind.{Kind}
 use Rattle.route_sched.specs.Cost.{cost_of, total_length, used_count}
@@ -9,7 +9,8 @@ use Rattle.plan_audit.specs.Laws.{AreAllPlanned, IsSoundPlan}
 use Rattle.plan_audit.specs.Verdict.{IsVerdict, printed}
 use Rattle.plan_audit.specs.declared.rules.Verdict.TheVariants.{Pass}
 use Rattle.command_text.specs.Readings.{SpellsInstance}
-use Rattle.plan_solve.specs.Solved.{IsSolution}
+use Rattle.plan_solve.specs.Solved.{IsSolved}
+use Rattle.plan_solve.specs.declared.solving.Solved.{Solved}
 
 -- Both texts spell a value, and the verdict on the two is to pass. So the solution is sound, serves each request, uses no more vehicles
 -- than there are, and prints the distance that it drives.
@@ -24,7 +25,7 @@ pub record PassesAudit (kind : Kind) (instance solution : List ℕ) : Type 0 whe
   pub fleet : used_count plan.routes ≤ problem.fleet
   pub distance : plan.cost ≡ total_length problem plan.routes
 
--- law: what is solved passes
+-- law: what is solved passes where no request is left out, with a deviation or without one
 abbrev pub SolutionsPassAudit : Type 0
-SolutionsPassAudit = (kind : Kind) (text : List ℕ) (seed steps : ℕ) (before after_it : Option (List ℕ)) (found : List ℕ) → seed < 2 ^ 64
-    → IsSolution kind text seed steps before after_it found → PassesAudit kind text found
+SolutionsPassAudit = (kind : Kind) (text : List ℕ) (seed steps : ℕ) (deviation : Option ℕ) (before after_it : Option (List ℕ)) (found : Solved) → seed < 2 ^ 64
+    → IsSolved kind text seed steps deviation before after_it found → found.unplanned.items ≡ [] → PassesAudit kind text found.text.items

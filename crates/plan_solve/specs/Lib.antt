@@ -1,5 +1,6 @@
 -- what public contracts reach
 pub mod Audited
 pub mod Solved
+pub mod Staged
 -- of private functions alone
 pub mod Telling

@@ -1,34 +1,39 @@
--- What the search makes of an instance's text, and what is told on the way.
-use Rattle.std.specs.Prelude.{◌≡◌, ◌≢◌, ℕ, ◌<◌, ◌*◌, ◌/◌, nat_lt, true, if◌then◌else◌, List, [], ◌∷◌, map, sum_by, Option, Result, MatchResult, ⊤}
+-- What solving makes of an instance's text, and what is told on the way.
+use Rattle.std.specs.Prelude.{◌≡◌, ◌≢◌, ℕ, ◌*◌, ◌/◌, ◌≤◌, ◌==◌, min, nat_lt, true, if◌then◌else◌, List, [], ◌∷◌, length, map, sum_by, Option, Some, None, ⊤}
 use Rattle.std.specs.List.{flat_map, list_all, range_with_len}
 use Rattle.std.specs.Io.KnownBytes.{Appends}
 use Rattle.plan_types.specs.Instance.{Instance, IsInstance}
 use Rattle.plan_types.specs.declared.requests.Kind.{Kind}
-use Rattle.route_sched.specs.Cost.{unplanned_count}
+use Rattle.plan_types.specs.declared.requests.Kind.TheVariants.{LiLim, Vrp}
 use Rattle.instance_read.specs.Faults.{IsFirstFault}
 use Rattle.instance_read.specs.declared.faults.ReadFault.{ReadFault}
 use Rattle.instance_read.specs.declared.faults.ReadFaultKind.TheVariants as read_fault
 use Rattle.sol_text.specs.Faults.{Spells}
-use Rattle.command_core.specs.Effects.{built, loaded, searched}
+use Rattle.sol_text.specs.Written.{routes_text, used_routes}
+use Rattle.seeded_search.specs.Steps.{unplanned_names}
+use Rattle.command_core.specs.Effects.{built, loaded, searched, with_deviation}
 use Rattle.command_core.specs.Job.{JobValue}
 use Rattle.command_core.specs.Runs.{after, is_searching, steps_of}
 use Rattle.command_core.specs.declared.commands.Command.{Command}
-use Rattle.command_core.specs.declared.commands.Command.TheVariants.{Build, Load}
+use Rattle.command_core.specs.declared.commands.Command.TheVariants.{Build, Deviation, Load}
 use Rattle.command_core.specs.declared.states.State.TheVariants.{Empty, Loaded}
 use Rattle.command_text.specs.Answers.{at_text, line}
 use Rattle.command_text.specs.Readings.{InstanceFault, SpellsInstance}
 use Rattle.command_text.specs.Showing.{print_text, solution_of}
+use Rattle.plan_solve.specs.Staged.{by_stages, first_stand}
 use Rattle.plan_solve.specs.declared.faults.SolveFault.{SolveFault}
 use Rattle.plan_solve.specs.declared.faults.SolveFault.TheVariants as fault
+use Rattle.plan_solve.specs.declared.solving.Solved.{Solved}
 
--- the job after so many steps: the problem is loaded with the seed, the plan built, and the search goes on from there
-abbrev pub solved : Instance → ℕ → ℕ → JobValue
-solved p seed steps = searched (built (loaded p seed)) steps
+-- how a solving begins: the problem is loaded with the seed, and the plan built
+abbrev pub begun : Instance → ℕ → JobValue
+begun p seed = built (loaded p seed)
 
--- law: it is what the commands of a store make of it, however the steps are cut into searches
-abbrev pub IsWhatCommandsMake : Type 0
-IsWhatCommandsMake = (p : Instance) (seed : ℕ) (cs : List Command) → list_all is_searching cs ≡ true
-    → after Empty (Load p seed ∷ Build ∷ cs) ≡ Loaded (solved p seed (sum_by steps_of cs))
+-- ---- by the search, with a deviation
+
+-- the job after so many steps of the search
+abbrev pub searched_with : ℕ → JobValue → ℕ → JobValue
+searched_with deviation j steps = searched (with_deviation j deviation) steps
 
 -- k twentieths of the steps, rounded down
 abbrev pub twentieths : ℕ → ℕ → ℕ
@@ -44,41 +49,63 @@ abbrev pub marks : ℕ → List ℕ
 marks steps = 0 ∷ above 0 (map (twentieths steps) (range_with_len 1 20))
 
 -- `at STEPS UNPLANNED VEHICLES DISTANCE` at each mark
-abbrev pub progress : Instance → ℕ → ℕ → List ℕ
-progress p seed steps = flat_map (λ n. line (at_text (solved p seed n))) (marks steps)
+abbrev pub search_lines : ℕ → JobValue → ℕ → List ℕ
+search_lines deviation j steps = flat_map (λ n. line (at_text (searched_with deviation j n))) (marks steps)
 
--- the text spells this problem, and what is told of its search is written
-pub record IsSearched (kind : Kind) (text : List ℕ) (seed steps : ℕ) (before after_it : Option (List ℕ)) (p : Instance) : Type 0 where
-  pub spelled : SpellsInstance kind text p
-  pub kept : IsInstance p
-  pub told : Appends before after_it (progress p seed steps)
+-- ---- by either
 
--- every request is planned, and the text is the solution's and is read back so
-pub record IsSolution (kind : Kind) (text : List ℕ) (seed steps : ℕ) (before after_it : Option (List ℕ)) (found : List ℕ) : Type 0 where
+-- the deviation of the search, at most 1,000,000,000; where none is, the stages of annealing are gone through
+abbrev pub deviation_of : Kind → Option ℕ → Option ℕ
+deviation_of kind (Some deviation) = Some (min deviation 1000000000)
+deviation_of LiLim None = Some 0
+deviation_of Vrp None = None
+
+-- the job after so many steps
+abbrev pub solved_from : JobValue → ℕ → Option ℕ → JobValue
+solved_from j steps (Some deviation) = searched_with deviation j steps
+solved_from j steps None = (by_stages steps (first_stand j)).job
+
+abbrev pub solved : Instance → ℕ → ℕ → Option ℕ → JobValue
+solved p seed steps deviation = solved_from (begun p seed) steps (deviation_of p.kind deviation)
+
+-- what is told on the way
+abbrev pub lines_from : JobValue → ℕ → Option ℕ → List ℕ
+lines_from j steps (Some deviation) = search_lines deviation j steps
+lines_from j steps None = (by_stages steps (first_stand j)).lines
+
+abbrev pub progress : Instance → ℕ → ℕ → Option ℕ → List ℕ
+progress p seed steps deviation = lines_from (begun p seed) steps (deviation_of p.kind deviation)
+
+-- law: with a deviation it is what the commands of a store make of it, however the steps are cut into searches
+abbrev pub IsWhatCommandsMake : Type 0
+IsWhatCommandsMake = (p : Instance) (seed deviation : ℕ) (cs : List Command) → deviation ≤ 1000000000 → list_all is_searching cs ≡ true
+    → after Empty (Load p seed ∷ Build ∷ Deviation deviation ∷ cs) ≡ Loaded (solved p seed (sum_by steps_of cs) (Some deviation))
+
+-- ---- the answer
+
+-- the text of a plan: a solution's where no request is left out, else the route lines alone
+abbrev pub plan_text : JobValue → List ℕ
+plan_text j = if length (unplanned_names j.problem j.plan) == 0 then print_text j else routes_text 1 (used_routes j.plan)
+
+-- the text is the plan's, and the requests that it leaves out are named; where there are none, the text is read back as the plan's solution
+pub record TellsPlan (j : JobValue) (found : Solved) : Type 0 where
+  pub text : found.text.items ≡ plan_text j
+  pub unplanned : found.unplanned.items ≡ unplanned_names j.problem j.plan
+  pub spells : found.unplanned.items ≡ [] → Spells found.text.items (solution_of j)
+
+-- the text spells a problem, the answer tells the plan that is found, and what is told on the way is written unless a line could not be
+pub record IsSolved (kind : Kind) (text : List ℕ) (seed steps : ℕ) (deviation : Option ℕ) (before after_it : Option (List ℕ)) (found : Solved) : Type 0 where
   pub problem : Instance
-  pub searched : IsSearched kind text seed steps before after_it problem
-  pub planned : unplanned_count problem (solved problem seed steps).plan ≡ 0
-  pub solution : found ≡ print_text (solved problem seed steps)
-  pub spells : Spells found (solution_of (solved problem seed steps))
-
--- so many requests are left in no route
-pub record IsUnplanned (kind : Kind) (text : List ℕ) (seed steps : ℕ) (before after_it : Option (List ℕ)) (n : ℕ) : Type 0 where
-  pub problem : Instance
-  pub searched : IsSearched kind text seed steps before after_it problem
-  pub some : 0 < n
-  pub count : n ≡ unplanned_count problem (solved problem seed steps).plan
+  pub spelled : SpellsInstance kind text problem
+  pub kept : IsInstance problem
+  pub plan : TellsPlan (solved problem seed steps deviation) found
+  pub told : found.is_told ≡ true → Appends before after_it (progress problem seed steps deviation)
 
 -- the first fault of the text, and none for want of memory
 abbrev pub IsFirst : Kind → List ℕ → ReadFault → Type 0
 IsFirst kind text first = (first.kind ≢ read_fault.OutOfMemory) × IsFirstFault (InstanceFault kind text) first
 
--- the text spells a problem
-abbrev pub IsSpelled : Kind → List ℕ → Type 0
-IsSpelled kind text = (p : Instance) × SpellsInstance kind text p
-
--- Memory may be refused at any time, and a line can't be written only once the instance is read.
-abbrev pub Fails : Kind → List ℕ → ℕ → ℕ → Option (List ℕ) → Option (List ℕ) → SolveFault → Type 0
-Fails kind text seed steps before after_it (fault.Refused first) = IsFirst kind text first × Appends before after_it []
-Fails kind text seed steps before after_it (fault.Unplanned count) = IsUnplanned kind text seed steps before after_it count
-Fails kind text seed steps before after_it fault.OutOfMemory = ⊤
-Fails kind text seed steps before after_it fault.WriteFault = IsSpelled kind text
+-- memory may be refused at any time
+abbrev pub Fails : Kind → List ℕ → Option (List ℕ) → Option (List ℕ) → SolveFault → Type 0
+Fails kind text before after_it (fault.Refused first) = IsFirst kind text first × Appends before after_it []
+Fails kind text before after_it fault.OutOfMemory = ⊤

@@ -1,20 +1,15 @@
-//! Why there is no solution.
+//! Why there is no plan.
 use instance_read::ReadFault;
 use std::alloc::AllocError;
 use thiserror::Error;
 
-/// Why there is no solution.
+/// Why there is no plan.
 #[derive(Clone, Copy, Debug, PartialEq, Eq, Error)]
 pub enum SolveFault {
     #[error("the instance is refused: {0}")]
     Refused(ReadFault),
-    /// So many requests are in no route at the end.
-    #[error("{0} requests are in no route")]
-    Unplanned(u64),
     #[error("out of memory")]
     OutOfMemory,
-    #[error("a line of progress can't be written")]
-    WriteFault,
 }
 
 impl From<AllocError> for SolveFault {

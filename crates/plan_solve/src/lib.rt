@@ -1,37 +1,45 @@
 //! An instance solved at once, without a store: the program's word `solve`.
 //!
-//! Entry function: `solve`, from an instance's text to a solution's; called by `planner_cli`.
+//! Entry function: `solve`, from an instance's text to a plan's; called by `planner_cli`.
 //!
 //! Source: this project's own; the text is a `.sol` file of CVRPLIB.
 //!
-//! How it works: the problem is loaded with the seed, each unplanned request is put in where it is best, and the search
-//! makes the steps, as the commands `load`, `build` and `search` of a store do. A line tells how far it is before the
-//! search and at each twentieth of the steps.
+//! How it works: the problem is loaded with the seed, and each unplanned request is put in where it is best, as the
+//! commands `load` and `build` of a store do. With a deviation the search makes the steps, as `search` does. Without one
+//! a `.vrp` problem goes through the twenty stages of annealing (`anneal_stages`): each begins with the best plan so
+//! far, and lets the working plan be less far from it than the one before. Lines tell how far it is.
 //!
 //! Modules, in reading order:
-//! - `faults`: why there is no solution
-//! - `marks`: at which steps a line is told
+//! - `faults`: why there is no plan
+//! - `marks`: at which steps a search tells a line
+//! - `telling`: a line of progress
+//! - `searching`: the search, with its lines
+//! - `staging`: the stages, with their lines
+//! - `printing`: the text of a plan, and what it leaves out
 //! - `solving`: `solve`
 //! - `laws`: what is solved, for every instance
 //!
-//! Said by `specs/Solved.antt` and `Audited.antt`. Proved:
-//! - `solve`, where it answers a text (`IsSolution`): it is that of the plan which loading, building and so many steps
-//!   give, no request is left out, and the lines were written
-//! - `solve`, where it refuses (`Fails`): the text's first fault, with nothing written, or how many requests are
-//!   left out
-//! - `solving_is_commands`: the plan is what the commands of a store make of the instance, however the steps are cut
-//! - `what_is_solved_passes_the_audit`: both texts spell values, the solution is sound, serves each request, keeps the
-//!   fleet and prints the distance that it drives
+//! Said by `specs/Solved.antt`, `Staged.antt` and `Audited.antt`. Proved:
+//! - `solve`, where it answers (`IsSolved`): the text is that of the plan which loading, building and so many steps give,
+//!   the requests that it leaves out are named, and the lines were written unless it says that one could not be
+//! - `solve`, where it refuses (`Fails`): the text's first fault, with nothing written
+//! - `solving_is_commands`: with a deviation the plan is what the commands of a store make of the instance, however the
+//!   steps are cut
+//! - `what_is_solved_passes_the_audit`: where no request is left out, both texts spell values, the solution is sound,
+//!   serves each request, keeps the fleet and prints the distance that it drives
 //!
-//! `OutOfMemory` may come at any time, and `WriteFault` once the text spells an instance: of std's writers no
-//! contract says when a call may fail.
+//! `OutOfMemory` may come at any time. A line that can't be written ends no solving; behind it none is told.
 #![tactic(auto)]
 
 mod faults;
 mod laws;
 mod marks;
+mod printing;
+mod searching;
 mod solving;
+mod staging;
+mod telling;
 
 pub use faults::SolveFault;
 pub use laws::{solving_is_commands, what_is_solved_passes_the_audit};
-pub use solving::solve;
+pub use solving::{Solved, solve};

@@ -1,44 +1,52 @@
 -- What is told of a solving.
-use Rattle.std.specs.Prelude.{◌≡◌, ℕ, List, [], ◌++◌, codes, decimal, Option, Result, Ok, Err, MatchResult}
+use Rattle.std.specs.Prelude.{◌≡◌, ℕ, List, [], ◌∷◌, ◌++◌, length, codes, decimal, Option, Result, Ok, Err, MatchResult}
 use Rattle.std.specs.Borrow.{Bor}
 use Rattle.std.specs.Io.KnownBytes.{Appends}
 use Rattle.std.specs.declared.io.ErrorKind.{ErrorKind}
 use Rattle.instance_read.specs.Names.{kind_name}
-use Rattle.plan_solve.specs.Solved.{Fails, IsSolution}
+use Rattle.plan_solve.specs.Solved.{Fails, IsSolved}
 use Rattle.plan_solve.specs.declared.faults.SolveFault.{SolveFault}
 use Rattle.plan_solve.specs.declared.faults.SolveFault.TheVariants as fault
+use Rattle.plan_solve.specs.declared.solving.Solved.{Solved}
+use Rattle.sol_text.specs.Written.{customers_text}
 use Rattle.planner_cli.specs.AnswerText.{fault_text}
 use Rattle.command_line.specs.Asked.{TaskAsked}
 use Rattle.planner_cli.specs.Files.{Gave}
 use Rattle.command_text.specs.Answers.{line}
 use Rattle.planner_cli.specs.Telling.{TellsUnread}
 
--- why there is no solution, unless it is that telling failed
+-- why there is no plan
 abbrev pub fault_line : SolveFault → List ℕ
 fault_line (fault.Refused first) = line (fault_text (codes "instance") (kind_name first.kind) first.line)
-fault_line (fault.Unplanned n) = line (codes "unplanned " ++ decimal n)
 fault_line fault.OutOfMemory = line (codes "out of memory")
-fault_line fault.WriteFault = []
 
 abbrev pub fault_status : SolveFault → ℕ
 fault_status (fault.Refused first) = 2
-fault_status (fault.Unplanned n) = 1
 fault_status fault.OutOfMemory = 4
-fault_status fault.WriteFault = 3
 
 abbrev pub IsToldFault : SolveFault → Option (List ℕ) → Option (List ℕ) → ℕ → Type 0
 IsToldFault f before after status = (status ≡ fault_status f) × Appends before after (fault_line f)
 
--- the solution's text is written to the output, or why there is none to the errors, and nothing to the other
-abbrev pub TellsSolved : Result (List ℕ) SolveFault → Option (List ℕ) → Option (List ℕ) → Option (List ℕ) → Option (List ℕ) → ℕ → Type 0
-TellsSolved (Ok text) output after errors later status = (status ≡ 0) × Appends output after text × Appends errors later []
+-- `unplanned N: R1 R2 ..`
+abbrev pub unplanned_line : List ℕ → List ℕ
+unplanned_line names = line (codes "unplanned " ++ decimal (length names) ++ codes ":" ++ customers_text names)
+
+-- the text of a plan is written to the output; of one that leaves no request out nothing to the errors, else which it leaves out
+abbrev pub TellsPlan : List ℕ → List ℕ → Option (List ℕ) → Option (List ℕ) → Option (List ℕ) → Option (List ℕ) → ℕ → Type 0
+TellsPlan text [] output after errors later status = (status ≡ 0) × Appends output after text × Appends errors later []
+TellsPlan text (name ∷ names) output after errors later status =
+    (status ≡ 1) × Appends output after text × Appends errors later (unplanned_line (name ∷ names))
+
+-- the plan is told, or why there is none, which is written to the errors alone
+abbrev pub TellsSolved : Result Solved SolveFault → Option (List ℕ) → Option (List ℕ) → Option (List ℕ) → Option (List ℕ) → ℕ → Type 0
+TellsSolved (Ok solved) output after errors later status = TellsPlan solved.text.items solved.unplanned.items output after errors later status
 TellsSolved (Err f) output after errors later status = IsToldFault f errors later status × Appends output after []
 
 -- an instance's text is solved, and it is told what comes of it
 pub record TellsSolving (task : TaskAsked) (text : List ℕ) (output after errors later : Option (List ℕ)) (status : ℕ) : Type 0 where
-  pub found : Result (List ℕ) SolveFault
+  pub found : Result Solved SolveFault
   pub searched : Option (List ℕ)
-  pub solves : MatchResult found (IsSolution task.kind text task.seed task.steps errors searched) (Fails task.kind text task.seed task.steps errors searched)
+  pub solves : MatchResult found (IsSolved task.kind text task.seed task.steps task.deviation errors searched) (Fails task.kind text errors searched)
   pub told : TellsSolved found output after searched later status
 
 module _ {V E : Type 0} (post : Bor (List ℕ) → Result V E → Type 0) (items : V → List ℕ) (kind : E → ErrorKind) where

@@ -1,19 +1,19 @@
 //! The solving of an instance in a file.
-ghost use Rattle.std.specs.Prelude.{◌≤◌, IfOk};
+ghost use Rattle.std.specs.Prelude.{◌≤◌, IfOk, OnOk};
+ghost use Rattle.std.specs.Io.KnownBytes.{Appends};
 ghost use Rattle.std.specs.IoError.{error_kind};
 ghost use Rattle.command_line.specs.Asked.{task_of};
-ghost use Rattle.planner_cli.specs.Solving.{IsToldFault, TellsSolved, TellsTask};
+ghost use Rattle.planner_cli.specs.Solving.{IsToldFault, TellsPlan, TellsSolved, TellsTask, unplanned_line};
 
-use crate::status::{BROKEN, DONE, FILE, OUT_OF_MEMORY, REFUSED};
+use crate::status::{BROKEN, DONE, OUT_OF_MEMORY, REFUSED};
 use crate::telling::{tell_unread, write_line};
 use command_line::Task;
-use command_text::Text;
-use plan_solve::{SolveFault, solve};
+use plan_solve::{SolveFault, Solved, solve};
 use std::alloc::Global;
 use std::io;
 use std::io::Write;
 
-/// Reads an instance and solves it. The solution goes to `output`, and whatever else is told to `errors`.
+/// Reads an instance and solves it. The plan goes to `output`, and whatever else is told to `errors`.
 pub(crate) fn solve_read<F, W: Write, E: Write>(
     alloc: Global,
     task: Task,
@@ -33,13 +33,21 @@ where
         Ok(text) => text,
         Err(error) => return tell_unread(errors, task.instance, error.kind()),
     };
-    let solved = solve(alloc, task.kind, &text, task.seed, task.steps, errors);
+    let solved = solve(
+        alloc,
+        task.kind,
+        &text,
+        task.seed,
+        task.steps,
+        task.deviation,
+        errors,
+    );
     tell_solved(&solved, output, errors)
 }
 
-// Tells the text of the solution, or why there is none.
+// Tells the plan, or why there is none.
 fn tell_solved<W: Write, E: Write>(
-    solved: &Result<Text, SolveFault>,
+    solved: &Result<Solved, SolveFault>,
     output: &mut W,
     errors: &mut E,
 ) -> io::Result<u8>
@@ -49,15 +57,40 @@ fn tell_solved<W: Write, E: Write>(
         (E.contents errors.old) (E.contents errors.new)) }
 {
     match solved {
-        Ok(text) => {
-            output.write_all(text.as_bytes())?;
-            Ok(DONE)
-        }
+        Ok(solved) => tell_plan(solved, output, errors),
         Err(fault) => tell_fault(*fault, errors),
     }
 }
 
-// Tells why there is no solution, unless it is that telling failed.
+// Tells the text of the plan, and which requests it leaves out.
+fn tell_plan<W: Write, E: Write>(solved: &Solved, output: &mut W, errors: &mut E) -> io::Result<u8>
+    ensures status { IfOk result (λ status. status ≤ 4) }
+    ensures told { IfOk result (TellsPlan solved.now.text.items solved.now.unplanned.items
+        (W.contents output.old) (W.contents output.new)
+        (E.contents errors.old) (E.contents errors.new)) }
+{
+    output.write_all(&solved.text)?;
+    if solved.unplanned.is_empty() {
+        return Ok(DONE);
+    }
+    tell_unplanned(errors, &solved.unplanned)?;
+    Ok(BROKEN)
+}
+
+// `unplanned N: R1 R2 ..`
+fn tell_unplanned<E: Write>(errors: &mut E, names: &[u32]) -> io::Result<()>
+    ensures { OnOk result (Appends (E.contents errors.old) (E.contents errors.new)
+        (unplanned_line names.now)) }
+{
+    let count = names.len();
+    write!(errors, "unplanned {count}:")?;
+    for name in names {
+        write!(errors, " {name}")?;
+    }
+    errors.write_all(b"\n")
+}
+
+// Tells why there is no plan.
 fn tell_fault<E: Write>(fault: SolveFault, errors: &mut E) -> io::Result<u8>
     ensures status { IfOk result (λ status. status ≤ 4) }
     ensures told { IfOk result (IsToldFault fault (E.contents errors.old) (E.contents errors.new)) }
@@ -69,14 +102,9 @@ fn tell_fault<E: Write>(fault: SolveFault, errors: &mut E) -> io::Result<u8>
             writeln!(errors, "instance {name} {line}")?;
             Ok(REFUSED)
         }
-        SolveFault::Unplanned(count) => {
-            writeln!(errors, "unplanned {count}")?;
-            Ok(BROKEN)
-        }
         SolveFault::OutOfMemory => {
             write_line(errors, b"out of memory")?;
             Ok(OUT_OF_MEMORY)
         }
-        SolveFault::WriteFault => Ok(FILE),
     }
 }

@@ -1,22 +1,77 @@
-//! Solving: `plan_solve`.
+//! Solving: `plan_solve`. The costs on the way are those of another program, which goes through the stages by the letter.
 
 use plan_solve::solve;
-use plan_types::Kind;
+use plan_types::{Kind, OutOfMemory};
+use std::alloc::Global;
 use std::test::Fail;
 
 /// One pickup and its delivery, at (3, 4) and (6, 8), from a depot at (0, 0): a way of 5 + 5 + 10.
 const ONE_PAIR: &[u8] = b"2 10 1\n0 0 0 0 0 100 0 0 0\n1 3 4 4 0 50 2 0 2\n2 6 8 -4 0 60 2 1 0\n";
 
+/// The same, and a pair that no vehicle can serve beside it.
+const LATE_PAIR: &[u8] =
+    b"1 10 1\n0 0 0 0 0 100 0 0 0\n1 3 4 4 0 50 2 0 2\n2 6 8 -4 0 60 2 1 0\n3 -3 4 4 0 10 2 0 4\n4 -6 8 -4 0 20 2 3 0\n";
+
+/// Six customers around a depot, for vehicles of 4.
+const SIX: &[u8] =
+    b"NAME : six\nTYPE : CVRP\nDIMENSION : 7\nEDGE_WEIGHT_TYPE : EUC_2D\nCAPACITY : 4\nNODE_COORD_SECTION\n1 0 0\n2 3 4\n3 6 8\n4 -3 4\n5 -6 8\n6 0 5\n7 9 1\nDEMAND_SECTION\n1 0\n2 2\n3 2\n4 1\n5 1\n6 3\n7 2\nDEPOT_SECTION\n1\n-1\nEOF\n";
+
+/// What is told on the way, and the text.
+fn solved(
+    alloc: Global,
+    kind: Kind,
+    instance: &[u8],
+    steps: u32,
+    deviation: Option<u32>,
+) -> Result<Vec<u8>, OutOfMemory> {
+    let mut told = Vec::new(alloc);
+    match solve(alloc, kind, instance, 1, steps, deviation, &mut told) {
+        Ok(solved) => {
+            for name in solved.unplanned.as_slice() {
+                told.extend_from_slice(format!(in alloc; "left {name}\n")?.as_bytes())?;
+            }
+            told.extend_from_slice(&solved.text)?;
+        }
+        Err(_) => told.extend_from_slice(b"no plan\n")?,
+    }
+    Ok(told)
+}
+
 #[test]
 fn solves_one_pair(rt: HostRuntime) -> Result<(), Fail> {
-    let mut progress = Vec::new(rt.alloc());
-    let Ok(text) = solve(rt.alloc(), Kind::LiLim, ONE_PAIR, 7, 3, &mut progress) else {
-        return Err(Fail::from("not solved"));
-    };
-    assert_eq!(rt; text.as_bytes(), b"Route #1: 1 2\nCost 20\n".as_slice());
-    assert_eq!(rt;
-        progress.as_slice(),
-        b"at 0 0 1 20\nat 1 0 1 20\nat 2 0 1 20\nat 3 0 1 20\n".as_slice()
+    let found = solved(rt.alloc(), Kind::LiLim, ONE_PAIR, 3, None)?;
+    assert!(rt;
+        found.as_slice()
+            == b"at 0 0 1 20\nat 1 0 1 20\nat 2 0 1 20\nat 3 0 1 20\nRoute #1: 1 2\nCost 20\n".as_slice()
     );
+    Ok(())
+}
+
+#[test]
+fn names_what_is_left_out(rt: HostRuntime) -> Result<(), Fail> {
+    let found = solved(rt.alloc(), Kind::LiLim, LATE_PAIR, 1, None)?;
+    assert!(rt;
+        found.as_slice() == b"at 0 1 1 20\nat 1 1 1 20\nleft 3\nRoute #1: 1 2\n".as_slice()
+    );
+    Ok(())
+}
+
+#[test]
+fn goes_through_the_stages(rt: HostRuntime) -> Result<(), Fail> {
+    let found = solved(rt.alloc(), Kind::Vrp, SIX, 7, None)?;
+    assert!(rt;
+        found.as_slice().starts_with(
+            b"at 0 0 0 66\nat 1 0 0 65\nat 2 0 0 65\nat 3 0 0 65\nat 4 0 0 65\nat 5 0 0 65\nat 6 0 0 63\nat 7 0 0 63\n"
+        )
+    );
+    let found = solved(rt.alloc(), Kind::Vrp, SIX, 30, None)?;
+    assert!(rt; found.as_slice().ends_with(b"Cost 62\n"));
+    Ok(())
+}
+
+#[test]
+fn searches_with_a_deviation(rt: HostRuntime) -> Result<(), Fail> {
+    let found = solved(rt.alloc(), Kind::Vrp, SIX, 2, Some(3))?;
+    assert!(rt; found.as_slice().starts_with(b"at 0 0 0 66\nat 1 0 0 "));
     Ok(())
 }

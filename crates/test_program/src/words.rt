@@ -8,7 +8,7 @@ use std::process::Abort;
 use std::test::Fail;
 
 /// Words, and what they ask for, as `Debug` has it.
-const READINGS: [(&[&str], &str); 10] = [
+const READINGS: [(&[&str], &str); 11] = [
     (&["planner"], "BuiltIn"),
     (
         &["planner", "audit", "vrp", "a b.vrp", "c.sol"],
@@ -16,7 +16,11 @@ const READINGS: [(&[&str], &str); 10] = [
     ),
     (
         &["planner", "solve", "lilim", "a.txt", "1000000000", "7"],
-        "Solve(Task { kind: LiLim, instance: \"a.txt\", steps: 1000000000, seed: 7 })",
+        "Solve(Task { kind: LiLim, instance: \"a.txt\", steps: 1000000000, seed: 7, deviation: None })",
+    ),
+    (
+        &["planner", "solve", "vrp", "a.vrp", "5", "7", "1000000000"],
+        "Solve(Task { kind: Vrp, instance: \"a.vrp\", steps: 5, seed: 7, deviation: Some(1000000000) })",
     ),
     (
         &["planner", "audits", "vrp", "-"],
@@ -65,7 +69,7 @@ fn reads_words(rt: HostRuntime) -> Result<(), Fail> {
     check_readings(&rt, &READINGS)
 }
 
-const REFUSALS: [(&[&str], ErrorKind); 17] = [
+const REFUSALS: [(&[&str], ErrorKind); 19] = [
     (
         &["planner", "audit", "lilim", "a"],
         ErrorKind::MissingRequiredArgument,
@@ -100,6 +104,14 @@ const REFUSALS: [(&[&str], ErrorKind); 17] = [
             "18446744073709551616",
         ],
         ErrorKind::InvalidValue,
+    ),
+    (
+        &["planner", "solve", "vrp", "a", "1", "2", "1000000001"],
+        ErrorKind::InvalidValue,
+    ),
+    (
+        &["planner", "solve", "vrp", "a", "1", "2", "3", "4"],
+        ErrorKind::UnknownArgument,
     ),
     (&["planner", "check"], ErrorKind::InvalidSubcommand),
     (&["planner", "--kind", "vrp"], ErrorKind::UnknownArgument),

@@ -1,4 +1,4 @@
--- The command with its four words, the last of which may be left out.
+-- The command with its five words, the last two of which may be left out.
 use Rattle.std.proofs.Common.{◌∙◌, ap, codes}
 use Rattle.clap.specs.Simple.{app_of_fields}
 use Rattle.clap.specs.Words.{new_app, new_rule, with_rule}
@@ -16,4 +16,6 @@ returns c =
     let two = c.in_ok-command-2.ensures kind (word_rule (codes "INSTANCE")) one c.instance_word.ensures in
     let instance = with_rule kind (word_rule (codes "INSTANCE")) in
     let three = c.in_ok-command-3.ensures instance (word_rule (codes "STEPS")) two c.word.ensures in
-    c.with_word-4.ensures (with_rule instance (word_rule (codes "STEPS"))) (new_rule (codes "SEED")) three c.seed_word.ensures
+    let steps = with_rule instance (word_rule (codes "STEPS")) in
+    let four = c.in_ok-command-4.ensures steps (new_rule (codes "SEED")) three c.seed_word.ensures in
+    c.with_word-5.ensures (with_rule steps (new_rule (codes "SEED"))) (new_rule (codes "DEVIATION")) four c.deviation_word.ensures

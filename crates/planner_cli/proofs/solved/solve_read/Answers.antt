@@ -3,7 +3,7 @@ use Rattle.std.proofs.Common.{refl, subst, Ok, Err}
 use Rattle.std.specs.Prelude.{MatchResult}
 use Rattle.std.proofs.KnownBytes.{Appends-nil}
 use Rattle.std.proofs.lemmas.Result.{IfOk-weaker}
-use Rattle.plan_solve.specs.Solved.{Fails, IsSolution}
+use Rattle.plan_solve.specs.Solved.{Fails, IsSolved}
 use Rattle.planner_cli.specs.Telling.{TellsUnread}
 use Rattle.planner_cli.proofs.solved.solve_read.Goals as goal
 
@@ -25,7 +25,7 @@ returns-clause-told g c =
     let errors = g.E.Write.contents c.args.errors.now in
     let found = c.solve-solved.result in
     let searched = g.E.Write.contents c.solve-solved.new.progress in
-    let solves = subst (λ x. MatchResult found (IsSolution task.kind x task.seed task.steps errors searched) (Fails task.kind x task.seed task.steps errors searched)) c.deref.ensures.value
+    let solves = subst (λ x. MatchResult found (IsSolved task.kind x task.seed task.steps task.deviation errors searched) (Fails task.kind x errors searched)) c.deref.ensures.value
     c.solve-solved.ensures in
     IfOk-weaker c.tell_solved.result _ _
     (λ status told. (Ok c.in-Ok.text, (task.instance, refl, c.in-Ok.ensures), record { found = found; searched = searched; solves = solves; told = told })) c.tell_solved.ensures.told

@@ -1,0 +1,5 @@
+use Rattle.anneal_stages.proofs.StageLemmas.{stages_cover}
+use Rattle.anneal_stages.proofs.laws.stages_cover_all_steps.Goals as goal
+
+pub returns : goal.returns
+returns c = stages_cover

@@ -1,0 +1,53 @@
+//! How far a plan may be from another one, by the mean leg of its routes.
+ghost use Rattle.std.specs.Prelude.{◌≡◌, ◌<◌, ◌≤◌, ◌^◌, length, slice_get};
+ghost use Rattle.std.specs.Option.{option_map_or};
+ghost use Rattle.plan_types.specs.Instance.{numbers_among};
+ghost use Rattle.plan_types.specs.Request.{stops_of};
+ghost use Rattle.route_sched.specs.Route.{IsPlan};
+ghost use Rattle.anneal_stages.specs.Stages.{share};
+
+use plan_types::{Plan, Problem, Request};
+use route_sched::plan_cost;
+
+/// The greatest share, in the unit of distance.
+const MOST: u128 = 1_000_000_000;
+
+/// So many hundredths of the plan's mean leg, which is its distance by the stops of all requests: rounded down, in the unit of distance, at
+/// most 1,000,000,000, and 0 where there are no stops.
+pub fn share(problem: &Problem, plan: &Plan, hundredths: u32) -> u32
+    requires { IsPlan problem.now plan.now.routes }
+    ensures value { result ≡ share problem.now plan.now.routes hundredths }
+    ensures most { result ≤ 1000000000 }
+{
+    let stops = stop_count(problem);
+    if stops == 0 {
+        return 0;
+    }
+    let distance = u128::from(plan_cost(problem, plan).distance);
+    (distance * u128::from(hundredths) / (100 * stops)).min(MOST) as u32
+}
+
+// How many stops the requests have.
+fn stop_count(problem: &Problem) -> u128
+    ensures count { result ≡ length (numbers_among problem.now.requests) }
+    ensures bound { result < 2 ^ 66 }
+{
+    let mut count = 0;
+    for index in 0..problem.requests.len() {
+        count += stops_at(problem, index);
+    }
+    count
+}
+
+// How many stops the request at this index has.
+fn stops_at(problem: &Problem, index: usize) -> u128
+    ensures count { result ≡ option_map_or (λ e. length (stops_of e.1))
+        (slice_get problem.now.requests index) 0 }
+    ensures bound { result ≤ 2 }
+{
+    match problem.requests.get_index(index) {
+        Some((_, Request::Single(_))) => 1,
+        Some((_, Request::Pair(_, _))) => 2,
+        None => 0,
+    }
+}

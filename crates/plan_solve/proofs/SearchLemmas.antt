@@ -1,0 +1,114 @@
+-- Searches that follow each other, and the lines that are told between them.
+use Rattle.std.proofs.Common.{◌≡◌, ◌∙◌, ℕ, suc, ◌+◌, ◌-◌, ◌*◌, ◌<◌, ◌≤◌, Bool, true, false, List, [], ◌∷◌, ◌++◌, Option, refl, sym, ap, subst, arith, append_assoc, append-nil}
+use Rattle.std.specs.Prelude.{nat_lt, map, if◌then◌else◌}
+use Rattle.std.specs.List.{range_with_len}
+use Rattle.std.specs.Io.KnownBytes.{Appends}
+use Rattle.std.proofs.KnownBytes.{Appends-trans}
+use Rattle.std.proofs.Math.Nat.{mul-le-mul_right}
+use Rattle.std.proofs.lemmas.Bool.{lt-ltb, ltb-true}
+use Rattle.command_core.specs.Effects.{searched}
+use Rattle.command_core.specs.Job.{JobValue}
+use Rattle.command_core.specs.RunLaws.{RunsAreOneSearch, SearchesAddUp}
+use Rattle.command_core.specs.declared.states.State.TheVariants.{Loaded}
+use Rattle.command_text.specs.Answers.{at_text, line}
+use Rattle.plan_solve.specs.Solved.{above, marks, twentieths}
+use Rattle.plan_solve.specs.Telling.{marks_left, told}
+
+same_job : (a b : JobValue) → Loaded a ≡ Loaded b → a ≡ b
+same_job a b h = cc
+
+module _ (add_up : SearchesAddUp) (many : RunsAreOneSearch) where
+  pub none_made : (j : JobValue) → searched j 0 ≡ j
+  none_made j = sym (same_job j (searched j 0) (many j [] refl))
+
+  pub more_made : (j : JobValue) (a b n : ℕ) → a + b ≡ n → searched (searched j a) b ≡ searched j n
+  more_made j a b n e = add_up j a b ∙ ap (searched j) e
+
+-- ---- the marks
+
+twentieths_rise : (n k : ℕ) → twentieths n k ≤ twentieths n (k + 1)
+twentieths_rise n k = let more : k * n ≤ (k + 1) * n = mul-le-mul_right n (omega arith) in omega (arith, more)
+
+range_step : (k : ℕ) → k < 20 → range_with_len (k + 1) (20 - k) ≡ (k + 1) ∷ range_with_len (k + 1 + 1) (20 - (k + 1))
+range_step k less = let e : 20 - k ≡ suc (20 - (k + 1)) = omega (arith, less) in ap (range_with_len (k + 1)) e
+
+marks_step : (n done k : ℕ) → k < 20
+    → marks_left n done k ≡ (if nat_lt done (twentieths n (k + 1)) then twentieths n (k + 1) ∷ marks_left n (twentieths n (k + 1)) (k + 1) else marks_left n done (k + 1))
+marks_step n done k less = ap (λ ks. above done (map (twentieths n) ks)) (range_step k less)
+
+marks_told : (n done k : ℕ) → k < 20 → done < twentieths n (k + 1) → marks_left n done k ≡ twentieths n (k + 1) ∷ marks_left n (twentieths n (k + 1)) (k + 1)
+marks_told n done k less above_it =
+    marks_step n done k less
+    ∙ ap (λ (b : Bool). if b then twentieths n (k + 1) ∷ marks_left n (twentieths n (k + 1)) (k + 1) else marks_left n done (k + 1)) (lt-ltb done (twentieths n (k + 1)) above_it)
+
+marks_passed : (n done k : ℕ) → k < 20 → twentieths n (k + 1) ≤ done → marks_left n done k ≡ marks_left n done (k + 1)
+marks_passed n done k less within = by (nat_lt done (twentieths n (k + 1))) refl
+  where
+    by : (b : Bool) → nat_lt done (twentieths n (k + 1)) ≡ b → marks_left n done k ≡ marks_left n done (k + 1)
+    by true e = absurd (omega (arith, within, ltb-true done (twentieths n (k + 1)) e))
+    by false e = marks_step n done k less ∙ ap (λ (b : Bool). if b then twentieths n (k + 1) ∷ marks_left n (twentieths n (k + 1)) (k + 1) else marks_left n done (k + 1)) e
+
+-- ---- the search, line by line
+
+-- After so many parts: the job is that after the last mark, and the lines so far and those that are left are all; they are written unless one
+-- could not be.
+pub record IsTelling (begun : JobValue) (steps : ℕ) (before now : Option (List ℕ)) (is_told : Bool) (j : JobValue) (d k : ℕ) : Type 0 where
+  pub lines : List ℕ
+  pub written : is_told ≡ true → Appends before now lines
+  pub whole : lines ++ told begun (marks_left steps d k) ≡ told begun (marks steps)
+  pub made : j ≡ searched begun d
+  pub done : d ≡ twentieths steps k
+  pub parts : k ≤ 20
+
+module _ (add_up : SearchesAddUp) (many : RunsAreOneSearch) (begun : JobValue) (steps : ℕ) (before : Option (List ℕ)) where
+  pub begins : (now : Option (List ℕ)) (is_told : Bool) → (is_told ≡ true → Appends before now (line (at_text begun))) → IsTelling begun steps before now is_told begun 0 0
+  begins now is_told written = record {
+    lines = line (at_text begun);
+    written = written;
+    whole = ap (λ j. line (at_text j) ++ told begun (marks_left steps 0 0)) (sym (none_made add_up many begun));
+    made = sym (none_made add_up many begun);
+    done = omega arith;
+    parts = omega arith;
+  }
+
+  pub passes : (now : Option (List ℕ)) (is_told : Bool) (j : JobValue) (done parts : ℕ) → IsTelling begun steps before now is_told j done parts → parts < 20 → twentieths steps (parts + 1) ≤ done
+      → IsTelling begun steps before now is_told j done (parts + 1)
+  passes now is_told j done parts h less within = record {
+    lines = h.lines;
+    written = h.written;
+    whole = ap (λ ms. h.lines ++ told begun ms) (sym (marks_passed steps done parts less within)) ∙ h.whole;
+    made = h.made;
+    done = let rises = twentieths_rise steps parts in let is = h.done in omega (arith, rises, is, within);
+    parts = omega (arith, less);
+  }
+
+  pub tells : (now next : Option (List ℕ)) (is_told later : Bool) (j found : JobValue) (done parts : ℕ) → IsTelling begun steps before now is_told j done parts → parts < 20 → done < twentieths steps (parts + 1)
+      → found ≡ searched j (twentieths steps (parts + 1) - done) → (later ≡ true → (is_told ≡ true) × Appends now next (line (at_text found)))
+      → IsTelling begun steps before next later found (twentieths steps (parts + 1)) (parts + 1)
+  tells now next is_told later j found done parts h less above_it makes written =
+      let mark = twentieths steps (parts + 1) in
+      let adds : done + (mark - done) ≡ mark = omega (arith, above_it) in
+      let is : found ≡ searched begun mark = makes ∙ ap (λ s. searched s (mark - done)) h.made ∙ more_made add_up many begun done (mark - done) mark adds in
+      record {
+        lines = h.lines ++ line (at_text found);
+        written = λ t. Appends-trans before now next h.lines (line (at_text found)) (h.written (written t).0) (written t).1;
+        whole =
+            append_assoc h.lines (line (at_text found)) (told begun (marks_left steps mark (parts + 1)))
+            ∙ ap (λ s. h.lines ++ (line (at_text s) ++ told begun (marks_left steps mark (parts + 1)))) is
+            ∙ ap (λ ms. h.lines ++ told begun ms) (sym (marks_told steps done parts less above_it)) ∙ h.whole;
+        made = is;
+        done = refl;
+        parts = omega (arith, less);
+      }
+
+  pub ends : (now : Option (List ℕ)) (is_told : Bool) (j : JobValue) (done parts : ℕ) → IsTelling begun steps before now is_told j done parts → 20 ≤ parts
+      → (j ≡ searched begun steps) × (is_told ≡ true → Appends before now (told begun (marks steps)))
+  ends now is_told j done parts h all =
+      let last : parts ≡ 20 = let most = h.parts in omega (arith, most, all) in
+      let is : done ≡ steps = h.done ∙ ap (twentieths steps) last ∙ twenty steps in (
+        h.made ∙ ap (searched begun) is,
+        λ t. subst (Appends before now) (sym (append-nil h.lines) ∙ ap (λ k. h.lines ++ told begun (marks_left steps done k)) (sym last) ∙ h.whole) (h.written t),
+      )
+    where
+      twenty : (n : ℕ) → twentieths n 20 ≡ n
+      twenty n = omega arith

@@ -1,0 +1,10 @@
+use Rattle.std.proofs.Common.{◌≡◌, ◌≤◌, ◌+◌, ◌++◌, drop}
+use Rattle.sol_text.specs.Written.{used_routes, routes_text}
+use Rattle.plan_solve.proofs.printing.routes_text.Given as goal
+
+-- the text so far and that of the routes to come
+abbrev pub invariant-loop-route : goal.invariant-loop-route
+invariant-loop-route l = record {
+  few : l.number ≤ l.route-index + 1;
+  all : l.text.items ++ routes_text l.number (used_routes (drop l.route-index l.routes)) ≡ routes_text 1 (used_routes l.routes);
+}

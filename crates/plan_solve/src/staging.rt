@@ -1,0 +1,181 @@
+//! Annealing by stages, with a line before the first and behind each that makes another twentieth of the steps.
+ghost use Rattle.std.specs.Prelude.{◌≡◌, ℕ, ◌+◌, ◌<◌, ◌≤◌, ◌^◌, true, List, Option, IfOk};
+ghost use Rattle.std.specs.Io.KnownBytes.{Appends};
+ghost use Rattle.anneal_stages.specs.Stages.{boundary};
+ghost use Rattle.plan_solve.specs.Staged.{Stand, annealed, by_stages, first_stand, staged, told_behind, with_share};
+ghost use Rattle.plan_solve.specs.Telling.{HasWalked, Leads, Stands};
+
+use crate::telling::tell;
+use anneal_search::anneal_steps;
+use anneal_stages::{STAGES, boundary, hundredths, share, stages_cover_all_steps};
+use command_core::Job;
+use plan_audit::passes_are_local;
+use plan_types::OutOfMemory;
+use seeded_search::Found;
+use std::alloc::Global;
+use std::io::Write;
+
+/// A solving between two stages.
+#[derive(Drop)]
+pub(crate) struct Walk {
+    pub job: Job,
+    /// Whether each line of progress was written.
+    pub is_told: bool,
+    /// How many twentieths of all steps were made at the last line.
+    pub parts: u64,
+}
+
+/// All stages of so many steps, from a job that has made none.
+pub(crate) fn anneal_telling<W: Write>(
+    alloc: Global,
+    begun: Job,
+    steps: u32,
+    progress: &mut W,
+) -> Result<Walk, OutOfMemory>
+    requires { begun.steps ≡ 0 }
+    ensures { let stand = by_stages steps (first_stand begun) in IfOk result
+        (HasWalked (W.contents progress.old) (W.contents progress.new) stand.job stand.lines) }
+{
+    let is_told = tell(true, &begun, progress);
+    let walk = Walk {
+        job: begun,
+        is_told,
+        parts: 0,
+    };
+    stages_telling(alloc, walk, u64::from(steps), progress)
+}
+
+// All stages of the steps to before this number that the job has not made.
+fn stages_telling<W: Write>(
+    alloc: Global,
+    walk: Walk,
+    to: u64,
+    progress: &mut W,
+) -> Result<Walk, OutOfMemory>
+    requires order { walk.job.steps ≤ to }
+    requires few { to < 2 ^ 32 }
+    ensures { IfOk result
+        (Leads (W.contents progress.old) (W.contents progress.new) (by_stages to) walk) }
+{
+    let from = steps_made(&walk.job);
+    let mut walk = walk;
+    let mut stage = 0;
+    while stage < STAGES {
+        walk = stage_telling(alloc, walk, from, to, stage, progress)?;
+        stage += 1;
+    }
+    Ok(walk)
+}
+
+// One stage of the steps from a number to before another.
+fn stage_telling<W: Write>(
+    alloc: Global,
+    walk: Walk,
+    from: u64,
+    to: u64,
+    stage: u32,
+    progress: &mut W,
+) -> Result<Walk, OutOfMemory>
+    requires order { from ≤ to }
+    requires few { to < 2 ^ 32 }
+    requires stage { stage < 20 }
+    requires begins { walk.job.steps ≡ boundary from to stage }
+    ensures leads { IfOk result (Leads (W.contents progress.old) (W.contents progress.new)
+        (staged from to stage) walk) }
+    ensures ends { IfOk result (λ new. new.job.steps ≡ boundary from to (stage + 1)) }
+{
+    stages_cover_all_steps();
+    let count = boundary(from, to, stage + 1) - boundary(from, to, stage);
+    if count == 0 {
+        return Ok(walk);
+    }
+    let job = annealed_with(alloc, &walk.job, hundredths(stage), count)?;
+    Ok(behind(job, walk.is_told, walk.parts, to, progress))
+}
+
+// The job after so many annealing steps, through which its working plan may be so many hundredths of the mean leg from the incumbent.
+fn annealed_with(alloc: Global, job: &Job, hundredths: u32, count: u64) -> Result<Job, OutOfMemory>
+    requires first { job.now.steps < 2 ^ 60 }
+    requires last { job.now.steps + count ≤ 2 ^ 60 }
+    ensures { IfOk result (λ new. new ≡ annealed (with_share job.now hundredths) count) }
+{
+    let begun = with_share(job, hundredths)?;
+    annealed(alloc, &begun, count)
+}
+
+// How many steps the job has made.
+fn steps_made(job: &Job) -> u64
+    ensures { result ≡ job.now.steps }
+{
+    job.steps
+}
+
+// With this job, and a line where it has made more twentieths of the steps than at the last line.
+fn behind<W: Write>(job: Job, is_told: bool, parts: u64, steps: u64, progress: &mut W) -> Walk
+    requires some { 0 < steps }
+    requires few { steps < 2 ^ 32 }
+    requires most { job.steps ≤ steps }
+    ensures job { result.job ≡ job }
+    ensures stands { (before : Option (List ℕ)) (s : Stand) → s.parts ≡ parts
+        → (is_told ≡ true → Appends before (W.contents progress.old) s.lines)
+        → Stands before (W.contents progress.new) (told_behind steps s job) result }
+{
+    let made = 20 * steps_made(&job) / steps;
+    if parts < made {
+        let is_told = tell(is_told, &job, progress);
+        return Walk {
+            job,
+            is_told,
+            parts: made,
+        };
+    }
+    Walk {
+        job,
+        is_told,
+        parts,
+    }
+}
+
+/// The job, whose working plan is the incumbent and may be so many hundredths of the incumbent's mean leg from it.
+pub(crate) fn with_share(job: &Job, hundredths: u32) -> Result<Job, OutOfMemory>
+    ensures { IfOk result (λ new. new ≡ with_share job.now hundredths) }
+{
+    passes_are_local();
+    Ok(Job {
+        problem: job.problem.copy()?,
+        pins: job.pins.copy()?,
+        plan: job.plan.copy()?,
+        work: job.plan.copy()?,
+        deviation: share(&job.problem, &job.plan, hundredths),
+        seed: job.seed,
+        steps: job.steps,
+    })
+}
+
+/// The job after so many annealing steps.
+pub(crate) fn annealed(alloc: Global, job: &Job, count: u64) -> Result<Job, OutOfMemory>
+    requires first { job.now.steps < 2 ^ 60 }
+    requires last { job.now.steps + count ≤ 2 ^ 60 }
+    ensures { IfOk result (λ new. new ≡ annealed job.now count) }
+{
+    let Found { plan, work } = anneal_steps(
+        alloc,
+        &job.problem,
+        &job.pins,
+        &job.plan,
+        &job.work,
+        job.deviation,
+        job.seed,
+        job.steps,
+        count,
+    )?;
+    Ok(Job {
+        problem: job.problem.copy()?,
+        pins: job.pins.copy()?,
+        plan,
+        work,
+        deviation: job.deviation,
+        seed: job.seed,
+        steps: job.steps + count,
+    })
+}
