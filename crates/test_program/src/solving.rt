@@ -8,9 +8,9 @@ use std::test::Fail;
 /// One pickup and its delivery, at (3, 4) and (6, 8), from a depot at (0, 0): a way of 5 + 5 + 10.
 const ONE_PAIR: &[u8] = b"2 10 1\n0 0 0 0 0 100 0 0 0\n1 3 4 4 0 50 2 0 2\n2 6 8 -4 0 60 2 1 0\n";
 
-/// The same, and a pair that no vehicle can serve beside it.
+/// The same, and a pair farther away: the first stops of both are too late behind the other.
 const LATE_PAIR: &[u8] =
-    b"1 10 1\n0 0 0 0 0 100 0 0 0\n1 3 4 4 0 50 2 0 2\n2 6 8 -4 0 60 2 1 0\n3 -3 4 4 0 10 2 0 4\n4 -6 8 -4 0 20 2 3 0\n";
+    b"1 10 1\n0 0 0 0 0 100 0 0 0\n1 3 4 4 0 6 2 0 2\n2 6 8 -4 0 60 2 1 0\n3 -6 8 4 0 10 2 0 4\n4 -9 12 -4 0 20 2 3 0\n";
 
 /// Six customers around a depot, for vehicles of 4.
 const SIX: &[u8] =
