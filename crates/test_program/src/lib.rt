@@ -1,10 +1,10 @@
-//! Tests alone: worked examples over the public functions of `command_text`, `command_serving`, `plan_solve` and
-//! `planner_cli`, which have no tests of their own.
+//! Tests alone: worked examples over the public functions of `anneal_stages`, `command_text`, `command_serving`,
+//! `plan_solve` and `planner_cli`, which have no tests of their own.
 //!
 //! Values come from outside; one audit has 40,000 customers. Proved is nothing beyond that no step fails. The words
 //! of the program itself are run by `run_words`.
 //!
-//! In reading order: `words`, `commands`, `strict`, `audits`, `solving`.
+//! In reading order: `words`, `commands`, `strict`, `audits`, `stages`, `solving`.
 #![tactic(auto)]
 
 #[cfg(test)]
@@ -13,6 +13,8 @@ mod audits;
 mod commands;
 #[cfg(test)]
 mod solving;
+#[cfg(test)]
+mod stages;
 #[cfg(test)]
 mod strict;
 #[cfg(test)]

@@ -5,7 +5,6 @@ ghost use Rattle.plan_audit.specs.Passes.{passes};
 
 use crate::builders::{FOUR, Given, is_passing, pins_of, plan_of, problem_of, stop_at, stops_of};
 use anneal_search::{anneal_step, anneal_steps, draw, ordered};
-use anneal_stages::{boundary, hundredths, stage_of};
 use plan_types::{Kind, OutOfMemory, Pins, Plan, Problem, Request, Stop};
 use seeded_search::Found;
 use std::alloc::Global;
@@ -26,38 +25,6 @@ fn draws(rt: HostRuntime) {
         let drawn = draw(word, things);
         assert_eq!(rt; drawn.number, number);
         assert_eq!(rt; drawn.rest, rest);
-    }
-}
-
-/// Steps FROM and TO, a stage, where it begins, and its hundredths, by hand.
-const STAGES: [(u64, u64, u32, u64, u32); 7] = [
-    (0, 1000, 0, 0, 150),
-    (0, 1000, 19, 950, 3),
-    (0, 7, 2, 0, 99),
-    (0, 7, 3, 1, 81),
-    (5, 27, 10, 16, 19),
-    (1 << 59, 1 << 60, 1, (1 << 59) + 28_823_037_615_171_174, 122),
-    (9, 9, 7, 9, 35),
-];
-
-/// Steps FROM and TO, a step, and its stage.
-const STEPS: [(u64, u64, u64, Option<u32>); 6] = [
-    (0, 1000, 49, Some(0)),
-    (0, 1000, 50, Some(1)),
-    (0, 1000, 999, Some(19)),
-    (0, 1000, 1000, None),
-    (5, 27, 4, None),
-    (0, 7, 0, Some(2)),
-];
-
-#[test]
-fn stages(rt: HostRuntime) {
-    for (from, to, stage, begins, share) in STAGES {
-        assert_eq!(rt; boundary(from, to, stage), begins);
-        assert_eq!(rt; hundredths(stage), share);
-    }
-    for (from, to, step, stage) in STEPS {
-        assert!(rt; stage_of(from, to, step) == stage);
     }
 }
 
