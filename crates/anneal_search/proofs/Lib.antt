@@ -1,4 +1,5 @@
 mod AnnealLemmas
+mod BoundLemmas
 mod CutLemmas
 mod NearLemmas
 mod NearestLemmas

@@ -1,12 +1,15 @@
 -- What the loops of a step go by, and what annealing keeps of its plans from step to step.
-use Rattle.std.specs.Prelude.{◌≡◌, ℕ, suc, ◌<◌, ◌≤◌, Bool, List, [], ◌∷◌, IfSome, length, if◌then◌else◌}
+use Rattle.std.specs.Prelude.{◌≡◌, ℕ, suc, ◌+◌, ◌-◌, nat_lt, ◌<◌, ◌≤◌, Bool, List, [], ◌∷◌, Option, Some, None, IfSome, length, slice_get, if◌then◌else◌}
+use Rattle.std.specs.Option.{option_or}
 use Rattle.plan_types.specs.Cost.{cost_at_most}
 use Rattle.plan_types.specs.Instance.{Instance}
+use Rattle.plan_types.specs.declared.requests.Stop.{Stop}
 use Rattle.route_sched.specs.Cost.{cost_of}
 use Rattle.move_ops.specs.Drafts.{base_of, draft_of}
 use Rattle.move_ops.specs.Insertion.{of_vehicle}
 use Rattle.seeded_search.specs.Working.{KeepsWalk, IsWalk}
 use Rattle.seeded_search.specs.declared.walk.Walk.{Walk}
+use Rattle.anneal_search.specs.Nearest.{is_nearer, near}
 use Rattle.anneal_search.specs.declared.routes.Near.{Near}
 use Rattle.anneal_search.specs.declared.strings.Cut.{Cut}
 use Rattle.anneal_search.specs.declared.search.Annealing.{Annealing}
@@ -15,6 +18,26 @@ use Rattle.anneal_search.specs.declared.search.Annealing.{Annealing}
 abbrev pub first_place : {X : Type 0} → (X → Bool) → List X → ℕ
 first_place test [] = 0
 first_place test (x ∷ xs) = if test x then 0 else suc (first_place test xs)
+
+-- of these, the last where they are so many
+abbrev pub limit_of : ℕ → List Near → Option Near
+limit_of count nears = if nat_lt (length nears) count then None else slice_get nears (length nears - 1)
+
+-- it, where it is nearer than the limit
+abbrev pub within : Option Near → Near → Option Near
+within None a = Some a
+within (Some limit) a = if is_nearer a limit then Some a else None
+
+-- what was found, where it is nearer than the limit
+abbrev pub found_within : Option Near → Option Near → Option Near
+found_within limit None = None
+found_within limit (Some a) = within limit a
+
+-- the nearest of what was found so far and the stops from a place on, of those that are nearer than the limit
+abbrev pub found_from : Instance → Stop → ℕ → Option Near → Option Near → ℕ → List ℕ → Option Near
+found_from p center vehicle limit found place [] = found
+found_from p center vehicle limit found place (n ∷ ns) =
+    found_from p center vehicle limit (option_or (within (option_or found limit) (near p center vehicle place n)) found) (place + 1) ns
 
 -- it stands in the route of its vehicle
 abbrev pub IsInRoute : List (List ℕ) → Near → Type 0

@@ -1,0 +1,156 @@
+#!/usr/bin/env python3
+"""Runs the built program at sizes at which a body might give up. Each answer is wanted in full, and none may tell of want of memory.
+
+1. A store with 20,000 requests of one stop, loaded with the greatest seed: built, searched by one line of 70,000 steps, shown and
+   printed (each text is above 64 KB), and opened again, with the same texts.
+2. 5,000 lines in one run, each with a commit of its own; as many steps as those made at once lead to the same plan.
+3. A line of 70,000 bytes is refused, and the next one answered.
+4. One route with 2,000 stops: searched, and the plan passes the audit.
+5. A fleet that is too small: several requests are left out, by a store and by `solve`, which names them.
+
+Wants the program that rt ci leaves.
+"""
+import os
+import subprocess
+import sys
+import tempfile
+
+TOP = os.path.dirname(os.path.dirname(os.path.abspath(__file__)))
+PROGRAM = os.path.join(TOP, "crates", "planner", "out", "planner")
+GREATEST_SEED = 2**64 - 1
+
+
+def fail(text):
+    print("sizes: " + text)
+    sys.exit(1)
+
+
+def planner(*words, lines=b""):
+    got = subprocess.run([PROGRAM, *words], input=lines, capture_output=True)
+    if b"OutOfMemory" in got.stdout + got.stderr or got.returncode == 4:
+        fail(f"{' '.join(words)}: memory was refused")
+    return got.returncode, got.stdout.decode(), got.stderr.decode()
+
+
+def run(store, lines):
+    """What is answered to these lines behind `opened ..`."""
+    status, text, _ = planner("run", store, lines=lines)
+    first, _, rest = text.partition("\n")
+    if status != 0 or not first.startswith("opened "):
+        fail(f"run: status {status}, {first!r}")
+    return rest
+
+
+def vrp(stops, capacity, width):
+    """An instance with so many stops on a grid of so many columns, each with demand 1, around a depot."""
+    lines = ["TYPE : CVRP", f"DIMENSION : {stops + 1}", "EDGE_WEIGHT_TYPE : EUC_2D", f"CAPACITY : {capacity}", "NODE_COORD_SECTION"]
+    lines.append("1 5000 5000")
+    # By a step that is prime to the number of stops, so that neighbours have numbers far apart.
+    places = [(7919 * it) % stops for it in range(stops)]
+    lines += [f"{at + 2} {37 * (it % width)} {41 * (it // width)}" for at, it in enumerate(places)]
+    lines += ["DEMAND_SECTION", "1 0"] + [f"{at + 2} 1" for at in range(stops)]
+    lines += ["DEPOT_SECTION", "1", "-1", "EOF", ""]
+    return "\n".join(lines)
+
+
+def write(folder, name, text):
+    path = os.path.join(folder, name)
+    with open(path, "w") as file:
+        file.write(text)
+    return path
+
+
+def plan_of(answers):
+    """The text that `print` gave last."""
+    text = answers[answers.index("Route #1:"):]
+    return text[: text.rindex("ok\n")]
+
+
+def expect_pass(folder, instance, solution, kind="vrp"):
+    status, line, _ = planner("audit", kind, instance, write(folder, "printed.sol", solution))
+    if status != 0 or not line.startswith("pass 0 "):
+        fail(f"the plan that is printed does not pass: {line!r}")
+
+
+def check_many_requests(folder):
+    text = vrp(20_000, 100, 141)
+    instance = write(folder, "many.vrp", text)
+    store = os.path.join(folder, "many.store")
+    planner("format", store)
+    load = f"load vrp {GREATEST_SEED} {len(text)}\n{text}".encode()
+    first = run(store, load + b"build\nsearch 70000\nshow\nprint\n")
+    lines = first.split("\n")
+    ats = [it for it in lines if it.startswith("at ")]
+    if lines[:2] != ["ok", "ok"] or len(ats) != 274 or not ats[-1].startswith("at 70000 0 "):
+        fail(f"20,000 requests: {lines[:3]}, {len(ats)} lines `at`, the last {ats[-1:]}")
+    texts = first[first.index("requests 20000"):]
+    shown, printed = texts[: texts.index("Route #1:")], plan_of(texts)
+    if min(len(shown), len(printed)) < 65_536:
+        fail(f"texts of {len(shown)} and {len(printed)} bytes are no long ones")
+    if run(store, b"show\nprint\n") != texts:
+        fail("20,000 requests are shown otherwise after opening again")
+    expect_pass(folder, instance, printed)
+
+
+def check_many_commits(folder):
+    text = vrp(60, 7, 8)
+    load = f"load vrp 3 {len(text)}\n{text}build\n".encode()
+    stores = [os.path.join(folder, name) for name in ("one.store", "cut.store")]
+    for store in stores:
+        planner("format", store)
+    at_once = run(stores[0], load + b"search 5000\nprint\n")
+    cut = run(stores[1], load + 5_000 * b"search 1\n" + b"print\n")
+    if cut.count("\nok\n") < 5_000 or "no " in cut:
+        fail(f"5,000 lines: {cut.count('ok')} answers `ok`")
+    if plan_of(at_once) != plan_of(cut):
+        fail("5,000 steps, line by line, lead to another plan than at once")
+
+
+def check_long_line(folder):
+    store = os.path.join(folder, "line.store")
+    planner("format", store)
+    answers = run(store, b"add1 " + b"1 " * 35_000 + b"\nhelp\n")
+    first, _, rest = answers.partition("\n")
+    if first != "no BadLine" or not rest.endswith("ok\n"):
+        fail(f"a line of 70,000 bytes: {first!r}, then {rest[-10:]!r}")
+
+
+def check_long_route(folder):
+    text = vrp(2_000, 2_000, 44)
+    instance = write(folder, "route.vrp", text)
+    status, solution, errors = planner("solve", "vrp", instance, "300", "5", "0")
+    if status != 0 or solution.count("Route") != 1:
+        fail(f"one route: status {status}, {solution.count('Route')} routes, {errors[-80:]!r}")
+    expect_pass(folder, instance, solution)
+
+
+def check_small_fleet(folder):
+    # Two vehicles for twelve tasks in pairs that all want to be served at once.
+    lines = ["2 10 1", "0 0 0 0 0 1000 0 0 0"]
+    for pair in range(6):
+        lines.append(f"{2 * pair + 1} {100 * pair} 50 10 100 110 5 0 {2 * pair + 2}")
+        lines.append(f"{2 * pair + 2} {100 * pair} 90 -10 150 160 5 {2 * pair + 1} 0")
+    text = "\n".join(lines) + "\n"
+    instance = write(folder, "fleet.txt", text)
+    status, solution, errors = planner("solve", "lilim", instance, "100")
+    told = errors.rstrip("\n").split("\n")[-1].split()
+    if status != 1 or told[:2] != ["unplanned", "4:"] or len(told) != 6 or "Cost" in solution or solution.count("Route") != 2:
+        fail(f"a small fleet: status {status}, {told}, {solution!r}")
+    store = os.path.join(folder, "fleet.store")
+    planner("format", store)
+    answers = run(store, f"load lilim 1 {len(text)}\n{text}build\nsearch 100\nprint\n".encode())
+    if answers.split("\n")[:3] != ["ok", "ok", answers.split("\n")[2]] or not answers.split("\n")[2].startswith("at 100 4 2 "):
+        fail(f"a small fleet in a store: {answers!r}")
+
+
+def main():
+    with tempfile.TemporaryDirectory() as folder:
+        check_long_line(folder)
+        check_small_fleet(folder)
+        check_many_commits(folder)
+        check_long_route(folder)
+        check_many_requests(folder)
+    print("sizes: no answer is short at any size")
+
+
+main()
