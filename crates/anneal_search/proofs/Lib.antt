@@ -1,6 +1,7 @@
 mod AnnealLemmas
 mod BoundLemmas
 mod CutLemmas
+mod MissingLemmas
 mod NearLemmas
 mod NearestLemmas
 mod OrderLemmas

@@ -9,3 +9,4 @@ pub mod AnnealLaws
 pub mod StringLaws
 -- of private functions alone
 pub mod Going
+pub mod Missing

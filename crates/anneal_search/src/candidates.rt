@@ -1,13 +1,17 @@
 //! The candidate that the words of a step make of a plan.
 ghost use Rattle.std.specs.Prelude.{◌≡◌, IfOk, OnOk};
 ghost use Rattle.move_ops.specs.Drafts.{base_of, draft_of, IsDraftOf, IsMade};
-ghost use Rattle.seeded_search.specs.Steps.{movable_names};
+ghost use Rattle.seeded_search.specs.Steps.{unplanned_names};
+ghost use Rattle.seeded_search.specs.Working.{AreListsOf};
 ghost use Rattle.anneal_search.specs.Annealing.{candidate, recreated};
 
+use crate::missing::with_names;
 use crate::orders::ordered;
 use crate::strings::ruined_names;
 use move_ops::Draft;
-use plan_types::{OutOfMemory, Pins, Problem};
+use plan_types::{
+    OutOfMemory, Pins, Problem, requests_are_found_by_stop, requests_stand_by_name,
+};
 use seeded_search::{Lists, place_all};
 use std::alloc::Global;
 
@@ -18,26 +22,28 @@ pub(crate) fn make(
     problem: &Problem,
     pins: &Pins,
     draft: &mut Draft,
-    movable: &[u32],
+    lists: &Lists,
     words: &[u32; 16],
 ) -> Result<bool, OutOfMemory>
     requires draft { IsDraftOf problem.now pins.now.routes draft.old }
-    requires movable { movable.now
-        ≡ movable_names problem.now pins.now.routes (draft_of draft.old) }
+    requires lists { AreListsOf problem.now pins.now.routes (draft_of draft.old) lists.now }
     ensures is { OnOk result (IsDraftOf problem.now pins.now.routes draft.new) }
     ensures base { OnOk result (base_of draft.new ≡ base_of draft.old) }
     ensures made { IfOk result (λ made.
         IsMade (candidate problem.now pins.now.routes (draft_of draft.old) words.now) made
         draft.old draft.new) }
 {
-    let names = ruined_names(alloc, problem, pins, draft, movable, words)?;
+    requests_are_found_by_stop();
+    requests_stand_by_name();
+    let names = ruined_names(alloc, problem, pins, draft, &lists.movable, words)?;
     if names.is_empty() {
         return Ok(false);
     }
+    let missing = with_names(alloc, &lists.unplanned, &names)?;
     if !draft.remove(problem, pins, &names)? {
         return Ok(false);
     }
-    recreate(alloc, problem, pins, draft, words[2])?;
+    recreate(alloc, problem, pins, draft, words[2], &missing)?;
     Ok(true)
 }
 
@@ -48,14 +54,15 @@ fn recreate(
     pins: &Pins,
     draft: &mut Draft,
     word: u32,
+    missing: &[u32],
 ) -> Result<(), OutOfMemory>
-    requires { IsDraftOf problem.now pins.now.routes draft.old }
+    requires draft { IsDraftOf problem.now pins.now.routes draft.old }
+    requires missing { missing.now ≡ unplanned_names problem.now (draft_of draft.old) }
     ensures is { OnOk result (IsDraftOf problem.now pins.now.routes draft.new) }
     ensures base { OnOk result (base_of draft.new ≡ base_of draft.old) }
     ensures draft { OnOk result (draft_of draft.new
         ≡ recreated problem.now pins.now.routes word (draft_of draft.old)) }
 {
-    let lists = Lists::build(alloc, problem, pins, draft)?;
-    let order = ordered(alloc, problem, word, &lists.unplanned)?;
+    let order = ordered(alloc, problem, word, missing)?;
     place_all(problem, pins, draft, &order)
 }

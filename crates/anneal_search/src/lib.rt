@@ -8,13 +8,14 @@
 //! - `draws`: what a word draws, and what is left of it.
 //! - `routes`: the routes nearest to a stop.
 //! - `strings`: the strings, and the requests that go with them.
+//! - `missing`: the requests that are unplanned once those are taken out.
 //! - `orders`: the order in which requests are put in again.
 //! - `candidates`: the candidate that a step's words make.
 //! - `search`: what it replaces; one step, and many.
 //! - `laws`: what nearest stops, strings and orders mean, and what steps keep, without code.
 //!
 //! Specs: `Annealing` (a step, as a definition that computes), below it `Draws`, `Strings` with `Nearest`, and
-//! `Orders` with `Sorting`; `AnnealLaws` and `StringLaws`. `Going` follows the code.
+//! `Orders` with `Sorting`; `AnnealLaws` and `StringLaws`. `Going` and `Missing` follow the code.
 //!
 //! Source: Christiaens and Vanden Berghe, Slack Induction by String Removals (2020), in whole numbers; Dueck
 //! and Scheuer, Threshold Accepting (1990).
@@ -25,8 +26,8 @@
 //! keys. The candidate becomes the working plan where it is near the working plan itself, so annealing climbs
 //! step by step; it then becomes the incumbent too where it costs no more.
 //!
-//! This first form looks at each stop to find the nearest routes, and at each request to find those that are
-//! unplanned, and sorts by insertion. What stands below (`Walk`, `Draft`) is shared with the search.
+//! A step looks at the coordinates of each stop to find the nearest routes, and sorts by insertion. What stands
+//! below (`Walk`, `Draft`) is shared with the search.
 //!
 //! Proved:
 //! - `draw` is the whole part and the rest of `w m / 2^32`, `ordered` the order that a word picks;
@@ -43,6 +44,7 @@
 mod candidates;
 mod draws;
 mod laws;
+mod missing;
 mod orders;
 mod routes;
 mod search;

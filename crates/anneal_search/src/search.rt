@@ -124,7 +124,7 @@ impl Annealing {
             problem,
             pins,
             &mut self.walk.draft,
-            &self.walk.lists.movable,
+            &self.walk.lists,
             words,
         )? {
             return Ok(());

@@ -1,9 +1,11 @@
-use Rattle.std.proofs.Common.{rules, ◌≡◌, ◌==◌, true, false, length, refl, sym, subst}
+use Rattle.std.proofs.Common.{rules, ◌≡◌, ◌==◌, true, false, length, refl, sym, ap, subst, ◌∙◌}
 use Rattle.std.specs.Prelude.{slice_index}
 use Rattle.move_ops.specs.Drafts.{draft_of, IsMade}
 use Rattle.move_ops.specs.Moves.{removed}
 use Rattle.anneal_search.specs.Annealing.{recreated}
 use Rattle.anneal_search.proofs.AnnealLemmas.{none_ruined, some_ruined, not_removed, removed_and_more}
+use Rattle.anneal_search.specs.Missing.{with_names}
+use Rattle.anneal_search.proofs.MissingLemmas.{missing_is}
 use Rattle.anneal_search.proofs.candidates.make.Goals as goal
 
 pub returns-then-is_empty-clause-made : goal.returns-then-is_empty-clause-made
@@ -34,3 +36,15 @@ returns-clause-made c =
     subst (λ answer. IsMade answer true c.args.draft.now c.recreate.new.draft)
     (sym (some_ruined p pins (draft_of c.args.draft.now) c.args.words.now names c.in_ok-names.ensures some))
     (removed_and_more (recreated p pins (slice_index c.args.words.now 2)) (removed p pins (draft_of c.args.draft.now) names) c.in_ok-remove.field-0 c.args.draft.now c.remove.new.self c.recreate.new.draft made c.if-not-branch.false more)
+
+pub recreate-requires-clause-missing : goal.recreate-requires-clause-missing
+recreate-requires-clause-missing c =
+    let p = c.args.problem.now in
+    let pins = c.args.pins.now.routes in
+    let routes = draft_of c.args.draft.now in
+    let names = c.in_ok-names.names.items in
+    let made : IsMade (removed c.args.problem.now c.args.pins.now.routes (draft_of c.args.draft.now) c.in_ok-names.names.items) c.in_ok-remove.field-0 c.args.draft.now c.remove.new.self = search rules in
+    let missing : c.deref-5.result.now ≡ with_names c.args.lists.now.unplanned.items c.in_ok-names.names.items = search rules in
+    missing
+    ∙ (ap (λ before. with_names before names) c.requires.lists.unplanned
+    ∙ missing_is c.requests_are_found_by_stop.ensures c.requests_stand_by_name.ensures p c.requires.draft.valid names routes pins c.in_ok-remove.field-0 c.args.draft.now c.remove.new.self made c.if-not-branch.false)

@@ -1,0 +1,48 @@
+//! The requests that are unplanned once some are taken out of a plan, without a look at all others.
+ghost use Rattle.std.specs.Prelude.{◌≡◌, ◌≤◌, IfOk, OnOk, length, nat_le};
+ghost use Rattle.anneal_search.specs.Going.{first_place};
+ghost use Rattle.anneal_search.specs.Missing.{put_name, with_names};
+
+use plan_types::OutOfMemory;
+use std::alloc::Global;
+
+/// Rising names with these among them, each once.
+pub(crate) fn with_names(
+    alloc: Global,
+    rising: &[u32],
+    names: &[u32],
+) -> Result<Vec<u32>, OutOfMemory>
+    ensures { IfOk result (λ all. all.items ≡ with_names rising.now names.now) }
+{
+    let mut all = Vec::new(alloc);
+    all.extend_from_slice(rising)?;
+    for name in names {
+        put_name(&mut all, *name)?;
+    }
+    Ok(all)
+}
+
+// Puts a name before the first that is greater, unless it stands there.
+fn put_name(all: &mut Vec<u32>, name: u32) -> Result<(), OutOfMemory>
+    ensures { OnOk result (all.new.items ≡ put_name name all.old.items) }
+{
+    let index = place(all, name);
+    if index < all.len() && all[index] == name {
+        return Ok(());
+    }
+    all.insert(index, name)?;
+    Ok(())
+}
+
+// The index of the first name that is not below.
+fn place(all: &[u32], name: u32) -> usize
+    ensures place { result ≡ first_place (nat_le name) all.now }
+    ensures within { result ≤ length all.now }
+{
+    for index in 0..all.len() {
+        if name <= all[index] {
+            return index;
+        }
+    }
+    all.len()
+}
