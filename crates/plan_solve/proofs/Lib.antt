@@ -1,4 +1,5 @@
 mod AuditedLemmas
 mod SearchLemmas
-mod StageLemmas
 mod SolveLemmas
+mod StageLemmas
+mod TryLemmas

@@ -9,11 +9,11 @@ use Rattle.plan_solve.specs.declared.staging.Walk.{Walk}
 
 module _ (kind : Kind) (text : List ℕ) (seed steps : ℕ) (deviation : Option ℕ) (before now : Option (List ℕ)) (job : JobValue) (walk : Walk) where
   pub solves : (b : IsBegun kind text seed job)
-      → HasWalked before now (solved_from job steps (deviation_of job.problem.kind deviation)) (lines_from job steps (deviation_of job.problem.kind deviation)) walk
+      → HasWalked before now (solved_from job steps (deviation_of deviation)) (lines_from job steps (deviation_of deviation)) walk
       → (found : Solved) → TellsPlan walk.job found → found.is_told ≡ walk.is_told → IsSolved kind text seed steps deviation before now found
   solves b walked found tells flag =
-      let is : HasWalked before now (solved_from (begun b.problem seed) steps (deviation_of b.problem.kind deviation)) (lines_from (begun b.problem seed) steps (deviation_of b.problem.kind deviation)) walk =
-      subst (λ j. HasWalked before now (solved_from j steps (deviation_of j.problem.kind deviation)) (lines_from j steps (deviation_of j.problem.kind deviation)) walk) b.job_is walked in
+      let is : HasWalked before now (solved_from (begun b.problem seed) steps (deviation_of deviation)) (lines_from (begun b.problem seed) steps (deviation_of deviation)) walk =
+      subst (λ j. HasWalked before now (solved_from j steps (deviation_of deviation)) (lines_from j steps (deviation_of deviation)) walk) b.job_is walked in
       record {
         problem = b.problem;
         spelled = b.spelled;

@@ -3,11 +3,10 @@ use Rattle.std.proofs.Common.{◌≡◌, ◌∙◌, ℕ, zero, suc, ◌+◌, ◌
 use Rattle.std.specs.Prelude.{if◌then◌else◌}
 use Rattle.std.specs.Io.KnownBytes.{Appends}
 use Rattle.std.proofs.KnownBytes.{Appends-trans}
-use Rattle.std.proofs.lemmas.Bool.{lt-ltb, le-ltb, eq-eqb, ne_eqb}
-use Rattle.anneal_stages.specs.Stages.{boundary, hundredths_of}
+use Rattle.std.proofs.lemmas.Bool.{lt-ltb, le-ltb, ne_eqb}
 use Rattle.command_core.specs.Job.{JobValue}
 use Rattle.command_text.specs.Answers.{at_text, line}
-use Rattle.plan_solve.specs.Staged.{Stand, annealed, by_stages, parts_made, staged, staged_from, told_behind, with_share}
+use Rattle.plan_solve.specs.Staged.{Stand, annealed, annealed_on, by_stages, parts_made, staged, staged_from, told_behind, with_share}
 use Rattle.plan_solve.specs.Telling.{Stands}
 use Rattle.plan_solve.specs.declared.staging.Walk.{Walk}
 
@@ -31,25 +30,12 @@ module _ (before now next : Option (List ℕ)) (steps : ℕ) (job : JobValue) (s
       ap (λ b. if b then record { job = job; lines = s.lines ++ line (at_text job); parts = parts_made steps job } else record s { job = job }) (le-ltb s.parts (parts_made steps job) no_more) in
       subst (λ stand. Stands before now stand walk) (sym is) (record { walked = record { made = made; told = so_far }; parts = parts })
 
--- ---- one stage
+-- ---- so many steps
 
-pub no_stage : (from to k : ℕ) (s : Stand) → boundary from to (k + 1) - boundary from to k ≡ 0 → staged from to k s ≡ s
-no_stage from to k s none =
-    ap (λ b. if b then s else told_behind to s (annealed (with_share s.job (hundredths_of k)) (boundary from to (k + 1) - boundary from to k)))
-    (eq-eqb (boundary from to (k + 1) - boundary from to k) 0 none)
-
-pub a_stage : (from to k : ℕ) (s : Stand) → 0 < boundary from to (k + 1) - boundary from to k
-    → staged from to k s ≡ told_behind to s (annealed (with_share s.job (hundredths_of k)) (boundary from to (k + 1) - boundary from to k))
-a_stage from to k s some =
-    ap (λ b. if b then s else told_behind to s (annealed (with_share s.job (hundredths_of k)) (boundary from to (k + 1) - boundary from to k)))
-    (ne_eqb (boundary from to (k + 1) - boundary from to k) 0 (λ none. absurd (omega (arith, some, none))))
-
-pub stage_is : (from to k count c : ℕ) (s : Stand) (begun job : JobValue) → count ≡ boundary from to (k + 1) - boundary from to k → 0 < count → c ≡ hundredths_of k → begun ≡ s.job
-    → job ≡ annealed (with_share begun c) count → staged from to k s ≡ told_behind to s job
-stage_is from to k count c s begun job counted some share_is from_job made =
-    a_stage from to k s (subst (λ n. 0 < n) counted some)
-    ∙ ap (told_behind to s)
-    (sym (made ∙ ap (λ j. annealed (with_share j c) count) from_job ∙ ap (λ n. annealed (with_share s.job n) count) share_is ∙ ap (annealed (with_share s.job (hundredths_of k))) counted))
+pub on_is : (to c count : ℕ) (s : Stand) (begun job : JobValue) → 0 < count → begun ≡ s.job → job ≡ annealed (with_share begun c) count → annealed_on to c count s ≡ told_behind to s job
+on_is to c count s begun job some from_job made =
+    ap (λ b. if b then s else told_behind to s (annealed (with_share s.job c) count)) (ne_eqb count 0 (λ none. absurd (omega (arith, some, none))))
+    ∙ ap (told_behind to s) (sym (made ∙ ap (λ j. annealed (with_share j c) count) from_job))
 
 -- ---- many
 

@@ -20,7 +20,8 @@ use Rattle.command_core.specs.declared.states.State.TheVariants.{Empty, Loaded}
 use Rattle.command_text.specs.Answers.{at_text, line}
 use Rattle.command_text.specs.Readings.{InstanceFault, SpellsInstance}
 use Rattle.command_text.specs.Showing.{print_text, solution_of}
-use Rattle.plan_solve.specs.Staged.{by_stages, first_stand}
+use Rattle.plan_solve.specs.Staged.{Stand, by_stages, first_stand}
+use Rattle.plan_solve.specs.Tried.{by_tries}
 use Rattle.plan_solve.specs.declared.faults.SolveFault.{SolveFault}
 use Rattle.plan_solve.specs.declared.faults.SolveFault.TheVariants as fault
 use Rattle.plan_solve.specs.declared.solving.Solved.{Solved}
@@ -54,27 +55,31 @@ search_lines deviation j steps = flat_map (λ n. line (at_text (searched_with de
 
 -- ---- by either
 
--- the deviation of the search, at most 1,000,000,000; where none is, the stages of annealing are gone through
-abbrev pub deviation_of : Kind → Option ℕ → Option ℕ
-deviation_of kind (Some deviation) = Some (min deviation 1000000000)
-deviation_of LiLim None = Some 0
-deviation_of Vrp None = None
+-- the deviation of the search, at most 1,000,000,000; where none is, it is annealed
+abbrev pub deviation_of : Option ℕ → Option ℕ
+deviation_of (Some deviation) = Some (min deviation 1000000000)
+deviation_of None = None
+
+-- annealing: where vehicles count, smaller fleets are tried before the stages
+abbrev pub by_annealing : Kind → ℕ → Stand → Stand
+by_annealing LiLim steps s = by_tries steps s
+by_annealing Vrp steps s = by_stages steps s
 
 -- the job after so many steps
 abbrev pub solved_from : JobValue → ℕ → Option ℕ → JobValue
 solved_from j steps (Some deviation) = searched_with deviation j steps
-solved_from j steps None = (by_stages steps (first_stand j)).job
+solved_from j steps None = (by_annealing j.problem.kind steps (first_stand j)).job
 
 abbrev pub solved : Instance → ℕ → ℕ → Option ℕ → JobValue
-solved p seed steps deviation = solved_from (begun p seed) steps (deviation_of p.kind deviation)
+solved p seed steps deviation = solved_from (begun p seed) steps (deviation_of deviation)
 
 -- what is told on the way
 abbrev pub lines_from : JobValue → ℕ → Option ℕ → List ℕ
 lines_from j steps (Some deviation) = search_lines deviation j steps
-lines_from j steps None = (by_stages steps (first_stand j)).lines
+lines_from j steps None = (by_annealing j.problem.kind steps (first_stand j)).lines
 
 abbrev pub progress : Instance → ℕ → ℕ → Option ℕ → List ℕ
-progress p seed steps deviation = lines_from (begun p seed) steps (deviation_of p.kind deviation)
+progress p seed steps deviation = lines_from (begun p seed) steps (deviation_of deviation)
 
 -- law: with a deviation it is what the commands of a store make of it, however the steps are cut into searches
 abbrev pub IsWhatCommandsMake : Type 0

@@ -35,11 +35,13 @@ abbrev pub told_behind : ℕ → Stand → JobValue → Stand
 told_behind steps s j =
     if nat_lt s.parts (parts_made steps j) then record { job = j; lines = s.lines ++ line (at_text j); parts = parts_made steps j } else record s { job = j }
 
--- behind stage k of the steps from one number to before another: so many annealing steps with its share; nothing where it has no steps
+-- behind so many annealing steps with so many hundredths of the mean leg; nothing where there are none
+abbrev pub annealed_on : ℕ → ℕ → ℕ → Stand → Stand
+annealed_on to c count s = if count == 0 then s else told_behind to s (annealed (with_share s.job c) count)
+
+-- behind stage k of the steps from one number to before another
 abbrev pub staged : ℕ → ℕ → ℕ → Stand → Stand
-staged from to k s =
-    let count = boundary from to (k + 1) - boundary from to k in
-    if count == 0 then s else told_behind to s (annealed (with_share s.job (hundredths_of k)) count)
+staged from to k s = annealed_on to (hundredths_of k) (boundary from to (k + 1) - boundary from to k) s
 
 -- behind so many stages from stage k on
 unfoldable pub staged_from : ℕ → ℕ → ℕ → ℕ → Stand → Stand

@@ -4,6 +4,7 @@ ghost use Rattle.plan_solve.specs.Solved.{IsWhatCommandsMake};
 
 use anneal_search::anneal_steps_keep_passing;
 use command_core::{effects_keep_facts, searches_add_up};
+use fleet_tries::smaller_fleets_pass;
 use plan_audit::{empty_routes_change_no_verdict, solutions_pass_where_they_are_sound};
 use seeded_search::steps_keep_passing;
 
@@ -23,5 +24,6 @@ pub fn what_is_solved_passes_the_audit()
     steps_keep_passing();
     anneal_steps_keep_passing();
     empty_routes_change_no_verdict();
+    smaller_fleets_pass();
     solutions_pass_where_they_are_sound();
 }

@@ -6,8 +6,9 @@
 //!
 //! How it works: the problem is loaded with the seed, and each unplanned request is put in where it is best, as the
 //! commands `load` and `build` of a store do. With a deviation the search makes the steps, as `search` does. Without one
-//! a `.vrp` problem goes through the twenty stages of annealing (`anneal_stages`): each begins with the best plan so
-//! far, and lets the working plan be less far from it than the one before. Lines tell how far it is.
+//! it goes through the twenty stages of annealing (`anneal_stages`): each begins with the best plan so far, and lets
+//! the working plan be less far from it than the one before. Of a Li-Lim problem, where vehicles count, up to half of
+//! the steps go into tries of smaller fleets before (`fleet_tries`). Lines tell how far it is.
 //!
 //! Modules, in reading order:
 //! - `faults`: why there is no plan
@@ -15,11 +16,12 @@
 //! - `telling`: a line of progress
 //! - `searching`: the search, with its lines
 //! - `staging`: the stages, with their lines
+//! - `trying`: the tries of smaller fleets, with theirs
 //! - `printing`: the text of a plan, and what it leaves out
 //! - `solving`: `solve`
 //! - `laws`: what is solved, for every instance
 //!
-//! Said by `specs/Solved.antt`, `Staged.antt` and `Audited.antt`. Proved:
+//! Said by `specs/Solved.antt`, `Staged.antt`, `Tried.antt` and `Audited.antt`. Proved:
 //! - `solve`, where it answers (`IsSolved`): the text is that of the plan which loading, building and so many steps give,
 //!   the requests that it leaves out are named, and the lines were written unless it says that one could not be
 //! - `solve`, where it refuses (`Fails`): the text's first fault, with nothing written
@@ -39,6 +41,7 @@ mod searching;
 mod solving;
 mod staging;
 mod telling;
+mod trying;
 
 pub use faults::SolveFault;
 pub use laws::{solving_is_commands, what_is_solved_passes_the_audit};

@@ -2,13 +2,15 @@
 ghost use Rattle.std.specs.Prelude.{◌≡◌, IfErr, IfOk, MatchResult};
 ghost use Rattle.instance_read.specs.Faults.{TellsFirstFault};
 ghost use Rattle.command_text.specs.Readings.{InstanceFault, SpellsInstance};
-ghost use Rattle.plan_solve.specs.Solved.{Fails, IsSolved, begun, deviation_of, lines_from, solved_from};
+ghost use Rattle.plan_solve.specs.Solved.{Fails, IsSolved, begun, by_annealing, deviation_of, lines_from, solved_from};
+ghost use Rattle.plan_solve.specs.Staged.{first_stand};
 ghost use Rattle.plan_solve.specs.Telling.{HasWalked, IsBegun, IsOfText, refused};
 
 use crate::faults::SolveFault;
 use crate::printing::answer;
 use crate::searching::{carried_out, search_telling};
 use crate::staging::{Walk, anneal_telling};
+use crate::trying::try_telling;
 use command_core::{Command, Job, MAX_DEVIATION, State, apply};
 use instance_read::{ReadFault, ReadFaultKind, read_lilim, read_vrp};
 use plan_types::{Kind, OutOfMemory, Problem};
@@ -29,8 +31,8 @@ pub struct Solved {
 /// The text of the plan that is found in so many steps from the one that is built of an instance's text with this seed.
 ///
 /// With a deviation, in the unit of distance and at most 1,000,000,000, the search makes the steps, as a store's commands `load`, `build`,
-/// `deviation` and `search` do. Without one a `.vrp` problem goes through the stages of annealing, and a Li-Lim problem is searched with
-/// deviation 0.
+/// `deviation` and `search` do. Without one they are annealing steps, by stages; of a Li-Lim problem, where vehicles count, up to half of
+/// them go into tries of smaller fleets before.
 ///
 /// A line `at STEPS UNPLANNED VEHICLES DISTANCE` is written to `progress` before the first step and about each twentieth of them, and
 /// flushed. Behind a line that can't be written none is told.
@@ -107,23 +109,39 @@ fn walk<W: Write>(
     progress: &mut W,
 ) -> Result<Walk, OutOfMemory>
     requires { begun.steps ≡ 0 }
-    ensures { let d = deviation_of begun.problem.kind deviation in IfOk result
+    ensures { let d = deviation_of deviation in IfOk result
         (HasWalked (W.contents progress.old) (W.contents progress.new)
         (solved_from begun steps d) (lines_from begun steps d)) }
 {
-    match deviation_of(begun.problem.kind, deviation) {
+    match deviation_of(deviation) {
         Some(deviation) => search_telling(alloc, begun, deviation, steps, progress),
-        None => anneal_telling(alloc, begun, steps, progress),
+        None => annealed(alloc, begun, steps, progress),
     }
 }
 
 // The deviation of the search, where it makes the steps.
-fn deviation_of(kind: Kind, deviation: Option<u32>) -> Option<u32>
-    ensures { result ≡ deviation_of kind deviation }
+fn deviation_of(deviation: Option<u32>) -> Option<u32>
+    ensures { result ≡ deviation_of deviation }
 {
-    match (deviation, kind) {
-        (Some(deviation), _) => Some(deviation.min(MAX_DEVIATION)),
-        (None, Kind::LiLim) => Some(0),
-        (None, Kind::Vrp) => None,
+    match deviation {
+        Some(deviation) => Some(deviation.min(MAX_DEVIATION)),
+        None => None,
+    }
+}
+
+// Annealing; where vehicles count, with tries of smaller fleets before the stages.
+fn annealed<W: Write>(
+    alloc: Global,
+    begun: Job,
+    steps: u32,
+    progress: &mut W,
+) -> Result<Walk, OutOfMemory>
+    requires { begun.steps ≡ 0 }
+    ensures { let stand = by_annealing begun.problem.kind steps (first_stand begun) in IfOk result
+        (HasWalked (W.contents progress.old) (W.contents progress.new) stand.job stand.lines) }
+{
+    match begun.problem.kind {
+        Kind::LiLim => try_telling(alloc, begun, steps, progress),
+        Kind::Vrp => anneal_telling(alloc, begun, steps, progress),
     }
 }

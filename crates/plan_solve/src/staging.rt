@@ -2,7 +2,7 @@
 ghost use Rattle.std.specs.Prelude.{◌≡◌, ℕ, ◌+◌, ◌<◌, ◌≤◌, ◌^◌, true, List, Option, IfOk};
 ghost use Rattle.std.specs.Io.KnownBytes.{Appends};
 ghost use Rattle.anneal_stages.specs.Stages.{boundary};
-ghost use Rattle.plan_solve.specs.Staged.{Stand, annealed, by_stages, first_stand, staged, told_behind, with_share};
+ghost use Rattle.plan_solve.specs.Staged.{Stand, annealed, annealed_on, by_stages, first_stand, staged, told_behind, with_share};
 ghost use Rattle.plan_solve.specs.Telling.{HasWalked, Leads, Stands};
 
 use crate::telling::tell;
@@ -45,8 +45,8 @@ pub(crate) fn anneal_telling<W: Write>(
     stages_telling(alloc, walk, u64::from(steps), progress)
 }
 
-// All stages of the steps to before this number that the job has not made.
-fn stages_telling<W: Write>(
+/// All stages of the steps to before this number that the job has not made.
+pub(crate) fn stages_telling<W: Write>(
     alloc: Global,
     walk: Walk,
     to: u64,
@@ -86,10 +86,29 @@ fn stage_telling<W: Write>(
 {
     stages_cover_all_steps();
     let count = boundary(from, to, stage + 1) - boundary(from, to, stage);
+    annealed_on(alloc, walk, to, hundredths(stage), count, progress)
+}
+
+/// So many annealing steps, of all steps to before a number, through which the working plan may be so many hundredths of the mean leg from
+/// the incumbent, and a line behind them; nothing where there are none.
+pub(crate) fn annealed_on<W: Write>(
+    alloc: Global,
+    walk: Walk,
+    to: u64,
+    hundredths: u32,
+    count: u64,
+    progress: &mut W,
+) -> Result<Walk, OutOfMemory>
+    requires few { to < 2 ^ 32 }
+    requires within { walk.job.steps + count ≤ to }
+    ensures leads { IfOk result (Leads (W.contents progress.old) (W.contents progress.new)
+        (annealed_on to hundredths count) walk) }
+    ensures ends { IfOk result (λ new. new.job.steps ≡ walk.job.steps + count) }
+{
     if count == 0 {
         return Ok(walk);
     }
-    let job = annealed_with(alloc, &walk.job, hundredths(stage), count)?;
+    let job = annealed_with(alloc, &walk.job, hundredths, count)?;
     Ok(behind(job, walk.is_told, walk.parts, to, progress))
 }
 
@@ -110,8 +129,14 @@ fn steps_made(job: &Job) -> u64
     job.steps
 }
 
-// With this job, and a line where it has made more twentieths of the steps than at the last line.
-fn behind<W: Write>(job: Job, is_told: bool, parts: u64, steps: u64, progress: &mut W) -> Walk
+/// With this job, and a line where it has made more twentieths of the steps than at the last line.
+pub(crate) fn behind<W: Write>(
+    job: Job,
+    is_told: bool,
+    parts: u64,
+    steps: u64,
+    progress: &mut W,
+) -> Walk
     requires some { 0 < steps }
     requires few { steps < 2 ^ 32 }
     requires most { job.steps ≤ steps }

@@ -1,0 +1,3 @@
+mod FleetLemmas
+mod PassLemmas
+mod SortLemmas
