@@ -52,7 +52,8 @@ impl<'a, R: Files + Eprint + AllocGlobal> ReadFiles for HostFiles<'a, R> {
             Err(error) => {
                 let _ = eprintln!(self.rt; "planner: {path}: {error}");
                 let kind = error.kind();
-                self.noted.note(path.as_bytes(), &Outcome::Failed(kind), &[]);
+                self.noted
+                    .note(path.as_bytes(), &Outcome::Failed(kind), &[]);
                 Err(error)
             }
         }

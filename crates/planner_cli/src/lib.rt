@@ -73,6 +73,6 @@ pub use answer::{AuditAnswer, Line};
 pub use audit::audit_text;
 pub use command_line::{Invocation, Loading, Paths, Task, read_words};
 pub use command_serving::{Failed, ServeFault, Sink, Source, Watched, serve};
-pub use laws::stopped_runs_recover;
 pub use files::{HostFiles, ReadFiles};
+pub use laws::stopped_runs_recover;
 pub use program::{Streams, run_words};

@@ -115,42 +115,45 @@ where
     let mut streams = streams;
     let alloc = rt.alloc();
     match invocation {
-        Invocation::BuiltIn => (audit_example(alloc, &mut streams.output), streams),
+        Invocation::BuiltIn => {
+            let told = audit_example(alloc, &mut streams.output);
+            (told, streams)
+        }
         Invocation::Audit(paths) => {
-            (audit_read(alloc, paths, files, &mut streams.output), streams)
+            let told = audit_read(alloc, paths, files, &mut streams.output);
+            (told, streams)
         }
         Invocation::Audits { kind, list } => {
-            (audits_read(alloc, kind, list, files, &mut streams.output), streams)
+            let told = audits_read(alloc, kind, list, files, &mut streams.output);
+            (told, streams)
         }
         Invocation::Explain(paths) => {
-            (explain_read(alloc, paths, files, &mut streams.output), streams)
+            let told = explain_read(alloc, paths, files, &mut streams.output);
+            (told, streams)
         }
         Invocation::Draw(paths) => {
-            let told = draw_read(alloc, paths, files, &mut streams.output, &mut streams.errors);
+            let Streams { output, errors, .. } = &mut streams;
+            let told = draw_read(alloc, paths, files, output, errors);
             (told, streams)
         }
         Invocation::Solve(task) => {
-            let told = solve_read(alloc, task, files, &mut streams.output, &mut streams.errors);
+            let Streams { output, errors, .. } = &mut streams;
+            let told = solve_read(alloc, task, files, output, errors);
             (told, streams)
         }
         Invocation::Format { store } => {
-            (format_store(rt, start, store, &mut streams.output), streams)
+            let told = format_store(rt, start, store, &mut streams.output);
+            (told, streams)
         }
         Invocation::Load(loading) => {
-            let told = load_read(
-                rt,
-                start,
-                start_of_new,
-                loading,
-                files,
-                &mut streams.output,
-                &mut streams.errors,
-            );
+            let Streams { output, errors, .. } = &mut streams;
+            let told = load_read(rt, start, start_of_new, loading, files, output, errors);
             (told, streams)
         }
         Invocation::Run { store, is_strict } => run_over(rt, start, store, is_strict, streams),
         Invocation::Upgrade { old, new } => {
-            (upgrade_store(rt, start, start_of_new, old, new, &mut streams.output), streams)
+            let told = upgrade_store(rt, start, start_of_new, old, new, &mut streams.output);
+            (told, streams)
         }
     }
 }
@@ -176,15 +179,7 @@ where
         output,
         mut errors,
     } = streams;
-    let (told, output) = run_store(
-        rt,
-        start,
-        store,
-        is_strict,
-        &mut input,
-        output,
-        &mut errors,
-    );
+    let (told, output) = run_store(rt, start, store, is_strict, &mut input, output, &mut errors);
     let streams = Streams {
         input,
         output,
@@ -207,11 +202,7 @@ fn audit_example<W: Write>(alloc: Global, output: &mut W) -> io::Result<u8>
 
 // Tells help and the version, where they were asked for, on the output, and a fault of the words on the errors, and gives the
 // status. Of want of memory nothing is told.
-fn tell_usage<W: Write, E: Write>(
-    error: &Error,
-    output: &mut W,
-    errors: &mut E,
-) -> io::Result<u8>
+fn tell_usage<W: Write, E: Write>(error: &Error, output: &mut W, errors: &mut E) -> io::Result<u8>
     ensures status { IfOk result (λ status. status ≡ usage_status_of (kind_of error.now)) }
     ensures memory { kind_of error.now ≡ ErrorKind.OutOfMemory → result ≡ Ok 4 }
     ensures output { usage_status_of (kind_of error.now) ≢ 0 → output.new ≡ output.old }

@@ -14,9 +14,9 @@ pub returns-in-Err-clause-does : goal.returns-in-Err-clause-does
 returns-in-Err-clause-does g c = λ a positional asks.
     elim (c.in-Err.ensures positional) [
       | inl memory ↦
-        let four : usage_status_of (kind_of c.in-Err.error) ≡ 4 = ap usage_status_of memory in
-        let output : c.tell_usage-told.new.output ≡ c.args.streams.output = c.tell_usage-told.ensures.output (λ e. absurd (omega (arith, four, e))) in
-        let errors : c.tell_usage-told.new.errors ≡ c.args.streams.errors = c.tell_usage-told.ensures.errors (λ e. absurd (omega (arith, four, e))) in
-        inr (status_is c.tell_usage-told.result c.status_of-in-Err.result 4 (c.tell_usage-told.ensures.memory memory) c.status_of-in-Err.ensures, rw (output, errors) refl)
+          let four : usage_status_of (kind_of c.in-Err.error) ≡ 4 = ap usage_status_of memory in
+          let output : c.tell_usage-told.new.output ≡ c.args.streams.output = c.tell_usage-told.ensures.output (λ e. absurd (omega (arith, four, e))) in
+          let errors : c.tell_usage-told.new.errors ≡ c.args.streams.errors = c.tell_usage-told.ensures.errors (λ e. absurd (omega (arith, four, e))) in
+          inr (status_is c.tell_usage-told.result c.status_of-in-Err.result 4 (c.tell_usage-told.ensures.memory memory) c.status_of-in-Err.ensures, rw (output, errors) refl)
       | inr none ↦ absurd (let both = none.0 in cc)
     ]
