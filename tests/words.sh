@@ -99,6 +99,7 @@ printf 'one-pair.txt\tone-pair.sol\tpass 0 1 20\nbad line\nnowhere\tone-pair.sol
 status=$?
 [ "$status" = 3 ] && cmp -s -- "$folder/answers" "$folder/output" || fail "audits: status $status, wanted 3, or other answers"
 "$program" audits lilim - <"$folder/pairs" 2>/dev/null | cmp -s -- "$folder/answers" - || fail "audits -: other answers"
+[ "$(printf '\n \t\none-pair.txt\tone-pair.sol\n' | "$program" audits lilim - 2>/dev/null)" = "$(printf 'bad line\nbad line\none-pair.txt\tone-pair.sol\tpass 0 1 20')" ] || fail "audits: a blank line ends the list"
 expect 3 'cannot read nowhere' 'planner: nowhere: No such file or directory (os error 2)' audits lilim nowhere
 
 # A path is taken only as UTF-8.
