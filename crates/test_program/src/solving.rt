@@ -13,7 +13,7 @@ const LATE_PAIR: &[u8] =
     b"1 10 1\n0 0 0 0 0 100 0 0 0\n1 3 4 4 0 6 2 0 2\n2 6 8 -4 0 60 2 1 0\n3 -6 8 4 0 10 2 0 4\n4 -9 12 -4 0 20 2 3 0\n";
 
 /// Six customers around a depot, for vehicles of 4.
-const SIX: &[u8] =
+pub(crate) const SIX: &[u8] =
     b"NAME : six\nTYPE : CVRP\nDIMENSION : 7\nEDGE_WEIGHT_TYPE : EUC_2D\nCAPACITY : 4\nNODE_COORD_SECTION\n1 0 0\n2 3 4\n3 6 8\n4 -3 4\n5 -6 8\n6 0 5\n7 9 1\nDEMAND_SECTION\n1 0\n2 2\n3 2\n4 1\n5 1\n6 3\n7 2\nDEPOT_SECTION\n1\n-1\nEOF\n";
 
 /// What is told on the way, and the text.
