@@ -1,12 +1,12 @@
 -- A line that anneals by stages, cut off by whatever becomes of its tries and asked for again, ends where an uncut one ends.
-use Rattle.std.proofs.Common.{◌≡◌, ◌∙◌, ◌⊎◌, inl, inr, ℕ, zero, suc, ◌+◌, ◌-◌, ◌*◌, ◌^◌, ◌<◌, ◌≤◌, Bool, true, false, not, ◌&&◌, if◌then◌else◌, List, [], ◌∷◌, Option, Some, None, Result, Ok, Err, refl, sym, ap, subst, arith}
-use Rattle.std.specs.Prelude.{◌==◌, ◌/◌, length, min, nat_le, nat_lt, take}
+use Rattle.std.proofs.Common.{◌≡◌, ◌∙◌, inl, inr, ℕ, zero, suc, ◌+◌, ◌-◌, ◌*◌, ◌^◌, ◌≤◌, Bool, true, false, ◌&&◌, if◌then◌else◌, List, [], ◌∷◌, Option, Some, None, Ok, Err, refl, sym, ap, subst, arith}
+use Rattle.std.specs.Prelude.{◌==◌, ◌/◌, length, min, nat_le, take}
 use Rattle.std.specs.List.{list_all}
 use Rattle.std.proofs.Math.Nat.{mul-le-mul_left}
-use Rattle.std.proofs.lemmas.Bool.{and_parts, cases_Bool, le-leb, leb-true, ltb-false, ltb-true}
+use Rattle.std.proofs.lemmas.Bool.{and_parts, cases_Bool, le-leb, leb-true}
 use Rattle.plan_types.specs.Instance.{Instance, numbers_among}
 use Rattle.route_sched.specs.Cost.{total_length}
-use Rattle.anneal_stages.specs.Stages.{boundary, hundredths_of, share, stage_among, stage_of}
+use Rattle.anneal_stages.specs.Stages.{boundary, hundredths_of, share, stage_of}
 use Rattle.command_core.specs.Effects.{annealed, effect, with_deviation}
 use Rattle.command_core.specs.Job.{JobValue}
 use Rattle.command_core.specs.Refusing.{refusal}

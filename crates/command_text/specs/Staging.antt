@@ -1,5 +1,5 @@
 -- The commands that anneal by stages, from a job on.
-use Rattle.std.specs.Prelude.{◌≡◌, ℕ, zero, suc, ◌+◌, ◌-◌, ◌≤◌, ◌==◌, min, if◌then◌else◌, List, [], ◌∷◌, take, Option, Some, None}
+use Rattle.std.specs.Prelude.{ℕ, zero, suc, ◌+◌, ◌-◌, ◌==◌, min, if◌then◌else◌, List, [], ◌∷◌, Option, Some, None}
 use Rattle.anneal_stages.specs.Stages.{boundary, hundredths_of, share, stage_of}
 use Rattle.command_core.specs.Effects.{annealed, with_deviation}
 use Rattle.command_core.specs.Job.{JobValue}

@@ -1,5 +1,5 @@
 -- Where the first number is above the second, no step lies between them.
-use Rattle.std.proofs.Common.{◌≡◌, ◌<◌, ◌≤◌, ◌+◌, ℕ, Option, Some, None, refl, sym, ap, arith}
+use Rattle.std.proofs.Common.{◌≡◌, ◌<◌, ◌≤◌, ◌+◌, ℕ, Option, Some, None, sym, arith}
 use Rattle.std.specs.Prelude.{IfSome}
 use Rattle.anneal_stages.specs.Stages.{boundary, stage_of}
 use Rattle.command_text.proofs.StagingLemmas.{ends_of, few_stages, none_between}
