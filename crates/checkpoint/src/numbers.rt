@@ -24,7 +24,8 @@ fn stops_added(command: &Command) -> u32
         | Command::Build
         | Command::Search(_)
         | Command::Checkpoint
-        | Command::Deviation(_) => 0,
+        | Command::Deviation(_)
+        | Command::Anneal(_) => 0,
     }
 }
 

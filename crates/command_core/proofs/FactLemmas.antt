@@ -14,9 +14,10 @@ use Rattle.plan_audit.specs.Locality.{FeasibilityIsLocal, PassesAreLocal, PlansA
 use Rattle.move_ops.specs.Insertion.{request_named, of_vehicle, with_route}
 use Rattle.seeded_search.specs.Steps.{unplanned_names}
 use Rattle.seeded_search.specs.StepLaws.{StepsKeepPassing}
+use Rattle.anneal_search.specs.AnnealLaws.{AnnealStepsKeepPassing}
 use Rattle.command_core.specs.Job.{JobValue, IsJob}
 use Rattle.command_core.specs.Wishes.{is_spot, is_demand, single_at, pair_at}
-use Rattle.command_core.specs.Effects.{loaded, added, withdrawn, searched, job_after}
+use Rattle.command_core.specs.Effects.{loaded, added, withdrawn, searched, annealed, job_after}
 use Rattle.command_core.specs.Refusing.{is_vehicle, pinned_refusal, job_refusal}
 use Rattle.command_core.specs.Runs.{IsCommand}
 use Rattle.command_core.specs.RunLaws.{EffectsKeepFacts}
@@ -24,7 +25,7 @@ use Rattle.command_core.specs.declared.states.State.TheVariants.{Empty, Loaded}
 use Rattle.command_core.specs.declared.refusals.Refusal.{Refusal}
 use Rattle.command_core.specs.declared.refusals.Refusal.TheVariants.{NoSuchRequest, Pinned}
 use Rattle.command_core.specs.declared.commands.Command.{Command}
-use Rattle.command_core.specs.declared.commands.Command.TheVariants.{Load, Add, Add1, Withdraw, Pin, Unpin, Build, Search, Checkpoint, Deviation}
+use Rattle.command_core.specs.declared.commands.Command.TheVariants.{Load, Add, Add1, Withdraw, Pin, Unpin, Build, Search, Checkpoint, Deviation, Anneal}
 use Rattle.command_core.proofs.AddLemmas.{single_is_request, pair_is_request, IsNext, new_problem, same_at_live}
 use Rattle.command_core.proofs.PassLemmas.{passes_same, all_feasible_same, numbers_live, routes_live, pins_live}
 use Rattle.command_core.proofs.PinLemmas.{none_feasible, none_all_feasible, none_passes, set_all, unpinned_passes, pinned_passes}
@@ -45,6 +46,7 @@ pub record LowerLaws : Type 0 where
   pub take_others : TakeKeepsOthers
   pub named : RequestsStandByName
   pub steps : StepsKeepPassing
+  pub anneal_steps : AnnealStepsKeepPassing
 
 refused : {X : Type 0} (r : Refusal) → Some r ≡ None → X
 refused r h = absurd (let g = h in cc)
@@ -143,6 +145,12 @@ module _ (laws : LowerLaws) (j : JobValue) (is : IsJob j) where
       let both = steps j.problem j.pins j.deviation j.seed j.steps count (record { incumbent = j.plan; working = j.work }) (record { incumbent = is.plan; working = is.work }) in
       with_plans j is _ _ (both.incumbent) (both.working) (j.steps + count) within
 
+  annealed_job : (count : ℕ) → j.steps + count ≤ 2 ^ 60 → IsJob (annealed j count)
+  annealed_job count within =
+      let steps = laws.anneal_steps in
+      let both = steps j.problem j.pins j.deviation j.seed j.steps count (record { incumbent = j.plan; working = j.work }) (record { incumbent = is.plan; working = is.work }) in
+      with_plans j is _ _ (both.incumbent) (both.working) (j.steps + count) within
+
   found : (name : ℕ) → job_refusal j (Withdraw name) ≡ None → (r : Request) × (request_named j.problem name ≡ Some r) × (is_planned j.pins r ≡ false)
   found name none = by (request_named j.problem name) refl none
     where
@@ -194,6 +202,7 @@ module _ (laws : LowerLaws) (j : JobValue) (is : IsJob j) where
     seed = is.seed;
     steps = is.steps;
   }
+  job_keeps_facts (Anneal count) command none = let t = asked _ _ _ none in annealed_job count (leb-true (j.steps + count) (2 ^ 60) (asked_last _ _ t.1))
 
 pub effects_keep_facts : LowerLaws → EffectsKeepFacts
 effects_keep_facts laws (Loaded j) c is command none = job_keeps_facts laws j is c command none
@@ -207,3 +216,4 @@ effects_keep_facts laws Empty Build is command none = tt
 effects_keep_facts laws Empty (Search count) is command none = tt
 effects_keep_facts laws Empty Checkpoint is command none = tt
 effects_keep_facts laws Empty (Deviation d) is command none = tt
+effects_keep_facts laws Empty (Anneal count) is command none = tt

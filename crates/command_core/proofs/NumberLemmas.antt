@@ -10,7 +10,7 @@ use Rattle.command_core.specs.declared.states.State.TheVariants.{Empty, Loaded}
 use Rattle.command_core.specs.declared.refusals.Refusal.{Refusal}
 use Rattle.command_core.specs.declared.refusals.Refusal.TheVariants.{Range}
 use Rattle.command_core.specs.declared.commands.Command.{Command}
-use Rattle.command_core.specs.declared.commands.Command.TheVariants.{Load, Add, Add1, Withdraw, Pin, Unpin, Build, Search, Checkpoint, Deviation}
+use Rattle.command_core.specs.declared.commands.Command.TheVariants.{Load, Add, Add1, Withdraw, Pin, Unpin, Build, Search, Checkpoint, Deviation, Anneal}
 
 pub next_numbers_rise : NextNumbersRise
 next_numbers_rise j (Load p seed) not_load = absurd (let h : true ≡ false = not_load in cc)
@@ -23,6 +23,7 @@ next_numbers_rise j Build not_load = omega arith
 next_numbers_rise j (Search count) not_load = omega arith
 next_numbers_rise j Checkpoint not_load = omega arith
 next_numbers_rise j (Deviation d) not_load = omega arith
+next_numbers_rise j (Anneal count) not_load = omega arith
 
 rise_from_less : (n m : ℕ) (xs : List ℕ) → n ≤ m → RiseFrom m xs → RiseFrom n xs
 rise_from_less n m [] less rise = tt
@@ -40,6 +41,7 @@ given_first j Build xs not_load rise = rise
 given_first j (Search count) xs not_load rise = rise
 given_first j Checkpoint xs not_load rise = rise
 given_first j (Deviation d) xs not_load rise = rise
+given_first j (Anneal count) xs not_load rise = rise
 
 falls : (b : Bool) → not b ≡ true → b ≡ false
 falls false is = refl
@@ -71,6 +73,7 @@ accepted_fit_records (Loaded j) Build none recorded = refl
 accepted_fit_records (Loaded j) (Search count) none recorded = asked_first _ _ none
 accepted_fit_records (Loaded j) Checkpoint none recorded = absurd (let h : false ≡ true = recorded in cc)
 accepted_fit_records (Loaded j) (Deviation d) none recorded = asked_alone _ none
+accepted_fit_records (Loaded j) (Anneal count) none recorded = absurd (let h : false ≡ true = recorded in cc)
 accepted_fit_records Empty (Load p seed) none recorded = absurd (let h : false ≡ true = recorded in cc)
 accepted_fit_records Empty (Add q a b) none recorded = absurd (let h = none in cc)
 accepted_fit_records Empty (Add1 q s) none recorded = absurd (let h = none in cc)
@@ -81,3 +84,4 @@ accepted_fit_records Empty Build none recorded = refl
 accepted_fit_records Empty (Search count) none recorded = absurd (let h = none in cc)
 accepted_fit_records Empty Checkpoint none recorded = absurd (let h : false ≡ true = recorded in cc)
 accepted_fit_records Empty (Deviation d) none recorded = absurd (let h = none in cc)
+accepted_fit_records Empty (Anneal count) none recorded = absurd (let h : false ≡ true = recorded in cc)

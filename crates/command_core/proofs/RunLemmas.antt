@@ -5,6 +5,7 @@ use Rattle.plan_types.specs.Cost.{CostsAreTotal, CostsAreTransitive, BelowIsAtMo
 use Rattle.route_sched.specs.Cost.{cost_of}
 use Rattle.seeded_search.specs.Steps.{unplanned_names}
 use Rattle.seeded_search.specs.StepLaws.{IncumbentsNeverCostMore}
+use Rattle.anneal_search.specs.AnnealLaws.{AnnealedNeverCostMore}
 use Rattle.command_core.specs.Effects.{effect}
 use Rattle.command_core.specs.Refusing.{refusal}
 use Rattle.command_core.specs.Runs.{after, AreAccepted, changes_requests, changes_pins, is_change, last_change}
@@ -13,7 +14,7 @@ use Rattle.command_core.specs.declared.states.State.{State}
 use Rattle.command_core.specs.declared.states.State.TheVariants.{Empty, Loaded}
 use Rattle.command_core.specs.declared.refusals.Refusal.{Refusal}
 use Rattle.command_core.specs.declared.commands.Command.{Command}
-use Rattle.command_core.specs.declared.commands.Command.TheVariants.{Load, Add, Add1, Withdraw, Pin, Unpin, Build, Search, Checkpoint, Deviation}
+use Rattle.command_core.specs.declared.commands.Command.TheVariants.{Load, Add, Add1, Withdraw, Pin, Unpin, Build, Search, Checkpoint, Deviation, Anneal}
 use Rattle.command_core.proofs.PlacedLemmas.{same_cost, placed_all_cost}
 
 pub runs_keep_facts : EffectsKeepFacts → RunsKeepFacts
@@ -26,7 +27,7 @@ refused r h = absurd (let g = h in cc)
 clash : {X : Type 0} → true ≡ false → X
 clash h = absurd (let g = h in cc)
 
-module _ (total : CostsAreTotal) (transitive : CostsAreTransitive) (below : BelowIsAtMost) (search : IncumbentsNeverCostMore) where
+module _ (total : CostsAreTotal) (transitive : CostsAreTransitive) (below : BelowIsAtMost) (search : IncumbentsNeverCostMore) (anneal : AnnealedNeverCostMore) where
   pub costs_never_rise : CostsNeverRise
   costs_never_rise (Loaded j) (Load p seed) none kept = clash kept
   costs_never_rise (Loaded j) (Add q a b) none kept = clash kept
@@ -39,6 +40,8 @@ module _ (total : CostsAreTotal) (transitive : CostsAreTransitive) (below : Belo
       record { problem = refl; cost = search j.problem j.pins j.deviation j.seed j.steps count (record { incumbent = j.plan; working = j.work }) }
   costs_never_rise (Loaded j) Checkpoint none kept = record { problem = refl; cost = same_cost total transitive below j.problem j.pins j.plan }
   costs_never_rise (Loaded j) (Deviation d) none kept = record { problem = refl; cost = same_cost total transitive below j.problem j.pins j.plan }
+  costs_never_rise (Loaded j) (Anneal count) none kept =
+      record { problem = refl; cost = anneal j.problem j.pins j.deviation j.seed j.steps count (record { incumbent = j.plan; working = j.work }) }
   costs_never_rise Empty (Load p seed) none kept = clash kept
   costs_never_rise Empty (Add q a b) none kept = refused _ none
   costs_never_rise Empty (Add1 q s) none kept = refused _ none
@@ -49,6 +52,7 @@ module _ (total : CostsAreTotal) (transitive : CostsAreTransitive) (below : Belo
   costs_never_rise Empty (Search count) none kept = refused _ none
   costs_never_rise Empty Checkpoint none kept = refused _ none
   costs_never_rise Empty (Deviation d) none kept = refused _ none
+  costs_never_rise Empty (Anneal count) none kept = refused _ none
 
   -- as good, with the same pins
   abbrev IsAsGood : State → State → Type 0
@@ -85,6 +89,7 @@ module _ (total : CostsAreTotal) (transitive : CostsAreTransitive) (below : Belo
   pins_kept (Loaded j) (Search count) none kept = refl
   pins_kept (Loaded j) Checkpoint none kept = refl
   pins_kept (Loaded j) (Deviation d) none kept = refl
+  pins_kept (Loaded j) (Anneal count) none kept = refl
   pins_kept Empty (Load p seed) none kept = clash kept
   pins_kept Empty (Add q a b) none kept = refused _ none
   pins_kept Empty (Add1 q s) none kept = refused _ none
@@ -95,6 +100,7 @@ module _ (total : CostsAreTotal) (transitive : CostsAreTransitive) (below : Belo
   pins_kept Empty (Search count) none kept = refused _ none
   pins_kept Empty Checkpoint none kept = refused _ none
   pins_kept Empty (Deviation d) none kept = refused _ none
+  pins_kept Empty (Anneal count) none kept = refused _ none
 
   neither : (a b : Bool) → (a || b) ≡ false → (a ≡ false) × (b ≡ false)
   neither false b none = (refl, none)

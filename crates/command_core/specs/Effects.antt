@@ -6,13 +6,14 @@ use Rattle.plan_types.specs.declared.requests.Request.{Request}
 use Rattle.plan_audit.specs.Passes.{feasible_alone}
 use Rattle.move_ops.specs.Insertion.{of_vehicle, with_route}
 use Rattle.move_ops.specs.Moves.{is_of_named}
-use Rattle.seeded_search.specs.Steps.{unplanned_names, placed_all, steps}
+use Rattle.seeded_search.specs.Steps.{unplanned_names, placed_all, steps, walked}
+use Rattle.anneal_search.specs.Annealing.{anneal_steps}
 use Rattle.command_core.specs.Job.{JobValue}
 use Rattle.command_core.specs.Wishes.{single_at, pair_at}
 use Rattle.command_core.specs.declared.states.State.{State}
 use Rattle.command_core.specs.declared.states.State.TheVariants.{Empty, Loaded}
 use Rattle.command_core.specs.declared.commands.Command.{Command}
-use Rattle.command_core.specs.declared.commands.Command.TheVariants.{Load, Add, Add1, Withdraw, Pin, Unpin, Build, Search, Checkpoint, Deviation}
+use Rattle.command_core.specs.declared.commands.Command.TheVariants.{Load, Add, Add1, Withdraw, Pin, Unpin, Build, Search, Checkpoint, Deviation, Anneal}
 
 -- a list for each vehicle, with no stop
 abbrev pub no_stops : Instance → List (List ℕ)
@@ -22,7 +23,7 @@ no_stops p = replicate p.fleet []
 abbrev pub loaded : Instance → ℕ → JobValue
 loaded p seed = record { problem = p; pins = no_stops p; plan = no_stops p; work = no_stops p; deviation = 0; seed = seed; steps = 0 }
 
--- Each other command but Search and Checkpoint sets the working plan to the incumbent that it leaves.
+-- Each other command but Search, Anneal and Checkpoint sets the working plan to the incumbent that it leaves.
 
 -- Add, Add1: one more request, unplanned
 abbrev pub added : JobValue → Request → JobValue
@@ -78,6 +79,12 @@ searched j count =
     let s = steps j.problem j.pins j.deviation j.seed j.steps count (record { incumbent = j.plan; working = j.work }) in
     record j { plan = s.incumbent; work = s.working; steps = j.steps + count }
 
+-- Anneal: so many annealing steps, from the number of those already made on
+abbrev pub annealed : JobValue → ℕ → JobValue
+annealed j count =
+    let s = anneal_steps j.problem j.pins j.deviation j.seed j.steps count (walked j.plan j.work) in
+    record j { plan = s.incumbent; work = s.working; steps = j.steps + count }
+
 -- Deviation: how far the working plan may be from the incumbent
 abbrev pub with_deviation : JobValue → ℕ → JobValue
 with_deviation j d = record j { work = j.plan; deviation = d }
@@ -94,6 +101,7 @@ job_after j Build = built j
 job_after j (Search count) = searched j count
 job_after j Checkpoint = j
 job_after j (Deviation d) = with_deviation j d
+job_after j (Anneal count) = annealed j count
 
 -- What a command makes of a state. Before the first Load nothing else is accepted.
 abbrev pub effect : State → Command → State

@@ -11,7 +11,7 @@ use Rattle.command_core.specs.Wishes.{is_spot, is_demand}
 use Rattle.command_core.specs.declared.states.State.{State}
 use Rattle.command_core.specs.declared.states.State.TheVariants.{Empty, Loaded}
 use Rattle.command_core.specs.declared.commands.Command.{Command}
-use Rattle.command_core.specs.declared.commands.Command.TheVariants.{Load, Add, Add1, Withdraw, Pin, Unpin, Build, Search, Checkpoint, Deviation}
+use Rattle.command_core.specs.declared.commands.Command.TheVariants.{Load, Add, Add1, Withdraw, Pin, Unpin, Build, Search, Checkpoint, Deviation, Anneal}
 use Rattle.command_core.specs.declared.refusals.Refusal.{Refusal}
 use Rattle.command_core.specs.declared.refusals.Refusal.TheVariants.{NoInstance, Range, NoSuchRequest, Pinned, NoSuchPlace, NotARoute, NumbersSpent, StepsSpent}
 
@@ -43,10 +43,10 @@ pin_refusal j v k =
 abbrev pub unpin_refusal : Instance → ℕ → Option Refusal
 unpin_refusal p v = if is_vehicle p v then None else Some NoSuchPlace
 
--- so many steps beside those already made
-abbrev pub search_refusal : ℕ → ℕ → Option Refusal
-search_refusal steps count =
-    if not (nat_le 1 count && nat_le count 256) then Some Range else if nat_le (steps + count) (2 ^ 60) then None else Some StepsSpent
+-- so many steps beside those already made, where one command may make so many at most
+abbrev pub steps_refusal : ℕ → ℕ → ℕ → Option Refusal
+steps_refusal most steps count =
+    if not (nat_le 1 count && nat_le count most) then Some Range else if nat_le (steps + count) (2 ^ 60) then None else Some StepsSpent
 
 abbrev pub deviation_refusal : ℕ → Option Refusal
 deviation_refusal d = if nat_le d 1000000000 then None else Some Range
@@ -60,9 +60,10 @@ job_refusal j (Withdraw name) = withdraw_refusal j name
 job_refusal j (Pin v k) = pin_refusal j v k
 job_refusal j (Unpin v) = unpin_refusal j.problem v
 job_refusal j Build = None
-job_refusal j (Search count) = search_refusal j.steps count
+job_refusal j (Search count) = steps_refusal 256 j.steps count
 job_refusal j Checkpoint = None
 job_refusal j (Deviation d) = deviation_refusal d
+job_refusal j (Anneal count) = steps_refusal 65536 j.steps count
 
 -- why a state does: before the first Load, nothing but a Load is accepted
 abbrev pub refusal : State → Command → Option Refusal

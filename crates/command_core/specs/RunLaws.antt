@@ -4,9 +4,9 @@ use Rattle.std.specs.List.{list_all}
 use Rattle.plan_types.specs.Cost.{cost_at_most}
 use Rattle.route_sched.specs.Cost.{cost_of}
 use Rattle.command_core.specs.Job.{JobValue}
-use Rattle.command_core.specs.Effects.{searched, job_after, effect}
+use Rattle.command_core.specs.Effects.{searched, annealed, job_after, effect}
 use Rattle.command_core.specs.Refusing.{refusal}
-use Rattle.command_core.specs.Runs.{IsState, IsCommand, after, AreAccepted, changes_requests, last_change, is_load, given_by_all, is_searching, steps_of, is_recorded, fits_record}
+use Rattle.command_core.specs.Runs.{IsState, IsCommand, after, AreAccepted, changes_requests, last_change, is_load, given_by_all, is_searching, is_annealing, steps_of, is_recorded, fits_record}
 use Rattle.command_core.specs.declared.states.State.{State}
 use Rattle.command_core.specs.declared.states.State.TheVariants.{Empty, Loaded}
 use Rattle.command_core.specs.declared.commands.Command.{Command}
@@ -51,6 +51,14 @@ SearchesAddUp = (j : JobValue) (a b : ℕ) → searched (searched j a) b ≡ sea
 -- law: searches, with checkpoints between them or not, make their steps at once
 abbrev pub RunsAreOneSearch : Type 0
 RunsAreOneSearch = (j : JobValue) (cs : List Command) → list_all is_searching cs ≡ true → after (Loaded j) cs ≡ Loaded (searched j (sum_by steps_of cs))
+
+-- law: so many annealing steps and then so many more are all of them at once
+abbrev pub AnnealingsAddUp : Type 0
+AnnealingsAddUp = (j : JobValue) (a b : ℕ) → annealed (annealed j a) b ≡ annealed j (a + b)
+
+-- law: annealings, with checkpoints between them or not, make their steps at once
+abbrev pub RunsAreOneAnnealing : Type 0
+RunsAreOneAnnealing = (j : JobValue) (cs : List Command) → list_all is_annealing cs ≡ true → after (Loaded j) cs ≡ Loaded (annealed j (sum_by steps_of cs))
 
 -- law: the next number never falls but by a Load
 abbrev pub NextNumbersRise : Type 0

@@ -9,7 +9,7 @@ use Rattle.command_core.specs.Wishes.{is_spot, is_demand}
 use Rattle.command_core.specs.declared.states.State.{State}
 use Rattle.command_core.specs.declared.states.State.TheVariants.{Empty, Loaded}
 use Rattle.command_core.specs.declared.commands.Command.{Command}
-use Rattle.command_core.specs.declared.commands.Command.TheVariants.{Load, Add, Add1, Withdraw, Pin, Unpin, Build, Search, Checkpoint, Deviation}
+use Rattle.command_core.specs.declared.commands.Command.TheVariants.{Load, Add, Add1, Withdraw, Pin, Unpin, Build, Search, Checkpoint, Deviation, Anneal}
 
 -- a state keeps the facts of its job
 abbrev pub IsState : State → Type 0
@@ -43,6 +43,7 @@ changes_requests Build = false
 changes_requests (Search count) = false
 changes_requests Checkpoint = false
 changes_requests (Deviation d) = false
+changes_requests (Anneal count) = false
 
 -- it changes pins alone
 abbrev pub changes_pins : Command → Bool
@@ -81,15 +82,23 @@ is_searching (Search count) = true
 is_searching Checkpoint = true
 is_searching _ = false
 
+-- annealing, or a checkpoint between annealings
+abbrev pub is_annealing : Command → Bool
+is_annealing (Anneal count) = true
+is_annealing Checkpoint = true
+is_annealing _ = false
+
 -- how many steps it makes
 abbrev pub steps_of : Command → ℕ
 steps_of (Search count) = count
+steps_of (Anneal count) = count
 steps_of _ = 0
 
 -- a store writes it down as it is, and not the state that it leaves
 abbrev pub is_recorded : Command → Bool
 is_recorded (Load p seed) = false
 is_recorded Checkpoint = false
+is_recorded (Anneal count) = false
 is_recorded _ = true
 
 -- its fields keep the limits that a record has for them

@@ -8,7 +8,7 @@ use crate::checking::check;
 use crate::commands::Command;
 use crate::loading::load;
 use crate::pinning::{pin, unpin};
-use crate::planning::{build, deviate, search};
+use crate::planning::{anneal, build, deviate, search};
 use crate::refusals::Refusal;
 use crate::states::{Job, State};
 use crate::withdrawing::withdraw;
@@ -54,5 +54,6 @@ fn job_after(alloc: Global, job: &Job, command: &Command) -> Result<Job, Refusal
         Command::Search(count) => search(alloc, job, *count),
         Command::Checkpoint => Ok(job.copy()?),
         Command::Deviation(deviation) => deviate(job, *deviation),
+        Command::Anneal(count) => anneal(alloc, job, *count),
     }
 }

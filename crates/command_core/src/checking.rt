@@ -1,9 +1,9 @@
 //! Why a state refuses a command: `check`, cause by cause in the order of `Refusal`.
 ghost use Rattle.std.specs.Prelude.{◌≡◌, ◌≤◌, ◌^◌, None, Some, MatchResult};
-ghost use Rattle.command_core.specs.Refusing.{is_vehicle, add_refusal, withdraw_refusal, pin_refusal, unpin_refusal, search_refusal, deviation_refusal, job_refusal, refusal};
+ghost use Rattle.command_core.specs.Refusing.{is_vehicle, add_refusal, withdraw_refusal, pin_refusal, unpin_refusal, steps_refusal, deviation_refusal, job_refusal, refusal};
 
 use crate::commands::Command;
-use crate::limits::{MAX_COUNT, MAX_DEVIATION, MAX_STEPS, is_demand, is_spot};
+use crate::limits::{MAX_ANNEAL_COUNT, MAX_COUNT, MAX_DEVIATION, MAX_STEPS, is_demand, is_spot};
 use crate::lists::{is_feasible, is_planned, of_vehicle};
 use crate::refusals::Refusal;
 use crate::states::{Job, State};
@@ -57,8 +57,9 @@ fn job_refusal(job: &Job, command: &Command) -> Option<Refusal>
         Command::Withdraw(name) => withdraw_refusal(job, *name),
         Command::Pin(vehicle, stops) => pin_refusal(job, *vehicle, *stops),
         Command::Unpin(vehicle) => unpin_refusal(problem, *vehicle),
-        Command::Search(count) => search_refusal(job.steps, *count),
+        Command::Search(count) => steps_refusal(u32::from(MAX_COUNT), job.steps, u32::from(*count)),
         Command::Deviation(deviation) => deviation_refusal(*deviation),
+        Command::Anneal(count) => steps_refusal(MAX_ANNEAL_COUNT, job.steps, *count),
     }
 }
 
@@ -119,11 +120,12 @@ fn is_vehicle(problem: &Problem, vehicle: u32) -> bool
     1 <= vehicle && vehicle <= problem.fleet
 }
 
-fn search_refusal(steps: u64, count: u16) -> Option<Refusal>
+// So many steps beside those already made, where one command may make so many at most.
+fn steps_refusal(most: u32, steps: u64, count: u32) -> Option<Refusal>
     requires { steps ≤ 2 ^ 60 }
-    ensures { result ≡ search_refusal steps count }
+    ensures { result ≡ steps_refusal most steps count }
 {
-    if count < 1 || MAX_COUNT < count {
+    if count < 1 || most < count {
         return Some(Refusal::Range);
     }
     if steps + u64::from(count) <= MAX_STEPS {

@@ -43,6 +43,9 @@ pub enum Command {
     Search(u16),
     /// Changes nothing. A store writes the whole state.
     Checkpoint,
-    /// How much longer than the incumbent's the working plan's distance may be, 0..=1,000,000,000.
+    /// How much longer than the incumbent's the working plan's distance may be, 0..=1,000,000,000; in an annealing step,
+    /// than the working plan's before it.
     Deviation(u32),
+    /// So many annealing steps, 1..=65,536. A store writes the whole state.
+    Anneal(u32),
 }

@@ -4,11 +4,11 @@
 //! called by `recover`, and `apply` by `plan_solve` as well. `state_codec` and `checkpoint` write and read the types,
 //! `command_text` the answers (`unplanned_names`).
 //!
-//! Source: this project's own. Requests come in (`Add`, `Add1`), go (`Withdraw`) and are planned (`Build`, `Search`);
-//! `Pin` and `Unpin` say which stops a vehicle keeps at the front of its route.
+//! Source: this project's own. Requests come in (`Add`, `Add1`), go (`Withdraw`) and are planned (`Build`, `Search`,
+//! `Anneal`); `Pin` and `Unpin` say which stops a vehicle keeps at the front of its route.
 //!
 //! How it works: a command makes a new state beside the old one, so want of memory changes nothing. Every command but
-//! `Search` and `Checkpoint` sets the working plan to the incumbent that it leaves.
+//! `Search`, `Anneal` and `Checkpoint` sets the working plan to the incumbent that it leaves.
 //!
 //! Modules, in reading order:
 //! - `limits`: the limits of commands and states
@@ -20,7 +20,7 @@
 //! - `applying`: `apply`, a line for each command
 //! - `loading`, `adding`, `withdrawing`, `pinning`: requests and pins
 //! - `marks`: which requests are unplanned
-//! - `placing`, `planning`: `Build`, `Search` and `Deviation`
+//! - `placing`, `planning`: `Build`, `Search`, `Anneal` and `Deviation`
 //! - `laws`: what commands keep
 //!
 //! Said by `specs/Job.antt`, `Effects.antt`, `Refusing.antt`, `Runs.antt` and `RunLaws.antt`. Proved:
@@ -32,9 +32,11 @@
 //! - `effects_keep_facts`: what accepted commands make of a state keeps the facts of a `Job`
 //! - `costs_never_rise`, `plans_never_cost_more`: the plan costs no more than at any moment since the last change of
 //!   requests or pins
-//! - `searches_add_up`: searches, however cut, are one search of all their steps
+//! - `searches_add_up`, `annealings_add_up`: searches, however cut, are one search of all their steps, annealings one
+//!   annealing
 //! - `given_numbers_are_new`: no stop number is given twice, unless a `Load` begins anew
-//! - `accepted_commands_fit_records`: an accepted command but `Load` and `Checkpoint` fits a record of a journal
+//! - `accepted_commands_fit_records`: an accepted command but `Load`, `Checkpoint` and `Anneal` fits a record of a
+//!   journal
 #![tactic(auto)]
 
 mod adding;
@@ -57,10 +59,10 @@ pub use applying::apply;
 pub use checking::check;
 pub use commands::{Command, Spot};
 pub use laws::{
-    accepted_commands_fit_records, costs_never_rise, effects_keep_facts, given_numbers_are_new,
-    plans_never_cost_more, searches_add_up,
+    accepted_commands_fit_records, annealings_add_up, costs_never_rise, effects_keep_facts,
+    given_numbers_are_new, plans_never_cost_more, searches_add_up,
 };
-pub use limits::{MAX_COUNT, MAX_DEVIATION, MAX_STEPS};
+pub use limits::{MAX_ANNEAL_COUNT, MAX_COUNT, MAX_DEVIATION, MAX_STEPS};
 pub use marks::unplanned_names;
 pub use refusals::Refusal;
 pub use states::{Job, State};

@@ -9,8 +9,10 @@ use plan_types::limits::{MAX_COORDINATE, MAX_DEMAND, MAX_SERVICE, MAX_TIME};
 pub const MAX_DEVIATION: u32 = 1_000_000_000;
 /// How many steps a state may have made.
 pub const MAX_STEPS: u64 = 1 << 60;
-/// How many steps one command may make; the least number is 1.
+/// How many steps of the search one command may make; the least number is 1.
 pub const MAX_COUNT: u16 = 256;
+/// How many annealing steps one command may make; the least number is 1.
+pub const MAX_ANNEAL_COUNT: u32 = 65_536;
 
 /// Whether goods to be picked up or delivered keep the limit of a demand.
 pub(crate) fn is_demand(demand: u32) -> bool

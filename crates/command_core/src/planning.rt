@@ -1,7 +1,7 @@
-//! What is made of a job's plan: requests that are put in, steps of the search, and how far it walks from the
-//! incumbent.
+//! What is made of a job's plan: requests that are put in, steps of the search and of annealing, and how far they may
+//! walk.
 ghost use Rattle.std.specs.Prelude.{◌≡◌, None, IfOk, IfErr};
-ghost use Rattle.command_core.specs.Effects.{built, searched, with_deviation};
+ghost use Rattle.command_core.specs.Effects.{built, searched, annealed, with_deviation};
 ghost use Rattle.command_core.specs.Refusing.{job_refusal};
 
 use crate::commands::Command;
@@ -10,6 +10,7 @@ use crate::marks::unplanned_names;
 use crate::placing::placed_all;
 use crate::refusals::Refusal;
 use crate::states::Job;
+use anneal_search::anneal_steps;
 use seeded_search::{Found, search_steps};
 use std::alloc::Global;
 
@@ -61,6 +62,36 @@ pub(crate) fn search(alloc: Global, job: &Job, count: u16) -> Result<Job, Refusa
         deviation: job.deviation,
         seed: job.seed,
         steps: job.steps + count,
+    })
+}
+
+/// So many annealing steps. Copies the plans once.
+pub(crate) fn anneal(alloc: Global, job: &Job, count: u32) -> Result<Job, Refusal>
+    requires { job_refusal job.now (Command.Anneal count) ≡ None }
+    ensures ok { IfOk result (λ new. new ≡ annealed job.now count) }
+    ensures err { IfErr result (λ r. r ≡ Refusal.OutOfMemory) }
+{
+    effects_keep_facts();
+    let found = anneal_steps(
+        alloc,
+        &job.problem,
+        &job.pins,
+        &job.plan,
+        &job.work,
+        job.deviation,
+        job.seed,
+        job.steps,
+        u64::from(count),
+    )?;
+    let Found { plan, work } = found;
+    Ok(Job {
+        problem: job.problem.copy()?,
+        pins: job.pins.copy()?,
+        plan,
+        work,
+        deviation: job.deviation,
+        seed: job.seed,
+        steps: job.steps + u64::from(count),
     })
 }
 

@@ -17,12 +17,14 @@ pub struct Job {
     pub pins: Pins,
     /// The incumbent: the best plan so far.
     pub plan: Plan,
-    /// The plan that the search walks on from.
+    /// The plan that the next step walks on from.
     pub work: Plan,
-    /// How much longer than the incumbent's the working plan's distance may be, 0..=1,000,000,000.
+    /// How much longer than the incumbent's the working plan's distance may be, 0..=1,000,000,000; in an annealing step,
+    /// than the working plan's before it.
     pub deviation: u32,
     pub seed: u64,
-    /// How many steps the search has made, 0..=2^60. The words of the next one begin at place `16 * steps`.
+    /// How many steps were made, of the search and of annealing, 0..=2^60. The words of the next one begin at place
+    /// `16 * steps`.
     pub steps: u64,
 }
 

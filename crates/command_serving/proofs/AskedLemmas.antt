@@ -7,7 +7,7 @@ use Rattle.std.proofs.lemmas.Bool.{lt-ltb, ltb-true}
 use Rattle.std.proofs.lemmas.List.{take-append-le, drop-append-le, drop_all, take_all}
 use Rattle.plan_types.specs.declared.requests.Kind.{Kind}
 use Rattle.command_core.specs.declared.commands.Command.{Command}
-use Rattle.command_text.specs.Answering.{Fate, Reply, Serving, asked_reply, joined_replies, reply, searched, served}
+use Rattle.command_text.specs.Answering.{Fate, Reply, Serving, asked_reply, carried_all, joined_replies, reply, served}
 use Rattle.command_text.specs.Cutting.{Piece, is_short, pieces_of}
 use Rattle.command_text.specs.Laws.{StatesFollow, cut_at}
 use Rattle.command_text.specs.Readings.{Reading}
@@ -17,7 +17,7 @@ use Rattle.recover.specs.Sessions.{SessionValue}
 use Rattle.command_serving.specs.Input.{CountsTaken, Cuts, Loads}
 use Rattle.command_serving.specs.Acts.{carried_of, fates_of, kept_of, unfailed}
 use Rattle.command_serving.specs.Served.{HasCause, IsCutShort, IsServed, Leads, Tells, as_serving, preceded, still}
-use Rattle.command_serving.specs.Serving.{Answers, CutOff, GoesOn, IsCause, Serves, ServesOn, goes_behind, goes_on, load_told, pieces_behind, silent, still_searched}
+use Rattle.command_serving.specs.Serving.{Answers, CutOff, GoesOn, IsCause, Serves, ServesOn, goes_behind, goes_on, load_told, pieces_behind, silent, still_carried}
 use Rattle.command_serving.specs.declared.answering.Goes.{Goes}
 use Rattle.command_serving.specs.declared.answering.ServeFault.{ServeFault}
 use Rattle.command_serving.specs.declared.answering.Goes.TheVariants.{On, ToEnd}
@@ -117,48 +117,48 @@ module _ {D : Type 0} (on : sectors.Ghosts D) (reading : Reading) (old new : Ses
   tells_first : (g : Serving → Reply) (t : List ℕ) → Tells on old asks t new g → Tells on old (λ s. served reading s (p ∷ ps)) t new (with_rest g)
   tells_first g t l = tells_as old new (with_rest asks) (λ s. served reading s (p ∷ ps)) (with_rest g) t (λ fates. served_first (as_serving old fates)) (tells_within old asks g t l)
 
-  -- what is left of a search, and the pieces behind it
-  rest_is : (later : Option (List ℕ)) (s : Serving) → with_rest (still_searched later) s ≡ still reading later ps s
+  -- what is left of steps, and the pieces behind it
+  rest_is : (later : Option (List Command)) (s : Serving) → with_rest (still_carried later) s ≡ still reading later ps s
   rest_is None s = refl
-  rest_is (Some counts) s = refl
+  rest_is (Some commands) s = refl
 
-  tells_still : (told : SessionValue D) (f : Serving → Reply) (later : Option (List ℕ)) (t : List ℕ) → Tells on told f t new (with_rest (still_searched later)) → Tells on told f t new (still reading later ps)
-  tells_still told f later t l = tells_to told new f (with_rest (still_searched later)) (still reading later ps) t (λ fates. rest_is later (as_serving new fates)) l
+  tells_still : (told : SessionValue D) (f : Serving → Reply) (later : Option (List Command)) (t : List ℕ) → Tells on told f t new (with_rest (still_carried later)) → Tells on told f t new (still reading later ps)
+  tells_still told f later t l = tells_to told new f (with_rest (still_carried later)) (still reading later ps) t (λ fates. rest_is later (as_serving new fates)) l
 
   pub asked_cut : CutOff on old asks x y new → IsCutShort on reading old (p ∷ ps) x y new
   asked_cut (inl c) = record {
-    counts = None;
+    commands = None;
     front = [];
     behind = p ∷ ps;
     split = refl;
     told = old;
     text = [];
     answered = leads_nothing old (λ s. served reading s (p ∷ ps));
-    later_counts = c.later;
+    later_commands = c.later;
     begun = p ∷ [];
     later_behind = ps;
     later_split = refl;
     one = omega arith;
     last = c.last;
-    tells = tells_still old (λ s. served reading s (p ∷ ps)) c.later c.last (tells_first (still_searched c.later) c.last c.tells);
+    tells = tells_still old (λ s. served reading s (p ∷ ps)) c.later c.last (tells_first (still_carried c.later) c.last c.tells);
     len = c.len;
     written = c.written;
   }
   asked_cut (inr c) = record {
-    counts = Some c.counts;
+    commands = Some c.commands;
     front = p ∷ [];
     behind = ps;
     split = refl;
     told = c.told;
     text = c.text;
-    answered = leads_first c.told (λ s. searched s c.counts) c.text c.answered;
-    later_counts = c.later;
+    answered = leads_first c.told (λ s. carried_all s c.commands) c.text c.answered;
+    later_commands = c.later;
     begun = [];
     later_behind = ps;
     later_split = refl;
     one = omega arith;
     last = c.last;
-    tells = tells_still c.told (with_rest (λ s. searched s c.counts)) c.later c.last (tells_within c.told (λ s. searched s c.counts) (still_searched c.later) c.last c.tells);
+    tells = tells_still c.told (with_rest (λ s. carried_all s c.commands)) c.later c.last (tells_within c.told (λ s. carried_all s c.commands) (still_carried c.later) c.last c.tells);
     len = c.len;
     written = c.written;
   }
@@ -353,14 +353,14 @@ module _ {D : Type 0} {on : sectors.Ghosts D} (reading : Reading) (old mid new :
 pub cut_between : {D : Type 0} {on : sectors.Ghosts D} (reading : Reading) (old mid : SessionValue D) (pieces front behind : List Piece) (x y : Option (List ℕ)) → pieces ≡ front ++ behind
     → Serves on old (λ s. served reading s pieces) x y mid (λ s. served reading s behind) → IsCutShort on reading old pieces x y mid
 cut_between reading old mid pieces front behind x y split serves = record {
-  counts = None;
+  commands = None;
   front = front;
   behind = behind;
   split = split;
   told = mid;
   text = serves.text;
   answered = serves.leads;
-  later_counts = None;
+  later_commands = None;
   begun = [];
   later_behind = behind;
   later_split = refl;
@@ -379,14 +379,14 @@ cut_at_once reading old pieces x = cut_between reading old old pieces [] pieces 
 cut_behind : {D : Type 0} {on : sectors.Ghosts D} (reading : Reading) (old mid new : SessionValue D) (pieces front behind : List Piece) (x y z : Option (List ℕ)) → pieces ≡ front ++ behind
     → Serves on old (λ s. served reading s pieces) x y mid (λ s. served reading s behind) → IsCutShort on reading mid behind y z new → IsCutShort on reading old pieces x z new
 cut_behind reading old mid new pieces front behind x y z split serves c = record {
-  counts = c.counts;
+  commands = c.commands;
   front = front ++ c.front;
   behind = c.behind;
   split = joined_split pieces front c.front behind c.behind split c.split;
   told = c.told;
   text = serves.text ++ c.text;
-  answered = leads_on old mid c.told (λ s. served reading s pieces) (λ s. served reading s behind) (still reading c.counts c.behind) serves.text c.text serves.leads c.answered;
-  later_counts = c.later_counts;
+  answered = leads_on old mid c.told (λ s. served reading s pieces) (λ s. served reading s behind) (still reading c.commands c.behind) serves.text c.text serves.leads c.answered;
+  later_commands = c.later_commands;
   begun = c.begun;
   later_behind = c.later_behind;
   later_split = c.later_split;

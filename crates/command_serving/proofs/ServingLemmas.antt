@@ -9,12 +9,13 @@ use Rattle.command_core.specs.Refusing.{refusal}
 use Rattle.command_core.specs.declared.commands.Command.{Command}
 use Rattle.command_core.specs.declared.refusals.Refusal.{Refusal}
 use Rattle.command_core.specs.declared.refusals.Refusal.TheVariants as core
-use Rattle.command_text.specs.Answering.{Fate, Done, NoMemory, Failed, Reply, Serving, answered, at_line, by_fate, carried, counts_of, next_fate, plain, searched, searched_or, tried, unless_broken, with_command, with_text}
+use Rattle.command_text.specs.Answering.{Fate, Done, NoMemory, Failed, Reply, Serving, answered, at_line, by_fate, carried, carried_all, commands_of, made_or, makes_steps, next_fate, plain, steps_to_make, told_behind, tried, unless_broken, with_command, with_text}
 use Rattle.command_core.specs.declared.states.State.{State}
-use Rattle.command_core.specs.declared.commands.Command.TheVariants as command
 use Rattle.command_text.specs.Answering.{Spent as SpentFate}
 use Rattle.command_text.specs.Answers.{answer_text, line}
 use Rattle.command_text.specs.declared.answers.Answer.{Answer}
+use Rattle.command_text.specs.declared.steps.Goal.{Goal}
+use Rattle.command_text.specs.declared.steps.Steps.{Steps as StepsLeft}
 use Rattle.command_text.specs.declared.answers.Answer.TheVariants as answer
 use Rattle.recover.specs.Applying.{IsAnswer, IsCutOff, IsDone, spent}
 use Rattle.recover.specs.Sessions.{SessionValue}
@@ -24,7 +25,7 @@ use Rattle.command_core.specs.Runs.{after}
 use Rattle.command_serving.specs.Streams.{Puts}
 use Rattle.command_serving.specs.Acts.{Applied, BeginsWith, carried_of, fates_of, kept_of, unfailed}
 use Rattle.command_serving.specs.Served.{Leads, Tells, as_serving, preceded}
-use Rattle.command_serving.specs.Serving.{Answers, IsAppliedOn, Serves, denied, silent, still_searched}
+use Rattle.command_serving.specs.Serving.{Answers, IsAppliedOn, Serves, denied, progress_of, silent, still_carried}
 use Rattle.command_serving.proofs.ActLemmas.{asks_both, begins_as, begins_at_all, carried_both, fates_before, run_both}
 use Rattle.recover.specs.declared.replies.Reply.{Reply as SessionReply}
 use Rattle.sector_disk.specs.declared.sectors.Sectors as sectors
@@ -105,18 +106,18 @@ tells_to a b f g g' t same p = record { acts = p.acts; run = p.run; says = λ la
 pub serves_told : {D : Type 0} {on : sectors.Ghosts D} (a b : SessionValue D) (f g : Serving → Reply) (t : List ℕ) (x y : Option (List ℕ)) → Tells on a f t b g → Appends x y t → Serves on a f x y b g
 serves_told a b f g t x y p written = record { text = t; leads = leads_told a b f g t p; written = written }
 
-pub answers_told : {D T E : Type 0} {on : sectors.Ghosts D} (r : Result T E) (a b : SessionValue D) (f : Serving → Reply) (later : Option (List ℕ)) (t : List ℕ) (x y : Option (List ℕ)) → Tells on a f t b (still_searched later) → Puts x y r t
-    → Answers on r a f x y b (still_searched later)
-answers_told (Ok done) a b f later t x y p written = serves_told a b f (still_searched later) t x y p written
+pub answers_told : {D T E : Type 0} {on : sectors.Ghosts D} (r : Result T E) (a b : SessionValue D) (f : Serving → Reply) (later : Option (List Command)) (t : List ℕ) (x y : Option (List ℕ)) → Tells on a f t b (still_carried later) → Puts x y r t
+    → Answers on r a f x y b (still_carried later)
+answers_told (Ok done) a b f later t x y p written = serves_told a b f (still_carried later) t x y p written
 answers_told (Err fault) a b f later t x y p part = inl (record { last = t; later = later; tells = p; len = part.len; written = part.written })
 
 -- behind what a search has told so far
-pub answers_behind : {D T E : Type 0} {on : sectors.Ghosts D} (r : Result T E) (a b c : SessionValue D) (f : Serving → Reply) (later : Option (List ℕ)) (counts t : List ℕ) (x y z : Option (List ℕ)) → Serves on a f x y b (λ s. searched s counts)
-    → Tells on b (λ s. searched s counts) t c (still_searched later) → Puts y z r t → Answers on r a f x z c (still_searched later)
-answers_behind (Ok done) a b c f later counts t x y z p q written =
-    serves_on a b c f (λ s. searched s counts) (still_searched later) x y z p (serves_told b c (λ s. searched s counts) (still_searched later) t y z q written)
-answers_behind (Err fault) a b c f later counts t x y z p q part = inr (record {
-  counts = counts;
+pub answers_behind : {D T E : Type 0} {on : sectors.Ghosts D} (r : Result T E) (a b c : SessionValue D) (f : Serving → Reply) (later : Option (List Command)) (commands : List Command) (t : List ℕ) (x y z : Option (List ℕ)) → Serves on a f x y b (λ s. carried_all s commands)
+    → Tells on b (λ s. carried_all s commands) t c (still_carried later) → Puts y z r t → Answers on r a f x z c (still_carried later)
+answers_behind (Ok done) a b c f later commands t x y z p q written =
+    serves_on a b c f (λ s. carried_all s commands) (still_carried later) x y z p (serves_told b c (λ s. carried_all s commands) (still_carried later) t y z q written)
+answers_behind (Err fault) a b c f later commands t x y z p q part = inr (record {
+  commands = commands;
   told = b;
   text = p.text;
   answered = p.leads;
@@ -130,12 +131,12 @@ answers_behind (Err fault) a b c f later counts t x y z p q part = inr (record {
 pub answers_as : {D T E : Type 0} (on : sectors.Ghosts D) (r : Result T E) (a b : SessionValue D) (f f' g : Serving → Reply) (x y : Option (List ℕ)) → ((fates : List Fate) → f' (as_serving a fates) ≡ f (as_serving a fates)) → Answers on r a f x y b g
     → Answers on r a f' x y b g
 answers_as on (Ok done) a b f f' g x y same p = serves_as a b f f' g x y same p
-answers_as on (Err fault) a b f f' g x y same (inl p) = inl (record { last = p.last; later = p.later; tells = tells_as a b f f' (still_searched p.later) p.last same p.tells; len = p.len; written = p.written })
+answers_as on (Err fault) a b f f' g x y same (inl p) = inl (record { last = p.last; later = p.later; tells = tells_as a b f f' (still_carried p.later) p.last same p.tells; len = p.len; written = p.written })
 answers_as on (Err fault) a b f f' g x y same (inr p) = inr (record {
-  counts = p.counts;
+  commands = p.commands;
   told = p.told;
   text = p.text;
-  answered = leads_as a p.told f f' (λ s. searched s p.counts) p.text same p.answered;
+  answered = leads_as a p.told f f' (λ s. carried_all s p.commands) p.text same p.answered;
   last = p.last;
   later = p.later;
   tells = p.tells;
@@ -290,60 +291,77 @@ module _ {D : Type 0} (on : sectors.Ghosts D) (old new : SessionValue D) (comman
 pub tells_same : {D : Type 0} {on : sectors.Ghosts D} (s : SessionValue D) (f : Serving → Reply) (a : Answer) → ((fates : List Fate) → f (as_serving s fates) ≡ answered (as_serving s fates) a) → Tells on s f (line (answer_text a)) s silent
 tells_same s f a same = tells_as s s (λ t. answered t a) f silent (line (answer_text a)) same (tells_answer s a)
 
--- ---- a search
+-- ---- steps
 
-pub searched_cons : (s : Serving) (n : ℕ) (ns : List ℕ) → searched s (n ∷ ns) ≡ carried s (command.Search n) (λ t. with_text (at_line t.state) (searched t ns))
-unfolding searched
-searched_cons s n ns = refl
+carried_cons : (s : Serving) (c : Command) (cs : List Command) → carried_all s (c ∷ cs) ≡ carried s c (λ t. with_text (told_behind c t.state) (carried_all t cs))
+unfolding carried_all
+carried_cons s c cs = refl
 
-pub searched_none : (s : Serving) → searched s (counts_of 0) ≡ answered s answer.Ok
-unfolding searched counts_of
-searched_none s = refl
+carried_none : (s : Serving) → carried_all s [] ≡ answered s answer.Ok
+unfolding carried_all
+carried_none s = refl
 
--- a piece is carried out, and then told
-pub piece_done : {D : Type 0} {on : sectors.Ghosts D} (old mid : SessionValue D) (count left : ℕ) (ns : List ℕ) (reply : SessionReply) (x : Unit {0}) → counts_of left ≡ count ∷ ns
-    → IsAppliedOn on old (command.Search count) reply mid → reply.answer ≡ Ok x → Tells on old (λ s. searched s (counts_of left)) (at_line mid.state) mid (λ s. searched s ns)
-piece_done {on = on} old mid count left ns reply x counts applied is =
-    let done : Serving → Reply = λ t. with_text (at_line t.state) (searched t ns) in
-    let p : Tells on old (λ s. searched s (counts_of left)) [] mid done = tells_as old mid (λ s. carried s (command.Search count) done) (λ s. searched s (counts_of left)) done []
-    (λ fates. ap (searched (as_serving old fates)) counts ∙ searched_cons (as_serving old fates) count ns) (goes_on on old mid (command.Search count) reply applied done x is) in
+-- the state that a command leaves once it is carried out
+pub state_done : {D : Type 0} (on : sectors.Ghosts D) (old new : SessionValue D) (command : Command) (reply : SessionReply) (x : Unit {0}) → IsAppliedOn on old command reply new → reply.answer ≡ Ok x → new.state ≡ effect old.state command
+state_done on old new command reply x applied e = (answered_so on old new command reply applied (Ok x) e).makes.state
+
+-- a command is carried out, and then told
+pub next_done : {D : Type 0} {on : sectors.Ghosts D} (old mid : SessionValue D) (command : Command) (all rest : List Command) (reply : SessionReply) (x : Unit {0}) → all ≡ command ∷ rest
+    → IsAppliedOn on old command reply mid → reply.answer ≡ Ok x → Tells on old (λ s. carried_all s all) (told_behind command mid.state) mid (λ s. carried_all s rest)
+next_done {on = on} old mid command all rest reply x is applied ok =
+    let done : Serving → Reply = λ t. with_text (told_behind command t.state) (carried_all t rest) in
+    let p : Tells on old (λ s. carried_all s all) [] mid done = tells_as old mid (λ s. carried s command done) (λ s. carried_all s all) done []
+    (λ fates. ap (carried_all (as_serving old fates)) is ∙ carried_cons (as_serving old fates) command rest) (goes_on on old mid command reply applied done x ok) in
     record { acts = p.acts; run = p.run; says = λ later. p.says later; asks = p.asks; state = p.state; few = p.few }
 
--- a piece is not carried out
-pub piece_denied : {D : Type 0} {on : sectors.Ghosts D} (old new : SessionValue D) (count left : ℕ) (ns : List ℕ) (reply : SessionReply) (d : Denial) → counts_of left ≡ count ∷ ns
-    → IsAppliedOn on old (command.Search count) reply new → reply.answer ≡ Err d → Tells on old (λ s. searched s (counts_of left)) (line (answer_text (denied d))) new silent
-piece_denied {on = on} old new count left ns reply d counts applied is =
-    let done : Serving → Reply = λ t. with_text (at_line t.state) (searched t ns) in
-    tells_as old new (λ s. carried s (command.Search count) done) (λ s. searched s (counts_of left)) silent (line (answer_text (denied d)))
-    (λ fates. ap (searched (as_serving old fates)) counts ∙ searched_cons (as_serving old fates) count ns) (ends_with on old new (command.Search count) reply applied done d is)
+-- the same of the first command of steps, where it is told as the code does
+pub step_done : {D : Type 0} {on : sectors.Ghosts D} (old mid : SessionValue D) (steps rest : StepsLeft) (command : Command) (is_told : Bool) (reply : SessionReply) (x : Unit {0})
+    → commands_of steps old.state ≡ command ∷ commands_of rest (effect old.state command) → is_told ≡ makes_steps command → IsAppliedOn on old command reply mid → reply.answer ≡ Ok x
+    → Tells on old (λ s. carried_all s (commands_of steps old.state)) (progress_of is_told mid) mid (λ s. carried_all s (commands_of rest mid.state))
+step_done {on = on} old mid steps rest command is_told reply x follows told applied ok =
+    let left : mid.state ≡ effect old.state command = state_done on old mid command reply x applied ok in
+    let text : told_behind command mid.state ≡ progress_of is_told mid = ap (λ (b : Bool). if b then at_line mid.state else []) (sym told) in
+    let tells = next_done old mid command (commands_of steps old.state) (commands_of rest (effect old.state command)) reply x follows applied ok in
+    let here : Tells on old (λ s. carried_all s (commands_of steps old.state)) (told_behind command mid.state) mid (λ s. carried_all s (commands_of rest mid.state)) =
+    subst (λ (s : State). Tells on old (λ t. carried_all t (commands_of steps old.state)) (told_behind command mid.state) mid (λ t. carried_all t (commands_of rest s))) (sym left) tells in
+    subst (λ (t : List ℕ). Tells on old (λ s. carried_all s (commands_of steps old.state)) t mid (λ s. carried_all s (commands_of rest mid.state))) text here
 
--- all pieces are done
-pub search_ended : {D : Type 0} {on : sectors.Ghosts D} (s : SessionValue D) (left : ℕ) → left ≡ 0 → Tells on s (λ t. searched t (counts_of left)) (line (answer_text answer.Ok)) s silent
-search_ended {on = on} s left none =
-    subst (λ n. Tells on s (λ t. searched t (counts_of n)) (line (answer_text answer.Ok)) s silent) (sym none)
-    (tells_same s (λ t. searched t (counts_of 0)) answer.Ok (λ fates. searched_none (as_serving s fates)))
+-- a command is not carried out
+pub next_denied : {D : Type 0} {on : sectors.Ghosts D} (old new : SessionValue D) (command : Command) (all rest : List Command) (reply : SessionReply) (d : Denial) → all ≡ command ∷ rest
+    → IsAppliedOn on old command reply new → reply.answer ≡ Err d → Tells on old (λ s. carried_all s all) (line (answer_text (denied d))) new silent
+next_denied {on = on} old new command all rest reply d is applied err =
+    let done : Serving → Reply = λ t. with_text (told_behind command t.state) (carried_all t rest) in
+    tells_as old new (λ s. carried s command done) (λ s. carried_all s all) silent (line (answer_text (denied d)))
+    (λ fates. ap (carried_all (as_serving old fates)) is ∙ carried_cons (as_serving old fates) command rest) (ends_with on old new command reply applied done d err)
 
--- ---- before a search
+-- all are carried out
+pub all_done : {D : Type 0} {on : sectors.Ghosts D} (s : SessionValue D) (all : List Command) → all ≡ [] → Tells on s (λ t. carried_all t all) (line (answer_text answer.Ok)) s silent
+all_done {on = on} s all none =
+    subst (λ cs. Tells on s (λ t. carried_all t cs) (line (answer_text answer.Ok)) s silent) (sym none)
+    (tells_same s (λ t. carried_all t []) answer.Ok (λ fates. carried_none (as_serving s fates)))
 
-abbrev by_steps : (State → Result ℕ Refusal) → Serving → Reply
-by_steps steps s = unless_broken s (searched_or s (steps s.state))
+-- ---- before steps
 
-pub search_broken : (steps : State → Result ℕ Refusal) (s : Serving) → s.is_broken ≡ true → by_steps steps s ≡ answered s answer.Broken
-search_broken steps s e = rw e refl
+abbrev by_goal : Goal → Serving → Reply
+by_goal goal s = unless_broken s (made_or s (steps_to_make s.state goal))
 
-pub search_refused : (steps : State → Result ℕ Refusal) (s : Serving) (r : Refusal) → s.is_broken ≡ false → steps s.state ≡ Err r → by_steps steps s ≡ answered s (answer.Refused r)
-search_refused steps s r e f = rw (e, f) refl
+goal_broken : (goal : Goal) (s : Serving) → s.is_broken ≡ true → by_goal goal s ≡ answered s answer.Broken
+goal_broken goal s e = rw e refl
 
-pub search_begun : (steps : State → Result ℕ Refusal) (s : Serving) (n : ℕ) → s.is_broken ≡ false → steps s.state ≡ Ok n → by_steps steps s ≡ searched s (counts_of n)
-search_begun steps s n e f = rw (e, f) refl
+goal_refused : (goal : Goal) (s : Serving) (r : Refusal) → s.is_broken ≡ false → steps_to_make s.state goal ≡ Err r → by_goal goal s ≡ answered s (answer.Refused r)
+goal_refused goal s r e f = rw (e, f) refl
 
-pub steps_broken : {D : Type 0} {on : sectors.Ghosts D} (steps : State → Result ℕ Refusal) (s : SessionValue D) → s.is_broken ≡ true → Tells on s (by_steps steps) (line (answer_text answer.Broken)) s silent
-steps_broken steps s e = tells_same s (by_steps steps) answer.Broken (λ fates. search_broken steps (as_serving s fates) e)
+goal_begun : (goal : Goal) (s : Serving) (steps : StepsLeft) → s.is_broken ≡ false → steps_to_make s.state goal ≡ Ok steps → by_goal goal s ≡ carried_all s (commands_of steps s.state)
+goal_begun goal s steps e f = rw (e, f) refl
 
-pub steps_refused : {D : Type 0} {on : sectors.Ghosts D} (steps : State → Result ℕ Refusal) (s : SessionValue D) (r : Refusal) → s.is_broken ≡ false → steps s.state ≡ Err r
-    → Tells on s (by_steps steps) (line (answer_text (answer.Refused r))) s silent
-steps_refused steps s r e f = tells_same s (by_steps steps) (answer.Refused r) (λ fates. search_refused steps (as_serving s fates) r e f)
+pub steps_broken : {D : Type 0} {on : sectors.Ghosts D} (goal : Goal) (s : SessionValue D) → s.is_broken ≡ true → Tells on s (by_goal goal) (line (answer_text answer.Broken)) s silent
+steps_broken goal s e = tells_same s (by_goal goal) answer.Broken (λ fates. goal_broken goal (as_serving s fates) e)
 
-pub steps_begun : {D T E : Type 0} (on : sectors.Ghosts D) (told : Result T E) (steps : State → Result ℕ Refusal) (s new : SessionValue D) (n : ℕ) (o y : Option (List ℕ)) → s.is_broken ≡ false → steps s.state ≡ Ok n
-    → Answers on told s (λ t. searched t (counts_of n)) o y new silent → Answers on told s (by_steps steps) o y new silent
-steps_begun on told steps s new n o y e f answers = answers_as on told s new (λ t. searched t (counts_of n)) (by_steps steps) silent o y (λ fates. search_begun steps (as_serving s fates) n e f) answers
+pub steps_refused : {D : Type 0} {on : sectors.Ghosts D} (goal : Goal) (s : SessionValue D) (r : Refusal) → s.is_broken ≡ false → steps_to_make s.state goal ≡ Err r
+    → Tells on s (by_goal goal) (line (answer_text (answer.Refused r))) s silent
+steps_refused goal s r e f = tells_same s (by_goal goal) (answer.Refused r) (λ fates. goal_refused goal (as_serving s fates) r e f)
+
+pub steps_begun : {D T E : Type 0} (on : sectors.Ghosts D) (told : Result T E) (goal : Goal) (s new : SessionValue D) (steps : StepsLeft) (o y : Option (List ℕ)) → s.is_broken ≡ false → steps_to_make s.state goal ≡ Ok steps
+    → Answers on told s (λ t. carried_all t (commands_of steps s.state)) o y new silent → Answers on told s (by_goal goal) o y new silent
+steps_begun on told goal s new steps o y e f answers =
+    answers_as on told s new (λ t. carried_all t (commands_of steps s.state)) (by_goal goal) silent o y (λ fates. goal_begun goal (as_serving s fates) steps e f) answers

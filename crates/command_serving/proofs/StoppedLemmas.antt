@@ -29,7 +29,7 @@ module _ {D : Type 0} (on : sectors.Ghosts D) where
       record {
         run = run_both on old cut.told new first last cut.answered.run cut.tells.run;
         asks = begins_as (kept_of (first ++ last)) _ _ (ap all (sym (append-nil (unfailed (fates_of (first ++ last))))))
-            (asks_both first last old cut.told (λ s. served reading s (pieces_of input)) (still reading cut.counts cut.behind) cut.text cut.answered.says cut.answered.asks cut.tells.asks []);
+            (asks_both first last old cut.told (λ s. served reading s (pieces_of input)) (still reading cut.commands cut.behind) cut.text cut.answered.says cut.answered.asks cut.tells.asks []);
       }
 
 pub weaker : (P Q : State → Type 0) → ((state : State) → P state → Q state) → (outcome : Result State StoreFault) → GivesUnlessFailed P outcome → GivesUnlessFailed Q outcome

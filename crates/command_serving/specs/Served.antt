@@ -3,7 +3,7 @@ use Rattle.std.specs.Prelude.{◌≡◌, ◌≤◌, ◌++◌, ◌^◌, ◌⊎◌
 use Rattle.std.specs.Io.KnownBytes.{Appends}
 use Rattle.command_core.specs.Runs.{after}
 use Rattle.command_core.specs.declared.commands.Command.{Command}
-use Rattle.command_text.specs.Answering.{Fate, Reply, Serving, joined_replies, searched, served}
+use Rattle.command_text.specs.Answering.{Fate, Reply, Serving, carried_all, joined_replies, served}
 use Rattle.command_text.specs.Cutting.{Piece, pieces_of}
 use Rattle.command_text.specs.Readings.{Reading}
 use Rattle.command_serving.specs.declared.answering.ServeFault.{ServeFault}
@@ -21,10 +21,10 @@ as_serving s fates = record { state = s.state; is_broken = s.is_broken; fates = 
 abbrev pub preceded : List ℕ → List Command → Reply → Reply
 preceded text commands r = record { text = text ++ r.text; commands = commands ++ r.commands; left = r.left }
 
--- what is still to be answered: these counts of a search, if one is under way, and then these pieces
-abbrev pub still : Reading → Option (List ℕ) → List Piece → Serving → Reply
+-- what is still to be answered: these commands of a line that asks for steps, if one is under way, and then these pieces
+abbrev pub still : Reading → Option (List Command) → List Piece → Serving → Reply
 still reading None pieces s = served reading s pieces
-still reading (Some counts) pieces s = let r = searched s counts in joined_replies r (served reading r.left pieces)
+still reading (Some commands) pieces s = let r = carried_all s commands in joined_replies r (served reading r.left pieces)
 
 module _ {D : Type 0} (on : sectors.Ghosts D) where
   -- By these acts the session went from old to new: their commands and replies are a run. What was written is what the session answers to the
@@ -58,24 +58,24 @@ module _ {D : Type 0} (on : sectors.Ghosts D) where
     pub few : length acts ≤ 1
 
   -- The serving ended within the pieces, with one answer written in part or not at all. Those before it were written, and the session was then at
-  -- `told`, with a search and the last pieces still to be answered. It may have carried out the command that the last answer tells: what would be
-  -- answered behind that one is what the session says now to the rest of the search and the pieces.
+  -- `told`, with steps and the last pieces still to be answered. It may have carried out the command that the last answer tells: what would be
+  -- answered behind that one is what the session says now to the rest of the steps and the pieces.
   pub record IsCutShort (reading : Reading) (old : SessionValue D) (pieces : List Piece) (before after_it : Option (List ℕ)) (new : SessionValue D) : Type 0 where
-    pub counts : Option (List ℕ)
+    pub commands : Option (List Command)
     pub front : List Piece
     pub behind : List Piece
     pub split : pieces ≡ front ++ behind
     pub told : SessionValue D
     pub text : List ℕ
-    pub answered : Leads old (λ s. served reading s pieces) text told (still reading counts behind)
-    pub later_counts : Option (List ℕ)
+    pub answered : Leads old (λ s. served reading s pieces) text told (still reading commands behind)
+    pub later_commands : Option (List Command)
     -- the piece that the last answer begins, if it begins one
     pub begun : List Piece
     pub later_behind : List Piece
     pub later_split : behind ≡ begun ++ later_behind
     pub one : length begun ≤ 1
     pub last : List ℕ
-    pub tells : Tells told (still reading counts behind) last new (still reading later_counts later_behind)
+    pub tells : Tells told (still reading commands behind) last new (still reading later_commands later_behind)
     pub len : ℕ
     pub written : Appends before after_it (text ++ take len last)
 

@@ -1,7 +1,7 @@
 -- What a session did and what was written, as replies say it.
-use Rattle.std.specs.Prelude.{◌≡◌, ◌++◌, ◌⊎◌, ℕ, Bool, true, false, List, [], take, Option, Some, None, Result, MatchResult}
+use Rattle.std.specs.Prelude.{◌≡◌, ◌++◌, ◌⊎◌, ℕ, Bool, true, false, if◌then◌else◌, List, [], take, Option, Some, None, Result, MatchResult}
 use Rattle.std.specs.Io.KnownBytes.{Appends}
-use Rattle.command_text.specs.Answering.{Reply, Serving, at_line, answered, load, next_fate, searched, served, unless_broken}
+use Rattle.command_text.specs.Answering.{Reply, Serving, at_line, answered, carried_all, load, next_fate, served, unless_broken}
 use Rattle.command_text.specs.declared.answers.Answer.{Answer}
 use Rattle.command_text.specs.declared.answers.Answer.TheVariants as answer
 use Rattle.command_core.specs.declared.refusals.Refusal.TheVariants as refusal
@@ -41,28 +41,28 @@ pub record Serves {D : Type 0} (on : sectors.Ghosts D) (old : SessionValue D) (f
   pub leads : Leads on old from text new to
   pub written : Appends before after text
 
--- what a search of these counts still answers, if one is under way
-abbrev pub still_searched : Option (List ℕ) → Serving → Reply
-still_searched None = silent
-still_searched (Some counts) = λ s. searched s counts
+-- what these commands of a line that asks for steps still answer, if one is under way
+abbrev pub still_carried : Option (List Command) → Serving → Reply
+still_carried None = silent
+still_carried (Some commands) = λ s. carried_all s commands
 
 -- one answer was written in part or not at all
 pub record CutAtOnce {D : Type 0} (on : sectors.Ghosts D) (old : SessionValue D) (from : Serving → Reply) (before after : Option (List ℕ)) (new : SessionValue D) : Type 0 where
   pub last : List ℕ
-  pub later : Option (List ℕ)
-  pub tells : Tells on old from last new (still_searched later)
+  pub later : Option (List Command)
+  pub tells : Tells on old from last new (still_carried later)
   pub len : ℕ
   pub written : Appends before after (take len last)
 
--- so it was behind what a search has told
+-- so it was behind what steps have told
 pub record CutWithin {D : Type 0} (on : sectors.Ghosts D) (old : SessionValue D) (from : Serving → Reply) (before after : Option (List ℕ)) (new : SessionValue D) : Type 0 where
-  pub counts : List ℕ
+  pub commands : List Command
   pub told : SessionValue D
   pub text : List ℕ
-  pub answered : Leads on old from text told (λ s. searched s counts)
+  pub answered : Leads on old from text told (λ s. carried_all s commands)
   pub last : List ℕ
-  pub later : Option (List ℕ)
-  pub tells : Tells on told (λ s. searched s counts) last new (still_searched later)
+  pub later : Option (List Command)
+  pub tells : Tells on told (λ s. carried_all s commands) last new (still_carried later)
   pub len : ℕ
   pub written : Appends before after (text ++ take len last)
 
@@ -81,9 +81,9 @@ denied denial.Spent = answer.Spent
 denied denial.OutOfMemory = answer.Refused refusal.OutOfMemory
 denied denial.DeviceFault = answer.DeviceFault
 
--- how far the search is
-abbrev pub at_line_of : {D : Type 0} → SessionValue D → List ℕ
-at_line_of s = at_line s.state
+-- how far the steps are, where that is told
+abbrev pub progress_of : {D : Type 0} → Bool → SessionValue D → List ℕ
+progress_of is_told s = if is_told then at_line s.state else []
 
 -- the session is broken, or it has no instance, and this is the answer that tells it
 abbrev pub HasNoJob : Bool → State → Answer → Type 0

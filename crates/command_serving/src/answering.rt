@@ -5,8 +5,7 @@ ghost use Rattle.std.specs.Prelude.{◌≡◌, ◌≤◌, ◌++◌, IfErr, IfOk,
 ghost use Rattle.std.specs.Io.KnownBytes.{Appends};
 ghost use Rattle.plan_types.specs.Instance.{Instance};
 ghost use Rattle.instance_read.specs.declared.faults.ReadFault.{ReadFault};
-ghost use Rattle.command_text.specs.Answering.{counts_of, next_stated, plain, printed, refused, searched, searched_or, shown, unless_broken};
-ghost use Rattle.command_text.specs.Answering.{steps_to_reach, steps_to_search};
+ghost use Rattle.command_text.specs.Answering.{carried_all, commands_of, made_or, next_stated, plain, printed, refused, shown, steps_to_make, unless_broken};
 ghost use Rattle.command_text.specs.Laws.{cut_at};
 ghost use Rattle.command_text.specs.Readings.{IsReading, Reading};
 ghost use Rattle.command_text.specs.Answers.{answer_text, line};
@@ -14,7 +13,7 @@ ghost use Rattle.command_core.specs.declared.states.State.TheVariants.{Loaded};
 ghost use Rattle.command_serving.specs.Input.{CountsTaken, left_of};
 ghost use Rattle.command_serving.specs.Streams.{Puts};
 ghost use Rattle.command_serving.specs.Served.{EndsOrIsCut, HasCause, Tells};
-ghost use Rattle.command_serving.specs.Serving.{Answers, GoesOn, HasNoJob, IsAppliedOn, IsCause, at_line_of, denied, goes_behind, load_reply, load_told, silent};
+ghost use Rattle.command_serving.specs.Serving.{Answers, GoesOn, HasNoJob, IsAppliedOn, IsCause, denied, goes_behind, load_reply, load_told, progress_of, silent};
 ghost use Rattle.command_serving.specs.Stopped.{RunsLeave};
 ghost use Rattle.command_serving.specs.declared.answering.ServeFault.TheVariants.{WriteFault};
 
@@ -22,8 +21,8 @@ use crate::input::{Input, LoadText, Unread};
 use crate::streams::{Failed, Sink, Source};
 use command_core::{Command, Job, Refusal, State};
 use command_text::{
-    Answer, Asked, at_line, help_lines, next_count, next_line, pieces_follow, print, read_instance,
-    show, states_follow, steps_to_reach, steps_to_search,
+    Answer, Asked, Goal, Steps, at_line, help_lines, makes_steps, next_command, next_line,
+    pieces_follow, print, read_instance, show, states_follow, steps_to_make,
 };
 use plan_types::Kind;
 use recover::{Denial, Reply, Session, runs_add_up};
@@ -166,8 +165,7 @@ fn serve_asked<D: Sectors, R: Source, W: Sink>(
         Asked::BadLine => once(tell(writer, Answer::BadLine), Goes::On),
         Asked::Refused(refusal) => once(tell(writer, refused(session, refusal)), Goes::On),
         Asked::Plain(command) => once(tell(writer, applied(alloc, session, command)), Goes::On),
-        Asked::Search(steps) => once(serve_search(alloc, session, writer, steps), Goes::On),
-        Asked::Reach(goal) => once(serve_reach(alloc, session, writer, goal), Goes::On),
+        Asked::Steps(goal) => once(serve_steps(alloc, session, writer, goal), Goes::On),
         Asked::Print => once(serve_print(alloc, session, writer), Goes::On),
         Asked::Show => once(serve_show(alloc, session, writer), Goes::On),
         Asked::Next => once(serve_next(session, writer), Goes::On),
@@ -360,14 +358,14 @@ fn loaded<D: Sectors>(
     }
 }
 
-fn serve_search<D: Sectors, W: Sink>(
+fn serve_steps<D: Sectors, W: Sink>(
     alloc: Global,
     session: &mut Session<D>,
     writer: &mut W,
-    steps: u32,
+    goal: Goal,
 ) -> Result<(), Failed>
     ensures answers { Answers D.Sectors result session.old
-        (λ s. unless_broken s (searched_or s (steps_to_search s.state steps)))
+        (λ s. unless_broken s (made_or s (steps_to_make s.state goal)))
         (W.contents writer.old) (W.contents writer.new) session.new silent }
     ensures failed { OnErr result (W.has_failed writer.new ≡ true) }
     ensures origin { W.origin writer.new ≡ W.origin writer.old }
@@ -375,67 +373,51 @@ fn serve_search<D: Sectors, W: Sink>(
     if session.is_broken() {
         return tell(writer, Answer::Broken);
     }
-    match steps_to_search(session.state(), steps) {
-        Ok(steps) => search(alloc, session, writer, steps),
+    match steps_to_make(session.state(), goal) {
+        Ok(steps) => make_steps(alloc, session, writer, steps),
         Err(refusal) => tell(writer, Answer::Refused(refusal)),
     }
 }
 
-fn serve_reach<D: Sectors, W: Sink>(
+// Makes the steps command by command, each told once it is acknowledged.
+fn make_steps<D: Sectors, W: Sink>(
     alloc: Global,
     session: &mut Session<D>,
     writer: &mut W,
-    goal: u64,
+    steps: Steps,
 ) -> Result<(), Failed>
     ensures answers { Answers D.Sectors result session.old
-        (λ s. unless_broken s (searched_or s (steps_to_reach s.state goal)))
-        (W.contents writer.old) (W.contents writer.new) session.new silent }
-    ensures failed { OnErr result (W.has_failed writer.new ≡ true) }
-    ensures origin { W.origin writer.new ≡ W.origin writer.old }
-{
-    if session.is_broken() {
-        return tell(writer, Answer::Broken);
-    }
-    match steps_to_reach(session.state(), goal) {
-        Ok(steps) => search(alloc, session, writer, steps),
-        Err(refusal) => tell(writer, Answer::Refused(refusal)),
-    }
-}
-
-// Searches piece by piece, each told once it is acknowledged.
-fn search<D: Sectors, W: Sink>(
-    alloc: Global,
-    session: &mut Session<D>,
-    writer: &mut W,
-    steps: u32,
-) -> Result<(), Failed>
-    ensures answers { Answers D.Sectors result session.old (λ s. searched s (counts_of steps))
+        (λ s. carried_all s (commands_of steps session.old.state))
         (W.contents writer.old) (W.contents writer.new) session.new silent }
     ensures failed { OnErr result (W.has_failed writer.new ≡ true) }
     ensures origin { W.origin writer.new ≡ W.origin writer.old }
 {
     let mut left = steps;
-    while left > 0 {
-        let count = next_count(left);
-        if let Err(denial) = apply(alloc, session, Command::Search(count)).answer {
+    while let Some((command, rest)) = next_command(left, session.state()) {
+        let is_told = makes_steps(&command);
+        if let Err(denial) = apply(alloc, session, command).answer {
             return tell(writer, denied(denial));
         }
-        left -= u32::from(count);
-        tell_progress(session, writer)?;
+        left = rest;
+        tell_progress(session, writer, is_told)?;
     }
     tell(writer, Answer::Ok)
 }
 
-// Writes how far the search is.
-fn tell_progress<D: Sectors, W: Sink>(session: &Session<D>, writer: &mut W) -> Result<(), Failed>
+// Writes how far the steps are, where that is told.
+fn tell_progress<D: Sectors, W: Sink>(
+    session: &Session<D>,
+    writer: &mut W,
+    is_told: bool,
+) -> Result<(), Failed>
     ensures bytes { Puts (W.contents writer.old) (W.contents writer.new) result
-        (at_line_of session.now) }
+        (progress_of is_told session.now) }
     ensures failed { OnErr result (W.has_failed writer.new ≡ true) }
     ensures origin { W.origin writer.new ≡ W.origin writer.old }
 {
     match session.state() {
-        State::Loaded(job) => put_line(writer, at_line(job).as_bytes()),
-        State::Empty => Ok(()),
+        State::Loaded(job) if is_told => put_line(writer, at_line(job).as_bytes()),
+        State::Loaded(_) | State::Empty => Ok(()),
     }
 }
 

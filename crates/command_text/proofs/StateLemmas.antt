@@ -11,14 +11,15 @@ use Rattle.command_core.specs.declared.states.State.TheVariants.{Empty, Loaded}
 use Rattle.command_core.specs.declared.commands.Command.{Command}
 use Rattle.command_core.specs.declared.commands.Command.TheVariants as command
 use Rattle.command_core.specs.declared.refusals.Refusal.{Refusal}
-use Rattle.command_text.specs.Answering.{Fate, Done, NoMemory, Spent, Failed, Serving, Reply, answered, by_fate, carried, counts_of, load, loaded, next_fate, next_stated, asked_reply, printed, steps_to_reach, refused, reply, steps_to_search, searched, searched_or, served, shown, told, tried, unless_broken, unless_refused, with_text, at_line}
+use Rattle.command_text.specs.Answering.{Fate, Done, NoMemory, Spent, Failed, Serving, Reply, answered, by_fate, carried, load, loaded, next_fate, next_stated, asked_reply, printed, refused, reply, steps_to_make, commands_of, carried_all, made_or, served, shown, told, told_behind, tried, unless_broken, unless_refused, with_text}
 use Rattle.command_text.specs.Cutting.{Piece, is_short}
 use Rattle.command_text.specs.Laws.{StatesFollow}
 use Rattle.command_text.specs.Readings.{Reading}
 use Rattle.command_text.specs.Showing.{print_text, show_text}
 use Rattle.command_text.specs.declared.answers.Answer.TheVariants as answer
 use Rattle.command_text.specs.declared.asked.Asked.{Asked}
-use Rattle.command_text.specs.declared.asked.Asked.TheVariants.{Nothing, BadLine, BadLoad, LoadRange, Load, Plain, Refused, Search, Reach, Print, Show, Next, Help}
+use Rattle.command_text.specs.declared.steps.Steps.{Steps as StepsLeft}
+use Rattle.command_text.specs.declared.asked.Asked.TheVariants.{Nothing, BadLine, BadLoad, LoadRange, Load, Plain, Refused, Steps, Print, Show, Next, Help}
 
 abbrev Follows : Serving → Reply → Type 0
 Follows s r = r.left.state ≡ after s.state r.commands
@@ -41,14 +42,14 @@ carries : (s : Serving) (c : Command) (done : Serving → Reply) → ((t : Servi
 unfolding carried
 carries s c done follows = one_of s.is_broken s (answered s answer.Broken) (unless_refused (refusal s.state c) s c done) refl (unless (refusal s.state c) s c done follows)
 
-searches : (s : Serving) (ns : List ℕ) → Follows s (searched s ns)
-unfolding searched
-searches s [] = refl
-searches s (n ∷ ns) = carries s (command.Search n) (λ t. with_text (at_line t.state) (searched t ns)) (λ t. searches t ns)
+carries_all : (s : Serving) (cs : List Command) → Follows s (carried_all s cs)
+unfolding carried_all
+carries_all s [] = refl
+carries_all s (c ∷ cs) = carries s c (λ t. with_text (told_behind c t.state) (carried_all t cs)) (λ t. carries_all t cs)
 
-searches_or : (s : Serving) (n : Result ℕ Refusal) → Follows s (searched_or s n)
-searches_or s (Ok n) = searches s (counts_of n)
-searches_or s (Err r) = refl
+makes_or : (s : Serving) (steps : Result StepsLeft Refusal) → Follows s (made_or s steps)
+makes_or s (Ok steps) = carries_all s (commands_of steps s.state)
+makes_or s (Err r) = refl
 
 tells : (fate : Fate) (s : Serving) (text : List ℕ) → Follows s (told fate s text)
 tells Done s text = refl
@@ -96,8 +97,7 @@ answers reading s (Load kind seed len) text short =
     (unbroken s (load (next_fate s.fates) s seed (reading kind text)) (loads (next_fate s.fates) s seed (reading kind text)))
 answers reading s (Plain c) text short = carries s c (λ t. answered t answer.Ok) (λ t. refl)
 answers reading s (Refused r) text short = unbroken s (refused s s.state r) (refuses s s.state r)
-answers reading s (Search n) text short = unbroken s (searched_or s (steps_to_search s.state n)) (searches_or s (steps_to_search s.state n))
-answers reading s (Reach n) text short = unbroken s (searched_or s (steps_to_reach s.state n)) (searches_or s (steps_to_reach s.state n))
+answers reading s (Steps g) text short = unbroken s (made_or s (steps_to_make s.state g)) (makes_or s (steps_to_make s.state g))
 answers reading s Print text short = unbroken s (printed s s.state) (prints s s.state)
 answers reading s Show text short = unbroken s (shown s s.state) (shows s s.state)
 answers reading s Next text short = unbroken s (next_stated s s.state) (states_next s s.state)

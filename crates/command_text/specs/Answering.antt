@@ -1,9 +1,10 @@
 -- What a session answers to an input, and which commands it carries out.
-use Rattle.std.specs.Prelude.{ℕ, ◌+◌, ◌-◌, ◌/◌, ◌%◌, ◌^◌, ◌==◌, nat_le, Bool, true, false, if◌then◌else◌, List, [], ◌∷◌, ◌++◌, replicate, Option, Some, None, Result, Ok, Err}
+use Rattle.std.specs.Prelude.{ℕ, ◌+◌, ◌-◌, ◌/◌, ◌%◌, ◌^◌, ◌==◌, nat_le, ◌&&◌, Bool, true, false, if◌then◌else◌, List, [], ◌∷◌, ◌++◌, map, replicate, Option, Some, None, Result, Ok, Err}
 use Rattle.plan_types.specs.Instance.{Instance}
 use Rattle.route_sched.specs.Cost.{unplanned_count}
 use Rattle.instance_read.specs.declared.faults.ReadFault.{ReadFault}
 use Rattle.command_core.specs.Effects.{effect}
+use Rattle.command_core.specs.Job.{JobValue}
 use Rattle.command_core.specs.Refusing.{refusal}
 use Rattle.command_core.specs.declared.states.State.{State}
 use Rattle.command_core.specs.declared.states.State.TheVariants.{Empty, Loaded}
@@ -15,10 +16,15 @@ use Rattle.command_text.specs.Answers.{answer_text, at_text, help_text, line, ne
 use Rattle.command_text.specs.Cutting.{Piece, is_short, pieces_of}
 use Rattle.command_text.specs.Readings.{Reading}
 use Rattle.command_text.specs.Showing.{print_text, show_text}
+use Rattle.command_text.specs.Staging.{commands_in_stage, stage_commands}
 use Rattle.command_text.specs.declared.answers.Answer.{Answer}
 use Rattle.command_text.specs.declared.answers.Answer.TheVariants as answer
 use Rattle.command_text.specs.declared.asked.Asked.{Asked}
-use Rattle.command_text.specs.declared.asked.Asked.TheVariants.{Nothing, BadLine, BadLoad, LoadRange, Load, Plain, Refused, Search, Reach, Print, Show, Next, Help}
+use Rattle.command_text.specs.declared.asked.Asked.TheVariants.{Nothing, BadLine, BadLoad, LoadRange, Load, Plain, Refused, Steps, Print, Show, Next, Help}
+use Rattle.command_text.specs.declared.steps.Goal.{Goal}
+use Rattle.command_text.specs.declared.steps.Goal.TheVariants as goal
+use Rattle.command_text.specs.declared.steps.Steps.{Steps as StepsLeft}
+use Rattle.command_text.specs.declared.steps.Steps.TheVariants as makes
 
 -- What became of a try: it was done; memory was refused; there is no room left in the store; the device failed. A try is a command that session
 -- and state accept, the text of a `load`, or a `show` or `print` that has something to tell.
@@ -91,29 +97,59 @@ abbrev pub at_line : State → List ℕ
 at_line Empty = []
 at_line (Loaded j) = line (at_text j)
 
--- a search in pieces of so many steps: each is a command, and its line tells how far the search is
-unfoldable pub searched : Serving → List ℕ → Reply
-searched s [] = answered s answer.Ok
-searched s (n ∷ ns) = carried s (command.Search n) (λ t. with_text (at_line t.state) (searched t ns))
+abbrev pub makes_steps : Command → Bool
+makes_steps (command.Search n) = true
+makes_steps (command.Anneal n) = true
+makes_steps _ = false
 
--- pieces of 256 and a shorter last one
-unfoldable pub counts_of : ℕ → List ℕ
-counts_of n = replicate (n / 256) 256 ++ (if n % 256 == 0 then [] else n % 256 ∷ [])
+-- behind a command that makes steps, a line tells how far they are
+abbrev pub told_behind : Command → State → List ℕ
+told_behind c state = if makes_steps c then at_line state else []
 
--- how many steps are made, or why the line is refused
-abbrev pub searched_or : Serving → Result ℕ Refusal → Reply
-searched_or s (Ok n) = searched s (counts_of n)
-searched_or s (Err r) = answered s (answer.Refused r)
+-- these commands, one after another, and `ok` behind the last
+unfoldable pub carried_all : Serving → List Command → Reply
+carried_all s [] = answered s answer.Ok
+carried_all s (c ∷ cs) = carried s c (λ t. with_text (told_behind c t.state) (carried_all t cs))
 
--- `search N`
-abbrev pub steps_to_search : State → ℕ → Result ℕ Refusal
-steps_to_search Empty n = Err NoInstance
-steps_to_search (Loaded j) n = if nat_le (j.steps + n) (2 ^ 60) then Ok n else Err StepsSpent
+-- so many steps in pieces of at most so many: all but the last are of the most
+unfoldable pub counts_of : ℕ → ℕ → List ℕ
+counts_of most n = replicate (n / most) most ++ (if n % most == 0 then [] else n % most ∷ [])
+
+-- the commands that make the steps that are left, from a state on
+abbrev pub commands_of : StepsLeft → State → List Command
+commands_of (makes.Search n) state = map command.Search (counts_of 256 n)
+commands_of (makes.Anneal n) state = map command.Anneal (counts_of 16384 n)
+commands_of (makes.Stages from to) Empty = []
+commands_of (makes.Stages from to) (Loaded j) = stage_commands from to j
+commands_of (makes.InStage from to) Empty = []
+commands_of (makes.InStage from to) (Loaded j) = commands_in_stage from to j
+
+-- where a job may make so many more steps
+abbrev pub unless_spent : JobValue → ℕ → StepsLeft → Result StepsLeft Refusal
+unless_spent j n steps = if nat_le (j.steps + n) (2 ^ 60) then Ok steps else Err StepsSpent
 
 -- `reach N`: the steps that are left, at most 1,000,000,000
-abbrev pub steps_to_reach : State → ℕ → Result ℕ Refusal
-steps_to_reach Empty n = Err NoInstance
-steps_to_reach (Loaded j) n = if nat_le n (j.steps + 1000000000) then Ok (n - j.steps) else Err Range
+abbrev pub steps_to_reach : JobValue → ℕ → Result StepsLeft Refusal
+steps_to_reach j n = if nat_le n (j.steps + 1000000000) then Ok (makes.Search (n - j.steps)) else Err Range
+
+-- `anneal FROM TO`: the steps from the first number to before the second that are left, at most 1,000,000,000
+abbrev pub stages_to_go : JobValue → ℕ → ℕ → Result StepsLeft Refusal
+stages_to_go j from to = if nat_le from j.steps && nat_le to (j.steps + 1000000000) then Ok (makes.Stages from to) else Err Range
+
+abbrev pub steps_from : JobValue → Goal → Result StepsLeft Refusal
+steps_from j (goal.Search n) = unless_spent j n (makes.Search n)
+steps_from j (goal.Anneal n) = unless_spent j n (makes.Anneal n)
+steps_from j (goal.Reach n) = steps_to_reach j n
+steps_from j (goal.Stages from to) = stages_to_go j from to
+
+-- which steps are made, or why the line is refused
+abbrev pub steps_to_make : State → Goal → Result StepsLeft Refusal
+steps_to_make Empty g = Err NoInstance
+steps_to_make (Loaded j) g = steps_from j g
+
+abbrev pub made_or : Serving → Result StepsLeft Refusal → Reply
+made_or s (Ok steps) = carried_all s (commands_of steps s.state)
+made_or s (Err r) = answered s (answer.Refused r)
 
 -- a number that no field holds
 abbrev pub refused : Serving → State → Refusal → Reply
@@ -166,8 +202,7 @@ asked_reply reading s (Load kind seed len) text short =
     if short then answered s answer.Truncated else unless_broken s (load (next_fate s.fates) s seed (reading kind text))
 asked_reply reading s (Plain c) text short = plain s c
 asked_reply reading s (Refused r) text short = unless_broken s (refused s s.state r)
-asked_reply reading s (Search n) text short = unless_broken s (searched_or s (steps_to_search s.state n))
-asked_reply reading s (Reach n) text short = unless_broken s (searched_or s (steps_to_reach s.state n))
+asked_reply reading s (Steps g) text short = unless_broken s (made_or s (steps_to_make s.state g))
 asked_reply reading s Print text short = unless_broken s (printed s s.state)
 asked_reply reading s Show text short = unless_broken s (shown s s.state)
 asked_reply reading s Next text short = unless_broken s (next_stated s s.state)

@@ -15,7 +15,9 @@ use Rattle.command_text.specs.declared.fields.Field.{Field}
 use Rattle.command_text.specs.declared.verbs.Verb.{Verb}
 use Rattle.command_text.specs.declared.verbs.Verb.TheVariants as verb
 use Rattle.command_text.specs.declared.asked.Asked.{Asked}
-use Rattle.command_text.specs.declared.asked.Asked.TheVariants.{Nothing, BadLine, BadLoad, LoadRange, Load, Plain, Refused, Search, Reach, Print, Show, Next, Help}
+use Rattle.command_text.specs.declared.asked.Asked.TheVariants.{Nothing, BadLine, BadLoad, LoadRange, Load, Plain, Refused, Steps, Print, Show, Next, Help}
+use Rattle.command_text.specs.declared.steps.Goal.{Goal}
+use Rattle.command_text.specs.declared.steps.Goal.TheVariants as goal
 
 -- An integer as a field may hold it: as an `i32` does, and as a `u64` does.
 abbrev pub field_of : ℤ → Field
@@ -57,15 +59,31 @@ add1_of q a = option_and_then (λ q. option_map (λ a. command.Add1 q a) a) (as_
 abbrev pub pin_of : Field → Field → Option Command
 pin_of v k = option_and_then (λ v. option_map (λ k. command.Pin v k) (as_u32 k)) (as_u32 v)
 
+-- steps whose numbers keep their limits
+abbrev pub steps_or : Option Goal → Asked
+steps_or None = Refused Range
+steps_or (Some g) = Steps g
+
 -- N in 1..1,000,000,000
-abbrev pub search_of : Option ℕ → Asked
-search_of None = Refused Range
-search_of (Some n) = if nat_le 1 n && nat_le n 1000000000 then Search n else Refused Range
+abbrev pub count_of : Option ℕ → Option ℕ
+count_of None = None
+count_of (Some n) = if nat_le 1 n && nat_le n 1000000000 then Some n else None
+
+abbrev pub search_of : Option ℕ → Option Goal
+search_of n = option_map goal.Search (count_of n)
+
+abbrev pub anneal_of : Option ℕ → Option Goal
+anneal_of n = option_map goal.Anneal (count_of n)
 
 -- N in 0..2^60
-abbrev pub reach_of : Option ℕ → Asked
-reach_of None = Refused Range
-reach_of (Some n) = if nat_le n (2 ^ 60) then Reach n else Refused Range
+abbrev pub reach_of : Option ℕ → Option Goal
+reach_of None = None
+reach_of (Some n) = if nat_le n (2 ^ 60) then Some (goal.Reach n) else None
+
+-- TO in 0..2^60, and FROM not above it
+abbrev pub stages_of : Option ℕ → Option ℕ → Option Goal
+stages_of (Some from) (Some to) = if nat_le from to && nat_le to (2 ^ 60) then Some (goal.Stages from to) else None
+stages_of _ _ = None
 
 -- a command with no number
 abbrev pub bare_asked : Verb → Asked
@@ -81,14 +99,16 @@ bare_asked _ = BadLine
 abbrev pub single_asked : Verb → Field → Asked
 single_asked verb.Withdraw r = plain_or NoSuchRequest (option_map command.Withdraw (as_u32 r))
 single_asked verb.Unpin v = plain_or NoSuchPlace (option_map command.Unpin (as_u32 v))
-single_asked verb.Search n = search_of n.unsigned
-single_asked verb.Reach n = reach_of n.unsigned
+single_asked verb.Search n = steps_or (search_of n.unsigned)
+single_asked verb.Reach n = steps_or (reach_of n.unsigned)
+single_asked verb.Anneal n = steps_or (anneal_of n.unsigned)
 single_asked verb.Deviation d = plain_or Range (option_map command.Deviation (as_u32 d))
 single_asked _ n = BadLine
 
--- with two: V K
+-- with two: V K, or FROM TO
 abbrev pub double_asked : Verb → Field → Field → Asked
 double_asked verb.Pin v k = plain_or NoSuchPlace (pin_of v k)
+double_asked verb.Anneal from to = steps_or (stages_of from.unsigned to.unsigned)
 double_asked _ v k = BadLine
 
 -- with a demand and one spot: Q X Y E L S
@@ -143,6 +163,7 @@ verb_named word =
     if bytes_eq (codes "search") word then Some verb.Search else
     if bytes_eq (codes "reach") word then Some verb.Reach else
     if bytes_eq (codes "deviation") word then Some verb.Deviation else
+    if bytes_eq (codes "anneal") word then Some verb.Anneal else
     if bytes_eq (codes "print") word then Some verb.Print else
     if bytes_eq (codes "show") word then Some verb.Show else
     if bytes_eq (codes "next") word then Some verb.Next else

@@ -1,13 +1,20 @@
 -- How an input is cut, line by line, and what its answers make of the state.
-use Rattle.std.specs.Prelude.{◌≡◌, ℕ, ◌<◌, List, [], ◌∷◌, ◌++◌, take, drop, length, if◌then◌else◌}
+use Rattle.std.specs.Prelude.{◌≡◌, ℕ, ◌<◌, ◌≤◌, ◌^◌, List, [], ◌∷◌, ◌++◌, take, drop, length, if◌then◌else◌}
 use Rattle.std.specs.Str.Lines.{strip_carriage_return}
 use Rattle.text_lines.specs.Lines.{HasNoFeed}
+use Rattle.command_core.specs.Job.{JobValue}
 use Rattle.command_core.specs.Runs.{after}
-use Rattle.command_text.specs.Answering.{Serving, served}
+use Rattle.command_core.specs.declared.states.State.{State}
+use Rattle.command_core.specs.declared.states.State.TheVariants.{Loaded}
+use Rattle.command_text.specs.Answering.{Fate, Serving, begun, commands_of, made_or, served, steps_to_make}
 use Rattle.command_text.specs.Asking.{asked}
 use Rattle.command_text.specs.Cutting.{Piece, announced, ends, pieces_of}
 use Rattle.command_text.specs.Readings.{Reading}
+use Rattle.command_text.specs.Staging.{stage_commands}
 use Rattle.command_text.specs.declared.asked.Asked.{Asked}
+use Rattle.command_text.specs.declared.steps.Goal.{Goal}
+use Rattle.command_text.specs.declared.steps.Goal.TheVariants as goal
+use Rattle.command_text.specs.declared.steps.Steps.TheVariants as makes
 
 -- a line that asks for this, and what follows its line feed
 abbrev pub piece_at : Asked → List ℕ → Piece
@@ -28,3 +35,17 @@ PiecesEnd = (line : List ℕ) → HasNoFeed line → 0 < length line → pieces_
 -- The state that a session is left with is the one after the commands that it has carried out.
 abbrev pub StatesFollow : Type 0
 StatesFollow = (reading : Reading) (s : Serving) (pieces : List Piece) → (served reading s pieces).left.state ≡ after s.state (served reading s pieces).commands
+
+-- Annealing by stages that is cut off behind any of its commands, and asked for again, ends in the state of the one that is not cut.
+abbrev pub StagesMayBeCut : Type 0
+StagesMayBeCut = (from to : ℕ) (j : JobValue) (count : ℕ) → let mid = after (Loaded j) (take count (stage_commands from to j)) in
+    after mid (commands_of (makes.Stages from to) mid) ≡ after (Loaded j) (stage_commands from to j)
+
+-- the state that a line that asks for steps leaves, by what becomes of its tries
+abbrev pub left_behind : Goal → State → List Fate → State
+left_behind goal state fates = (made_or (begun state fates) (steps_to_make state goal)).left.state
+
+-- So does the line itself, whatever becomes of its tries, where it is asked for again and no try fails.
+abbrev pub StagedLinesMayBeCut : Type 0
+StagedLinesMayBeCut = (from to : ℕ) (state : State) (fates : List Fate) → to ≤ 2 ^ 60
+    → left_behind (goal.Stages from to) (left_behind (goal.Stages from to) state fates) [] ≡ left_behind (goal.Stages from to) state []

@@ -7,6 +7,7 @@ pub mod Laws
 pub mod Readings
 pub mod Scanning
 pub mod Showing
+pub mod Staging
 -- of private functions alone
 pub mod Lines
 pub mod Numbers

@@ -3,9 +3,10 @@ ghost use Rattle.std.specs.Prelude.{◌≡◌};
 ghost use Rattle.std.specs.Option.{option_map_or};
 ghost use Rattle.text_lines.specs.Words.{words_of};
 ghost use Rattle.text_lines.specs.Numbers.{below};
-ghost use Rattle.command_text.specs.Asking.{add1_of, add_of, asked, bare_asked, begins_load, double_asked, fields_of, load_asked, load_of, load_within, numbers_asked, pin_of, plain_or, reach_of, search_of, single_asked, spot_asked, spot_of, spots_asked, verb_asked, words_asked};
+ghost use Rattle.command_text.specs.Asking.{add1_of, add_of, anneal_of, asked, bare_asked, begins_load, count_of, double_asked, fields_of, load_asked, load_of, load_within, numbers_asked, pin_of, plain_or, reach_of, search_of, single_asked, spot_asked, spot_of, spots_asked, stages_of, steps_or, verb_asked, words_asked};
 
 use crate::fields::{Field, Fields, integers};
+use crate::steps::Goal;
 use crate::verbs::{Verb, is_word, kind_named, verb_named};
 use command_core::{Command, MAX_STEPS, Refusal, Spot};
 use plan_types::Kind;
@@ -30,14 +31,12 @@ pub enum Asked {
     LoadRange,
     /// The next `len` bytes are the text of an instance.
     Load { kind: Kind, seed: u64, len: u32 },
-    /// One command, but no `Load` and no `Search`.
+    /// One command, but no `Load`, no `Search` and no `Anneal`.
     Plain(Command),
     /// A command with a number that its field can't hold. A session that can take commands, with an instance, tells this.
     Refused(Refusal),
-    /// So many steps, 1..=1,000,000,000.
-    Search(u32),
-    /// Steps until so many are made, 0..=2^60.
-    Reach(u64),
+    /// Steps, of the search or of annealing.
+    Steps(Goal),
     Print,
     Show,
     /// The number that the next order gets.
@@ -146,8 +145,9 @@ fn single_asked(verb: Verb, number: &Field) -> Asked
             Some(vehicle) => Asked::Plain(Command::Unpin(vehicle)),
             None => Asked::Refused(Refusal::NoSuchPlace),
         },
-        Verb::Search => search_of(number.unsigned),
-        Verb::Reach => reach_of(number.unsigned),
+        Verb::Search => steps_or(search_of(number.unsigned)),
+        Verb::Reach => steps_or(reach_of(number.unsigned)),
+        Verb::Anneal => steps_or(anneal_of(number.unsigned)),
         Verb::Deviation => match number.as_u32() {
             Some(deviation) => Asked::Plain(Command::Deviation(deviation)),
             None => Asked::Refused(Refusal::Range),
@@ -156,11 +156,12 @@ fn single_asked(verb: Verb, number: &Field) -> Asked
     }
 }
 
-fn double_asked(verb: Verb, vehicle: &Field, stops: &Field) -> Asked
-    ensures { result ≡ double_asked verb vehicle.now stops.now }
+fn double_asked(verb: Verb, first: &Field, second: &Field) -> Asked
+    ensures { result ≡ double_asked verb first.now second.now }
 {
     match verb {
-        Verb::Pin => plain_or(Refusal::NoSuchPlace, pin_of(vehicle, stops)),
+        Verb::Pin => plain_or(Refusal::NoSuchPlace, pin_of(first, second)),
+        Verb::Anneal => steps_or(stages_of(first.unsigned, second.unsigned)),
         _ => Asked::BadLine,
     }
 }
@@ -229,21 +230,51 @@ fn pin_of(vehicle: &Field, stops: &Field) -> Option<Command>
     Some(Command::Pin(vehicle.as_u32()?, stops.as_u32()?))
 }
 
-fn search_of(steps: Option<u64>) -> Asked
-    ensures { result ≡ search_of steps }
+fn steps_or(goal: Option<Goal>) -> Asked
+    ensures { result ≡ steps_or goal }
 {
-    match steps {
-        Some(steps) if 1 <= steps && steps <= MAX_SEARCH => Asked::Search(steps as u32),
-        _ => Asked::Refused(Refusal::Range),
+    match goal {
+        Some(goal) => Asked::Steps(goal),
+        None => Asked::Refused(Refusal::Range),
     }
 }
 
-fn reach_of(goal: Option<u64>) -> Asked
+fn search_of(steps: Option<u64>) -> Option<Goal>
+    ensures { result ≡ search_of steps }
+{
+    Some(Goal::Search(count_of(steps)?))
+}
+
+fn anneal_of(steps: Option<u64>) -> Option<Goal>
+    ensures { result ≡ anneal_of steps }
+{
+    Some(Goal::Anneal(count_of(steps)?))
+}
+
+fn reach_of(goal: Option<u64>) -> Option<Goal>
     ensures { result ≡ reach_of goal }
 {
     match goal {
-        Some(goal) if goal <= MAX_STEPS => Asked::Reach(goal),
-        _ => Asked::Refused(Refusal::Range),
+        Some(goal) if goal <= MAX_STEPS => Some(Goal::Reach(goal)),
+        _ => None,
+    }
+}
+
+fn stages_of(from: Option<u64>, to: Option<u64>) -> Option<Goal>
+    ensures { result ≡ stages_of from to }
+{
+    match (from, to) {
+        (Some(from), Some(to)) if from <= to && to <= MAX_STEPS => Some(Goal::Stages { from, to }),
+        _ => None,
+    }
+}
+
+fn count_of(steps: Option<u64>) -> Option<u32>
+    ensures { result ≡ count_of steps }
+{
+    match steps {
+        Some(steps) if 1 <= steps && steps <= MAX_SEARCH => Some(steps as u32),
+        _ => None,
     }
 }
 

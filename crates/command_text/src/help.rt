@@ -7,7 +7,9 @@ pub const HELP: &str = "Each line asks for one thing:\n  \
     load lilim|vrp SEED LEN    a new instance: the LEN bytes behind this line\n  \
     build                      puts each unplanned request at its best place\n  \
     search N, reach N          N search steps, or as many as lead to step N\n  \
-    deviation D                how much longer a plan the search may go on from\n  \
+    anneal N                   N annealing steps, which find better plans\n  \
+    anneal FROM TO             annealing by stages from step FROM to step TO; goes on where it was cut off\n  \
+    deviation D                how much longer a plan the steps may go on from\n  \
     add Q X Y E L S X Y E L S  a new pair: demand, then x, y, window and service of both its stops\n  \
     add1 Q X Y E L S           a new request of one stop\n  \
     withdraw R                 takes out the request with this name\n  \
@@ -20,7 +22,7 @@ pub const HELP: &str = "Each line asks for one thing:\n  \
     ok                         it is done, and no stop loses it\n  \
     no NAME                    it is refused and changes nothing; of an instance: no NAME LINE\n  \
     fault device               the store failed; it may be there or not at the next run\n\n\
-    A search tells `at STEPS UNPLANNED VEHICLES DISTANCE` before that, piece by piece: these steps\n\
+    Steps tell `at STEPS UNPLANNED VEHICLES DISTANCE` before that, piece by piece: these steps\n\
     stand, whatever is answered behind them.\n\n\
     The names of refusals:\n  \
     BadLine        there is no such line, another number of words belongs to it, or one is no integer\n  \

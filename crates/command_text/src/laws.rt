@@ -1,7 +1,7 @@
 //! How an input is cut and answered, each law for every input.
 ghost use Rattle.std.specs.Prelude.{◌≡◌, []};
 ghost use Rattle.command_text.specs.Cutting.{pieces_of};
-ghost use Rattle.command_text.specs.Laws.{PiecesEnd, PiecesFollow, StatesFollow};
+ghost use Rattle.command_text.specs.Laws.{PiecesEnd, PiecesFollow, StagedLinesMayBeCut, StagesMayBeCut, StatesFollow};
 
 /// An input is cut into lines, each `load` line with the bytes that it announces.
 pub fn pieces_follow()
@@ -13,4 +13,10 @@ pub fn pieces_follow()
 /// The state that a session is left with is the one after the commands that it has carried out.
 pub fn states_follow()
     ensures { StatesFollow }
+{}
+
+/// Annealing by stages that is cut off behind any of its commands, and asked for again, ends in the state of the one that is not cut.
+pub fn stages_may_be_cut()
+    ensures commands { StagesMayBeCut }
+    ensures lines { StagedLinesMayBeCut }
 {}

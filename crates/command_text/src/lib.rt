@@ -2,12 +2,12 @@
 //! whole input's answers. `command_serving` serves a session by it, `plan_solve` tells its steps by it.
 //!
 //! Entry functions: `read_line` for a line; `Answer::line`, `at_line`, `next_line`, `help_lines`, `show` and `print` for
-//! an answer; `steps_to_search`, `steps_to_reach` and `next_count` for the pieces of a search.
+//! an answer; `steps_to_make` and `next_command` for the commands of a line that asks for steps.
 //!
 //! Source: this project's own.
 //!
 //! How it works: a line is a command's name and its numbers, parted by blanks. Many steps are cut into commands of
-//! at most 256, each of which is told by a line `at` once it is acknowledged. A number that no field holds is told
+//! at most 256, annealing steps of at most 16,384, each of which is told by a line `at` once it is acknowledged. A number that no field holds is told
 //! apart where the line is read, before the state is asked. Answers that follow a command that was carried out take
 //! no memory: an `at` or `ok` that found none would tell a refusal of what was done.
 //!
@@ -20,22 +20,23 @@
 //! - `fields`: the numbers of a line
 //! - `asked`: what a line asks for
 //! - `first_word`: the first word of a line that comes in parts
-//! - `steps`: how many steps a line makes
+//! - `steps`: how many steps a line makes, and by which commands; `staging`: those of annealing by stages
 //! - `instances`: the text behind a `load` line
 //! - `answers`: the lines that answer
 //! - `help`: what `help` tells
 //! - `showing`: what `show` and `print` write
 //! - `laws`: how an input is cut and answered
 //!
-//! Said by `specs/Asking.antt`, `Cutting.antt`, `Answers.antt`, `Showing.antt` and `Answering.antt`. Proved:
+//! Said by `specs/Asking.antt`, `Cutting.antt`, `Answers.antt`, `Showing.antt`, `Staging.antt` and `Answering.antt`. Proved:
 //! - `read_line`: what a line of any length asks for (`asked`), without memory
 //! - `FirstWord`: whether the first word of a line in parts is `load`
 //! - `Answer::line`, `at_line`, `next_line`, `help_lines`, `show`, `print`: each byte; `print` is read back as the plan's
 //!   routes and distance, and tells how many requests are unplanned
-//! - `steps_to_search`, `steps_to_reach`, `next_count`: how many steps a line makes, or why it is refused, and the next piece
+//! - `steps_to_make`, `next_command`, `next_count`: which steps a line makes, or why it is refused, and the next command
 //! - `read_instance`: what the text spells or its first fault, or want of memory
 //! - `pieces_follow`: an input is cut into lines, each `load` line with the bytes that it announces
 //! - `states_follow`: the state that an input leaves is the one after the commands that were carried out
+//! - `stages_may_be_cut`: annealing by stages that is cut anywhere and asked for again ends in the state of the uncut one
 #![tactic(auto)]
 
 mod answers;
@@ -46,6 +47,7 @@ mod help;
 mod instances;
 mod laws;
 mod showing;
+mod staging;
 mod steps;
 mod verbs;
 
@@ -54,6 +56,6 @@ pub use asked::{Asked, MAX_LEN, MAX_LINE, MAX_SEARCH, read_line};
 pub use first_word::FirstWord;
 pub use help::{HELP, help_lines};
 pub use instances::read_instance;
-pub use laws::{pieces_follow, states_follow};
+pub use laws::{pieces_follow, stages_may_be_cut, states_follow};
 pub use showing::{Text, print, show};
-pub use steps::{next_count, steps_to_reach, steps_to_search};
+pub use steps::{Goal, Steps, makes_steps, next_command, next_count, steps_to_make};

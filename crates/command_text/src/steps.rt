@@ -1,51 +1,145 @@
-//! How many steps a line makes, and how they are cut into commands.
-ghost use Rattle.std.specs.Prelude.{◌≡◌, ◌-◌, ◌≤◌, ◌<◌, ◌∷◌, ◌^◌};
-ghost use Rattle.command_text.specs.Answering.{counts_of, steps_to_reach, steps_to_search};
+//! How many steps a line makes, and by which commands.
+ghost use Rattle.std.specs.Prelude.{◌≡◌, ◌-◌, ◌≤◌, ◌<◌, [], ◌∷◌, ◌^◌, MatchOption};
+ghost use Rattle.command_core.specs.Effects.{effect};
+ghost use Rattle.command_core.specs.declared.states.State.TheVariants.{Empty, Loaded};
+ghost use Rattle.command_text.specs.Answering.{commands_of, counts_of, makes_steps, stages_to_go, steps_from, steps_to_make, steps_to_reach, unless_spent};
 
 use crate::asked::MAX_SEARCH;
-use command_core::{MAX_COUNT, MAX_STEPS, Refusal, State};
+use crate::staging::{next_in_stage, next_staged};
+use command_core::{Command, Job, MAX_COUNT, MAX_STEPS, Refusal, State};
 
-/// How many steps `search N` makes.
+/// The most annealing steps of one command of a line, so that its progress is told often and little is lost by a stop.
+pub(crate) const MAX_ANNEALED: u32 = 16_384;
+
+/// The steps that a line asks for.
+#[derive(Clone, Copy, Debug, PartialEq, Eq)]
+pub enum Goal {
+    /// So many of the search, 1..=1,000,000,000.
+    Search(u32),
+    /// Of the search, until so many are made, 0..=2^60.
+    Reach(u64),
+    /// So many of annealing, 1..=1,000,000,000.
+    Anneal(u32),
+    /// Of annealing by stages, from one number to before another: the first is not above the second, this one 0..=2^60.
+    Stages { from: u64, to: u64 },
+}
+
+/// The steps that a line has left to make.
+#[derive(Clone, Copy, Debug, PartialEq, Eq)]
+pub enum Steps {
+    /// So many of the search.
+    Search(u32),
+    /// So many of annealing.
+    Anneal(u32),
+    /// Those of annealing by stages that are left to before the second number.
+    Stages { from: u64, to: u64 },
+    /// The same where the deviation of the stage is set.
+    InStage { from: u64, to: u64 },
+}
+
+/// The steps that a line makes: for `reach N` as many as the state lacks, and none where it has made so many.
 ///
 /// # Errors
 ///
-/// `NoInstance` before the first `load`, `StepsSpent` where a state would have made more than 2^60.
-pub fn steps_to_search(state: &State, steps: u32) -> Result<u32, Refusal>
-    ensures { result ≡ steps_to_search state.now steps }
+/// `NoInstance` before the first `load`; `StepsSpent` where `search N` or `anneal N` would lead above 2^60 steps; `Range`
+/// where more than 1,000,000,000 are lacking for `reach N` or `anneal FROM TO`, or the state has not made FROM.
+pub fn steps_to_make(state: &State, goal: Goal) -> Result<Steps, Refusal>
+    ensures { result ≡ steps_to_make state.now goal }
 {
-    let State::Loaded(job) = state else {
-        return Err(Refusal::NoInstance);
-    };
-    if job.steps + u64::from(steps) <= MAX_STEPS {
+    match state {
+        State::Empty => Err(Refusal::NoInstance),
+        State::Loaded(job) => steps_from(job, goal),
+    }
+}
+
+fn steps_from(job: &Job, goal: Goal) -> Result<Steps, Refusal>
+    ensures { result ≡ steps_from job.now goal }
+{
+    match goal {
+        Goal::Search(count) => unless_spent(job, count, Steps::Search(count)),
+        Goal::Anneal(count) => unless_spent(job, count, Steps::Anneal(count)),
+        Goal::Reach(number) => steps_to_reach(job, number),
+        Goal::Stages { from, to } => stages_to_go(job, from, to),
+    }
+}
+
+// Where a job may make so many more steps.
+fn unless_spent(job: &Job, count: u32, steps: Steps) -> Result<Steps, Refusal>
+    ensures { result ≡ unless_spent job.now count steps }
+{
+    if job.steps + u64::from(count) <= MAX_STEPS {
         Ok(steps)
     } else {
         Err(Refusal::StepsSpent)
     }
 }
 
-/// How many steps `reach N` makes: as many as the state lacks, and none where it has made so many.
-///
-/// # Errors
-///
-/// `NoInstance` before the first `load`, `Range` where more than 1,000,000,000 are lacking.
-pub fn steps_to_reach(state: &State, goal: u64) -> Result<u32, Refusal>
-    ensures { result ≡ steps_to_reach state.now goal }
+fn steps_to_reach(job: &Job, number: u64) -> Result<Steps, Refusal>
+    ensures { result ≡ steps_to_reach job.now number }
 {
-    let State::Loaded(job) = state else {
-        return Err(Refusal::NoInstance);
-    };
-    if goal <= job.steps + MAX_SEARCH {
-        Ok(goal.saturating_sub(job.steps) as u32)
+    if number <= job.steps + MAX_SEARCH {
+        Ok(Steps::Search(number.saturating_sub(job.steps) as u32))
     } else {
         Err(Refusal::Range)
     }
+}
+
+fn stages_to_go(job: &Job, from: u64, to: u64) -> Result<Steps, Refusal>
+    ensures { result ≡ stages_to_go job.now from to }
+{
+    if from <= job.steps && to <= job.steps + MAX_SEARCH {
+        Ok(Steps::Stages { from, to })
+    } else {
+        Err(Refusal::Range)
+    }
+}
+
+/// The next command of these steps, and the steps behind it; `None` where none is left.
+#[tactic(auto, using(crate::proofs::StepLemmas::no_counts))]
+pub fn next_command(steps: Steps, state: &State) -> Option<(Command, Steps)>
+    ensures { MatchOption result (commands_of steps state.now ≡ [])
+        (λ x. commands_of steps state.now ≡ x.0 ∷ commands_of x.1 (effect state.now x.0)) }
+{
+    match steps {
+        Steps::Search(0) => None,
+        Steps::Anneal(0) => None,
+        Steps::Search(left) => {
+            let count = next_count(left);
+            Some((
+                Command::Search(count),
+                Steps::Search(left - u32::from(count)),
+            ))
+        }
+        Steps::Anneal(left) => {
+            let count = next_annealed(left);
+            Some((Command::Anneal(count), Steps::Anneal(left - count)))
+        }
+        Steps::Stages { from, to } => next_staged(from, to, job_in(state)?),
+        Steps::InStage { from, to } => next_in_stage(from, to, job_in(state)?),
+    }
+}
+
+fn job_in(state: &State) -> Option<&Job>
+    ensures { MatchOption result (state.now ≡ Empty) (λ job. state.now ≡ Loaded job.now) }
+{
+    match state {
+        State::Empty => None,
+        State::Loaded(job) => Some(job),
+    }
+}
+
+/// Whether a command makes steps, so that a line tells how far they are.
+pub fn makes_steps(command: &Command) -> bool
+    ensures { result ≡ makes_steps command.now }
+{
+    matches!(command, Command::Search(_) | Command::Anneal(_))
 }
 
 /// How many steps the next command of a search makes that has so many left: at most 256.
 #[tactic(auto, using(crate::proofs::StepLemmas::large_count, crate::proofs::StepLemmas::small_count))]
 pub fn next_count(left: u32) -> u16
     requires { 0 < left }
-    ensures counts { counts_of left ≡ result ∷ counts_of (left - result) }
+    ensures counts { counts_of 256 left ≡ result ∷ counts_of 256 (left - result) }
     ensures least { 0 < result }
     ensures most { result ≤ left }
 {
@@ -53,5 +147,19 @@ pub fn next_count(left: u32) -> u16
         left as u16
     } else {
         MAX_COUNT
+    }
+}
+
+// How many steps the next command of an annealing makes that has so many left.
+#[tactic(auto, using(crate::proofs::StepLemmas::large_count, crate::proofs::StepLemmas::small_count))]
+fn next_annealed(left: u32) -> u32
+    requires { 0 < left }
+    ensures counts { counts_of 16384 left ≡ result ∷ counts_of 16384 (left - result) }
+    ensures most { result ≤ left }
+{
+    if left < MAX_ANNEALED {
+        left
+    } else {
+        MAX_ANNEALED
     }
 }

@@ -18,6 +18,7 @@ pub(crate) enum Verb {
     Search,
     Reach,
     Deviation,
+    Anneal,
     Print,
     Show,
     Next,
@@ -61,6 +62,9 @@ pub(crate) fn verb_named(word: &[u8]) -> Option<Verb>
     }
     if is_word(word, b"deviation") {
         return Some(Verb::Deviation);
+    }
+    if is_word(word, b"anneal") {
+        return Some(Verb::Anneal);
     }
     if is_word(word, b"print") {
         return Some(Verb::Print);

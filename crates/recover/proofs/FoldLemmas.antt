@@ -3,7 +3,7 @@ use Rattle.std.proofs.Common.{◌≡◌, ℕ, List, [], ◌∷◌, take, sym, �
 use Rattle.sector_disk.specs.declared.mem_device.MemDevice.{MemDevice}
 use Rattle.plan_audit.specs.Locality.{TestsSayPass}
 use Rattle.command_core.specs.Runs.{after, AreAccepted}
-use Rattle.command_core.specs.RunLaws.{RunsKeepFacts, PlansNeverCostMore, RunsAreOneSearch, IsNoWorse}
+use Rattle.command_core.specs.RunLaws.{RunsKeepFacts, PlansNeverCostMore, RunsAreOneSearch, RunsAreOneAnnealing, IsNoWorse}
 use Rattle.command_core.specs.declared.states.State.{State}
 use Rattle.command_core.specs.declared.commands.Command.{Command}
 use Rattle.recover.specs.declared.replies.Run.{Run}
@@ -53,7 +53,7 @@ begins (round ∷ rounds) (run ∷ runs) device left session are opened = record
 begins [] (run ∷ runs) device left session are opened = elim are [ ]
 begins (round ∷ rounds) [] device left session are opened = elim are [ ]
 
-module _ (keep : RunsKeepFacts) (never_more : PlansNeverCostMore) (one_search : RunsAreOneSearch) (say : TestsSayPass) where
+module _ (keep : RunsKeepFacts) (never_more : PlansNeverCostMore) (one_search : RunsAreOneSearch) (one_annealing : RunsAreOneAnnealing) (say : TestsSayPass) where
   leads_to : (begun : State) (commands : List Command) (given : State) (image : List ℕ) → AreAccepted begun commands → given ≡ after begun commands → StandsFor Two image given
       → LeadsTo begun commands given
   leads_to begun commands given image accepted same stands = record {
@@ -63,6 +63,8 @@ module _ (keep : RunsKeepFacts) (never_more : PlansNeverCostMore) (one_search : 
     cost = λ q from to. subst (λ (s : State). IsNoWorse (after begun (take q commands)) s) (sym same) (never_more begun commands q accepted from to).0;
     search = λ before searches job split all reached.
         same ∙ sym (ap (after begun) split) ∙ after-append begun before searches ∙ ap (λ (s : State). after s searches) reached ∙ one_search job searches all;
+    annealing = λ before annealings job split all reached.
+        same ∙ sym (ap (after begun) split) ∙ after-append begun before annealings ∙ ap (λ (s : State). after s annealings) reached ∙ one_annealing job annealings all;
   }
 
   pub is_fold : (device : MemDevice) (rounds : List Round) (runs : List Run) (session : SessionValue MemDevice) → EndsRounds device rounds runs session

@@ -10,7 +10,7 @@ use Rattle.command_core.specs.Runs.{after, AreAccepted, steps_of}
 use Rattle.command_core.specs.declared.states.State.{State}
 use Rattle.command_core.specs.declared.states.State.TheVariants.{Empty, Loaded}
 use Rattle.command_core.specs.declared.commands.Command.{Command}
-use Rattle.command_core.specs.declared.commands.Command.TheVariants.{Load, Add, Add1, Withdraw, Pin, Unpin, Build, Search, Checkpoint, Deviation}
+use Rattle.command_core.specs.declared.commands.Command.TheVariants.{Load, Add, Add1, Withdraw, Pin, Unpin, Build, Search, Checkpoint, Deviation, Anneal}
 use Rattle.state_codec.specs.declared.version.Version.{Version}
 use Rattle.state_codec.specs.Limits.{IsRecorded}
 use Rattle.checkpoint.specs.declared.places.Place.{Place}
@@ -35,6 +35,7 @@ module _ (version : Version) where
   adds_one Empty (Search count) recorded accepted = cc accepted
   adds_one Empty Checkpoint recorded accepted = cc accepted
   adds_one Empty (Deviation d) recorded accepted = cc accepted
+  adds_one Empty (Anneal count) recorded accepted = cc accepted
   adds_one (Loaded j) (Load p seed) recorded accepted = elim recorded [ ]
   adds_one (Loaded j) (Add q a b) recorded accepted = none (Loaded j) (effect (Loaded j) (Add q a b)) refl
   adds_one (Loaded j) (Add1 q a) recorded accepted = none (Loaded j) (effect (Loaded j) (Add1 q a)) refl
@@ -45,6 +46,7 @@ module _ (version : Version) where
   adds_one (Loaded j) (Search count) recorded accepted = refl
   adds_one (Loaded j) Checkpoint recorded accepted = elim recorded [ ]
   adds_one (Loaded j) (Deviation d) recorded accepted = none (Loaded j) (effect (Loaded j) (Deviation d)) refl
+  adds_one (Loaded j) (Anneal count) recorded accepted = elim recorded [ ]
 
   adds : (s : State) (cs : List Command) → AllByRecursion (IsRecorded version) cs → AreAccepted s cs → steps_in (after s cs) ≡ steps_in s + sum_by steps_of cs
   adds s [] recorded accepted = none s s refl
@@ -65,6 +67,7 @@ module _ (version : Version) where
   few_of (Search count) recorded = recorded.1
   few_of Checkpoint recorded = elim recorded [ ]
   few_of (Deviation d) recorded = omega arith
+  few_of (Anneal count) recorded = elim recorded [ ]
 
   few : (cs : List Command) → AllByRecursion (IsRecorded version) cs → sum_by steps_of cs ≤ 256 * length cs
   few [] recorded = omega arith

@@ -16,7 +16,7 @@ use Rattle.recover.specs.StandsFor.{StandsFor}
 use Rattle.recover.specs.Moments.{RunLeaves}
 use Rattle.recover.specs.Sessions.{SessionValue}
 
--- A snapshot is due: for Load and for Checkpoint, and where 256 records stand.
+-- A snapshot is due: for Load, Checkpoint and Anneal, and where 256 records stand.
 abbrev pub is_snapshot_due : Place → Command → Bool
 is_snapshot_due place command = not (is_recorded command) || (place.used == 256)
 

@@ -2,8 +2,8 @@
 use Rattle.std.specs.Prelude.{◌≡◌, ℕ, ◌+◌, ◌≤◌, true, List, [], ◌∷◌, ◌++◌, length, take, sum_by, ⊤}
 use Rattle.std.specs.List.{list_all}
 use Rattle.command_core.specs.Job.{JobValue}
-use Rattle.command_core.specs.Effects.{searched}
-use Rattle.command_core.specs.Runs.{after, AreAccepted, last_change, is_searching, steps_of}
+use Rattle.command_core.specs.Effects.{searched, annealed}
+use Rattle.command_core.specs.Runs.{after, AreAccepted, last_change, is_searching, is_annealing, steps_of}
 use Rattle.command_core.specs.RunLaws.{IsNoWorse}
 use Rattle.command_core.specs.declared.states.State.{State}
 use Rattle.command_core.specs.declared.states.State.TheVariants.{Loaded}
@@ -34,7 +34,8 @@ standing (round ∷ rounds) (run ∷ runs) (count ∷ counts) = take count (kept
 standing _ _ _ = []
 
 -- Where these commands led from one state to another. The plan passes the auditor, and from the last change of requests or pins on no
--- incumbent had a lower cost. Searches at the end, with checkpoints between them or not, left what one search of all their steps would.
+-- incumbent had a lower cost. Searches at the end, with checkpoints between them or not, left what one search of all their steps would, and so did
+-- annealings.
 pub record LeadsTo (begun : State) (commands : List Command) (given : State) : Type 0 where
   pub accepted : AreAccepted begun commands
   pub state : given ≡ after begun commands
@@ -42,6 +43,8 @@ pub record LeadsTo (begun : State) (commands : List Command) (given : State) : T
   pub cost : (q : ℕ) → last_change commands ≤ q → q ≤ length commands → IsNoWorse (after begun (take q commands)) given
   pub search : (before searches : List Command) (job : JobValue) → before ++ searches ≡ commands → list_all is_searching searches ≡ true
       → after begun before ≡ Loaded job → given ≡ Loaded (searched job (sum_by steps_of searches))
+  pub annealing : (before annealings : List Command) (job : JobValue) → before ++ annealings ≡ commands → list_all is_annealing annealings ≡ true
+      → after begun before ≡ Loaded job → given ≡ Loaded (annealed job (sum_by steps_of annealings))
 
 -- The commands that stand led there, from the state that this image stands for.
 pub record IsFold (image : List ℕ) (rounds : List Round) (runs : List Run) (given : State) : Type 0 where

@@ -45,7 +45,7 @@ fn has_record(command: &Command) -> bool
     ensures fits { result ≡ true → fits_record command.now ≡ true → IsRecorded Two command.now }
 {
     match command {
-        Command::Load(_, _) | Command::Checkpoint => false,
+        Command::Load(_, _) | Command::Checkpoint | Command::Anneal(_) => false,
         Command::Withdraw(number) | Command::Unpin(number) => {
             let _fits = *number;
             true
@@ -62,7 +62,7 @@ fn has_record(command: &Command) -> bool
     }
 }
 
-/// Whether a snapshot is due: for Load and Checkpoint, and where 256 records stand.
+/// Whether a snapshot is due: for Load, Checkpoint and Anneal, and where 256 records stand.
 pub(crate) fn is_snapshot_due(place: Place, command: &Command) -> bool
     ensures { result ≡ is_snapshot_due place command.now }
 {

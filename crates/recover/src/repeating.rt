@@ -27,7 +27,7 @@ fn fault_of(refusal: Refusal) -> StoreFault
     }
 }
 
-/// The search steps that a state has made.
+/// The steps that a state has made.
 pub(crate) fn steps_in(state: &State) -> u64
     ensures { result ≡ steps_in state.now }
 {
@@ -37,12 +37,13 @@ pub(crate) fn steps_in(state: &State) -> u64
     }
 }
 
-// The search steps that a command makes.
+// The steps that a command makes.
 fn steps_of(command: &Command) -> u64
     ensures { result ≡ steps_of command.now }
 {
     match command {
         Command::Search(count) => u64::from(*count),
+        Command::Anneal(count) => u64::from(*count),
         Command::Load(_, _)
         | Command::Add { .. }
         | Command::Add1 { .. }
@@ -55,7 +56,7 @@ fn steps_of(command: &Command) -> u64
     }
 }
 
-/// The search steps that these commands make, where a `u64` holds them.
+/// The steps that these commands make, where a `u64` holds them.
 pub(crate) fn steps_among(commands: &[Command]) -> u64
     ensures { sum_by steps_of commands.now < 2 ^ 64 → result ≡ sum_by steps_of commands.now }
 {

@@ -12,7 +12,9 @@ ghost use Rattle.recover.specs.Folds.{IsFold};
 use crate::replies::Run;
 use crate::sessions::Session;
 use checkpoint::StoreFault;
-use command_core::{Command, effects_keep_facts, plans_never_cost_more, searches_add_up};
+use command_core::{
+    Command, annealings_add_up, effects_keep_facts, plans_never_cost_more, searches_add_up,
+};
 use plan_audit::tests_say_pass;
 use sector_disk::MemDevice;
 use std::alloc::Global;
@@ -138,7 +140,8 @@ pub fn run_round(
 ///
 /// The session's state is the one after the commands that stand, joined: of each round a first part of its commands, with all that it
 /// acknowledged and at most one more. Its plan passes the auditor and costs no more than any incumbent since the last change of requests
-/// or pins among them, and searches are one search, however the rounds cut them. A fault leaves the device as the rounds before left it.
+/// or pins among them, and searches are one search, however the rounds cut them, as are annealings. A fault leaves the device as the
+/// rounds before left it.
 pub fn run_rounds(
     alloc: Global,
     device: MemDevice,
@@ -153,6 +156,7 @@ pub fn run_rounds(
     effects_keep_facts();
     plans_never_cost_more();
     searches_add_up();
+    annealings_add_up();
     tests_say_pass();
     let Ok(mut runs) = Vec::with_capacity(alloc, rounds.len()) else {
         return Err((RoundsFault::OutOfMemory, device));

@@ -73,9 +73,9 @@ impl<D: Sectors> Session<D> {
 
     /// Carries a command out and makes it durable. `Ok` comes after the last sync; from then on no stop loses the command.
     ///
-    /// `Load` and `Checkpoint` write a snapshot, with four calls of the device. Any other command writes a record, with two, or a snapshot
-    /// where 256 records stand. Every denial but `DeviceFault` leaves all as it was. After `DeviceFault` the session is broken: each image
-    /// that a stop may leave stands for the state before the command or for the one after it, and opening the device tells which.
+    /// `Load`, `Checkpoint` and `Anneal` write a snapshot, with four calls of the device. Any other command writes a record, with two, or
+    /// a snapshot where 256 records stand. Every denial but `DeviceFault` leaves all as it was. After `DeviceFault` the session is broken:
+    /// each image that a stop may leave stands for the state before the command or for the one after it, and opening the device tells which.
     pub fn apply(&mut self, alloc: Global, command: Command) -> Reply
         ensures answer { IsAnswer (denial self.old command) result.answer }
         ensures makes { Makes result.answer self.old command self.new }

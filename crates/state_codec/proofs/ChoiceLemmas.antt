@@ -5,7 +5,7 @@ use Rattle.std.proofs.lemmas.Bool.Decides.{eqb_tells}
 use Rattle.plan_types.specs.Limits.{IsCoordinate}
 use Rattle.command_core.specs.declared.commands.Spot.{Spot}
 use Rattle.command_core.specs.declared.commands.Command.{Command}
-use Rattle.command_core.specs.declared.commands.Command.TheVariants.{Load, Add, Add1, Withdraw, Pin, Unpin, Build, Search, Checkpoint, Deviation}
+use Rattle.command_core.specs.declared.commands.Command.TheVariants.{Load, Add, Add1, Withdraw, Pin, Unpin, Build, Search, Checkpoint, Deviation, Anneal}
 use Rattle.state_codec.specs.declared.version.Version.{Version}
 use Rattle.state_codec.specs.declared.version.Version.TheVariants.{One, Two}
 use Rattle.state_codec.specs.Bytes.{record_bytes, width}
@@ -69,6 +69,7 @@ recorded v Build = inl tt
 recorded v (Search count) = settled_both (at_most 1 count) (at_most count 256)
 recorded v Checkpoint = inr (λ h. h)
 recorded v (Deviation d) = deviation v d
+recorded v (Anneal count) = inr (λ h. h)
 
 same_numbers : (xs ys : List ℕ) → Settled (xs ≡ ys)
 same_numbers [] [] = inl refl

@@ -4,7 +4,7 @@ use Rattle.std.specs.Prelude.{replicate}
 use Rattle.std.proofs.lemmas.List.{drop_at}
 use Rattle.command_core.specs.declared.commands.Spot.{Spot}
 use Rattle.command_core.specs.declared.commands.Command.{Command}
-use Rattle.command_core.specs.declared.commands.Command.TheVariants.{Load, Add, Add1, Withdraw, Pin, Unpin, Build, Search, Checkpoint, Deviation}
+use Rattle.command_core.specs.declared.commands.Command.TheVariants.{Load, Add, Add1, Withdraw, Pin, Unpin, Build, Search, Checkpoint, Deviation, Anneal}
 use Rattle.state_codec.specs.declared.version.Version.{Version}
 use Rattle.state_codec.specs.declared.version.Version.TheVariants.{One, Two}
 use Rattle.state_codec.specs.Bytes.{number_bytes, signed_bytes, count_bytes, spot_bytes, command_bytes, fields_bytes, record_bytes, width}
@@ -56,6 +56,7 @@ command_again v (Search count) rest is = rw (number_again 2 count rest (omega (a
 command_again v Checkpoint rest is = absurd is
 command_again One (Deviation deviation) rest is = absurd is
 command_again Two (Deviation deviation) rest is = rw (number_again 4 deviation rest (omega (arith, is))) refl
+command_again v (Anneal count) rest is = absurd is
 
 -- the command of a record, behind its sequence and index
 pub record_again : (v : Version) (sector : List ℕ) (sequence index : ℕ) (c : Command) → IsRecorded v c → sector ≡ record_bytes v sequence index c → (rest : List ℕ) × (command_at v (drop 12 sector) ≡ Ok (c, rest))

@@ -6,7 +6,7 @@ use Rattle.command_core.specs.declared.states.State.{State}
 use Rattle.command_core.specs.declared.states.State.TheVariants.{Empty, Loaded}
 use Rattle.command_core.specs.declared.commands.Spot.{Spot}
 use Rattle.command_core.specs.declared.commands.Command.{Command}
-use Rattle.command_core.specs.declared.commands.Command.TheVariants.{Load, Add, Add1, Withdraw, Pin, Unpin, Build, Search, Checkpoint, Deviation}
+use Rattle.command_core.specs.declared.commands.Command.TheVariants.{Load, Add, Add1, Withdraw, Pin, Unpin, Build, Search, Checkpoint, Deviation, Anneal}
 use Rattle.state_codec.specs.declared.version.Version.{Version}
 use Rattle.state_codec.specs.declared.version.Version.TheVariants.{One, Two}
 use Rattle.state_codec.specs.Bytes.{width}
@@ -48,7 +48,7 @@ abbrev pub IsDeviationOf : Version → ℕ → Type 0
 IsDeviationOf One d = ⊥
 IsDeviationOf Two d = d ≤ 1000000000
 
--- The commands that have a record: all but Load and Checkpoint, with fields within their limits. Numbers of requests, vehicles and
+-- The commands that have a record: all but Load, Checkpoint and Anneal, with fields within their limits. Numbers of requests, vehicles and
 -- places may be any.
 abbrev pub IsRecorded : Version → Command → Type 0
 IsRecorded v (Load problem seed) = ⊥
@@ -61,3 +61,4 @@ IsRecorded v Build = Unit {0}
 IsRecorded v (Search count) = (1 ≤ count) × (count ≤ 256)
 IsRecorded v Checkpoint = ⊥
 IsRecorded v (Deviation deviation) = IsDeviationOf v deviation
+IsRecorded v (Anneal count) = ⊥

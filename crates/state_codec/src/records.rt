@@ -21,8 +21,8 @@ const MAX_STEPS: u16 = 256;
 
 const MAX_DEVIATION: u32 = 1_000_000_000;
 
-/// The sector of a record: the command as the one of this index in the journal of this sequence. The command is none of Load and
-/// Checkpoint, and its fields keep their limits. Takes no memory.
+/// The sector of a record: the command as the one of this index in the journal of this sequence. The command is none of Load,
+/// Checkpoint and Anneal, and its fields keep their limits. Takes no memory.
 pub fn encode_record(sequence: u64, index: u32, command: &Command) -> [u8; 512]
     requires { IsRecorded Two command.now }
     ensures { result ≡ record_bytes Two sequence index command.now }
@@ -85,7 +85,7 @@ fn put_command(version: Version, sector: &mut Sector, command: &Command)
     ensures { sector.new ≡ sector.old ++ command_bytes version command.now }
 {
     match command {
-        Command::Load(..) | Command::Checkpoint => {}
+        Command::Load(..) | Command::Checkpoint | Command::Anneal(_) => {}
         Command::Add {
             demand,
             pickup,
@@ -177,7 +177,7 @@ fn is_recorded(version: Version, command: &Command) -> bool
     ensures { IsTrue result ↔ IsRecorded version command.now }
 {
     match command {
-        Command::Load(..) | Command::Checkpoint => false,
+        Command::Load(..) | Command::Checkpoint | Command::Anneal(_) => false,
         Command::Build => true,
         Command::Add {
             demand,

@@ -1,9 +1,10 @@
 //! The text of commands: `command_text`.
 
+use crate::solving::SIX;
 use command_core::{Command, Job, Refusal, State, apply};
 use command_text::{
-    Answer, Asked, FirstWord, at_line, next_count, next_line, print, read_instance, read_line,
-    show, steps_to_reach, steps_to_search,
+    Answer, Asked, FirstWord, Goal, Steps, at_line, next_command, next_line, print, read_instance,
+    read_line, show, steps_to_make,
 };
 use instance_read::{ReadFault, ReadFaultKind};
 use plan_types::Kind;
@@ -28,12 +29,20 @@ fn summary(asked: &Asked) -> (&'static str, u64) {
         Asked::Load { len, .. } => ("load", u64::from(*len)),
         Asked::Plain(command) => command_summary(command),
         Asked::Refused(refusal) => (refusal.name(), 0),
-        Asked::Search(steps) => ("search", u64::from(*steps)),
-        Asked::Reach(goal) => ("reach", *goal),
+        Asked::Steps(goal) => goal_summary(*goal),
         Asked::Print => ("print", 0),
         Asked::Show => ("show", 0),
         Asked::Next => ("next", 0),
         Asked::Help => ("help", 0),
+    }
+}
+
+fn goal_summary(goal: Goal) -> (&'static str, u64) {
+    match goal {
+        Goal::Search(steps) => ("search", u64::from(steps)),
+        Goal::Reach(number) => ("reach", number),
+        Goal::Anneal(steps) => ("anneal", u64::from(steps)),
+        Goal::Stages { to, .. } => ("anneal to", to),
     }
 }
 
@@ -49,13 +58,14 @@ fn command_summary(command: &Command) -> (&'static str, u64) {
         Command::Search(_) => ("the command", 0),
         Command::Checkpoint => ("checkpoint", 0),
         Command::Deviation(deviation) => ("deviation", u64::from(*deviation)),
+        Command::Anneal(_) => ("the command", 0),
     }
 }
 
 /// A line, the word for what it asks, and the first number of that.
 type Reading = (&'static [u8], &'static str, u64);
 
-const READINGS: [Reading; 50] = [
+const READINGS: [Reading; 61] = [
     (b"", "nothing", 0),
     (b" \t ", "nothing", 0),
     (b"\r", "bad line", 0),
@@ -86,6 +96,21 @@ const READINGS: [Reading; 50] = [
     (b"search 000000000000000000007", "bad line", 0),
     (b"search -00000000000000000007", "Range", 0),
     (b"search 18446744073709551616", "Range", 0),
+    (b"anneal 1", "anneal", 1),
+    (b"anneal 1000000000", "anneal", 1_000_000_000),
+    (b"anneal 1000000001", "Range", 0),
+    (b"anneal 0", "Range", 0),
+    (b"anneal", "bad line", 0),
+    (b"anneal 0 1000", "anneal to", 1000),
+    (b"anneal 7 7", "anneal to", 7),
+    (b"anneal 8 7", "Range", 0),
+    (
+        b"anneal 0 1152921504606846976",
+        "anneal to",
+        1_152_921_504_606_846_976,
+    ),
+    (b"anneal 0 1152921504606846977", "Range", 0),
+    (b"anneal 0 1 2", "bad line", 0),
     (b"reach -0", "reach", 0),
     (b"reach 1152921504606846976", "reach", 1 << 60),
     (b"reach 1152921504606846977", "Range", 0),
@@ -200,22 +225,34 @@ fn writes_answers(rt: HostRuntime) {
 }
 
 fn loaded(alloc: Global, kind: Kind, text: &[u8]) -> Result<State, Fail> {
+    seeded(alloc, kind, text, 0)
+}
+
+fn seeded(alloc: Global, kind: Kind, text: &[u8], seed: u64) -> Result<State, Fail> {
     let problem = read_instance(alloc, kind, text).ok().ok_or("a problem")?;
-    let load = Command::Load(problem, 0);
+    let load = Command::Load(problem, seed);
     Ok(apply(alloc, &State::Empty, &load).ok().ok_or("a load")?)
 }
 
-fn command_of(line: &[u8]) -> Result<Command, Fail> {
+fn command_of(line: &[u8], state: &State) -> Result<Command, Fail> {
     match read_line(line) {
         Asked::Plain(command) => Ok(command),
-        Asked::Search(steps) if steps > 0 => Ok(Command::Search(next_count(steps))),
+        Asked::Steps(goal) => first_of(steps_to_make(state, goal)?, state),
         _ => Err("a command".into()),
+    }
+}
+
+// The first command of these steps.
+fn first_of(steps: Steps, state: &State) -> Result<Command, Fail> {
+    match next_command(steps, state) {
+        Some((command, _rest)) => Ok(command),
+        None => Err("a command".into()),
     }
 }
 
 // What a line makes of a state.
 fn after(alloc: Global, state: &State, line: &[u8]) -> Result<State, Fail> {
-    let command = command_of(line)?;
+    let command = command_of(line, state)?;
     Ok(apply(alloc, state, &command).ok().ok_or("accepted")?)
 }
 
@@ -338,22 +375,126 @@ fn searched(alloc: Global) -> Result<State, Fail> {
     after(alloc, &state, b"search 200")
 }
 
+// How many steps of the search `reach` makes.
+fn lacking(state: &State, number: u64) -> Result<Steps, Refusal> {
+    steps_to_make(state, Goal::Reach(number))
+}
+
 #[test]
 fn counts_the_steps_to_reach(rt: HostRuntime) -> Result<(), Fail> {
     let state = searched(rt.alloc())?;
-    assert!(rt; steps_to_reach(&state, 456) == Ok(256));
-    assert!(rt; steps_to_reach(&state, 10) == Ok(0));
-    assert!(rt; steps_to_reach(&state, 1_000_000_200) == Ok(1_000_000_000));
-    assert!(rt; steps_to_reach(&state, 1_000_000_201) == Err(Refusal::Range));
+    assert!(rt; lacking(&state, 456) == Ok(Steps::Search(256)));
+    assert!(rt; lacking(&state, 10) == Ok(Steps::Search(0)));
+    assert!(rt; lacking(&state, 1_000_000_200) == Ok(Steps::Search(1_000_000_000)));
+    assert!(rt; lacking(&state, 1_000_000_201) == Err(Refusal::Range));
     Ok(())
 }
 
 #[test]
-fn counts_the_steps_to_search(rt: HostRuntime) -> Result<(), Fail> {
+fn makes_the_steps_of_a_line(rt: HostRuntime) -> Result<(), Fail> {
     let state = searched(rt.alloc())?;
-    assert!(rt; steps_to_search(&state, 300) == Ok(300));
-    assert!(rt; steps_to_search(&State::Empty, 300) == Err(Refusal::NoInstance));
-    assert!(rt; next_count(300) == 256);
-    assert!(rt; next_count(44) == 44);
+    assert!(rt; steps_to_make(&state, Goal::Search(300)) == Ok(Steps::Search(300)));
+    assert!(rt; steps_to_make(&state, Goal::Anneal(300)) == Ok(Steps::Anneal(300)));
+    assert!(rt; steps_to_make(&State::Empty, Goal::Search(300)) == Err(Refusal::NoInstance));
+    assert!(rt; steps_to_make(&State::Empty, Goal::Anneal(300)) == Err(Refusal::NoInstance));
+    Ok(())
+}
+
+// How many steps the first command of a search or of annealing makes, and what is left behind it.
+fn first(steps: Steps) -> Option<(u32, Steps)> {
+    match next_command(steps, &State::Empty)? {
+        (Command::Search(count), rest) => Some((u32::from(count), rest)),
+        (Command::Anneal(count), rest) => Some((count, rest)),
+        _ => None,
+    }
+}
+
+#[test]
+fn cuts_steps_into_commands(rt: HostRuntime) {
+    assert!(rt; first(Steps::Search(300)) == Some((256, Steps::Search(44))));
+    assert!(rt; first(Steps::Search(44)) == Some((44, Steps::Search(0))));
+    assert!(rt; first(Steps::Search(0)) == None);
+    assert!(rt; first(Steps::Anneal(16_385)) == Some((16_384, Steps::Anneal(1))));
+    assert!(rt; first(Steps::Anneal(1)) == Some((1, Steps::Anneal(0))));
+    assert!(rt; first(Steps::Anneal(0)) == None);
+}
+
+// The state behind so many of the commands of a line, or behind all.
+fn carried(alloc: Global, begun: State, goal: Goal, most: usize) -> Result<State, Fail> {
+    let mut state = begun;
+    let mut left = steps_to_make(&state, goal)?;
+    for _ in 0..most {
+        let Some((command, rest)) = next_command(left, &state) else {
+            break;
+        };
+        state = apply(alloc, &state, &command).ok().ok_or("accepted")?;
+        left = rest;
+    }
+    Ok(state)
+}
+
+// Six customers with a plan, and what so many commands of `anneal 0 7` make of it: a deviation and a step for each stage that has one.
+fn annealed(alloc: Global, most: usize) -> Result<State, Fail> {
+    let state = seeded(alloc, Kind::Vrp, SIX, 1)?;
+    let built = after(alloc, &state, b"build")?;
+    carried(alloc, built, Goal::Stages { from: 0, to: 7 }, most)
+}
+
+/// How many commands, and how far the steps are then. The costs are those of another program, which goes through the stages by the letter.
+const STAGES: [(usize, &[u8]); 10] = [
+    (0, b"at 0 0 0 66"),
+    (1, b"at 0 0 0 66"),
+    (2, b"at 1 0 0 65"),
+    (4, b"at 2 0 0 65"),
+    (6, b"at 3 0 0 65"),
+    (8, b"at 4 0 0 65"),
+    (10, b"at 5 0 0 65"),
+    (12, b"at 6 0 0 63"),
+    (14, b"at 7 0 0 63"),
+    (99, b"at 7 0 0 63"),
+];
+
+#[test]
+fn anneals_by_stages(rt: HostRuntime) -> Result<(), Fail> {
+    for (most, at) in STAGES {
+        let state = annealed(rt.alloc(), most)?;
+        assert!(rt; at_line(job_of(&state)?).as_bytes() == at, "{most}");
+    }
+    Ok(())
+}
+
+// What is shown behind `anneal 0 7` that is cut behind so many commands and asked for again.
+fn shown_again(alloc: Global, most: usize) -> Result<String, Fail> {
+    let goal = Goal::Stages { from: 0, to: 7 };
+    let state = carried(alloc, annealed(alloc, most)?, goal, 99)?;
+    let shown = show(alloc, job_of(&state)?)?;
+    Ok(String::from_utf8(shown.as_bytes().to_vec(alloc)?)?)
+}
+
+#[test]
+fn goes_on_where_it_was_cut(rt: HostRuntime) -> Result<(), Fail> {
+    let uncut = shown_again(rt.alloc(), 99)?;
+    for most in 0..15 {
+        assert_eq!(rt; shown_again(rt.alloc(), most)?.as_str(), uncut.as_str());
+    }
+    Ok(())
+}
+
+#[test]
+fn asks_for_stages(rt: HostRuntime) -> Result<(), Fail> {
+    let state = searched(rt.alloc())?;
+    let range = Err(Refusal::Range);
+    assert!(rt; steps_to_make(&state, Goal::Stages { from: 201, to: 300 }) == range);
+    assert!(rt;
+        steps_to_make(
+            &state,
+            Goal::Stages {
+                from: 0,
+                to: 1_000_000_201
+            }
+        ) == range
+    );
+    let past = steps_to_make(&state, Goal::Stages { from: 0, to: 200 })?;
+    assert!(rt; next_command(past, &state).is_none());
     Ok(())
 }

@@ -21,7 +21,7 @@ const FOUR_PAIRS: &[u8] =
     b"4 4 1\n0 0 0 0 0 60 0 0 0\n1 -2 -5 1 7 26 1 0 2\n2 5 0 -1 16 35 1 1 0\n3 -6 0 3 2 7 1 0 4\n4 2 -2 -3 16 21 1 3 0\n5 -1 -2 1 17 24 1 0 6\n6 6 -4 -1 25 32 1 5 0\n7 -6 4 1 30 42 1 0 8\n8 6 -2 -1 36 48 1 7 0\n";
 
 /// Six customers around a depot, for vehicles of 4.
-const SIX: &[u8] =
+pub(crate) const SIX: &[u8] =
     b"NAME : six\nTYPE : CVRP\nDIMENSION : 7\nEDGE_WEIGHT_TYPE : EUC_2D\nCAPACITY : 4\nNODE_COORD_SECTION\n1 0 0\n2 3 4\n3 6 8\n4 -3 4\n5 -6 8\n6 0 5\n7 9 1\nDEMAND_SECTION\n1 0\n2 2\n3 2\n4 1\n5 1\n6 3\n7 2\nDEPOT_SECTION\n1\n-1\nEOF\n";
 
 /// What is told on the way, and the text.

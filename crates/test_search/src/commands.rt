@@ -24,6 +24,7 @@ enum Step {
     Search(u16),
     Checkpoint,
     Deviation(u32),
+    Anneal(u32),
 }
 
 fn spot(earliest: u32, latest: u32) -> Spot {
@@ -56,6 +57,7 @@ fn command(step: Step) -> Command {
         Step::Search(count) => Command::Search(count),
         Step::Checkpoint => Command::Checkpoint,
         Step::Deviation(deviation) => Command::Deviation(deviation),
+        Step::Anneal(count) => Command::Anneal(count),
     }
 }
 

@@ -139,6 +139,17 @@ fn a_full_journal_becomes_a_snapshot(rt: HostRuntime) -> Result<(), Fail> {
     Ok(())
 }
 
+// What annealing makes of a store goes into it as a snapshot, with four calls, and is not made again.
+#[test]
+fn annealing_becomes_a_snapshot(rt: HostRuntime) -> Result<(), Fail> {
+    let mut session = searched(rt.alloc(), 2)?;
+    assert!(rt; answer(rt.alloc(), &mut session, Command::Anneal(3)) == (Ok(()), 15));
+    assert!(rt; answer(rt.alloc(), &mut session, Command::Search(4)) == (Ok(()), 17));
+    let opened = open(rt.alloc(), session.close())?;
+    assert!(rt; opened.replayed == 4 && counts(opened.session.state()) == (9, 1));
+    Ok(())
+}
+
 // A session whose device failed in a command, and what it answered.
 fn broken(alloc: Global) -> Result<(Session<MemDevice>, (Result<(), Denial>, u64)), Fail> {
     let mut device = loaded_store(alloc)?;

@@ -56,10 +56,18 @@ fn searches(alloc: Global, counts: [u16; 2]) -> Result<Vec<Command>, Fail> {
     Ok(commands)
 }
 
-// After two more finished calls every call fails, and each sector takes what is synced.
-fn halt_after_two(alloc: Global) -> Option<Halt> {
+fn annealings(alloc: Global, counts: [u32; 2]) -> Result<Vec<Command>, Fail> {
+    let mut commands = Vec::new(alloc);
+    for count in counts {
+        commands.push(Command::Anneal(count))?;
+    }
+    Ok(commands)
+}
+
+// After so many more finished calls every call fails, and each sector takes what is synced.
+fn halt_after(alloc: Global, calls: u64) -> Option<Halt> {
     Some(Halt {
-        calls: 2,
+        calls,
         choices: Vec::new(alloc),
     })
 }
@@ -67,7 +75,7 @@ fn halt_after_two(alloc: Global) -> Option<Halt> {
 fn three_rounds(alloc: Global) -> Result<Vec<Round>, Fail> {
     let mut rounds = Vec::new(alloc);
     rounds.push(round(load_and_build(alloc)?, None))?;
-    rounds.push(round(searches(alloc, [256, 44])?, halt_after_two(alloc)))?;
+    rounds.push(round(searches(alloc, [256, 44])?, halt_after(alloc, 2)))?;
     rounds.push(round(searches(alloc, [256, 88])?, None))?;
     Ok(rounds)
 }
@@ -113,6 +121,28 @@ fn uncut(alloc: Global) -> Result<Vec<u8>, Fail> {
 #[test]
 fn rounds_cut_a_search(rt: HostRuntime) -> Result<(), Fail> {
     assert!(rt; cut(rt.alloc())? == uncut(rt.alloc())?);
+    Ok(())
+}
+
+// The same by annealing: each command is a snapshot, of four calls.
+fn annealed_in_rounds(alloc: Global) -> Result<Vec<u8>, Fail> {
+    let mut rounds = Vec::new(alloc);
+    rounds.push(round(load_and_build(alloc)?, None))?;
+    rounds.push(round(annealings(alloc, [300, 44])?, halt_after(alloc, 4)))?;
+    rounds.push(round(annealings(alloc, [256, 88])?, None))?;
+    let rounds = run_all(alloc, empty_store(alloc)?, rounds)?;
+    Ok(encode_state(alloc, rounds.session.state())?)
+}
+
+fn annealed_at_once(alloc: Global) -> Result<Vec<u8>, Fail> {
+    let built = state_after(alloc, State::Empty, &load_and_build(alloc)?)?;
+    let state = state_after(alloc, built, &[Command::Anneal(644)])?;
+    Ok(encode_state(alloc, &state)?)
+}
+
+#[test]
+fn rounds_cut_an_annealing(rt: HostRuntime) -> Result<(), Fail> {
+    assert!(rt; annealed_in_rounds(rt.alloc())? == annealed_at_once(rt.alloc())?);
     Ok(())
 }
 
@@ -167,7 +197,7 @@ fn refused(alloc: Global, device: MemDevice, rounds: Vec<Round>) -> Option<(Roun
 fn rounds_over_no_store(rt: HostRuntime) -> Result<(), Fail> {
     let alloc = rt.alloc();
     let mut rounds = Vec::new(alloc);
-    rounds.push(round(Vec::new(alloc), halt_after_two(alloc)))?;
+    rounds.push(round(Vec::new(alloc), halt_after(alloc, 2)))?;
     let not_formatted = RoundsFault::Open(StoreFault::NotFormatted);
     let device = MemDevice::new(alloc, SECTORS)?;
     assert!(rt; refused(alloc, device, rounds) == Some((not_formatted, 1)));

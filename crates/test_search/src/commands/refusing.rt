@@ -63,7 +63,7 @@ const OF_PINS: [Example; 10] = [
     ),
 ];
 
-const OF_OTHERS: [Example; 11] = [
+const OF_OTHERS: [Example; 14] = [
     (
         Given::Pairs,
         &[Step::Build],
@@ -82,6 +82,19 @@ const OF_OTHERS: [Example; 11] = [
         Given::Pairs,
         &[Step::Build],
         Step::Search(257),
+        Some(Refusal::Range),
+    ),
+    (
+        Given::Pairs,
+        &[Step::Build],
+        Step::Anneal(0),
+        Some(Refusal::Range),
+    ),
+    (Given::Pairs, &[Step::Build], Step::Anneal(65_536), None),
+    (
+        Given::Pairs,
+        &[Step::Build],
+        Step::Anneal(65_537),
         Some(Refusal::Range),
     ),
     (Given::Pairs, &[], Step::Deviation(1_000_000_000), None),
@@ -112,7 +125,7 @@ const OF_OTHERS: [Example; 11] = [
     ),
 ];
 
-const BEFORE_A_LOAD: [Step; 9] = [
+const BEFORE_A_LOAD: [Step; 10] = [
     Step::Add,
     Step::AddClosed,
     Step::Withdraw(1),
@@ -122,6 +135,7 @@ const BEFORE_A_LOAD: [Step; 9] = [
     Step::Search(0),
     Step::Checkpoint,
     Step::Deviation(u32::MAX),
+    Step::Anneal(0),
 ];
 
 // The refusal that `check` and `apply` both tell.
@@ -193,6 +207,9 @@ fn of_the_last_steps(rt: HostRuntime) -> Result<(), Fail> {
     let state = near_the_last_step(alloc, 1)?;
     assert_eq!(rt; refusal(alloc, &state, Step::Search(1)), None);
     let told = refusal(alloc, &state, Step::Search(2));
+    assert_eq!(rt; told, Some(Refusal::StepsSpent));
+    assert_eq!(rt; refusal(alloc, &state, Step::Anneal(1)), None);
+    let told = refusal(alloc, &state, Step::Anneal(2));
     assert_eq!(rt; told, Some(Refusal::StepsSpent));
     Ok(())
 }

@@ -57,7 +57,8 @@ const OF_PAIRS: [Example; 8] = [
     ),
 ];
 
-const OF_CUSTOMERS: [Example; 3] = [
+// What annealing steps find is what another program found, which says each step by the letter of its definition.
+const OF_CUSTOMERS: [Example; 6] = [
     (
         THREE,
         &[Step::Build],
@@ -72,6 +73,27 @@ const OF_CUSTOMERS: [Example; 3] = [
         THREE,
         &[Step::Build, Step::Add, Step::Deviation(5)],
         "4 next 6, steps 0, pins [0, 0, 0], plan [2, 1, 0, 3, 0, 0], work [2, 1, 0, 3, 0, 0], cost (1, 0, 30)",
+    ),
+    (
+        THREE,
+        &[Step::Build, Step::Deviation(100), Step::Anneal(1)],
+        "3 next 4, steps 1, pins [0, 0, 0], plan [2, 1, 0, 3, 0, 0], work [3, 2, 0, 1, 0, 0], cost (0, 0, 30)",
+    ),
+    (
+        THREE,
+        &[
+            Step::Build,
+            Step::Deviation(100),
+            Step::Anneal(1),
+            Step::Checkpoint,
+            Step::Anneal(1),
+        ],
+        "3 next 4, steps 2, pins [0, 0, 0], plan [1, 2, 0, 3, 0, 0], work [1, 2, 0, 3, 0, 0], cost (0, 0, 30)",
+    ),
+    (
+        THREE,
+        &[Step::Build, Step::Deviation(100), Step::Anneal(1_000)],
+        "3 next 4, steps 1000, pins [0, 0, 0], plan [2, 1, 0, 3, 0, 0], work [2, 1, 0, 3, 0, 0], cost (0, 0, 30)",
     ),
 ];
 

@@ -16,6 +16,7 @@ returns-clause-one c = effects_keep_facts (record {
   take_others = c.take_removes_one_request.ensures.others;
   named = c.requests_stand_by_name.ensures;
   steps = c.steps_keep_passing.ensures;
+  anneal_steps = c.anneal_steps_keep_passing.ensures;
 })
 
 pub returns-clause-many : goal.returns-clause-many

@@ -71,27 +71,16 @@ returns-in-Plain-clause-serves g c = λ reading rest is known.
     (line_on g.D.Sectors reading (asked.Plain c.in-Plain.command) rest old new before after left c.once-in-Plain.result c.tell-in-Plain.result c.once-in-Plain.ensures refl known
     (answers_told c.tell-in-Plain.result old new (λ s. plain s c.in-Plain.command) None (line (answer_text c.applied.result)) before after c.applied.ensures c.tell-in-Plain.ensures.bytes))
 
-pub returns-in-Search-clause-serves : goal.returns-in-Search-clause-serves
-returns-in-Search-clause-serves g c = λ reading rest is known.
+pub returns-in-Steps-clause-serves : goal.returns-in-Steps-clause-serves
+returns-in-Steps-clause-serves g c = λ reading rest is known.
     let old = c.args.session.now in
-    let new = c.serve_search.new.session in
+    let new = c.serve_steps.new.session in
     let before = g.W.Sink.contents c.args.writer.now in
-    let after = g.W.Sink.contents c.serve_search.new.writer in
+    let after = g.W.Sink.contents c.serve_steps.new.writer in
     let left = left_of g.R.Source.remaining c.args.input.now c.args.reader.now in
-    subst (λ a. GoesOn g.D.Sectors c.once-in-Search.result reading old (cut_at a rest) before after new left) (sym c.in-Search.is)
-    (line_on g.D.Sectors reading (asked.Search c.in-Search.steps) rest old new before after left c.once-in-Search.result c.serve_search.result c.once-in-Search.ensures refl known
-    (c.serve_search.ensures.answers))
-
-pub returns-in-Reach-clause-serves : goal.returns-in-Reach-clause-serves
-returns-in-Reach-clause-serves g c = λ reading rest is known.
-    let old = c.args.session.now in
-    let new = c.serve_reach.new.session in
-    let before = g.W.Sink.contents c.args.writer.now in
-    let after = g.W.Sink.contents c.serve_reach.new.writer in
-    let left = left_of g.R.Source.remaining c.args.input.now c.args.reader.now in
-    subst (λ a. GoesOn g.D.Sectors c.once-in-Reach.result reading old (cut_at a rest) before after new left) (sym c.in-Reach.is)
-    (line_on g.D.Sectors reading (asked.Reach c.in-Reach.goal) rest old new before after left c.once-in-Reach.result c.serve_reach.result c.once-in-Reach.ensures refl known
-    (c.serve_reach.ensures.answers))
+    subst (λ a. GoesOn g.D.Sectors c.once-in-Steps.result reading old (cut_at a rest) before after new left) (sym c.in-Steps.is)
+    (line_on g.D.Sectors reading (asked.Steps c.in-Steps.goal) rest old new before after left c.once-in-Steps.result c.serve_steps.result c.once-in-Steps.ensures refl known
+    (c.serve_steps.ensures.answers))
 
 pub returns-in-Print-clause-serves : goal.returns-in-Print-clause-serves
 returns-in-Print-clause-serves g c = λ reading rest is known.

@@ -69,4 +69,4 @@ returns-clause-rounds c = ends c
 
 pub returns-clause-fold : goal.returns-clause-fold
 returns-clause-fold c =
-    is_fold c.effects_keep_facts.ensures.many c.plans_never_cost_more.ensures c.searches_add_up.ensures.many c.tests_say_pass.ensures c.args.device c.args.rounds.items c.loop-round.runs.items c.in_ok-session.session (ends c)
+    is_fold c.effects_keep_facts.ensures.many c.plans_never_cost_more.ensures c.searches_add_up.ensures.many c.annealings_add_up.ensures.many c.tests_say_pass.ensures c.args.device c.args.rounds.items c.loop-round.runs.items c.in_ok-session.session (ends c)
