@@ -10,8 +10,8 @@ pub returns-then-is_broken-clause-answers : goal.returns-then-is_broken-clause-a
 returns-then-is_broken-clause-answers g c =
     let session = c.args.session.now in
     let broken : session.is_broken ≡ true = sym c.is_broken.ensures.broken ∙ c.if-is_broken.true in
-    answers_told c.tell.result session session (λ s. unless_broken s (searched_or s (steps_to_search s.state c.args.steps))) None (line (answer_text answer.Broken)) (g.W.Sink.contents c.args.writer.now) (g.W.Sink.contents c.tell.new.writer)
-    (steps_broken (λ state. steps_to_search state c.args.steps) session broken) c.tell.ensures.bytes
+    answers_told c.tell.result session session (λ s. unless_broken s (searched_or s (steps_to_search s.state c.args.steps))) None (line (answer_text answer.Broken)) (g.W.Sink.stream c.args.writer.now) (g.W.Sink.stream c.tell.new.writer)
+    (steps_broken (λ state. steps_to_search state c.args.steps) session broken) c.tell.ensures.told
 
 pub returns-in-Ok-clause-answers : goal.returns-in-Ok-clause-answers
 returns-in-Ok-clause-answers g c =
@@ -19,7 +19,7 @@ returns-in-Ok-clause-answers g c =
     let whole : session.is_broken ≡ false = sym c.is_broken.ensures.broken ∙ c.if-is_broken.false in
     let is : steps_to_search session.state c.args.steps ≡ Ok c.in-Ok.steps =
     ap (λ state. steps_to_search state c.args.steps) (sym c.state.ensures.state) ∙ sym c.steps_to_search.ensures ∙ c.in-Ok.is in
-    steps_begun g.D.Sectors c.search.result (λ state. steps_to_search state c.args.steps) session c.search.new.session c.in-Ok.steps (g.W.Sink.contents c.args.writer.now) (g.W.Sink.contents c.search.new.writer) whole is c.search.ensures.answers
+    steps_begun g.D.Sectors c.search.result (λ state. steps_to_search state c.args.steps) session c.search.new.session c.in-Ok.steps (g.W.Sink.stream c.args.writer.now) (g.W.Sink.stream c.search.new.writer) whole is c.search.ensures.answers
 
 pub returns-in-Err-clause-answers : goal.returns-in-Err-clause-answers
 returns-in-Err-clause-answers g c =
@@ -27,5 +27,5 @@ returns-in-Err-clause-answers g c =
     let whole : session.is_broken ≡ false = sym c.is_broken.ensures.broken ∙ c.if-is_broken.false in
     let is : steps_to_search session.state c.args.steps ≡ Err c.in-Err.refusal =
     ap (λ state. steps_to_search state c.args.steps) (sym c.state.ensures.state) ∙ sym c.steps_to_search.ensures ∙ c.in-Err.is in
-    answers_told c.tell-in-Err.result session session (λ s. unless_broken s (searched_or s (steps_to_search s.state c.args.steps))) None (line (answer_text (answer.Refused c.in-Err.refusal))) (g.W.Sink.contents c.args.writer.now) (g.W.Sink.contents c.tell-in-Err.new.writer)
-    (steps_refused (λ state. steps_to_search state c.args.steps) session c.in-Err.refusal whole is) c.tell-in-Err.ensures.bytes
+    answers_told c.tell-in-Err.result session session (λ s. unless_broken s (searched_or s (steps_to_search s.state c.args.steps))) None (line (answer_text (answer.Refused c.in-Err.refusal))) (g.W.Sink.stream c.args.writer.now) (g.W.Sink.stream c.tell-in-Err.new.writer)
+    (steps_refused (λ state. steps_to_search state c.args.steps) session c.in-Err.refusal whole is) c.tell-in-Err.ensures.told
