@@ -13,18 +13,18 @@ use Rattle.recover.specs.declared.replies.Reply.{Reply as SessionReply}
 use Rattle.command_serving.specs.Acts.{Act, Applied, Text, BeginsWith, carried_in, carried_of, commands_in, commands_of, fates_in, fates_of, had_it_not_failed, kept_of, replies_in, replies_of, unfailed}
 use Rattle.command_serving.specs.Served.{as_serving, preceded}
 
--- ---- lists of commands that begin so
+-- ---- lists that begin so
 
-pub begins_at_all : (all : List Command) → BeginsWith [] all
+pub begins_at_all : {X : Type 0} (all : List X) → BeginsWith [] all
 begins_at_all all = record { rest = all; whole = refl }
 
-pub begins_as : (front all same : List Command) → same ≡ all → BeginsWith front all → BeginsWith front same
+pub begins_as : {X : Type 0} (front all same : List X) → same ≡ all → BeginsWith front all → BeginsWith front same
 begins_as front all same is p = record { rest = p.rest; whole = is ∙ p.whole }
 
-pub begins_before : (front all more : List Command) → BeginsWith front all → BeginsWith front (all ++ more)
+pub begins_before : {X : Type 0} (front all more : List X) → BeginsWith front all → BeginsWith front (all ++ more)
 begins_before front all more p = record { rest = p.rest ++ more; whole = ap (λ cs. cs ++ more) p.whole ∙ append_assoc front p.rest more }
 
-begins_behind : (done front all : List Command) → BeginsWith front all → BeginsWith (done ++ front) (done ++ all)
+pub begins_behind : {X : Type 0} (done front all : List X) → BeginsWith front all → BeginsWith (done ++ front) (done ++ all)
 begins_behind done front all p = record { rest = p.rest; whole = ap (λ cs. done ++ cs) p.whole ∙ sym (append_assoc done front p.rest) }
 
 -- ---- acts that join

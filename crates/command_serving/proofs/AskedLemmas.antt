@@ -1,8 +1,6 @@
 -- The answer to a line, and what is answered further.
-use Rattle.std.proofs.Common.{◌≡◌, ◌∙◌, ℕ, ◌<◌, Bool, true, false, List, [], ◌∷◌, ◌++◌, inl, inr, Option, Some, None, Result, Ok, Err, length, take, drop, refl, sym, ap, ap₂, subst, arith, append-nil, append_assoc}
+use Rattle.std.proofs.Common.{◌≡◌, ◌∙◌, ℕ, ◌<◌, Bool, true, false, List, [], ◌∷◌, ◌++◌, ◌⊎◌, inl, inr, Option, Some, None, Result, Ok, Err, length, take, drop, refl, sym, ap, ap₂, subst, arith, append-nil, append_assoc}
 use Rattle.std.specs.Prelude.{◌^◌, ◌≤◌, IfSome, MatchResult, nat_lt, if◌then◌else◌, ⊤}
-use Rattle.std.specs.Io.KnownBytes.{Appends}
-use Rattle.std.proofs.KnownBytes.{Appends-trans}
 use Rattle.std.proofs.lemmas.Bool.{lt-ltb, ltb-true}
 use Rattle.std.proofs.lemmas.List.{take-append-le, drop-append-le, drop_all, take_all}
 use Rattle.plan_types.specs.declared.requests.Kind.{Kind}
@@ -15,8 +13,9 @@ use Rattle.command_text.specs.declared.asked.Asked.{Asked}
 use Rattle.command_text.specs.declared.asked.Asked.TheVariants.{Load, Nothing}
 use Rattle.recover.specs.Sessions.{SessionValue}
 use Rattle.command_serving.specs.Input.{CountsTaken, Cuts, Loads}
-use Rattle.command_serving.specs.Acts.{carried_of, fates_of, kept_of, unfailed}
-use Rattle.command_serving.specs.Served.{HasCause, IsCutShort, IsServed, Leads, Tells, as_serving, preceded, still}
+use Rattle.command_serving.specs.Acts.{Turn, carried_of, events_by, fates_of, kept_of, unfailed}
+use Rattle.command_serving.specs.Streams.{Extends, Stream}
+use Rattle.command_serving.specs.Served.{AreAnswered, AreTold, HasCause, IsCutShort, IsServed, Leads, Tells, as_serving, preceded, still}
 use Rattle.command_serving.specs.Serving.{Answers, CutOff, GoesOn, IsCause, Serves, ServesOn, goes_behind, goes_on, load_told, pieces_behind, silent, still_carried}
 use Rattle.command_serving.specs.declared.answering.Goes.{Goes}
 use Rattle.command_serving.specs.declared.answering.ServeFault.{ServeFault}
@@ -25,6 +24,8 @@ use Rattle.command_serving.specs.declared.input.LoadText.{LoadText}
 use Rattle.command_serving.specs.declared.input.LoadText.TheVariants.{Dropped, Short, Whole}
 use Rattle.command_serving.specs.declared.answering.ServeFault.TheVariants as fault
 use Rattle.command_serving.proofs.ActLemmas.{begins_as, begins_before}
+use Rattle.command_serving.proofs.StreamLemmas.{extends_none, extends_on, none_put}
+use Rattle.command_serving.proofs.TurnLemmas.{either_part, events_both, told_before}
 use Rattle.command_serving.proofs.ServingLemmas.{answers_as, leads_as, leads_nothing, leads_on, leads_to, serves_as, serves_nothing, serves_on, tells_as, tells_nothing, tells_to}
 use Rattle.sector_disk.specs.declared.sectors.Sectors as sectors
 
@@ -45,7 +46,7 @@ reply_is reading s p = refl
 joined_silent : (t : List ℕ) (c : List Command) (s : Serving) (r : Reply) → joined_replies (preceded t c (silent s)) r ≡ preceded t c r
 joined_silent t c s r = ap₂ {C = Reply} (λ (x : List ℕ) (y : List Command). record { text = x ++ r.text; commands = y ++ r.commands; left = r.left }) (append-nil t) (append-nil c)
 
-asked_serves : {D : Type 0} {on : sectors.Ghosts D} (reading : Reading) (old new : SessionValue D) (p : Piece) (ps : List Piece) (x y : Option (List ℕ))
+asked_serves : {D : Type 0} {on : sectors.Ghosts D} (reading : Reading) (old new : SessionValue D) (p : Piece) (ps : List Piece) (x y : Stream)
     → Serves on old (λ s. asked_reply reading s p.asked p.text (is_short p)) x y new silent → Serves on old (λ s. served reading s (p ∷ ps)) x y new (λ s. served reading s ps)
 asked_serves reading old new p ps x y serves =
     let first : (s : Serving) → served reading s (p ∷ ps) ≡ (let r = asked_reply reading s p.asked p.text (is_short p) in joined_replies r (served reading r.left ps)) =
@@ -55,7 +56,13 @@ asked_serves reading old new p ps x y serves =
       text = serves.text;
       leads = record {
         acts = acts;
+        turns = serves.leads.turns;
         run = serves.leads.run;
+        told = told_before old (λ s. asked_reply reading s p.asked p.text (is_short p)) (λ s. served reading s (p ∷ ps)) acts serves.text serves.leads.turns
+            (λ s.
+            let behind = served reading (asked_reply reading s p.asked p.text (is_short p)).left ps in
+            record { text = record { rest = behind.text; whole = ap (λ (r : Reply). r.text) (first s) }; commands = record { rest = behind.commands; whole = ap (λ (r : Reply). r.commands) (first s) } })
+            serves.leads.told;
         says = λ later.
             first (as_serving old (fates_of acts ++ later)) ∙ ap (λ (r : Reply). joined_replies r (served reading r.left ps)) (serves.leads.says later)
             ∙ joined_silent serves.text (carried_of acts) (as_serving new later) (served reading (as_serving new later) ps);
@@ -67,19 +74,80 @@ asked_serves reading old new p ps x y serves =
       written = serves.written;
     }
 
-ended_serves : {D : Type 0} {on : sectors.Ghosts D} (reading : Reading) (old new : SessionValue D) (f : Serving → Reply) (x y : Option (List ℕ)) → Serves on old f x y new (λ s. served reading s []) → Serves on old f x y new silent
+ended_serves : {D : Type 0} {on : sectors.Ghosts D} (reading : Reading) (old new : SessionValue D) (f : Serving → Reply) (x y : Stream) → Serves on old f x y new (λ s. served reading s []) → Serves on old f x y new silent
+unfolding leads_to
 ended_serves reading old new f x y serves = record {
   text = serves.text;
   leads = leads_to old new f (λ s. served reading s []) silent serves.text (λ fates. served_none reading (as_serving new fates)) serves.leads;
   written = serves.written;
 }
 
+-- ---- the pieces that were answered
+
+module _ {D : Type 0} {on : sectors.Ghosts D} (reading : Reading) where
+  -- what is left is what the pieces behind say
+  as_pieces : (goes : Goes) (left : List ℕ) (old new : SessionValue D) (f : Serving → Reply) (t : List ℕ) → Leads on old f t new (goes_on reading goes left) → Leads on old f t new (λ s. served reading s (pieces_behind goes left))
+  as_pieces On left old new f t leads = leads
+  as_pieces ToEnd left old new f t leads = leads_to old new f silent (λ s. served reading s []) t (λ fates. sym (served_none reading (as_serving new fates))) leads
+
+  same_turns : (goes : Goes) (left : List ℕ) (old new : SessionValue D) (f : Serving → Reply) (t : List ℕ) (leads : Leads on old f t new (goes_on reading goes left)) → (as_pieces goes left old new f t leads).turns ≡ leads.turns
+  unfolding as_pieces leads_to
+  same_turns On left old new f t leads = refl
+  same_turns ToEnd left old new f t leads = refl
+
+  -- before the first one
+  none_answered : (old : SessionValue D) (pieces : List Piece) (turns : List Turn) → AreAnswered on reading old pieces pieces turns
+  unfolding leads_nothing
+  none_answered old pieces turns = record { mid = old; text = []; leads = leads_nothing old (λ s. served reading s pieces); rest = turns; first = refl }
+
+  answered_on : (old : SessionValue D) (pieces behind : List Piece) (turns more : List Turn) → AreAnswered on reading old pieces behind turns → AreAnswered on reading old pieces behind (turns ++ more)
+  answered_on old pieces behind turns more p =
+      record { mid = p.mid; text = p.text; leads = p.leads; rest = p.rest ++ more; first = ap (λ l. l ++ more) p.first ∙ append_assoc p.leads.turns p.rest more }
+
+  answered_behind : (old mid : SessionValue D) (pieces between behind : List Piece) (t : List ℕ) (first : Leads on old (λ s. served reading s pieces) t mid (λ s. served reading s between)) (turns : List Turn)
+      → AreAnswered on reading mid between behind turns → AreAnswered on reading old pieces behind (first.turns ++ turns)
+  unfolding leads_on
+  answered_behind old mid pieces between behind t first turns p = record {
+    mid = p.mid;
+    text = t ++ p.text;
+    leads = leads_on old mid p.mid (λ s. served reading s pieces) (λ s. served reading s between) (λ s. served reading s behind) t p.text first p.leads;
+    rest = p.rest;
+    first = ap (λ l. first.turns ++ l) p.first ∙ sym (append_assoc first.turns p.leads.turns p.rest);
+  }
+
+  -- a piece that was answered
+  piece_answered : (old new : SessionValue D) (p : Piece) (all : List Piece) (t : List ℕ) (goes : Goes) (left : List ℕ) → all ≡ p ∷ pieces_behind goes left → (leads : Leads on old (λ s. served reading s all) t new (goes_on reading goes left))
+      → (some others : List Piece) → p ∷ [] ≡ some ++ others → AreAnswered on reading old all (others ++ pieces_behind goes left) leads.turns
+  piece_answered old new p all t goes left is leads [] others e =
+      subst (λ ps. AreAnswered on reading old all ps leads.turns) (is ∙ ap (λ ps. ps ++ pieces_behind goes left) e) (none_answered old all leads.turns)
+  piece_answered old new p all t goes left is leads (x ∷ []) others e =
+      let none : others ≡ [] = cc in
+      subst (λ ps. AreAnswered on reading old all (ps ++ pieces_behind goes left) leads.turns) (sym none)
+      (record {
+        mid = new;
+        text = t;
+        leads = as_pieces goes left old new (λ s. served reading s all) t leads;
+        rest = [];
+        first = sym (same_turns goes left old new (λ s. served reading s all) t leads) ∙ sym (append-nil (as_pieces goes left old new (λ s. served reading s all) t leads).turns);
+      })
+  piece_answered old new p all t goes left is leads (x ∷ y ∷ some) others e = absurd cc
+
+  -- one that was not
+  piece_begun : (old : SessionValue D) (p : Piece) (ps : List Piece) (turns : List Turn) (some others : List Piece) (next : Piece) → p ∷ [] ≡ some ++ next ∷ others → AreAnswered on reading old (p ∷ ps) (next ∷ (others ++ ps)) turns
+  piece_begun old p ps turns [] others next e = subst (λ qs. AreAnswered on reading old (p ∷ ps) qs turns) (ap (λ qs. qs ++ ps) e) (none_answered old (p ∷ ps) turns)
+  piece_begun old p ps turns (x ∷ []) others next e = absurd cc
+  piece_begun old p ps turns (x ∷ y ∷ some) others next e = absurd cc
+
+  no_piece : (old : SessionValue D) (pieces behind : List Piece) (turns : List Turn) (some others : List Piece) (next : Piece) → [] ≡ some ++ next ∷ others → AreAnswered on reading old pieces (next ∷ (others ++ behind)) turns
+  no_piece old pieces behind turns [] others next e = absurd cc
+  no_piece old pieces behind turns (x ∷ some) others next e = absurd cc
+
 -- ---- an answer that was cut off
 
 joined_on : (t : List ℕ) (c : List Command) (r q : Reply) → joined_replies (preceded t c r) q ≡ preceded t c (joined_replies r q)
 joined_on t c r q = ap₂ {C = Reply} (λ (x : List ℕ) (y : List Command). record { text = x; commands = y; left = q.left }) (append_assoc t r.text q.text) (append_assoc c r.commands q.commands)
 
-module _ {D : Type 0} (on : sectors.Ghosts D) (reading : Reading) (old new : SessionValue D) (p : Piece) (ps : List Piece) (x y : Option (List ℕ)) where
+module _ {D : Type 0} (on : sectors.Ghosts D) (reading : Reading) (old new : SessionValue D) (p : Piece) (ps : List Piece) (x y : Stream) where
   -- an answer, and those to the pieces behind it
   abbrev with_rest : (Serving → Reply) → Serving → Reply
   with_rest f s = let r = f s in joined_replies r (served reading r.left ps)
@@ -93,7 +161,10 @@ module _ {D : Type 0} (on : sectors.Ghosts D) (reading : Reading) (old new : Ses
   leads_within : (told : SessionValue D) (f g : Serving → Reply) (t : List ℕ) → Leads on old f t told g → Leads on old (with_rest f) t told (with_rest g)
   leads_within told f g t l = record {
     acts = l.acts;
+    turns = l.turns;
     run = l.run;
+    told = told_before old f (with_rest f) l.acts t l.turns
+        (λ s. record { text = record { rest = (served reading (f s).left ps).text; whole = refl }; commands = record { rest = (served reading (f s).left ps).commands; whole = refl } }) l.told;
     says = λ later.
         ap (λ (r : Reply). joined_replies r (served reading r.left ps)) (l.says later) ∙ joined_on t (carried_of l.acts) (g (as_serving told later)) (served reading (g (as_serving told later)).left ps);
     asks = λ later. begins_before (kept_of l.acts) _ _ (l.asks later);
@@ -126,6 +197,7 @@ module _ {D : Type 0} (on : sectors.Ghosts D) (reading : Reading) (old new : Ses
   tells_still told f later t l = tells_to told new f (with_rest (still_carried later)) (still reading later ps) t (λ fates. rest_is later (as_serving new fates)) l
 
   pub asked_cut : CutOff on old asks x y new → IsCutShort on reading old (p ∷ ps) x y new
+  unfolding leads_nothing leads_as leads_within leads_first
   asked_cut (inl c) = record {
     commands = None;
     front = [];
@@ -134,6 +206,7 @@ module _ {D : Type 0} (on : sectors.Ghosts D) (reading : Reading) (old new : Ses
     told = old;
     text = [];
     answered = leads_nothing old (λ s. served reading s (p ∷ ps));
+    lines = no_piece reading old (p ∷ ps) (p ∷ ps) [];
     later_commands = c.later;
     begun = p ∷ [];
     later_behind = ps;
@@ -141,8 +214,9 @@ module _ {D : Type 0} (on : sectors.Ghosts D) (reading : Reading) (old new : Ses
     one = omega arith;
     last = c.last;
     tells = tells_still old (λ s. served reading s (p ∷ ps)) c.later c.last (tells_first (still_carried c.later) c.last c.tells);
-    len = c.len;
-    written = c.written;
+    handed = x;
+    written = extends_none x;
+    part = c.part;
   }
   asked_cut (inr c) = record {
     commands = Some c.commands;
@@ -152,6 +226,7 @@ module _ {D : Type 0} (on : sectors.Ghosts D) (reading : Reading) (old new : Ses
     told = c.told;
     text = c.text;
     answered = leads_first c.told (λ s. carried_all s c.commands) c.text c.answered;
+    lines = piece_begun reading old p ps c.answered.turns;
     later_commands = c.later;
     begun = [];
     later_behind = ps;
@@ -159,35 +234,42 @@ module _ {D : Type 0} (on : sectors.Ghosts D) (reading : Reading) (old new : Ses
     one = omega arith;
     last = c.last;
     tells = tells_still c.told (with_rest (λ s. carried_all s c.commands)) c.later c.last (tells_within c.told (λ s. carried_all s c.commands) (still_carried c.later) c.last c.tells);
-    len = c.len;
+    handed = c.handed;
     written = c.written;
+    part = c.part;
   }
 
 -- ---- a line with no bytes behind it
 
-line_served_on : {D : Type 0} {on : sectors.Ghosts D} (reading : Reading) (a : Asked) (rest : List ℕ) (old new : SessionValue D) (x y known : Option (List ℕ)) → cut_at a rest ≡ record { asked = a; text = [] } ∷ pieces_of rest → known ≡ Some rest
+line_served_on : {D : Type 0} {on : sectors.Ghosts D} (reading : Reading) (a : Asked) (rest : List ℕ) (old new : SessionValue D) (x y : Stream) (known : Option (List ℕ)) → cut_at a rest ≡ record { asked = a; text = [] } ∷ pieces_of rest → known ≡ Some rest
     → Serves on old (λ s. asked_reply reading s a [] (is_short (record { asked = a; text = [] }))) x y new silent → ServesOn on reading old (cut_at a rest) x y new On known
-line_served_on {on = on} reading a rest old new x y known cut is serves = record {
-  left = rest;
-  is_known = is;
-  front = record { asked = a; text = [] } ∷ [];
-  split = cut;
-  serves = subst (λ ps. Serves on old (λ s. served reading s ps) x y new (λ s. served reading s (pieces_of rest))) (sym cut)
-      (asked_serves reading old new (record { asked = a; text = [] }) (pieces_of rest) x y serves);
-}
+line_served_on {on = on} reading a rest old new x y known cut is serves =
+    let all = subst (λ ps. Serves on old (λ s. served reading s ps) x y new (λ s. served reading s (pieces_of rest))) (sym cut)
+    (asked_serves reading old new (record { asked = a; text = [] }) (pieces_of rest) x y serves) in
+    record {
+      left = rest;
+      is_known = is;
+      front = record { asked = a; text = [] } ∷ [];
+      split = cut;
+      serves = all;
+      lines = piece_answered reading old new (record { asked = a; text = [] }) (cut_at a rest) all.text On rest cut all.leads;
+    }
 
-line_served_last : {D : Type 0} {on : sectors.Ghosts D} (reading : Reading) (a : Asked) (rest : List ℕ) (old new : SessionValue D) (x y known : Option (List ℕ)) → cut_at a rest ≡ record { asked = a; text = [] } ∷ [] → known ≡ Some rest
+line_served_last : {D : Type 0} {on : sectors.Ghosts D} (reading : Reading) (a : Asked) (rest : List ℕ) (old new : SessionValue D) (x y : Stream) (known : Option (List ℕ)) → cut_at a rest ≡ record { asked = a; text = [] } ∷ [] → known ≡ Some rest
     → Serves on old (λ s. asked_reply reading s a [] (is_short (record { asked = a; text = [] }))) x y new silent → ServesOn on reading old (cut_at a rest) x y new ToEnd known
-line_served_last {on = on} reading a rest old new x y known cut is serves = record {
-  left = rest;
-  is_known = is;
-  front = record { asked = a; text = [] } ∷ [];
-  split = cut;
-  serves = subst (λ ps. Serves on old (λ s. served reading s ps) x y new silent) (sym cut)
-      (ended_serves reading old new (λ s. served reading s (record { asked = a; text = [] } ∷ [])) x y (asked_serves reading old new (record { asked = a; text = [] }) [] x y serves));
-}
+line_served_last {on = on} reading a rest old new x y known cut is serves =
+    let all = subst (λ ps. Serves on old (λ s. served reading s ps) x y new silent) (sym cut)
+    (ended_serves reading old new (λ s. served reading s (record { asked = a; text = [] } ∷ [])) x y (asked_serves reading old new (record { asked = a; text = [] }) [] x y serves)) in
+    record {
+      left = rest;
+      is_known = is;
+      front = record { asked = a; text = [] } ∷ [];
+      split = cut;
+      serves = all;
+      lines = piece_answered reading old new (record { asked = a; text = [] }) (cut_at a rest) all.text ToEnd rest cut all.leads;
+    }
 
-module _ {D E : Type 0} (on : sectors.Ghosts D) (reading : Reading) (a : Asked) (rest : List ℕ) (old new : SessionValue D) (x y known : Option (List ℕ)) (r : Result Goes ServeFault) where
+module _ {D E : Type 0} (on : sectors.Ghosts D) (reading : Reading) (a : Asked) (rest : List ℕ) (old new : SessionValue D) (x y : Stream) (known : Option (List ℕ)) (r : Result Goes ServeFault) where
   once_told : (told : Result ⊤ E) (to : Goes) (ps : List Piece) → MatchResult told (λ _. r ≡ Ok to) (λ _. r ≡ Err fault.WriteFault) → cut_at a rest ≡ record { asked = a; text = [] } ∷ ps
       → Answers on told old (λ s. asked_reply reading s a [] (is_short (record { asked = a; text = [] }))) x y new silent
       → (Serves on old (λ s. asked_reply reading s a [] (is_short (record { asked = a; text = [] }))) x y new silent → ServesOn on reading old (cut_at a rest) x y new to known)
@@ -230,7 +312,7 @@ short_cut kind seed len bytes less =
     ap (λ (text : List ℕ). record { asked = Load kind seed len; text = text } ∷ (if nat_lt (length text) len then [] else pieces_of (drop len bytes))) (take_all len bytes (omega (arith, less)))
     ∙ ap (λ (b : Bool). record { asked = Load kind seed len; text = bytes } ∷ (if b then [] else pieces_of (drop len bytes))) (lt-ltb (length bytes) len less)
 
-module _ {D : Type 0} (on : sectors.Ghosts D) (reading : Reading) (kind : Kind) (seed len : ℕ) (old new : SessionValue D) (x y : Option (List ℕ)) (r : Result Goes ServeFault) where
+module _ {D : Type 0} (on : sectors.Ghosts D) (reading : Reading) (kind : Kind) (seed len : ℕ) (old new : SessionValue D) (x y : Stream) (r : Result Goes ServeFault) where
   abbrev load_of : List ℕ → Piece
   load_of bytes = record { asked = Load kind seed len; text = bytes }
 
@@ -244,13 +326,16 @@ module _ {D : Type 0} (on : sectors.Ghosts D) (reading : Reading) (kind : Kind) 
       → (Serves on old (λ s. served reading s (load_of bytes ∷ ps)) x y new (λ s. served reading s ps) → Serves on old (λ s. served reading s (load_of bytes ∷ ps)) x y new (goes_on reading to left))
       → ps ≡ pieces_behind to left → GoesOn on r reading old (cut_at (Load kind seed len) rest) x y new (Some left)
   told_of (Ok done) to bytes ps rest left is cut answers ends behind =
+      let all = subst (λ qs. Serves on old (λ s. served reading s qs) x y new (goes_on reading to left)) (sym cut) (ends (asked_serves reading old new (load_of bytes) ps x y answers)) in
+      let split = cut ∙ ap (λ qs. load_of bytes ∷ qs) behind in
       subst (λ r. GoesOn on r reading old (cut_at (Load kind seed len) rest) x y new (Some left)) (sym is)
       (record {
         left = left;
         is_known = refl;
         front = load_of bytes ∷ [];
-        split = cut ∙ ap (λ qs. load_of bytes ∷ qs) behind;
-        serves = subst (λ qs. Serves on old (λ s. served reading s qs) x y new (goes_on reading to left)) (sym cut) (ends (asked_serves reading old new (load_of bytes) ps x y answers));
+        split = split;
+        serves = all;
+        lines = piece_answered reading old new (load_of bytes) (cut_at (Load kind seed len) rest) all.text to left split all.leads;
       })
   told_of (Err failed) to bytes ps rest left is cut answers ends behind =
       subst (λ r. GoesOn on r reading old (cut_at (Load kind seed len) rest) x y new (Some left)) (sym is)
@@ -290,18 +375,24 @@ module _ {D : Type 0} (on : sectors.Ghosts D) (reading : Reading) (kind : Kind) 
 
 -- ---- the end
 
-pub all_served : {D : Type 0} {on : sectors.Ghosts D} (follow : StatesFollow) (reading : Reading) (old new : SessionValue D) (input : List ℕ) (x y : Option (List ℕ)) → Serves on old (λ s. served reading s (pieces_of input)) x y new silent
+pub all_served : {D : Type 0} {on : sectors.Ghosts D} (follow : StatesFollow) (reading : Reading) (old new : SessionValue D) (input : List ℕ) (x y : Stream) (known : Option (List ℕ)) → ServesOn on reading old (pieces_of input) x y new ToEnd known
     → IsServed on reading old input x y new
-all_served follow reading old new input x y serves =
+all_served {on = on} follow reading old new input x y known p =
+    let serves = p.serves in
     let acts = serves.leads.acts in
     let all : Serving → Reply = λ s. served reading s (pieces_of input) in
     let said : all (as_serving old (fates_of acts)) ≡ preceded serves.text (carried_of acts) (silent (as_serving new [])) =
     ap (λ fates. all (as_serving old fates)) (sym (append-nil (fates_of acts))) ∙ serves.leads.says [] in
     let left : (all (as_serving old (fates_of acts))).left ≡ as_serving new [] = ap (λ (r : Reply). r.left) said in
+    let text : serves.text ≡ (all (as_serving old (fates_of acts))).text = sym (ap (λ (r : Reply). r.text) said ∙ append-nil serves.text) in
     record {
       acts = acts;
+      turns = serves.leads.turns;
       run = serves.leads.run;
-      written = subst (Appends x y) (sym (ap (λ (r : Reply). r.text) said ∙ append-nil serves.text)) serves.written;
+      told = subst (λ t. AreTold old all acts t serves.leads.turns) text serves.leads.told;
+      lines = λ some behind e.
+          subst (λ ps. AreAnswered on reading old (pieces_of input) ps serves.leads.turns) (append-nil behind) (p.lines some behind (sym (append-nil p.front) ∙ sym p.split ∙ e));
+      written = subst (Extends x y (events_by serves.leads.turns)) text serves.written;
       left = left;
       carried = ap (λ (r : Reply). r.commands) said ∙ append-nil (carried_of acts);
       asks = begins_as (kept_of acts) _ _ (ap (λ fates. (all (as_serving old fates)).commands) (sym (append-nil (unfailed (fates_of acts))))) (serves.leads.asks []);
@@ -309,7 +400,7 @@ all_served follow reading old new input x y serves =
     }
 
 -- nothing is asked
-pub nothing_on : {D : Type 0} {on : sectors.Ghosts D} (reading : Reading) (rest : List ℕ) (s : SessionValue D) (o known : Option (List ℕ)) → known ≡ Some rest → ServesOn on reading s (cut_at Nothing rest) o o s On known
+pub nothing_on : {D : Type 0} {on : sectors.Ghosts D} (reading : Reading) (rest : List ℕ) (s : SessionValue D) (o : Stream) (known : Option (List ℕ)) → known ≡ Some rest → ServesOn on reading s (cut_at Nothing rest) o o s On known
 nothing_on reading rest s o known is = line_served_on reading Nothing rest s s o o known refl is (serves_as s s silent (λ t. asked_reply reading t Nothing [] false) silent o o (λ fates. refl) (serves_nothing s silent o))
 
 -- ---- line by line
@@ -317,42 +408,80 @@ nothing_on reading rest s o known is = line_served_on reading Nothing rest s s o
 joined_split : (all front more behind rest : List Piece) → all ≡ front ++ behind → behind ≡ more ++ rest → all ≡ (front ++ more) ++ rest
 joined_split all front more behind rest first second = first ∙ ap (λ ps. front ++ ps) second ∙ sym (append_assoc front more rest)
 
-pub input_begun : {D : Type 0} {on : sectors.Ghosts D} (reading : Reading) (s : SessionValue D) (input : List ℕ) (o known : Option (List ℕ)) → known ≡ Some input → ServesOn on reading s (pieces_of input) o o s On known
-input_begun reading s input o known is = record { left = input; is_known = is; front = []; split = refl; serves = serves_nothing s (λ t. served reading t (pieces_of input)) o }
+pub input_begun : {D : Type 0} {on : sectors.Ghosts D} (reading : Reading) (s : SessionValue D) (input : List ℕ) (o : Stream) (known : Option (List ℕ)) → known ≡ Some input → ServesOn on reading s (pieces_of input) o o s On known
+input_begun {on = on} reading s input o known is = record { left = input; is_known = is; front = []; split = refl; serves = serves_nothing s (λ t. served reading t (pieces_of input)) o; lines = none_yet }
+  where
+    none_yet : (some others : List Piece) → [] ≡ some ++ others → AreAnswered on reading s (pieces_of input) (others ++ pieces_of input) (serves_nothing {on = on} s (λ t. served reading t (pieces_of input)) o).leads.turns
+    none_yet [] [] e = none_answered reading s (pieces_of input) _
+    none_yet [] (x ∷ others) e = absurd cc
+    none_yet (x ∷ some) others e = absurd cc
 
 -- the next line is cut off what is left
 cut_known : (a : Asked) (left : List ℕ) (known next : Option (List ℕ)) → known ≡ Some left → Cuts a known next → (rest : List ℕ) × (next ≡ Some rest) × (pieces_of left ≡ cut_at a rest)
 cut_known a left known None is cuts = absurd (subst (λ k. Cuts a k None) is cuts)
 cut_known a left known (Some rest) is cuts = (rest, refl, subst (λ k. Cuts a k (Some rest)) is cuts)
 
-module _ {D : Type 0} {on : sectors.Ghosts D} (reading : Reading) (old mid new : SessionValue D) (pieces : List Piece) (x y z : Option (List ℕ)) where
+module _ {D : Type 0} {on : sectors.Ghosts D} (reading : Reading) (old mid new : SessionValue D) (pieces : List Piece) (x y z : Stream) where
+  joined : (known behind : Option (List ℕ)) (goes : Goes) (p : ServesOn on reading old pieces x y mid On known) → ServesOn on reading mid (pieces_of p.left) y z new goes behind → ServesOn on reading old pieces x z new goes behind
+  unfolding serves_on leads_on
+  joined known behind goes p q = record {
+    left = q.left;
+    is_known = q.is_known;
+    front = p.front ++ q.front;
+    split = joined_split pieces p.front q.front (pieces_of p.left) (pieces_behind goes q.left) p.split q.split;
+    serves = serves_on old mid new (λ s. served reading s pieces) (λ s. served reading s (pieces_of p.left)) (goes_on reading goes q.left) x y z p.serves q.serves;
+    lines = λ some others e. at some others (either_part p.front q.front some others e);
+  }
+    where
+      first : List Turn
+      first = p.serves.leads.turns
+
+      second : List Turn
+      second = q.serves.leads.turns
+
+      at : (some others : List Piece) → ((rest : List Piece) × (p.front ≡ some ++ rest) × (others ≡ rest ++ q.front)) ⊎ ((more : List Piece) × (some ≡ p.front ++ more) × (q.front ≡ more ++ others))
+          → AreAnswered on reading old pieces (others ++ pieces_behind goes q.left) (p.serves.leads.turns ++ q.serves.leads.turns)
+      at some others (inl c) =
+          let whole : c.0 ++ pieces_of p.left ≡ others ++ pieces_behind goes q.left =
+          ap (λ ps. c.0 ++ ps) q.split ∙ sym (append_assoc c.0 q.front (pieces_behind goes q.left)) ∙ ap (λ ps. ps ++ pieces_behind goes q.left) (sym c.2) in
+          subst (λ ps. AreAnswered on reading old pieces ps (p.serves.leads.turns ++ q.serves.leads.turns)) whole
+          (answered_on reading old pieces (c.0 ++ pieces_of p.left) p.serves.leads.turns q.serves.leads.turns (p.lines some c.0 c.1))
+      at some others (inr c) =
+          answered_behind reading old mid pieces (pieces_of p.left) (others ++ pieces_behind goes q.left) p.serves.text p.serves.leads q.serves.leads.turns (q.lines c.0 others c.2)
+
   pub line_served : (a : Asked) (known next behind : Option (List ℕ)) (goes : Goes) → ServesOn on reading old pieces x y mid On known → Cuts a known next
       → ((rest : List ℕ) → next ≡ Some rest → ServesOn on reading mid (cut_at a rest) y z new goes behind) → ServesOn on reading old pieces x z new goes behind
   line_served a known next behind goes p cuts more =
       let cut = cut_known a p.left known next p.is_known cuts in
-      let q = more cut.0 cut.1 in
-      record {
-        left = q.left;
-        is_known = q.is_known;
-        front = p.front ++ q.front;
-        split = joined_split pieces p.front q.front (pieces_of p.left) (pieces_behind goes q.left) p.split (cut.2 ∙ q.split);
-        serves = serves_on old mid new (λ s. served reading s pieces) (λ s. served reading s (pieces_of p.left)) (goes_on reading goes q.left) x y z p.serves
-            (subst (λ ps. Serves on mid (λ s. served reading s ps) y z new (goes_on reading goes q.left)) (sym cut.2) q.serves);
-      }
+      joined known behind goes p (subst (λ ps. ServesOn on reading mid ps y z new goes behind) (sym cut.2) (more cut.0 cut.1))
 
   -- there was no further line
-  pub input_ended : (known : Option (List ℕ)) → pieces_of [] ≡ [] → ServesOn on reading old pieces x y mid On known → IfSome known (λ left. left ≡ []) → Serves on old (λ s. served reading s pieces) x y mid silent
+  pub input_ended : (known : Option (List ℕ)) → pieces_of [] ≡ [] → ServesOn on reading old pieces x y mid On known → IfSome known (λ left. left ≡ []) → ServesOn on reading old pieces x y mid ToEnd known
+  unfolding leads_to
   input_ended known none p ended =
       let empty : p.left ≡ [] = subst (λ k. IfSome k (λ left. left ≡ [])) p.is_known ended in
-      ended_serves reading old mid (λ s. served reading s pieces) x y
-      (subst (λ ps. Serves on old (λ s. served reading s pieces) x y mid (λ s. served reading s ps)) (ap pieces_of empty ∙ none) p.serves)
+      let nothing : pieces_of p.left ≡ [] = ap pieces_of empty ∙ none in
+      record {
+        left = p.left;
+        is_known = p.is_known;
+        front = p.front;
+        split = p.split ∙ ap (λ ps. p.front ++ ps) nothing;
+        serves = record {
+          text = p.serves.text;
+          leads = leads_to old mid (λ s. served reading s pieces) (λ s. served reading s (pieces_of p.left)) silent p.serves.text
+              (λ fates. ap (served reading (as_serving mid fates)) nothing ∙ served_none reading (as_serving mid fates)) p.serves.leads;
+          written = p.serves.written;
+        };
+        lines = λ some others e. subst (λ ps. AreAnswered on reading old pieces (others ++ ps) p.serves.leads.turns) nothing (p.lines some others e);
+      }
 
 -- ---- cut short
 
 -- nothing was under way
-pub cut_between : {D : Type 0} {on : sectors.Ghosts D} (reading : Reading) (old mid : SessionValue D) (pieces front behind : List Piece) (x y : Option (List ℕ)) → pieces ≡ front ++ behind
-    → Serves on old (λ s. served reading s pieces) x y mid (λ s. served reading s behind) → IsCutShort on reading old pieces x y mid
-cut_between reading old mid pieces front behind x y split serves = record {
+cut_where : {D : Type 0} {on : sectors.Ghosts D} (reading : Reading) (old mid : SessionValue D) (pieces front behind : List Piece) (x y : Stream) → pieces ≡ front ++ behind
+    → (serves : Serves on old (λ s. served reading s pieces) x y mid (λ s. served reading s behind))
+    → ((some others : List Piece) (next : Piece) → front ≡ some ++ next ∷ others → AreAnswered on reading old pieces (next ∷ (others ++ behind)) serves.leads.turns) → IsCutShort on reading old pieces x y mid
+cut_where {on = on} reading old mid pieces front behind x y split serves lines = record {
   commands = None;
   front = front;
   behind = behind;
@@ -360,6 +489,7 @@ cut_between reading old mid pieces front behind x y split serves = record {
   told = mid;
   text = serves.text;
   answered = serves.leads;
+  lines = lines;
   later_commands = None;
   begun = [];
   later_behind = behind;
@@ -367,42 +497,59 @@ cut_between reading old mid pieces front behind x y split serves = record {
   one = omega arith;
   last = [];
   tells = tells_nothing mid (λ s. served reading s behind);
-  len = 0;
-  written = subst (Appends x y) (sym (append-nil serves.text)) serves.written;
+  handed = y;
+  written = serves.written;
+  part = none_put y (on.calls mid.device);
 }
+
+pub cut_between : {D : Type 0} {on : sectors.Ghosts D} (reading : Reading) (old mid : SessionValue D) (pieces : List Piece) (x y : Stream) (known : Option (List ℕ)) → ServesOn on reading old pieces x y mid On known → IsCutShort on reading old pieces x y mid
+cut_between reading old mid pieces x y known p = cut_where reading old mid pieces p.front (pieces_of p.left) x y p.split p.serves (λ some others next e. p.lines some (next ∷ others) e)
 
 -- nothing was served
-pub cut_at_once : {D : Type 0} {on : sectors.Ghosts D} (reading : Reading) (old : SessionValue D) (pieces : List Piece) (x : Option (List ℕ)) → IsCutShort on reading old pieces x x old
-cut_at_once reading old pieces x = cut_between reading old old pieces [] pieces x x refl (serves_nothing old (λ s. served reading s pieces) x)
+pub cut_at_once : {D : Type 0} {on : sectors.Ghosts D} (reading : Reading) (old : SessionValue D) (pieces : List Piece) (x : Stream) → IsCutShort on reading old pieces x x old
+cut_at_once reading old pieces x = cut_where reading old old pieces [] pieces x x refl (serves_nothing old (λ s. served reading s pieces) x) (no_piece reading old pieces pieces _)
 
 -- behind what was served
-cut_behind : {D : Type 0} {on : sectors.Ghosts D} (reading : Reading) (old mid new : SessionValue D) (pieces front behind : List Piece) (x y z : Option (List ℕ)) → pieces ≡ front ++ behind
-    → Serves on old (λ s. served reading s pieces) x y mid (λ s. served reading s behind) → IsCutShort on reading mid behind y z new → IsCutShort on reading old pieces x z new
-cut_behind reading old mid new pieces front behind x y z split serves c = record {
-  commands = c.commands;
-  front = front ++ c.front;
-  behind = c.behind;
-  split = joined_split pieces front c.front behind c.behind split c.split;
-  told = c.told;
-  text = serves.text ++ c.text;
-  answered = leads_on old mid c.told (λ s. served reading s pieces) (λ s. served reading s behind) (still reading c.commands c.behind) serves.text c.text serves.leads c.answered;
-  later_commands = c.later_commands;
-  begun = c.begun;
-  later_behind = c.later_behind;
-  later_split = c.later_split;
-  one = c.one;
-  last = c.last;
-  tells = c.tells;
-  len = c.len;
-  written = subst (Appends x z) (sym (append_assoc serves.text c.text (take c.len c.last))) (Appends-trans x y z serves.text (c.text ++ take c.len c.last) serves.written c.written);
-}
+module _ {D : Type 0} {on : sectors.Ghosts D} (reading : Reading) (old mid new : SessionValue D) (pieces : List Piece) (x y z : Stream) where
+  cut_behind : (known : Option (List ℕ)) (p : ServesOn on reading old pieces x y mid On known) → IsCutShort on reading mid (pieces_of p.left) y z new → IsCutShort on reading old pieces x z new
+  unfolding leads_on
+  cut_behind known p c = record {
+    commands = c.commands;
+    front = p.front ++ c.front;
+    behind = c.behind;
+    split = joined_split pieces p.front c.front (pieces_of p.left) c.behind p.split c.split;
+    told = c.told;
+    text = p.serves.text ++ c.text;
+    answered = leads_on old mid c.told (λ s. served reading s pieces) (λ s. served reading s (pieces_of p.left)) (still reading c.commands c.behind) p.serves.text c.text p.serves.leads c.answered;
+    lines = λ some others next e. at some others next (either_part p.front c.front some (next ∷ others) e);
+    later_commands = c.later_commands;
+    begun = c.begun;
+    later_behind = c.later_behind;
+    later_split = c.later_split;
+    one = c.one;
+    last = c.last;
+    tells = c.tells;
+    handed = c.handed;
+    written = subst (λ e. Extends x c.handed e (p.serves.text ++ c.text)) (sym (events_both p.serves.leads.turns c.answered.turns))
+        (extends_on x y c.handed (events_by p.serves.leads.turns) (events_by c.answered.turns) p.serves.text c.text p.serves.written c.written);
+    part = c.part;
+  }
+    where
+      at : (some others : List Piece) (next : Piece)
+          → ((rest : List Piece) × (p.front ≡ some ++ rest) × (next ∷ others ≡ rest ++ c.front)) ⊎ ((more : List Piece) × (some ≡ p.front ++ more) × (c.front ≡ more ++ next ∷ others))
+          → AreAnswered on reading old pieces (next ∷ (others ++ c.behind)) (p.serves.leads.turns ++ c.answered.turns)
+      at some others next (inl e) =
+          let whole : e.0 ++ pieces_of p.left ≡ next ∷ (others ++ c.behind) = ap (λ ps. e.0 ++ ps) c.split ∙ sym (append_assoc e.0 c.front c.behind) ∙ ap (λ ps. ps ++ c.behind) (sym e.2) in
+          subst (λ ps. AreAnswered on reading old pieces ps (p.serves.leads.turns ++ c.answered.turns)) whole
+          (answered_on reading old pieces (e.0 ++ pieces_of p.left) p.serves.leads.turns c.answered.turns (p.lines some e.0 e.1))
+      at some others next (inr e) =
+          answered_behind reading old mid pieces (pieces_of p.left) (next ∷ (others ++ c.behind)) p.serves.text p.serves.leads c.answered.turns (c.lines e.0 others next e.2)
 
-module _ {D : Type 0} {on : sectors.Ghosts D} (reading : Reading) (old mid new : SessionValue D) (pieces : List Piece) (x y z : Option (List ℕ)) where
   pub line_cut : (a : Asked) (known next : Option (List ℕ)) → ServesOn on reading old pieces x y mid On known → Cuts a known next
       → ((rest : List ℕ) → next ≡ Some rest → IsCutShort on reading mid (cut_at a rest) y z new) → IsCutShort on reading old pieces x z new
   line_cut a known next p cuts more =
       let cut = cut_known a p.left known next p.is_known cuts in
-      cut_behind reading old mid new pieces p.front (pieces_of p.left) x y z p.split p.serves (subst (λ ps. IsCutShort on reading mid ps y z new) (sym cut.2) (more cut.0 cut.1))
+      cut_behind known p (subst (λ ps. IsCutShort on reading mid ps y z new) (sym cut.2) (more cut.0 cut.1))
 
 -- ---- causes
 

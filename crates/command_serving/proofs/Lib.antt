@@ -9,3 +9,5 @@ pub mod ServingLemmas
 pub mod StoppedLemmas
 pub mod StreamLemmas
 pub mod StrictLemmas
+pub mod TimelyLemmas
+pub mod TurnLemmas

@@ -1,9 +1,7 @@
 -- What a session answers to a command is what its reply says, and replies join.
-use Rattle.std.proofs.Common.{◌≡◌, ◌∙◌, ℕ, Bool, true, false, List, [], ◌∷◌, ◌++◌, ◌⊎◌, inl, inr, Option, Some, None, Result, Ok, Err, take, refl, sym, ap, ap₂, subst, arith, append_assoc, append-nil}
+use Rattle.std.proofs.Common.{◌≡◌, ◌∙◌, ℕ, Bool, true, false, List, [], ◌∷◌, ◌++◌, ◌⊎◌, inl, inr, Option, Some, None, Result, Ok, Err, refl, sym, ap, ap₂, subst, arith, append_assoc, append-nil}
 use Rattle.std.specs.Prelude.{if◌then◌else◌}
 use Rattle.std.specs.Option.{option_map, option_or}
-use Rattle.std.specs.Io.KnownBytes.{Appends}
-use Rattle.std.proofs.KnownBytes.{Appends-nil, Appends-trans}
 use Rattle.command_core.specs.Effects.{effect}
 use Rattle.command_core.specs.Refusing.{refusal}
 use Rattle.command_core.specs.declared.commands.Command.{Command}
@@ -22,37 +20,38 @@ use Rattle.recover.specs.Sessions.{SessionValue}
 use Rattle.recover.specs.declared.denials.Denial.{Denial}
 use Rattle.recover.specs.declared.denials.Denial.TheVariants.{Broken, Core, DeviceFault, OutOfMemory, Spent}
 use Rattle.command_core.specs.Runs.{after}
-use Rattle.command_serving.specs.Streams.{Puts}
-use Rattle.command_serving.specs.Acts.{Applied, BeginsWith, carried_of, fates_of, kept_of, unfailed}
+use Rattle.command_serving.specs.Streams.{Extends, HandsOn, IsHandedOn, Stream}
+use Rattle.command_serving.specs.Acts.{Applied, BeginsWith, Turn, carried_of, events_by, events_in, fates_of, kept_of, unfailed}
 use Rattle.command_serving.specs.Served.{Leads, Tells, as_serving, preceded}
 use Rattle.command_serving.specs.Serving.{Answers, IsAppliedOn, Serves, denied, progress_of, silent, still_carried}
 use Rattle.command_serving.proofs.ActLemmas.{asks_both, begins_as, begins_at_all, carried_both, fates_before, run_both}
+use Rattle.command_serving.proofs.StreamLemmas.{extends_none, extends_on}
+use Rattle.command_serving.proofs.TurnLemmas.{events_both, is_turn, told_as, told_both, told_nothing, told_once}
 use Rattle.recover.specs.declared.replies.Reply.{Reply as SessionReply}
 use Rattle.sector_disk.specs.declared.sectors.Sectors as sectors
 
 -- ---- replies that follow one another
 
-preceded_twice : (t u : List ℕ) (c d : List Command) (r : Reply) → preceded t c (preceded u d r) ≡ preceded (t ++ u) (c ++ d) r
+pub preceded_twice : (t u : List ℕ) (c d : List Command) (r : Reply) → preceded t c (preceded u d r) ≡ preceded (t ++ u) (c ++ d) r
 preceded_twice t u c d r =
     ap₂ {C = Reply} (λ (x : List ℕ) (y : List Command). record { text = x; commands = y; left = r.left }) (sym (append_assoc t u r.text)) (sym (append_assoc c d r.commands))
 
-after_both : (s : State) (cs ds : List Command) → after s (cs ++ ds) ≡ after (after s cs) ds
+pub after_both : (s : State) (cs ds : List Command) → after s (cs ++ ds) ≡ after (after s cs) ds
 after_both s [] ds = refl
 after_both s (c ∷ cs) ds = after_both (effect s c) cs ds
 
-pub leads_nothing : {D : Type 0} {on : sectors.Ghosts D} (s : SessionValue D) (f : Serving → Reply) → Leads on s f [] s f
-leads_nothing s f = record { acts = []; run = refl; says = λ later. refl; asks = λ later. begins_at_all _; state = refl }
+unfoldable pub leads_nothing : {D : Type 0} {on : sectors.Ghosts D} (s : SessionValue D) (f : Serving → Reply) → Leads on s f [] s f
+leads_nothing s f = record { acts = []; turns = []; run = refl; told = told_nothing s f; says = λ later. refl; asks = λ later. begins_at_all _; state = refl }
 
 pub tells_nothing : {D : Type 0} {on : sectors.Ghosts D} (s : SessionValue D) (f : Serving → Reply) → Tells on s f [] s f
 tells_nothing s f = record { acts = []; run = refl; says = λ later. refl; asks = λ later. begins_at_all _; state = refl; few = omega arith }
 
-pub leads_told : {D : Type 0} {on : sectors.Ghosts D} (a b : SessionValue D) (f g : Serving → Reply) (t : List ℕ) → Tells on a f t b g → Leads on a f t b g
-leads_told a b f g t p = record { acts = p.acts; run = p.run; says = p.says; asks = p.asks; state = p.state }
-
-pub leads_on : {D : Type 0} {on : sectors.Ghosts D} (a b c : SessionValue D) (f g h : Serving → Reply) (t u : List ℕ) → Leads on a f t b g → Leads on b g u c h → Leads on a f (t ++ u) c h
+unfoldable pub leads_on : {D : Type 0} {on : sectors.Ghosts D} (a b c : SessionValue D) (f g h : Serving → Reply) (t u : List ℕ) → Leads on a f t b g → Leads on b g u c h → Leads on a f (t ++ u) c h
 leads_on {on = on} a b c f g h t u p q = record {
   acts = p.acts ++ q.acts;
+  turns = p.turns ++ q.turns;
   run = run_both on a b c p.acts q.acts p.run q.run;
+  told = told_both a b f g p.acts q.acts t u p.turns q.turns p.told p.says q.told;
   says = λ later.
       ap (λ fates. f (as_serving a fates)) (fates_before p.acts q.acts later) ∙ p.says (fates_of q.acts ++ later) ∙ ap (preceded t (carried_of p.acts)) (q.says later)
       ∙ preceded_twice t u (carried_of p.acts) (carried_of q.acts) (h (as_serving c later))
@@ -61,21 +60,26 @@ leads_on {on = on} a b c f g h t u p q = record {
   state = q.state ∙ ap (λ s. after s (carried_of q.acts)) p.state ∙ sym (after_both a.state (carried_of p.acts) (carried_of q.acts)) ∙ ap (after a.state) (sym (carried_both p.acts q.acts));
 }
 
-pub serves_nothing : {D : Type 0} {on : sectors.Ghosts D} (s : SessionValue D) (f : Serving → Reply) (o : Option (List ℕ)) → Serves on s f o o s f
-serves_nothing s f o = record { text = []; leads = leads_nothing s f; written = Appends-nil o }
+unfoldable pub serves_nothing : {D : Type 0} {on : sectors.Ghosts D} (s : SessionValue D) (f : Serving → Reply) (o : Stream) → Serves on s f o o s f
+unfolding leads_nothing
+serves_nothing s f o = record { text = []; leads = leads_nothing s f; written = extends_none o }
 
-pub serves_on : {D : Type 0} {on : sectors.Ghosts D} (a b c : SessionValue D) (f g h : Serving → Reply) (x y z : Option (List ℕ)) → Serves on a f x y b g → Serves on b g y z c h → Serves on a f x z c h
+unfoldable pub serves_on : {D : Type 0} {on : sectors.Ghosts D} (a b c : SessionValue D) (f g h : Serving → Reply) (x y z : Stream) → Serves on a f x y b g → Serves on b g y z c h → Serves on a f x z c h
+unfolding leads_on
 serves_on a b c f g h x y z p q = record {
   text = p.text ++ q.text;
   leads = leads_on a b c f g h p.text q.text p.leads q.leads;
-  written = Appends-trans x y z p.text q.text p.written q.written;
+  written = subst (λ e. Extends x z e (p.text ++ q.text)) (sym (events_both p.leads.turns q.leads.turns))
+      (extends_on x y z (events_by p.leads.turns) (events_by q.leads.turns) p.text q.text p.written q.written);
 }
 
 -- the same replies
-pub leads_as : {D : Type 0} {on : sectors.Ghosts D} (a b : SessionValue D) (f f' g : Serving → Reply) (t : List ℕ) → ((fates : List Fate) → f' (as_serving a fates) ≡ f (as_serving a fates)) → Leads on a f t b g → Leads on a f' t b g
+unfoldable pub leads_as : {D : Type 0} {on : sectors.Ghosts D} (a b : SessionValue D) (f f' g : Serving → Reply) (t : List ℕ) → ((fates : List Fate) → f' (as_serving a fates) ≡ f (as_serving a fates)) → Leads on a f t b g → Leads on a f' t b g
 leads_as a b f f' g t same p = record {
   acts = p.acts;
+  turns = p.turns;
   run = p.run;
+  told = told_as a f f' p.acts t p.turns same p.told;
   says = λ later. same (fates_of p.acts ++ later) ∙ p.says later;
   asks = λ later. begins_as (kept_of p.acts) _ _ (ap (λ (r : Reply). r.commands) (same (unfailed (fates_of p.acts) ++ later))) (p.asks later);
   state = p.state;
@@ -91,31 +95,52 @@ tells_as a b f f' g t same p = record {
   few = p.few;
 }
 
-pub serves_as : {D : Type 0} {on : sectors.Ghosts D} (a b : SessionValue D) (f f' g : Serving → Reply) (x y : Option (List ℕ)) → ((fates : List Fate) → f' (as_serving a fates) ≡ f (as_serving a fates)) → Serves on a f x y b g → Serves on a f' x y b g
+pub serves_as : {D : Type 0} {on : sectors.Ghosts D} (a b : SessionValue D) (f f' g : Serving → Reply) (x y : Stream) → ((fates : List Fate) → f' (as_serving a fates) ≡ f (as_serving a fates)) → Serves on a f x y b g → Serves on a f' x y b g
+unfolding leads_as
 serves_as a b f f' g x y same p = record { text = p.text; leads = leads_as a b f f' g p.text same p.leads; written = p.written }
 
 -- what is answered behind it
-pub leads_to : {D : Type 0} {on : sectors.Ghosts D} (a b : SessionValue D) (f g g' : Serving → Reply) (t : List ℕ) → ((fates : List Fate) → g (as_serving b fates) ≡ g' (as_serving b fates)) → Leads on a f t b g → Leads on a f t b g'
-leads_to a b f g g' t same p = record { acts = p.acts; run = p.run; says = λ later. p.says later ∙ ap (preceded t (carried_of p.acts)) (same later); asks = p.asks; state = p.state }
+unfoldable pub leads_to : {D : Type 0} {on : sectors.Ghosts D} (a b : SessionValue D) (f g g' : Serving → Reply) (t : List ℕ) → ((fates : List Fate) → g (as_serving b fates) ≡ g' (as_serving b fates)) → Leads on a f t b g → Leads on a f t b g'
+leads_to a b f g g' t same p = record { acts = p.acts; turns = p.turns; run = p.run; told = p.told; says = λ later. p.says later ∙ ap (preceded t (carried_of p.acts)) (same later); asks = p.asks; state = p.state }
 
 pub tells_to : {D : Type 0} {on : sectors.Ghosts D} (a b : SessionValue D) (f g g' : Serving → Reply) (t : List ℕ) → ((fates : List Fate) → g (as_serving b fates) ≡ g' (as_serving b fates)) → Tells on a f t b g → Tells on a f t b g'
 tells_to a b f g g' t same p = record { acts = p.acts; run = p.run; says = λ later. p.says later ∙ ap (preceded t (carried_of p.acts)) (same later); asks = p.asks; state = p.state; few = p.few }
 
 -- ---- what was written of an answer
 
-pub serves_told : {D : Type 0} {on : sectors.Ghosts D} (a b : SessionValue D) (f g : Serving → Reply) (t : List ℕ) (x y : Option (List ℕ)) → Tells on a f t b g → Appends x y t → Serves on a f x y b g
-serves_told a b f g t x y p written = record { text = t; leads = leads_told a b f g t p; written = written }
+-- told in one turn
+pub serves_told : {D : Type 0} {on : sectors.Ghosts D} (a b : SessionValue D) (f g : Serving → Reply) (t : List ℕ) (x y : Stream) → Tells on a f t b g → IsHandedOn x y (on.calls b.device) t → Serves on a f x y b g
+serves_told {on = on} a b f g t x y p handed = record {
+  text = t;
+  leads = record {
+    acts = p.acts;
+    turns = turn ∷ [];
+    run = p.run;
+    told = told_once a f p.acts t handed.texts (on.calls b.device) (is_turn on p.acts handed.texts a b p.few p.run) handed.whole
+        (λ later. record {
+          text = record { rest = (g (as_serving b later)).text; whole = ap (λ (r : Reply). r.text) (p.says later) };
+          commands = record { rest = (g (as_serving b later)).commands; whole = ap (λ (r : Reply). r.commands) (p.says later) };
+        });
+    says = p.says;
+    asks = p.asks;
+    state = p.state;
+  };
+  written = subst (λ e. Extends x y e t) (sym (append-nil (events_in turn))) handed.extends;
+}
+  where
+    turn : Turn
+    turn = record { acts = p.acts; texts = handed.texts; calls = on.calls b.device }
 
-pub answers_told : {D T E : Type 0} {on : sectors.Ghosts D} (r : Result T E) (a b : SessionValue D) (f : Serving → Reply) (later : Option (List Command)) (t : List ℕ) (x y : Option (List ℕ)) → Tells on a f t b (still_carried later) → Puts x y r t
+pub answers_told : {D T E : Type 0} {on : sectors.Ghosts D} (r : Result T E) (a b : SessionValue D) (f : Serving → Reply) (later : Option (List Command)) (t : List ℕ) (x y : Stream) → Tells on a f t b (still_carried later) → HandsOn x y r (on.calls b.device) t
     → Answers on r a f x y b (still_carried later)
-answers_told (Ok done) a b f later t x y p written = serves_told a b f (still_carried later) t x y p written
-answers_told (Err fault) a b f later t x y p part = inl (record { last = t; later = later; tells = p; len = part.len; written = part.written })
+answers_told (Ok done) a b f later t x y p handed = serves_told a b f (still_carried later) t x y p handed
+answers_told (Err fault) a b f later t x y p part = inl (record { last = t; later = later; tells = p; part = part })
 
 -- behind what a search has told so far
-pub answers_behind : {D T E : Type 0} {on : sectors.Ghosts D} (r : Result T E) (a b c : SessionValue D) (f : Serving → Reply) (later : Option (List Command)) (commands : List Command) (t : List ℕ) (x y z : Option (List ℕ)) → Serves on a f x y b (λ s. carried_all s commands)
-    → Tells on b (λ s. carried_all s commands) t c (still_carried later) → Puts y z r t → Answers on r a f x z c (still_carried later)
-answers_behind (Ok done) a b c f later commands t x y z p q written =
-    serves_on a b c f (λ s. carried_all s commands) (still_carried later) x y z p (serves_told b c (λ s. carried_all s commands) (still_carried later) t y z q written)
+pub answers_behind : {D T E : Type 0} {on : sectors.Ghosts D} (r : Result T E) (a b c : SessionValue D) (f : Serving → Reply) (later : Option (List Command)) (commands : List Command) (t : List ℕ) (x y z : Stream) → Serves on a f x y b (λ s. carried_all s commands)
+    → Tells on b (λ s. carried_all s commands) t c (still_carried later) → HandsOn y z r (on.calls c.device) t → Answers on r a f x z c (still_carried later)
+answers_behind (Ok done) a b c f later commands t x y z p q handed =
+    serves_on a b c f (λ s. carried_all s commands) (still_carried later) x y z p (serves_told b c (λ s. carried_all s commands) (still_carried later) t y z q handed)
 answers_behind (Err fault) a b c f later commands t x y z p q part = inr (record {
   commands = commands;
   told = b;
@@ -124,14 +149,16 @@ answers_behind (Err fault) a b c f later commands t x y z p q part = inr (record
   last = t;
   later = later;
   tells = q;
-  len = part.len;
-  written = Appends-trans x y z p.text (take part.len t) p.written part.written;
+  handed = y;
+  written = p.written;
+  part = part;
 })
 
-pub answers_as : {D T E : Type 0} (on : sectors.Ghosts D) (r : Result T E) (a b : SessionValue D) (f f' g : Serving → Reply) (x y : Option (List ℕ)) → ((fates : List Fate) → f' (as_serving a fates) ≡ f (as_serving a fates)) → Answers on r a f x y b g
+pub answers_as : {D T E : Type 0} (on : sectors.Ghosts D) (r : Result T E) (a b : SessionValue D) (f f' g : Serving → Reply) (x y : Stream) → ((fates : List Fate) → f' (as_serving a fates) ≡ f (as_serving a fates)) → Answers on r a f x y b g
     → Answers on r a f' x y b g
+unfolding leads_as
 answers_as on (Ok done) a b f f' g x y same p = serves_as a b f f' g x y same p
-answers_as on (Err fault) a b f f' g x y same (inl p) = inl (record { last = p.last; later = p.later; tells = tells_as a b f f' (still_carried p.later) p.last same p.tells; len = p.len; written = p.written })
+answers_as on (Err fault) a b f f' g x y same (inl p) = inl (record { last = p.last; later = p.later; tells = tells_as a b f f' (still_carried p.later) p.last same p.tells; part = p.part })
 answers_as on (Err fault) a b f f' g x y same (inr p) = inr (record {
   commands = p.commands;
   told = p.told;
@@ -140,8 +167,9 @@ answers_as on (Err fault) a b f f' g x y same (inr p) = inr (record {
   last = p.last;
   later = p.later;
   tells = p.tells;
-  len = p.len;
+  handed = p.handed;
   written = p.written;
+  part = p.part;
 })
 
 -- ---- an answer alone
@@ -361,7 +389,7 @@ pub steps_refused : {D : Type 0} {on : sectors.Ghosts D} (goal : Goal) (s : Sess
     → Tells on s (by_goal goal) (line (answer_text (answer.Refused r))) s silent
 steps_refused goal s r e f = tells_same s (by_goal goal) (answer.Refused r) (λ fates. goal_refused goal (as_serving s fates) r e f)
 
-pub steps_begun : {D T E : Type 0} (on : sectors.Ghosts D) (told : Result T E) (goal : Goal) (s new : SessionValue D) (steps : StepsLeft) (o y : Option (List ℕ)) → s.is_broken ≡ false → steps_to_make s.state goal ≡ Ok steps
+pub steps_begun : {D T E : Type 0} (on : sectors.Ghosts D) (told : Result T E) (goal : Goal) (s new : SessionValue D) (steps : StepsLeft) (o y : Stream) → s.is_broken ≡ false → steps_to_make s.state goal ≡ Ok steps
     → Answers on told s (λ t. carried_all t (commands_of steps s.state)) o y new silent → Answers on told s (by_goal goal) o y new silent
 steps_begun on told goal s new steps o y e f answers =
     answers_as on told s new (λ t. carried_all t (commands_of steps s.state)) (by_goal goal) silent o y (λ fates. goal_begun goal (as_serving s fates) steps e f) answers

@@ -1,11 +1,13 @@
 -- What a serving does for an input, and what becomes of its tries.
-use Rattle.std.specs.Prelude.{◌≡◌, Bool, true, false, List, [], ◌∷◌, ◌++◌, map, flat_map, Result, Ok, Err}
+use Rattle.std.specs.Prelude.{◌≡◌, ◌≤◌, ℕ, Bool, true, false, List, [], ◌∷◌, ◌++◌, length, map, flat_map, Result, Ok, Err}
+use Rattle.std.specs.List.{AllByRecursion, concat}
 use Rattle.command_core.specs.declared.commands.Command.{Command}
 use Rattle.command_text.specs.Answering.{Fate, Done, NoMemory, Spent, Failed}
 use Rattle.recover.specs.Replies.{kept}
 use Rattle.recover.specs.declared.denials.Denial.{Denial}
 use Rattle.recover.specs.declared.denials.Denial.TheVariants as denial
 use Rattle.recover.specs.declared.replies.Reply.{Reply}
+use Rattle.command_serving.specs.Streams.{Event, Flushed, Put}
 
 -- A command was applied, and the session gave this reply. Or memory was asked for a text, to read the one behind a `load` or to make one for
 -- `show` or `print`, and there was some or none.
@@ -73,7 +75,38 @@ had_it_not_failed Failed = Done
 abbrev pub unfailed : List Fate → List Fate
 unfailed fates = map had_it_not_failed fates
 
--- the first few of these commands are those
-pub record BeginsWith (front all : List Command) : Type 0 where
-  pub rest : List Command
+-- the first few of all are those
+pub record BeginsWith {X : Type 0} (front all : List X) : Type 0 where
+  pub rest : List X
   pub whole : all ≡ front ++ rest
+
+-- What was done and then told: one act at most, the texts that were put to tell it, when so many calls of the device had finished, and then all
+-- was handed on.
+pub record Turn : Type 0 where
+  pub acts : List Act
+  pub texts : List (List ℕ)
+  pub calls : ℕ
+
+-- it tells an act only when the last call of its command has finished
+pub record IsTurn (turn : Turn) : Type 0 where
+  pub few : length turn.acts ≤ 1
+  pub finished : AllByRecursion (λ (reply : Reply). reply.calls ≡ turn.calls) (replies_of turn.acts)
+
+-- the acts of turns, what they tell, and what they do to a sink
+abbrev pub acts_in : Turn → List Act
+acts_in turn = turn.acts
+
+abbrev pub text_in : Turn → List ℕ
+text_in turn = concat turn.texts
+
+abbrev pub events_in : Turn → List Event
+events_in turn = map (Put turn.calls) turn.texts ++ Flushed turn.calls ∷ []
+
+abbrev pub acts_by : List Turn → List Act
+acts_by turns = flat_map acts_in turns
+
+abbrev pub text_by : List Turn → List ℕ
+text_by turns = flat_map text_in turns
+
+abbrev pub events_by : List Turn → List Event
+events_by turns = flat_map events_in turns

@@ -2,8 +2,10 @@
 pub mod Acts
 pub mod Served
 pub mod Stopped
+pub mod Timely
 pub mod Causes
 pub mod Streams
+pub mod Held
 pub mod Strict
 pub mod StrictValue
 -- of private functions alone

@@ -1,6 +1,6 @@
 -- What an input is answered, what it makes of a session, and what stands where the serving ends before the input.
-use Rattle.std.specs.Prelude.{◌≡◌, ◌≤◌, ◌++◌, ◌^◌, ◌⊎◌, ℕ, Bool, true, List, [], length, take, Option, Some, None, Result, MatchResult}
-use Rattle.std.specs.Io.KnownBytes.{Appends}
+use Rattle.std.specs.Prelude.{◌≡◌, ◌≤◌, ◌++◌, ◌^◌, ◌⊎◌, ℕ, Bool, true, List, [], ◌∷◌, length, Option, Some, None, Result, MatchResult}
+use Rattle.std.specs.List.{AllByRecursion}
 use Rattle.command_core.specs.Runs.{after}
 use Rattle.command_core.specs.declared.commands.Command.{Command}
 use Rattle.command_text.specs.Answering.{Fate, Reply, Serving, carried_all, joined_replies, served}
@@ -8,7 +8,8 @@ use Rattle.command_text.specs.Cutting.{Piece, pieces_of}
 use Rattle.command_text.specs.Readings.{Reading}
 use Rattle.command_serving.specs.declared.answering.ServeFault.{ServeFault}
 use Rattle.command_serving.specs.declared.answering.ServeFault.TheVariants as fault
-use Rattle.command_serving.specs.Acts.{Act, BeginsWith, carried_of, commands_of, fates_of, kept_of, replies_of, unfailed}
+use Rattle.command_serving.specs.Acts.{Act, BeginsWith, IsTurn, Turn, acts_by, carried_of, commands_of, events_by, fates_of, kept_of, replies_of, text_by, unfailed}
+use Rattle.command_serving.specs.Streams.{Extends, IsPutInPart, Stream}
 use Rattle.recover.specs.Joining.{IsRunOn}
 use Rattle.recover.specs.Sessions.{SessionValue}
 use Rattle.sector_disk.specs.declared.sectors.Sectors as sectors
@@ -26,29 +27,32 @@ abbrev pub still : Reading → Option (List Command) → List Piece → Serving 
 still reading None pieces s = served reading s pieces
 still reading (Some commands) pieces s = let r = carried_all s commands in joined_replies r (served reading r.left pieces)
 
-module _ {D : Type 0} (on : sectors.Ghosts D) where
-  -- By these acts the session went from old to new: their commands and replies are a run. What was written is what the session answers to the
-  -- input by their fates; the commands that it then carries out are those that were acknowledged, and the state is the one after them. Had the
-  -- device not failed, the input would have asked for the one within which it did, too.
-  pub record IsServed (reading : Reading) (old : SessionValue D) (input : List ℕ) (before after_it : Option (List ℕ)) (new : SessionValue D) : Type 0 where
-    pub acts : List Act
-    pub run : IsRunOn on old (commands_of acts) (replies_of acts) new
-    pub written : Appends before after_it (served reading (as_serving old (fates_of acts)) (pieces_of input)).text
-    pub left : (served reading (as_serving old (fates_of acts)) (pieces_of input)).left ≡ as_serving new []
-    pub carried : (served reading (as_serving old (fates_of acts)) (pieces_of input)).commands ≡ carried_of acts
-    pub asks : BeginsWith (kept_of acts) (served reading (as_serving old (unfailed (fates_of acts))) (pieces_of input)).commands
-    pub state : new.state ≡ after old.state (served reading (as_serving old (fates_of acts)) (pieces_of input)).commands
+-- what was told begins what is written, and what these acts carried out the commands
+pub record Begins (told : List ℕ) (acts : List Act) (reply : Reply) : Type 0 where
+  pub text : BeginsWith told reply.text
+  pub commands : BeginsWith (carried_of acts) reply.commands
 
+-- By these turns the acts were told, and this text. Whatever becomes of later tries, what the first few turns tell begins what the session says, and
+-- their acts what it carries out: so it rests on these acts alone, each of which was done.
+pub record AreTold {D : Type 0} (old : SessionValue D) (from : Serving → Reply) (acts : List Act) (text : List ℕ) (turns : List Turn) : Type 0 where
+  pub does : acts ≡ acts_by turns
+  pub says : text ≡ text_by turns
+  pub each : AllByRecursion IsTurn turns
+  pub front : (some others : List Turn) → turns ≡ some ++ others → (later : List Fate) → Begins (text_by some) (acts_by some) (from (as_serving old (fates_of (acts_by some) ++ later)))
+
+module _ {D : Type 0} (on : sectors.Ghosts D) where
   -- By these acts the session went from old to new, with this text: what `from` says of old is, after it, what `to` says of new, whatever
   -- becomes of later tries.
   pub record Leads (old : SessionValue D) (from : Serving → Reply) (text : List ℕ) (new : SessionValue D) (to : Serving → Reply) : Type 0 where
     pub acts : List Act
+    pub turns : List Turn
     pub run : IsRunOn on old (commands_of acts) (replies_of acts) new
+    pub told : AreTold old from acts text turns
     pub says : (later : List Fate) → from (as_serving old (fates_of acts ++ later)) ≡ preceded text (carried_of acts) (to (as_serving new later))
     pub asks : (later : List Fate) → BeginsWith (kept_of acts) (from (as_serving old (unfailed (fates_of acts) ++ later))).commands
     pub state : new.state ≡ after old.state (carried_of acts)
 
-  -- so it did by one act at most
+  -- so it did by one act at most, before anything is told
   pub record Tells (old : SessionValue D) (from : Serving → Reply) (text : List ℕ) (new : SessionValue D) (to : Serving → Reply) : Type 0 where
     pub acts : List Act
     pub run : IsRunOn on old (commands_of acts) (replies_of acts) new
@@ -57,10 +61,35 @@ module _ {D : Type 0} (on : sectors.Ghosts D) where
     pub state : new.state ≡ after old.state (carried_of acts)
     pub few : length acts ≤ 1
 
+  -- The answers to the pieces before these were handed on by the first turns, and then nothing else was still to be answered.
+  pub record AreAnswered (reading : Reading) (old : SessionValue D) (pieces behind : List Piece) (turns : List Turn) : Type 0 where
+    pub mid : SessionValue D
+    pub text : List ℕ
+    pub leads : Leads old (λ s. served reading s pieces) text mid (λ s. served reading s behind)
+    pub rest : List Turn
+    pub first : turns ≡ leads.turns ++ rest
+
+  -- By these acts the session went from old to new: their commands and replies are a run. What was written is what the session answers to the
+  -- input by their fates; the commands that it then carries out are those that were acknowledged, and the state is the one after them. Had the
+  -- device not failed, the input would have asked for the one within which it did, too. It was told turn by turn, each behind the finished calls of
+  -- its act, and the answers to each first part of the input's pieces were handed on before the next one was begun.
+  pub record IsServed (reading : Reading) (old : SessionValue D) (input : List ℕ) (before after_it : Stream) (new : SessionValue D) : Type 0 where
+    pub acts : List Act
+    pub turns : List Turn
+    pub run : IsRunOn on old (commands_of acts) (replies_of acts) new
+    pub told : AreTold old (λ s. served reading s (pieces_of input)) acts (served reading (as_serving old (fates_of acts)) (pieces_of input)).text turns
+    pub lines : (some behind : List Piece) → pieces_of input ≡ some ++ behind → AreAnswered reading old (pieces_of input) behind turns
+    pub written : Extends before after_it (events_by turns) (served reading (as_serving old (fates_of acts)) (pieces_of input)).text
+    pub left : (served reading (as_serving old (fates_of acts)) (pieces_of input)).left ≡ as_serving new []
+    pub carried : (served reading (as_serving old (fates_of acts)) (pieces_of input)).commands ≡ carried_of acts
+    pub asks : BeginsWith (kept_of acts) (served reading (as_serving old (unfailed (fates_of acts))) (pieces_of input)).commands
+    pub state : new.state ≡ after old.state (served reading (as_serving old (fates_of acts)) (pieces_of input)).commands
+
   -- The serving ended within the pieces, with one answer written in part or not at all. Those before it were written, and the session was then at
   -- `told`, with steps and the last pieces still to be answered. It may have carried out the command that the last answer tells: what would be
-  -- answered behind that one is what the session says now to the rest of the steps and the pieces.
-  pub record IsCutShort (reading : Reading) (old : SessionValue D) (pieces : List Piece) (before after_it : Option (List ℕ)) (new : SessionValue D) : Type 0 where
+  -- answered behind that one is what the session says now to the rest of the steps and the pieces. What was put of it was put when the calls of
+  -- that command had finished.
+  pub record IsCutShort (reading : Reading) (old : SessionValue D) (pieces : List Piece) (before after_it : Stream) (new : SessionValue D) : Type 0 where
     pub commands : Option (List Command)
     pub front : List Piece
     pub behind : List Piece
@@ -68,6 +97,8 @@ module _ {D : Type 0} (on : sectors.Ghosts D) where
     pub told : SessionValue D
     pub text : List ℕ
     pub answered : Leads old (λ s. served reading s pieces) text told (still reading commands behind)
+    -- each of those before them was handed on before the next one was begun
+    pub lines : (some others : List Piece) (next : Piece) → front ≡ some ++ next ∷ others → AreAnswered reading old pieces (next ∷ (others ++ behind)) answered.turns
     pub later_commands : Option (List Command)
     -- the piece that the last answer begins, if it begins one
     pub begun : List Piece
@@ -76,11 +107,12 @@ module _ {D : Type 0} (on : sectors.Ghosts D) where
     pub one : length begun ≤ 1
     pub last : List ℕ
     pub tells : Tells told (still reading commands behind) last new (still reading later_commands later_behind)
-    pub len : ℕ
-    pub written : Appends before after_it (text ++ take len last)
+    pub handed : Stream
+    pub written : Extends before handed (events_by answered.turns) text
+    pub part : IsPutInPart handed after_it (on.calls new.device) last
 
   -- What a serving says of an input whose bytes are known.
-  abbrev pub EndsOrIsCut : {T E : Type 0} → Result T E → Reading → SessionValue D → List ℕ → Option (List ℕ) → Option (List ℕ) → SessionValue D → Type 0
+  abbrev pub EndsOrIsCut : {T E : Type 0} → Result T E → Reading → SessionValue D → List ℕ → Stream → Stream → SessionValue D → Type 0
   EndsOrIsCut r reading old input before after_it new =
       MatchResult r (λ _. IsServed reading old input before after_it new) (λ _. IsCutShort reading old (pieces_of input) before after_it new)
 

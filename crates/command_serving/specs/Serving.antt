@@ -1,6 +1,5 @@
 -- What a session did and what was written, as replies say it.
-use Rattle.std.specs.Prelude.{◌≡◌, ◌++◌, ◌⊎◌, ℕ, Bool, true, false, if◌then◌else◌, List, [], take, Option, Some, None, Result, MatchResult}
-use Rattle.std.specs.Io.KnownBytes.{Appends}
+use Rattle.std.specs.Prelude.{◌≡◌, ◌++◌, ◌⊎◌, ℕ, Bool, true, false, if◌then◌else◌, List, [], Option, Some, None, Result, MatchResult}
 use Rattle.command_text.specs.Answering.{Reply, Serving, at_line, answered, carried_all, load, next_fate, served, unless_broken}
 use Rattle.command_text.specs.declared.answers.Answer.{Answer}
 use Rattle.command_text.specs.declared.answers.Answer.TheVariants as answer
@@ -14,7 +13,9 @@ use Rattle.recover.specs.Sessions.{SessionValue}
 use Rattle.recover.specs.declared.replies.Reply.{Reply as SessionReply}
 use Rattle.command_core.specs.declared.commands.Command.{Command}
 use Rattle.sector_disk.specs.declared.sectors.Sectors as sectors
-use Rattle.command_serving.specs.Served.{IsCutShort, Leads, Tells}
+use Rattle.command_serving.specs.Acts.{events_by}
+use Rattle.command_serving.specs.Served.{AreAnswered, IsCutShort, Leads, Tells}
+use Rattle.command_serving.specs.Streams.{Extends, IsPutInPart, Stream}
 use Rattle.command_serving.specs.declared.answering.ServeFault.{ServeFault}
 use Rattle.command_serving.specs.declared.answering.ServeFault.TheVariants as fault
 use Rattle.command_text.specs.Cutting.{Piece, pieces_of}
@@ -36,10 +37,10 @@ abbrev pub silent : Serving → Reply
 silent s = record { text = []; commands = []; left = s }
 
 -- the text was written
-pub record Serves {D : Type 0} (on : sectors.Ghosts D) (old : SessionValue D) (from : Serving → Reply) (before after : Option (List ℕ)) (new : SessionValue D) (to : Serving → Reply) : Type 0 where
+pub record Serves {D : Type 0} (on : sectors.Ghosts D) (old : SessionValue D) (from : Serving → Reply) (before after : Stream) (new : SessionValue D) (to : Serving → Reply) : Type 0 where
   pub text : List ℕ
   pub leads : Leads on old from text new to
-  pub written : Appends before after text
+  pub written : Extends before after (events_by leads.turns) text
 
 -- what these commands of a line that asks for steps still answer, if one is under way
 abbrev pub still_carried : Option (List Command) → Serving → Reply
@@ -47,15 +48,14 @@ still_carried None = silent
 still_carried (Some commands) = λ s. carried_all s commands
 
 -- one answer was written in part or not at all
-pub record CutAtOnce {D : Type 0} (on : sectors.Ghosts D) (old : SessionValue D) (from : Serving → Reply) (before after : Option (List ℕ)) (new : SessionValue D) : Type 0 where
+pub record CutAtOnce {D : Type 0} (on : sectors.Ghosts D) (old : SessionValue D) (from : Serving → Reply) (before after : Stream) (new : SessionValue D) : Type 0 where
   pub last : List ℕ
   pub later : Option (List Command)
   pub tells : Tells on old from last new (still_carried later)
-  pub len : ℕ
-  pub written : Appends before after (take len last)
+  pub part : IsPutInPart before after (on.calls new.device) last
 
 -- so it was behind what steps have told
-pub record CutWithin {D : Type 0} (on : sectors.Ghosts D) (old : SessionValue D) (from : Serving → Reply) (before after : Option (List ℕ)) (new : SessionValue D) : Type 0 where
+pub record CutWithin {D : Type 0} (on : sectors.Ghosts D) (old : SessionValue D) (from : Serving → Reply) (before after : Stream) (new : SessionValue D) : Type 0 where
   pub commands : List Command
   pub told : SessionValue D
   pub text : List ℕ
@@ -63,14 +63,15 @@ pub record CutWithin {D : Type 0} (on : sectors.Ghosts D) (old : SessionValue D)
   pub last : List ℕ
   pub later : Option (List Command)
   pub tells : Tells on told (λ s. carried_all s commands) last new (still_carried later)
-  pub len : ℕ
-  pub written : Appends before after (text ++ take len last)
+  pub handed : Stream
+  pub written : Extends before handed (events_by answered.turns) text
+  pub part : IsPutInPart handed after (on.calls new.device) last
 
-abbrev pub CutOff : {D : Type 0} → sectors.Ghosts D → SessionValue D → (Serving → Reply) → Option (List ℕ) → Option (List ℕ) → SessionValue D → Type 0
+abbrev pub CutOff : {D : Type 0} → sectors.Ghosts D → SessionValue D → (Serving → Reply) → Stream → Stream → SessionValue D → Type 0
 CutOff on old from before after new = CutAtOnce on old from before after new ⊎ CutWithin on old from before after new
 
 -- the text was written, or the serving cut off
-abbrev pub Answers : {D T E : Type 0} → sectors.Ghosts D → Result T E → SessionValue D → (Serving → Reply) → Option (List ℕ) → Option (List ℕ) → SessionValue D → (Serving → Reply) → Type 0
+abbrev pub Answers : {D T E : Type 0} → sectors.Ghosts D → Result T E → SessionValue D → (Serving → Reply) → Stream → Stream → SessionValue D → (Serving → Reply) → Type 0
 Answers on r old from before after new to = MatchResult r (λ _. Serves on old from before after new to) (λ _. CutOff on old from before after new)
 
 -- what is answered to a denial
@@ -114,15 +115,16 @@ pieces_behind On left = pieces_of left
 pieces_behind ToEnd left = []
 
 -- these pieces were served, as far as what is left of an input that is known
-pub record ServesOn {D : Type 0} (on : sectors.Ghosts D) (reading : Reading) (old : SessionValue D) (pieces : List Piece) (before after : Option (List ℕ)) (new : SessionValue D) (goes : Goes) (known : Option (List ℕ)) : Type 0 where
+pub record ServesOn {D : Type 0} (on : sectors.Ghosts D) (reading : Reading) (old : SessionValue D) (pieces : List Piece) (before after : Stream) (new : SessionValue D) (goes : Goes) (known : Option (List ℕ)) : Type 0 where
   pub left : List ℕ
   pub is_known : known ≡ Some left
   pub front : List Piece
   pub split : pieces ≡ front ++ pieces_behind goes left
   pub serves : Serves on old (λ s. served reading s pieces) before after new (goes_on reading goes left)
+  pub lines : (some others : List Piece) → front ≡ some ++ others → AreAnswered on reading old pieces (others ++ pieces_behind goes left) serves.leads.turns
 
 -- these pieces were served, or cut short
-abbrev pub GoesOn : {D : Type 0} → sectors.Ghosts D → Result Goes ServeFault → Reading → SessionValue D → List Piece → Option (List ℕ) → Option (List ℕ) → SessionValue D → Option (List ℕ) → Type 0
+abbrev pub GoesOn : {D : Type 0} → sectors.Ghosts D → Result Goes ServeFault → Reading → SessionValue D → List Piece → Stream → Stream → SessionValue D → Option (List ℕ) → Type 0
 GoesOn on r reading old pieces before after new known =
     MatchResult r (λ goes. ServesOn on reading old pieces before after new goes known) (λ _. IsCutShort on reading old pieces before after new)
 

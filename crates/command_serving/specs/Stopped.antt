@@ -1,7 +1,7 @@
 -- The headline of a serving. Stopped at any moment of it, with any choice that the device allows, recovery gives the state after a first part of
 -- the commands that its input asks for, which holds every acknowledged one, and at most one more. Its plan passes the auditor, and costs no more
 -- than any incumbent since the last change of requests or pins.
-use Rattle.std.specs.Prelude.{◌≡◌, ℕ, false, List, ◌++◌, Option, Result, Ok, Err, ⊤}
+use Rattle.std.specs.Prelude.{◌≡◌, ℕ, false, List, ◌++◌, Result, Ok, Err, ⊤}
 use Rattle.command_core.specs.declared.commands.Command.{Command}
 use Rattle.command_core.specs.declared.states.State.{State}
 use Rattle.command_text.specs.Answering.{Fate, served}
@@ -19,6 +19,7 @@ use Rattle.sector_disk.specs.Sectors.{Throughout}
 use Rattle.sector_disk.specs.declared.sectors.Sectors as sectors
 use Rattle.command_serving.specs.Acts.{Act, BeginsWith, commands_of, fates_of, kept_of, replies_of, unfailed}
 use Rattle.command_serving.specs.Served.{EndsOrIsCut, as_serving}
+use Rattle.command_serving.specs.Streams.{Stream}
 use Rattle.command_serving.specs.declared.answering.ServeFault.{ServeFault}
 
 -- what an input asks a session to carry out, where its tries have these fates
@@ -37,7 +38,7 @@ module _ {D : Type 0} (on : sectors.Ghosts D) where
       → Throughout on.clock on.possible_since old.device new.device (RunLeaves old.state commands replies)
 
   -- the acts by which an input was served, or the serving cut short
-  abbrev pub acts_of : (r : Result ⊤ ServeFault) (reading : Reading) (old : SessionValue D) (input : List ℕ) (before after_it : Option (List ℕ)) (new : SessionValue D) → EndsOrIsCut on r reading old input before after_it new → List Act
+  abbrev pub acts_of : (r : Result ⊤ ServeFault) (reading : Reading) (old : SessionValue D) (input : List ℕ) (before after_it : Stream) (new : SessionValue D) → EndsOrIsCut on r reading old input before after_it new → List Act
   acts_of (Ok done) reading old input before after_it new served = served.acts
   acts_of (Err fault) reading old input before after_it new cut = cut.answered.acts ++ cut.tells.acts
 
@@ -48,14 +49,14 @@ module _ {D : Type 0} (on : sectors.Ghosts D) where
 
   -- law: the acts of a serving are one
   abbrev pub ServingsAreRuns : Type 0
-  ServingsAreRuns = (reading : Reading) (old new : SessionValue D) (input : List ℕ) (before after_it : Option (List ℕ)) (r : Result ⊤ ServeFault)
+  ServingsAreRuns = (reading : Reading) (old new : SessionValue D) (input : List ℕ) (before after_it : Stream) (r : Result ⊤ ServeFault)
       → (served : EndsOrIsCut on r reading old input before after_it new)
       → IsRunOfInput reading old input (acts_of r reading old input before after_it new served) new
 
 module _ {D E : Type 0} (on : sectors.Ghosts D) (again : sectors.Ghosts E) where
   -- the law
   abbrev pub ServedHeadline : Type 0
-  ServedHeadline = (reading : Reading) (old new : SessionValue D) (input : List ℕ) (before after_it : Option (List ℕ)) (r : Result ⊤ ServeFault) (m : ℕ) (image : List ℕ) (device left : E) (outcome : Result State StoreFault)
+  ServedHeadline = (reading : Reading) (old new : SessionValue D) (input : List ℕ) (before after_it : Stream) (r : Result ⊤ ServeFault) (m : ℕ) (image : List ℕ) (device left : E) (outcome : Result State StoreFault)
       -- an input served over a session that is not broken, as far as it was, and a device that has answered as the model says
       → (served : EndsOrIsCut on r reading old input before after_it new) → old.is_broken ≡ false → on.honest new.device
       -- what that leaves at each moment (clause `moments` of `serve`)

@@ -1,16 +1,66 @@
--- What readers and writers do to bytes that are known.
-use Rattle.std.specs.Prelude.{◌≡◌, ◌<◌, ◌≤◌, ℕ, List, length, take, Option, Some, None, Result, Ok, Err}
+-- What readers and writers do to bytes that are known, and what was done to a sink.
+use Rattle.std.specs.Prelude.{◌≡◌, ◌⊎◌, ◌<◌, ◌≤◌, ◌++◌, ◌∷◌, [], ℕ, List, length, map, take, Option, Some, None, Result, Ok, Err}
+use Rattle.std.specs.List.{concat}
 use Rattle.std.specs.Io.KnownBytes.{Appends, Consumes, IsAtEnd, Keeps}
 
--- a first part of the text was written
-pub record IsPart (old new : Option (List ℕ)) (text : List ℕ) : Type 0 where
-  pub len : ℕ
-  pub written : Appends old new (take len text)
+-- What was done to a sink, when so many calls of a device had finished: a text was put, which its writer may hand on at once; or all that had
+-- been put was handed on.
+pub data Event : Type 0 where
+  Put : ℕ → List ℕ → Event
+  Flushed : ℕ → Event
 
--- the text was written, or a first part of it where a call failed
-abbrev pub Puts : {T E : Type 0} → Option (List ℕ) → Option (List ℕ) → Result T E → List ℕ → Type 0
-Puts old new (Ok done) text = Appends old new text
-Puts old new (Err fault) text = IsPart old new text
+-- A sink: the bytes that it holds, where they are known, and what was done to it, in order.
+pub record Stream : Type 0 where
+  pub contents : Option (List ℕ)
+  pub events : List Event
+
+-- these events followed, by which this text was written
+pub record Extends (old new : Stream) (events : List Event) (text : List ℕ) : Type 0 where
+  pub written : Appends old.contents new.contents text
+  pub noted : new.events ≡ old.events ++ events
+
+-- a first part of the text was put
+pub record IsPart (old new : Stream) (calls : ℕ) (text : List ℕ) : Type 0 where
+  pub len : ℕ
+  pub put : Extends old new (Put calls (take len text) ∷ []) (take len text)
+
+-- the text was put, or a first part of it where a call failed
+abbrev pub Puts : {T E : Type 0} → Stream → Stream → Result T E → ℕ → List ℕ → Type 0
+Puts old new (Ok done) calls text = Extends old new (Put calls text ∷ []) text
+Puts old new (Err fault) calls text = IsPart old new calls text
+
+-- nothing more was written, and this followed
+pub record Stays (old new : Stream) (events : List Event) : Type 0 where
+  pub kept : Keeps old.contents new.contents
+  pub noted : new.events ≡ old.events ++ events
+
+-- it was handed on or not
+abbrev pub IsAtMostFlushed : ℕ → List Event → Type 0
+IsAtMostFlushed calls events = (events ≡ []) ⊎ (events ≡ Flushed calls ∷ [])
+
+-- what was put was handed on, and perhaps where that is told as failed
+abbrev pub Flushes : {T E : Type 0} → Stream → Stream → Result T E → ℕ → Type 0
+Flushes old new (Ok done) calls = Stays old new (Flushed calls ∷ [])
+Flushes old new (Err fault) calls = (events : List Event) × IsAtMostFlushed calls events × Stays old new events
+
+-- the text was put in parts, and then all was handed on
+pub record IsHandedOn (old new : Stream) (calls : ℕ) (text : List ℕ) : Type 0 where
+  pub texts : List (List ℕ)
+  pub whole : concat texts ≡ text
+  pub extends : Extends old new (map (Put calls) texts ++ Flushed calls ∷ []) text
+
+-- a first part of it was put, and perhaps handed on
+pub record IsPutInPart (old new : Stream) (calls : ℕ) (text : List ℕ) : Type 0 where
+  pub len : ℕ
+  pub texts : List (List ℕ)
+  pub part : concat texts ≡ take len text
+  pub last : List Event
+  pub few : IsAtMostFlushed calls last
+  pub extends : Extends old new (map (Put calls) texts ++ last) (take len text)
+
+abbrev pub HandsOn : {T E : Type 0} → Stream → Stream → Result T E → ℕ → List ℕ → Type 0
+HandsOn old new (Ok done) calls text = IsHandedOn old new calls text
+HandsOn old new (Err fault) calls text = IsPutInPart old new calls text
 
 -- so many bytes were read into the block, none only at the end or where there is no room; or nothing was read
 abbrev pub ReadsSome : Option (List ℕ) → Option (List ℕ) → Option ℕ → List ℕ → Type 0
@@ -21,3 +71,8 @@ ReadsSome old new None block = Keeps old new
 abbrev pub WritesSome : Option (List ℕ) → Option (List ℕ) → Option ℕ → List ℕ → Type 0
 WritesSome old new (Some n) text = (0 < n) × (n ≤ length text) × Appends old new (take n text)
 WritesSome old new None text = Keeps old new
+
+-- the text was written, or so many bytes of it
+abbrev pub WritesUpTo : {T : Type 0} → Option (List ℕ) → Option (List ℕ) → Result T ℕ → List ℕ → Type 0
+WritesUpTo old new (Ok done) text = Appends old new text
+WritesUpTo old new (Err n) text = (n ≤ length text) × Appends old new (take n text)

@@ -1,8 +1,7 @@
 //! Commands by lines of text, over a session: `serve`, and what it does for each kind of line.
 //!
 //! The module is not called `serve`, since a module and a function of one name are refused.
-ghost use Rattle.std.specs.Prelude.{◌≡◌, ◌≤◌, ◌++◌, IfErr, IfOk, OnErr, MatchResult, ℕ, List, Result, Ok, Err, Some, true, false, length};
-ghost use Rattle.std.specs.Io.KnownBytes.{Appends};
+ghost use Rattle.std.specs.Prelude.{◌≡◌, ◌≤◌, ◌++◌, [], IfErr, IfOk, OnErr, MatchResult, ℕ, List, Result, Ok, Err, Some, true, false, length};
 ghost use Rattle.plan_types.specs.Instance.{Instance};
 ghost use Rattle.instance_read.specs.declared.faults.ReadFault.{ReadFault};
 ghost use Rattle.command_text.specs.Answering.{carried_all, commands_of, made_or, next_stated, plain, printed, refused, shown, steps_to_make, unless_broken};
@@ -11,7 +10,7 @@ ghost use Rattle.command_text.specs.Readings.{IsReading, Reading};
 ghost use Rattle.command_text.specs.Answers.{answer_text, line};
 ghost use Rattle.command_core.specs.declared.states.State.TheVariants.{Loaded};
 ghost use Rattle.command_serving.specs.Input.{CountsTaken, left_of};
-ghost use Rattle.command_serving.specs.Streams.{Puts};
+ghost use Rattle.command_serving.specs.Streams.{HandsOn};
 ghost use Rattle.command_serving.specs.Served.{EndsOrIsCut, HasCause, Tells};
 ghost use Rattle.command_serving.specs.Serving.{Answers, GoesOn, HasNoJob, IsAppliedOn, IsCause, denied, goes_behind, load_reply, load_told, progress_of, silent};
 ghost use Rattle.command_serving.specs.Stopped.{RunsLeave};
@@ -89,7 +88,7 @@ pub fn serve<D: Sectors, R: Source, W: Sink>(
     ensures serves { (reading : Reading) (input : List ℕ) → IsReading reading
         → R.remaining reader.old ≡ Some input
         → EndsOrIsCut D.Sectors result reading session.old input
-        (W.contents writer.old) (W.contents writer.new) session.new }
+        (W.stream writer.old) (W.stream writer.new) session.new }
     ensures moments { RunsLeave D.Sectors session.old session.new }
     ensures origin { W.origin writer.new ≡ W.origin writer.old }
     ensures cause { (input : List ℕ) → R.remaining reader.old ≡ Some input
@@ -113,7 +112,7 @@ fn serve_lines<D: Sectors, R: Source, W: Sink>(
     ensures serves { (reading : Reading) (bytes : List ℕ) → IsReading reading
         → left_of R.remaining input.old reader.old ≡ Some bytes
         → EndsOrIsCut D.Sectors result reading session.old bytes
-        (W.contents writer.old) (W.contents writer.new) session.new }
+        (W.stream writer.old) (W.stream writer.new) session.new }
     ensures origin { W.origin writer.new ≡ W.origin writer.old }
     ensures cause { IfErr result (λ fault. IsCause fault (R.has_failed reader.new)
         (W.has_failed writer.new) input.new.left) }
@@ -144,7 +143,7 @@ fn serve_asked<D: Sectors, R: Source, W: Sink>(
     ensures serves { (reading : Reading) (rest : List ℕ) → IsReading reading
         → left_of R.remaining input.old reader.old ≡ Some rest
         → GoesOn D.Sectors result reading session.old (cut_at asked rest)
-        (W.contents writer.old) (W.contents writer.new) session.new
+        (W.stream writer.old) (W.stream writer.new) session.new
         (left_of R.remaining input.new reader.new) }
     ensures origin { W.origin writer.new ≡ W.origin writer.old }
     ensures cause { IfErr result (λ fault. IsCause fault (R.has_failed reader.new)
@@ -159,17 +158,22 @@ fn serve_asked<D: Sectors, R: Source, W: Sink>(
             let goes = goes_behind(&text);
             once(serve_load(alloc, session, writer, kind, seed, text), goes)
         }
-        Asked::BadLoad => once(tell(writer, Answer::BadLine), Goes::ToEnd),
-        Asked::LoadRange => once(tell(writer, Answer::Refused(Refusal::Range)), Goes::ToEnd),
+        Asked::BadLoad => once(tell(session, writer, Answer::BadLine), Goes::ToEnd),
+        Asked::LoadRange => once(
+            tell(session, writer, Answer::Refused(Refusal::Range)),
+            Goes::ToEnd,
+        ),
         Asked::Nothing => Ok(Goes::On),
-        Asked::BadLine => once(tell(writer, Answer::BadLine), Goes::On),
-        Asked::Refused(refusal) => once(tell(writer, refused(session, refusal)), Goes::On),
-        Asked::Plain(command) => once(tell(writer, applied(alloc, session, command)), Goes::On),
+        Asked::BadLine => once(tell(session, writer, Answer::BadLine), Goes::On),
+        Asked::Refused(refusal) => {
+            once(tell(session, writer, refused(session, refusal)), Goes::On)
+        }
+        Asked::Plain(command) => once(serve_plain(alloc, session, writer, command), Goes::On),
         Asked::Steps(goal) => once(serve_steps(alloc, session, writer, goal), Goes::On),
         Asked::Print => once(serve_print(alloc, session, writer), Goes::On),
         Asked::Show => once(serve_show(alloc, session, writer), Goes::On),
         Asked::Next => once(serve_next(session, writer), Goes::On),
-        Asked::Help => once(tell_line(writer, help_lines()), Goes::On),
+        Asked::Help => once(tell_line(session, writer, help_lines()), Goes::On),
     }
 }
 
@@ -183,56 +187,91 @@ fn once(written: Result<(), Failed>, goes: Goes) -> Result<Goes, ServeFault>
     }
 }
 
-// Writes a text and hands it on.
-fn put<W: Sink>(writer: &mut W, text: &[u8]) -> Result<(), Failed>
-    ensures bytes { Puts (W.contents writer.old) (W.contents writer.new) result text.now }
+// Writes a line, and hands on all that was written.
+fn put_line<D: Sectors, W: Sink>(
+    session: &Session<D>,
+    writer: &mut W,
+    text: &[u8],
+) -> Result<(), Failed>
+    ensures told { HandsOn (W.stream writer.old) (W.stream writer.new) result
+        (D.calls session.now.device) (line text.now) }
     ensures failed { OnErr result (W.has_failed writer.new ≡ true) }
     ensures origin { W.origin writer.new ≡ W.origin writer.old }
 {
-    writer.put(text)?;
-    writer.flush()
+    writer.put(session, text)?;
+    writer.put(session, b"\n")?;
+    hand_on(session, writer)
 }
 
-// Writes a line and hands it on.
-fn put_line<W: Sink>(writer: &mut W, text: &[u8]) -> Result<(), Failed>
-    ensures bytes { Puts (W.contents writer.old) (W.contents writer.new) result (line text.now) }
+// Hands on what was written.
+#[tactic(auto, using(crate::proofs::StreamLemmas::hands_nothing))]
+fn hand_on<D: Sectors, W: Sink>(session: &Session<D>, writer: &mut W) -> Result<(), Failed>
+    ensures told { HandsOn (W.stream writer.old) (W.stream writer.new) result
+        (D.calls session.now.device) [] }
     ensures failed { OnErr result (W.has_failed writer.new ≡ true) }
     ensures origin { W.origin writer.new ≡ W.origin writer.old }
 {
-    writer.put(text)?;
-    put(writer, b"\n")
+    writer.flush(session)
 }
 
-// Writes the last line of an answer.
-fn tell<W: Sink>(writer: &mut W, answer: Answer) -> Result<(), Failed>
-    ensures bytes { Puts (W.contents writer.old) (W.contents writer.new) result
-        (line (answer_text answer)) }
+// Writes the last line of an answer, and hands the answer on.
+fn tell<D: Sectors, W: Sink>(
+    session: &Session<D>,
+    writer: &mut W,
+    answer: Answer,
+) -> Result<(), Failed>
+    ensures told { HandsOn (W.stream writer.old) (W.stream writer.new) result
+        (D.calls session.now.device) (line (answer_text answer)) }
     ensures failed { OnErr result (W.has_failed writer.new ≡ true) }
     ensures origin { W.origin writer.new ≡ W.origin writer.old }
 {
-    put_line(writer, answer.line().as_bytes())
+    put_line(session, writer, answer.line().as_bytes())
 }
 
 // Writes the lines of an answer, and `ok` behind them.
-fn tell_text<W: Sink>(writer: &mut W, text: &[u8]) -> Result<(), Failed>
-    ensures bytes { Puts (W.contents writer.old) (W.contents writer.new) result
-        (text.now ++ line (answer_text Answer.Ok)) }
+fn tell_text<D: Sectors, W: Sink>(
+    session: &Session<D>,
+    writer: &mut W,
+    text: &[u8],
+) -> Result<(), Failed>
+    ensures told { HandsOn (W.stream writer.old) (W.stream writer.new) result
+        (D.calls session.now.device) (text.now ++ line (answer_text Answer.Ok)) }
     ensures failed { OnErr result (W.has_failed writer.new ≡ true) }
     ensures origin { W.origin writer.new ≡ W.origin writer.old }
 {
-    writer.put(text)?;
-    tell(writer, Answer::Ok)
+    writer.put(session, text)?;
+    tell(session, writer, Answer::Ok)
 }
 
 // Writes a line, and `ok` behind it.
-fn tell_line<W: Sink>(writer: &mut W, text: &[u8]) -> Result<(), Failed>
-    ensures bytes { Puts (W.contents writer.old) (W.contents writer.new) result
-        (line text.now ++ line (answer_text Answer.Ok)) }
+fn tell_line<D: Sectors, W: Sink>(
+    session: &Session<D>,
+    writer: &mut W,
+    text: &[u8],
+) -> Result<(), Failed>
+    ensures told { HandsOn (W.stream writer.old) (W.stream writer.new) result
+        (D.calls session.now.device) (line text.now ++ line (answer_text Answer.Ok)) }
     ensures failed { OnErr result (W.has_failed writer.new ≡ true) }
     ensures origin { W.origin writer.new ≡ W.origin writer.old }
 {
-    put_line(writer, text)?;
-    tell(writer, Answer::Ok)
+    writer.put(session, text)?;
+    tell_text(session, writer, b"\n")
+}
+
+// Carries the command out, and then answers it.
+fn serve_plain<D: Sectors, W: Sink>(
+    alloc: Global,
+    session: &mut Session<D>,
+    writer: &mut W,
+    command: Command,
+) -> Result<(), Failed>
+    ensures answers { Answers D.Sectors result session.old (λ s. plain s command)
+        (W.stream writer.old) (W.stream writer.new) session.new silent }
+    ensures failed { OnErr result (W.has_failed writer.new ≡ true) }
+    ensures origin { W.origin writer.new ≡ W.origin writer.old }
+{
+    let outcome = applied(alloc, session, command);
+    tell(session, writer, outcome)
 }
 
 // Carries the command out. `Ok` comes after its last sync.
@@ -314,14 +353,17 @@ fn serve_load<D: Sectors, W: Sink>(
 ) -> Result<(), Failed>
     ensures answers { (reading : Reading) (bytes : List ℕ) → IsReading reading
         → Answers D.Sectors result session.old (load_told text reading kind seed bytes)
-        (W.contents writer.old) (W.contents writer.new) session.new silent }
+        (W.stream writer.old) (W.stream writer.new) session.new silent }
     ensures failed { OnErr result (W.has_failed writer.new ≡ true) }
     ensures origin { W.origin writer.new ≡ W.origin writer.old }
 {
     match text {
-        LoadText::Short => tell(writer, Answer::Truncated),
-        LoadText::Dropped => tell(writer, dropped(session)),
-        LoadText::Whole(text) => tell(writer, loaded(alloc, session, kind, seed, &text)),
+        LoadText::Short => tell(session, writer, Answer::Truncated),
+        LoadText::Dropped => tell(session, writer, dropped(session)),
+        LoadText::Whole(text) => {
+            let answer = loaded(alloc, session, kind, seed, &text);
+            tell(session, writer, answer)
+        }
     }
 }
 
@@ -366,16 +408,16 @@ fn serve_steps<D: Sectors, W: Sink>(
 ) -> Result<(), Failed>
     ensures answers { Answers D.Sectors result session.old
         (λ s. unless_broken s (made_or s (steps_to_make s.state goal)))
-        (W.contents writer.old) (W.contents writer.new) session.new silent }
+        (W.stream writer.old) (W.stream writer.new) session.new silent }
     ensures failed { OnErr result (W.has_failed writer.new ≡ true) }
     ensures origin { W.origin writer.new ≡ W.origin writer.old }
 {
     if session.is_broken() {
-        return tell(writer, Answer::Broken);
+        return tell(session, writer, Answer::Broken);
     }
     match steps_to_make(session.state(), goal) {
         Ok(steps) => make_steps(alloc, session, writer, steps),
-        Err(refusal) => tell(writer, Answer::Refused(refusal)),
+        Err(refusal) => tell(session, writer, Answer::Refused(refusal)),
     }
 }
 
@@ -388,7 +430,7 @@ fn make_steps<D: Sectors, W: Sink>(
 ) -> Result<(), Failed>
     ensures answers { Answers D.Sectors result session.old
         (λ s. carried_all s (commands_of steps session.old.state))
-        (W.contents writer.old) (W.contents writer.new) session.new silent }
+        (W.stream writer.old) (W.stream writer.new) session.new silent }
     ensures failed { OnErr result (W.has_failed writer.new ≡ true) }
     ensures origin { W.origin writer.new ≡ W.origin writer.old }
 {
@@ -396,12 +438,12 @@ fn make_steps<D: Sectors, W: Sink>(
     while let Some((command, rest)) = next_command(left, session.state()) {
         let is_told = makes_steps(&command);
         if let Err(denial) = apply(alloc, session, command).answer {
-            return tell(writer, denied(denial));
+            return tell(session, writer, denied(denial));
         }
         left = rest;
         tell_progress(session, writer, is_told)?;
     }
-    tell(writer, Answer::Ok)
+    tell(session, writer, Answer::Ok)
 }
 
 // Writes how far the steps are, where that is told.
@@ -410,14 +452,14 @@ fn tell_progress<D: Sectors, W: Sink>(
     writer: &mut W,
     is_told: bool,
 ) -> Result<(), Failed>
-    ensures bytes { Puts (W.contents writer.old) (W.contents writer.new) result
-        (progress_of is_told session.now) }
+    ensures told { HandsOn (W.stream writer.old) (W.stream writer.new) result
+        (D.calls session.now.device) (progress_of is_told session.now) }
     ensures failed { OnErr result (W.has_failed writer.new ≡ true) }
     ensures origin { W.origin writer.new ≡ W.origin writer.old }
 {
     match session.state() {
-        State::Loaded(job) if is_told => put_line(writer, at_line(job).as_bytes()),
-        State::Loaded(_) | State::Empty => Ok(()),
+        State::Loaded(job) if is_told => put_line(session, writer, at_line(job).as_bytes()),
+        State::Loaded(_) | State::Empty => hand_on(session, writer),
     }
 }
 
@@ -427,18 +469,22 @@ fn serve_print<D: Sectors, W: Sink>(
     writer: &mut W,
 ) -> Result<(), Failed>
     ensures answers { Answers D.Sectors result session.now (λ s. unless_broken s (printed s s.state))
-        (W.contents writer.old) (W.contents writer.new) session.now silent }
+        (W.stream writer.old) (W.stream writer.new) session.now silent }
     ensures failed { OnErr result (W.has_failed writer.new ≡ true) }
     ensures origin { W.origin writer.new ≡ W.origin writer.old }
 {
     let job = match job_of(session) {
         Ok(job) => job,
-        Err(answer) => return tell(writer, answer),
+        Err(answer) => return tell(session, writer, answer),
     };
     match print(alloc, job) {
-        Ok(text) => tell_text(writer, text.as_bytes()),
-        Err(WriteSolFault::Unplanned(_)) => tell(writer, Answer::Unplanned),
-        Err(WriteSolFault::OutOfMemory) => tell(writer, Answer::Refused(Refusal::OutOfMemory)),
+        Ok(text) => tell_text(session, writer, text.as_bytes()),
+        Err(WriteSolFault::Unplanned(_)) => tell(session, writer, Answer::Unplanned),
+        Err(WriteSolFault::OutOfMemory) => tell(
+            session,
+            writer,
+            Answer::Refused(Refusal::OutOfMemory),
+        ),
     }
 }
 
@@ -448,28 +494,28 @@ fn serve_show<D: Sectors, W: Sink>(
     writer: &mut W,
 ) -> Result<(), Failed>
     ensures answers { Answers D.Sectors result session.now (λ s. unless_broken s (shown s s.state))
-        (W.contents writer.old) (W.contents writer.new) session.now silent }
+        (W.stream writer.old) (W.stream writer.new) session.now silent }
     ensures failed { OnErr result (W.has_failed writer.new ≡ true) }
     ensures origin { W.origin writer.new ≡ W.origin writer.old }
 {
     let job = match job_of(session) {
         Ok(job) => job,
-        Err(answer) => return tell(writer, answer),
+        Err(answer) => return tell(session, writer, answer),
     };
     match show(alloc, job) {
-        Ok(text) => tell_text(writer, text.as_bytes()),
-        Err(_) => tell(writer, Answer::Refused(Refusal::OutOfMemory)),
+        Ok(text) => tell_text(session, writer, text.as_bytes()),
+        Err(_) => tell(session, writer, Answer::Refused(Refusal::OutOfMemory)),
     }
 }
 
 fn serve_next<D: Sectors, W: Sink>(session: &Session<D>, writer: &mut W) -> Result<(), Failed>
     ensures answers { Answers D.Sectors result session.now (λ s. unless_broken s (next_stated s s.state))
-        (W.contents writer.old) (W.contents writer.new) session.now silent }
+        (W.stream writer.old) (W.stream writer.new) session.now silent }
     ensures failed { OnErr result (W.has_failed writer.new ≡ true) }
     ensures origin { W.origin writer.new ≡ W.origin writer.old }
 {
     match job_of(session) {
-        Ok(job) => tell_line(writer, next_line(job).as_bytes()),
-        Err(answer) => tell(writer, answer),
+        Ok(job) => tell_line(session, writer, next_line(job).as_bytes()),
+        Err(answer) => tell(session, writer, answer),
     }
 }

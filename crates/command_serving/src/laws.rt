@@ -1,6 +1,7 @@
 //! What is known of served inputs, from the promises of `serve` and of `open` alone.
 ghost use Rattle.command_serving.specs.Causes.{FaultsAreTold, SpentAtTheLast};
 ghost use Rattle.command_serving.specs.Stopped.{ServedHeadline, ServingsAreRuns};
+ghost use Rattle.command_serving.specs.Timely.{AnswersComeAfter};
 
 use recover::recovery_keeps_every_acknowledged_command;
 use sector_disk::Sectors;
@@ -13,10 +14,12 @@ pub fn fates_have_causes<D: Sectors>()
 
 /// Stopped at any moment of a serving, with any choice that the device allows, recovery gives the state after a first
 /// part of the commands that the input asks for, which holds every acknowledged one, and at most one more. Whether it
-/// ended or was cut short, what the serving did is a run of these commands.
+/// ended or was cut short, what the serving did is a run of these commands. What was put, and so what was handed on, by the
+/// time that m calls had finished tells commands alone that are acknowledged then.
 pub fn stopped_servings_recover<D: Sectors, E: Sectors>()
     ensures runs { ServingsAreRuns D.Sectors }
     ensures stopped { ServedHeadline D.Sectors E.Sectors }
+    ensures told { AnswersComeAfter D.Sectors }
 {
     recovery_keeps_every_acknowledged_command::<D, E>();
 }

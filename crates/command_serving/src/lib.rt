@@ -8,10 +8,12 @@
 //! How it works: bytes are read in blocks of 8,192, a line is kept up to 1,026 bytes in an array, and of a longer
 //! one only what tells whether its first word is `load`. So lines take no memory, and no want of it looks like a
 //! reader that failed; the text behind a `load` does. `ok` and `at` are written behind the last sync of what they
-//! acknowledge, and each answer is flushed.
+//! acknowledge, and each answer is flushed. Each call of a sink is handed the session, so that clauses see what was put and
+//! flushed when how many calls of the device had finished.
 //!
 //! Modules, in reading order:
 //! - `streams`: `Source`, `Sink`, and `Watched`, which makes one of each reader and writer of std
+//! - `log`: what was done to a sink, for clauses alone
 //! - `since`: what a writer held at a moment, for clauses alone
 //! - `strict`: `Strict`, a sink whose `flush` fails behind a line that tells a refusal or a failed device
 //! - `ahead`: what was read and not yet taken
@@ -19,7 +21,8 @@
 //! - `answering`: `serve`, and a function for each kind of line
 //! - `laws`: what stops leave of a serving, and the causes of its answers
 //!
-//! Said by `specs/Served.antt`, `Acts.antt`, `Stopped.antt`, `Causes.antt`, `Streams.antt` and `Strict.antt`. Proved of `serve`,
+//! Said by `specs/Served.antt`, `Acts.antt`, `Stopped.antt`, `Timely.antt`, `Causes.antt`, `Streams.antt` and
+//! `Strict.antt`. Proved of `serve`,
 //! where the bytes of the input are known:
 //! - `serves`, after `Ok` (`IsServed`): all is served, what is appended is the answer to the input, and the state
 //!   is the one after the commands that were carried out
@@ -28,6 +31,10 @@
 //!   the next tells
 //! - `serves`, in both cases (`run`): what was done are acts, whose commands and replies are a run of the session, and the
 //!   answers are those that follow these replies
+//! - `serves`, in both cases (`AreTold`): acts are told turn by turn, one act at most and then a flush, and each text is put when
+//!   the calls of the command that it tells have finished. The answers to each line are flushed before the next one is begun
+//!   (`AreAnswered`). So, by the clause `told` of `stopped_servings_recover`, what was put by m finished calls tells commands alone
+//!   that are acknowledged then
 //! - `moments` (`RunsLeave`): at each moment a stop leaves the state after a first part of the commands that were kept, with
 //!   each one acknowledged by then. So `stopped_servings_recover` is the headline of an input
 //! - `fates_have_causes`: `no Spent` is told at the last sequence alone, `fault device` where a call of the device failed
@@ -40,21 +47,21 @@
 //!   answers
 //! - what a whole line asks for does not depend on the pieces in which its bytes come (`input`)
 //!
-//! Not excluded by these clauses: a try that answers `OutOfMemory` though there is memory, an answer handed on before what
-//! it tells is durable (device and writer have no common clock in contracts), and a `Watched` that fails
-//! always and notes it, since of std's readers and writers no contract says when a call may fail. Programs show that
-//! neither is so.
+//! Not excluded by these clauses: a try that answers `OutOfMemory` though there is memory, a `flush` that hands nothing on, and
+//! a `Watched` that fails always and notes it, since of std's readers and writers no contract says when a call may fail, nor
+//! what a flush does. Programs show that none is so.
 #![tactic(auto)]
 
 mod ahead;
 mod answering;
 mod input;
 mod laws;
+mod log;
 mod since;
 mod streams;
 mod strict;
 
 pub use answering::{ServeFault, serve};
 pub use laws::{fates_have_causes, stopped_servings_recover};
-pub use streams::{Failed, Sink, Source, Watched};
+pub use streams::{Failed, Noted, Sink, Source, Watched};
 pub use strict::{Stopped, Strict, last_lines_are_ended};

@@ -2,11 +2,14 @@
 //!
 //! Std's `Read` and `Write` don't say when a call may fail. A `Source` and a `Sink` tell whether one has, so that a
 //! fault has a cause which a contract can name. A slice of bytes is a source that never fails.
-ghost use Rattle.std.specs.Prelude.{◌≡◌, ◌<◌, ◌≤◌, ℕ, List, Option, Bool, true, false, None, Some, IfOk, IfSome, IsNone, OnErr, length, take};
+ghost use Rattle.std.specs.Prelude.{◌≡◌, ◌<◌, ◌≤◌, [], ℕ, List, Option, Bool, true, false, None, Some, IfOk, IfSome, IsNone, OnErr, length, take};
 ghost use Rattle.std.specs.Io.{ReadsAtMost};
 ghost use Rattle.std.specs.Io.KnownBytes.{Appends, Keeps, ReadConsumes};
-ghost use Rattle.command_serving.specs.Streams.{Puts, ReadsSome, WritesSome};
+ghost use Rattle.command_serving.specs.Streams.{Flushes, Puts, ReadsSome, Stream, WritesSome, WritesUpTo};
 
+use crate::log::Log;
+use recover::Session;
+use sector_disk::Sectors;
 use std::io;
 use std::io::{ErrorKind, Read, Write};
 
@@ -29,10 +32,11 @@ pub trait Source {
         ensures failed { OnErr result (has_failed self.new ≡ true) };
 }
 
-/// What answers are written to.
+/// What answers are written to. Each call is handed the session that is served, so that a sink notes, for clauses alone, how
+/// many calls of its device had finished.
 pub trait Sink {
-    // The bytes that it holds, where they are known.
-    ghost contents: { Self → Option (List ℕ) };
+    // The bytes that it holds, where they are known, and what was done to it.
+    ghost stream: { Self → Stream };
 
     // Whether a call has failed.
     ghost has_failed: { Self → Bool };
@@ -41,14 +45,16 @@ pub trait Sink {
     ghost origin: { Self → Option (List ℕ) };
 
     /// Writes a text, or where a call fails a first part of it.
-    fn put(&mut self, text: &[u8]) -> Result<(), Failed>
-        ensures bytes { Puts (contents self.old) (contents self.new) result text.now }
+    fn put<D: Sectors>(&mut self, session: &Session<D>, text: &[u8]) -> Result<(), Failed>
+        ensures puts { Puts (stream self.old) (stream self.new) result
+            (D.calls session.now.device) text.now }
         ensures failed { OnErr result (has_failed self.new ≡ true) }
         ensures origin { origin self.new ≡ origin self.old };
 
     /// Hands on what was written.
-    fn flush(&mut self) -> Result<(), Failed>
-        ensures bytes { Keeps (contents self.old) (contents self.new) }
+    fn flush<D: Sectors>(&mut self, session: &Session<D>) -> Result<(), Failed>
+        ensures flushes { Flushes (stream self.old) (stream self.new) result
+            (D.calls session.now.device) }
         ensures failed { OnErr result (has_failed self.new ≡ true) }
         ensures origin { origin self.new ≡ origin self.old };
 }
@@ -58,17 +64,27 @@ pub trait Sink {
 pub struct Watched<T> {
     pub(crate) inner: T,
     has_failed: bool,
+    pub(crate) log: Log,
+}
+
+/// What was noted of the calls of a source or a sink.
+#[derive(Drop)]
+pub struct Noted {
+    has_failed: bool,
+    log: Log,
 }
 
 impl<T> Watched<T> {
-    /// No call has failed yet.
+    /// No call has failed yet, and nothing was done as a sink.
     pub fn new(inner: T) -> Watched<T>
         ensures inner { result.inner ≡ inner }
         ensures has_failed { result.has_failed ≡ false }
+        ensures log { result.log.events ≡ [] }
     {
         Watched {
             inner,
             has_failed: false,
+            log: Log::new(),
         }
     }
 
@@ -84,6 +100,34 @@ impl<T> Watched<T> {
         ensures { result ≡ self.inner }
     {
         self.inner
+    }
+
+    /// The reader or writer itself, for calls that are none of a source or a sink, and what was noted so far.
+    pub fn apart(self) -> (T, Noted)
+        ensures inner { result.0 ≡ self.inner }
+        ensures has_failed { result.1.has_failed ≡ self.has_failed }
+        ensures log { result.1.log.events ≡ self.log.events }
+    {
+        let Watched {
+            inner,
+            has_failed,
+            log,
+        } = self;
+        (inner, Noted { has_failed, log })
+    }
+
+    /// Goes on with what was noted.
+    pub fn again(inner: T, noted: Noted) -> Watched<T>
+        ensures inner { result.inner ≡ inner }
+        ensures has_failed { result.has_failed ≡ noted.has_failed }
+        ensures log { result.log.events ≡ noted.log.events }
+    {
+        let Noted { has_failed, log } = noted;
+        Watched {
+            inner,
+            has_failed,
+            log,
+        }
     }
 }
 
@@ -106,32 +150,36 @@ impl<R: Read> Source for Watched<R> {
 
 /// A call that a signal came between is made again. One that takes no byte of some has failed.
 impl<W: Write> Sink for Watched<W> {
-    ghost contents = { λ w. W.contents w.inner };
+    ghost use Rattle.command_serving.specs.Held.{held};
+
+    ghost stream = { held W.contents };
 
     ghost has_failed = { λ w. w.has_failed };
 
     ghost origin = { λ _. None };
 
-    fn put(&mut self, text: &[u8]) -> Result<(), Failed>
-        ensures bytes { Puts (W.contents self.old.inner) (W.contents self.new.inner) result text.now }
+    fn put<D: Sectors>(&mut self, session: &Session<D>, text: &[u8]) -> Result<(), Failed>
+        ensures puts { Puts (held W.contents self.old) (held W.contents self.new) result
+            (D.calls session.now.device) text.now }
         ensures failed { OnErr result (self.new.has_failed ≡ true) }
         ensures noted { self.new.has_failed ≡ false → self.old.has_failed ≡ false }
     {
-        let mut written = 0;
-        while written < text.len() {
-            match write_once(&mut self.inner, &text[written..]) {
-                Some(len) => written += len,
-                None => {
-                    self.has_failed = true;
-                    return Err(Failed);
-                }
+        match write_text(&mut self.inner, text) {
+            Ok(()) => {
+                self.log = self.log.with_put(session, text);
+                Ok(())
+            }
+            Err(len) => {
+                self.has_failed = true;
+                self.log = self.log.with_put(session, &text[..len]);
+                Err(Failed)
             }
         }
-        Ok(())
     }
 
-    fn flush(&mut self) -> Result<(), Failed>
-        ensures bytes { Keeps (W.contents self.old.inner) (W.contents self.new.inner) }
+    fn flush<D: Sectors>(&mut self, session: &Session<D>) -> Result<(), Failed>
+        ensures flushes { Flushes (held W.contents self.old) (held W.contents self.new) result
+            (D.calls session.now.device) }
         ensures failed { OnErr result (self.new.has_failed ≡ true) }
         ensures noted { self.new.has_failed ≡ false → self.old.has_failed ≡ false }
     {
@@ -139,6 +187,7 @@ impl<W: Write> Sink for Watched<W> {
             self.has_failed = true;
             return Err(Failed);
         }
+        self.log = self.log.with_flush(session);
         Ok(())
     }
 }
@@ -183,6 +232,20 @@ fn read_once<R: Read>(reader: &mut R, block: &mut [u8]) -> Option<usize>
         }
     }
     None
+}
+
+// Writes a text, or gives how many of its bytes were written before a call failed.
+fn write_text<W: Write>(writer: &mut W, text: &[u8]) -> Result<(), usize>
+    ensures { WritesUpTo (W.contents writer.old) (W.contents writer.new) result text.now }
+{
+    let mut written = 0;
+    while written < text.len() {
+        match write_once(writer, &text[written..]) {
+            Some(len) => written += len,
+            None => return Err(written),
+        }
+    }
+    Ok(())
 }
 
 // Writes some bytes of a text that has some, and gives nothing where the writer fails.

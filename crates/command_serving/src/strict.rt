@@ -1,13 +1,15 @@
 //! A writer that lets no answer follow a refusal.
 ghost use Rattle.std.specs.Prelude.{◌≡◌, ◌++◌, bytes_eq, ◌∷◌, ◌||◌, ℕ, List, Option, [], false, true, None, OnErr, OnOk};
 ghost use Rattle.std.specs.Io.{WritesAtMost};
-ghost use Rattle.std.specs.Io.KnownBytes.{Keeps, WriteAppends};
-ghost use Rattle.command_serving.specs.Streams.{Puts};
+ghost use Rattle.std.specs.Io.KnownBytes.{WriteAppends};
+ghost use Rattle.command_serving.specs.Streams.{Flushes, Puts};
 ghost use Rattle.command_serving.specs.Strict.{Follows, HasNoLine, IsLastLine, IsLastLineBehind, TellsLast, is_stopped, stop_of};
 
 use crate::since::Since;
 use crate::streams::{Failed, Sink, Watched};
 use arrayvec::ArrayVec;
+use recover::Session;
+use sector_disk::Sectors;
 use std::io;
 use std::io::Write;
 use std::marker::Model;
@@ -166,31 +168,34 @@ pub fn last_lines_are_ended()
 
 /// It has failed where the writer has, and where the last line lets none follow.
 impl<W: Write> Sink for Strict<W> {
-    ghost contents = { λ s. W.contents s.writer.inner };
+    ghost use Rattle.command_serving.specs.Held.{held};
+
+    ghost stream = { λ s. held W.contents s.writer };
 
     ghost has_failed = { λ s. s.writer.has_failed || is_stopped s.told };
 
     ghost origin = { λ s. s.before };
 
-    fn put(&mut self, text: &[u8]) -> Result<(), Failed>
-        ensures bytes { Puts (W.contents self.old.writer.inner) (W.contents self.new.writer.inner)
-            result text.now }
+    fn put<D: Sectors>(&mut self, session: &Session<D>, text: &[u8]) -> Result<(), Failed>
+        ensures puts { Puts (held W.contents self.old.writer) (held W.contents self.new.writer)
+            result (D.calls session.now.device) text.now }
         ensures failed { OnErr result (self.new.writer.has_failed || is_stopped self.new.told ≡ true) }
         ensures origin { self.new.before ≡ self.old.before }
     {
-        self.writer.put(text)?;
+        self.writer.put(session, text)?;
         self.last_lines.take_all(text);
         Ok(())
     }
 
-    fn flush(&mut self) -> Result<(), Failed>
-        ensures bytes { Keeps (W.contents self.old.writer.inner) (W.contents self.new.writer.inner) }
+    fn flush<D: Sectors>(&mut self, session: &Session<D>) -> Result<(), Failed>
+        ensures flushes { Flushes (held W.contents self.old.writer) (held W.contents self.new.writer)
+            result (D.calls session.now.device) }
         ensures failed { OnErr result (self.new.writer.has_failed || is_stopped self.new.told ≡ true) }
         ensures origin { self.new.before ≡ self.old.before }
         ensures told { self.new.told ≡ self.old.told }
         ensures lets { OnOk result (self.new.told ≡ None) }
     {
-        Sink::flush(&mut self.writer)?;
+        Sink::flush(&mut self.writer, session)?;
         match self.last_lines.told {
             Some(_) => Err(Failed),
             None => Ok(()),

@@ -1,18 +1,21 @@
 -- A stop within the opening leaves what stood before it, and one behind it a first part of the commands that were acknowledged by then.
-use Rattle.std.proofs.Common.{◌≡◌, ◌∙◌, ℕ, ◌+◌, ◌≤◌, ◌⊎◌, inl, inr, Bool, true, false, ◌&&◌, cond, List, [], ◌∷◌, refl, sym, ap, subst, arith}
+use Rattle.std.proofs.Common.{◌≡◌, ◌∙◌, ℕ, ◌+◌, ◌≤◌, ◌⊎◌, inl, inr, Bool, true, false, ◌&&◌, cond, List, [], ◌∷◌, ◌++◌, refl, sym, ap, subst, arith, append-nil}
 use Rattle.std.specs.Prelude.{Result, Ok, Err, Option, Some, is_ok, nat_le, if◌then◌else◌}
 use Rattle.std.proofs.lemmas.Bool.{lt-leb}
 use Rattle.std.proofs.lemmas.List.Sums.{sum_by-cons}
 use Rattle.checkpoint.specs.declared.places.Place.{Place}
 use Rattle.command_core.specs.declared.commands.Command.{Command}
 use Rattle.command_core.specs.declared.states.State.{State}
+use Rattle.std.specs.List.{AllByRecursion}
 use Rattle.command_serving.specs.Acts.{Act, commands_of, kept_of, replies_of}
 use Rattle.command_serving.specs.Serving.{IsAppliedOn}
 use Rattle.command_serving.specs.Stopped.{IsRunOfInput, ServedHeadline, ServingsAreRuns, asked_by}
+use Rattle.command_serving.specs.Streams.{Event}
+use Rattle.command_serving.specs.Timely.{AnswersComeAfter, TellsAcknowledged, calls_at, put_by}
 use Rattle.command_serving.proofs.ActLemmas.{honest_before}
 use Rattle.command_serving.proofs.StoppedLemmas.{recovered_of, weaker}
 use Rattle.command_text.specs.Cutting.{pieces_of}
-use Rattle.planner_cli.specs.Recovering.{RunHeadline, ServedRunHeadline, acts_in}
+use Rattle.planner_cli.specs.Recovering.{HoldsWhatWasTold, RunHeadline, RunKeepsAnswers, ServedRunHeadline, acts_in}
 use Rattle.planner_cli.specs.Running.{IsOpened}
 use Rattle.recover.specs.Applying.{IsAnswer, IsBetween, Makes, calls_of, denial, is_snapshot_due}
 use Rattle.recover.specs.Headline.{Headline, IsRecovered, LeavesFirstPart}
@@ -120,3 +123,15 @@ pub served_run_headline : {D E : Type 0} (on : sectors.Ghosts D) (again : sector
 served_run_headline on again law run device m image other left outcome is honest stop reads settled opens =
     law run.reading is.session is.runs.new run.input is.runs.opened is.runs.answered is.runs.served m image other left outcome ((is.runs.ends.serves run.input is.knows).serves run.reading is.reads)
     is.opened.whole honest is.runs.ends.moments stop reads settled opens
+
+pub run_keeps_answers : {D E : Type 0} (on : sectors.Ghosts D) (again : sectors.Ghosts E) → AnswersComeAfter on → RunHeadline on again → RunKeepsAnswers on again
+run_keeps_answers on again told_law law run device m image other left outcome events others is honest stood stop done timely reads settled opens =
+    let acts : List Act = acts_in on run device is in
+    let runs = is.runs in
+    let noted : runs.answered.events ≡ runs.opened.events ++ (events ++ others) =
+    sym runs.noted ∙ done ∙ ap (λ l. l ++ (events ++ others)) (sym (append-nil run.before.events) ∙ sym runs.tells_opened.noted) in
+    let told : TellsAcknowledged run.reading is.session run.input acts m (put_by events) =
+    told_law run.reading is.session runs.new run.input runs.opened runs.answered runs.served m events others ((runs.ends.serves run.input is.knows).serves run.reading is.reads) noted timely in
+    weaker (IsRecovered is.session.state (asked_by run.reading is.session (pieces_of run.input) acts) (acked m (replies_of acts))) (HoldsWhatWasTold on again run device is m (put_by events))
+    (λ given found. record { told = told; recovered = found; holds = omega (arith, told.acknowledged, found.all_acknowledged) }) outcome
+    (law run device m image other left outcome is honest stood stop reads settled opens)

@@ -8,6 +8,7 @@ use Rattle.command_core.specs.declared.states.State.{State}
 use Rattle.command_core.specs.declared.states.State.TheVariants.{Empty, Loaded}
 use Rattle.command_serving.specs.Served.{EndsOrIsCut, HasCause}
 use Rattle.command_text.specs.Readings.{Reading}
+use Rattle.command_serving.specs.Streams.{Stream}
 use Rattle.command_serving.specs.Strict.{is_stopped}
 use Rattle.command_serving.specs.declared.answering.ServeFault.{ServeFault}
 use Rattle.command_serving.specs.declared.answering.ServeFault.TheVariants as fault
@@ -47,10 +48,10 @@ stopped_out served reader writer out told stopped len same is cause =
     subst (λ (b : Bool). IfErr served (λ f. HasCause f reader (b || is_stopped stopped) len)) (sym same) (stopped_by served reader writer told stopped len is cause)
 
 -- what was served between the same texts
-pub served_between : {T D : Type 0} (on : sectors.Ghosts D) (served : Result T ServeFault) (reading : Reading) (old new : SessionValue D) (input : List ℕ) (b b' a a' : Option (List ℕ)) → b' ≡ b → a' ≡ a
+pub served_between : {T D : Type 0} (on : sectors.Ghosts D) (served : Result T ServeFault) (reading : Reading) (old new : SessionValue D) (input : List ℕ) (b b' a a' : Stream) → b' ≡ b → a' ≡ a
     → EndsOrIsCut on served reading old input b' a' new → EndsOrIsCut on served reading old input b a new
 served_between on served reading old new input b b' a a' first last given =
-    subst (λ (x : Option (List ℕ)). EndsOrIsCut on served reading old input x a new) first (subst (λ (x : Option (List ℕ)). EndsOrIsCut on served reading old input b' x new) last given)
+    subst (λ (x : Stream). EndsOrIsCut on served reading old input x a new) first (subst (λ (x : Stream). EndsOrIsCut on served reading old input b' x new) last given)
 
 -- a device of a store's sectors is not too small
 pub not_too_small : {T E : Type 0} (made : Result T E) (fault : E) (len : ℕ) → IsErrOf made fault ↔ (len < 8450) → len ≡ 8450 → result_err made ≢ Some fault

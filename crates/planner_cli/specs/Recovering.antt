@@ -1,11 +1,14 @@
 -- The headline of the word `run`. Stopped at any moment since the device was handed to it, with any choice that the device allows, opening the
 -- device gives the state after a first part of the commands of its input, which holds every acknowledged one, and at most one more. Its plan
 -- passes the auditor, and costs no more than any incumbent since the last change of requests or pins.
-use Rattle.std.specs.Prelude.{◌≡◌, ℕ, Bool, List, Option, Some, Result}
+use Rattle.std.specs.Prelude.{◌≡◌, ◌≤◌, ℕ, Bool, List, ◌++◌, length, Option, Some, Result}
+use Rattle.std.specs.List.{AllByRecursion}
 use Rattle.checkpoint.specs.declared.faults.StoreFault.{StoreFault}
 use Rattle.command_core.specs.declared.states.State.{State}
-use Rattle.command_serving.specs.Acts.{Act, replies_of}
+use Rattle.command_serving.specs.Acts.{Act, carried_of, replies_of}
 use Rattle.command_serving.specs.Stopped.{acts_of, asked_by}
+use Rattle.command_serving.specs.Streams.{Event, Stream}
+use Rattle.command_serving.specs.Timely.{TellsAcknowledged, calls_at, put_by}
 use Rattle.command_text.specs.Cutting.{pieces_of}
 use Rattle.command_text.specs.Readings.{IsReading, Reading}
 use Rattle.planner_cli.specs.Running.{IsOpened, RunsSession}
@@ -22,8 +25,8 @@ pub record Run : Type 0 where
   pub is_strict : Bool
   pub input : List ℕ
   pub reading : Reading
-  pub before : Option (List ℕ)
-  pub after : Option (List ℕ)
+  pub before : Stream
+  pub after : Stream
   pub reader_failed : Bool
   pub writer_failed : Bool
   pub status : ℕ
@@ -73,3 +76,21 @@ module _ {D E : Type 0} (on : sectors.Ghosts D) (again : sectors.Ghosts E) where
       → on.possible_since is.runs.new.device (on.clock device) m image
       → again.seen other ≡ image → again.honest left → GivesWhatStands again other outcome left
       → GivesFirstPart run device is m outcome
+
+  -- What this text tells is held: it tells commands alone that are acknowledged when m calls have finished, and the state that is given is the one
+  -- after so many commands at least.
+  pub record HoldsWhatWasTold (run : Run) (device : D) (is : RunsOver on run device) (m : ℕ) (text : List ℕ) (given : State) : Type 0 where
+    pub told : TellsAcknowledged run.reading is.session run.input (acts_in on run device is) m text
+    pub recovered : IsRecovered is.session.state (asked_by run.reading is.session (pieces_of run.input) (acts_in on run device is)) (acked m (replies_of (acts_in on run device is))) given
+    pub holds : length (carried_of told.first) ≤ recovered.count
+
+  -- Law: so it is of what was put to the output, and may have been handed on, by the time of the stop.
+  abbrev pub RunKeepsAnswers : Type 0
+  RunKeepsAnswers = (run : Run) (device : D) (m : ℕ) (image : List ℕ) (other left : E) (outcome : Result State StoreFault) (events others : List Event)
+      → (is : RunsOver on run device) → on.honest is.runs.new.device
+      → ((before : List ℕ) → on.possible device before → StandsFor Two before is.session.state)
+      -- a stop at a moment since the device was handed over, when m calls had finished, and what was done to the output by then
+      → on.possible_since is.runs.new.device (on.clock device) m image
+      → run.after.events ≡ run.before.events ++ (events ++ others) → AllByRecursion (λ event. calls_at event ≤ m) events
+      → again.seen other ≡ image → again.honest left → GivesWhatStands again other outcome left
+      → GivesUnlessFailed (HoldsWhatWasTold run device is m (put_by events)) outcome

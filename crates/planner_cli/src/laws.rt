@@ -1,5 +1,5 @@
 //! What is known of stops within the word `run`, from its promises and those of `open` alone.
-ghost use Rattle.planner_cli.specs.Recovering.{RunHeadline, ServedRunHeadline};
+ghost use Rattle.planner_cli.specs.Recovering.{RunHeadline, RunKeepsAnswers, ServedRunHeadline};
 
 use command_serving::stopped_servings_recover;
 use recover::recovery_keeps_every_acknowledged_command;
@@ -7,10 +7,12 @@ use sector_disk::Sectors;
 
 /// Stopped at any moment of `run` over a device, with any choice that the device allows, opening it gives the state after a
 /// first part of the commands of its input, which holds every acknowledged one, and at most one more. Of stops within the
-/// opening it is so where each image that a stop might have left before stands for the state that is opened.
+/// opening it is so where each image that a stop might have left before stands for the state that is opened. Each command whose
+/// answer was put to the output by then, and so each whose `ok` or `at` was handed on, is among them.
 pub fn stopped_runs_recover<D: Sectors, E: Sectors>()
     ensures behind { ServedRunHeadline D.Sectors E.Sectors }
     ensures whole { RunHeadline D.Sectors E.Sectors }
+    ensures told { RunKeepsAnswers D.Sectors E.Sectors }
 {
     recovery_keeps_every_acknowledged_command::<D, E>();
     stopped_servings_recover::<D, E>();

@@ -41,9 +41,9 @@
 //! - `run_store` (`RunsStore`): the device that `FileDevice::at_or_cause` gives is opened, and what `serve` writes over that
 //!   session stands behind `opened N`; 3 where the reader or the writer failed, with `cannot read input` for the
 //!   reader
-//! - `stopped_runs_recover` (`ServedRunHeadline`, `RunHeadline` in `specs/Recovering.antt`): stopped at any moment of `run` over
-//!   a device, opening it gives the state after a first part of the commands of its input, with every one acknowledged by
-//!   then, and at most one more
+//! - `stopped_runs_recover` (`ServedRunHeadline`, `RunHeadline`, `RunKeepsAnswers` in `specs/Recovering.antt`): stopped at any
+//!   moment of `run` over a device, opening it gives the state after a first part of the commands of its input, with every one
+//!   acknowledged by then, so with every one whose `ok` or `at` was handed on, and at most one more
 //! - `open_session` (`IsForetold`), by which `run` and `load` open: before a search step is repeated, the line of how many are
 //!   stands on standard error, and nothing where none are, unless a write of it failed
 //! - `format_store` (`FormatsStore`): a device of 8,450 sectors, and what `format` of `checkpoint` made of it

@@ -4,6 +4,7 @@
 //! error; no clause speaks of it.
 ghost use Rattle.std.specs.Prelude.{◌≡◌, ◌≢◌, ◌≤◌, Err, IfOk, OnOk, false, true};
 ghost use Rattle.std.specs.Io.KnownBytes.{Appends};
+ghost use Rattle.command_serving.specs.Held.{held};
 ghost use Rattle.command_serving.specs.Strict.{TellsLast};
 ghost use Rattle.command_serving.specs.declared.answering.ServeFault.TheVariants.{ReadFault};
 ghost use Rattle.sector_disk.specs.FileDevice.{IsUnused};
@@ -75,7 +76,7 @@ where
     ensures status { IfOk result.0 (λ status. status ≤ 4) }
     ensures runs { IfOk result.0 (RunsStore ⟦<FileDevice<T> as Sectors>⟧
         (IsUnused ⟦<HostFile as FileCalls>⟧.entries) store.now is_strict
-        (I.remaining input.old.inner) (W.contents output.inner) (W.contents result.1.inner)
+        (I.remaining input.old.inner) (held W.contents output) (held W.contents result.1)
         input.new.has_failed result.1.has_failed) }
 {
     match FileDevice::at_or_cause(rt, store, start) {
@@ -191,7 +192,7 @@ fn run_device<D: Sectors + Drop, I: Read, W: Write, E: Write>(
 ) -> (io::Result<u8>, D, Watched<W>)
     ensures status { IfOk result.0 (λ status. status ≤ 4) }
     ensures runs { IfOk result.0 (RunsDevice D.Sectors device is_strict
-        (I.remaining input.old.inner) (W.contents output.inner) (W.contents result.2.inner)
+        (I.remaining input.old.inner) (held W.contents output) (held W.contents result.2)
         input.new.has_failed result.2.has_failed) }
 {
     let opening = open_session(alloc, device, errors);
@@ -229,15 +230,18 @@ fn serve_opened<D: Sectors + Drop, I: Read, W: Write>(
 ) -> (io::Result<u8>, Watched<W>)
     ensures status { IfOk result.0 (λ status. status ≤ 4) }
     ensures runs { IfOk result.0 (RunsSession D.Sectors session.old replayed is_strict
-        (I.remaining input.old.inner) (W.contents output.inner) (W.contents result.1.inner)
+        (I.remaining input.old.inner) (held W.contents output) (held W.contents result.1)
         input.new.has_failed result.1.has_failed) }
 {
-    let mut output = output;
-    match tell_opened(replayed, &mut output) {
+    let (mut writer, noted) = output.apart();
+    let opened = tell_opened(replayed, &mut writer);
+    let output = Watched::again(writer, noted);
+    match opened {
         Ok(()) => {
             let ended = serve_input(alloc, session, is_strict, input, output);
-            let mut output = ended.output;
-            (tell_ended(ended.served, ended.stopped, &mut output), output)
+            let (mut writer, noted) = ended.output.apart();
+            let told = tell_ended(ended.served, ended.stopped, &mut writer);
+            (told, Watched::again(writer, noted))
         }
         Err(error) => (Err(error), output),
     }
@@ -269,7 +273,7 @@ fn serve_input<D: Sectors + Drop, I: Read, W: Write>(
     output: Watched<W>,
 ) -> Ended<W>
     ensures { IsEnded D.Sectors session.old is_strict (I.remaining input.old.inner)
-        (W.contents output.inner) result.served result.stopped (W.contents result.output.inner)
+        (held W.contents output) result.served result.stopped (held W.contents result.output)
         input.new.has_failed result.output.has_failed session.new }
 {
     if is_strict {
@@ -292,7 +296,7 @@ fn serve_strictly<D: Sectors + Drop, I: Read, W: Write>(
     output: Watched<W>,
 ) -> Ended<W>
     ensures { IsEnded D.Sectors session.old true (I.remaining input.old.inner)
-        (W.contents output.inner) result.served result.stopped (W.contents result.output.inner)
+        (held W.contents output) result.served result.stopped (held W.contents result.output)
         input.new.has_failed result.output.has_failed session.new }
 {
     let mut answers = Strict::new(output);

@@ -32,11 +32,11 @@ const PUTS: [Put; 14] = [
     (b"fault device", REFUSED),
 ];
 
-fn check_puts<R: Abort + AllocGlobal>(rt: &R, puts: &[Put]) {
+fn check_puts<R: Abort + AllocGlobal>(rt: &R, session: &Session<MemDevice>, puts: &[Put]) {
     let mut writer = Strict::new(Watched::new(Vec::new(rt.alloc())));
     for (text, stopped) in puts {
-        assert!(rt; writer.put(text).is_ok(), "{text:?}");
-        let flushed = Sink::flush(&mut writer);
+        assert!(rt; writer.put(session, text).is_ok(), "{text:?}");
+        let flushed = Sink::flush(&mut writer, session);
         assert!(rt; flushed.is_err() == stopped.is_some(), "{text:?}");
         assert!(rt;
             writer.stopped() == *stopped && !writer.has_failed(),
@@ -46,8 +46,10 @@ fn check_puts<R: Abort + AllocGlobal>(rt: &R, puts: &[Put]) {
 }
 
 #[test]
-fn tells_the_last_line(rt: HostRuntime) {
-    check_puts(&rt, &PUTS);
+fn tells_the_last_line(rt: HostRuntime) -> Result<(), Fail> {
+    let session = opened(rt.alloc(), new_device(rt.alloc())?).ok_or("a session")?;
+    check_puts(&rt, &session, &PUTS);
+    Ok(())
 }
 
 const SECTORS: u64 = 8450;

@@ -10,7 +10,7 @@ use Rattle.command_serving.proofs.answering.serve_lines.Given as goal
 abbrev pub invariant-loop-asked : goal.invariant-loop-asked
 invariant-loop-asked g l =
     ((reading : Reading) (bytes : List ℕ) → IsReading reading → left_of g.R.Source.remaining l.fn.input l.fn.reader ≡ Some bytes
-    → ServesOn g.D.Sectors reading l.fn.session (pieces_of bytes) (g.W.Sink.contents l.fn.writer) (g.W.Sink.contents l.writer) l.session On (left_of g.R.Source.remaining l.input l.reader))
+    → ServesOn g.D.Sectors reading l.fn.session (pieces_of bytes) (g.W.Sink.stream l.fn.writer) (g.W.Sink.stream l.writer) l.session On (left_of g.R.Source.remaining l.input l.reader))
     × (g.W.Sink.origin l.writer ≡ g.W.Sink.origin l.fn.writer)
     × CountsTaken (left_of g.R.Source.remaining l.fn.input l.fn.reader) l.fn.input.left (left_of g.R.Source.remaining l.input l.reader) l.input.left
 

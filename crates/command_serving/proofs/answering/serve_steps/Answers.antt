@@ -10,8 +10,8 @@ pub returns-then-is_broken-clause-answers : goal.returns-then-is_broken-clause-a
 returns-then-is_broken-clause-answers g c =
     let session = c.args.session.now in
     let broken : session.is_broken ≡ true = sym c.is_broken.ensures.broken ∙ c.if-is_broken.true in
-    answers_told c.tell.result session session (λ s. unless_broken s (made_or s (steps_to_make s.state c.args.goal))) None (line (answer_text answer.Broken)) (g.W.Sink.contents c.args.writer.now) (g.W.Sink.contents c.tell.new.writer)
-    (steps_broken c.args.goal session broken) c.tell.ensures.bytes
+    answers_told c.tell.result session session (λ s. unless_broken s (made_or s (steps_to_make s.state c.args.goal))) None (line (answer_text answer.Broken)) (g.W.Sink.stream c.args.writer.now) (g.W.Sink.stream c.tell.new.writer)
+    (steps_broken c.args.goal session broken) c.tell.ensures.told
 
 pub returns-in-Ok-clause-answers : goal.returns-in-Ok-clause-answers
 returns-in-Ok-clause-answers g c =
@@ -19,7 +19,7 @@ returns-in-Ok-clause-answers g c =
     let whole : session.is_broken ≡ false = sym c.is_broken.ensures.broken ∙ c.if-is_broken.false in
     let is : steps_to_make session.state c.args.goal ≡ Ok c.in-Ok.steps =
     ap (λ state. steps_to_make state c.args.goal) (sym c.state.ensures.state) ∙ sym c.steps_to_make.ensures ∙ c.in-Ok.is in
-    steps_begun g.D.Sectors c.make_steps.result c.args.goal session c.make_steps.new.session c.in-Ok.steps (g.W.Sink.contents c.args.writer.now) (g.W.Sink.contents c.make_steps.new.writer) whole is c.make_steps.ensures.answers
+    steps_begun g.D.Sectors c.make_steps.result c.args.goal session c.make_steps.new.session c.in-Ok.steps (g.W.Sink.stream c.args.writer.now) (g.W.Sink.stream c.make_steps.new.writer) whole is c.make_steps.ensures.answers
 
 pub returns-in-Err-clause-answers : goal.returns-in-Err-clause-answers
 returns-in-Err-clause-answers g c =
@@ -27,5 +27,5 @@ returns-in-Err-clause-answers g c =
     let whole : session.is_broken ≡ false = sym c.is_broken.ensures.broken ∙ c.if-is_broken.false in
     let is : steps_to_make session.state c.args.goal ≡ Err c.in-Err.refusal =
     ap (λ state. steps_to_make state c.args.goal) (sym c.state.ensures.state) ∙ sym c.steps_to_make.ensures ∙ c.in-Err.is in
-    answers_told c.tell-in-Err.result session session (λ s. unless_broken s (made_or s (steps_to_make s.state c.args.goal))) None (line (answer_text (answer.Refused c.in-Err.refusal))) (g.W.Sink.contents c.args.writer.now) (g.W.Sink.contents c.tell-in-Err.new.writer)
-    (steps_refused c.args.goal session c.in-Err.refusal whole is) c.tell-in-Err.ensures.bytes
+    answers_told c.tell-in-Err.result session session (λ s. unless_broken s (made_or s (steps_to_make s.state c.args.goal))) None (line (answer_text (answer.Refused c.in-Err.refusal))) (g.W.Sink.stream c.args.writer.now) (g.W.Sink.stream c.tell-in-Err.new.writer)
+    (steps_refused c.args.goal session c.in-Err.refusal whole is) c.tell-in-Err.ensures.told

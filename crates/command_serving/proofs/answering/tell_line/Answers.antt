@@ -1,18 +1,28 @@
--- The line, and then `ok`.
-use Rattle.std.proofs.Common.{◌++◌, sym, subst}
+-- The text, and then its end and `ok`.
+use Rattle.std.proofs.Common.{◌++◌, ◌∷◌, [], append_assoc, sym, subst}
 use Rattle.std.proofs.lemmas.Result.{err_from_is_err_and}
 use Rattle.command_text.specs.Answers.{answer_text, line}
 use Rattle.command_text.specs.declared.answers.Answer.TheVariants as answer
-use Rattle.command_serving.specs.Streams.{Puts}
-use Rattle.command_serving.proofs.StreamLemmas.{part_front, puts_on}
+use Rattle.command_serving.specs.Streams.{HandsOn}
+use Rattle.command_serving.proofs.StreamLemmas.{hands_behind, part_front}
 use Rattle.command_serving.proofs.answering.tell_line.Goals as goal
 
-pub returns-in_err-put_line-clause-bytes : goal.returns-in_err-put_line-clause-bytes
-returns-in_err-put_line-clause-bytes g c =
+pub returns-in_err-put-clause-told : goal.returns-in_err-put-clause-told
+returns-in_err-put-clause-told g c =
     let told = err_from_is_err_and c.from_residual.result c.from_residual.ensures.1 in
-    let old = g.W.Sink.contents c.args.writer.now in
-    let new = g.W.Sink.contents c.put_line.new.writer in
-    subst (λ r. Puts old new r (line c.args.text.now ++ line (answer_text answer.Ok))) (sym told.1) (part_front old new (line c.args.text.now) (line (answer_text answer.Ok)) c.in_err-put_line.ensures.bytes)
+    let old = g.W.Sink.stream c.args.writer.now in
+    let new = g.W.Sink.stream c.put.new.self in
+    let calls = g.D.Sectors.calls c.args.session.now.device in
+    let ok = line (answer_text answer.Ok) in
+    subst (λ t. HandsOn old new c.from_residual.result calls t) (sym (append_assoc c.args.text.now (10 ∷ []) ok))
+    (subst (λ r. HandsOn old new r calls (c.args.text.now ++ (10 ∷ [] ++ ok))) (sym told.1) (part_front old new calls c.args.text.now (10 ∷ [] ++ ok) c.in_err-put.ensures.puts))
 
-pub returns-clause-bytes : goal.returns-clause-bytes
-returns-clause-bytes g c = puts_on _ _ _ _ _ _ c.in_ok-put_line.ensures.bytes c.tell.ensures.bytes
+pub returns-clause-told : goal.returns-clause-told
+returns-clause-told g c =
+    let old = g.W.Sink.stream c.args.writer.now in
+    let mid = g.W.Sink.stream c.put.new.self in
+    let new = g.W.Sink.stream c.tell_text.new.writer in
+    let calls = g.D.Sectors.calls c.args.session.now.device in
+    let ok = line (answer_text answer.Ok) in
+    subst (λ t. HandsOn old new c.tell_text.result calls t) (sym (append_assoc c.args.text.now (10 ∷ []) ok))
+    (hands_behind c.tell_text.result old mid new calls c.args.text.now (10 ∷ [] ++ ok) c.in_ok-put.ensures.puts c.tell_text.ensures.told)

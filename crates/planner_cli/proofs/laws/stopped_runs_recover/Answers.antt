@@ -1,4 +1,4 @@
-use Rattle.planner_cli.proofs.StopLemmas.{run_headline, served_run_headline}
+use Rattle.planner_cli.proofs.StopLemmas.{run_headline, run_keeps_answers, served_run_headline}
 use Rattle.planner_cli.proofs.laws.stopped_runs_recover.Goals as goal
 
 pub returns-clause-behind : goal.returns-clause-behind
@@ -6,3 +6,7 @@ returns-clause-behind g c = served_run_headline g.D.Sectors g.E.Sectors c.stoppe
 
 pub returns-clause-whole : goal.returns-clause-whole
 returns-clause-whole g c = run_headline g.D.Sectors g.E.Sectors c.recovery_keeps_every_acknowledged_command.ensures c.stopped_servings_recover.ensures.runs
+
+pub returns-clause-told : goal.returns-clause-told
+returns-clause-told g c =
+    run_keeps_answers g.D.Sectors g.E.Sectors c.stopped_servings_recover.ensures.told (run_headline g.D.Sectors g.E.Sectors c.recovery_keeps_every_acknowledged_command.ensures c.stopped_servings_recover.ensures.runs)

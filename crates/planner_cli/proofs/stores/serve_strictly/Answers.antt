@@ -1,5 +1,6 @@
 -- Served up to an answer that lets none follow.
 use Rattle.std.proofs.Common.{◌≡◌, ◌∙◌, true≢false, length, ap, subst, sym}
+use Rattle.command_serving.specs.Held.{held}
 use Rattle.command_serving.specs.Strict.{TellsLast}
 use Rattle.planner_cli.proofs.TellLemmas.{served_between, stopped_out}
 use Rattle.planner_cli.proofs.stores.serve_strictly.Goals as goal
@@ -10,7 +11,7 @@ returns g c =
     record {
       serves = λ input known. record {
         serves = λ reading is. served_between g.D.Sectors served reading c.args.session.now c.serve-served.new.session input _ _ _ _
-            (ap (λ s. g.W.Write.contents s.writer.inner) c.new-answers.ensures) (sym (ap (λ w. g.W.Write.contents w.inner) c.into_inner.ensures))
+            (ap (λ s. held g.W.Write.contents s.writer) c.new-answers.ensures) (sym (ap (held g.W.Write.contents) c.into_inner.ensures))
             (c.serve-served.ensures.serves reading input is known);
         cause = stopped_out served c.serve-served.new.reader.has_failed c.serve-served.new.writer.writer.has_failed _ c.serve-served.new.writer.told c.stop_of-stopped.result (length input)
             (ap (λ w. w.has_failed) c.into_inner.ensures) c.stop_of-stopped.ensures.stop (c.serve-served.ensures.cause input known);
