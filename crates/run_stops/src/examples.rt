@@ -71,17 +71,6 @@ pub(crate) fn five_commands(alloc: Global) -> io::Result<Vec<Command>> {
     Ok(commands)
 }
 
-/// Three customers loaded and planned, a deviation, and annealing in two commands: 16 calls of the device.
-pub(crate) fn annealings(alloc: Global) -> io::Result<Vec<Command>> {
-    let mut commands = Vec::new(alloc);
-    commands.push(load_three(alloc)?)?;
-    commands.push(Command::Build)?;
-    commands.push(Command::Deviation(100))?;
-    commands.push(Command::Anneal(1))?;
-    commands.push(Command::Anneal(999))?;
-    Ok(commands)
-}
-
 /// The command that loads 20 pairs for two vehicles: a state of 54 + 20 * 57 + 2 * 8 + 2 * 4 = 1,218 bytes, so three sectors.
 pub(crate) fn load_pairs(alloc: Global) -> io::Result<Command> {
     let mut text = b"2 10 1\n0 0 0 0 0 1000 0 0 0\n".to_vec(alloc)?;

@@ -18,7 +18,7 @@ mod rounds;
 mod stops;
 mod upgrades;
 
-use crate::examples::{annealings, five_commands, load_one, load_pairs, load_three, states_of};
+use crate::examples::{five_commands, load_one, load_pairs, load_three, states_of};
 use crate::images::{print_headers, print_snapshots};
 use crate::memory::run_once;
 use crate::rounds::print_rounds;
@@ -59,7 +59,6 @@ fn upgraded_with_refused_memory<R: Print>(rt: &R, alloc: Global) -> io::Result<(
 
 fn print_stops<R: Print>(rt: &R, alloc: Global) -> io::Result<()> {
     every_stop(rt, alloc)?;
-    every_stop_of_annealing(rt, alloc)?;
     every_failed_call(rt, alloc)?;
     wide_snapshot(rt, alloc)?;
     snapshot_over_a_state(rt, alloc)
@@ -97,29 +96,6 @@ fn tally_of_stops(alloc: Global, states: &[Vec<u8>], fuse: u64) -> io::Result<Ta
     for choice in 0..128 {
         let choices = choices_of(alloc, &WRITTEN, choice)?;
         let ended = stopped(alloc, five_commands(alloc)?, fuse, &choices)?;
-        tally.add(&ended, states);
-    }
-    Ok(tally)
-}
-
-/// The sectors that annealing writes: both headers, two records, and the first sector of each half.
-const ANNEALED: [usize; 6] = [0, 1, 2, 3, 258, 4354];
-
-// The same of annealing, of which no step is repeated.
-fn every_stop_of_annealing<R: Print>(rt: &R, alloc: Global) -> io::Result<()> {
-    println!(rt; "annealing stopped, by calls")?;
-    let states = states_of(alloc, &annealings(alloc)?)?;
-    for fuse in 0..=16 {
-        tally_of_annealing(alloc, &states, fuse)?.print(rt, fuse)?;
-    }
-    Ok(())
-}
-
-fn tally_of_annealing(alloc: Global, states: &[Vec<u8>], fuse: u64) -> io::Result<Tally> {
-    let mut tally = Tally::default();
-    for choice in 0..64 {
-        let choices = choices_of(alloc, &ANNEALED, choice)?;
-        let ended = stopped(alloc, annealings(alloc)?, fuse, &choices)?;
         tally.add(&ended, states);
     }
     Ok(tally)
