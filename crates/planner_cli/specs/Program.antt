@@ -3,6 +3,8 @@ use Rattle.std.specs.Prelude.{◌≡◌, ◌⊎◌, ℕ, Bool, false, List, Opti
 use Rattle.clap.specs.Words.{Text}
 use Rattle.command_line.specs.Asked.{Asked, IsUsageStatus, asks_help, audit, audits, built_in, draw, explain, format, load, run, solve, upgrade}
 use Rattle.plan_types.specs.declared.requests.Kind.TheVariants.{LiLim}
+use Rattle.command_serving.specs.Held.{held}
+use Rattle.command_serving.specs.Streams.{Stream}
 use Rattle.planner_cli.specs.Drawn.{TellsDrawn}
 use Rattle.planner_cli.specs.Explained.{TellsExplained}
 use Rattle.planner_cli.specs.Files.{AreReadInTurn, TellsFiles}
@@ -19,11 +21,11 @@ use Rattle.planner_cli.specs.declared.program.Streams.{Streams}
 use Rattle.sector_disk.specs.declared.sectors.Sectors as sectors
 
 -- What the program reads and writes, as far as it is known: the files that were read, the newest first; what the input still holds, and
--- what the output and the errors hold; whether the input or the output has failed.
+-- what the output and the errors hold, and what was done to the output as a sink; whether the input or the output has failed.
 pub record World : Type 0 where
   pub files : List FileRead
   pub input : Option (List ℕ)
-  pub output : Option (List ℕ)
+  pub output : Stream
   pub errors : Option (List ℕ)
   pub input_failed : Bool
   pub output_failed : Bool
@@ -33,7 +35,7 @@ abbrev pub seen : {F I W E : Type 0} → (F → List FileRead) → (I → Option
 seen reads remaining written told files streams = record {
   files = reads files;
   input = remaining streams.input.inner;
-  output = written streams.output.inner;
+  output = held written streams.output;
   errors = told streams.errors;
   input_failed = streams.input.has_failed;
   output_failed = streams.output.has_failed;
@@ -69,16 +71,16 @@ module _ {D N : Type 0} (on_old : sectors.Ghosts D) (on_new : sectors.Ghosts N) 
   -- What was asked for was done and told, and this is the status that goes with it. `IsOld` is what is known of the device over a file that
   -- is opened, `IsNew` of one over a file that is made beside it.
   abbrev pub Does : Asked → World → World → ℕ → Type 0
-  Does built_in old new status = TellsAudit LiLim example_instance example_solution old.output new.output status
-  Does (audit paths) old new status = TellsFiles paths.kind paths.instance paths.solution old.files new.files old.output new.output status
-  Does (audits kind list) old new status = TellsList kind list old.files new.files old.output new.output status
-  Does (explain paths) old new status = TellsExplained paths.kind paths.instance paths.solution old.files new.files old.output new.output status
-  Does (draw paths) old new status = TellsDrawn paths.kind paths.instance paths.solution old.files new.files old.output new.output old.errors new.errors status
-  Does (solve task) old new status = TellsTask task old.files new.files old.output new.output old.errors new.errors status
-  Does (format store) old new status = FormatsStore on_old IsOld store old.output new.output status
-  Does (load asked) old new status = TellsLoad on_old on_new IsOld IsNew asked old.files new.files old.output new.output status
+  Does built_in old new status = TellsAudit LiLim example_instance example_solution old.output.contents new.output.contents status
+  Does (audit paths) old new status = TellsFiles paths.kind paths.instance paths.solution old.files new.files old.output.contents new.output.contents status
+  Does (audits kind list) old new status = TellsList kind list old.files new.files old.output.contents new.output.contents status
+  Does (explain paths) old new status = TellsExplained paths.kind paths.instance paths.solution old.files new.files old.output.contents new.output.contents status
+  Does (draw paths) old new status = TellsDrawn paths.kind paths.instance paths.solution old.files new.files old.output.contents new.output.contents old.errors new.errors status
+  Does (solve task) old new status = TellsTask task old.files new.files old.output.contents new.output.contents old.errors new.errors status
+  Does (format store) old new status = FormatsStore on_old IsOld store old.output.contents new.output.contents status
+  Does (load asked) old new status = TellsLoad on_old on_new IsOld IsNew asked old.files new.files old.output.contents new.output.contents status
   Does (run store is_strict) old new status = RunsStore on_old IsOld store is_strict old.input old.output new.output new.input_failed new.output_failed status
-  Does (upgrade path new_path) old new status = UpgradesStore on_old on_new IsOld IsNew path new_path old.output new.output status
+  Does (upgrade path new_path) old new status = UpgradesStore on_old on_new IsOld IsNew path new_path old.output.contents new.output.contents status
 
   -- The words were read. Where an answer could not be printed, the status is 3.
   pub record Works (asked : Asked) (old new : World) (status : ℕ) : Type 0 where

@@ -6,6 +6,7 @@ ghost use Rattle.std.specs.Prelude.{◌≡◌, ◌≢◌, ◌≤◌, IfOk, drop,
 ghost use Rattle.clap.specs.Words.{kind_of};
 ghost use Rattle.command_line.specs.Asked.{ArePositional, Asked, asked_by, asked_of, usage_status_of};
 ghost use Rattle.plan_types.specs.declared.requests.Kind.TheVariants.{LiLim};
+ghost use Rattle.command_serving.specs.Held.{held};
 ghost use Rattle.sector_disk.specs.FileDevice.{IsUnused};
 ghost use Rattle.planner_cli.specs.Program.{AreErrorsKept, AreReadFor, Does, EndsWith, IsInputKept, TellsUsage, seen};
 ghost use Rattle.planner_cli.specs.Running.{RunsStore};
@@ -171,8 +172,9 @@ where
     ensures status { IfOk result.0 (λ status. status ≤ 4) }
     ensures runs { IfOk result.0 (RunsStore ⟦<FileDevice<T> as Sectors>⟧
         (IsUnused ⟦<HostFile as FileCalls>⟧.entries) store.now is_strict
-        (I.remaining streams.input.inner) (W.contents streams.output.inner)
-        (W.contents result.1.output.inner) result.1.input.has_failed result.1.output.has_failed) }
+        (I.remaining streams.input.inner) (held W.contents streams.output)
+        (held W.contents result.1.output) result.1.input.has_failed
+        result.1.output.has_failed) }
 {
     let Streams {
         mut input,
