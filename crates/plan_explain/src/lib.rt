@@ -2,7 +2,7 @@
 //!
 //! Entry functions: `explain_verdict` for a verdict, `explain_instance_fault` and `explain_solution_fault` for a
 //! text that is refused; called by `planner_cli` (the word `explain`), which prints the audit's line first, with
-//! its status.
+//! its status. `rows_of`, `wait` and `summary_of` give the figures of a route; `plan_timetable` tells them too.
 //!
 //! Source: this project's own. Each figure is `route_sched`'s start, load, length or cost.
 //!
@@ -25,6 +25,7 @@
 //! - `explain_verdict`: for each verdict on a printed solution the bytes are those of `verdict_text`
 //! - `explain_instance_fault`, `explain_solution_fault` (`TellsFault`): some sentence on one line, then the line
 //!   that the fault names, cut at 200 bytes, with `?` for what can't be printed
+//! - `rows_of`, `wait`, `summary_of`: the rows of a route, and what it comes to
 //!
 //! The words of that sentence are tested, not proved: a derived `Display` has no contract.
 #![tactic(auto)]
@@ -39,4 +40,6 @@ mod tables;
 mod verdicts;
 
 pub use refused::{explain_instance_fault, explain_solution_fault};
+pub use rows::{Row, rows_of};
+pub use summaries::{Summary, summary_of, wait};
 pub use verdicts::explain_verdict;

@@ -11,7 +11,7 @@ use std::alloc::Global;
 
 /// A place of a route, counted from 1, or the return behind the last one.
 #[derive(Clone, Copy, Debug, PartialEq, Eq)]
-pub(crate) struct Row {
+pub struct Row {
     pub place: u64,
     /// Its number; 0 is the depot.
     pub stop: u32,
@@ -26,8 +26,8 @@ pub(crate) struct Row {
     pub load: i64,
 }
 
-/// The rows of a route, the return last.
-pub(crate) fn rows(alloc: Global, problem: &Problem, route: &[u32]) -> Result<Vec<Row>, OutOfMemory>
+/// The rows of a route, the return last. Times are in the problem's unit, loads in that of its demands.
+pub fn rows_of(alloc: Global, problem: &Problem, route: &[u32]) -> Result<Vec<Row>, OutOfMemory>
     requires { AreLiveOnce problem.now route.now }
     ensures { IfOk result (λ rows. rows.items ≡ rows_of problem.now route.now) }
 {

@@ -9,7 +9,7 @@ ghost use Rattle.plan_explain.specs.Rows.{lines_from};
 ghost use Rattle.plan_explain.specs.Tables.{rows_of};
 
 use crate::phrases::Phrase;
-use crate::rows::{Row, rows, visit_behind};
+use crate::rows::{Row, rows_of, visit_behind};
 use crate::sentences::put_phrase;
 use plan_types::{OutOfMemory, Problem, Route};
 use route_sched::route_distance;
@@ -17,7 +17,7 @@ use std::alloc::Global;
 
 /// What a route comes to.
 #[derive(Clone, Copy, Debug, PartialEq, Eq)]
-pub(crate) struct Summary {
+pub struct Summary {
     pub stops: u64,
     pub distance: u64,
     /// The most that the vehicle carries.
@@ -77,11 +77,12 @@ fn summaries(
     Ok(summaries)
 }
 
-fn summary_of(alloc: Global, problem: &Problem, route: &[u32]) -> Result<Summary, OutOfMemory>
+/// What a route comes to. Distance and times are in the problem's unit, the load in that of its demands.
+pub fn summary_of(alloc: Global, problem: &Problem, route: &[u32]) -> Result<Summary, OutOfMemory>
     requires { AreLiveOnce problem.now route.now }
     ensures { IfOk result (λ summary. summary ≡ summary_of problem.now route.now) }
 {
-    let rows = rows(alloc, problem, route)?;
+    let rows = rows_of(alloc, problem, route)?;
     Ok(Summary {
         stops: route.len() as u64,
         distance: route_distance(problem, route),
@@ -114,7 +115,8 @@ fn waiting(problem: &Problem, route: &[u32], rows: &[Row]) -> u64
     waiting
 }
 
-fn wait(row: &Row) -> u64
+/// How long the vehicle waits at the place of a row.
+pub fn wait(row: &Row) -> u64
     ensures value { result ≡ wait row.now }
     ensures fits { row.now.start < 2 ^ 64 }
 {

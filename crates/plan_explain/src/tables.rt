@@ -8,7 +8,7 @@ ghost use Rattle.plan_explain.specs.Phrases.{phrase};
 ghost use Rattle.plan_explain.specs.Tables.{heading, load_text, row_text, stop_rows, stops_table, table_text, times_text, window_text};
 
 use crate::phrases::Phrase;
-use crate::rows::{Row, rows};
+use crate::rows::{Row, rows_of};
 use crate::sentences::put_phrase;
 use plan_types::{Kind, OutOfMemory, Problem};
 use std::alloc::Global;
@@ -24,7 +24,7 @@ pub(crate) fn put_table(
     ensures { OnOk result (string_bytes text.new
         ≡ string_bytes text.old ++ table_text problem.now route.now) }
 {
-    let rows = rows(alloc, problem, route)?;
+    let rows = rows_of(alloc, problem, route)?;
     put_phrase(text, heading(problem.kind))?;
     put_rows(text, problem.kind, rows.as_slice())
 }

@@ -6,7 +6,7 @@ ghost use Rattle.plan_explain.specs.Explained.{shown_text, verdict_text};
 ghost use Rattle.plan_explain.specs.Sentences.{route_told, row_told, sentence};
 ghost use Rattle.plan_audit.specs.declared.rules.Verdict.TheVariants.{Broken};
 
-use crate::rows::{Row, rows};
+use crate::rows::{Row, rows_of};
 use crate::sentences as say;
 use crate::summaries::put_summary;
 use crate::tables::{put_stops, put_table};
@@ -139,6 +139,6 @@ fn row_told(
     if place == 0 {
         return Ok(None);
     }
-    let rows = rows(alloc, problem, route)?;
+    let rows = rows_of(alloc, problem, route)?;
     Ok(rows.as_slice().get(place as usize - 1).copied())
 }

@@ -1,11 +1,11 @@
-//! Tests alone: worked examples over the public functions of `text_lines`, `instance_read`, `sol_text`, `plan_explain`
-//! and `plan_picture`, which have no tests of their own.
+//! Tests alone: worked examples over the public functions of `text_lines`, `instance_read`, `sol_text`,
+//! `plan_explain`, `plan_timetable` and `plan_picture`, which have no tests of their own.
 //!
 //! Answers were worked out by hand; faults are told with their lines; some texts have the most stops, 40,000. Proved is
 //! nothing beyond that no step fails.
 //!
 //! In reading order: `builders` (what the examples share), `lines`, `instances`, `solutions`, `explanations`,
-//! `pictures`.
+//! `timetables`, `pictures`.
 #![tactic(auto)]
 
 #[cfg(test)]
@@ -20,3 +20,5 @@ mod lines;
 mod pictures;
 #[cfg(test)]
 mod solutions;
+#[cfg(test)]
+mod timetables;

@@ -10,7 +10,7 @@ use Rattle.route_sched.proofs.Steps.{start-first}
 use Rattle.plan_audit.proofs.VisitLemmas.{visit_is, visits_left}
 use Rattle.plan_explain.specs.Tables.{row_behind}
 use Rattle.plan_explain.proofs.RowLemmas.{row_is, in_time, none_left}
-use Rattle.plan_explain.proofs.rows.rows.Goals as goal
+use Rattle.plan_explain.proofs.rows.rows_of.Goals as goal
 
 pub loop-place-init : goal.loop-place-init
 loop-place-init c =

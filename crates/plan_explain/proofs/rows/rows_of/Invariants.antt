@@ -4,7 +4,7 @@ use Rattle.route_sched.specs.Route.{place}
 use Rattle.route_sched.specs.Schedule.{start}
 use Rattle.route_sched.specs.Visiting.{visits_from}
 use Rattle.plan_explain.specs.Tables.{row_behind}
-use Rattle.plan_explain.proofs.rows.rows.Given as goal
+use Rattle.plan_explain.proofs.rows.rows_of.Given as goal
 
 -- the rows so far, the visits that are left, and the last visit
 abbrev pub invariant-loop-place : goal.invariant-loop-place

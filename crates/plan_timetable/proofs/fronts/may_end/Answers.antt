@@ -1,0 +1,5 @@
+use Rattle.plan_timetable.proofs.RouteLemmas.{front_once}
+use Rattle.plan_timetable.proofs.fronts.may_end.Goals as goal
+
+pub is_feasible-requires : goal.is_feasible-requires
+is_feasible-requires c = front_once c.args.problem.now c.args.route.now c.args.stops c.requires

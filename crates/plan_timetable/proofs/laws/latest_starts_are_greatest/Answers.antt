@@ -1,0 +1,5 @@
+use Rattle.plan_timetable.proofs.SlackLemmas as slack
+use Rattle.plan_timetable.proofs.laws.latest_starts_are_greatest.Goals as goal
+
+pub returns : goal.returns
+returns c = slack.latest_starts_are_greatest

@@ -1,0 +1,20 @@
+use Rattle.std.proofs.Common.{◌∙◌, min, sym, ap, subst}
+use Rattle.slack_tables.specs.Latest.{IsLimitOfStarts}
+use Rattle.plan_timetable.proofs.SlackLemmas.{limited, unlimited}
+use Rattle.plan_timetable.proofs.slack.latest_start.Goals as goal
+
+pub returns-in-Some : goal.returns-in-Some
+returns-in-Some c =
+    let p = c.args.problem.now in
+    let route = c.args.route.now in
+    let i = c.args.row.now.place in
+    let is = subst (IsLimitOfStarts p route i) c.in-Some.is (c.latest_start.ensures p route (sym c.requires.table.course)) in
+    c.min.ensures ∙ ap (λ here. min here c.in-Some.behind) (c.from-here.ensures ∙ c.requires.row.latest) ∙ limited p route c.requires.table.kind c.requires.table.limits i c.in-Some.behind is
+
+pub returns-in-None : goal.returns-in-None
+returns-in-None c =
+    let p = c.args.problem.now in
+    let route = c.args.route.now in
+    let i = c.args.row.now.place in
+    let goes = subst (IsLimitOfStarts p route i) c.in-None.is (c.latest_start.ensures p route (sym c.requires.table.course)) in
+    c.from-here.ensures ∙ c.requires.row.latest ∙ unlimited p route c.requires.table.kind c.requires.table.limits i goes

@@ -1,0 +1,27 @@
+-- Numbers in their columns, or behind tabs.
+use Rattle.std.specs.Prelude.{ℕ, ℤ, List, ◌++◌, Option, Some, None, codes, decimal}
+use Rattle.std.specs.Fmt.{signed_decimal}
+use Rattle.plan_explain.specs.Columns.{right, right_signed}
+use Rattle.plan_timetable.specs.Words.{word}
+use Rattle.plan_timetable.specs.declared.forms.Form.{Form}
+use Rattle.plan_timetable.specs.declared.forms.Form.TheVariants.{Columns, Tabs}
+use Rattle.plan_timetable.specs.declared.words.Word.{Word}
+use Rattle.plan_timetable.specs.declared.words.Word.TheVariants.{Nothing}
+
+-- a number at the right of a column that is so wide and stands one blank apart, or behind a tab
+abbrev pub number : Form → ℕ → ℕ → List ℕ
+number Columns width n = codes " " ++ right width n
+number Tabs width n = codes "\t" ++ decimal n
+
+abbrev pub signed : Form → ℕ → ℤ → List ℕ
+signed Columns width n = codes " " ++ right_signed width n
+signed Tabs width n = codes "\t" ++ signed_decimal n
+
+-- a number that may be missing, in a column of 8
+abbrev pub number_or_nothing : Form → Option ℕ → List ℕ
+number_or_nothing form None = word form Nothing
+number_or_nothing form (Some n) = number form 8 n
+
+-- a word, and a number behind it
+abbrev pub named : Form → Word → ℕ → List ℕ
+named form w n = word form w ++ decimal n

@@ -1,0 +1,53 @@
+-- What is told of each place of a route. Places count from 1, the return behind the last stop.
+use Rattle.std.specs.Prelude.{ℕ, ◌+◌, ◌-◌, min, ◌==◌, nat_le, ◌&&◌, Bool, true, false, List, map, length, take, fold, Option, Some, None, is_some, if◌then◌else◌}
+use Rattle.std.specs.List.{range_with_len}
+use Rattle.plan_types.specs.Instance.{Instance, partner_at, pickup_at}
+use Rattle.plan_types.specs.declared.requests.Kind.{Kind}
+use Rattle.plan_types.specs.declared.requests.Kind.TheVariants.{LiLim, Vrp}
+use Rattle.route_sched.specs.Route.{place}
+use Rattle.route_sched.specs.Schedule.{time_between}
+use Rattle.plan_audit.specs.Passes.{feasible_alone}
+use Rattle.plan_explain.specs.Tables.{rows_of}
+use Rattle.plan_explain.specs.declared.rows.Row.{Row}
+use Rattle.plan_timetable.specs.declared.entries.Entry.{Entry}
+use Rattle.plan_timetable.specs.declared.entries.Role.{Role}
+use Rattle.plan_timetable.specs.declared.entries.Role.TheVariants.{Pickup, Delivery, Single, Return}
+
+-- what is done at the stop with this number
+abbrev pub role_of : Instance → ℕ → Role
+role_of p n = if n == 0 then Return else if is_some (pickup_at p n) then Delivery else if is_some (partner_at p n) then Pickup else Single
+
+-- the latest start at place i from which the vehicle is in time at place k, if nobody waits between
+abbrev pub latest_for : Instance → List ℕ → ℕ → ℕ → ℕ
+latest_for p route i k = (place p route k).latest - time_between p route i k
+
+-- The latest start of service at place i from which nothing is late from there on: the least, over this place and all behind it, of
+-- the latest start that lets the vehicle be in time there.
+unfoldable pub latest_start : Instance → List ℕ → ℕ → ℕ
+latest_start p route i = fold min (place p route i).latest (map (latest_for p route i) (range_with_len (i + 1) (length route + 1 - i)))
+
+-- latest starts are asked
+abbrev pub has_times : Kind → Bool
+has_times LiLim = true
+has_times Vrp = false
+
+-- it is told where times are asked and the route is feasible alone
+abbrev pub latest_told : Instance → List ℕ → ℕ → Option ℕ
+latest_told p route i = if has_times p.kind && feasible_alone p route then Some (latest_start p route i) else None
+
+-- a pin may end behind so many stops: they alone are a feasible route
+abbrev pub may_end : Instance → List ℕ → ℕ → Bool
+may_end p route k = nat_le k (length route) && feasible_alone p (take k route)
+
+-- what is told of a place, by its row
+abbrev pub entry_of : Instance → List ℕ → Row → Entry
+entry_of p route row = record {
+  row = row;
+  role = role_of p row.stop;
+  partner = partner_at p row.stop;
+  latest = latest_told p route row.place;
+  may_end = may_end p route row.place;
+}
+
+abbrev pub entries_of : Instance → List ℕ → List Entry
+entries_of p route = map (entry_of p route) (rows_of p route)

@@ -1,0 +1,101 @@
+//! What is told of each place of a route.
+ghost use Rattle.std.specs.Prelude.{◌≡◌, ◌<◌, IfOk, length};
+ghost use Rattle.plan_explain.specs.Tables.{rows_of};
+ghost use Rattle.route_sched.specs.Route.{AreLiveOnce};
+ghost use Rattle.plan_timetable.specs.Entries.{entries_of, entry_of, role_of};
+ghost use Rattle.plan_timetable.specs.Timed.{IsRowIn, IsTableOf};
+
+use crate::fronts::may_end;
+use crate::slack::{latest_told, table_of};
+use plan_explain::{Row, rows_of};
+use plan_types::{OutOfMemory, Problem};
+use slack_tables::RouteTable;
+use std::alloc::Global;
+
+/// What a vehicle does at a place.
+#[derive(Clone, Copy, Debug, PartialEq, Eq)]
+pub(crate) enum Role {
+    Pickup,
+    Delivery,
+    Single,
+    Return,
+}
+
+/// What is told of a place.
+#[derive(Clone, Copy, Debug, PartialEq, Eq)]
+pub(crate) struct Entry {
+    pub row: Row,
+    pub role: Role,
+    /// The number of the other stop of the pair.
+    pub partner: Option<u32>,
+    /// The latest start from which nothing is late from there on, where it is told.
+    pub latest: Option<u64>,
+    /// Whether a pin may end there.
+    pub may_end: bool,
+}
+
+/// What is told of the places of a route that is used, the return last.
+pub(crate) fn entries(
+    alloc: Global,
+    problem: &Problem,
+    route: &[u32],
+) -> Result<Vec<Entry>, OutOfMemory>
+    requires route { AreLiveOnce problem.now route.now }
+    requires used { 0 < length route.now }
+    ensures { IfOk result (λ entries. entries.items ≡ entries_of problem.now route.now) }
+{
+    let rows = rows_of(alloc, problem, route)?;
+    let table = table_of(alloc, problem, route)?;
+    entries_at(alloc, problem, route, &table, rows.as_slice())
+}
+
+// What is told of the places of these rows.
+fn entries_at(
+    alloc: Global,
+    problem: &Problem,
+    route: &[u32],
+    table: &Option<RouteTable>,
+    rows: &[Row],
+) -> Result<Vec<Entry>, OutOfMemory>
+    requires route { AreLiveOnce problem.now route.now }
+    requires table { IsTableOf problem.now route.now table.now }
+    requires rows { rows.now ≡ rows_of problem.now route.now }
+    ensures { IfOk result (λ entries. entries.items ≡ entries_of problem.now route.now) }
+{
+    let mut entries = Vec::new(alloc);
+    for row in rows {
+        entries.push(entry_of(problem, route, table, row))?;
+    }
+    Ok(entries)
+}
+
+fn entry_of(problem: &Problem, route: &[u32], table: &Option<RouteTable>, row: &Row) -> Entry
+    requires route { AreLiveOnce problem.now route.now }
+    requires table { IsTableOf problem.now route.now table.now }
+    requires row { IsRowIn problem.now route.now row.now }
+    ensures { result ≡ entry_of problem.now route.now row.now }
+{
+    Entry {
+        row: *row,
+        role: role_of(problem, row.stop),
+        partner: problem.partner_of(row.stop),
+        latest: latest_told(problem, route, table, row),
+        may_end: may_end(problem, route, row.place),
+    }
+}
+
+// What is done at the stop with this number; 0 is the depot.
+fn role_of(problem: &Problem, stop: u32) -> Role
+    ensures { result ≡ role_of problem.now stop }
+{
+    if stop == 0 {
+        return Role::Return;
+    }
+    if problem.pickup_of(stop).is_some() {
+        return Role::Delivery;
+    }
+    if problem.partner_of(stop).is_some() {
+        return Role::Pickup;
+    }
+    Role::Single
+}

@@ -1,0 +1,37 @@
+//! The timetable of a printed solution.
+ghost use Rattle.std.specs.Prelude.{◌≡◌, IfOk, string_bytes};
+ghost use Rattle.plan_audit.specs.Verdict.{IsVerdict, printed};
+ghost use Rattle.plan_timetable.specs.Timetable.{judged_text};
+
+use crate::forms::Form;
+use crate::timetables::timetable;
+use plan_audit::Verdict;
+use plan_types::{OutOfMemory, Problem};
+use sol_text::Solution;
+use std::alloc::Global;
+
+/// The timetable of a printed solution with this verdict, and with the names of the unplanned requests. It has no line where a stop
+/// is unknown or stands twice (rules 1 and 2): then nobody knows when a vehicle comes.
+pub fn judged_timetable(
+    alloc: Global,
+    problem: &Problem,
+    solution: &Solution,
+    verdict: Verdict,
+    unplanned: &[u32],
+    form: Form,
+) -> Result<String, OutOfMemory>
+    requires { IsVerdict problem.now (printed solution.now.routes solution.now.cost) verdict }
+    ensures { IfOk result (λ text. string_bytes text
+        ≡ judged_text form problem.now solution.now.routes unplanned.now verdict) }
+{
+    let routes = solution.routes.as_slice();
+    match verdict {
+        Verdict::Pass(_) => timetable(alloc, problem, routes, unplanned, form),
+        Verdict::Broken { rule, .. } => {
+            if rule <= 2 {
+                return Ok(String::new(alloc));
+            }
+            timetable(alloc, problem, routes, unplanned, form)
+        }
+    }
+}

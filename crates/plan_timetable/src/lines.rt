@@ -1,0 +1,121 @@
+//! The line of a place.
+ghost use Rattle.std.specs.Prelude.{◌≡◌, ◌++◌, OnOk, string_bytes};
+ghost use Rattle.std.specs.List.{flat_map};
+ghost use Rattle.plan_timetable.specs.Timetable.{entry_text, lead, load_text, pin_word, role_word, times_text, what_text, when_text, where_text};
+
+use crate::cells::{put_named, put_number, put_number_or_nothing, put_signed, put_word};
+use crate::entries::{Entry, Role};
+use crate::forms::Form;
+use crate::words::Word;
+use plan_explain::wait;
+use plan_types::{Kind, OutOfMemory};
+
+/// Appends the line of each place.
+pub(crate) fn put_entries(
+    text: &mut String,
+    form: Form,
+    kind: Kind,
+    vehicle: u64,
+    entries: &[Entry],
+) -> Result<(), OutOfMemory>
+    ensures { OnOk result (string_bytes text.new
+        ≡ string_bytes text.old ++ flat_map (entry_text form kind vehicle) entries.now) }
+{
+    for entry in entries {
+        put_entry(text, form, kind, vehicle, entry)?;
+    }
+    Ok(())
+}
+
+fn put_entry(
+    text: &mut String,
+    form: Form,
+    kind: Kind,
+    vehicle: u64,
+    entry: &Entry,
+) -> Result<(), OutOfMemory>
+    ensures { OnOk result (string_bytes text.new
+        ≡ string_bytes text.old ++ entry_text form kind vehicle entry.now) }
+{
+    put_where(text, form, vehicle, entry)?;
+    put_what(text, form, entry)?;
+    put_when(text, form, kind, entry)?;
+    put_load(text, form, entry)
+}
+
+fn put_where(text: &mut String, form: Form, vehicle: u64, entry: &Entry) -> Result<(), OutOfMemory>
+    ensures { OnOk result (string_bytes text.new
+        ≡ string_bytes text.old ++ where_text form vehicle entry.now) }
+{
+    put_lead(text, form, vehicle)?;
+    put_number(text, form, 5, entry.row.place)?;
+    put_number(text, form, 5, u64::from(entry.row.stop))
+}
+
+fn put_lead(text: &mut String, form: Form, vehicle: u64) -> Result<(), OutOfMemory>
+    ensures { OnOk result (string_bytes text.new ≡ string_bytes text.old ++ lead form vehicle) }
+{
+    match form {
+        Form::Columns => Ok(()),
+        Form::Tabs => put_named(text, form, Word::Stop, vehicle),
+    }
+}
+
+fn put_what(text: &mut String, form: Form, entry: &Entry) -> Result<(), OutOfMemory>
+    ensures { OnOk result (string_bytes text.new
+        ≡ string_bytes text.old ++ what_text form entry.now) }
+{
+    put_word(text, form, role_word(entry.role))?;
+    put_number_or_nothing(text, form, entry.partner.map(u64::from))
+}
+
+fn role_word(role: Role) -> Word
+    ensures { result ≡ role_word role }
+{
+    match role {
+        Role::Pickup => Word::Pickup,
+        Role::Delivery => Word::Delivery,
+        Role::Single => Word::Single,
+        Role::Return => Word::Back,
+    }
+}
+
+// A problem of kind `Vrp` asks for no times.
+fn put_when(text: &mut String, form: Form, kind: Kind, entry: &Entry) -> Result<(), OutOfMemory>
+    ensures { OnOk result (string_bytes text.new
+        ≡ string_bytes text.old ++ when_text form kind entry.now) }
+{
+    match kind {
+        Kind::LiLim => put_times(text, form, entry),
+        Kind::Vrp => put_number(text, form, 8, entry.row.arrival),
+    }
+}
+
+fn put_times(text: &mut String, form: Form, entry: &Entry) -> Result<(), OutOfMemory>
+    ensures { OnOk result (string_bytes text.new
+        ≡ string_bytes text.old ++ times_text form entry.now) }
+{
+    put_number(text, form, 8, entry.row.arrival)?;
+    put_number(text, form, 8, entry.row.start)?;
+    put_number(text, form, 8, wait(&entry.row))?;
+    put_number_or_nothing(text, form, entry.latest)
+}
+
+fn put_load(text: &mut String, form: Form, entry: &Entry) -> Result<(), OutOfMemory>
+    ensures { OnOk result (string_bytes text.new
+        ≡ string_bytes text.old ++ load_text form entry.now) }
+{
+    put_signed(text, form, 8, entry.row.load)?;
+    put_word(text, form, pin_word(entry.may_end))?;
+    text.push_str("\n")
+}
+
+fn pin_word(may_end: bool) -> Word
+    ensures { result ≡ pin_word may_end }
+{
+    if may_end {
+        Word::PinMayEnd
+    } else {
+        Word::PinMayNotEnd
+    }
+}

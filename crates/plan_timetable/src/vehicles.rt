@@ -1,0 +1,155 @@
+//! The block of a vehicle: its figures, and a line for each place of its route.
+ghost use Rattle.std.specs.Prelude.{◌≡◌, ◌<◌, ◌==◌, ◌++◌, [], All, OnOk, if◌then◌else◌, length, string_bytes};
+ghost use Rattle.route_sched.specs.Route.{AreLiveOnce};
+ghost use Rattle.text_lines.specs.Lines.{ended};
+ghost use Rattle.plan_timetable.specs.Timetable.{block_text, blocks_from, day_text, heading, top_load_text, vehicle_line, way_text};
+
+use crate::cells::{put_named, put_word};
+use crate::entries::entries;
+use crate::forms::Form;
+use crate::lines::put_entries;
+use crate::words::Word;
+use plan_explain::{Summary, summary_of};
+use plan_types::{Kind, OutOfMemory, Problem, Route};
+use std::alloc::Global;
+
+/// Appends the block of each vehicle that is used.
+pub(crate) fn put_blocks(
+    alloc: Global,
+    text: &mut String,
+    form: Form,
+    problem: &Problem,
+    routes: &[Route],
+) -> Result<(), OutOfMemory>
+    requires { All (AreLiveOnce problem.now) routes.now }
+    ensures { OnOk result (string_bytes text.new
+        ≡ string_bytes text.old ++ blocks_from form problem.now 1 routes.now) }
+{
+    for (place, route) in routes.iter().enumerate() {
+        put_vehicle(
+            alloc,
+            text,
+            form,
+            problem,
+            place as u64 + 1,
+            route.as_slice(),
+        )?;
+    }
+    Ok(())
+}
+
+// The block of a vehicle, if it is used.
+fn put_vehicle(
+    alloc: Global,
+    text: &mut String,
+    form: Form,
+    problem: &Problem,
+    vehicle: u64,
+    route: &[u32],
+) -> Result<(), OutOfMemory>
+    requires { AreLiveOnce problem.now route.now }
+    ensures { OnOk result (string_bytes text.new ≡ string_bytes text.old
+        ++ (if length route.now == 0 then []
+        else block_text form problem.now vehicle route.now)) }
+{
+    if route.is_empty() {
+        return Ok(());
+    }
+    put_block(alloc, text, form, problem, vehicle, route)
+}
+
+fn put_block(
+    alloc: Global,
+    text: &mut String,
+    form: Form,
+    problem: &Problem,
+    vehicle: u64,
+    route: &[u32],
+) -> Result<(), OutOfMemory>
+    requires route { AreLiveOnce problem.now route.now }
+    requires used { 0 < length route.now }
+    ensures { OnOk result (string_bytes text.new
+        ≡ string_bytes text.old ++ block_text form problem.now vehicle route.now) }
+{
+    let kind = problem.kind;
+    let summary = summary_of(alloc, problem, route)?;
+    let entries = entries(alloc, problem, route)?;
+    put_vehicle_line(text, form, kind, vehicle, &summary)?;
+    put_word(text, form, heading(kind))?;
+    put_entries(text, form, kind, vehicle, entries.as_slice())
+}
+
+fn heading(kind: Kind) -> Word
+    ensures { result ≡ heading kind }
+{
+    match kind {
+        Kind::LiLim => Word::TimesHeading,
+        Kind::Vrp => Word::LoadsHeading,
+    }
+}
+
+fn put_vehicle_line(
+    text: &mut String,
+    form: Form,
+    kind: Kind,
+    vehicle: u64,
+    summary: &Summary,
+) -> Result<(), OutOfMemory>
+    ensures { OnOk result (string_bytes text.new
+        ≡ string_bytes text.old ++ vehicle_line form kind vehicle summary.now) }
+{
+    put_way(text, form, vehicle, summary)?;
+    put_top_load(text, form, summary)?;
+    put_line_end(text, form, kind, summary)
+}
+
+fn put_way(
+    text: &mut String,
+    form: Form,
+    vehicle: u64,
+    summary: &Summary,
+) -> Result<(), OutOfMemory>
+    ensures { OnOk result (string_bytes text.new
+        ≡ string_bytes text.old ++ way_text form vehicle summary.now) }
+{
+    put_named(text, form, Word::Vehicle, vehicle)?;
+    put_named(text, form, Word::Stops, summary.stops)?;
+    put_named(text, form, Word::Distance, summary.distance)
+}
+
+fn put_top_load(text: &mut String, form: Form, summary: &Summary) -> Result<(), OutOfMemory>
+    ensures { OnOk result (string_bytes text.new
+        ≡ string_bytes text.old ++ top_load_text form summary.now) }
+{
+    let load = summary.load;
+    put_word(text, form, Word::Load)?;
+    write!(text, "{load}")
+}
+
+fn put_line_end(
+    text: &mut String,
+    form: Form,
+    kind: Kind,
+    summary: &Summary,
+) -> Result<(), OutOfMemory>
+    ensures { OnOk result (string_bytes text.new
+        ≡ string_bytes text.old ++ ended (day_text form kind summary.now)) }
+{
+    put_day(text, form, kind, summary)?;
+    text.push_str("\n")
+}
+
+// A problem of kind `Vrp` asks for no times.
+fn put_day(text: &mut String, form: Form, kind: Kind, summary: &Summary) -> Result<(), OutOfMemory>
+    ensures { OnOk result (string_bytes text.new
+        ≡ string_bytes text.old ++ day_text form kind summary.now) }
+{
+    match kind {
+        Kind::LiLim => {
+            put_named(text, form, Word::Start, summary.start)?;
+            put_named(text, form, Word::Return, summary.back)?;
+            put_named(text, form, Word::Waiting, summary.waiting)
+        }
+        Kind::Vrp => Ok(()),
+    }
+}
