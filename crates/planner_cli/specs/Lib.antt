@@ -15,6 +15,7 @@ pub mod Running
 pub mod Solving
 pub mod Statuses
 pub mod Telling
+pub mod Timetabled
 pub mod Upgrading
 pub use Rattle.command_line.specs.Asked
 pub use Rattle.command_serving.specs.Served

@@ -1,7 +1,7 @@
 -- What the program does with its words: which files it reads, what it writes to the output and to the errors, and which status it ends with.
 use Rattle.std.specs.Prelude.{◌≡◌, ◌⊎◌, ℕ, Bool, false, List, Option}
 use Rattle.clap.specs.Words.{Text}
-use Rattle.command_line.specs.Asked.{Asked, IsUsageStatus, asks_help, audit, audits, built_in, draw, explain, format, load, run, solve, upgrade}
+use Rattle.command_line.specs.Asked.{Asked, IsUsageStatus, asks_help, audit, audits, built_in, draw, explain, format, load, run, solve, store_timetable, timetable, upgrade}
 use Rattle.plan_types.specs.declared.requests.Kind.TheVariants.{LiLim}
 use Rattle.planner_cli.specs.Drawn.{TellsDrawn}
 use Rattle.planner_cli.specs.Explained.{TellsExplained}
@@ -14,6 +14,7 @@ use Rattle.planner_cli.specs.Running.{RunsStore}
 use Rattle.planner_cli.specs.Solving.{TellsTask}
 use Rattle.planner_cli.specs.Statuses.{CanEndWith}
 use Rattle.planner_cli.specs.Telling.{TellsAudit, example_instance, example_solution}
+use Rattle.planner_cli.specs.Timetabled.{TellsTimetable, TimetablesStore, form_of}
 use Rattle.planner_cli.specs.Upgrading.{UpgradesStore}
 use Rattle.planner_cli.specs.declared.program.Streams.{Streams}
 use Rattle.sector_disk.specs.declared.sectors.Sectors as sectors
@@ -51,6 +52,8 @@ AreReadFor (format store) was now = now ≡ was
 AreReadFor (load asked) was now = IsRead asked.instance was now
 AreReadFor (run store is_strict) was now = now ≡ was
 AreReadFor (upgrade old new) was now = now ≡ was
+AreReadFor (timetable paths is_tabbed) was now = AreReadInTurn paths.instance paths.solution was now
+AreReadFor (store_timetable store is_tabbed) was now = now ≡ was
 
 -- only `run` reads the input
 abbrev pub IsInputKept : Asked → World → World → Type 0
@@ -63,6 +66,7 @@ AreErrorsKept (draw paths) old new = Unit {0}
 AreErrorsKept (solve task) old new = Unit {0}
 AreErrorsKept (load asked) old new = Unit {0}
 AreErrorsKept (run store is_strict) old new = Unit {0}
+AreErrorsKept (store_timetable store is_tabbed) old new = Unit {0}
 AreErrorsKept _ old new = new.errors ≡ old.errors
 
 module _ {D N : Type 0} (on_old : sectors.Ghosts D) (on_new : sectors.Ghosts N) (IsOld : D → Type 0) (IsNew : N → Type 0) where
@@ -79,6 +83,9 @@ module _ {D N : Type 0} (on_old : sectors.Ghosts D) (on_new : sectors.Ghosts N) 
   Does (load asked) old new status = TellsLoad on_old on_new IsOld IsNew asked old.files new.files old.output new.output status
   Does (run store is_strict) old new status = RunsStore on_old IsOld store is_strict old.input old.output new.output new.input_failed new.output_failed status
   Does (upgrade path new_path) old new status = UpgradesStore on_old on_new IsOld IsNew path new_path old.output new.output status
+  Does (timetable paths is_tabbed) old new status =
+      TellsTimetable paths.kind (form_of is_tabbed) paths.instance paths.solution old.files new.files old.output new.output status
+  Does (store_timetable store is_tabbed) old new status = TimetablesStore on_old IsOld store (form_of is_tabbed) old.output new.output status
 
   -- The words were read. Where an answer could not be printed, the status is 3.
   pub record Works (asked : Asked) (old new : World) (status : ℕ) : Type 0 where

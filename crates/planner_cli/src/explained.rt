@@ -18,11 +18,11 @@ use std::alloc::Global;
 use std::io;
 use std::io::Write;
 
-/// The answer of an audit, and the lines that tell what it rests on.
+/// The answer of an audit, and the lines that stand under it.
 #[derive(Debug, Drop)]
 pub(crate) struct Explanation {
-    answer: AuditAnswer,
-    text: String,
+    pub answer: AuditAnswer,
+    pub text: String,
 }
 
 /// Reads both texts as `audit_read` does, and tells the audit's answer and what it rests on.
@@ -46,8 +46,8 @@ pub(crate) fn explain_read<F: ReadFiles, W: Write>(
     tell_explanation(output, &explain(alloc, paths.kind, &both.0, &both.1))
 }
 
-// Tells an explanation, or want of memory.
-fn tell_explanation<W: Write>(
+/// Tells an answer with its lines, or want of memory.
+pub(crate) fn tell_explanation<W: Write>(
     output: &mut W,
     explained: &Result<Explanation, OutOfMemory>,
 ) -> io::Result<u8>

@@ -6,8 +6,8 @@
 //! Source: this project's own; status 64 is `EX_USAGE` of BSD's `sysexits.h`.
 //!
 //! How it works: each word of the program has one private function over whatever reads files, reader and writer
-//! (`audit_read`, `audits_read`, `explain_read`, `draw_read`, `solve_read`, `load_read`, `format_store`, `run_store`,
-//! `upgrade_store`).
+//! (`audit_read`, `audits_read`, `explain_read`, `timetable_read`, `draw_read`, `solve_read`, `load_read`, `format_store`,
+//! `run_store`, `timetable_store`, `upgrade_store`).
 //! `run_words` hands them the paths, and what reads files and the streams, which `main` makes.
 //!
 //! Modules, in reading order:
@@ -19,14 +19,15 @@
 //! - `audited`, `listed`: the words `audit` and `audits`
 //! - `explained`, `drawn`, `solved`: the words `explain`, `draw` and `solve`
 //! - `opened`: the opening of a store
+//! - `timetabled`: the word `timetable`
 //! - `laws`: what stops leave of the word `run`
 //! - `stores`: the words `format`, `run` and `upgrade`
 //! - `loaded`: the word `load`
 //! - `program`: `run_words`
 //!
 //! Said by `specs/Answer.antt`, `Program.antt` and `Reads.antt`, and word by word by `Files.antt`, `Listed.antt`,
-//! `Explained.antt`, `Drawn.antt`, `Solving.antt`, `Formatting.antt`, `Foretold.antt`, `Loading.antt`, `Running.antt` and
-//! `Upgrading.antt`, which statuses by `Statuses.antt`. Proved:
+//! `Explained.antt`, `Drawn.antt`, `Solving.antt`, `Formatting.antt`, `Foretold.antt`, `Loading.antt`, `Running.antt`,
+//! `Timetabled.antt` and `Upgrading.antt`, which statuses by `Statuses.antt`. Proved:
 //! - `audit_text`: line and status are those of the first fault or of the verdict on what the texts spell; the
 //!   status is 0 exactly where both spell a value and the solution keeps the rules, serves every request, keeps the
 //!   fleet and prints the distance that it drives (`SaysSound`)
@@ -38,6 +39,8 @@
 //!   status
 //! - `explain_read` (`TellsExplained`), `draw_read` (`TellsDrawn`), `solve_read` (`TellsTask`): the audit's line
 //!   and what it rests on; the picture; the text of a solution, or why there is none
+//! - `timetable_read` (`TellsTimetable`), `timetable_store` (`TimetablesStore`): the audit's line and the timetable of the solution;
+//!   those of the plan in the store that opening the device gives, which is left as opening leaves it
 //! - `run_store` (`RunsStore`): the device that `FileDevice::at_or_cause` gives is opened, and what `serve` writes over that
 //!   session stands behind `opened N`; 3 where the reader or the writer failed, with `cannot read input` for the
 //!   reader
@@ -72,6 +75,7 @@ mod solved;
 pub mod status;
 mod stores;
 mod telling;
+mod timetabled;
 
 pub use answer::{AuditAnswer, Line};
 pub use audit::audit_text;

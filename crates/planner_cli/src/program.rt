@@ -23,6 +23,7 @@ use crate::solved::solve_read;
 use crate::status::{DONE, OUT_OF_MEMORY, USAGE};
 use crate::stores::{format_store, run_store, upgrade_store};
 use crate::telling::{status_of, tell_audit};
+use crate::timetabled::{form_of, timetable_read, timetable_store};
 use clap::Error;
 use clap::error::ErrorKind;
 use command_line::{Invocation, read_words};
@@ -153,6 +154,16 @@ where
         Invocation::Run { store, is_strict } => run_over(rt, start, store, is_strict, streams),
         Invocation::Upgrade { old, new } => {
             let told = upgrade_store(rt, start, start_of_new, old, new, &mut streams.output);
+            (told, streams)
+        }
+        Invocation::Timetable { paths, is_tabbed } => {
+            let form = form_of(is_tabbed);
+            let told = timetable_read(alloc, paths, form, files, &mut streams.output);
+            (told, streams)
+        }
+        Invocation::StoreTimetable { store, is_tabbed } => {
+            let Streams { output, errors, .. } = &mut streams;
+            let told = timetable_store(rt, start, store, form_of(is_tabbed), output, errors);
             (told, streams)
         }
     }
