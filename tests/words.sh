@@ -55,6 +55,11 @@ expect 0 'planner 0.1.0' '' --version
 expect 0 'pass 0 10 829' '' explain lilim lc101.txt lc101.sol
 expect 1 'broken 5 route 1 place 1 stop 2' '' explain lilim one-pair.txt one-pair-reversed.sol
 expect 3 'cannot read nowhere' 'planner: nowhere: No such file or directory (os error 2)' explain lilim one-pair.txt nowhere
+expect 0 'pass 0 10 829' '' timetable lilim lc101.txt lc101.sol
+expect 1 'broken 5 route 1 place 1 stop 2' '' timetable lilim one-pair.txt one-pair-reversed.sol tabs
+expect 3 'cannot read nowhere' 'planner: nowhere: No such file or directory (os error 2)' timetable nowhere tabs
+expect 64 '' 'error: the words are STORE [tabs] or KIND INSTANCE SOLUTION [tabs], and KIND is lilim or vrp' timetable lilim one-pair.txt
+[ "$("$program" timetable lilim lc101.txt lc101.sol tabs | sed -n 3p)" = "$(printf 'stop\t1\t1\t5\tpickup\t7\t15\t15\t0\t36\t10\t-')" ] || fail "timetable: not the first stop"
 expect 0 "$(head -n 1 lc101.svg)" '' draw lilim lc101.txt lc101.sol
 expect 2 '' 'solution BadLine 1' draw lilim one-pair.txt one-pair.txt
 expect 3 '' 'planner: nowhere: No such file or directory (os error 2)' draw lilim one-pair.txt nowhere
@@ -99,6 +104,7 @@ printf 'one-pair.txt\tone-pair.sol\tpass 0 1 20\nbad line\nnowhere\tone-pair.sol
 status=$?
 [ "$status" = 3 ] && cmp -s -- "$folder/answers" "$folder/output" || fail "audits: status $status, wanted 3, or other answers"
 "$program" audits lilim - <"$folder/pairs" 2>/dev/null | cmp -s -- "$folder/answers" - || fail "audits -: other answers"
+[ "$(printf '\n \t\none-pair.txt\tone-pair.sol\n' | "$program" audits lilim - 2>/dev/null)" = "$(printf 'bad line\nbad line\none-pair.txt\tone-pair.sol\tpass 0 1 20')" ] || fail "audits: a blank line ends the list"
 expect 3 'cannot read nowhere' 'planner: nowhere: No such file or directory (os error 2)' audits lilim nowhere
 
 # A path is taken only as UTF-8.

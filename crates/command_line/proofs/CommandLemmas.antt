@@ -23,8 +23,8 @@ use Rattle.std.proofs.lemmas.Slice.Eq.{bytes_eq-Decides}
 use Rattle.clap.proofs.WalkLemmas.{first_value-rows, list_any-map}
 use Rattle.clap.proofs.OnLiterals.{clap_on_literals}
 use Rattle.command_line.specs.declared.words.Invocation.{Invocation}
-use Rattle.command_line.specs.Asked.{IsRefusal, ArePositional, Asked, PathsAsked, ReadsWords, asked_by, asks_help, audit, audits, deviation_or_none, draw, explain, format, is_positional_word, kind_named, list_asked, list_from, list_in, load, load_asked, load_from, load_in, load_with, paths_asked, paths_from, paths_in, run, run_asked, run_from, run_in, run_with, seed_named, seed_or_none, solve, steps_named, store_asked, store_in, task_asked, task_from, task_in, task_with, told_by, told_by_other, told_of, told_of_store, upgrade, upgrade_asked, upgrade_in, usage_status_of}
-use Rattle.command_line.specs.CommandLine.{IsKindNames, IsModeNames, IsPlannerCommand, audits_app, load_app, paths_app, planner_app, run_app, solve_app, store_app, upgrade_app}
+use Rattle.command_line.specs.Asked.{IsRefusal, ArePositional, Asked, PathsAsked, ReadsWords, asked_by, asks_help, audit, audits, deviation_or_none, draw, explain, format, is_positional_word, kind_named, list_asked, list_from, list_in, load, load_asked, load_from, load_in, load_with, paths_asked, paths_from, paths_in, run, run_asked, run_from, run_in, run_with, seed_named, seed_or_none, solve, steps_named, store_asked, store_in, task_asked, task_from, task_in, task_with, timetable_asked, timetable_in, timetable_with, told_by, told_by_other, told_of, told_of_store, upgrade, upgrade_asked, upgrade_in, usage_status_of}
+use Rattle.command_line.specs.CommandLine.{IsKindNames, IsModeNames, IsPlannerCommand, audits_app, load_app, paths_app, planner_app, run_app, solve_app, store_app, timetable_app, upgrade_app}
 
 -- ---- a word that does not begin with a hyphen is a value
 
@@ -958,6 +958,172 @@ judged_upgrade Help (o ∷ n ∷ x ∷ rest) p =
     let px = both_true (is_positional_word x) _ pn.1 in
     inr (inl (fault_first _ _ (subst IsFault (sym (three_stores o n x rest po.0 pn.0 px.0)) (refl, tt))), refl)
 
+-- ---- the words `STORE [tabs]` or `KIND INSTANCE SOLUTION [tabs]` of `timetable`
+
+abbrev table_shape : Shape
+table_shape = built_leaf timetable_app.top
+
+abbrev table_rules : List Rule
+table_rules = table_shape.rules
+
+abbrev table_fault : List Text → Kinds
+table_fault words = level_fault table_shape [] nothing_held words false []
+
+abbrev table_one : Text → Held
+table_one a = (after_value table_rules nothing_held 1 a).held
+
+abbrev table_two : Text → Text → Held
+table_two a b = (after_value table_rules (table_one a) 2 b).held
+
+abbrev table_three : Text → Text → Text → Held
+table_three a b c = (after_value table_rules (table_two a b) 3 c).held
+
+abbrev table_four : Text → Text → Text → Text → Held
+table_four a b c d = (after_value table_rules (table_three a b c) 4 d).held
+
+no_table : table_fault [] ≡ missing
+unfolding clap_on_literals
+no_table = refl
+
+table_one_walked : (a : Text) → is_positional_word a ≡ true → walked table_rules [] (standing nothing_held 1) a ≡ standing (table_one a) 2
+table_one_walked a p = walked-value table_rules nothing_held 1 a p
+
+table_two_walked : (a b : Text) → is_positional_word b ≡ true → walked table_rules [] (standing (table_one a) 2) b ≡ standing (table_two a b) 3
+table_two_walked a b p = walked-value table_rules (table_one a) 2 b p
+
+table_three_walked : (a b c : Text) → is_positional_word c ≡ true → walked table_rules [] (standing (table_two a b) 3) c ≡ standing (table_three a b c) 4
+table_three_walked a b c p = walked-value table_rules (table_two a b) 3 c p
+
+table_four_walked : (a b c d : Text) → is_positional_word d ≡ true → walked table_rules [] (standing (table_three a b c) 4) d ≡ standing (table_four a b c d) 5
+table_four_walked a b c d p = walked-value table_rules (table_three a b c) 4 d p
+
+table_one_turn : (a : Text) → is_positional_word a ≡ true → turn_fault table_shape [] (standing nothing_held 1) a ≡ []
+table_one_turn a p = turn_fault-value table_shape nothing_held 1 a p
+
+table_two_turn : (a b : Text) → is_positional_word b ≡ true → turn_fault table_shape [] (standing (table_one a) 2) b ≡ []
+table_two_turn a b p = turn_fault-value table_shape (table_one a) 2 b p
+
+table_three_turn : (a b c : Text) → is_positional_word c ≡ true → turn_fault table_shape [] (standing (table_two a b) 3) c ≡ []
+table_three_turn a b c p = turn_fault-value table_shape (table_two a b) 3 c p
+
+table_four_turn : (a b c d : Text) → is_positional_word d ≡ true → turn_fault table_shape [] (standing (table_three a b c) 4) d ≡ []
+table_four_turn a b c d p = turn_fault-value table_shape (table_three a b c) 4 d p
+
+stray_table_turn : (a b c d x : Text) → is_positional_word x ≡ true → turn_fault table_shape [] (standing (table_four a b c d) 5) x ≡ kind.UnknownArgument ∷ []
+stray_table_turn a b c d x p = turn_fault-value table_shape (table_four a b c d) 5 x p
+
+one_of_table : (a : Text) → is_positional_word a ≡ true → table_fault (a ∷ []) ≡ []
+unfolding walk_fault defaults_fault
+one_of_table a p = rw (table_one_walked a p, table_one_turn a p) refl
+
+two_of_table : (a b : Text) → is_positional_word a ≡ true → is_positional_word b ≡ true → table_fault (a ∷ b ∷ []) ≡ []
+unfolding walk_fault defaults_fault
+two_of_table a b p q = rw (table_one_walked a p, table_one_turn a p, table_two_walked a b q, table_two_turn a b q) refl
+
+-- what a walk that ends so may still fail by
+abbrev table_rest : Held → Kinds
+table_rest h =
+    or_else [] (or_else (settle_fault table_rules table_shape.args_override_self h)
+    (or_else (defaults_fault (settled table_rules h).rows table_rules) (check_fault table_shape (finished table_rules h) false)))
+
+paired_fault : (a b c : Text) → is_positional_word a ≡ true → is_positional_word b ≡ true → is_positional_word c ≡ true → walk_fault table_shape [] (walk_from nothing_held) (a ∷ b ∷ c ∷ []) ≡ []
+unfolding walk_fault
+paired_fault a b c p q r = rw (table_one_turn a p, table_one_walked a p, table_two_turn a b q, table_two_walked a b q, table_three_turn a b c r) refl
+
+paired_walk : (a b c : Text) → is_positional_word a ≡ true → is_positional_word b ≡ true → is_positional_word c ≡ true → walk table_rules [] nothing_held (a ∷ b ∷ c ∷ []) ≡ standing (table_three a b c) 4
+paired_walk a b c p q r = rw (table_one_walked a p, table_two_walked a b q, table_three_walked a b c r) refl
+
+paired_rest : (a b c : Text) → table_rest (table_three a b c) ≡ []
+unfolding defaults_fault
+paired_rest a b c = refl
+
+three_of_table : (a b c : Text) → is_positional_word a ≡ true → is_positional_word b ≡ true → is_positional_word c ≡ true → table_fault (a ∷ b ∷ c ∷ []) ≡ []
+three_of_table a b c p q r =
+    ap₂ {C = Kinds} (λ (f : Kinds) (w : Walk). or_else f (table_rest w.held)) (paired_fault a b c p q r) (paired_walk a b c p q r) ∙ paired_rest a b c
+
+tabbed_fault : (a b c d : Text) → is_positional_word a ≡ true → is_positional_word b ≡ true → is_positional_word c ≡ true → is_positional_word d ≡ true
+    → walk_fault table_shape [] (walk_from nothing_held) (a ∷ b ∷ c ∷ d ∷ []) ≡ []
+unfolding walk_fault
+tabbed_fault a b c d p q r t =
+    rw (
+      table_one_turn a p,
+      table_one_walked a p,
+      table_two_turn a b q,
+      table_two_walked a b q,
+      table_three_turn a b c r,
+      table_three_walked a b c r,
+      table_four_turn a b c d t,
+    ) refl
+
+tabbed_walk : (a b c d : Text) → is_positional_word a ≡ true → is_positional_word b ≡ true → is_positional_word c ≡ true → is_positional_word d ≡ true
+    → walk table_rules [] nothing_held (a ∷ b ∷ c ∷ d ∷ []) ≡ standing (table_four a b c d) 5
+tabbed_walk a b c d p q r t = rw (table_one_walked a p, table_two_walked a b q, table_three_walked a b c r, table_four_walked a b c d t) refl
+
+tabbed_rest : (a b c d : Text) → table_rest (table_four a b c d) ≡ []
+unfolding defaults_fault
+tabbed_rest a b c d = refl
+
+four_of_table : (a b c d : Text) → is_positional_word a ≡ true → is_positional_word b ≡ true → is_positional_word c ≡ true → is_positional_word d ≡ true → table_fault (a ∷ b ∷ c ∷ d ∷ []) ≡ []
+four_of_table a b c d p q r t =
+    ap₂ {C = Kinds} (λ (f : Kinds) (w : Walk). or_else f (table_rest w.held)) (tabbed_fault a b c d p q r t) (tabbed_walk a b c d p q r t) ∙ tabbed_rest a b c d
+
+five_of_table : (a b c d x : Text) (rest : List Text) → is_positional_word a ≡ true → is_positional_word b ≡ true → is_positional_word c ≡ true → is_positional_word d ≡ true → is_positional_word x ≡ true
+    → walk_fault table_shape [] (walk_from nothing_held) (a ∷ b ∷ c ∷ d ∷ x ∷ rest) ≡ kind.UnknownArgument ∷ []
+unfolding walk_fault
+five_of_table a b c d x rest p q r t u =
+    rw (
+      table_one_turn a p,
+      table_one_walked a p,
+      table_two_turn a b q,
+      table_two_walked a b q,
+      table_three_turn a b c r,
+      table_three_walked a b c r,
+      table_four_turn a b c d t,
+      table_four_walked a b c d t,
+      stray_table_turn a b c d x u,
+    ) refl
+
+one_table_row : (a : Text) → is_positional_word a ≡ true → timetable_in (rows_at table_shape (a ∷ [])).1 ≡ timetable_asked (a ∷ [])
+one_table_row a p = rw (table_one_walked a p) refl
+
+two_table_rows : (a b : Text) → is_positional_word a ≡ true → is_positional_word b ≡ true → timetable_in (rows_at table_shape (a ∷ b ∷ [])).1 ≡ timetable_asked (a ∷ b ∷ [])
+two_table_rows a b p q = rw (table_one_walked a p, table_two_walked a b q) refl
+
+three_table_rows : (a b c : Text) → is_positional_word a ≡ true → is_positional_word b ≡ true → is_positional_word c ≡ true → timetable_in (rows_at table_shape (a ∷ b ∷ c ∷ [])).1 ≡ timetable_asked (a ∷ b ∷ c ∷ [])
+three_table_rows a b c p q r = rw (table_one_walked a p, table_two_walked a b q, table_three_walked a b c r) refl
+
+four_table_rows : (a b c d : Text) → is_positional_word a ≡ true → is_positional_word b ≡ true → is_positional_word c ≡ true → is_positional_word d ≡ true
+    → timetable_in (rows_at table_shape (a ∷ b ∷ c ∷ d ∷ [])).1 ≡ timetable_asked (a ∷ b ∷ c ∷ d ∷ [])
+four_table_rows a b c d p q r t = rw (table_one_walked a p, table_two_walked a b q, table_three_walked a b c r, table_four_walked a b c d t) refl
+
+judged_table : (Help : Type 0) (words : List Text) → ArePositional words → IsJudged Help (table_fault words) (timetable_asked words) (timetable_in (rows_at table_shape words).1)
+judged_table Help [] p = failed Help _ missing _ no_table (refl, tt)
+judged_table Help (a ∷ []) p =
+    let pa = both_true (is_positional_word a) _ p in
+    inl (one_of_table a pa.0, sym (one_table_row a pa.0))
+judged_table Help (a ∷ b ∷ []) p =
+    let pa = both_true (is_positional_word a) _ p in
+    let pb = both_true (is_positional_word b) _ pa.1 in
+    inl (two_of_table a b pa.0 pb.0, sym (two_table_rows a b pa.0 pb.0))
+judged_table Help (a ∷ b ∷ c ∷ []) p =
+    let pa = both_true (is_positional_word a) _ p in
+    let pb = both_true (is_positional_word b) _ pa.1 in
+    let pc = both_true (is_positional_word c) _ pb.1 in
+    inl (three_of_table a b c pa.0 pb.0 pc.0, sym (three_table_rows a b c pa.0 pb.0 pc.0))
+judged_table Help (a ∷ b ∷ c ∷ d ∷ []) p =
+    let pa = both_true (is_positional_word a) _ p in
+    let pb = both_true (is_positional_word b) _ pa.1 in
+    let pc = both_true (is_positional_word c) _ pb.1 in
+    let pd = both_true (is_positional_word d) _ pc.1 in
+    inl (four_of_table a b c d pa.0 pb.0 pc.0 pd.0, sym (four_table_rows a b c d pa.0 pb.0 pc.0 pd.0))
+judged_table Help (a ∷ b ∷ c ∷ d ∷ x ∷ rest) p =
+    let pa = both_true (is_positional_word a) _ p in
+    let pb = both_true (is_positional_word b) _ pa.1 in
+    let pc = both_true (is_positional_word c) _ pb.1 in
+    let pd = both_true (is_positional_word d) _ pc.1 in
+    let px = both_true (is_positional_word x) _ pd.1 in
+    inr (inl (fault_first _ _ (subst IsFault (sym (five_of_table a b c d x rest pa.0 pb.0 pc.0 pd.0 px.0)) (refl, tt))), refl)
+
 -- ---- the subcommands
 
 -- the first word is a subcommand, `help`, or a word too many
@@ -1046,13 +1212,21 @@ module _ (names modes : Bor (List (Bor Text))) (words : List Text) where
   unfolding clap_on_literals
   upgrade_stop = ap (λ (w : Walk). told_of (entered (the_app names modes) w.stopped)) (top_walked (codes "upgrade"))
 
+  table_words_fault : built_fault (the_app names modes) nothing_held (codes "timetable" ∷ words) ≡ table_fault words
+  unfolding clap_on_literals
+  table_words_fault = rw (top_walked (codes "timetable"), top_fault (codes "timetable")) (or_else-nil (table_fault words))
+
+  table_stop : told_of (stop_in names modes (codes "timetable" ∷ words)) ≡ timetable_in (rows_at table_shape words).1
+  unfolding clap_on_literals
+  table_stop = ap (λ (w : Walk). told_of (entered (the_app names modes) w.stopped)) (top_walked (codes "timetable"))
+
 help_fault : (names modes : Bor (List (Bor Text))) (words : List Text) → IsSomeKind (built_fault (the_app names modes) nothing_held (codes "help" ∷ words))
 unfolding clap_on_literals
 help_fault names modes words = tt
 
 abbrev all_names : Names
 all_names =
-    (codes "audit", []) ∷ (codes "audits", []) ∷ (codes "explain", []) ∷ (codes "draw", []) ∷ (codes "solve", []) ∷ (codes "format", []) ∷ (codes "load", []) ∷ (codes "run", []) ∷ (codes "upgrade", []) ∷ (codes "help", []) ∷ []
+    (codes "audit", []) ∷ (codes "audits", []) ∷ (codes "explain", []) ∷ (codes "timetable", []) ∷ (codes "draw", []) ∷ (codes "solve", []) ∷ (codes "format", []) ∷ (codes "load", []) ∷ (codes "run", []) ∷ (codes "upgrade", []) ∷ (codes "help", []) ∷ []
 
 -- the word is no subcommand's name
 record IsOther (w : Text) : Type 0 where
@@ -1066,9 +1240,10 @@ record IsOther (w : Text) : Type 0 where
   no_load : bytes_eq (codes "load") w ≡ false
   no_run : bytes_eq (codes "run") w ≡ false
   no_upgrade : bytes_eq (codes "upgrade") w ≡ false
+  no_timetable : bytes_eq (codes "timetable") w ≡ false
 
 no_subcommand : (w : Text) → IsOther w → bytes_eq (codes "help") w ≡ false → subcommand_met all_names idle w ≡ None
-no_subcommand w o h = rw (o.no_audit, o.no_audits, o.no_explain, o.no_draw, o.no_solve, o.no_format, o.no_load, o.no_run, o.no_upgrade, h) refl
+no_subcommand w o h = rw (o.no_audit, o.no_audits, o.no_explain, o.no_draw, o.no_solve, o.no_format, o.no_load, o.no_run, o.no_upgrade, o.no_timetable, h) refl
 
 turn_fault-stray : (s : Shape) (w : Text) → IsOther w → bytes_eq (codes "help") w ≡ false → turn_fault s all_names (standing nothing_held 1) w ≡ step_fault s 1 nothing_held value
 turn_fault-stray s w o h = rw (no_subcommand w o h, word_passes s w nothing_held o.positional, word_is_value s.rules 1 w nothing_held o.positional) refl
@@ -1094,8 +1269,8 @@ judged_named names modes Help name w words fault asked told is f t j =
     (subst (λ x. IsJudged Help x asked (told_of (stop_in names modes (name ∷ words)))) (sym f) (subst (λ x. IsJudged Help fault asked x) (sym t) j))
 
 -- what the words behind the first one ask for, by whether it is the name of each subcommand
-abbrev asked_if : List Text → Bool → Bool → Bool → Bool → Bool → Bool → Bool → Bool → Bool → Option Asked
-asked_if words is_audit is_audits is_explain is_draw is_solve is_format is_load is_run is_upgrade =
+abbrev asked_if : List Text → Bool → Bool → Bool → Bool → Bool → Bool → Bool → Bool → Bool → Bool → Option Asked
+asked_if words is_audit is_audits is_explain is_draw is_solve is_format is_load is_run is_upgrade is_timetable =
     if is_audit then option_map audit (paths_asked words)
     else (if is_audits then list_asked words
     else (if is_explain then option_map explain (paths_asked words)
@@ -1104,50 +1279,55 @@ asked_if words is_audit is_audits is_explain is_draw is_solve is_format is_load 
     else (if is_format then option_map format (store_asked words)
     else (if is_load then option_map load (load_asked words)
     else (if is_run then run_asked words
-    else (if is_upgrade then upgrade_asked words else None))))))))
+    else (if is_upgrade then upgrade_asked words
+    else (if is_timetable then timetable_asked words else None)))))))))
 
-judged_first : (names modes : Bor (List (Bor Text))) (w : Text) (words : List Text) (is_audit is_audits is_explain is_draw is_solve is_format is_load is_run is_upgrade : Bool)
+judged_first : (names modes : Bor (List (Bor Text))) (w : Text) (words : List Text) (is_audit is_audits is_explain is_draw is_solve is_format is_load is_run is_upgrade is_timetable : Bool)
     → bytes_eq (codes "audit") w ≡ is_audit → bytes_eq (codes "audits") w ≡ is_audits → bytes_eq (codes "explain") w ≡ is_explain → bytes_eq (codes "draw") w ≡ is_draw
-    → bytes_eq (codes "solve") w ≡ is_solve → bytes_eq (codes "format") w ≡ is_format → bytes_eq (codes "load") w ≡ is_load → bytes_eq (codes "run") w ≡ is_run → bytes_eq (codes "upgrade") w ≡ is_upgrade → IsKindNames names → IsModeNames modes → ArePositional (w ∷ words)
-    → IsJudged (asks_help (w ∷ words) ≡ true) (built_fault (the_app names modes) nothing_held (w ∷ words)) (asked_if words is_audit is_audits is_explain is_draw is_solve is_format is_load is_run is_upgrade)
+    → bytes_eq (codes "solve") w ≡ is_solve → bytes_eq (codes "format") w ≡ is_format → bytes_eq (codes "load") w ≡ is_load → bytes_eq (codes "run") w ≡ is_run → bytes_eq (codes "upgrade") w ≡ is_upgrade → bytes_eq (codes "timetable") w ≡ is_timetable → IsKindNames names → IsModeNames modes → ArePositional (w ∷ words)
+    → IsJudged (asks_help (w ∷ words) ≡ true) (built_fault (the_app names modes) nothing_held (w ∷ words)) (asked_if words is_audit is_audits is_explain is_draw is_solve is_format is_load is_run is_upgrade is_timetable)
     (told_of (stop_in names modes (w ∷ words)))
-judged_first names modes w words true is_audits is_explain is_draw is_solve is_format is_load is_run is_upgrade e1 e2 e3 e4 e5 e6 e7 e8 e9 kinds named p =
+judged_first names modes w words true is_audits is_explain is_draw is_solve is_format is_load is_run is_upgrade is_timetable e1 e2 e3 e4 e5 e6 e7 e8 e9 e10 kinds named p =
     let rest = (both_true _ _ p).1 in
     judged_named names modes _ (codes "audit") w words _ _ _ ((bytes_eq-Decides (codes "audit") w).0 e1) (audit_words_fault names modes words) (audit_stop names modes words)
     (judged_paths _ audit (codes "audit") names words kinds rest)
-judged_first names modes w words false true is_explain is_draw is_solve is_format is_load is_run is_upgrade e1 e2 e3 e4 e5 e6 e7 e8 e9 kinds named p =
+judged_first names modes w words false true is_explain is_draw is_solve is_format is_load is_run is_upgrade is_timetable e1 e2 e3 e4 e5 e6 e7 e8 e9 e10 kinds named p =
     let rest = (both_true _ _ p).1 in
     judged_named names modes _ (codes "audits") w words _ _ _ ((bytes_eq-Decides (codes "audits") w).0 e2) (audits_words_fault names modes words) (audits_stop names modes words)
     (judged_list _ names words kinds rest)
-judged_first names modes w words false false true is_draw is_solve is_format is_load is_run is_upgrade e1 e2 e3 e4 e5 e6 e7 e8 e9 kinds named p =
+judged_first names modes w words false false true is_draw is_solve is_format is_load is_run is_upgrade is_timetable e1 e2 e3 e4 e5 e6 e7 e8 e9 e10 kinds named p =
     let rest = (both_true _ _ p).1 in
     judged_named names modes _ (codes "explain") w words _ _ _ ((bytes_eq-Decides (codes "explain") w).0 e3) (explain_words_fault names modes words) (explain_stop names modes words)
     (judged_paths _ explain (codes "explain") names words kinds rest)
-judged_first names modes w words false false false true is_solve is_format is_load is_run is_upgrade e1 e2 e3 e4 e5 e6 e7 e8 e9 kinds named p =
+judged_first names modes w words false false false true is_solve is_format is_load is_run is_upgrade is_timetable e1 e2 e3 e4 e5 e6 e7 e8 e9 e10 kinds named p =
     let rest = (both_true _ _ p).1 in
     judged_named names modes _ (codes "draw") w words _ _ _ ((bytes_eq-Decides (codes "draw") w).0 e4) (draw_words_fault names modes words) (draw_stop names modes words)
     (judged_paths _ draw (codes "draw") names words kinds rest)
-judged_first names modes w words false false false false true is_format is_load is_run is_upgrade e1 e2 e3 e4 e5 e6 e7 e8 e9 kinds named p =
+judged_first names modes w words false false false false true is_format is_load is_run is_upgrade is_timetable e1 e2 e3 e4 e5 e6 e7 e8 e9 e10 kinds named p =
     let rest = (both_true _ _ p).1 in
     judged_named names modes _ (codes "solve") w words _ _ _ ((bytes_eq-Decides (codes "solve") w).0 e5) (solve_words_fault names modes words) (solve_stop names modes words)
     (judged_task _ names words kinds rest)
-judged_first names modes w words false false false false false true is_load is_run is_upgrade e1 e2 e3 e4 e5 e6 e7 e8 e9 kinds named p =
+judged_first names modes w words false false false false false true is_load is_run is_upgrade is_timetable e1 e2 e3 e4 e5 e6 e7 e8 e9 e10 kinds named p =
     let rest = (both_true _ _ p).1 in
     judged_named names modes _ (codes "format") w words _ _ _ ((bytes_eq-Decides (codes "format") w).0 e6) (format_words_fault names modes words) (format_stop names modes words)
     (judged_store _ format (codes "format") words rest)
-judged_first names modes w words false false false false false false true is_run is_upgrade e1 e2 e3 e4 e5 e6 e7 e8 e9 kinds named p =
+judged_first names modes w words false false false false false false true is_run is_upgrade is_timetable e1 e2 e3 e4 e5 e6 e7 e8 e9 e10 kinds named p =
     let rest = (both_true _ _ p).1 in
     judged_named names modes _ (codes "load") w words _ _ _ ((bytes_eq-Decides (codes "load") w).0 e7) (load_words_fault names modes words) (load_stop names modes words)
     (judged_load _ names words kinds rest)
-judged_first names modes w words false false false false false false false true is_upgrade e1 e2 e3 e4 e5 e6 e7 e8 e9 kinds named p =
+judged_first names modes w words false false false false false false false true is_upgrade is_timetable e1 e2 e3 e4 e5 e6 e7 e8 e9 e10 kinds named p =
     let rest = (both_true _ _ p).1 in
     judged_named names modes _ (codes "run") w words _ _ _ ((bytes_eq-Decides (codes "run") w).0 e8) (run_words_fault names modes words) (run_stop names modes words)
     (judged_run _ modes words named rest)
-judged_first names modes w words false false false false false false false false true e1 e2 e3 e4 e5 e6 e7 e8 e9 kinds named p =
+judged_first names modes w words false false false false false false false false true is_timetable e1 e2 e3 e4 e5 e6 e7 e8 e9 e10 kinds named p =
     let rest = (both_true _ _ p).1 in
     judged_named names modes _ (codes "upgrade") w words _ _ _ ((bytes_eq-Decides (codes "upgrade") w).0 e9) (upgrade_words_fault names modes words) (upgrade_stop names modes words)
     (judged_upgrade _ words rest)
-judged_first names modes w words false false false false false false false false false e1 e2 e3 e4 e5 e6 e7 e8 e9 kinds named p =
+judged_first names modes w words false false false false false false false false false true e1 e2 e3 e4 e5 e6 e7 e8 e9 e10 kinds named p =
+    let rest = (both_true _ _ p).1 in
+    judged_named names modes _ (codes "timetable") w words _ _ _ ((bytes_eq-Decides (codes "timetable") w).0 e10) (table_words_fault names modes words) (table_stop names modes words)
+    (judged_table _ words rest)
+judged_first names modes w words false false false false false false false false false false e1 e2 e3 e4 e5 e6 e7 e8 e9 e10 kinds named p =
     inr (
       judged_other names modes w words (bytes_eq (codes "help") w) refl (record {
         positional = (both_true _ _ p).0;
@@ -1160,6 +1340,7 @@ judged_first names modes w words false false false false false false false false
         no_load = e7;
         no_run = e8;
         no_upgrade = e9;
+        no_timetable = e10;
       }),
       refl,
     )
@@ -1170,7 +1351,7 @@ pub judged_words : (names modes : Bor (List (Bor Text))) (words : List Text) →
 judged_words names modes [] kinds named p = inl (no_words names modes, refl)
 judged_words names modes (w ∷ words) kinds named p =
     judged_first names modes w words (bytes_eq (codes "audit") w) (bytes_eq (codes "audits") w) (bytes_eq (codes "explain") w) (bytes_eq (codes "draw") w) (bytes_eq (codes "solve") w)
-    (bytes_eq (codes "format") w) (bytes_eq (codes "load") w) (bytes_eq (codes "run") w) (bytes_eq (codes "upgrade") w) refl refl refl refl refl refl refl refl refl kinds named p
+    (bytes_eq (codes "format") w) (bytes_eq (codes "load") w) (bytes_eq (codes "run") w) (bytes_eq (codes "upgrade") w) (bytes_eq (codes "timetable") w) refl refl refl refl refl refl refl refl refl refl kinds named p
 
 -- ---- the values of words
 
@@ -1240,6 +1421,10 @@ module _ (f : Found) where
   -- of `run`
   pub run_is : (w m : Option Text) → IsValue (codes "STORE") w → IsValue (codes "strict") m → run_in (rows_of f) ≡ run_with w m
   run_is w m ew em = rw (value_is f (codes "STORE") w ew, value_is f (codes "strict") m em) refl
+
+  -- of `timetable`
+  pub table_is : (a b c d : Option Text) → IsValue (codes "STORE|KIND") a → IsValue (codes "tabs|INSTANCE") b → IsValue (codes "SOLUTION") c → IsValue (codes "tabs") d → timetable_in (rows_of f) ≡ timetable_with a b c d
+  table_is a b c d ea eb ec ed = rw (value_is f (codes "STORE|KIND") a ea, value_is f (codes "tabs|INSTANCE") b eb, value_is f (codes "SOLUTION") c ec, value_is f (codes "tabs") d ed) refl
 
   -- of `load`
   pub load_is : (w k i : Option Text) → IsValue (codes "STORE") w → IsValue (codes "KIND") k → IsValue (codes "INSTANCE") i → load_in (rows_of f) ≡ load_with w k i (first_of (codes "SEED") (rows_of f))
@@ -1335,6 +1520,9 @@ other_name name w n = is_not (bytes_eq name w) (λ e. n (sym ((bytes_eq-Decides 
 
 pub told_other : (w : Text) (rows : List Row) → (w ≡ codes "audit" → ⊥) → (w ≡ codes "explain" → ⊥) → (w ≡ codes "draw" → ⊥) → told_by w rows ≡ told_by_other w rows
 told_other w rows a e d = rw (other_name (codes "audit") w a, other_name (codes "explain") w e, other_name (codes "draw") w d) refl
+
+pub told_store : (w : Text) (rows : List Row) → (w ≡ codes "audits" → ⊥) → (w ≡ codes "solve" → ⊥) → (w ≡ codes "timetable" → ⊥) → told_by_other w rows ≡ told_of_store w rows
+told_store w rows a s t = rw (other_name (codes "audits") w a, other_name (codes "solve") w s, other_name (codes "timetable") w t) refl
 
 pub told_run : (w : Text) (rows : List Row) → (w ≡ codes "format" → ⊥) → (w ≡ codes "load" → ⊥) → (w ≡ codes "upgrade" → ⊥) → told_of_store w rows ≡ run_in rows
 told_run w rows f l u = rw (other_name (codes "format") w f, other_name (codes "load") w l, other_name (codes "upgrade") w u) refl

@@ -12,7 +12,7 @@ use Rattle.command_text.specs.Asking.{field_in}
 use Rattle.text_lines.specs.Numbers.{below, digits_of}
 use Rattle.command_line.specs.declared.words.Paths.{Paths}
 use Rattle.command_line.specs.declared.words.Invocation.{Invocation}
-use Rattle.command_line.specs.declared.words.Invocation.TheVariants.{Audit, Audits, BuiltIn, Draw, Explain, Format, Load, Run, Solve, Upgrade}
+use Rattle.command_line.specs.declared.words.Invocation.TheVariants.{Audit, Audits, BuiltIn, Draw, Explain, Format, Load, Run, Solve, StoreTimetable, Timetable, Upgrade}
 use Rattle.command_line.specs.declared.words.Loading.{Loading}
 use Rattle.command_line.specs.declared.words.Task.{Task}
 
@@ -39,7 +39,7 @@ pub record LoadAsked : Type 0 where
 
 -- The audit of the two built-in texts, or of two files; the audits of a list; the audit of two files with what it rests on, or the picture
 -- of the solution; the solving of an instance; a store made in a file, an instance loaded into one, or commands over one; a store made of an
--- old one.
+-- old one; the timetable of a solution, or of the plan in a store, by tabs or in columns.
 pub data Asked : Type 0 where
   built_in : Asked
   audit : PathsAsked → Asked
@@ -51,6 +51,8 @@ pub data Asked : Type 0 where
   load : LoadAsked → Asked
   run : Text → Bool → Asked
   upgrade : Text → Text → Asked
+  timetable : PathsAsked → Bool → Asked
+  store_timetable : Text → Bool → Asked
 
 abbrev pub paths_of : Paths → PathsAsked
 paths_of paths = record { kind = paths.kind; instance = paths.instance.now; solution = paths.solution.now }
@@ -72,6 +74,8 @@ asked_of (Format store) = format store.now
 asked_of (Load loading) = load (load_of loading)
 asked_of (Run store is_strict) = run store.now is_strict
 asked_of (Upgrade old new) = upgrade old.now new.now
+asked_of (Timetable paths is_tabbed) = timetable (paths_of paths) is_tabbed
+asked_of (StoreTimetable store is_tabbed) = store_timetable store.now is_tabbed
 
 -- the kind of instance that a word names
 abbrev pub kind_named : Text → Option Kind
@@ -147,6 +151,28 @@ abbrev pub upgrade_asked : List Text → Option Asked
 upgrade_asked (old ∷ new ∷ []) = Some (upgrade old new)
 upgrade_asked _ = None
 
+-- whether a last word asks for tabs; no other word may stand there
+abbrev pub tabs_named : Option Text → Option Bool
+tabs_named None = Some false
+tabs_named (Some word) = if bytes_eq (codes "tabs") word then Some true else None
+
+-- `STORE [tabs]`
+abbrev pub store_timetable_from : Text → Option Text → Option Asked
+store_timetable_from store last = option_map (store_timetable store) (tabs_named last)
+
+-- `KIND INSTANCE SOLUTION [tabs]`
+abbrev pub timetable_from : Option Kind → Text → Text → Option Bool → Option Asked
+timetable_from (Some kind) instance solution (Some is_tabbed) = Some (timetable (record { kind = kind; instance = instance; solution = solution }) is_tabbed)
+timetable_from _ _ _ _ = None
+
+-- one or two words of a store, three or four of a solution
+abbrev pub timetable_asked : List Text → Option Asked
+timetable_asked (store ∷ []) = store_timetable_from store None
+timetable_asked (store ∷ last ∷ []) = store_timetable_from store (Some last)
+timetable_asked (kind ∷ instance ∷ solution ∷ []) = timetable_from (kind_named kind) instance solution (tabs_named None)
+timetable_asked (kind ∷ instance ∷ solution ∷ last ∷ []) = timetable_from (kind_named kind) instance solution (tabs_named (Some last))
+timetable_asked _ = None
+
 -- what the command of this name asks for with these words; no other has this name
 abbrev pub asked_with : List Text → Text → Option Asked
 asked_with words command = if bytes_eq (codes "audit") command then option_map audit (paths_asked words)
@@ -157,7 +183,8 @@ asked_with words command = if bytes_eq (codes "audit") command then option_map a
     else (if bytes_eq (codes "format") command then option_map format (store_asked words)
     else (if bytes_eq (codes "load") command then option_map load (load_asked words)
     else (if bytes_eq (codes "run") command then run_asked words
-    else (if bytes_eq (codes "upgrade") command then upgrade_asked words else None))))))))
+    else (if bytes_eq (codes "upgrade") command then upgrade_asked words
+    else (if bytes_eq (codes "timetable") command then timetable_asked words else None)))))))))
 
 -- no words, or a command with its own
 abbrev pub asked_by : List Text → Option Asked
@@ -219,6 +246,16 @@ upgrade_from _ _ = None
 abbrev pub upgrade_in : List Row → Option Asked
 upgrade_in rows = upgrade_from (first_of (codes "OLD") rows) (first_of (codes "NEW") rows)
 
+-- those of `STORE [tabs]`, or of `KIND INSTANCE SOLUTION [tabs]`
+abbrev pub timetable_with : Option Text → Option Text → Option Text → Option Text → Option Asked
+timetable_with None _ _ _ = None
+timetable_with (Some store) None _ _ = store_timetable_from store None
+timetable_with (Some store) (Some last) None _ = store_timetable_from store (Some last)
+timetable_with (Some kind) (Some instance) (Some solution) last = timetable_from (kind_named kind) instance solution (tabs_named last)
+
+abbrev pub timetable_in : List Row → Option Asked
+timetable_in rows = timetable_with (first_of (codes "STORE|KIND") rows) (first_of (codes "tabs|INSTANCE") rows) (first_of (codes "SOLUTION") rows) (first_of (codes "tabs") rows)
+
 -- what `format`, `load`, `upgrade` or `run` asks for
 abbrev pub told_of_store : Text → List Row → Option Asked
 told_of_store name rows =
@@ -226,11 +263,12 @@ told_of_store name rows =
     else (if bytes_eq (codes "load") name then option_map load (load_in rows)
     else (if bytes_eq (codes "upgrade") name then upgrade_in rows else run_in rows))
 
--- what a subcommand asks for that takes no solution; there is no other one than these
+-- what a subcommand asks for whose words are not `KIND INSTANCE SOLUTION`; there is no other one than these
 abbrev pub told_by_other : Text → List Row → Option Asked
 told_by_other name rows =
     if bytes_eq (codes "audits") name then list_in rows
-    else (if bytes_eq (codes "solve") name then option_map solve (task_in rows) else told_of_store name rows)
+    else (if bytes_eq (codes "solve") name then option_map solve (task_in rows)
+    else (if bytes_eq (codes "timetable") name then timetable_in rows else told_of_store name rows))
 
 -- what the subcommand of this name asks for
 abbrev pub told_by : Text → List Row → Option Asked

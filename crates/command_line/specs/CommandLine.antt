@@ -54,6 +54,12 @@ load_app names =
 abbrev pub upgrade_app : App
 upgrade_app = with_rule (with_rule (new_app (codes "upgrade")) (word_rule (codes "OLD"))) (word_rule (codes "NEW"))
 
+-- `timetable STORE [tabs]` or `timetable KIND INSTANCE SOLUTION [tabs]`
+abbrev pub timetable_app : App
+timetable_app =
+    let two = with_rule (with_rule (new_app (codes "timetable")) (word_rule (codes "STORE|KIND"))) (new_rule (codes "tabs|INSTANCE")) in
+    with_rule (with_rule two (new_rule (codes "SOLUTION"))) (new_rule (codes "tabs"))
+
 -- a command that tells its version
 abbrev pub versioned_app : Text → App
 versioned_app name = on_top (λ s. record s { has_version = true }) (new_app name)
@@ -64,7 +70,8 @@ planner_app names modes =
     let audit = with_subcommand (versioned_app (codes "planner")) (paths_app (codes "audit") names).top in
     let audits = with_subcommand audit (audits_app names).top in
     let explain = with_subcommand audits (paths_app (codes "explain") names).top in
-    let draw = with_subcommand explain (paths_app (codes "draw") names).top in
+    let timetable = with_subcommand explain timetable_app.top in
+    let draw = with_subcommand timetable (paths_app (codes "draw") names).top in
     let solve = with_subcommand draw (solve_app names).top in
     let format = with_subcommand solve (store_app (codes "format")).top in
     let load = with_subcommand format (load_app names).top in

@@ -97,6 +97,27 @@ pub(crate) const EXPLAIN_ANSWERS: &str =
     instance or solution  what the fault means, and the line that has it (status 2)\n\n\
     `cannot read PATH` (status 3) and `out of memory` (status 4) stand alone.";
 
+pub(crate) const TIMETABLE_ABOUT: &str =
+    "Tells when each vehicle of a store's plan or of a solution is where";
+
+pub(crate) const TIMETABLE_ANSWERS: &str =
+    "Its words are STORE [tabs] or KIND INSTANCE SOLUTION [tabs]. It prints the line of `audit`, with its status,\n\
+    and under it a block for each vehicle that is used, with a line for each stop:\n  \
+    place stop kind partner    its place in the route, and what it is; partner is the other stop of its pair\n  \
+    arrival start waiting      when the vehicle comes, starts, and how long it waits\n  \
+    latest                     the latest start from which nothing from there on is late; - where the route breaks a rule\n  \
+    load                       what it carries then\n  \
+    pin                        `pin VEHICLE PLACE` is taken here (a line of `run`)\n\
+    and then `unplanned R` for each request in no route. A .vrp instance has no times but arrivals.\n\n\
+    By `tabs` the fields have tabs between them, `-` stands for nothing, and each line begins with what it is of:\n  \
+    vehicle    VEHICLE STOPS DISTANCE LOAD START RETURN WAITING\n  \
+    stop       VEHICLE PLACE STOP KIND PARTNER ARRIVAL START WAITING LATEST LOAD PIN\n  \
+    unplanned  REQUEST\n\n\
+    Where a stop is unknown or stands twice, and where a text or a store is refused, the first line stands alone:\n  \
+    instance NAME LINE, solution NAME LINE, cannot read PATH, out of memory    as of `audit`\n  \
+    store NAME       why the store was not opened, as `run` tells it (status 2, 3 or 4)\n  \
+    no NoInstance    nothing was loaded into the store (status 2)";
+
 pub(crate) const DRAW_ABOUT: &str = "Draws a solution as a picture, in SVG";
 
 pub(crate) const DRAW_ANSWERS: &str =

@@ -16,8 +16,8 @@
 //! (`ArePositional`): what the words ask for comes (`asked_by`); an error, other than for want of memory, only
 //! where they ask for nothing, and it is told as a mistake but where they ask for help (`ReadsWords`).
 //!
-//! `read_words` and `Invocation` are public since what words ask for is said there; `run_words` can only say which
-//! statuses there are.
+//! `read_words` and `Invocation` are public since what words ask for is said there; `run_words` of `planner_cli` says what is
+//! then done.
 #![tactic(auto)]
 
 mod help;

@@ -5,13 +5,14 @@
 ghost use Rattle.std.specs.Prelude.{◌≡◌, Some, IfOk, codes, drop, map, option_and_then, option_map};
 ghost use Rattle.clap.specs.Words.{App, Rule, app_of, first_of, found_of, kind_of, new_rule, rows_of, subcommand_rows_of, with_rule, with_subcommand};
 ghost use Rattle.command_text.specs.Asking.{field_in};
-ghost use Rattle.command_line.specs.Asked.{ArePositional, ReadsWords, asked_of, paths_in, paths_of, run_in, kind_named, list_in, load_in, load_of, deviation_or_none, seed_named, seed_or_none, steps_named, store_in, task_in, task_of, told_by, told_by_other, told_of, told_of_store, upgrade_in};
-ghost use Rattle.command_line.specs.CommandLine.{IsKindNames, IsLeafCommand, IsModeNames, IsPlannerCommand, IsWord, audits_app, load_app, mode_rule, paths_app, kind_rule, run_app, solve_app, store_app, upgrade_app, word_rule};
+ghost use Rattle.command_line.specs.Asked.{ArePositional, ReadsWords, asked_of, paths_in, paths_of, run_in, kind_named, list_in, load_in, load_of, deviation_or_none, seed_named, seed_or_none, steps_named, store_in, store_timetable_from, tabs_named, task_in, task_of, timetable_from, timetable_in, told_by, told_by_other, told_of, told_of_store, upgrade_in};
+ghost use Rattle.command_line.specs.CommandLine.{IsKindNames, IsLeafCommand, IsModeNames, IsPlannerCommand, IsWord, audits_app, load_app, mode_rule, paths_app, kind_rule, run_app, solve_app, store_app, timetable_app, upgrade_app, word_rule};
 
 use crate::help::{
     ABOUT, AUDIT_ABOUT, AUDIT_ANSWERS, AUDITS_ABOUT, AUDITS_ANSWERS, DRAW_ABOUT, DRAW_ANSWERS,
     EXPLAIN_ABOUT, EXPLAIN_ANSWERS, FORMAT_ABOUT, FORMAT_ANSWERS, LOAD_ABOUT, LOAD_ANSWERS,
-    RUN_ABOUT, SOLVE_ABOUT, SOLVE_ANSWERS, STATUSES, UPGRADE_ABOUT, UPGRADE_ANSWERS, VERSION,
+    RUN_ABOUT, SOLVE_ABOUT, SOLVE_ANSWERS, STATUSES, TIMETABLE_ABOUT, TIMETABLE_ANSWERS,
+    UPGRADE_ABOUT, UPGRADE_ANSWERS, VERSION,
 };
 use clap::error::ErrorKind;
 use clap::{Arg, ArgMatches, Command, Error};
@@ -75,6 +76,10 @@ pub enum Invocation<'a> {
     Run { store: &'a str, is_strict: bool },
     /// `upgrade OLD NEW`: a store in the file NEW, of the state that the store of version 1 in OLD stands for.
     Upgrade { old: &'a str, new: &'a str },
+    /// `timetable KIND INSTANCE SOLUTION [tabs]`: when each vehicle of a solution is where; by `tabs` for programs.
+    Timetable { paths: Paths<'a>, is_tabbed: bool },
+    /// `timetable STORE [tabs]`: the same of the plan in the store in this file.
+    StoreTimetable { store: &'a str, is_tabbed: bool },
 }
 
 /// The greatest number of steps.
@@ -87,6 +92,9 @@ const BAD_STEPS: &str =
     "STEPS and DEVIATION are 0 to 1000000000 and SEED 0 to 18446744073709551615, in digits alone";
 
 const BAD_SEED: &str = "SEED is 0 to 18446744073709551615, in digits alone";
+
+const BAD_TIMETABLE: &str =
+    "the words are STORE [tabs] or KIND INSTANCE SOLUTION [tabs], and KIND is lilim or vrp";
 
 static KIND_WORDS: [&str; 2] = ["lilim", "vrp"];
 
@@ -105,18 +113,22 @@ pub fn read_words<'a, S: AsStr>(alloc: Global, words: &'a [S]) -> Result<Invocat
     let matches = planner_command(alloc)?.try_get_matches_from(words)?;
     match asked_words(&matches) {
         Some(invocation) => Ok(invocation),
-        None => Err(bad_number(alloc, &matches)?),
+        None => Err(bad_words(alloc, &matches)?),
     }
 }
 
-// The error for words that the parser let pass, with the usage of their command: a number is none, or too great.
-fn bad_number(alloc: Global, matches: &ArgMatches<'_>) -> Result<Error, OutOfMemory>
+// The error for words that the parser let pass, with the usage of their command: a number is none, or too great, or the words
+// of a timetable are of no store and no solution.
+fn bad_words(alloc: Global, matches: &ArgMatches<'_>) -> Result<Error, OutOfMemory>
     ensures { IfOk result (λ error. kind_of error ≡ ErrorKind.InvalidValue) }
 {
     match matches.subcommand_name() {
         Some("load") => load_command(alloc, kind_names())?
             .bin_name("planner load")?
             .error(ErrorKind::InvalidValue, BAD_SEED),
+        Some("timetable") => timetable_command(alloc)?
+            .bin_name("planner timetable")?
+            .error(ErrorKind::InvalidValue, BAD_TIMETABLE),
         _ => solve_command(alloc, kind_names())?
             .bin_name("planner solve")?
             .error(ErrorKind::InvalidValue, BAD_STEPS),
@@ -136,6 +148,7 @@ fn planner_command<'a>(alloc: Global) -> Result<Command<'a>, OutOfMemory>
     let planner = with_command(planner, audits_command(alloc, kinds)?)?;
     let explain = paths_command(alloc, "explain", EXPLAIN_ABOUT, EXPLAIN_ANSWERS, kinds)?;
     let planner = with_command(planner, explain)?;
+    let planner = with_command(planner, timetable_command(alloc)?)?;
     let draw = paths_command(alloc, "draw", DRAW_ABOUT, DRAW_ANSWERS, kinds)?;
     let planner = with_command(planner, draw)?;
     let planner = with_command(planner, solve_command(alloc, kinds)?)?;
@@ -201,6 +214,18 @@ fn upgrade_command<'a>(alloc: Global) -> Result<Command<'a>, OutOfMemory>
         .after_help(UPGRADE_ANSWERS);
     let command = with_word(command, word(alloc, "OLD", "The file of the old store"))?;
     with_word(command, word(alloc, "NEW", "The file of the new store"))
+}
+
+fn timetable_command<'a>(alloc: Global) -> Result<Command<'a>, OutOfMemory>
+    ensures { IfOk result (IsLeafCommand timetable_app) }
+{
+    let command = Command::new(alloc, "timetable")
+        .about(TIMETABLE_ABOUT)
+        .after_help(TIMETABLE_ANSWERS);
+    let command = with_word(command, word(alloc, "STORE|KIND", "A store, or a format"))?;
+    let command = with_word(command, second_word(alloc))?;
+    let command = with_word(command, solution_word(alloc))?;
+    with_word(command, tabs_word(alloc))
 }
 
 // A command of the words `KIND INSTANCE SOLUTION`.
@@ -292,6 +317,24 @@ fn deviation_word<'a>(alloc: Global) -> Arg<'a>
     )
 }
 
+fn second_word<'a>(alloc: Global) -> Arg<'a>
+    ensures { IsWord (new_rule (codes "tabs|INSTANCE")) result }
+{
+    Arg::new(alloc, "tabs|INSTANCE").help("Behind a store `tabs`; behind a format the instance")
+}
+
+fn solution_word<'a>(alloc: Global) -> Arg<'a>
+    ensures { IsWord (new_rule (codes "SOLUTION")) result }
+{
+    Arg::new(alloc, "SOLUTION").help("The file of the solution; - is standard input")
+}
+
+fn tabs_word<'a>(alloc: Global) -> Arg<'a>
+    ensures { IsWord (new_rule (codes "tabs")) result }
+{
+    Arg::new(alloc, "tabs").help("Fields with tabs between them, without headings")
+}
+
 // A word that has to stand there.
 fn word<'a>(alloc: Global, name: &'a str, help: &'a str) -> Arg<'a>
     ensures { IsWord (word_rule name.entry.now) result }
@@ -337,13 +380,14 @@ fn command_words<'a>(name: &str, words: &ArgMatches<'a>) -> Option<Invocation<'a
     }
 }
 
-// What the words behind the name of a command ask for that takes no solution.
+// What the words behind the name of a command ask for whose words are not `KIND INSTANCE SOLUTION`.
 fn other_words<'a>(name: &str, words: &ArgMatches<'a>) -> Option<Invocation<'a>>
     ensures { option_map asked_of result ≡ told_by_other name.now (rows_of (found_of words.now)) }
 {
     match name {
         "audits" => list_words(words),
         "solve" => Some(Invocation::Solve(task_words(words)?)),
+        "timetable" => timetable_words(words),
         _ => store_words(name, words),
     }
 }
@@ -387,6 +431,65 @@ fn upgrade_words<'a>(matches: &ArgMatches<'a>) -> Option<Invocation<'a>>
     let old = matches.get_str("OLD")?;
     let new = matches.get_str("NEW")?;
     Some(Invocation::Upgrade { old, new })
+}
+
+// One or two words are of a store, three or four of a solution; `None` where they are of neither.
+fn timetable_words<'a>(matches: &ArgMatches<'a>) -> Option<Invocation<'a>>
+    ensures { option_map asked_of result ≡ timetable_in (rows_of (found_of matches.now)) }
+{
+    let first = matches.get_str("STORE|KIND")?;
+    match matches.get_str("tabs|INSTANCE") {
+        None => store_timetable(first, None),
+        Some(second) => match matches.get_str("SOLUTION") {
+            None => store_timetable(first, Some(second)),
+            Some(solution) => {
+                solution_timetable(first, second, solution, matches.get_str("tabs"))
+            }
+        },
+    }
+}
+
+// `None` where the last word is not `tabs`.
+fn store_timetable<'a>(store: &'a str, last: Option<&'a str>) -> Option<Invocation<'a>>
+    ensures { option_map asked_of result
+        ≡ store_timetable_from store.now (option_map (λ w. w.now) last.entry) }
+{
+    let is_tabbed = tabs_of_word(last)?;
+    Some(Invocation::StoreTimetable { store, is_tabbed })
+}
+
+// `None` where the first word names no kind, or the last one is not `tabs`.
+fn solution_timetable<'a>(
+    kind: &'a str,
+    instance: &'a str,
+    solution: &'a str,
+    last: Option<&'a str>,
+) -> Option<Invocation<'a>>
+    ensures { option_map asked_of result
+        ≡ timetable_from (kind_named kind.now) instance.now solution.now
+        (tabs_named (option_map (λ w. w.now) last.entry)) }
+{
+    let kind = kind_of_word(kind)?;
+    let is_tabbed = tabs_of_word(last)?;
+    Some(Invocation::Timetable {
+        paths: Paths {
+            kind,
+            instance,
+            solution,
+        },
+        is_tabbed,
+    })
+}
+
+// Whether a last word asks for tabs; `None` where it is another one.
+fn tabs_of_word(word: Option<&str>) -> Option<bool>
+    ensures { result ≡ tabs_named (option_map (λ w. w.now) word.entry) }
+{
+    match word {
+        None => Some(false),
+        Some("tabs") => Some(true),
+        Some(_) => None,
+    }
 }
 
 // The path of the store, or `None` where it is missing.

@@ -1,15 +1,15 @@
 //! The program `planner`: plans pickup and delivery routing and capacitated routing, over a store that outlasts a
 //! stop or at once, and audits plans.
 //!
-//! All that it does is `planner_cli::run_words`. `main` hands on the words and standard error, and names `Unknown`,
-//! which stands for what no code can know: what a store's file is as it is opened. A word that is not UTF-8 ends
+//! All that it does is `planner_cli::run_words`. `main` hands on the words, the files and the standard streams, and names
+//! `Unknown`, which stands for what no code can know: what a store's file is as it is opened. A word that is not UTF-8 ends
 //! with 64 and a text of our own, since std's arguments and paths, and `clap`'s words, are `str`.
 //!
 //! The system gives the number of a standard stream that is closed to the next file that is opened. Were that a store, what is
 //! printed would overwrite it; so each such number is taken first.
 #![tactic(auto)]
 
-use planner_cli::{run_words, status};
+use planner_cli::{HostFiles, Streams, Watched, run_words, status};
 use sector_disk::Unknown;
 use std::env::Env;
 use std::fs::File;
@@ -29,10 +29,22 @@ fn main(rt: HostRuntime) -> ExitCode {
         Err(error) => return ExitCode::from(unopened_status(error.kind())),
     };
     let status = match words_of(&rt) {
-        Ok(words) => run_words(&rt, Unknown, Unknown, &mut rt.stderr(), words.as_slice()),
+        Ok(words) => status_of(&rt, words.as_slice()),
         Err(status) => status,
     };
     ExitCode::from(status)
+}
+
+// Does what the words ask for, over the system's files and the standard streams.
+fn status_of(rt: &HostRuntime, words: &[String]) -> u8 {
+    let mut files = HostFiles::new(rt);
+    let streams = Streams {
+        input: Watched::new(rt.reader()),
+        output: Watched::new(io::writer(rt)),
+        errors: rt.stderr(),
+    };
+    let (status, _streams) = run_words(rt, Unknown, Unknown, &mut files, streams, words);
+    status
 }
 
 // A file for each standard stream that is closed. It is a folder, which can be opened everywhere and neither written nor read.

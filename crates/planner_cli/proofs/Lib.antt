@@ -1,4 +1,4 @@
-pub mod AnyLemmas
+pub mod ListLemmas
 pub mod OpenLemmas
 pub mod SpelledLemmas
 pub mod StopLemmas

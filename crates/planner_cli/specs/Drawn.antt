@@ -1,6 +1,5 @@
 -- What is told of a drawing.
 use Rattle.std.specs.Prelude.{◌≡◌, ◌⊎◌, ℕ, List, [], codes, Option, Result, Ok, Err, IfOk}
-use Rattle.std.specs.Borrow.{Bor}
 use Rattle.std.specs.Io.KnownBytes.{Appends}
 use Rattle.std.specs.declared.alloc.AllocError.{AllocError}
 use Rattle.std.specs.declared.io.ErrorKind.{ErrorKind}
@@ -8,6 +7,7 @@ use Rattle.plan_types.specs.declared.requests.Kind.{Kind}
 use Rattle.plan_picture.specs.Picture.{picture}
 use Rattle.planner_cli.specs.Examined.{IsExamined, answer_of}
 use Rattle.planner_cli.specs.Files.{AreBothRead, IsUnread}
+use Rattle.planner_cli.specs.Reads.{FileRead}
 use Rattle.command_text.specs.Answers.{line}
 use Rattle.planner_cli.specs.Telling.{TellsUnread}
 use Rattle.planner_cli.specs.declared.audit.Examined.{Examined}
@@ -37,23 +37,23 @@ abbrev pub TellsResult : {E : Type 0} → Result Drawing E → Option (List ℕ)
 TellsResult (Ok drawing) output after errors later status = TellsDrawing drawing output after errors later status
 TellsResult (Err e) output after errors later status = (status ≡ 4) × Appends errors later (line (codes "out of memory")) × Appends output after []
 
-module _ {V E : Type 0} (post : Bor (List ℕ) → Result V E → Type 0) (items : V → List ℕ) (kind : E → ErrorKind) (k : Kind) where
-  -- two texts are read, and the solution is drawn
-  pub record TellsBoth (instance solution : List ℕ) (output after errors later : Option (List ℕ)) (status : ℕ) : Type 0 where
-    pub x : V
-    pub y : V
-    pub read : AreBothRead post instance solution x y
-    pub drawn : Result Drawing AllocError
-    pub draws : IfOk drawn (IsDrawing k (items x) (items y))
-    pub told : TellsResult drawn output after errors later status
+-- two texts are read, and the solution is drawn
+pub record TellsBoth (k : Kind) (instance solution : List ℕ) (was now : List FileRead) (output after errors later : Option (List ℕ)) (status : ℕ) : Type 0 where
+  pub x : List ℕ
+  pub y : List ℕ
+  pub read : AreBothRead instance solution x y was now
+  pub drawn : Result Drawing AllocError
+  pub draws : IfOk drawn (IsDrawing k x y)
+  pub told : TellsResult drawn output after errors later status
 
-  -- or one can't be read
-  pub record TellsNotRead (instance solution : List ℕ) (output after errors later : Option (List ℕ)) (status : ℕ) : Type 0 where
-    pub path : List ℕ
-    pub error : ErrorKind
-    pub unread : IsUnread post kind instance solution path error
-    pub told : TellsUnread path error errors later status
-    pub silent : Appends output after []
+-- or one can't be read
+pub record TellsNotRead (instance solution : List ℕ) (was now : List FileRead) (output after errors later : Option (List ℕ)) (status : ℕ) : Type 0 where
+  pub path : List ℕ
+  pub error : ErrorKind
+  pub unread : IsUnread instance solution path error was now
+  pub told : TellsUnread path error errors later status
+  pub silent : Appends output after []
 
-  abbrev pub TellsDrawn : List ℕ → List ℕ → Option (List ℕ) → Option (List ℕ) → Option (List ℕ) → Option (List ℕ) → ℕ → Type 0
-  TellsDrawn instance solution output after errors later status = TellsBoth instance solution output after errors later status ⊎ TellsNotRead instance solution output after errors later status
+abbrev pub TellsDrawn : Kind → List ℕ → List ℕ → List FileRead → List FileRead → Option (List ℕ) → Option (List ℕ) → Option (List ℕ) → Option (List ℕ) → ℕ → Type 0
+TellsDrawn k instance solution was now output after errors later status =
+    TellsBoth k instance solution was now output after errors later status ⊎ TellsNotRead instance solution was now output after errors later status

@@ -1,6 +1,5 @@
 -- What is told of an audit that is explained.
 use Rattle.std.specs.Prelude.{◌≡◌, ◌⊎◌, ℕ, List, ◌++◌, codes, string_bytes, Option, Result, Ok, Err, IfOk}
-use Rattle.std.specs.Borrow.{Bor}
 use Rattle.std.specs.Io.KnownBytes.{Appends}
 use Rattle.std.specs.declared.alloc.AllocError.{AllocError}
 use Rattle.std.specs.declared.io.ErrorKind.{ErrorKind}
@@ -10,6 +9,7 @@ use Rattle.plan_explain.specs.Refused.{TellsFault}
 use Rattle.planner_cli.specs.Answer.{IsAnswer}
 use Rattle.planner_cli.specs.Examined.{IsExamined, answer_of}
 use Rattle.planner_cli.specs.Files.{AreBothRead, IsUnread}
+use Rattle.planner_cli.specs.Reads.{FileRead}
 use Rattle.command_text.specs.Answers.{line}
 use Rattle.planner_cli.specs.Telling.{TellsUnread}
 use Rattle.planner_cli.specs.declared.audit.Examined.{Examined}
@@ -41,23 +41,23 @@ explanation_status (Err e) = 4
 abbrev pub TellsExplanation : {E : Type 0} → Result Explanation E → Option (List ℕ) → Option (List ℕ) → ℕ → Type 0
 TellsExplanation explained before after status = (status ≡ explanation_status explained) × Appends before after (explanation_text explained)
 
-module _ {V E : Type 0} (post : Bor (List ℕ) → Result V E → Type 0) (items : V → List ℕ) (kind : E → ErrorKind) (k : Kind) where
-  -- two texts are read and explained: the answer is that of their audit
-  pub record TellsBoth (instance solution : List ℕ) (before after : Option (List ℕ)) (status : ℕ) : Type 0 where
-    pub x : V
-    pub y : V
-    pub read : AreBothRead post instance solution x y
-    pub explained : Result Explanation AllocError
-    pub answers : IfOk explained (λ explanation. IsAnswer k (items x) (items y) explanation.answer)
-    pub explains : IfOk explained (IsExplanation k (items x) (items y))
-    pub told : TellsExplanation explained before after status
+-- two texts are read and explained: the answer is that of their audit
+pub record TellsBoth (k : Kind) (instance solution : List ℕ) (was now : List FileRead) (before after : Option (List ℕ)) (status : ℕ) : Type 0 where
+  pub x : List ℕ
+  pub y : List ℕ
+  pub read : AreBothRead instance solution x y was now
+  pub explained : Result Explanation AllocError
+  pub answers : IfOk explained (λ explanation. IsAnswer k x y explanation.answer)
+  pub explains : IfOk explained (IsExplanation k x y)
+  pub told : TellsExplanation explained before after status
 
-  -- or one can't be read
-  pub record TellsNotRead (instance solution : List ℕ) (before after : Option (List ℕ)) (status : ℕ) : Type 0 where
-    pub path : List ℕ
-    pub error : ErrorKind
-    pub unread : IsUnread post kind instance solution path error
-    pub told : TellsUnread path error before after status
+-- or one can't be read
+pub record TellsNotRead (instance solution : List ℕ) (was now : List FileRead) (before after : Option (List ℕ)) (status : ℕ) : Type 0 where
+  pub path : List ℕ
+  pub error : ErrorKind
+  pub unread : IsUnread instance solution path error was now
+  pub told : TellsUnread path error before after status
 
-  abbrev pub TellsExplained : List ℕ → List ℕ → Option (List ℕ) → Option (List ℕ) → ℕ → Type 0
-  TellsExplained instance solution before after status = TellsBoth instance solution before after status ⊎ TellsNotRead instance solution before after status
+abbrev pub TellsExplained : Kind → List ℕ → List ℕ → List FileRead → List FileRead → Option (List ℕ) → Option (List ℕ) → ℕ → Type 0
+TellsExplained k instance solution was now before after status =
+    TellsBoth k instance solution was now before after status ⊎ TellsNotRead instance solution was now before after status

@@ -1,22 +1,25 @@
 -- what public contracts reach
 pub mod Answer
 pub mod AnswerText
-pub mod Statuses
-pub mod Recovering
-pub mod Running
-pub mod Telling
-pub use Rattle.command_line.specs.Asked
-pub use Rattle.command_serving.specs.Served
-pub use Rattle.command_serving.specs.Streams
--- of private functions alone
 pub mod Drawn
 pub mod Examined
 pub mod Explained
 pub mod Files
-pub mod Foretold
 pub mod Formatting
 pub mod Listed
 pub mod Loading
+pub mod Program
+pub mod Reads
+pub mod Recovering
+pub mod Running
 pub mod Solving
+pub mod Statuses
+pub mod Telling
+pub mod Timetabled
 pub mod Upgrading
-pub mod Whatever
+pub use Rattle.command_line.specs.Asked
+pub use Rattle.command_serving.specs.Served
+pub use Rattle.command_serving.specs.Streams
+-- of private functions alone
+pub mod Foretold
+pub mod Noted

@@ -1,6 +1,5 @@
 -- What the word `load` does: it reads an instance, and begins the store in a file with it, which it makes where there is none.
-use Rattle.std.specs.Prelude.{◌≡◌, ◌⊎◌, ℕ, Bool, true, false, List, codes, Option, Some, Result, MatchResult, OnOk}
-use Rattle.std.specs.Borrow.{Bor}
+use Rattle.std.specs.Prelude.{◌≡◌, ◌⊎◌, ℕ, Bool, true, false, List, ◌∷◌, codes, Option, Some, Result, Ok, Err, MatchResult, OnOk}
 use Rattle.std.specs.Io.KnownBytes.{Appends}
 use Rattle.std.specs.declared.io.ErrorKind.{ErrorKind}
 use Rattle.plan_types.specs.Instance.{Instance}
@@ -17,7 +16,7 @@ use Rattle.command_core.specs.declared.states.State.TheVariants.{Empty, Loaded}
 use Rattle.command_line.specs.Asked.{LoadAsked}
 use Rattle.command_text.specs.Answers.{line}
 use Rattle.command_text.specs.Readings.{InstanceFault, SpellsInstance}
-use Rattle.planner_cli.specs.Files.{Gave}
+use Rattle.planner_cli.specs.Reads.{FileRead}
 use Rattle.planner_cli.specs.Formatting.{IsFormatted}
 use Rattle.planner_cli.specs.Running.{OpensDevice, TellsFault}
 use Rattle.planner_cli.specs.Telling.{TellsAnswered, TellsInstanceFault, TellsUnread, format_line, format_status, open_line, open_status}
@@ -97,8 +96,8 @@ module _ {D E : Type 0} (on_old : sectors.Ghosts D) (on_new : sectors.Ghosts E) 
       × MatchResult found (λ problem. SpellsInstance asked.kind text problem × BeginsStore asked.store (Load problem asked.seed) before after status)
       (λ fault. TellsFirstFault (InstanceFault asked.kind text) fault × TellsInstanceFault fault before after status)
 
-  -- so it is with the text in a file, or that can't be read
-  abbrev pub TellsLoad : {V F : Type 0} → (Bor (List ℕ) → Result V F → Type 0) → (V → List ℕ) → (F → ErrorKind) → LoadAsked → Option (List ℕ) → Option (List ℕ) → ℕ → Type 0
-  TellsLoad {V} {F} post items kind asked before after status =
-      (given : Result V F) × Gave post asked.instance given
-      × MatchResult given (λ x. LoadsText asked (items x) before after status) (λ e. TellsUnread asked.instance (kind e) before after status)
+  -- so it is with the text in a file, which is read first, or that can't be read
+  abbrev pub TellsLoad : LoadAsked → List FileRead → List FileRead → Option (List ℕ) → Option (List ℕ) → ℕ → Type 0
+  TellsLoad asked was now before after status =
+      ((x : List ℕ) × (now ≡ (asked.instance, Ok x) ∷ was) × LoadsText asked x before after status)
+      ⊎ ((error : ErrorKind) × (now ≡ (asked.instance, Err error) ∷ was) × TellsUnread asked.instance error before after status)

@@ -1,6 +1,5 @@
 -- What is told of a solving.
-use Rattle.std.specs.Prelude.{◌≡◌, ℕ, List, [], ◌∷◌, ◌++◌, length, codes, decimal, Option, Result, Ok, Err, MatchResult}
-use Rattle.std.specs.Borrow.{Bor}
+use Rattle.std.specs.Prelude.{◌≡◌, ℕ, ◌⊎◌, List, [], ◌∷◌, ◌++◌, length, codes, decimal, Option, Result, Ok, Err, MatchResult}
 use Rattle.std.specs.Io.KnownBytes.{Appends}
 use Rattle.std.specs.declared.io.ErrorKind.{ErrorKind}
 use Rattle.instance_read.specs.Names.{kind_name}
@@ -11,7 +10,7 @@ use Rattle.plan_solve.specs.declared.solving.Solved.{Solved}
 use Rattle.sol_text.specs.Written.{customers_text}
 use Rattle.planner_cli.specs.AnswerText.{fault_text}
 use Rattle.command_line.specs.Asked.{TaskAsked}
-use Rattle.planner_cli.specs.Files.{Gave}
+use Rattle.planner_cli.specs.Reads.{FileRead}
 use Rattle.command_text.specs.Answers.{line}
 use Rattle.planner_cli.specs.Telling.{TellsUnread}
 
@@ -49,9 +48,16 @@ pub record TellsSolving (task : TaskAsked) (text : List ℕ) (output after error
   pub solves : MatchResult found (IsSolved task.kind text task.seed task.steps task.deviation errors searched) (Fails task.kind text errors searched)
   pub told : TellsSolved found output after searched later status
 
-module _ {V E : Type 0} (post : Bor (List ℕ) → Result V E → Type 0) (items : V → List ℕ) (kind : E → ErrorKind) where
-  -- the instance in a file is solved, or it can't be read
-  abbrev pub TellsTask : TaskAsked → Option (List ℕ) → Option (List ℕ) → Option (List ℕ) → Option (List ℕ) → ℕ → Type 0
-  TellsTask task output after errors later status =
-      (given : Result V E) × Gave post task.instance given
-      × MatchResult given (λ x. TellsSolving task (items x) output after errors later status) (λ e. TellsUnread task.instance (kind e) errors later status × Appends output after [])
+-- the file was read, and the instance solved
+abbrev pub SolvesText : TaskAsked → List FileRead → List FileRead → Option (List ℕ) → Option (List ℕ) → Option (List ℕ) → Option (List ℕ) → ℕ → Type 0
+SolvesText task was now output after errors later status =
+    (x : List ℕ) × (now ≡ (task.instance, Ok x) ∷ was) × TellsSolving task x output after errors later status
+
+-- or it can't be read
+abbrev pub TellsNoTask : TaskAsked → List FileRead → List FileRead → Option (List ℕ) → Option (List ℕ) → Option (List ℕ) → Option (List ℕ) → ℕ → Type 0
+TellsNoTask task was now output after errors later status =
+    (error : ErrorKind) × (now ≡ (task.instance, Err error) ∷ was) × TellsUnread task.instance error errors later status × Appends output after []
+
+abbrev pub TellsTask : TaskAsked → List FileRead → List FileRead → Option (List ℕ) → Option (List ℕ) → Option (List ℕ) → Option (List ℕ) → ℕ → Type 0
+TellsTask task was now output after errors later status =
+    SolvesText task was now output after errors later status ⊎ TellsNoTask task was now output after errors later status

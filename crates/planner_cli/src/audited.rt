@@ -1,9 +1,10 @@
 //! The audit of two files.
 ghost use Rattle.std.specs.Prelude.{◌≡◌, ◌≤◌, IfOk, MatchResult};
 ghost use Rattle.std.specs.IoError.{error_kind};
-ghost use Rattle.planner_cli.specs.Files.{AreBothRead, IsUnread, TellsFiles};
+ghost use Rattle.planner_cli.specs.Files.{AreBothRead, AreReadInTurn, IsUnread, TellsFiles};
 
 use crate::audit::audit_text;
+use crate::files::ReadFiles;
 use crate::telling::{tell_audit, tell_unread};
 use command_line::Paths;
 use std::alloc::Global;
@@ -18,22 +19,23 @@ pub(crate) struct Unread<'a> {
 }
 
 /// Reads the whole of both texts, the instance first.
-pub(crate) fn read_both<'a, F>(paths: Paths<'a>, read: &F) -> Result<(Vec<u8>, Vec<u8>), Unread<'a>>
-where
-    F: Fn(&str) -> io::Result<Vec<u8>>,
-    requires { F.IsAlwaysCallable read.now }
+pub(crate) fn read_both<'a, F: ReadFiles>(
+    paths: Paths<'a>,
+    files: &mut F,
+) -> Result<(Vec<u8>, Vec<u8>), Unread<'a>>
     ensures { let instance = paths.entry.instance.now in
         let solution = paths.entry.solution.now in
         MatchResult result
-        (λ both. AreBothRead (λ path r. F.post read.now path r) instance solution both.0 both.1)
-        (λ unread. IsUnread (λ path r. F.post read.now path r) error_kind instance solution
-        unread.path.now unread.kind) }
+        (λ both. AreBothRead instance solution both.0.items both.1.items
+        (F.reads files.old) (F.reads files.new))
+        (λ unread. IsUnread instance solution unread.path.now unread.kind
+        (F.reads files.old) (F.reads files.new)) }
 {
-    let instance = match read(paths.instance) {
+    let instance = match files.read(paths.instance) {
         Ok(text) => text,
         Err(error) => return Err(not_read(paths.instance, &error)),
     };
-    let solution = match read(paths.solution) {
+    let solution = match files.read(paths.solution) {
         Ok(text) => text,
         Err(error) => return Err(not_read(paths.solution, &error)),
     };
@@ -50,21 +52,20 @@ fn not_read<'a>(path: &'a str, error: &io::Error) -> Unread<'a>
 }
 
 /// Reads the whole of both texts before it looks into either, and tells what comes of their audit.
-pub(crate) fn audit_read<F, W: Write>(
+pub(crate) fn audit_read<F: ReadFiles, W: Write>(
     alloc: Global,
     paths: Paths,
-    read: &F,
+    files: &mut F,
     output: &mut W,
 ) -> io::Result<u8>
-where
-    F: Fn(&str) -> io::Result<Vec<u8>>,
-    requires { F.IsAlwaysCallable read.now }
     ensures status { IfOk result (λ status. status ≤ 4) }
-    ensures told { IfOk result (TellsFiles (λ path r. F.post read.now path r) (λ x. x.items)
-        error_kind paths.entry.kind paths.entry.instance.now paths.entry.solution.now
+    ensures reads { AreReadInTurn paths.entry.instance.now paths.entry.solution.now
+        (F.reads files.old) (F.reads files.new) }
+    ensures told { IfOk result (TellsFiles paths.entry.kind paths.entry.instance.now
+        paths.entry.solution.now (F.reads files.old) (F.reads files.new)
         (W.contents output.old) (W.contents output.new)) }
 {
-    let both = match read_both(paths, read) {
+    let both = match read_both(paths, files) {
         Ok(both) => both,
         Err(unread) => return tell_unread(output, unread.path, unread.kind),
     };

@@ -1,11 +1,12 @@
 //! The picture of a solution in a file.
 ghost use Rattle.std.specs.Prelude.{◌≡◌, ◌≤◌, IfOk};
-ghost use Rattle.std.specs.IoError.{error_kind};
 ghost use Rattle.planner_cli.specs.Drawn.{IsDrawing, IsDrawingOf, TellsDrawing, TellsDrawn, TellsResult};
+ghost use Rattle.planner_cli.specs.Files.{AreReadInTurn};
 
 use crate::answer::AuditAnswer;
 use crate::audit::{Examined, answer_of, examine};
 use crate::audited::read_both;
+use crate::files::ReadFiles;
 use crate::status::{DONE, OUT_OF_MEMORY};
 use crate::telling::{tell_unread, write_line};
 use command_line::Paths;
@@ -26,23 +27,22 @@ pub(crate) enum Drawing {
 
 /// Reads both texts as `audit_read` does, and draws the solution. The picture goes to `output`, and whatever else is told to
 /// `errors`.
-pub(crate) fn draw_read<F, W: Write, E: Write>(
+pub(crate) fn draw_read<F: ReadFiles, W: Write, E: Write>(
     alloc: Global,
     paths: Paths,
-    read: &F,
+    files: &mut F,
     output: &mut W,
     errors: &mut E,
 ) -> io::Result<u8>
-where
-    F: Fn(&str) -> io::Result<Vec<u8>>,
-    requires { F.IsAlwaysCallable read.now }
     ensures status { IfOk result (λ status. status ≤ 4) }
-    ensures told { IfOk result (TellsDrawn (λ path r. F.post read.now path r) (λ x. x.items)
-        error_kind paths.entry.kind paths.entry.instance.now paths.entry.solution.now
+    ensures reads { AreReadInTurn paths.entry.instance.now paths.entry.solution.now
+        (F.reads files.old) (F.reads files.new) }
+    ensures told { IfOk result (TellsDrawn paths.entry.kind paths.entry.instance.now
+        paths.entry.solution.now (F.reads files.old) (F.reads files.new)
         (W.contents output.old) (W.contents output.new)
         (E.contents errors.old) (E.contents errors.new)) }
 {
-    let both = match read_both(paths, read) {
+    let both = match read_both(paths, files) {
         Ok(both) => both,
         Err(unread) => return tell_unread(errors, unread.path, unread.kind),
     };

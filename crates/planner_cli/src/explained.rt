@@ -1,13 +1,14 @@
 //! The audit of two files, and what it rests on.
 ghost use Rattle.std.specs.Prelude.{◌≡◌, ◌≤◌, IfOk, string_bytes};
-ghost use Rattle.std.specs.IoError.{error_kind};
 ghost use Rattle.planner_cli.specs.Answer.{IsAnswer};
 ghost use Rattle.planner_cli.specs.Examined.{HasVerdict};
 ghost use Rattle.planner_cli.specs.Explained.{IsExplanation, RestsOn, TellsExplained, TellsExplanation};
+ghost use Rattle.planner_cli.specs.Files.{AreReadInTurn};
 
 use crate::answer::AuditAnswer;
 use crate::audit::{Examined, answer_of, examine};
 use crate::audited::read_both;
+use crate::files::ReadFiles;
 use crate::status::OUT_OF_MEMORY;
 use crate::telling::{tell_unread, write_line};
 use command_line::Paths;
@@ -17,37 +18,36 @@ use std::alloc::Global;
 use std::io;
 use std::io::Write;
 
-/// The answer of an audit, and the lines that tell what it rests on.
+/// The answer of an audit, and the lines that stand under it.
 #[derive(Debug, Drop)]
 pub(crate) struct Explanation {
-    answer: AuditAnswer,
-    text: String,
+    pub answer: AuditAnswer,
+    pub text: String,
 }
 
 /// Reads both texts as `audit_read` does, and tells the audit's answer and what it rests on.
-pub(crate) fn explain_read<F, W: Write>(
+pub(crate) fn explain_read<F: ReadFiles, W: Write>(
     alloc: Global,
     paths: Paths,
-    read: &F,
+    files: &mut F,
     output: &mut W,
 ) -> io::Result<u8>
-where
-    F: Fn(&str) -> io::Result<Vec<u8>>,
-    requires { F.IsAlwaysCallable read.now }
     ensures status { IfOk result (λ status. status ≤ 4) }
-    ensures told { IfOk result (TellsExplained (λ path r. F.post read.now path r) (λ x. x.items)
-        error_kind paths.entry.kind paths.entry.instance.now paths.entry.solution.now
+    ensures reads { AreReadInTurn paths.entry.instance.now paths.entry.solution.now
+        (F.reads files.old) (F.reads files.new) }
+    ensures told { IfOk result (TellsExplained paths.entry.kind paths.entry.instance.now
+        paths.entry.solution.now (F.reads files.old) (F.reads files.new)
         (W.contents output.old) (W.contents output.new)) }
 {
-    let both = match read_both(paths, read) {
+    let both = match read_both(paths, files) {
         Ok(both) => both,
         Err(unread) => return tell_unread(output, unread.path, unread.kind),
     };
     tell_explanation(output, &explain(alloc, paths.kind, &both.0, &both.1))
 }
 
-// Tells an explanation, or want of memory.
-fn tell_explanation<W: Write>(
+/// Tells an answer with its lines, or want of memory.
+pub(crate) fn tell_explanation<W: Write>(
     output: &mut W,
     explained: &Result<Explanation, OutOfMemory>,
 ) -> io::Result<u8>

@@ -5,35 +5,42 @@
 //!
 //! Source: this project's own; status 64 is `EX_USAGE` of BSD's `sysexits.h`.
 //!
-//! How it works: each word of the program has one private function over whatever reads a file, reader and writer
-//! (`audit_read`, `audits_read`, `explain_read`, `draw_read`, `solve_read`, `load_read`, `format_store`, `run_store`,
-//! `upgrade_store`).
-//! `run_words` hands them paths and the standard streams.
+//! How it works: each word of the program has one private function over whatever reads files, reader and writer
+//! (`audit_read`, `audits_read`, `explain_read`, `timetable_read`, `draw_read`, `solve_read`, `load_read`, `format_store`,
+//! `run_store`, `timetable_store`, `upgrade_store`).
+//! `run_words` hands them the paths, and what reads files and the streams, which `main` makes.
 //!
 //! Modules, in reading order:
 //! - `status`: the statuses that the program ends with
 //! - `answer`: the lines that answer an audit
 //! - `audit`: the audit of two texts
 //! - `telling`: lines for files and stores that can't be read, made or opened
+//! - `read_record`, `files`: what reads files, and the list of those that were read
 //! - `audited`, `listed`: the words `audit` and `audits`
 //! - `explained`, `drawn`, `solved`: the words `explain`, `draw` and `solve`
 //! - `opened`: the opening of a store
+//! - `timetabled`: the word `timetable`
 //! - `laws`: what stops leave of the word `run`
 //! - `stores`: the words `format`, `run` and `upgrade`
 //! - `loaded`: the word `load`
 //! - `program`: `run_words`
 //!
-//! Said by `specs/Answer.antt`, and word by word by `Files.antt`, `Listed.antt`, `Explained.antt`, `Drawn.antt`,
-//! `Solving.antt`, `Formatting.antt`, `Foretold.antt`, `Loading.antt`, `Running.antt` and `Upgrading.antt`, which statuses by
-//! `Statuses.antt`. Proved:
+//! Said by `specs/Answer.antt`, `Program.antt` and `Reads.antt`, and word by word by `Files.antt`, `Listed.antt`,
+//! `Explained.antt`, `Drawn.antt`, `Solving.antt`, `Formatting.antt`, `Foretold.antt`, `Loading.antt`, `Running.antt`,
+//! `Timetabled.antt` and `Upgrading.antt`, which statuses by `Statuses.antt`. Proved:
 //! - `audit_text`: line and status are those of the first fault or of the verdict on what the texts spell; the
 //!   status is 0 exactly where both spell a value and the solution keeps the rules, serves every request, keeps the
 //!   fleet and prints the distance that it drives (`SaysSound`)
-//! - `run_words`: which statuses each word can end with; of standard streams no contract says what they give or hold
+//! - `run_words`, of words without hyphen that ask for something (`EndsWith`): which files were read, each once and in which
+//!   order (`AreReadFor`); what was written to the output and to the errors, and the status that goes with it, from what
+//!   these files gave (`Does`), but for an answer that could not be printed; that the input is read by `run` alone. Of words that
+//!   ask for nothing (`TellsUsage`): no file is read, help goes to the output alone, a mistake to the errors alone
 //! - `audits_read` (`TellsList`): of each line what `audit` tells of that pair alone, or `bad line`; the greatest
 //!   status
 //! - `explain_read` (`TellsExplained`), `draw_read` (`TellsDrawn`), `solve_read` (`TellsTask`): the audit's line
 //!   and what it rests on; the picture; the text of a solution, or why there is none
+//! - `timetable_read` (`TellsTimetable`), `timetable_store` (`TimetablesStore`): the audit's line and the timetable of the solution;
+//!   those of the plan in the store that opening the device gives, which is left as opening leaves it
 //! - `run_store` (`RunsStore`): the device that `FileDevice::at_or_cause` gives is opened, and what `serve` writes over that
 //!   session stands behind `opened N`; 3 where the reader or the writer failed, with `cannot read input` for the
 //!   reader
@@ -49,7 +56,7 @@
 //!   formatted only where opening told that it holds no store
 //! - `upgrade_store` (`UpgradesStore`): `same store` where the words are the same; a device over the old file, then one of
 //!   8,450 sectors over the new one, and what `upgrade` of `recover` made of both
-//! - the functions that read the system's files say the same of files that hold whatever they do (`TellsAnyFiles`)
+//! - `HostFiles` notes each file of the system with what reading it gave; what is under a path no contract says
 #![tactic(auto)]
 
 mod answer;
@@ -57,19 +64,23 @@ mod audit;
 mod audited;
 mod drawn;
 mod explained;
+mod files;
 mod laws;
 mod listed;
 mod loaded;
 mod opened;
 mod program;
+mod read_record;
 mod solved;
 pub mod status;
 mod stores;
 mod telling;
+mod timetabled;
 
 pub use answer::{AuditAnswer, Line};
 pub use audit::audit_text;
 pub use command_line::{Invocation, Loading, Paths, Task, read_words};
 pub use command_serving::{Failed, ServeFault, Sink, Source, Watched, serve};
+pub use files::{HostFiles, ReadFiles};
 pub use laws::stopped_runs_recover;
-pub use program::run_words;
+pub use program::{Streams, run_words};

@@ -1,12 +1,13 @@
 //! The audits of a list of pairs of files.
 ghost use Rattle.std.specs.Prelude.{◌≡◌, ◌≤◌, IfOk, MatchOption, codes, length, max, option_map};
-ghost use Rattle.std.specs.IoError.{error_kind};
 ghost use Rattle.std.specs.List.{position_or_len};
 ghost use Rattle.std.specs.Io.KnownBytes.{Appends};
 ghost use Rattle.command_text.specs.Answers.{line};
 ghost use Rattle.planner_cli.specs.Listed.{IsPair, NamesNone, TellsLine, TellsLines, TellsList, is_path, is_tab, list_path, parts_of};
+ghost use Rattle.planner_cli.specs.Reads.{IsGrown, IsReadFirst};
 
 use crate::audited::audit_read;
+use crate::files::ReadFiles;
 use crate::status::{DONE, REFUSED};
 use crate::telling::{tell_unread, write_line};
 use command_line::Paths;
@@ -17,23 +18,21 @@ use std::{io, str};
 use text_lines::Lines;
 
 /// Reads a list, and audits the pair that each of its lines names, as `audit_read` does. Gives the greatest status.
-pub(crate) fn audits_read<F, W: Write>(
+pub(crate) fn audits_read<F: ReadFiles, W: Write>(
     alloc: Global,
     kind: Kind,
     list: &str,
-    read: &F,
+    files: &mut F,
     output: &mut W,
 ) -> io::Result<u8>
-where
-    F: Fn(&str) -> io::Result<Vec<u8>>,
-    requires { F.IsAlwaysCallable read.now }
     ensures status { IfOk result (λ status. status ≤ 4) }
-    ensures told { IfOk result (TellsList (λ path r. F.post read.now path r) (λ x. x.items)
-        error_kind kind list.now (W.contents output.old) (W.contents output.new)) }
+    ensures reads { IsReadFirst (list_path list.now) (F.reads files.old) (F.reads files.new) }
+    ensures told { IfOk result (TellsList kind list.now (F.reads files.old) (F.reads files.new)
+        (W.contents output.old) (W.contents output.new)) }
 {
     let path = list_path(list);
-    match read(path) {
-        Ok(text) => audit_lines(alloc, kind, Lines::new(&text), read, output),
+    match files.read(path) {
+        Ok(text) => audit_lines(alloc, kind, Lines::new(&text), files, output),
         Err(error) => tell_unread(output, path, error.kind()),
     }
 }
@@ -46,23 +45,21 @@ fn list_path(list: &str) -> &str
 }
 
 // Audits the pair that each line names, and tells it before it goes on.
-fn audit_lines<F, W: Write>(
+fn audit_lines<F: ReadFiles, W: Write>(
     alloc: Global,
     kind: Kind,
     lines: Lines<'_>,
-    read: &F,
+    files: &mut F,
     output: &mut W,
 ) -> io::Result<u8>
-where
-    F: Fn(&str) -> io::Result<Vec<u8>>,
-    requires { F.IsAlwaysCallable read.now }
     ensures status { IfOk result (λ status. status ≤ 4) }
-    ensures told { IfOk result (TellsLines (λ path r. F.post read.now path r) (λ x. x.items)
-        error_kind kind lines.entry (W.contents output.old) (W.contents output.new)) }
+    ensures reads { IsGrown (F.reads files.old) (F.reads files.new) }
+    ensures told { IfOk result (TellsLines kind lines.entry (F.reads files.old) (F.reads files.new)
+        (W.contents output.old) (W.contents output.new)) }
 {
     let mut greatest = DONE;
     for line in lines {
-        let status = audit_line(alloc, kind, line, read, output)?;
+        let status = audit_line(alloc, kind, line, files, output)?;
         greatest = greater(greatest, status);
     }
     Ok(greatest)
@@ -78,39 +75,35 @@ fn greater(one: u8, other: u8) -> u8
 }
 
 // Tells the audit of the pair that the line names, and flushes it.
-fn audit_line<F, W: Write>(
+fn audit_line<F: ReadFiles, W: Write>(
     alloc: Global,
     kind: Kind,
     line: &[u8],
-    read: &F,
+    files: &mut F,
     output: &mut W,
 ) -> io::Result<u8>
-where
-    F: Fn(&str) -> io::Result<Vec<u8>>,
-    requires { F.IsAlwaysCallable read.now }
     ensures status { IfOk result (λ status. status ≤ 4) }
-    ensures told { IfOk result (TellsLine (λ path r. F.post read.now path r) (λ x. x.items)
-        error_kind kind line.now (W.contents output.old) (W.contents output.new)) }
+    ensures reads { IsGrown (F.reads files.old) (F.reads files.new) }
+    ensures told { IfOk result (TellsLine kind line.now (F.reads files.old) (F.reads files.new)
+        (W.contents output.old) (W.contents output.new)) }
 {
-    let status = audit_named(alloc, kind, line, read, output)?;
+    let status = audit_named(alloc, kind, line, files, output)?;
     output.flush()?;
     Ok(status)
 }
 
 // Tells the audit of the pair that the line names.
-fn audit_named<F, W: Write>(
+fn audit_named<F: ReadFiles, W: Write>(
     alloc: Global,
     kind: Kind,
     line: &[u8],
-    read: &F,
+    files: &mut F,
     output: &mut W,
 ) -> io::Result<u8>
-where
-    F: Fn(&str) -> io::Result<Vec<u8>>,
-    requires { F.IsAlwaysCallable read.now }
     ensures status { IfOk result (λ status. status ≤ 4) }
-    ensures told { IfOk result (TellsLine (λ path r. F.post read.now path r) (λ x. x.items)
-        error_kind kind line.now (W.contents output.old) (W.contents output.new)) }
+    ensures reads { IsGrown (F.reads files.old) (F.reads files.new) }
+    ensures told { IfOk result (TellsLine kind line.now (F.reads files.old) (F.reads files.new)
+        (W.contents output.old) (W.contents output.new)) }
 {
     let (instance, solution) = match pair_of(line) {
         Some(pair) => pair,
@@ -122,7 +115,7 @@ where
         instance,
         solution,
     };
-    audit_read(alloc, paths, read, output)
+    audit_read(alloc, paths, files, output)
 }
 
 // Tells a line that names no pair.

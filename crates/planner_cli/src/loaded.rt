@@ -3,12 +3,13 @@
 //! The instance is read first, so that a text that is refused leaves no store behind. A file that was just made is opened before
 //! it is formatted, since another process may have made a store in it meanwhile: only what holds no store is formatted.
 ghost use Rattle.std.specs.Prelude.{◌≡◌, ◌≤◌, IfOk};
-ghost use Rattle.std.specs.IoError.{error_kind};
 ghost use Rattle.command_line.specs.Asked.{load_of};
 ghost use Rattle.sector_disk.specs.FileDevice.{IsUnused};
 ghost use Rattle.planner_cli.specs.Loading.{BeginsDevice, BeginsFormatted, BeginsMade, BeginsNew, BeginsSession, BeginsStore, TellsHeld, TellsLoad, holds_instance};
+ghost use Rattle.planner_cli.specs.Reads.{IsRead};
 
 use crate::audit::read_instance;
+use crate::files::ReadFiles;
 use crate::opened::open_session;
 use crate::status::REFUSED;
 use crate::stores::STORE_SECTORS;
@@ -28,26 +29,25 @@ use std::io::{ErrorKind, Write};
 use std::rt::Files;
 
 /// Reads an instance and begins the store in a file with it, which is made where there is none, and tells what came of it.
-pub(crate) fn load_read<F, R, T: Start, U: Start, W: Write, E: Write>(
+pub(crate) fn load_read<F: ReadFiles, R, T: Start, U: Start, W: Write, E: Write>(
     rt: &R,
     start: T,
     start_of_new: U,
     loading: Loading,
-    read: &F,
+    files: &mut F,
     output: &mut W,
     errors: &mut E,
 ) -> io::Result<u8>
 where
-    F: Fn(&str) -> io::Result<Vec<u8>>,
     R: Files<File = File> + Eprint + AllocGlobal,
-    requires { F.IsAlwaysCallable read.now }
     ensures status { IfOk result (λ status. status ≤ 4) }
+    ensures reads { IsRead loading.entry.instance.now (F.reads files.old) (F.reads files.new) }
     ensures loads { IfOk result (TellsLoad ⟦<FileDevice<T> as Sectors>⟧ ⟦<FileDevice<U> as Sectors>⟧
         (IsUnused ⟦<HostFile as FileCalls>⟧.entries) (IsUnused ⟦<HostFile as FileCalls>⟧.entries)
-        (λ path r. F.post read.now path r) (λ x. x.items) error_kind (load_of loading.entry)
+        (load_of loading.entry) (F.reads files.old) (F.reads files.new)
         (W.contents output.old) (W.contents output.new)) }
 {
-    let text = match read(loading.instance) {
+    let text = match files.read(loading.instance) {
         Ok(text) => text,
         Err(error) => return tell_unread(output, loading.instance, error.kind()),
     };

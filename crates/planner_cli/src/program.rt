@@ -1,38 +1,41 @@
 //! What the program does with its words: files are read, answers are printed.
 //!
-//! `run_words` takes values of `T: Start` and `U: Start`, which `main` makes: what the files of a store, and of one that a load or
-//! an upgrade makes, are as they are opened.
-ghost use Rattle.std.specs.Prelude.{◌≡◌, ◌≤◌, IfOk, false, drop, map};
+//! `run_words` takes what reads files, and the streams, and values of `T: Start` and `U: Start`, all of which `main` makes: what the
+//! files of a store, and of one that a load or an upgrade makes, are as they are opened.
+ghost use Rattle.std.specs.Prelude.{◌≡◌, ◌≢◌, ◌≤◌, IfOk, drop, map};
 ghost use Rattle.clap.specs.Words.{kind_of};
-ghost use Rattle.command_line.specs.Asked.{ArePositional, Asked, IsUsageStatus, asked_by, asked_of, asks_help, load_of, task_of, usage_status_of};
+ghost use Rattle.command_line.specs.Asked.{ArePositional, Asked, asked_by, asked_of, usage_status_of};
 ghost use Rattle.plan_types.specs.declared.requests.Kind.TheVariants.{LiLim};
 ghost use Rattle.sector_disk.specs.FileDevice.{IsUnused};
+ghost use Rattle.planner_cli.specs.Program.{AreErrorsKept, AreReadFor, Does, EndsWith, IsInputKept, TellsUsage, seen};
+ghost use Rattle.planner_cli.specs.Running.{RunsStore};
 ghost use Rattle.planner_cli.specs.Statuses.{CanEndWith};
-ghost use Rattle.planner_cli.specs.Telling.{TellsAudit, example_instance, example_solution, is_usage_printed};
-ghost use Rattle.planner_cli.specs.Whatever.{TellsAnyDrawn, TellsAnyExplained, TellsAnyFiles, TellsAnyList, TellsAnyLoad, TellsAnyTask};
+ghost use Rattle.planner_cli.specs.Telling.{TellsAudit, example_instance, example_solution};
 
 use crate::audit::audit_text;
 use crate::audited::audit_read;
 use crate::drawn::draw_read;
 use crate::explained::explain_read;
+use crate::files::ReadFiles;
 use crate::listed::audits_read;
 use crate::loaded::load_read;
 use crate::solved::solve_read;
 use crate::status::{DONE, OUT_OF_MEMORY, USAGE};
 use crate::stores::{format_store, run_store, upgrade_store};
 use crate::telling::{status_of, tell_audit};
+use crate::timetabled::{form_of, timetable_read, timetable_store};
 use clap::Error;
 use clap::error::ErrorKind;
-use command_line::{Invocation, Loading, Paths, Task, read_words};
+use command_line::{Invocation, read_words};
 use command_serving::Watched;
 use plan_types::Kind;
 use sector_disk::{FileCalls, FileDevice, HostFile, Sectors, Start};
 use std::alloc::Global;
 use std::convert::AsStr;
 use std::fs::File;
-use std::io::{Input, Write};
+use std::io;
+use std::io::{Read, Write};
 use std::rt::Files;
-use std::{fs, io};
 
 /// An instance with one pickup and its delivery, in Li and Lim's format.
 const EXAMPLE_INSTANCE: &str =
@@ -40,105 +43,163 @@ const EXAMPLE_INSTANCE: &str =
 /// A solution of it that passes.
 const EXAMPLE_SOLUTION: &str = "Route #1: 1 2\nCost 20\n";
 
+/// What the program reads commands from, what it prints answers to, and what it prints all else to.
+#[derive(Drop)]
+pub struct Streams<I, W, E> {
+    pub input: Watched<I>,
+    pub output: Watched<W>,
+    pub errors: E,
+}
+
 /// Does what the words of the command line ask for, the program's name first, and gives the status to end with
-/// (`status`). Where an answer cannot be printed, that is `FILE`. `start` stands for what the store's file is as it is
-/// opened, `start_of_new` for that of a store that is made; `errors` is standard error.
-pub fn run_words<R, T: Start, U: Start, E: Write, S: AsStr>(
+/// (`status`) and the streams. Where an answer cannot be printed, the status is `FILE`. `start` stands for what the store's file is as
+/// it is opened, `start_of_new` for that of a store that is made.
+pub fn run_words<R, T: Start, U: Start, F: ReadFiles, I: Read, W: Write, E: Write, S: AsStr>(
     rt: &R,
     start: T,
     start_of_new: U,
-    errors: &mut E,
+    files: &mut F,
+    streams: Streams<I, W, E>,
     words: &[S],
-) -> u8
+) -> (u8, Streams<I, W, E>)
 where
-    R: Files<File = File> + Input + Print + Eprint + AllocGlobal,
+    R: Files<File = File> + Eprint + AllocGlobal,
     ensures does { let asked = drop 1 (map S.text words.now) in
-        (a : Asked) → ArePositional asked → asked_by asked ≡ Some a → CanEndWith a result }
-    ensures refuses { let asked = drop 1 (map S.text words.now) in
-        ArePositional asked → asked_by asked ≡ None → asks_help asked ≡ false
-        → IsUsageStatus result }
+        (a : Asked) → ArePositional asked → asked_by asked ≡ Some a
+        → EndsWith ⟦<FileDevice<T> as Sectors>⟧ ⟦<FileDevice<U> as Sectors>⟧
+        (IsUnused ⟦<HostFile as FileCalls>⟧.entries) (IsUnused ⟦<HostFile as FileCalls>⟧.entries) a
+        (seen F.reads I.remaining W.contents E.contents files.old streams)
+        (seen F.reads I.remaining W.contents E.contents files.new result.1) result.0 }
+    ensures usage { let asked = drop 1 (map S.text words.now) in
+        ArePositional asked → asked_by asked ≡ None
+        → TellsUsage asked (seen F.reads I.remaining W.contents E.contents files.old streams)
+        (seen F.reads I.remaining W.contents E.contents files.new result.1) result.0 }
 {
     match read_words(rt.alloc(), words) {
-        Ok(invocation) => do_asked(rt, start, start_of_new, errors, invocation),
-        Err(error) => status_of(tell_usage(rt, &error)),
+        Ok(invocation) => {
+            let (told, streams) = do_asked(rt, start, start_of_new, files, streams, invocation);
+            (status_of(told), streams)
+        }
+        Err(error) => {
+            let mut streams = streams;
+            let told = tell_usage(&error, &mut streams.output, &mut streams.errors);
+            (status_of(told), streams)
+        }
     }
 }
 
-fn do_asked<R, T: Start, U: Start, E: Write>(
+// Does what is asked for, and tells what came of it.
+fn do_asked<R, T: Start, U: Start, F: ReadFiles, I: Read, W: Write, E: Write>(
     rt: &R,
     start: T,
     start_of_new: U,
-    errors: &mut E,
+    files: &mut F,
+    streams: Streams<I, W, E>,
     invocation: Invocation,
-) -> u8
+) -> (io::Result<u8>, Streams<I, W, E>)
 where
-    R: Files<File = File> + Input + Print + Eprint + AllocGlobal,
-    ensures { CanEndWith (asked_of invocation.entry) result }
+    R: Files<File = File> + Eprint + AllocGlobal,
+    ensures status { IfOk result.0 (CanEndWith (asked_of invocation.entry)) }
+    ensures reads { AreReadFor (asked_of invocation.entry) (F.reads files.old) (F.reads files.new) }
+    ensures input { IsInputKept (asked_of invocation.entry)
+        (seen F.reads I.remaining W.contents E.contents files.old streams)
+        (seen F.reads I.remaining W.contents E.contents files.new result.1) }
+    ensures errors { AreErrorsKept (asked_of invocation.entry)
+        (seen F.reads I.remaining W.contents E.contents files.old streams)
+        (seen F.reads I.remaining W.contents E.contents files.new result.1) }
+    ensures does { IfOk result.0 (Does ⟦<FileDevice<T> as Sectors>⟧ ⟦<FileDevice<U> as Sectors>⟧
+        (IsUnused ⟦<HostFile as FileCalls>⟧.entries) (IsUnused ⟦<HostFile as FileCalls>⟧.entries)
+        (asked_of invocation.entry)
+        (seen F.reads I.remaining W.contents E.contents files.old streams)
+        (seen F.reads I.remaining W.contents E.contents files.new result.1)) }
 {
-    let mut output = io::writer(rt);
+    let mut streams = streams;
+    let alloc = rt.alloc();
     match invocation {
-        Invocation::BuiltIn => status_of(audit_example(rt.alloc(), &mut output)),
-        Invocation::Audit(paths) => status_of(audit_files(rt, paths, &mut output)),
-        Invocation::Audits { kind, list } => status_of(audit_list(rt, kind, list, &mut output)),
-        Invocation::Explain(paths) => status_of(explain_files(rt, paths, &mut output)),
-        Invocation::Draw(paths) => status_of(draw_files(rt, paths, &mut output, errors)),
-        Invocation::Solve(task) => status_of(solve_file(rt, task, &mut output, errors)),
-        Invocation::Format { store } => status_of(format_store(rt, start, store, &mut output)),
+        Invocation::BuiltIn => {
+            let told = audit_example(alloc, &mut streams.output);
+            (told, streams)
+        }
+        Invocation::Audit(paths) => {
+            let told = audit_read(alloc, paths, files, &mut streams.output);
+            (told, streams)
+        }
+        Invocation::Audits { kind, list } => {
+            let told = audits_read(alloc, kind, list, files, &mut streams.output);
+            (told, streams)
+        }
+        Invocation::Explain(paths) => {
+            let told = explain_read(alloc, paths, files, &mut streams.output);
+            (told, streams)
+        }
+        Invocation::Draw(paths) => {
+            let Streams { output, errors, .. } = &mut streams;
+            let told = draw_read(alloc, paths, files, output, errors);
+            (told, streams)
+        }
+        Invocation::Solve(task) => {
+            let Streams { output, errors, .. } = &mut streams;
+            let told = solve_read(alloc, task, files, output, errors);
+            (told, streams)
+        }
+        Invocation::Format { store } => {
+            let told = format_store(rt, start, store, &mut streams.output);
+            (told, streams)
+        }
         Invocation::Load(loading) => {
-            status_of(load_file(rt, start, start_of_new, loading, &mut output, errors))
+            let Streams { output, errors, .. } = &mut streams;
+            let told = load_read(rt, start, start_of_new, loading, files, output, errors);
+            (told, streams)
         }
-        Invocation::Run { store, is_strict } => {
-            let mut commands = Watched::new(rt.reader());
-            let answers = Watched::new(output);
-            let (told, _answers) = run_store(
-                rt,
-                start,
-                store,
-                is_strict,
-                &mut commands,
-                answers,
-                errors,
-            );
-            status_of(told)
-        }
+        Invocation::Run { store, is_strict } => run_over(rt, start, store, is_strict, streams),
         Invocation::Upgrade { old, new } => {
-            status_of(upgrade_store(rt, start, start_of_new, old, new, &mut output))
+            let told = upgrade_store(rt, start, start_of_new, old, new, &mut streams.output);
+            (told, streams)
+        }
+        Invocation::Timetable { paths, is_tabbed } => {
+            let form = form_of(is_tabbed);
+            let told = timetable_read(alloc, paths, form, files, &mut streams.output);
+            (told, streams)
+        }
+        Invocation::StoreTimetable { store, is_tabbed } => {
+            let Streams { output, errors, .. } = &mut streams;
+            let told = timetable_store(rt, start, store, form_of(is_tabbed), output, errors);
+            (told, streams)
         }
     }
 }
 
-// Tells help and the version, where they were asked for, on standard output, and a fault of the words on standard error, and
-// gives the status. Of want of memory nothing is told.
-fn tell_usage<R: Print + Eprint>(rt: &R, error: &Error) -> io::Result<u8>
-    ensures { IfOk result (λ status. status ≡ usage_status_of (kind_of error.now)) }
+// Serves the input over the store in the file.
+fn run_over<R, T: Start, I: Read, W: Write, E: Write>(
+    rt: &R,
+    start: T,
+    store: &str,
+    is_strict: bool,
+    streams: Streams<I, W, E>,
+) -> (io::Result<u8>, Streams<I, W, E>)
+where
+    R: Files<File = File> + Eprint + AllocGlobal,
+    ensures status { IfOk result.0 (λ status. status ≤ 4) }
+    ensures runs { IfOk result.0 (RunsStore ⟦<FileDevice<T> as Sectors>⟧
+        (IsUnused ⟦<HostFile as FileCalls>⟧.entries) store.now is_strict
+        (I.remaining streams.input.inner) (W.contents streams.output.inner)
+        (W.contents result.1.output.inner) result.1.input.has_failed result.1.output.has_failed) }
 {
-    let kind = error.kind();
-    if is_printed(kind) {
-        error.print(rt)?;
-    }
-    Ok(usage_status(kind))
+    let Streams {
+        mut input,
+        output,
+        mut errors,
+    } = streams;
+    let (told, output) = run_store(rt, start, store, is_strict, &mut input, output, &mut errors);
+    let streams = Streams {
+        input,
+        output,
+        errors,
+    };
+    (told, streams)
 }
 
-// Whether clap's text is printed.
-fn is_printed(kind: ErrorKind) -> bool
-    ensures { result ≡ is_usage_printed kind }
-{
-    match kind {
-        ErrorKind::OutOfMemory => false,
-        _ => true,
-    }
-}
-
-fn usage_status(kind: ErrorKind) -> u8
-    ensures { result ≡ usage_status_of kind }
-{
-    match kind {
-        ErrorKind::DisplayHelp | ErrorKind::DisplayVersion => DONE,
-        ErrorKind::OutOfMemory => OUT_OF_MEMORY,
-        _ => USAGE,
-    }
-}
-
+// The audit of the two texts that are built in.
 fn audit_example<W: Write>(alloc: Global, output: &mut W) -> io::Result<u8>
     ensures status { IfOk result (λ status. status ≤ 4) }
     ensures told { IfOk result (TellsAudit LiLim example_instance example_solution
@@ -150,105 +211,23 @@ fn audit_example<W: Write>(alloc: Global, output: &mut W) -> io::Result<u8>
     tell_audit(output, &answer)
 }
 
-// Audits two files.
-fn audit_files<R, W: Write>(rt: &R, paths: Paths, output: &mut W) -> io::Result<u8>
-where
-    R: Files + Eprint + AllocGlobal,
-    ensures status { IfOk result (λ status. status ≤ 4) }
-    ensures told { IfOk result (TellsAnyFiles paths.entry.kind paths.entry.instance.now
-        paths.entry.solution.now (W.contents output.old) (W.contents output.new)) }
+// Tells help and the version, where they were asked for, on the output, and a fault of the words on the errors, and gives the
+// status. Of want of memory nothing is told.
+fn tell_usage<W: Write, E: Write>(error: &Error, output: &mut W, errors: &mut E) -> io::Result<u8>
+    ensures status { IfOk result (λ status. status ≡ usage_status_of (kind_of error.now)) }
+    ensures memory { kind_of error.now ≡ ErrorKind.OutOfMemory → result ≡ Ok 4 }
+    ensures output { usage_status_of (kind_of error.now) ≢ 0 → output.new ≡ output.old }
+    ensures errors { usage_status_of (kind_of error.now) ≢ 64 → errors.new ≡ errors.old }
 {
-    let read = |path: &str| read_file(rt, path);
-    audit_read(rt.alloc(), paths, &read, output)
-}
-
-// Audits the pairs of files that a list names.
-fn audit_list<R, W: Write>(rt: &R, kind: Kind, list: &str, output: &mut W) -> io::Result<u8>
-where
-    R: Files + Eprint + AllocGlobal,
-    ensures status { IfOk result (λ status. status ≤ 4) }
-    ensures told { IfOk result (TellsAnyList kind list.now
-        (W.contents output.old) (W.contents output.new)) }
-{
-    let read = |path: &str| read_file(rt, path);
-    audits_read(rt.alloc(), kind, list, &read, output)
-}
-
-// Audits two files, and tells what the answer rests on.
-fn explain_files<R, W: Write>(rt: &R, paths: Paths, output: &mut W) -> io::Result<u8>
-where
-    R: Files + Eprint + AllocGlobal,
-    ensures status { IfOk result (λ status. status ≤ 4) }
-    ensures told { IfOk result (TellsAnyExplained paths.entry.kind paths.entry.instance.now
-        paths.entry.solution.now (W.contents output.old) (W.contents output.new)) }
-{
-    let read = |path: &str| read_file(rt, path);
-    explain_read(rt.alloc(), paths, &read, output)
-}
-
-// Draws the solution in a file.
-fn draw_files<R, W: Write, E: Write>(
-    rt: &R,
-    paths: Paths,
-    output: &mut W,
-    errors: &mut E,
-) -> io::Result<u8>
-where
-    R: Files + Eprint + AllocGlobal,
-    ensures status { IfOk result (λ status. status ≤ 4) }
-    ensures told { IfOk result (TellsAnyDrawn paths.entry.kind paths.entry.instance.now
-        paths.entry.solution.now (W.contents output.old) (W.contents output.new)
-        (E.contents errors.old) (E.contents errors.new)) }
-{
-    let read = |path: &str| read_file(rt, path);
-    draw_read(rt.alloc(), paths, &read, output, errors)
-}
-
-// Solves the instance in a file.
-fn solve_file<R, W: Write, E: Write>(
-    rt: &R,
-    task: Task,
-    output: &mut W,
-    errors: &mut E,
-) -> io::Result<u8>
-where
-    R: Files + Eprint + AllocGlobal,
-    ensures status { IfOk result (λ status. status ≤ 4) }
-    ensures told { IfOk result (TellsAnyTask (task_of task.entry)
-        (W.contents output.old) (W.contents output.new)
-        (E.contents errors.old) (E.contents errors.new)) }
-{
-    let read = |path: &str| read_file(rt, path);
-    solve_read(rt.alloc(), task, &read, output, errors)
-}
-
-// Loads the instance in a file into a store.
-fn load_file<R, T: Start, U: Start, W: Write, E: Write>(
-    rt: &R,
-    start: T,
-    start_of_new: U,
-    loading: Loading,
-    output: &mut W,
-    errors: &mut E,
-) -> io::Result<u8>
-where
-    R: Files<File = File> + Eprint + AllocGlobal,
-    ensures status { IfOk result (λ status. status ≤ 4) }
-    ensures told { IfOk result (TellsAnyLoad ⟦<FileDevice<T> as Sectors>⟧
-        ⟦<FileDevice<U> as Sectors>⟧ (IsUnused ⟦<HostFile as FileCalls>⟧.entries)
-        (IsUnused ⟦<HostFile as FileCalls>⟧.entries) (load_of loading.entry)
-        (W.contents output.old) (W.contents output.new)) }
-{
-    let read = |path: &str| read_file(rt, path);
-    load_read(rt, start, start_of_new, loading, &read, output, errors)
-}
-
-// Reads a file, or standard input for `-`. Why it can't be read is told on standard error, in the system's words.
-fn read_file<R: Files + Eprint + AllocGlobal>(rt: &R, path: &str) -> io::Result<Vec<u8>> {
-    let source = if path == "-" { "/dev/stdin" } else { path };
-    let text = fs::read(rt, source);
-    if let Err(error) = &text {
-        let _ = eprintln!(rt; "planner: {path}: {error}");
+    match error.kind() {
+        ErrorKind::DisplayHelp | ErrorKind::DisplayVersion => {
+            write!(output, "{error}")?;
+            Ok(DONE)
+        }
+        ErrorKind::OutOfMemory => Ok(OUT_OF_MEMORY),
+        _ => {
+            write!(errors, "{error}")?;
+            Ok(USAGE)
+        }
     }
-    text
 }

@@ -1,10 +1,11 @@
 //! The solving of an instance in a file.
 ghost use Rattle.std.specs.Prelude.{◌≤◌, IfOk, OnOk};
 ghost use Rattle.std.specs.Io.KnownBytes.{Appends};
-ghost use Rattle.std.specs.IoError.{error_kind};
 ghost use Rattle.command_line.specs.Asked.{task_of};
 ghost use Rattle.planner_cli.specs.Solving.{IsToldFault, TellsPlan, TellsSolved, TellsTask, unplanned_line};
+ghost use Rattle.planner_cli.specs.Reads.{IsRead};
 
+use crate::files::ReadFiles;
 use crate::status::{BROKEN, DONE, OUT_OF_MEMORY, REFUSED};
 use crate::telling::{tell_unread, write_line};
 use command_line::Task;
@@ -14,22 +15,21 @@ use std::io;
 use std::io::Write;
 
 /// Reads an instance and solves it. The plan goes to `output`, and whatever else is told to `errors`.
-pub(crate) fn solve_read<F, W: Write, E: Write>(
+pub(crate) fn solve_read<F: ReadFiles, W: Write, E: Write>(
     alloc: Global,
     task: Task,
-    read: &F,
+    files: &mut F,
     output: &mut W,
     errors: &mut E,
 ) -> io::Result<u8>
-where
-    F: Fn(&str) -> io::Result<Vec<u8>>,
-    requires { F.IsAlwaysCallable read.now }
     ensures status { IfOk result (λ status. status ≤ 4) }
-    ensures told { IfOk result (TellsTask (λ path r. F.post read.now path r) (λ x. x.items)
-        error_kind (task_of task.entry) (W.contents output.old) (W.contents output.new)
+    ensures reads { IsRead task.entry.instance.now (F.reads files.old) (F.reads files.new) }
+    ensures told { IfOk result (TellsTask (task_of task.entry)
+        (F.reads files.old) (F.reads files.new)
+        (W.contents output.old) (W.contents output.new)
         (E.contents errors.old) (E.contents errors.new)) }
 {
-    let text = match read(task.instance) {
+    let text = match files.read(task.instance) {
         Ok(text) => text,
         Err(error) => return tell_unread(errors, task.instance, error.kind()),
     };

@@ -6,7 +6,7 @@
 //! fails.
 #![tactic(auto)]
 
-use planner_cli::run_words;
+use planner_cli::{HostFiles, Streams, Watched, run_words};
 use sector_disk::Unknown;
 use std::alloc::{AllocError, Global};
 use std::{fs, io};
@@ -20,10 +20,22 @@ fn main(rt: HostRuntime) -> io::Result<()> {
     for list in lists.as_str().lines() {
         println!(rt; "> {list}")?;
         let words = words_of(rt.alloc(), list)?;
-        let status = run_words(&rt, Unknown, Unknown, &mut rt.stderr(), words.as_slice());
+        let status = status_of(&rt, words.as_slice());
         println!(rt; "= {status}")?;
     }
     Ok(())
+}
+
+// The status that the program ends with.
+fn status_of(rt: &HostRuntime, words: &[&str]) -> u8 {
+    let mut files = HostFiles::new(rt);
+    let streams = Streams {
+        input: Watched::new(rt.reader()),
+        output: Watched::new(io::writer(rt)),
+        errors: rt.stderr(),
+    };
+    let (status, _streams) = run_words(rt, Unknown, Unknown, &mut files, streams, words);
+    status
 }
 
 // The words of the line behind the program's name. An empty line has none.

@@ -8,7 +8,7 @@ use std::process::Abort;
 use std::test::Fail;
 
 /// Words, and what they ask for, as `Debug` has it.
-const READINGS: [(&[&str], &str); 11] = [
+const READINGS: [(&[&str], &str); 13] = [
     (&["planner"], "BuiltIn"),
     (
         &["planner", "audit", "vrp", "a b.vrp", "c.sol"],
@@ -50,6 +50,14 @@ const READINGS: [(&[&str], &str); 11] = [
         &["planner", "draw", "lilim", "a.txt", "b.sol"],
         "Draw(Paths { kind: LiLim, instance: \"a.txt\", solution: \"b.sol\" })",
     ),
+    (
+        &["planner", "timetable", "lilim"],
+        "StoreTimetable { store: \"lilim\", is_tabbed: false }",
+    ),
+    (
+        &["planner", "timetable", "vrp", "a.vrp", "b.sol", "tabs"],
+        "Timetable { paths: Paths { kind: Vrp, instance: \"a.vrp\", solution: \"b.sol\" }, is_tabbed: true }",
+    ),
 ];
 
 fn check_readings<R: Abort + AllocGlobal>(
@@ -69,7 +77,7 @@ fn reads_words(rt: HostRuntime) -> Result<(), Fail> {
     check_readings(&rt, &READINGS)
 }
 
-const REFUSALS: [(&[&str], ErrorKind); 19] = [
+const REFUSALS: [(&[&str], ErrorKind); 22] = [
     (
         &["planner", "audit", "lilim", "a"],
         ErrorKind::MissingRequiredArgument,
@@ -128,6 +136,15 @@ const REFUSALS: [(&[&str], ErrorKind); 19] = [
     (
         &["planner", "upgrade", "a"],
         ErrorKind::MissingRequiredArgument,
+    ),
+    (&["planner", "timetable", "a", "b"], ErrorKind::InvalidValue),
+    (
+        &["planner", "timetable", "Vrp", "a", "b"],
+        ErrorKind::InvalidValue,
+    ),
+    (
+        &["planner", "timetable", "vrp", "a", "b", "tabs", "c"],
+        ErrorKind::UnknownArgument,
     ),
     (&["planner", "--version"], ErrorKind::DisplayVersion),
     (&["planner", "help"], ErrorKind::DisplayHelp),

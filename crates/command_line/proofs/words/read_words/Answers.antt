@@ -22,5 +22,5 @@ pub returns : goal.returns
 returns g c = λ p. inr (
   parsed c.in_ok-planner_command.field-0 (map g.S.AsStr.text c.args.words.now) c.in_ok-matches.matches c.in_ok-planner_command.ensures p c.in_ok-matches.ensures.kinds c.in_ok-matches.ensures.matches
       ∙ sym c.in-None.ensures,
-  inr (ap usage_status_of c.in_ok-bad_number-in-None.ensures),
+  inr (ap usage_status_of c.in_ok-bad_words-in-None.ensures),
 )

@@ -18,4 +18,4 @@ returns-clause-told g c =
     let both = c.in-Ok.both in
     let is_answer = subst (λ x. IfOk answer (IsAnswer c.args.paths.kind x both.1.items)) c.deref.ensures.value
     (subst (λ y. IfOk answer (IsAnswer c.args.paths.kind c.deref.result.now y)) c.deref-2.ensures.value c.audit_text.ensures.answer) in
-    IfOk-weaker c.tell_audit.result _ _ (λ status told. (answer_line answer, inl (both.0, both.1, c.in-Ok.ensures, (answer, is_answer, refl, told.0)), told.1)) c.tell_audit.ensures
+    IfOk-weaker c.tell_audit.result _ _ (λ status told. (answer_line answer, inl (both.0.items, both.1.items, c.in-Ok.ensures, (answer, is_answer, refl, told.0)), told.1)) c.tell_audit.ensures

@@ -26,4 +26,4 @@ returns-clause-told g c =
     let draws = subst (λ x. IfOk drawn (IsDrawing kind x both.1.items)) c.deref.ensures.value
     (subst (λ y. IfOk drawn (IsDrawing kind c.deref.result.now y)) c.deref-2.ensures.value c.draw_texts-drawn.ensures) in
     IfOk-weaker c.tell_drawn.result _ _
-    (λ status told. inl (record { x = both.0; y = both.1; read = c.in-Ok.ensures; drawn = drawn; draws = draws; told = told })) c.tell_drawn.ensures
+    (λ status told. inl (record { x = both.0.items; y = both.1.items; read = c.in-Ok.ensures; drawn = drawn; draws = draws; told = told })) c.tell_drawn.ensures

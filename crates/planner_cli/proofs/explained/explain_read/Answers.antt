@@ -22,8 +22,8 @@ returns-clause-told g c =
     (subst (λ y. IfOk explained (IsExplanation kind c.deref.result.now y)) c.deref-2.ensures.value c.explain.ensures.explains) in
     IfOk-weaker c.tell_explanation.result _ _
     (λ status told. inl (record {
-      x = both.0;
-      y = both.1;
+      x = both.0.items;
+      y = both.1.items;
       read = c.in-Ok.ensures;
       explained = explained;
       answers = answers;

@@ -4,11 +4,11 @@ use Rattle.std.specs.Io.KnownBytes.{Appends}
 use Rattle.std.proofs.KnownBytes.{Appends-trans}
 use Rattle.std.proofs.lemmas.Result.{IfOk-weaker}
 use Rattle.command_text.specs.Answers.{line}
-use Rattle.planner_cli.proofs.TellLemmas.{tabs}
+use Rattle.planner_cli.proofs.ListLemmas.{read_in_turn, tabs}
 use Rattle.planner_cli.proofs.listed.audit_named.Goals as goal
 
 pub returns-in-None-clause-told : goal.returns-in-None-clause-told
-returns-in-None-clause-told g c = IfOk-weaker c.tell_bad_line.result _ _ (λ status told. (line (codes "bad line"), inr (c.in-None.ensures, refl, told.0), told.1)) c.tell_bad_line.ensures
+returns-in-None-clause-told g c = IfOk-weaker c.tell_bad_line.result _ _ (λ status told. (line (codes "bad line"), inr (c.in-None.ensures, refl, refl, told.0), told.1)) c.tell_bad_line.ensures
 
 pub returns-clause-told : goal.returns-clause-told
 returns-clause-told g c =
@@ -24,3 +24,7 @@ returns-clause-told g c =
       inl (record { instance = instance; solution = solution; pair = c.in-Some.ensures; answer = told.0; told = told.1; text_is = refl }),
       subst (Appends before after) (tabs instance solution told.0) (Appends-trans before mid after (instance ++ 9 ∷ (solution ++ 9 ∷ [])) told.0 wrote told.2),
     )) c.audit_read.ensures.told
+
+pub returns-clause-reads : goal.returns-clause-reads
+returns-clause-reads g c =
+    read_in_turn c.in-Some.pair.0.now c.in-Some.pair.1.now (g.F.ReadFiles.reads c.args.files.now) (g.F.ReadFiles.reads c.audit_read.new.files) c.audit_read.ensures.reads

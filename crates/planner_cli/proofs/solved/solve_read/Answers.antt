@@ -1,5 +1,6 @@
 -- What the read gave, and what is told of it.
-use Rattle.std.proofs.Common.{refl, subst, Ok, Err}
+use Rattle.std.proofs.Common.{inl, inr, subst}
+use Rattle.std.specs.IoError.{error_kind}
 use Rattle.std.specs.Prelude.{MatchResult}
 use Rattle.std.proofs.KnownBytes.{Appends-nil}
 use Rattle.std.proofs.lemmas.Result.{IfOk-weaker}
@@ -13,10 +14,11 @@ returns-in-Err-clause-told g c =
     let errors = g.E.Write.contents c.args.errors.now in
     let later = g.E.Write.contents c.tell_unread.new.output in
     IfOk-weaker c.tell_unread.result _ _
-    (λ status told. (
-      Err c.in-Err.error,
-      (task.instance, refl, c.in-Err.ensures),
-      (subst (λ kind. TellsUnread task.instance.now kind errors later status) c.kind.ensures told, Appends-nil (g.W.Write.contents c.args.output.now)),
+    (λ status told. inr (
+      error_kind c.in-Err.error,
+      c.in-Err.ensures,
+      subst (λ kind. TellsUnread task.instance.now kind errors later status) c.kind.ensures told,
+      Appends-nil (g.W.Write.contents c.args.output.now),
     )) c.tell_unread.ensures
 
 pub returns-clause-told : goal.returns-clause-told
@@ -28,4 +30,4 @@ returns-clause-told g c =
     let solves = subst (λ x. MatchResult found (IsSolved task.kind x task.seed task.steps task.deviation errors searched) (Fails task.kind x errors searched)) c.deref.ensures.value
     c.solve-solved.ensures in
     IfOk-weaker c.tell_solved.result _ _
-    (λ status told. (Ok c.in-Ok.text, (task.instance, refl, c.in-Ok.ensures), record { found = found; searched = searched; solves = solves; told = told })) c.tell_solved.ensures.told
+    (λ status told. inl (c.in-Ok.text.items, c.in-Ok.ensures, record { found = found; searched = searched; solves = solves; told = told })) c.tell_solved.ensures.told

@@ -1,0 +1,17 @@
+-- What the words ask for, where they have two parts.
+use Rattle.planner_cli.proofs.program.do_asked.Goals as goal
+
+pub returns-in-Audits-clause-does : goal.returns-in-Audits-clause-does
+returns-in-Audits-clause-does g c = rw c.in-Audits.is c.audits_read-told.ensures.told
+
+pub returns-in-Run-clause-does : goal.returns-in-Run-clause-does
+returns-in-Run-clause-does g c = rw c.in-Run.is c.run_over.ensures.runs
+
+pub returns-in-Upgrade-clause-does : goal.returns-in-Upgrade-clause-does
+returns-in-Upgrade-clause-does g c = rw c.in-Upgrade.is c.upgrade_store-told.ensures.upgrades
+
+pub returns-in-Timetable-clause-does : goal.returns-in-Timetable-clause-does
+returns-in-Timetable-clause-does g c = rw c.in-Timetable.is (rw c.form_of-form.ensures at c.timetable_read-told.ensures.told)
+
+pub returns-in-StoreTimetable-clause-does : goal.returns-in-StoreTimetable-clause-does
+returns-in-StoreTimetable-clause-does g c = rw c.in-StoreTimetable.is (rw c.form_of.ensures at c.timetable_store-told.ensures.told)

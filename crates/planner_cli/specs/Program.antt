@@ -1,0 +1,109 @@
+-- What the program does with its words: which files it reads, what it writes to the output and to the errors, and which status it ends with.
+use Rattle.std.specs.Prelude.{◌≡◌, ◌⊎◌, ℕ, Bool, false, List, Option}
+use Rattle.clap.specs.Words.{Text}
+use Rattle.command_line.specs.Asked.{Asked, IsUsageStatus, asks_help, audit, audits, built_in, draw, explain, format, load, run, solve, store_timetable, timetable, upgrade}
+use Rattle.plan_types.specs.declared.requests.Kind.TheVariants.{LiLim}
+use Rattle.planner_cli.specs.Drawn.{TellsDrawn}
+use Rattle.planner_cli.specs.Explained.{TellsExplained}
+use Rattle.planner_cli.specs.Files.{AreReadInTurn, TellsFiles}
+use Rattle.planner_cli.specs.Formatting.{FormatsStore}
+use Rattle.planner_cli.specs.Listed.{TellsList, list_path}
+use Rattle.planner_cli.specs.Loading.{TellsLoad}
+use Rattle.planner_cli.specs.Reads.{FileRead, IsRead, IsReadFirst}
+use Rattle.planner_cli.specs.Running.{RunsStore}
+use Rattle.planner_cli.specs.Solving.{TellsTask}
+use Rattle.planner_cli.specs.Statuses.{CanEndWith}
+use Rattle.planner_cli.specs.Telling.{TellsAudit, example_instance, example_solution}
+use Rattle.planner_cli.specs.Timetabled.{TellsTimetable, TimetablesStore, form_of}
+use Rattle.planner_cli.specs.Upgrading.{UpgradesStore}
+use Rattle.planner_cli.specs.declared.program.Streams.{Streams}
+use Rattle.sector_disk.specs.declared.sectors.Sectors as sectors
+
+-- What the program reads and writes, as far as it is known: the files that were read, the newest first; what the input still holds, and
+-- what the output and the errors hold; whether the input or the output has failed.
+pub record World : Type 0 where
+  pub files : List FileRead
+  pub input : Option (List ℕ)
+  pub output : Option (List ℕ)
+  pub errors : Option (List ℕ)
+  pub input_failed : Bool
+  pub output_failed : Bool
+
+-- what `F`, `I`, `W` and `E` tell of it
+abbrev pub seen : {F I W E : Type 0} → (F → List FileRead) → (I → Option (List ℕ)) → (W → Option (List ℕ)) → (E → Option (List ℕ)) → F → Streams I W E → World
+seen reads remaining written told files streams = record {
+  files = reads files;
+  input = remaining streams.input.inner;
+  output = written streams.output.inner;
+  errors = told streams.errors;
+  input_failed = streams.input.has_failed;
+  output_failed = streams.output.has_failed;
+}
+
+-- which files a word reads, also where an answer can't be printed
+abbrev pub AreReadFor : Asked → List FileRead → List FileRead → Type 0
+AreReadFor built_in was now = now ≡ was
+AreReadFor (audit paths) was now = AreReadInTurn paths.instance paths.solution was now
+AreReadFor (audits kind list) was now = IsReadFirst (list_path list) was now
+AreReadFor (explain paths) was now = AreReadInTurn paths.instance paths.solution was now
+AreReadFor (draw paths) was now = AreReadInTurn paths.instance paths.solution was now
+AreReadFor (solve task) was now = IsRead task.instance was now
+AreReadFor (format store) was now = now ≡ was
+AreReadFor (load asked) was now = IsRead asked.instance was now
+AreReadFor (run store is_strict) was now = now ≡ was
+AreReadFor (upgrade old new) was now = now ≡ was
+AreReadFor (timetable paths is_tabbed) was now = AreReadInTurn paths.instance paths.solution was now
+AreReadFor (store_timetable store is_tabbed) was now = now ≡ was
+
+-- only `run` reads the input
+abbrev pub IsInputKept : Asked → World → World → Type 0
+IsInputKept (run store is_strict) old new = Unit {0}
+IsInputKept _ old new = new.input ≡ old.input
+
+-- only these words write to the errors
+abbrev pub AreErrorsKept : Asked → World → World → Type 0
+AreErrorsKept (draw paths) old new = Unit {0}
+AreErrorsKept (solve task) old new = Unit {0}
+AreErrorsKept (load asked) old new = Unit {0}
+AreErrorsKept (run store is_strict) old new = Unit {0}
+AreErrorsKept (store_timetable store is_tabbed) old new = Unit {0}
+AreErrorsKept _ old new = new.errors ≡ old.errors
+
+module _ {D N : Type 0} (on_old : sectors.Ghosts D) (on_new : sectors.Ghosts N) (IsOld : D → Type 0) (IsNew : N → Type 0) where
+  -- What was asked for was done and told, and this is the status that goes with it. `IsOld` is what is known of the device over a file that
+  -- is opened, `IsNew` of one over a file that is made beside it.
+  abbrev pub Does : Asked → World → World → ℕ → Type 0
+  Does built_in old new status = TellsAudit LiLim example_instance example_solution old.output new.output status
+  Does (audit paths) old new status = TellsFiles paths.kind paths.instance paths.solution old.files new.files old.output new.output status
+  Does (audits kind list) old new status = TellsList kind list old.files new.files old.output new.output status
+  Does (explain paths) old new status = TellsExplained paths.kind paths.instance paths.solution old.files new.files old.output new.output status
+  Does (draw paths) old new status = TellsDrawn paths.kind paths.instance paths.solution old.files new.files old.output new.output old.errors new.errors status
+  Does (solve task) old new status = TellsTask task old.files new.files old.output new.output old.errors new.errors status
+  Does (format store) old new status = FormatsStore on_old IsOld store old.output new.output status
+  Does (load asked) old new status = TellsLoad on_old on_new IsOld IsNew asked old.files new.files old.output new.output status
+  Does (run store is_strict) old new status = RunsStore on_old IsOld store is_strict old.input old.output new.output new.input_failed new.output_failed status
+  Does (upgrade path new_path) old new status = UpgradesStore on_old on_new IsOld IsNew path new_path old.output new.output status
+  Does (timetable paths is_tabbed) old new status =
+      TellsTimetable paths.kind (form_of is_tabbed) paths.instance paths.solution old.files new.files old.output new.output status
+  Does (store_timetable store is_tabbed) old new status = TimetablesStore on_old IsOld store (form_of is_tabbed) old.output new.output status
+
+  -- The words were read. Where an answer could not be printed, the status is 3.
+  pub record Works (asked : Asked) (old new : World) (status : ℕ) : Type 0 where
+    pub does : Does asked old new status ⊎ (status ≡ 3)
+    pub reads : AreReadFor asked old.files new.files
+    pub input : IsInputKept asked old new
+    pub errors : AreErrorsKept asked old new
+    pub statuses : CanEndWith asked status
+
+  -- or there was no memory to read them, and nothing was done
+  abbrev pub EndsWith : Asked → World → World → ℕ → Type 0
+  EndsWith asked old new status = Works asked old new status ⊎ ((status ≡ 4) × (new ≡ old))
+
+-- The words ask for nothing. Help goes to the output alone, and what is wrong with the words to the errors alone.
+pub record TellsUsage (asked : List Text) (old new : World) (status : ℕ) : Type 0 where
+  pub files : new.files ≡ old.files
+  pub input : new.input ≡ old.input
+  pub help : status ≡ 0 → new.errors ≡ old.errors
+  pub mistake : status ≡ 64 → new.output ≡ old.output
+  pub memory : status ≡ 4 → new ≡ old
+  pub statuses : asks_help asked ≡ false → IsUsageStatus status

@@ -1,0 +1,92 @@
+-- What is told of the timetable of a solution, or of the plan in a store.
+use Rattle.std.specs.Prelude.{◌≡◌, ◌⊎◌, ℕ, Bool, true, false, List, [], codes, string_bytes, Option, Result, IfOk}
+use Rattle.std.specs.Io.KnownBytes.{Appends}
+use Rattle.std.specs.declared.alloc.AllocError.{AllocError}
+use Rattle.plan_types.specs.Instance.{Instance}
+use Rattle.plan_types.specs.declared.requests.Kind.{Kind}
+use Rattle.route_sched.specs.Cost.{cost_of}
+use Rattle.plan_audit.specs.declared.rules.Verdict.{Verdict}
+use Rattle.plan_audit.specs.declared.rules.Verdict.TheVariants.{Pass}
+use Rattle.plan_timetable.specs.Timetable.{judged_text, timetable_text}
+use Rattle.plan_timetable.specs.declared.forms.Form.{Form}
+use Rattle.plan_timetable.specs.declared.forms.Form.TheVariants.{Columns, Tabs}
+use Rattle.seeded_search.specs.Steps.{unplanned_names}
+use Rattle.command_core.specs.Job.{JobValue}
+use Rattle.command_core.specs.declared.states.State.{State}
+use Rattle.command_core.specs.declared.states.State.TheVariants.{Empty, Loaded}
+use Rattle.command_text.specs.Answers.{line}
+use Rattle.planner_cli.specs.Answer.{IsAnswer, verdict_answer}
+use Rattle.planner_cli.specs.Examined.{IsExamined, answer_of}
+use Rattle.planner_cli.specs.Explained.{TellsExplanation, TellsNotRead}
+use Rattle.planner_cli.specs.Files.{AreBothRead}
+use Rattle.planner_cli.specs.Reads.{FileRead}
+use Rattle.planner_cli.specs.Running.{OpensDevice, TellsFault}
+use Rattle.planner_cli.specs.Telling.{open_line, open_status}
+use Rattle.planner_cli.specs.declared.audit.Examined.{Examined}
+use Rattle.planner_cli.specs.declared.audit.Examined.TheVariants.{BadInstance, BadSolution, Judged}
+use Rattle.planner_cli.specs.declared.explained.Explanation.{Explanation}
+use Rattle.sector_disk.specs.declared.file_device.FileFault.{FileFault}
+use Rattle.sector_disk.specs.declared.sectors.Sectors as sectors
+
+-- how it is laid out
+abbrev pub form_of : Bool → Form
+form_of true = Tabs
+form_of false = Columns
+
+-- the timetable of routes, with each request that is in none of them
+abbrev pub plan_text : Form → Instance → List (List ℕ) → List ℕ
+plan_text form p routes = timetable_text form p routes (unplanned_names p routes)
+
+abbrev pub solution_text : Form → Instance → List (List ℕ) → Verdict → List ℕ
+solution_text form p routes verdict = judged_text form p routes (unplanned_names p routes) verdict
+
+-- that of what two texts are: none where one is refused
+abbrev pub IsTimetableOf : Form → Examined → List ℕ → Type 0
+IsTimetableOf form (BadInstance fault) text = text ≡ []
+IsTimetableOf form (BadSolution fault) text = text ≡ []
+IsTimetableOf form (Judged problem plan verdict) text = text ≡ solution_text form problem plan.routes verdict
+
+-- the audit's answer for what two texts are, and the timetable
+pub record IsTimetable (kind : Kind) (form : Form) (instance solution : List ℕ) (told : Explanation) : Type 0 where
+  pub examined : Examined
+  pub is_examined : IsExamined kind instance solution examined
+  pub answers : told.answer ≡ answer_of examined
+  pub tells : IsTimetableOf form examined (string_bytes told.text)
+
+-- two texts are read: the answer is that of their audit
+pub record TellsTable (k : Kind) (form : Form) (instance solution : List ℕ) (was now : List FileRead) (before after : Option (List ℕ)) (status : ℕ) : Type 0 where
+  pub x : List ℕ
+  pub y : List ℕ
+  pub read : AreBothRead instance solution x y was now
+  pub made : Result Explanation AllocError
+  pub answers : IfOk made (λ told. IsAnswer k x y told.answer)
+  pub tells : IfOk made (IsTimetable k form x y)
+  pub told : TellsExplanation made before after status
+
+-- or one can't be read
+abbrev pub TellsTimetable : Kind → Form → List ℕ → List ℕ → List FileRead → List FileRead → Option (List ℕ) → Option (List ℕ) → ℕ → Type 0
+TellsTimetable k form instance solution was now before after status =
+    TellsTable k form instance solution was now before after status ⊎ TellsNotRead instance solution was now before after status
+
+-- a job's plan passes, with its cost, and this is its timetable
+pub record IsPlanTold (form : Form) (job : JobValue) (told : Explanation) : Type 0 where
+  pub answers : told.answer ≡ verdict_answer (Pass (cost_of job.problem job.plan))
+  pub tells : string_bytes told.text ≡ plan_text form job.problem job.plan
+
+-- the timetable of a state's plan, or that nothing was loaded
+abbrev pub TellsState : Form → State → Option (List ℕ) → Option (List ℕ) → ℕ → Type 0
+TellsState form Empty before after status = (status ≡ 2) × Appends before after (line (codes "no NoInstance"))
+TellsState form (Loaded job) before after status = (made : Result Explanation AllocError) × IfOk made (IsPlanTold form job) × TellsExplanation made before after status
+
+module _ {D : Type 0} (on : sectors.Ghosts D) where
+  -- The store on the device is opened, and the timetable of its plan told, or why it can't be opened. `left` is the device as it is left: as
+  -- opening left it.
+  abbrev pub TimetablesDevice : D → Form → Option (List ℕ) → Option (List ℕ) → D → ℕ → Type 0
+  TimetablesDevice device form before after left status =
+      OpensDevice on device (λ session replayed. (left ≡ session.device) × TellsState form session.state before after status) (λ later fault. (left ≡ later) × TellsFault fault before after status)
+
+  -- the same for the device over a file, or it is told why there is none
+  abbrev pub TimetablesStore : (D → Type 0) → List ℕ → Form → Option (List ℕ) → Option (List ℕ) → ℕ → Type 0
+  TimetablesStore IsNew path form before after status =
+      ((device : D) × (left : D) × IsNew device × TimetablesDevice device form before after left status)
+      ⊎ ((fault : FileFault) × (status ≡ open_status fault) × Appends before after (open_line path fault))

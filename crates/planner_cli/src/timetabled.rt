@@ -1,0 +1,218 @@
+//! The timetable of a solution in a file, or of the plan in a store.
+//!
+//! A store is opened as `run` opens it: under its lock, and the search steps that only its journal has are repeated in memory.
+//! Nothing of the store changes.
+ghost use Rattle.std.specs.Prelude.{◌≡◌, ◌≤◌, All, IfOk, string_bytes};
+ghost use Rattle.route_sched.specs.Route.{AreLiveOnce};
+ghost use Rattle.sector_disk.specs.FileDevice.{IsUnused};
+ghost use Rattle.planner_cli.specs.Answer.{IsAnswer, IsSolutionVerdict};
+ghost use Rattle.planner_cli.specs.Examined.{HasVerdict};
+ghost use Rattle.planner_cli.specs.Files.{AreReadInTurn};
+ghost use Rattle.planner_cli.specs.Timetabled.{IsPlanTold, IsTimetable, IsTimetableOf, TellsState, TellsTimetable, TimetablesDevice, TimetablesStore, form_of, plan_text, solution_text};
+
+use crate::answer::{AuditAnswer, pass_line};
+use crate::audit::{Examined, answer_of, examine};
+use crate::audited::read_both;
+use crate::explained::{Explanation, tell_explanation};
+use crate::files::ReadFiles;
+use crate::opened::open_session;
+use crate::status::{DONE, REFUSED};
+use crate::telling::{tell_cause, tell_file_fault, tell_store_fault, tell_unread, write_line};
+use command_core::{Job, State, unplanned_names};
+use command_line::Paths;
+use plan_audit::{Verdict, passes_are_local, plans_are_local};
+use plan_timetable::{Form, judged_timetable, timetable};
+use plan_types::{Kind, OutOfMemory, Problem, Route};
+use recover::Opened;
+use route_sched::plan_cost;
+use sector_disk::{FileCalls, FileDevice, HostFile, Sectors, Start};
+use sol_text::Solution;
+use std::alloc::Global;
+use std::fs::File;
+use std::io;
+use std::io::Write;
+use std::rt::Files;
+
+/// How a timetable is laid out.
+pub(crate) fn form_of(is_tabbed: bool) -> Form
+    ensures { result ≡ form_of is_tabbed }
+{
+    if is_tabbed { Form::Tabs } else { Form::Columns }
+}
+
+/// Reads both texts as `audit_read` does, and tells the audit's answer and the timetable of the solution.
+pub(crate) fn timetable_read<F: ReadFiles, W: Write>(
+    alloc: Global,
+    paths: Paths,
+    form: Form,
+    files: &mut F,
+    output: &mut W,
+) -> io::Result<u8>
+    ensures status { IfOk result (λ status. status ≤ 4) }
+    ensures reads { AreReadInTurn paths.entry.instance.now paths.entry.solution.now
+        (F.reads files.old) (F.reads files.new) }
+    ensures told { IfOk result (TellsTimetable paths.entry.kind form paths.entry.instance.now
+        paths.entry.solution.now (F.reads files.old) (F.reads files.new)
+        (W.contents output.old) (W.contents output.new)) }
+{
+    let both = match read_both(paths, files) {
+        Ok(both) => both,
+        Err(unread) => return tell_unread(output, unread.path, unread.kind),
+    };
+    let told = timetable_texts(alloc, paths.kind, form, &both.0, &both.1);
+    tell_explanation(output, &told)
+}
+
+// Audits a solution's text against an instance's text, and makes the timetable.
+fn timetable_texts(
+    alloc: Global,
+    kind: Kind,
+    form: Form,
+    instance: &[u8],
+    solution: &[u8],
+) -> Result<Explanation, OutOfMemory>
+    ensures answer { IfOk result (λ told. IsAnswer kind instance.now solution.now told.answer) }
+    ensures tells { IfOk result (IsTimetable kind form instance.now solution.now) }
+    ensures status { IfOk result (λ told. told.answer.status ≤ 2) }
+{
+    let examined = examine(alloc, kind, instance, solution)?;
+    let answer = answer_of(alloc, &examined)?;
+    let text = timetable_of(alloc, form, &examined)?;
+    Ok(Explanation { answer, text })
+}
+
+// The timetable of what two texts are: none where one is refused.
+fn timetable_of(alloc: Global, form: Form, examined: &Examined) -> Result<String, OutOfMemory>
+    requires { HasVerdict examined.now }
+    ensures { IfOk result (λ text. IsTimetableOf form examined.now (string_bytes text)) }
+{
+    match examined {
+        Examined::BadInstance(_) => Ok(String::new(alloc)),
+        Examined::BadSolution(_) => Ok(String::new(alloc)),
+        Examined::Judged(problem, plan, verdict) => {
+            solution_text(alloc, form, problem, plan, *verdict)
+        }
+    }
+}
+
+fn solution_text(
+    alloc: Global,
+    form: Form,
+    problem: &Problem,
+    plan: &Solution,
+    verdict: Verdict,
+) -> Result<String, OutOfMemory>
+    requires { IsSolutionVerdict problem.now plan.now verdict }
+    ensures { IfOk result (λ text. string_bytes text
+        ≡ solution_text form problem.now plan.now.routes verdict) }
+{
+    let unplanned = unplanned_names(alloc, problem, plan.routes.as_slice())?;
+    judged_timetable(alloc, problem, plan, verdict, unplanned.as_slice(), form)
+}
+
+/// Opens the store in the file, and tells the timetable of its plan. How many search steps opening repeats is told on `errors`
+/// first.
+pub(crate) fn timetable_store<R, T: Start, W: Write, E: Write>(
+    rt: &R,
+    start: T,
+    store: &str,
+    form: Form,
+    output: &mut W,
+    errors: &mut E,
+) -> io::Result<u8>
+where
+    R: Files<File = File> + Eprint + AllocGlobal,
+    ensures status { IfOk result (λ status. status ≤ 4) }
+    ensures told { IfOk result (TimetablesStore ⟦<FileDevice<T> as Sectors>⟧
+        (IsUnused ⟦<HostFile as FileCalls>⟧.entries) store.now form
+        (W.contents output.old) (W.contents output.new)) }
+{
+    match FileDevice::at_or_cause(rt, store, start) {
+        Ok(device) => {
+            let (told, device) = timetable_device(rt.alloc(), device, form, output, errors);
+            tell_cause(rt, store, device.cause());
+            told
+        }
+        Err(refusal) => {
+            tell_cause(rt, store, refusal.cause);
+            tell_file_fault(output, store, refusal.fault)
+        }
+    }
+}
+
+// Opens the store on the device, tells the timetable of its plan, and gives the device back.
+fn timetable_device<D: Sectors + Drop, W: Write, E: Write>(
+    alloc: Global,
+    device: D,
+    form: Form,
+    output: &mut W,
+    errors: &mut E,
+) -> (io::Result<u8>, D)
+    ensures status { IfOk result.0 (λ status. status ≤ 4) }
+    ensures told { IfOk result.0 (TimetablesDevice D.Sectors device form
+        (W.contents output.old) (W.contents output.new) result.1) }
+{
+    let opening = open_session(alloc, device, errors);
+    match opening.into_opened() {
+        Ok(opened) => timetable_opened(alloc, opened, form, output),
+        Err((fault, device)) => (tell_store_fault(output, fault), device),
+    }
+}
+
+// Tells the timetable of a session's plan, and gives the device back.
+fn timetable_opened<D: Sectors + Drop, W: Write>(
+    alloc: Global,
+    opened: Opened<D>,
+    form: Form,
+    output: &mut W,
+) -> (io::Result<u8>, D)
+    ensures status { IfOk result.0 (λ status. status ≤ 4) }
+    ensures told { IfOk result.0 (TellsState form opened.session.state
+        (W.contents output.old) (W.contents output.new)) }
+    ensures kept { result.1 ≡ opened.session.device }
+{
+    let session = opened.session;
+    let told = tell_state(alloc, session.state(), form, output);
+    (told, session.close())
+}
+
+// Tells the timetable of a state's plan, or that nothing was loaded.
+fn tell_state<W: Write>(alloc: Global, state: &State, form: Form, output: &mut W) -> io::Result<u8>
+    ensures status { IfOk result (λ status. status ≤ 4) }
+    ensures told { IfOk result (TellsState form state.now
+        (W.contents output.old) (W.contents output.new)) }
+{
+    match state {
+        State::Empty => {
+            write_line(output, b"no NoInstance")?;
+            Ok(REFUSED)
+        }
+        State::Loaded(job) => tell_explanation(output, &plan_told(alloc, job, form)),
+    }
+}
+
+// The answer of the audit of a job's plan, which passes, and its timetable.
+fn plan_told(alloc: Global, job: &Job, form: Form) -> Result<Explanation, OutOfMemory>
+    ensures tells { IfOk result (IsPlanTold form job.now) }
+    ensures status { IfOk result (λ told. told.answer.status ≤ 2) }
+{
+    passes_are_local();
+    plans_are_local();
+    let line = pass_line(alloc, plan_cost(&job.problem, &job.plan))?;
+    let text = plan_text(alloc, form, &job.problem, job.plan.routes.as_slice())?;
+    let answer = AuditAnswer { line, status: DONE };
+    Ok(Explanation { answer, text })
+}
+
+fn plan_text(
+    alloc: Global,
+    form: Form,
+    problem: &Problem,
+    routes: &[Route],
+) -> Result<String, OutOfMemory>
+    requires { All (AreLiveOnce problem.now) routes.now }
+    ensures { IfOk result (λ text. string_bytes text ≡ plan_text form problem.now routes.now) }
+{
+    let unplanned = unplanned_names(alloc, problem, routes)?;
+    timetable(alloc, problem, routes, unplanned.as_slice(), form)
+}
