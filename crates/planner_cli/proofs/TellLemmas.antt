@@ -1,6 +1,6 @@
 -- What is told line by line.
-use Rattle.std.proofs.Common.{◌≡◌, ◌∙◌, ◌<◌, ◌||◌, ℕ, Bool, true, false, true≢false, List, [], ◌∷◌, ◌++◌, Option, Some, None, Result, Ok, Err, refl, sym, ap, subst, arith, append_assoc, append-nil}
-use Rattle.std.specs.Prelude.{◌≢◌, ◌↔◌, IfErr, IsErrOf, OnOk, max}
+use Rattle.std.proofs.Common.{◌≡◌, ◌∙◌, ◌<◌, ◌||◌, ℕ, Bool, true, false, true≢false, List, Option, Some, None, Result, Ok, Err, refl, sym, ap, subst, arith}
+use Rattle.std.specs.Prelude.{◌≢◌, ◌↔◌, IfErr, IsErrOf, OnOk}
 use Rattle.std.specs.Result.{result_err}
 use Rattle.command_core.specs.Effects.{effect}
 use Rattle.command_core.specs.declared.commands.Command.{Command}

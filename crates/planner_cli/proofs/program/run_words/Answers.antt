@@ -1,8 +1,7 @@
 -- Words that ask for something are not read only for want of memory, and then nothing is told.
 use Rattle.std.proofs.Common.{◌≡◌, ℕ, inl, inr, Result, Ok, refl, ap, subst, arith}
-use Rattle.std.specs.Prelude.{◌≢◌, MatchResult}
+use Rattle.std.specs.Prelude.{MatchResult}
 use Rattle.clap.specs.Words.{kind_of}
-use Rattle.clap.specs.declared.error.kind.ErrorKind.TheVariants.{OutOfMemory}
 use Rattle.command_line.specs.Asked.{usage_status_of}
 use Rattle.planner_cli.proofs.program.run_words.Goals as goal
 
