@@ -9,9 +9,7 @@ use crate::missing::with_names;
 use crate::orders::ordered;
 use crate::strings::ruined_names;
 use move_ops::Draft;
-use plan_types::{
-    OutOfMemory, Pins, Problem, requests_are_found_by_stop, requests_stand_by_name,
-};
+use plan_types::{OutOfMemory, Pins, Problem, requests_are_found_by_stop, requests_stand_by_name};
 use seeded_search::{Lists, place_all};
 use std::alloc::Global;
 
