@@ -109,10 +109,9 @@ def check_many_commits(folder):
 def check_long_line(folder):
     store = os.path.join(folder, "line.store")
     planner("format", store)
-    answers = run(store, b"add1 " + b"1 " * 35_000 + b"\nhelp\n")
-    first, _, rest = answers.partition("\n")
-    if first != "no BadLine" or not rest.endswith("ok\n"):
-        fail(f"a line of 70,000 bytes: {first!r}, then {rest[-10:]!r}")
+    answers = run(store, b"add1 " + b"1 " * 35_000 + b"\nnext\n")
+    if answers != "no BadLine\nno NoInstance\n":
+        fail(f"a line of 70,000 bytes: {answers!r}")
 
 
 def check_long_route(folder):
@@ -125,11 +124,11 @@ def check_long_route(folder):
 
 
 def check_small_fleet(folder):
-    # Two vehicles for twelve tasks in pairs that all want to be served at once.
+    # Two vehicles for six pairs whose pickups are all due at once, ten apart.
     lines = ["2 10 1", "0 0 0 0 0 1000 0 0 0"]
     for pair in range(6):
-        lines.append(f"{2 * pair + 1} {100 * pair} 50 10 100 110 5 0 {2 * pair + 2}")
-        lines.append(f"{2 * pair + 2} {100 * pair} 90 -10 150 160 5 {2 * pair + 1} 0")
+        lines.append(f"{2 * pair + 1} {10 * pair} 50 10 100 110 5 0 {2 * pair + 2}")
+        lines.append(f"{2 * pair + 2} {10 * pair} 90 -10 150 160 5 {2 * pair + 1} 0")
     text = "\n".join(lines) + "\n"
     instance = write(folder, "fleet.txt", text)
     status, solution, errors = planner("solve", "lilim", instance, "100")
@@ -139,7 +138,7 @@ def check_small_fleet(folder):
     store = os.path.join(folder, "fleet.store")
     planner("format", store)
     answers = run(store, f"load lilim 1 {len(text)}\n{text}build\nsearch 100\nprint\n".encode())
-    if answers.split("\n")[:3] != ["ok", "ok", answers.split("\n")[2]] or not answers.split("\n")[2].startswith("at 100 4 2 "):
+    if not answers.startswith("ok\nok\nat 100 4 2 "):
         fail(f"a small fleet in a store: {answers!r}")
 
 

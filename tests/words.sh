@@ -82,7 +82,7 @@ expect 64 '' 'error: STEPS and DEVIATION are 0 to 1000000000 and SEED 0 to 18446
 [ "$("$program" solve lilim one-pair.txt 3 2>&1 >/dev/null)" = "$(printf 'at %d 0 1 20\n' 0 1 2 3)" ] || fail "solve: not a line for each step"
 # A second pair that no vehicle can serve beside the first: one vehicle, and both are due at the same time at places apart.
 printf '1 10 1\n0 0 0 0 0 100 0 0 0\n1 30 0 4 0 30 0 0 2\n2 31 0 -4 0 60 0 1 0\n3 -30 0 4 0 30 0 0 4\n4 -31 0 -4 0 60 0 3 0\n' >"$folder/two-pairs.txt"
-expect 1 'Route #1: 1 2' 'at 0 1 1 62' solve lilim "$folder/two-pairs.txt" 1
+expect 1 'Route #1: 3 4' 'at 0 1 1 62' solve lilim "$folder/two-pairs.txt" 1
 [ "$("$program" solve lilim "$folder/two-pairs.txt" 0 2>&1 >/dev/null)" = "$(printf 'at 0 1 1 62\nunplanned 1: 3\n')" ] || fail "solve: two pairs for one vehicle"
 [ "$("$program" solve lilim "$folder/two-pairs.txt" 0 2>/dev/null)" = 'Route #1: 1 2' ] || fail "solve: the routes of a plan that is not whole"
 "$program" solve lilim lc101.txt 500 9 >"$folder/lc101.sol" 2>/dev/null && "$program" audit lilim lc101.txt "$folder/lc101.sol" >/dev/null || fail "audit does not pass what solve prints"
