@@ -2,7 +2,7 @@
 //! requests in again.
 //!
 //! `anneal_steps` makes many steps and `anneal_step` one, both in the form of `search_steps` and `search_step`
-//! (`seeded_search`) and asking the same. No command calls them yet.
+//! (`seeded_search`) and asking the same. The command `Anneal` (`command_core`) and `plan_solve` call the former.
 //!
 //! Modules, in reading order:
 //! - `draws`: what a word draws, and what is left of it.
