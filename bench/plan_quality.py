@@ -5,13 +5,17 @@ FOLDER holds instances, `NAME.vrp` or `NAME.txt` (Li-Lim), and `references.txt` 
 each. Each is solved with each seed, audited, and compared: of `.vrp` the gap of the distance in percent, of Li-Lim the
 vehicles above the reference's, too. A plan that leaves requests out is told as such.
 
-    bench/plan_quality.py FOLDER STEPS [SEED..]
+    bench/plan_quality.py [--jobs N] FOLDER STEPS [SEED..]
+
+So many are solved side by side, one without `--jobs`; the seconds are those of the processor.
 """
 
+import argparse
+import os
 import pathlib
 import subprocess
-import sys
-import time
+import tempfile
+from concurrent.futures import ThreadPoolExecutor
 
 TOP = pathlib.Path(__file__).resolve().parent.parent
 PROGRAM = TOP / "crates" / "planner" / "out" / "planner"
@@ -27,12 +31,15 @@ def references_of(folder):
 
 def solved(kind, path, steps, seed):
     """Vehicles and distance by the audit of what is printed, or None where requests are left out; and the seconds."""
-    begun = time.perf_counter()
-    found = subprocess.run([PROGRAM, "solve", kind, path, str(steps), str(seed)], capture_output=True, check=False)
-    seconds = time.perf_counter() - begun
-    if found.returncode:
-        return None, seconds
-    audit = subprocess.run([PROGRAM, "audit", kind, path, "-"], input=found.stdout, capture_output=True, check=True)
+    with tempfile.TemporaryFile() as plan:
+        process = subprocess.Popen([PROGRAM, "solve", kind, path, str(steps), str(seed)], stdout=plan, stderr=subprocess.DEVNULL)
+        _, status, usage = os.wait4(process.pid, 0)
+        process.returncode = os.waitstatus_to_exitcode(status)
+        seconds = usage.ru_utime + usage.ru_stime
+        if process.returncode:
+            return None, seconds
+        plan.seek(0)
+        audit = subprocess.run([PROGRAM, "audit", kind, path, "-"], stdin=plan, capture_output=True, check=True)
     _, _, vehicles, distance = audit.stdout.split()
     return (int(vehicles), int(distance)), seconds
 
@@ -42,27 +49,40 @@ def gap(distance, best):
     return 100 * (distance - best) / best
 
 
-def main():
-    if len(sys.argv) < 3:
-        sys.exit(__doc__)
-    folder, steps = pathlib.Path(sys.argv[1]), int(sys.argv[2])
-    seeds = [int(word) for word in sys.argv[3:]] or [1]
-    gaps = []
-    for name, (_, best_vehicles, best) in sorted(references_of(folder).items()):
+def tasks_of(folder, seeds):
+    """For each instance and seed: name, path, kind, seed, and the reference's vehicles and distance."""
+    for name, (_, vehicles, distance) in sorted(references_of(folder).items()):
         path = next(folder / (name + end) for end in KINDS if (folder / (name + end)).exists())
-        kind = KINDS[path.suffix]
         for seed in seeds:
-            cost, seconds = solved(kind, path, steps, seed)
+            yield name, path, KINDS[path.suffix], seed, vehicles, distance
+
+
+def main():
+    parser = argparse.ArgumentParser(usage="bench/plan_quality.py [--jobs N] FOLDER STEPS [SEED..]")
+    parser.add_argument("--jobs", type=int, default=1)
+    parser.add_argument("folder", type=pathlib.Path)
+    parser.add_argument("steps", type=int)
+    parser.add_argument("seeds", type=int, nargs="*", default=[1])
+    words = parser.parse_args()
+    tasks = list(tasks_of(words.folder, words.seeds))
+    gaps, above = [], []
+    with ThreadPoolExecutor(words.jobs) as pool:
+        found = pool.map(lambda task: solved(task[2], task[1], words.steps, task[3]), tasks)
+        for (name, _, kind, seed, best_vehicles, best), (cost, seconds) in zip(tasks, found):
             if cost is None:
-                print(f"{name} seed {seed}: requests are left out, {seconds:.1f} s")
+                print(f"{name} seed {seed}: requests are left out, {seconds:.1f} s", flush=True)
                 continue
             vehicles, distance = cost
-            above = "" if kind == "vrp" else f", {vehicles - best_vehicles:+d} vehicles"
+            more = "" if kind == "vrp" else f", {vehicles - best_vehicles:+d} vehicles"
             if kind == "vrp":
                 gaps.append(gap(distance, best))
-            print(f"{name} seed {seed}: {distance}, gap {gap(distance, best):+.2f} %{above}, {seconds:.1f} s", flush=True)
+            else:
+                above.append(vehicles - best_vehicles)
+            print(f"{name} seed {seed}: {distance}, gap {gap(distance, best):+.2f} %{more}, {seconds:.1f} s", flush=True)
     if gaps:
-        print(f"vrp: mean gap {sum(gaps) / len(gaps):+.2f} % of {len(gaps)} after {steps} steps")
+        print(f"vrp: mean gap {sum(gaps) / len(gaps):+.2f} % of {len(gaps)} after {words.steps} steps")
+    if above:
+        print(f"lilim: mean {sum(above) / len(above):+.2f} vehicles of {len(above)} after {words.steps} steps")
 
 
 if __name__ == "__main__":

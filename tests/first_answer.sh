@@ -1,6 +1,7 @@
 #!/bin/sh
-# Checks what ./planner shows while its program is built for the first time, with an `rt` of its own in place of the kit's: the
-# trial's answer on standard error, the program's on standard output, and no word of a trial that failed or was not asked for.
+# Checks how ./planner builds its program for the first time, with an `rt` of its own in place of the kit's: crates side by side,
+# each behind those below it, again after a refusal or an interrupt; and the trial's answer on standard error, the program's on
+# standard output, and no word of a trial that failed or was not asked for.
 set -u
 
 top=$(CDPATH='' cd -- "$(dirname -- "$0")/.." && pwd -P)
@@ -13,15 +14,43 @@ fail() {
     failures=$((failures + 1))
 }
 
-# A build takes three seconds and leaves a program that answers `pass 1`. A trial answers what the file `tried` holds.
-mkdir -p "$folder/tree/crates/planner/src" "$folder/tree/crates/planner/out" "$folder/bin" "$folder/tmp"
+# As the kit's, it wants the sources of each crate that crates.txt names. A library that does not stand takes a second, at whose
+# ends the file `done` names it, and the one that the file `refused` names is refused. A build takes one more and leaves a program that answers `pass 1`. A trial answers what the file `tried` holds.
+mkdir -p "$folder/tree/tools" "$folder/bin" "$folder/tmp"
 cp -- "$top/planner" "$folder/tree/planner"
-: >"$folder/tree/crates/planner/src/main.rt"
+cp -- "$top/tools/build_program.py" "$folder/tree/tools"
+for it in low left right planner apart; do
+    mkdir -p "$folder/tree/crates/$it/src"
+    : >"$folder/tree/crates/$it/src/main.rt"
+done
+printf '# crates\nplanner: left right clap\nleft: low\nright: low std\nlow: thiserror\napart: low\n' >"$folder/tree/crates.txt"
+echo 'Handles allowed: none.' >"$folder/tree/HANDLES"
 cat >"$folder/bin/rt" <<'END'
 #!/bin/sh
+name=$(basename "$PWD")
+for it in $(sed -n 's/^\([a-z_]*\):.*/\1/p' ../../crates.txt); do
+    [ -d "../$it/src" ] || {
+        echo "crates.txt: $it: there is no folder for it"
+        exit 2
+    }
+done
 case $1 in
+    lib)
+        [ ! -e out/rlib/stamp ] || exit 0
+        echo "begun $name" >>"$FAKE/done"
+        mkdir -p out/rlib out/incremental
+        echo "$name" >>out/incremental/kept
+        sleep 1
+        if grep -qsx "$name" "$FAKE/refused"; then
+            echo "$name is refused"
+            exit 1
+        fi
+        : >out/rlib/stamp
+        echo "ended $name" >>"$FAKE/done"
+        ;;
     run)
-        sleep 3
+        sleep 1
+        mkdir -p out
         printf '#!/bin/sh\necho pass 1\nexit 1\n' >out/planner
         chmod 755 out/planner
         ;;
@@ -64,7 +93,40 @@ expect 'pass 1
 expect 'pass 1
 ' "$ended" '' solve lilim a.txt 1
 
+# Libraries are proved once those below them stand, side by side, and only those of the program.
+rm -rf -- "$folder/done" "$folder"/tree/crates/*/out
+(cd -- "$folder" && FAKE="$folder" TMPDIR="$folder/tmp" PATH="$folder/bin:$PATH" tree/planner solve >/dev/null 2>errors)
+told=$(grep '^planner: proving [a-z]* (' "$folder/errors" | tr '\n' ' ')
+[ "$told" = 'planner: proving low (1 of 4) planner: proving left (2 of 4) planner: proving right (3 of 4) planner: proving planner (4 of 4) ' ] ||
+    fail "it tells '$told'"
+order=$(sed 's/ left$/ one/; s/ right$/ one/' "$folder/done" | tr '\n' ' ')
+if [ "$(getconf _NPROCESSORS_ONLN)" -gt 1 ]; then
+    [ "$order" = 'begun low ended low begun one begun one ended one ended one ' ] || fail "the order is '$order'"
+fi
+[ -z "$(find "$folder/tree" -name lanes)" ] || fail 'lanes are left'
+
+# A library that is refused is told, and what stands is kept.
+rm -rf -- "$folder"/tree/crates/*/out
+echo right >"$folder/refused"
+(cd -- "$folder" && FAKE="$folder" TMPDIR="$folder/tmp" PATH="$folder/bin:$PATH" tree/planner solve >/dev/null 2>errors)
+status=$?
+[ "$status" = 3 ] && grep -qx 'right is refused' "$folder/errors" || fail "a refusal ends with $status: $(cat "$folder/errors")"
+[ -e "$folder/tree/crates/low/out/rlib/stamp" ] || fail 'what was proved before a refusal is lost'
+rm -- "$folder/refused"
+
+# A build that is interrupted keeps what its provers kept.
+rm -rf -- "$folder"/tree/crates/*/out
+(cd -- "$folder" && FAKE="$folder" TMPDIR="$folder/tmp" PATH="$folder/bin:$PATH" exec tree/planner solve >/dev/null 2>errors) &
+sleep 0.6
+kill "$!"
+wait "$!"
+[ "$(cat -- "$folder/tree/crates/low/out/incremental/kept")" = low ] || fail 'an interrupt loses what was kept'
+[ -z "$(find "$folder/tree" -name lanes)" ] || fail 'lanes are left by an interrupt'
+
 # Cleaning leaves the program alone.
+rm -rf -- "$folder"/tree/crates/*/out
+mkdir -p "$folder/tree/crates/planner/out"
+printf '#!/bin/sh\n' >"$folder/tree/crates/planner/out/planner"
 cp -- "$top/clean" "$folder/tree/clean"
 mkdir -p "$folder/tree/crates/low/out/rlib"
 : >"$folder/tree/crates/low/out/rlib/low"

@@ -1,8 +1,10 @@
 #!/usr/bin/env python3
 """Reads the pictures that the built program draws, and compares marks and lines with the files that they are of.
 
-Each is XML with whole numbers alone; each stop and the depot has one mark, each route one line, and each point stands
-where the coordinates in the instance say. A plan that breaks a rule is drawn too, and the broken stop has a ring.
+Each is XML with whole numbers alone outside its fixed shapes; each stop and the depot has one mark, each leg one line, in
+the direction in which it is driven, and each point stands where the coordinates in the instance say. Pairs are joined. No
+number covers a mark or another number. A plan that breaks a rule is drawn too: the broken stop has a ring, and so has each
+stop that no route has.
 
     tests/picture.py
 """
@@ -11,6 +13,7 @@ import pathlib
 import re
 import subprocess
 import sys
+import tempfile
 import xml.etree.ElementTree as ElementTree
 
 TOP = pathlib.Path(__file__).resolve().parent.parent
@@ -38,15 +41,16 @@ def routes(text):
 
 
 def places(stops):
-    """Where each stop stands: ten units of room, and coordinates whose greater side is scaled to 4000 or more."""
+    """Where each stop stands, and the unit: twelve units of room, and coordinates whose greater side is scaled to 4000 or more."""
     left = min(x for x, _ in stops.values())
     top = max(y for _, y in stops.values())
     across = max(x for x, _ in stops.values()) - left
     down = top - min(y for _, y in stops.values())
     size = max(across, down, 1)
     scale = -(-4000 // size)
-    room = 10 * (scale * size // 400)
-    return {number: (room + scale * (x - left), room + scale * (top - y)) for number, (x, y) in stops.items()}
+    unit = scale * size // 400
+    room = 12 * unit
+    return unit, {number: (room + scale * (x - left), room + scale * (top - y)) for number, (x, y) in stops.items()}
 
 
 def titled(svg):
@@ -56,42 +60,129 @@ def titled(svg):
             for mark in marks]
 
 
-def check(kind, name, solution, stops, ring=None):
-    """Draws the solution, compares the picture with the two texts, and gives it."""
-    words = [PROGRAM, "draw", kind, EXAMPLES / name, EXAMPLES / solution]
-    done = subprocess.run(words, capture_output=True, check=False)
+def points(line):
+    """The places of a line."""
+    return [tuple(map(int, point.split(","))) for point in line.get("points").split()]
+
+
+def legs(svg):
+    """The ends of each leg, route by route."""
+    groups = [group for group in svg.iter(SVG + "g") if group.get("class") == "legs"]
+    return [[(points(leg)[0], points(leg)[-1]) for leg in route] for route in groups[0]]
+
+
+def joined(svg):
+    """The ends of each line that joins a pair."""
+    groups = [group for group in svg.iter(SVG + "g") if group.get("class") == "pairs"]
+    return sorted(tuple(points(line)) for line in groups[0])
+
+
+def lilim_pairs(text):
+    """The pickup and the delivery of each request."""
+    rows = [list(map(int, line.split())) for line in text.splitlines()[1:] if line.split()]
+    return [(row[7], row[0]) for row in rows if row[7]]
+
+
+def numbers(svg):
+    """The number of each stop that has one, and where its letters stand."""
+    texts = [text for text in svg.iter(SVG + "text") if text.get("class") == "number"]
+    return {int(text.text): (int(text.get("x")), int(text.get("y"))) for text in texts}
+
+
+def covered(svg, marks, unit):
+    """Two numbers that cover one another, or a number that covers a mark."""
+    shown = numbers(svg)
+    boxes = {number: (x - 5 * unit * len(str(number)) // 4, x + 5 * unit * len(str(number)) // 4, y - 7 * unit // 2, y)
+             for number, (x, y) in shown.items()}
+    for number, box in boxes.items():
+        for other, (x, y) in marks.items():
+            if box[0] < x + unit and x - unit < box[1] and box[2] < y + unit and y - unit < box[3]:
+                return number, other
+        for other, that in boxes.items():
+            if number < other and box[0] < that[1] and that[0] < box[1] and box[2] < that[3] and that[2] < box[3]:
+                return number, other
+    return None
+
+
+def near(svg, marks, unit):
+    """Whether each number stands beside its own mark."""
+    return all(abs(x - marks[number][0]) <= 16 * unit and abs(y - marks[number][1]) <= 8 * unit
+               for number, (x, y) in numbers(svg).items())
+
+
+def drawing(words):
+    """What the program draws."""
+    done = subprocess.run([PROGRAM, "draw"] + words, capture_output=True, check=False)
     if (done.returncode, done.stderr) != (0, b""):
-        sys.exit(f"picture: {solution}: status {done.returncode}, {done.stderr!r}")
-    text = done.stdout.decode("ascii")
-    if re.search(r"[0-9]\.[0-9]", text):
+        sys.exit(f"picture: {words}: status {done.returncode}, {done.stderr!r}")
+    return done.stdout.decode("ascii")
+
+
+def check(kind, name, solution, stops, pairs, ring=None):
+    """Draws the solution, compares the picture with the two texts, and gives it."""
+    text = drawing([kind, EXAMPLES / name, EXAMPLES / solution])
+    if re.search(r"[0-9]\.[0-9]", text.split("</defs>")[1]):
         sys.exit(f"picture: {solution}: a number that is not whole")
     svg = ElementTree.fromstring(text)
-    wanted = places(stops)
-    marks = [(number, place) for number, place, shape in titled(svg) if shape != "#broken"]
+    unit, wanted = places(stops)
+    drawn = routes((EXAMPLES / solution).read_text(encoding="ascii"))
+    marks = [(number, place) for number, place, shape in titled(svg) if shape not in ("#broken", "#unserved")]
     if len(marks) != len(stops) or dict(marks) != wanted:
         sys.exit(f"picture: {solution}: other marks")
     rings = [number for number, _, shape in titled(svg) if shape == "#broken"]
     if rings != ([] if ring is None else [ring]):
         sys.exit(f"picture: {solution}: rings {rings}")
-    lines = [line.get("points").split() for line in svg.iter(SVG + "polyline")]
-    drawn = routes((EXAMPLES / solution).read_text(encoding="ascii"))
-    if lines != [["%d,%d" % wanted[number] for number in [0] + route + [0]] for route in drawn]:
-        sys.exit(f"picture: {solution}: other lines")
+    served = [0] + [number for route in drawn for number in route]
+    left = [number for number, _, shape in titled(svg) if shape == "#unserved"]
+    if sorted(left) != sorted(set(stops) - set(served)) or ("ringed: %d<" % len(left) in text) != bool(left):
+        sys.exit(f"picture: {solution}: unserved {left}")
+    driven = [[(wanted[a], wanted[b]) for a, b in zip([0] + route, route + [0])] for route in drawn]
+    if legs(svg) != driven:
+        sys.exit(f"picture: {solution}: other legs")
+    if joined(svg) != sorted((wanted[a], wanted[b]) for a, b in pairs):
+        sys.exit(f"picture: {solution}: other pairs")
+    if covered(svg, wanted, unit) or not near(svg, wanted, unit):
+        sys.exit(f"picture: {solution}: numbers cover something, or stand elsewhere")
     if (kind == "lilim") != ("driving" in text):
         sys.exit(f"picture: {solution}: a chart only where windows count")
+    if kind == "vrp" and ("vehicles" in text or "pickup<" in text):
+        sys.exit(f"picture: {solution}: words of vehicles or pickups")
     return text
+
+
+def check_alone(number, solution, stops):
+    """Draws one route of the Li-Lim example alone, and compares its marks and legs with its stops."""
+    svg = ElementTree.fromstring(drawing(["lilim", EXAMPLES / "lc101.txt", EXAMPLES / solution, str(number)]))
+    route = routes((EXAMPLES / solution).read_text(encoding="ascii"))[number - 1]
+    _, wanted = places({stop: stops[stop] for stop in [0] + route})
+    if {stop: place for stop, place, _ in titled(svg)} != wanted:
+        sys.exit(f"picture: {solution}: other marks of route {number} alone")
+    if legs(svg) != [[(wanted[a], wanted[b]) for a, b in zip([0] + route, route + [0])]]:
+        sys.exit(f"picture: {solution}: other legs of route {number} alone")
 
 
 def main():
     if not PROGRAM.exists():
         sys.exit(f"picture: {PROGRAM} is not built: run rt ci, or ./planner once")
     read = lambda name: (EXAMPLES / name).read_text(encoding="ascii")
-    picture = check("lilim", "lc101.txt", "lc101.sol", lilim_stops(read("lc101.txt")))
+    text = read("lc101.txt")
+    picture = check("lilim", "lc101.txt", "lc101.sol", lilim_stops(text), lilim_pairs(text))
     if picture != read("lc101.svg"):
         sys.exit("picture: examples/lc101.svg is another picture")
-    check("vrp", "P-n16-k8.vrp", "P-n16-k8.sol", vrp_stops(read("P-n16-k8.vrp")))
-    check("lilim", "one-pair.txt", "one-pair-reversed.sol", lilim_stops(read("one-pair.txt")), ring=2)
-    print("picture: marks and lines stand where the files say")
+    for number in range(1, 11):
+        check_alone(number, "lc101.sol", lilim_stops(text))
+    check("vrp", "P-n16-k8.vrp", "P-n16-k8.sol", vrp_stops(read("P-n16-k8.vrp")), [])
+    text = read("one-pair.txt")
+    check("lilim", "one-pair.txt", "one-pair-reversed.sol", lilim_stops(text), lilim_pairs(text), ring=2)
+    text = read("lc101.txt")
+    first = read("lc101.sol").splitlines()[:8]
+    served = {number for route in routes("\n".join(first)) for number in route}
+    missing = min(pickup for pickup, _ in lilim_pairs(text) if pickup not in served)
+    with tempfile.TemporaryDirectory() as folder:
+        part = pathlib.Path(folder) / "eight.sol"
+        part.write_text("\n".join(first + ["Cost 0", ""]), encoding="ascii")
+        check("lilim", "lc101.txt", part, lilim_stops(text), lilim_pairs(text), ring=missing)
+    print("picture: marks, legs, pairs and numbers stand where the files say")
 
 
 if __name__ == "__main__":

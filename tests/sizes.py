@@ -132,9 +132,15 @@ def check_small_fleet(folder):
     text = "\n".join(lines) + "\n"
     instance = write(folder, "fleet.txt", text)
     status, solution, errors = planner("solve", "lilim", instance, "100")
-    told = errors.rstrip("\n").split("\n")[-1].split()
+    lines = errors.rstrip("\n").split("\n")
+    told = next((line.split() for line in lines if line.startswith("unplanned ")), [])
     if status != 1 or told[:2] != ["unplanned", "4:"] or len(told) != 6 or "Cost" in solution or solution.count("Route") != 2:
         fail(f"a small fleet: status {status}, {told}, {solution!r}")
+    # A line each alone and of the fleet, and one for each vehicle, behind all.
+    for name in told[2:]:
+        why = [line for line in lines if line.startswith(f"why {name}: ")]
+        if len(why) != 4 or why[0] != f"why {name}: alone: a vehicle can serve it" or why[3] != f"why {name}: fleet: 2 of 2 vehicles are used":
+            fail(f"a small fleet: {why}")
     store = os.path.join(folder, "fleet.store")
     planner("format", store)
     answers = run(store, f"load lilim 1 {len(text)}\n{text}build\nsearch 100\nprint\n".encode())

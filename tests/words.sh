@@ -35,6 +35,10 @@ done
 
 expect 0 'pass 0 1 20' ''
 expect 0 'pass 0 10 829' '' audit lilim lc101.txt "$top/examples/lc101.sol"
+# Text behind the cost line is not read, which is told, and nothing else changes.
+printf 'Route #1: 1 2\nCost 20\n\nTime 3\nCost 5\n' >"$folder/timed.sol"
+expect 0 'pass 0 1 20' "planner: $folder/timed.sol: line 4 is behind the cost line and not read" audit lilim one-pair.txt "$folder/timed.sol"
+expect 0 'pass 0 1 20' "planner: $folder/timed.sol: line 4 is behind the cost line and not read" explain lilim one-pair.txt "$folder/timed.sol"
 expect 1 'broken 5 route 1 place 1 stop 2' '' audit lilim one-pair.txt one-pair-reversed.sol
 expect 2 'instance FieldCount 1' '' audit lilim one-pair.sol one-pair.sol
 expect 3 'cannot read nowhere' 'planner: nowhere: No such file or directory (os error 2)' audit lilim one-pair.txt nowhere
@@ -55,6 +59,13 @@ expect 0 'planner 0.1.0' '' --version
 expect 0 'pass 0 10 829' '' explain lilim lc101.txt lc101.sol
 expect 1 'broken 5 route 1 place 1 stop 2' '' explain lilim one-pair.txt one-pair-reversed.sol
 expect 3 'cannot read nowhere' 'planner: nowhere: No such file or directory (os error 2)' explain lilim one-pair.txt nowhere
+got=$("$program" explain vrp lc101.txt lc101.sol | tail -n 1)
+[ "$got" = 'the text looks like a Li-Lim instance, and is read as vrp' ] || fail "explain of lc101 as vrp: $got"
+got=$(sed 's/^Cost .*/Cost 828.94/' lc101.sol | "$program" explain lilim lc101.txt - | sed -n 2p)
+[ "$got" = 'line 11: a word is not the number that has to stand there: the cost is 828.94, which has a fraction, allowed are whole numbers in 0..18446744073709551615' ] ||
+    fail "explain of a cost with a fraction: $got"
+got=$(sed 's/^Route #5:.*//' lc101.sol | "$program" explain lilim lc101.txt - | sed -n 3p)
+[ "$got" = 'stops in no route: 14' ] || fail "explain of lc101 without a route: $got"
 expect 0 'pass 0 10 829' '' timetable lilim lc101.txt lc101.sol
 expect 1 'broken 5 route 1 place 1 stop 2' '' timetable lilim one-pair.txt one-pair-reversed.sol tabs
 expect 3 'cannot read nowhere' 'planner: nowhere: No such file or directory (os error 2)' timetable nowhere tabs
@@ -62,6 +73,8 @@ expect 64 '' 'error: the words are STORE [tabs] or KIND INSTANCE SOLUTION [tabs]
 [ "$("$program" timetable lilim lc101.txt lc101.sol tabs | sed -n 3p)" = "$(printf 'stop\t1\t1\t5\tpickup\t7\t15\t15\t0\t36\t10\t-')" ] || fail "timetable: not the first stop"
 expect 0 "$(head -n 1 lc101.svg)" '' draw lilim lc101.txt lc101.sol
 expect 2 '' 'solution BadLine 1' draw lilim one-pair.txt one-pair.txt
+expect 2 '' 'no NoSuchRoute' draw lilim lc101.txt lc101.sol 11
+expect 2 '' 'no NoSuchRoute' draw lilim lc101.txt lc101.sol 0
 expect 3 '' 'planner: nowhere: No such file or directory (os error 2)' draw lilim one-pair.txt nowhere
 [ "$("$program" draw lilim one-pair.sol nowhere 2>&1 >/dev/null | tail -n 1)" = 'cannot read nowhere' ] || fail "draw: not the file that can't be read"
 if [ -c /dev/full ]; then
@@ -83,9 +96,36 @@ expect 64 '' 'error: STEPS and DEVIATION are 0 to 1000000000 and SEED 0 to 18446
 # A second pair that no vehicle can serve beside the first: one vehicle, and both are due at the same time at places apart.
 printf '1 10 1\n0 0 0 0 0 100 0 0 0\n1 30 0 4 0 30 0 0 2\n2 31 0 -4 0 60 0 1 0\n3 -30 0 4 0 30 0 0 4\n4 -31 0 -4 0 60 0 3 0\n' >"$folder/two-pairs.txt"
 expect 1 'Route #1: 3 4' 'at 0 1 1 62' solve lilim "$folder/two-pairs.txt" 1
-[ "$("$program" solve lilim "$folder/two-pairs.txt" 0 2>&1 >/dev/null)" = "$(printf 'at 0 1 1 62\nunplanned 1: 3\n')" ] || fail "solve: two pairs for one vehicle"
+[ "$("$program" solve lilim "$folder/two-pairs.txt" 0 2>&1 >/dev/null)" = "$(printf 'at 0 1 1 62\nunplanned 1: 3\nwhy 3: alone: a vehicle can serve it\nwhy 3: vehicle 1: stop 1 would start 60 late\nwhy 3: fleet: 1 of 1 vehicles are used\n')" ] || fail "solve: two pairs for one vehicle"
 [ "$("$program" solve lilim "$folder/two-pairs.txt" 0 2>/dev/null)" = 'Route #1: 1 2' ] || fail "solve: the routes of a plan that is not whole"
+# The optimum of an instance of Christofides and Eilon (1969), with each of three seeds.
+for seed in 1 2 3; do
+    "$program" solve vrp E-n51-k5.vrp 100000 "$seed" 2>/dev/null >"$folder/E-n51-k5.sol" || fail "solve E-n51-k5 by seed $seed: status $?"
+    got=$("$program" audit vrp E-n51-k5.vrp "$folder/E-n51-k5.sol")
+    [ "$got" = 'pass 0 0 521' ] || fail "E-n51-k5 by seed $seed: $got; wanted pass 0 0 521"
+done
 "$program" solve lilim lc101.txt 500 9 >"$folder/lc101.sol" 2>/dev/null && "$program" audit lilim lc101.txt "$folder/lc101.sol" >/dev/null || fail "audit does not pass what solve prints"
+
+# Why a request of a known instance is left out, by another program, which tries each place of each route.
+sed 's/ 3 7 8/ 7 8/; s/ 75$//' lc101.sol >"$folder/lc101-3.sol"
+cat >"$folder/answers" <<'END'
+unplanned 3
+why 3: alone: a vehicle can serve it
+why 3: vehicle 1: fits at places 2 and 12
+why 3: vehicle 2: stop 13 would start 85 late
+why 3: vehicle 3: stop 3 would start 72 late
+why 3: vehicle 4: stop 3 would start 17 late
+why 3: vehicle 5: stop 3 would start 89 late
+why 3: vehicle 6: stop 3 would start 30 late
+why 3: vehicle 7: stop 3 would start 74 late
+why 3: vehicle 8: stop 3 would start 44 late
+why 3: vehicle 9: stop 3 would start 85 late
+why 3: vehicle 10: stop 98 would start 89 late
+why 3: fleet: 10 of 25 vehicles are used
+END
+sed 1d "$folder/answers" >"$folder/whys"
+"$program" timetable lilim lc101.txt "$folder/lc101-3.sol" | sed -n '/^unplanned/,$p' | cmp -s -- "$folder/answers" - || fail "timetable: why a request of lc101 is left out"
+"$program" timetable lilim lc101.txt "$folder/lc101-3.sol" tabs | sed -n 's/^why\t3\t/why 3: /p' | cmp -s -- - "$folder/whys" || fail "timetable tabs: why a request of lc101 is left out"
 
 # An instance on standard input is loaded into a store that is not there yet, and a text that is refused leaves none.
 "$program" load "$folder/day.store" lilim - 7 <one-pair.sol >/dev/null
@@ -106,6 +146,58 @@ status=$?
 "$program" audits lilim - <"$folder/pairs" 2>/dev/null | cmp -s -- "$folder/answers" - || fail "audits -: other answers"
 [ "$(printf '\n \t\none-pair.txt\tone-pair.sol\n' | "$program" audits lilim - 2>/dev/null)" = "$(printf 'bad line\nbad line\none-pair.txt\tone-pair.sol\tpass 0 1 20')" ] || fail "audits: a blank line ends the list"
 expect 3 'cannot read nowhere' 'planner: nowhere: No such file or directory (os error 2)' audits lilim nowhere
+# Beside a best-known cost: 9 of 820 are 1.098 percent.
+printf 'lc101.txt\tlc101.sol\t%s\n' '10 829' '10 820' 829 '9 829' '828.94' >"$folder/pairs"
+printf 'lc101.txt\tlc101.sol\tpass 0 10 829 %s\n' 'gap 0.00' 'gap 1.10' 'gap 0.00' 'vehicles +1' >"$folder/answers"
+echo 'bad line' >>"$folder/answers"
+"$program" audits lilim "$folder/pairs" | cmp -s -- "$folder/answers" - || fail "audits: other comparisons with best-known costs"
+
+# What solves writes has the bytes that solve prints, one answer for each line, and nothing is overwritten.
+solved=$folder/solved
+mkdir -- "$solved" || exit 1
+echo mine >"$solved/mine.sol"
+ln -s nowhere "$solved/link.sol"
+printf "lc101.txt\tDIR/lc101.sol\n\none-pair.sol\tDIR/bad.sol\n$folder/two-pairs.txt\tDIR/two.sol\nlc101.txt\tDIR/mine.sol\nnowhere\tDIR/link.sol\none-pair.txt\tDIR/no/one.sol\nnowhere\tDIR/none.sol" |
+    sed "s|DIR|$solved|" >"$folder/tasks"
+printf "lc101.txt\tDIR/lc101.sol\t%s\nbad line\none-pair.sol\tDIR/bad.sol\tinstance FieldCount 1\n$folder/two-pairs.txt\tDIR/two.sol\tunplanned 1: 1\nlc101.txt\tDIR/mine.sol\tthere already\nnowhere\tDIR/link.sol\tthere already\none-pair.txt\tDIR/no/one.sol\tcannot write DIR/no/one.sol\nnowhere\tDIR/none.sol\tcannot read nowhere\n" \
+    "$("$program" audit lilim lc101.txt "$folder/lc101.sol")" | sed "s|DIR|$solved|g" >"$folder/answers"
+"$program" solves lilim "$folder/tasks" 500 9 >"$folder/output" 2>/dev/null
+status=$?
+[ "$status" = 3 ] && cmp -s -- "$folder/answers" "$folder/output" || fail "solves: status $status, wanted 3, or other answers"
+cmp -s -- "$folder/lc101.sol" "$solved/lc101.sol" || fail "solves: not the solution that solve prints"
+[ "$(cat "$solved/two.sol")" = 'Route #1: 3 4' ] || fail "solves: the routes of a plan that is not whole"
+[ "$(cat "$solved/mine.sol")" = mine ] && [ -L "$solved/link.sol" ] || fail "solves: a file is overwritten"
+[ "$(find "$solved" | wc -l)" = 5 ] || fail "solves: another file is there"
+"$program" solves lilim - 500 9 <"$folder/tasks" 2>/dev/null | head -n 1 | grep -q 'there already' || fail "solves -: not there already"
+
+# Each answer is handed on as soon as it is known: the next file, whose name may stand there already, has not come yet.
+mkfifo -- "$folder/late" || exit 1
+for words in audits solves; do
+    printf 'one-pair.txt\t%s\n%s\t%s\n' "$solved/$words.sol" "$folder/late" "$solved/late.sol" >"$folder/tasks"
+    [ "$words" = solves ] || cp one-pair.sol "$solved/audits.sol"
+    [ "$words" = solves ] && steps=0 || steps=
+    # shellcheck disable=SC2086 # no word where there are no steps
+    "$program" "$words" lilim "$folder/tasks" $steps >"$folder/output" 2>/dev/null &
+    told=$!
+    wanted=$(printf 'one-pair.txt\t%s\tpass 0 1 20' "$solved/$words.sol")
+    tries=0
+    until [ "$(head -n 1 "$folder/output")" = "$wanted" ] || [ "$tries" = 100 ]; do
+        sleep 0.1
+        tries=$((tries + 1))
+    done
+    [ "$(head -n 1 "$folder/output")" = "$wanted" ] || fail "$words: an answer waits for the next file"
+    timeout 10 sh -c 'cat one-pair.txt >"$1"' sh "$folder/late"
+    [ "$words" = solves ] || rm -f -- "$solved/late.sol"
+    wait "$told"
+done
+
+# The picture of a store's plan is that of its printed solution: the vehicles that are not used stand behind the others here.
+"$program" load "$folder/drawn.store" lilim lc101.txt 7 >/dev/null
+( echo build; echo print ) | "$program" run "$folder/drawn.store" | sed '1,2d;$d' >"$folder/drawn.sol"
+"$program" draw lilim lc101.txt "$folder/drawn.sol" >"$folder/drawn.svg"
+[ -s "$folder/drawn.svg" ] && "$program" draw "$folder/drawn.store" | cmp -s -- "$folder/drawn.svg" - || fail "draw: not the store's plan"
+expect 3 '' 'planner: nowhere: No such file or directory (os error 2)' draw nowhere
+expect 64 '' 'error: the words are STORE or KIND INSTANCE SOLUTION [ROUTE], KIND is lilim or vrp, and ROUTE a number, in digits alone' draw lilim one-pair.txt
 
 # A path is taken only as UTF-8.
 latin=$(printf 'caf\351.sol')

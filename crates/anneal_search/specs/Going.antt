@@ -33,6 +33,16 @@ abbrev pub found_within : Option Near → Option Near → Option Near
 found_within limit None = None
 found_within limit (Some a) = within limit a
 
+-- the distance that a stop may have at most to be nearer
+abbrev pub reach_of : Option Near → Option ℕ
+reach_of None = None
+reach_of (Some a) = Some a.distance
+
+-- it is farther away than that
+abbrev pub IsBeyond : Option ℕ → ℕ → Type 0
+IsBeyond None d = ⊥
+IsBeyond (Some reach) d = reach < d
+
 -- the nearest of what was found so far and the stops from a place on, of those that are nearer than the limit
 abbrev pub found_from : Instance → Stop → ℕ → Option Near → Option Near → ℕ → List ℕ → Option Near
 found_from p center vehicle limit found place [] = found

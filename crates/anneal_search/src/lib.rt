@@ -2,7 +2,8 @@
 //! requests in again.
 //!
 //! `anneal_steps` makes many steps and `anneal_step` one, both in the form of `search_steps` and `search_step`
-//! (`seeded_search`) and asking the same. The command `Anneal` (`command_core`) and `plan_solve` call the former.
+//! (`seeded_search`) and asking the same; `plan_solve` calls the former. `anneal_on` makes further steps of a walk that
+//! is kept, for the command `Anneal` (`command_core`).
 //!
 //! Modules, in reading order:
 //! - `draws`: what a word draws, and what is left of it.
@@ -31,8 +32,8 @@
 //!
 //! Proved:
 //! - `draw` is the whole part and the rest of `w m / 2^32`, `ordered` the order that a word picks;
-//! - `anneal_step` and `anneal_steps` give exactly the plans of the definition's step and steps (`found`),
-//!   which pass (`passing`), or tell want of memory;
+//! - `anneal_step`, `anneal_steps` and `anneal_on` give exactly the plans of the definition's step and steps
+//!   (`found`, `walked`), which pass (`passing`, `walk`), or tell want of memory;
 //! - what the definitions mean: the nearest stop of a route is nearest (`nearest_are_least`), the routes rise
 //!   by theirs (`routes_are_rising`); a string has that stop, lies in the route and takes out no more than it
 //!   may (`strings_lie_around`); an order has the same names, rising by key, salt and name
@@ -56,4 +57,4 @@ pub use laws::{
     orders_are_rising, routes_are_rising, strings_lie_around,
 };
 pub use orders::ordered;
-pub use search::{anneal_step, anneal_steps};
+pub use search::{anneal_on, anneal_step, anneal_steps};

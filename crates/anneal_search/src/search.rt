@@ -4,7 +4,7 @@ ghost use Rattle.plan_audit.specs.Passes.{passes};
 ghost use Rattle.route_sched.specs.Cost.{cost_of};
 ghost use Rattle.move_ops.specs.Drafts.{base_of, draft_of};
 ghost use Rattle.seeded_search.specs.StepLaws.{BothPass};
-ghost use Rattle.seeded_search.specs.Working.{walked_by, KeepsWalk};
+ghost use Rattle.seeded_search.specs.Working.{walked_by, KeepsWalk, IsWalk};
 ghost use Rattle.anneal_search.specs.Annealing.{walked, candidate, annealed, annealed_by, anneal_step, anneal_steps};
 ghost use Rattle.anneal_search.specs.Going.{HasImproved, KeepsGoing, IsGoing};
 
@@ -178,4 +178,32 @@ fn improve(
         walk.front = walk.draft.front();
     }
     Ok(())
+}
+
+/// So many annealing steps of a walk that goes on, from step number `step` on. It is lost where memory is refused.
+#[tactic(auto, unfolding(crate::specs::Annealing::anneal_step, crate::specs::Annealing::anneal_steps))]
+pub fn anneal_on(
+    alloc: Global,
+    problem: &Problem,
+    pins: &Pins,
+    walk: Walk,
+    deviation: u32,
+    seed: u64,
+    step: u64,
+    count: u64,
+) -> Result<Walk, OutOfMemory>
+    requires walk { IsWalk problem.now pins.now.routes walk }
+    requires first { step < 2 ^ 60 }
+    requires last { step + count ≤ 2 ^ 60 }
+    ensures walked { IfOk result (λ on. walked_by on
+        ≡ anneal_steps problem.now pins.now.routes deviation seed step count (walked_by walk)) }
+    ensures walk { IfOk result (λ on. IsWalk problem.now pins.now.routes on) }
+{
+    let work = walk.draft.cost(problem, pins);
+    let mut annealing = Annealing { walk, work };
+    let mut words = StepWords::from_step(seed, step);
+    for done in 0..count {
+        annealing.step(alloc, problem, pins, deviation, &words.next_step())?;
+    }
+    Ok(annealing.walk)
 }

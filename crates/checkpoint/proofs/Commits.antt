@@ -8,7 +8,8 @@ use Rattle.checkpoint.specs.Headers.{header_bytes}
 use Rattle.checkpoint.specs.Layouts.{half_at, version_2}
 use Rattle.checkpoint.specs.Stores.{Stores, snapshot_in, begins_with}
 use Rattle.checkpoint.specs.Moments.{IsInCommit}
-use Rattle.checkpoint.specs.Puts.{IsInSnapshot, half_of, with_snapshot, with_both}
+use Rattle.checkpoint.specs.Puts.{IsInSnapshot}
+use Rattle.checkpoint.specs.Written.{half_of, with_snapshot, with_both}
 use Rattle.checkpoint.proofs.Runs.{read_written}
 use Rattle.checkpoint.proofs.Carried.{parity, carried}
 use Rattle.checkpoint.proofs.Advanced.{Below, stored_below, advanced}

@@ -16,5 +16,6 @@ mod Led
 mod FaultKinds
 mod Loading
 mod Snapshots
+mod FrontZeros
 mod OneThing
 mod Decided

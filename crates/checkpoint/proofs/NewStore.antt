@@ -6,7 +6,8 @@ use Rattle.checkpoint.specs.declared.headers.Header.{Header}
 use Rattle.checkpoint.specs.Layouts.{version_2}
 use Rattle.checkpoint.specs.Stores.{Stores, IsUnformatted}
 use Rattle.checkpoint.specs.Moments.{IsInFormat}
-use Rattle.checkpoint.specs.Puts.{IsInPut, IsInSnapshot, half_of, with_both}
+use Rattle.checkpoint.specs.Puts.{IsInPut, IsInSnapshot}
+use Rattle.checkpoint.specs.Written.{half_of, with_both}
 use Rattle.checkpoint.proofs.Cleared.{IsCleared, cleared_unformatted, cleared_below}
 use Rattle.checkpoint.proofs.Commits.{front_stays, becomes}
 

@@ -6,7 +6,8 @@ use Rattle.sector_disk.specs.ImageLaws.{length-written, mixes_one}
 use Rattle.sector_disk.specs.Sectors.{Reached, Only}
 use Rattle.checkpoint.specs.declared.headers.Header.{Header}
 use Rattle.checkpoint.specs.Headers.{header_bytes}
-use Rattle.checkpoint.specs.Puts.{IsInPut, IsInSnapshot, half_of, with_snapshot, with_both}
+use Rattle.checkpoint.specs.Puts.{IsInPut, IsInSnapshot}
+use Rattle.checkpoint.specs.Written.{half_of, with_snapshot, with_both}
 use Rattle.checkpoint.proofs.Carried.{parity}
 
 module _ (header : Header) (bytes : List ℕ) (possible : List ℕ → Type 0) (seen : List ℕ) (calls half : ℕ) (head : List ℕ) (half_is : half ≡ half_of header) (head_is : head ≡ header_bytes 2 header) where

@@ -4,9 +4,12 @@ use Rattle.command_core.specs.Runs.{IsState}
 use Rattle.command_core.specs.declared.states.State.{State}
 use Rattle.state_codec.specs.declared.version.Version.TheVariants.{Two}
 use Rattle.state_codec.specs.Bytes.{state_bytes}
+use Rattle.checkpoint.specs.Written.{to_whole_sectors}
 
--- whole sectors that begin with the state's bytes and have room in a half
+-- the state's bytes to whole sectors, which have room in a half
 pub record IsSnapshot (state : State) (size : ℕ) (bytes : List ℕ) : Type 0 where
+  pub size_is : size ≡ length (state_bytes Two state)
+  pub bytes_are : bytes ≡ to_whole_sectors (state_bytes Two state)
   pub is : take size bytes ≡ state_bytes Two state
   pub facts : IsState state
   pub some : 1 ≤ size

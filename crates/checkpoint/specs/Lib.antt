@@ -5,6 +5,7 @@ pub mod Stores
 pub mod Numbers
 pub mod Holds
 pub mod Moments
+pub mod Written
 pub mod Reads
 pub mod Holdless
 pub mod Refused

@@ -3,8 +3,7 @@ use Rattle.std.specs.Prelude.{◌≡◌, ◌⊎◌, ℕ, ◌+◌, ◌%◌, ◌<�
 use Rattle.sector_disk.specs.Image.{written}
 use Rattle.sector_disk.specs.Sectors.{Reached}
 use Rattle.checkpoint.specs.declared.headers.Header.{Header}
-use Rattle.checkpoint.specs.Layouts.{version_2, half_at}
-use Rattle.checkpoint.specs.Headers.{header_bytes}
+use Rattle.checkpoint.specs.Written.{half_of, with_both}
 
 -- Within a write of these bytes and its sync, with m calls finished in all, and `calls` when it began.
 pub record IsInPut (first : ℕ) (bytes : List ℕ) (possible : List ℕ → Type 0) (seen : List ℕ) (calls m : ℕ) (image : List ℕ) : Type 0 where
@@ -12,20 +11,6 @@ pub record IsInPut (first : ℕ) (bytes : List ℕ) (possible : List ℕ → Typ
   pub to : m ≤ calls + 2
   pub reached : Reached first bytes possible image
   pub done : m ≡ calls + 2 → image ≡ written first bytes seen
-
--- the first sector of the half that a snapshot is written to
-abbrev pub half_of : Header → ℕ
-half_of header = half_at version_2 header.sequence
-
--- an image with a snapshot in its half, and then with its header
-abbrev pub with_snapshot : Header → List ℕ → List ℕ → List ℕ
-with_snapshot header bytes image = written (half_of header) bytes image
-
-abbrev pub with_header : Header → List ℕ → List ℕ
-with_header header image = written (header.sequence % 2) (header_bytes 2 header) image
-
-abbrev pub with_both : Header → List ℕ → List ℕ → List ℕ
-with_both header bytes image = with_header header (with_snapshot header bytes image)
 
 -- Within the four calls that write a snapshot and its header: until the header's sync no more than the snapshot's write is seen, and from the header's
 -- write on the whole may be.

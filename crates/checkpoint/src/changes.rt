@@ -6,13 +6,14 @@ ghost use Rattle.std.specs.Prelude.{◌≡◌, ◌+◌, ◌*◌, ◌%◌, ◌<�
 ghost use Rattle.command_core.specs.Runs.{IsState};
 ghost use Rattle.command_core.specs.declared.states.State.{State};
 ghost use Rattle.command_core.specs.declared.commands.Command.{Command};
-ghost use Rattle.sector_disk.specs.Sectors.{Throughout, faults_after};
+ghost use Rattle.sector_disk.specs.Sectors.{Only, Throughout, faults_after};
 ghost use Rattle.state_codec.specs.declared.version.Version.TheVariants.{Two};
 ghost use Rattle.state_codec.specs.Limits.{IsRecorded};
 ghost use Rattle.state_codec.specs.Bytes.{state_bytes};
 ghost use Rattle.checkpoint.specs.Holds.{Holds};
 ghost use Rattle.checkpoint.specs.Refused.{IsOfCommit, IsKeptByCommit, faults_after_reading};
 ghost use Rattle.checkpoint.specs.Moments.{IsInCommit, IsInRecord};
+ghost use Rattle.checkpoint.specs.Written.{to_whole_sectors, with_record, with_state};
 
 use crate::encoding::snapshot_of;
 use crate::faults::StoreFault;
@@ -28,7 +29,7 @@ use std::alloc::Global;
 /// Two device calls, and no memory.
 ///
 /// Where each image of the device held a state and commands at this place, each holds them at every moment of the call, with or without this command
-/// last; after `Ok` each holds them with it, at the place returned.
+/// last; after `Ok` each holds them with it, at the place returned, and is what reads gave before with one sector written: that of the record.
 pub fn commit_record<D: Sectors>(
     device: &mut D,
     place: Place,
@@ -54,6 +55,9 @@ pub fn commit_record<D: Sectors>(
     ensures after { D.honest device.new → (state : State) (commands : List Command)
         → ((image : List ℕ) → D.possible device.old image → Holds Two image state commands place)
         → OnOk result ((image : List ℕ) → D.possible device.new image → Holds Two image state (commands ++ command.now ∷ []) (record { sequence = place.sequence; used = place.used + 1 })) }
+    ensures durable { D.honest device.new
+        → OnOk result (Only (with_record place command.now (D.seen device.old))
+        (D.possible device.new)) }
 {
     let bytes = encode_record(place.sequence, place.used, command);
     match extend(device, place.used, &bytes) {
@@ -73,6 +77,8 @@ fn save<D: Sectors>(
     size: u64,
     bytes: &[u8],
 ) -> Result<Place, StoreFault>
+    requires size { size ≡ length (state_bytes Two state.now) }
+    requires bytes { bytes.now ≡ to_whole_sectors (state_bytes Two state.now) }
     requires is { take size bytes.now ≡ state_bytes Two state.now }
     requires facts { IsState state.now }
     requires some { 1 ≤ size }
@@ -97,6 +103,9 @@ fn save<D: Sectors>(
     ensures after { D.honest device.new → (old : State) (commands : List Command)
         → ((image : List ℕ) → D.possible device.old image → Holds Two image old commands place)
         → OnOk result ((image : List ℕ) → D.possible device.new image → Holds Two image state.now [] (record { sequence = place.sequence + 1; used = 0 })) }
+    ensures durable { D.honest device.new
+        → OnOk result (Only (with_state (place.sequence + 1) state.now (D.seen device.old))
+        (D.possible device.new)) }
 {
     let sequence = place.sequence + 1;
     match advance(
@@ -119,7 +128,8 @@ const LAST_SEQUENCE: u64 = 1 << 60;
 /// of a store that stands at this place. `Spent` where the sequence is 2^60; neither that nor `OutOfMemory` has called the device.
 ///
 /// Where each image of the device held a state and commands at this place, each holds these or this state alone at every moment of the call: these until two
-/// calls have finished and the header's write begins, and this state alone after `Ok`, at the place returned.
+/// calls have finished and the header's write begins, and this state alone after `Ok`, at the place returned. Then the image is what reads gave before
+/// with the snapshot's sectors written, the last one filled up with zeros, and the header's.
 pub fn commit_snapshot<D: Sectors>(
     alloc: Global,
     device: &mut D,
@@ -147,6 +157,9 @@ pub fn commit_snapshot<D: Sectors>(
     ensures after { D.honest device.new → (old : State) (commands : List Command)
         → ((image : List ℕ) → D.possible device.old image → Holds Two image old commands place)
         → OnOk result ((image : List ℕ) → D.possible device.new image → Holds Two image state.now [] (record { sequence = place.sequence + 1; used = 0 })) }
+    ensures durable { D.honest device.new
+        → OnOk result (Only (with_state (place.sequence + 1) state.now (D.seen device.old))
+        (D.possible device.new)) }
 {
     if LAST_SEQUENCE <= place.sequence {
         return Err(StoreFault::Spent);

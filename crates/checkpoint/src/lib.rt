@@ -19,14 +19,16 @@
 //!
 //! The format is this project's own. `specs/Layouts.antt` and `specs/Headers.antt` have the sectors and the header's bytes,
 //! `specs/Stores.antt` what an image stores as bytes, `specs/Holds.antt` the state, commands and place that it holds,
-//! `specs/Holdless.antt` why it holds nothing, `specs/Moments.antt` what a stop leaves within a call.
+//! `specs/Holdless.antt` why it holds nothing, `specs/Moments.antt` what a stop leaves within a call, `specs/Written.antt` which
+//! sectors a change writes, with which bytes.
 //!
 //! Proved:
 //! - An image holds at most one state, list of commands and place, never beside a cause to hold nothing, and of these
 //!   causes it has at most one (`images_hold_one_thing`); each holds something or has one (`images_hold_or_have_a_cause`).
 //! - Of an honest device: `load_latest` gives what the image that reads give holds, or the cause (`found`), and changes
 //!   nothing (`kept`). `format`, `commit_snapshot` and `commit_record` say for each moment, by the number of finished calls,
-//!   which of the old and the new an image may hold (`moments`), and that after `Ok` it holds the new alone (`after`).
+//!   which of the old and the new an image may hold (`moments`), and that after `Ok` it holds the new alone (`after`). The image
+//!   is then what reads gave before with these sectors written, zeros that fill them up among them, and no other (`durable`).
 //! - Of any device: what is loaded keeps the facts of a state, and its place those of a store (`standing`).
 //! - `TooSmall`, `Spent` and want of memory come before any device call; `DeviceFault` only where `faults` rose, or stood at
 //!   its last value (`fault`, `kept`).

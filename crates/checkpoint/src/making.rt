@@ -3,11 +3,12 @@ ghost use Rattle.command_core.specs.declared.states.State.TheVariants.{Empty};
 ghost use Rattle.state_codec.specs.declared.version.Version.TheVariants.{Two};
 ghost use Rattle.checkpoint.specs.Holds.{Holds};
 ghost use Rattle.std.specs.Prelude.{◌≡◌, ◌↔◌, ◌+◌, ◌*◌, ◌%◌, ◌<◌, ◌≤◌, ℕ, List, [], length, take, OnOk, IfOk, IfErr, IsErrOf};
-ghost use Rattle.sector_disk.specs.Sectors.{Throughout, faults_after};
+ghost use Rattle.sector_disk.specs.Sectors.{Only, Throughout, faults_after};
 ghost use Rattle.checkpoint.specs.Layouts.{version_2};
 ghost use Rattle.checkpoint.specs.Stores.{Stores, IsUnformatted};
 ghost use Rattle.checkpoint.specs.Moments.{IsInFormat};
 ghost use Rattle.checkpoint.specs.Puts.{IsZeros};
+ghost use Rattle.checkpoint.specs.Written.{cleared, with_both, with_state};
 ghost use Rattle.checkpoint.specs.Refused.{faults_after_format, IsKeptByFormat, OnCalls};
 
 use crate::encoding::snapshot_of;
@@ -47,6 +48,9 @@ fn put_all<D: Sectors>(
     ensures moments { D.honest device.new
         → Throughout D.clock D.possible_since device.old device.new
         (IsInFormat (IsUnformatted version_2) (λ image. Stores version_2 image 1 (take size bytes.now) []) (D.calls device.old)) }
+    ensures durable { D.honest device.new
+        → OnOk result (Only (with_both (record { sequence = 1; length = size }) bytes.now
+        (cleared (D.seen device.old))) (D.possible device.new)) }
 {
     put(device, 0, zeros)?;
     put_snapshot(
@@ -81,6 +85,9 @@ pub(crate) fn make<D: Sectors>(
     ensures moments { D.honest device.new
         → OnCalls result (Throughout D.clock D.possible_since device.old device.new
         (IsInFormat (IsUnformatted version_2) (λ image. Stores version_2 image 1 (take size bytes.now) []) (D.calls device.old))) }
+    ensures durable { D.honest device.new
+        → OnOk result (Only (with_both (record { sequence = 1; length = size }) bytes.now
+        (cleared (D.seen device.old))) (D.possible device.new)) }
 {
     if device.len() < SECTORS {
         return Err(FormatFault::TooSmall);
@@ -99,7 +106,7 @@ pub(crate) fn make<D: Sectors>(
 /// be larger than the store.
 ///
 /// With two or three calls finished each image is `NotFormatted`, with four or five it is that or holds the empty state without commands, and after `Ok` each
-/// holds it. `TooSmall` below 8,450 sectors; neither that nor `OutOfMemory` has called the device. After `DeviceFault` there is no store until a format
+/// holds it: then the image is what reads gave before with zeros in sectors 0 to 257, the snapshot's sector and its header. `TooSmall` below 8,450 sectors; neither that nor `OutOfMemory` has called the device. After `DeviceFault` there is no store until a format
 /// succeeds.
 pub fn format<D: Sectors>(alloc: Global, device: &mut D) -> Result<Place, FormatFault>
     ensures place { IfOk result (λ place. place ≡ record { sequence = 1; used = 0 }) }
@@ -115,6 +122,9 @@ pub fn format<D: Sectors>(alloc: Global, device: &mut D) -> Result<Place, Format
     ensures after { D.honest device.new
         → OnOk result ((image : List ℕ) → D.possible device.new image
         → Holds Two image Empty [] (record { sequence = 1; used = 0 })) }
+    ensures durable { D.honest device.new
+        → OnOk result (Only (with_state 1 Empty (cleared (D.seen device.old)))
+        (D.possible device.new)) }
 {
     make(alloc, device, 1, &[0; SECTOR_SIZE])
 }
@@ -138,6 +148,9 @@ pub fn format_with<D: Sectors>(
     ensures after { D.honest device.new
         → OnOk result ((image : List ℕ) → D.possible device.new image
         → Holds Two image state.now [] (record { sequence = 1; used = 0 })) }
+    ensures durable { D.honest device.new
+        → OnOk result (Only (with_state 1 state.now (cleared (D.seen device.old)))
+        (D.possible device.new)) }
 {
     if device.len() < SECTORS {
         return Err(FormatFault::TooSmall);

@@ -5,7 +5,8 @@ ghost use Rattle.sector_disk.specs.Sectors.{Only, Reached, Throughout, faults_af
 ghost use Rattle.checkpoint.specs.Layouts.{version_2};
 ghost use Rattle.checkpoint.specs.Stores.{Stores, IsUnformatted, begins_with};
 ghost use Rattle.checkpoint.specs.Moments.{IsInCommit, IsInFormat, IsInRecord};
-ghost use Rattle.checkpoint.specs.Puts.{IsInPut, IsInSnapshot, with_both};
+ghost use Rattle.checkpoint.specs.Puts.{IsInPut, IsInSnapshot};
+ghost use Rattle.checkpoint.specs.Written.{with_both};
 
 use crate::headers::{Header, header_sector};
 use crate::layouts::{VERSION_2, half_start};
@@ -87,6 +88,9 @@ pub(crate) fn advance<D: Sectors>(
         → ((image : List ℕ) → D.possible device.old image → Stores version_2 image sequence state journal)
         → Throughout D.clock D.possible_since device.old device.new (IsInCommit (λ image. Stores version_2 image sequence state journal)
         (λ image. Stores version_2 image header.sequence (take header.length bytes.now) []) (D.calls device.old)) }
+    ensures durable { D.honest device.new
+        → OnOk result (Only (with_both header bytes.now (D.seen device.old))
+        (D.possible device.new)) }
 {
     put_snapshot(device, header, bytes)
 }
@@ -107,6 +111,9 @@ pub(crate) fn extend<D: Sectors>(device: &mut D, used: u32, bytes: &[u8]) -> Res
         → ((image : List ℕ) → D.possible device.old image → Stores version_2 image sequence state journal)
         → Throughout D.clock D.possible_since device.old device.new (IsInRecord (λ image. Stores version_2 image sequence state journal)
         (λ image. Stores version_2 image sequence state (journal ++ bytes.now ∷ [])) (D.calls device.old)) }
+    ensures durable { D.honest device.new
+        → OnOk result (Only (written (2 + used) bytes.now (D.seen device.old))
+        (D.possible device.new)) }
 {
     put(device, 2 + u64::from(used), bytes)
 }

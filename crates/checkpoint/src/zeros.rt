@@ -1,6 +1,7 @@
 //! Zeros, and bytes that are filled up with them.
-ghost use Rattle.std.specs.Prelude.{◌+◌, ◌<◌, ◌≤◌, ◌^◌, length, IfOk};
-ghost use Rattle.checkpoint.specs.Puts.{IsZeros, FillsSectors};
+ghost use Rattle.std.specs.Prelude.{◌≡◌, ◌+◌, ◌<◌, ◌≤◌, ◌^◌, length, IfOk};
+ghost use Rattle.checkpoint.specs.Puts.{IsZeros};
+ghost use Rattle.checkpoint.specs.Written.{to_whole_sectors};
 
 use sector_disk::SECTOR_SIZE;
 use std::alloc::{AllocError, Global};
@@ -14,7 +15,7 @@ pub(crate) fn zeros(alloc: Global, n: usize) -> Result<Vec<u8>, AllocError>
 
 /// These bytes with zeros behind them, to a whole sector.
 pub(crate) fn filled(mut bytes: Vec<u8>) -> Result<Vec<u8>, AllocError>
-    ensures { IfOk result (λ filled. FillsSectors bytes.items filled.items) }
+    ensures { IfOk result (λ filled. filled.items ≡ to_whole_sectors bytes.items) }
 {
     let gap = (SECTOR_SIZE - bytes.len() % SECTOR_SIZE) % SECTOR_SIZE;
     bytes.extend_from_slice(&[0; SECTOR_SIZE][..gap])?;

@@ -4,7 +4,7 @@ pub mod CountLemmas
 pub mod Examples
 pub mod FactLemmas
 pub mod ListLemmas
-pub mod NameLemmas
+pub mod MarkLemmas
 pub mod NumberLemmas
 pub mod PassLemmas
 pub mod PinLemmas

@@ -1,4 +1,5 @@
 -- what public contracts reach
+pub mod Changes
 pub mod Effects
 pub mod Job
 pub mod Names
@@ -8,5 +9,6 @@ pub mod Runs
 pub mod Wishes
 -- of private functions alone
 pub mod Fields
+pub mod Kept
 pub mod Marks
 pub mod Passing

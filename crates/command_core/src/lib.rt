@@ -1,13 +1,15 @@
 //! The state of a planner, and what each command makes of it. No bytes, no device, no text.
 //!
-//! Entry functions: `check` tells whether a state accepts a command, `apply` gives the state that it makes; both are
-//! called by `recover`, and `apply` by `plan_solve` as well. `state_codec` and `checkpoint` write and read the types,
-//! `command_text` the answers (`unplanned_names`).
+//! Entry functions: `check` tells whether a state accepts a command, `apply` gives the state that it makes, and a
+//! `Planner` is a state that commands change in its place: a session's (`recover`). `plan_solve` calls `apply`.
+//! `state_codec` and `checkpoint` write and read the types, `command_text` the answers (`unplanned_names`).
 //!
 //! Source: this project's own. Requests come in (`Add`, `Add1`), go (`Withdraw`) and are planned (`Build`, `Search`,
 //! `Anneal`); `Pin` and `Unpin` say which stops a vehicle keeps at the front of its route.
 //!
-//! How it works: a command makes a new state beside the old one, so want of memory changes nothing. Every command but
+//! How it works: a command makes what it changes beside the state (`Change`), so want of memory changes nothing. It is
+//! then put in, and what stood before comes out, to be put back where a commit fails. A planner keeps the walk of a
+//! search or annealing, whose tables the next one goes on by, until another command changes the job. Every command but
 //! `Search`, `Anneal` and `Checkpoint` sets the working plan to the incumbent that it leaves.
 //!
 //! Modules, in reading order:
@@ -17,17 +19,21 @@
 //! - `refusals`: why a command is refused
 //! - `lists`: routes and pins of vehicles
 //! - `checking`: `check`
-//! - `applying`: `apply`, a line for each command
+//! - `changes`: what a command changes, put in and put back
+//! - `applying`: `apply`, and a line for each command
+//! - `planners`: `Planner`
 //! - `loading`, `adding`, `withdrawing`, `pinning`: requests and pins
 //! - `marks`: which requests are unplanned
-//! - `placing`, `planning`: `Build`, `Search`, `Anneal` and `Deviation`
+//! - `placing`, `planning`, `walking`: `Build` and `Deviation`, `Search` and `Anneal`
 //! - `laws`: what commands keep
 //!
-//! Said by `specs/Job.antt`, `Effects.antt`, `Refusing.antt`, `Runs.antt` and `RunLaws.antt`. Proved:
+//! Said by `specs/Job.antt`, `Effects.antt`, `Refusing.antt`, `Runs.antt`, `RunLaws.antt` and `Changes.antt`. Proved:
 //! - `Job` (its type's invariant): plan and working plan pass with the pins, each pin alone is a feasible route,
 //!   deviation and steps keep their limits
 //! - `check`: the first cause for a refusal (`refusal`), without memory
 //! - `apply`: `ok`, the state that the command makes (`effect`); `err`, that refusal, or want of memory
+//! - `Planner::change`: the same in its place, and what leads back (`IsChanged`); refused, the state stays (`kept`).
+//!   `put_back`: what stood before. A walk that is kept is one of the state's plans (its type's invariant)
 //! - `unplanned_names`: the names of the requests without a stop in any route, rising
 //! - `effects_keep_facts`: what accepted commands make of a state keeps the facts of a `Job`
 //! - `costs_never_rise`, `plans_never_cost_more`: the plan costs no more than at any moment since the last change of
@@ -41,6 +47,7 @@
 
 mod adding;
 mod applying;
+mod changes;
 mod checking;
 mod commands;
 mod laws;
@@ -50,12 +57,15 @@ mod loading;
 mod marks;
 mod pinning;
 mod placing;
+mod planners;
 mod planning;
 mod refusals;
 mod states;
+mod walking;
 mod withdrawing;
 
 pub use applying::apply;
+pub use changes::{Change, JobChange};
 pub use checking::check;
 pub use commands::{Command, Spot};
 pub use laws::{
@@ -64,5 +74,6 @@ pub use laws::{
 };
 pub use limits::{MAX_ANNEAL_COUNT, MAX_COUNT, MAX_DEVIATION, MAX_STEPS};
 pub use marks::unplanned_names;
+pub use planners::Planner;
 pub use refusals::Refusal;
 pub use states::{Job, State};

@@ -1,57 +1,50 @@
 //! Pins that are set and taken away.
-ghost use Rattle.std.specs.Prelude.{◌≡◌, None, IfOk, IfErr};
-ghost use Rattle.command_core.specs.Job.{IsJob};
+ghost use Rattle.std.specs.Prelude.{◌≡◌, true, None, IfOk, IfErr};
+ghost use Rattle.move_ops.specs.Insertion.{with_route};
+ghost use Rattle.command_core.specs.Changes.{job_with};
 ghost use Rattle.command_core.specs.Effects.{with_pins, pinned, unpinned};
-ghost use Rattle.command_core.specs.Refusing.{job_refusal};
+ghost use Rattle.command_core.specs.Refusing.{is_vehicle, job_refusal};
 
+use crate::changes::JobChange;
 use crate::commands::Command;
-use crate::laws::effects_keep_facts;
 use crate::lists::of_vehicle;
 use crate::refusals::Refusal;
 use crate::states::Job;
-use plan_types::{Pins, Route};
+use plan_types::Route;
 use std::alloc::Global;
 
 /// The first so many stops of the vehicle's route become its pin.
-pub(crate) fn pin(alloc: Global, job: &Job, vehicle: u32, stops: u32) -> Result<Job, Refusal>
+pub(crate) fn pin(alloc: Global, job: &Job, vehicle: u32, stops: u32) -> Result<JobChange, Refusal>
     requires { job_refusal job.now (Command.Pin vehicle stops) ≡ None }
-    ensures ok { IfOk result (λ new. new ≡ pinned job.now vehicle stops) }
+    ensures ok { IfOk result (λ change. job_with change job.now ≡ pinned job.now vehicle stops) }
     ensures err { IfErr result (λ r. r ≡ Refusal.OutOfMemory) }
 {
-    effects_keep_facts();
     let route = of_vehicle(job.plan.routes.as_slice(), vehicle);
     let mut front = Route::with_capacity(alloc, stops as usize)?;
     front.extend_from_slice(&route[..stops as usize])?;
-    let mut pins = job.pins.copy()?;
-    pins.routes.set((vehicle - 1) as usize, front);
-    with_pins(job, pins)
+    with_pin(job, vehicle, front)
 }
 
 /// The vehicle has no pin.
-pub(crate) fn unpin(alloc: Global, job: &Job, vehicle: u32) -> Result<Job, Refusal>
+pub(crate) fn unpin(alloc: Global, job: &Job, vehicle: u32) -> Result<JobChange, Refusal>
     requires { job_refusal job.now (Command.Unpin vehicle) ≡ None }
-    ensures ok { IfOk result (λ new. new ≡ unpinned job.now vehicle) }
+    ensures ok { IfOk result (λ change. job_with change job.now ≡ unpinned job.now vehicle) }
     ensures err { IfErr result (λ r. r ≡ Refusal.OutOfMemory) }
 {
-    effects_keep_facts();
-    let mut pins = job.pins.copy()?;
-    pins.routes.set((vehicle - 1) as usize, Route::new(alloc));
-    with_pins(job, pins)
+    with_pin(job, vehicle, Route::new(alloc))
 }
 
-// The job with these pins.
-fn with_pins(job: &Job, pins: Pins) -> Result<Job, Refusal>
-    requires { IsJob (with_pins job.now pins.routes) }
-    ensures ok { IfOk result (λ new. new ≡ with_pins job.now pins.routes) }
+// The vehicle has this pin.
+fn with_pin(job: &Job, vehicle: u32, pin: Route) -> Result<JobChange, Refusal>
+    requires { is_vehicle job.now.problem vehicle ≡ true }
+    ensures ok { IfOk result (λ change. job_with change job.now
+        ≡ with_pins job.now (with_route job.now.pins vehicle pin)) }
     ensures err { IfErr result (λ r. r ≡ Refusal.OutOfMemory) }
 {
-    Ok(Job {
-        problem: job.problem.copy()?,
+    let mut pins = job.pins.copy()?;
+    pins.routes.set((vehicle - 1) as usize, pin);
+    Ok(JobChange::Pinned {
         pins,
-        plan: job.plan.copy()?,
         work: job.plan.copy()?,
-        deviation: job.deviation,
-        seed: job.seed,
-        steps: job.steps,
     })
 }

@@ -23,8 +23,8 @@ use Rattle.std.proofs.lemmas.Slice.Eq.{bytes_eq-Decides}
 use Rattle.clap.proofs.WalkLemmas.{first_value-rows, list_any-map}
 use Rattle.clap.proofs.OnLiterals.{clap_on_literals}
 use Rattle.command_line.specs.declared.words.Invocation.{Invocation}
-use Rattle.command_line.specs.Asked.{IsRefusal, ArePositional, Asked, PathsAsked, ReadsWords, asked_by, asks_help, audit, audits, deviation_or_none, draw, explain, format, is_positional_word, kind_named, list_asked, list_from, list_in, load, load_asked, load_from, load_in, load_with, paths_asked, paths_from, paths_in, run, run_asked, run_from, run_in, run_with, seed_named, seed_or_none, solve, steps_named, store_asked, store_in, task_asked, task_from, task_in, task_with, timetable_asked, timetable_in, timetable_with, told_by, told_by_other, told_of, told_of_store, upgrade, upgrade_asked, upgrade_in, usage_status_of}
-use Rattle.command_line.specs.CommandLine.{IsKindNames, IsModeNames, IsPlannerCommand, audits_app, load_app, paths_app, planner_app, run_app, solve_app, store_app, timetable_app, upgrade_app}
+use Rattle.command_line.specs.Asked.{IsRefusal, ArePositional, Asked, PathsAsked, ReadsWords, asked_by, asks_help, audit, audits, deviation_or_none, draw_asked, draw_in, draw_with, explain, format, is_positional_word, kind_named, list_asked, list_from, list_in, load, load_asked, load_from, load_in, load_with, paths_asked, paths_from, paths_in, run, run_asked, run_from, run_in, run_with, seed_named, seed_or_none, solve, solves, steps_named, store_asked, store_in, task_asked, task_from, task_in, task_with, tasks_asked, tasks_from, tasks_in, tasks_with, timetable_asked, timetable_in, timetable_with, told_by, told_by_other, told_of, told_of_store, upgrade, upgrade_asked, upgrade_in, usage_status_of}
+use Rattle.command_line.specs.CommandLine.{IsKindNames, IsModeNames, IsPlannerCommand, audits_app, draw_app, load_app, paths_app, planner_app, run_app, solve_app, solves_app, store_app, timetable_app, upgrade_app}
 
 -- ---- a word that does not begin with a hyphen is a value
 
@@ -411,6 +411,145 @@ module _ (names : Bor (List (Bor Text))) where
   deviating_rows k i n s d p q r t u =
       rw (task_kind_walked k p, task_instance_walked k i q, task_steps_walked k i n r, task_seed_walked k i n s t, task_deviation_walked k i n s d u) refl
 
+-- ---- the words `KIND LIST STEPS [SEED]` of `solves`
+
+abbrev solves_shape : Bor (List (Bor Text)) → Shape
+solves_shape names = built_leaf (solves_app names).top
+
+abbrev solves_fault : Bor (List (Bor Text)) → List Text → Kinds
+solves_fault names words = level_fault (solves_shape names) [] nothing_held words false []
+
+module _ (names : Bor (List (Bor Text))) where
+  abbrev solves_rules : List Rule
+  solves_rules = (solves_shape names).rules
+
+  abbrev tasks_kind : Text → Held
+  tasks_kind k = (after_value solves_rules nothing_held 1 k).held
+
+  abbrev tasks_list : Text → Text → Held
+  tasks_list k l = (after_value solves_rules (tasks_kind k) 2 l).held
+
+  abbrev tasks_steps : Text → Text → Text → Held
+  tasks_steps k l n = (after_value solves_rules (tasks_list k l) 3 n).held
+
+  abbrev tasks_seed : Text → Text → Text → Text → Held
+  tasks_seed k l n s = (after_value solves_rules (tasks_steps k l n) 4 s).held
+
+  abbrev tasks_fault : Text → Kinds
+  tasks_fault k = settle_fault solves_rules false (tasks_kind k)
+
+  no_tasks : solves_fault names [] ≡ missing
+  unfolding clap_on_literals
+  no_tasks = refl
+
+  tasks_kind_walked : (k : Text) → is_positional_word k ≡ true → walked solves_rules [] (standing nothing_held 1) k ≡ standing (tasks_kind k) 2
+  tasks_kind_walked k p = walked-value solves_rules nothing_held 1 k p
+
+  tasks_list_walked : (k l : Text) → is_positional_word l ≡ true → walked solves_rules [] (standing (tasks_kind k) 2) l ≡ standing (tasks_list k l) 3
+  tasks_list_walked k l p = walked-value solves_rules (tasks_kind k) 2 l p
+
+  tasks_steps_walked : (k l n : Text) → is_positional_word n ≡ true → walked solves_rules [] (standing (tasks_list k l) 3) n ≡ standing (tasks_steps k l n) 4
+  tasks_steps_walked k l n p = walked-value solves_rules (tasks_list k l) 3 n p
+
+  tasks_seed_walked : (k l n s : Text) → is_positional_word s ≡ true → walked solves_rules [] (standing (tasks_steps k l n) 4) s ≡ standing (tasks_seed k l n s) 5
+  tasks_seed_walked k l n s p = walked-value solves_rules (tasks_steps k l n) 4 s p
+
+  tasks_kind_turn : (k : Text) → is_positional_word k ≡ true → turn_fault (solves_shape names) [] (standing nothing_held 1) k ≡ []
+  tasks_kind_turn k p = turn_fault-value (solves_shape names) nothing_held 1 k p
+
+  tasks_list_turn : (k l : Text) → is_positional_word l ≡ true → turn_fault (solves_shape names) [] (standing (tasks_kind k) 2) l ≡ tasks_fault k
+  tasks_list_turn k l p = turn_fault-value (solves_shape names) (tasks_kind k) 2 l p
+
+  tasks_steps_turn : (k l n : Text) → is_positional_word n ≡ true → turn_fault (solves_shape names) [] (standing (tasks_list k l) 3) n ≡ []
+  tasks_steps_turn k l n p = turn_fault-value (solves_shape names) (tasks_list k l) 3 n p
+
+  tasks_seed_turn : (k l n s : Text) → is_positional_word s ≡ true → turn_fault (solves_shape names) [] (standing (tasks_steps k l n) 4) s ≡ []
+  tasks_seed_turn k l n s p = turn_fault-value (solves_shape names) (tasks_steps k l n) 4 s p
+
+  stray_tasks_turn : (k l n s x : Text) → is_positional_word x ≡ true → turn_fault (solves_shape names) [] (standing (tasks_seed k l n s) 5) x ≡ kind.UnknownArgument ∷ []
+  stray_tasks_turn k l n s x p = turn_fault-value (solves_shape names) (tasks_seed k l n s) 5 x p
+
+  one_of_tasks : (k : Text) → is_positional_word k ≡ true → solves_fault names (k ∷ []) ≡ or_else (tasks_fault k) missing
+  unfolding walk_fault defaults_fault
+  one_of_tasks k p = rw (tasks_kind_walked k p, tasks_kind_turn k p) refl
+
+  two_of_tasks : (k l : Text) → is_positional_word k ≡ true → is_positional_word l ≡ true → solves_fault names (k ∷ l ∷ []) ≡ or_else (or_else (tasks_fault k) []) missing
+  unfolding walk_fault defaults_fault
+  two_of_tasks k l p q = rw (tasks_kind_walked k p, tasks_kind_turn k p, tasks_list_walked k l q, tasks_list_turn k l q) refl
+
+  -- what a walk that ends so may still fail by
+  abbrev tasks_rest : Held → Kinds
+  tasks_rest h =
+      or_else [] (or_else (settle_fault solves_rules (solves_shape names).args_override_self h)
+      (or_else (defaults_fault (settled solves_rules h).rows solves_rules) (check_fault (solves_shape names) (finished solves_rules h) false)))
+
+  listed_fault : (k l n : Text) → is_positional_word k ≡ true → is_positional_word l ≡ true → is_positional_word n ≡ true → walk_fault (solves_shape names) [] (walk_from nothing_held) (k ∷ l ∷ n ∷ []) ≡ or_else (tasks_fault k) []
+  unfolding walk_fault
+  listed_fault k l n p q r = rw (tasks_kind_turn k p, tasks_kind_walked k p, tasks_list_turn k l q, tasks_list_walked k l q, tasks_steps_turn k l n r) refl
+
+  listed_walk : (k l n : Text) → is_positional_word k ≡ true → is_positional_word l ≡ true → is_positional_word n ≡ true → walk solves_rules [] nothing_held (k ∷ l ∷ n ∷ []) ≡ standing (tasks_steps k l n) 4
+  listed_walk k l n p q r = rw (tasks_kind_walked k p, tasks_list_walked k l q, tasks_steps_walked k l n r) refl
+
+  listed_rest : (k l n : Text) → tasks_rest (tasks_steps k l n) ≡ []
+  unfolding defaults_fault
+  listed_rest k l n = refl
+
+  three_of_tasks : (k l n : Text) → is_positional_word k ≡ true → is_positional_word l ≡ true → is_positional_word n ≡ true → solves_fault names (k ∷ l ∷ n ∷ []) ≡ or_else (or_else (tasks_fault k) []) []
+  three_of_tasks k l n p q r =
+      ap₂ {C = Kinds} (λ (f : Kinds) (w : Walk). or_else f (tasks_rest w.held)) (listed_fault k l n p q r) (listed_walk k l n p q r)
+      ∙ ap (or_else (or_else (tasks_fault k) [])) (listed_rest k l n)
+
+  listed_seed_fault : (k l n s : Text) → is_positional_word k ≡ true → is_positional_word l ≡ true → is_positional_word n ≡ true → is_positional_word s ≡ true
+      → walk_fault (solves_shape names) [] (walk_from nothing_held) (k ∷ l ∷ n ∷ s ∷ []) ≡ or_else (tasks_fault k) []
+  unfolding walk_fault
+  listed_seed_fault k l n s p q r t =
+      rw (
+        tasks_kind_turn k p,
+        tasks_kind_walked k p,
+        tasks_list_turn k l q,
+        tasks_list_walked k l q,
+        tasks_steps_turn k l n r,
+        tasks_steps_walked k l n r,
+        tasks_seed_turn k l n s t,
+      ) refl
+
+  listed_seed_walk : (k l n s : Text) → is_positional_word k ≡ true → is_positional_word l ≡ true → is_positional_word n ≡ true → is_positional_word s ≡ true
+      → walk solves_rules [] nothing_held (k ∷ l ∷ n ∷ s ∷ []) ≡ standing (tasks_seed k l n s) 5
+  listed_seed_walk k l n s p q r t = rw (tasks_kind_walked k p, tasks_list_walked k l q, tasks_steps_walked k l n r, tasks_seed_walked k l n s t) refl
+
+  listed_seed_rest : (k l n s : Text) → tasks_rest (tasks_seed k l n s) ≡ []
+  unfolding defaults_fault
+  listed_seed_rest k l n s = refl
+
+  four_of_tasks : (k l n s : Text) → is_positional_word k ≡ true → is_positional_word l ≡ true → is_positional_word n ≡ true → is_positional_word s ≡ true
+      → solves_fault names (k ∷ l ∷ n ∷ s ∷ []) ≡ or_else (or_else (tasks_fault k) []) []
+  four_of_tasks k l n s p q r t =
+      ap₂ {C = Kinds} (λ (f : Kinds) (w : Walk). or_else f (tasks_rest w.held)) (listed_seed_fault k l n s p q r t) (listed_seed_walk k l n s p q r t)
+      ∙ ap (or_else (or_else (tasks_fault k) [])) (listed_seed_rest k l n s)
+
+  five_of_tasks : (k l n s x : Text) (rest : List Text) → is_positional_word k ≡ true → is_positional_word l ≡ true → is_positional_word n ≡ true → is_positional_word s ≡ true → is_positional_word x ≡ true
+      → walk_fault (solves_shape names) [] (walk_from nothing_held) (k ∷ l ∷ n ∷ s ∷ x ∷ rest) ≡ or_else (tasks_fault k) (kind.UnknownArgument ∷ [])
+  unfolding walk_fault
+  five_of_tasks k l n s x rest p q r t u =
+      rw (
+        tasks_kind_turn k p,
+        tasks_kind_walked k p,
+        tasks_list_turn k l q,
+        tasks_list_walked k l q,
+        tasks_steps_turn k l n r,
+        tasks_steps_walked k l n r,
+        tasks_seed_turn k l n s t,
+        tasks_seed_walked k l n s t,
+        stray_tasks_turn k l n s x u,
+      ) refl
+
+  tasks_rows : (k l n : Text) → is_positional_word k ≡ true → is_positional_word l ≡ true → is_positional_word n ≡ true → tasks_in (rows_at (solves_shape names) (k ∷ l ∷ n ∷ [])).1 ≡ tasks_asked (k ∷ l ∷ n ∷ [])
+  tasks_rows k l n p q r = rw (tasks_kind_walked k p, tasks_list_walked k l q, tasks_steps_walked k l n r) refl
+
+  listed_seed_rows : (k l n s : Text) → is_positional_word k ≡ true → is_positional_word l ≡ true → is_positional_word n ≡ true → is_positional_word s ≡ true
+      → tasks_in (rows_at (solves_shape names) (k ∷ l ∷ n ∷ s ∷ [])).1 ≡ tasks_asked (k ∷ l ∷ n ∷ s ∷ [])
+  listed_seed_rows k l n s p q r t = rw (tasks_kind_walked k p, tasks_list_walked k l q, tasks_steps_walked k l n r, tasks_seed_walked k l n s t) refl
+
 -- ---- the words `STORE [strict]` of `run`
 
 abbrev run_shape : Bor (List (Bor Text)) → Shape
@@ -773,6 +912,45 @@ judged_task Help names (k ∷ i ∷ n ∷ s ∷ d ∷ x ∷ rest) kinds p =
       refl,
     )
 
+-- nothing is solved without a kind
+no_kind_no_tasks : (o : Option Kind) (l : Text) (n s : Option ℕ) → o ≡ None → option_map solves (tasks_from o l n s) ≡ None
+no_kind_no_tasks o l n s none = ap (λ o. option_map solves (tasks_from o l n s)) none
+
+judged_tasks : (Help : Type 0) (names : Bor (List (Bor Text))) (words : List Text) → IsKindNames names → ArePositional words
+    → IsJudged Help (solves_fault names words) (option_map solves (tasks_asked words)) (option_map solves (tasks_in (rows_at (solves_shape names) words).1))
+judged_tasks Help names [] kinds p = failed Help _ missing _ (no_tasks names) (refl, tt)
+judged_tasks Help names (k ∷ []) kinds p =
+    failed Help _ _ _ (one_of_tasks names k (both_true _ _ p).0) (fault_then (tasks_fault names k) missing (kind_mistakes _ k (known_fault names k kinds)) (refl, tt))
+judged_tasks Help names (k ∷ l ∷ []) kinds p =
+    failed Help _ _ _ (two_of_tasks names k l (both_true _ _ p).0 (both_true _ _ (both_true _ _ p).1).0)
+    (fault_then (or_else (tasks_fault names k) []) missing (mistakes_nil (tasks_fault names k) (kind_mistakes _ k (known_fault names k kinds))) (refl, tt))
+judged_tasks Help names (k ∷ l ∷ n ∷ []) kinds p =
+    let pk = both_true (is_positional_word k) _ p in
+    let pl = both_true (is_positional_word l) _ pk.1 in
+    let pn = both_true (is_positional_word n) _ pl.1 in
+    judged_kind Help (bytes_eq (codes "lilim") k) (bytes_eq (codes "vrp") k) _ _ _
+    (three_of_tasks names k l n pk.0 pl.0 pn.0 ∙ or_else-nil _ ∙ or_else-nil _ ∙ known_fault names k kinds) (no_kind_no_tasks (kind_named k) l (steps_named n) (Some 0))
+    (sym (ap (option_map solves) (tasks_rows names k l n pk.0 pl.0 pn.0)))
+judged_tasks Help names (k ∷ l ∷ n ∷ s ∷ []) kinds p =
+    let pk = both_true (is_positional_word k) _ p in
+    let pl = both_true (is_positional_word l) _ pk.1 in
+    let pn = both_true (is_positional_word n) _ pl.1 in
+    let ps = both_true (is_positional_word s) _ pn.1 in
+    judged_kind Help (bytes_eq (codes "lilim") k) (bytes_eq (codes "vrp") k) _ _ _
+    (four_of_tasks names k l n s pk.0 pl.0 pn.0 ps.0 ∙ or_else-nil _ ∙ or_else-nil _ ∙ known_fault names k kinds) (no_kind_no_tasks (kind_named k) l (steps_named n) (seed_named s))
+    (sym (ap (option_map solves) (listed_seed_rows names k l n s pk.0 pl.0 pn.0 ps.0)))
+judged_tasks Help names (k ∷ l ∷ n ∷ s ∷ x ∷ rest) kinds p =
+    let pk = both_true (is_positional_word k) _ p in
+    let pl = both_true (is_positional_word l) _ pk.1 in
+    let pn = both_true (is_positional_word n) _ pl.1 in
+    let ps = both_true (is_positional_word s) _ pn.1 in
+    let px = both_true (is_positional_word x) _ ps.1 in
+    inr (
+      inl (fault_first _ _ (subst IsFault (sym (five_of_tasks names k l n s x rest pk.0 pl.0 pn.0 ps.0 px.0))
+          (fault_then (tasks_fault names k) (kind.UnknownArgument ∷ []) (kind_mistakes _ k (known_fault names k kinds)) (refl, tt)))),
+      refl,
+    )
+
 -- ---- the word of `format` and `run`
 
 -- such a command, as built
@@ -1124,6 +1302,172 @@ judged_table Help (a ∷ b ∷ c ∷ d ∷ x ∷ rest) p =
     let px = both_true (is_positional_word x) _ pd.1 in
     inr (inl (fault_first _ _ (subst IsFault (sym (five_of_table a b c d x rest pa.0 pb.0 pc.0 pd.0 px.0)) (refl, tt))), refl)
 
+-- ---- the words `STORE` or `KIND INSTANCE SOLUTION [ROUTE]` of `draw`
+
+abbrev draw_shape : Shape
+draw_shape = built_leaf draw_app.top
+
+abbrev draw_rules : List Rule
+draw_rules = draw_shape.rules
+
+abbrev draw_fault : List Text → Kinds
+draw_fault words = level_fault draw_shape [] nothing_held words false []
+
+abbrev draw_one : Text → Held
+draw_one a = (after_value draw_rules nothing_held 1 a).held
+
+abbrev draw_two : Text → Text → Held
+draw_two a b = (after_value draw_rules (draw_one a) 2 b).held
+
+abbrev draw_three : Text → Text → Text → Held
+draw_three a b c = (after_value draw_rules (draw_two a b) 3 c).held
+
+abbrev draw_four : Text → Text → Text → Text → Held
+draw_four a b c d = (after_value draw_rules (draw_three a b c) 4 d).held
+
+no_drawing : draw_fault [] ≡ missing
+unfolding clap_on_literals
+no_drawing = refl
+
+draw_one_walked : (a : Text) → is_positional_word a ≡ true → walked draw_rules [] (standing nothing_held 1) a ≡ standing (draw_one a) 2
+draw_one_walked a p = walked-value draw_rules nothing_held 1 a p
+
+draw_two_walked : (a b : Text) → is_positional_word b ≡ true → walked draw_rules [] (standing (draw_one a) 2) b ≡ standing (draw_two a b) 3
+draw_two_walked a b p = walked-value draw_rules (draw_one a) 2 b p
+
+draw_three_walked : (a b c : Text) → is_positional_word c ≡ true → walked draw_rules [] (standing (draw_two a b) 3) c ≡ standing (draw_three a b c) 4
+draw_three_walked a b c p = walked-value draw_rules (draw_two a b) 3 c p
+
+draw_four_walked : (a b c d : Text) → is_positional_word d ≡ true → walked draw_rules [] (standing (draw_three a b c) 4) d ≡ standing (draw_four a b c d) 5
+draw_four_walked a b c d p = walked-value draw_rules (draw_three a b c) 4 d p
+
+draw_one_turn : (a : Text) → is_positional_word a ≡ true → turn_fault draw_shape [] (standing nothing_held 1) a ≡ []
+draw_one_turn a p = turn_fault-value draw_shape nothing_held 1 a p
+
+draw_two_turn : (a b : Text) → is_positional_word b ≡ true → turn_fault draw_shape [] (standing (draw_one a) 2) b ≡ []
+draw_two_turn a b p = turn_fault-value draw_shape (draw_one a) 2 b p
+
+draw_three_turn : (a b c : Text) → is_positional_word c ≡ true → turn_fault draw_shape [] (standing (draw_two a b) 3) c ≡ []
+draw_three_turn a b c p = turn_fault-value draw_shape (draw_two a b) 3 c p
+
+draw_four_turn : (a b c d : Text) → is_positional_word d ≡ true → turn_fault draw_shape [] (standing (draw_three a b c) 4) d ≡ []
+draw_four_turn a b c d p = turn_fault-value draw_shape (draw_three a b c) 4 d p
+
+stray_draw_turn : (a b c d x : Text) → is_positional_word x ≡ true → turn_fault draw_shape [] (standing (draw_four a b c d) 5) x ≡ kind.UnknownArgument ∷ []
+stray_draw_turn a b c d x p = turn_fault-value draw_shape (draw_four a b c d) 5 x p
+
+one_of_draw : (a : Text) → is_positional_word a ≡ true → draw_fault (a ∷ []) ≡ []
+unfolding walk_fault defaults_fault
+one_of_draw a p = rw (draw_one_walked a p, draw_one_turn a p) refl
+
+two_of_draw : (a b : Text) → is_positional_word a ≡ true → is_positional_word b ≡ true → draw_fault (a ∷ b ∷ []) ≡ []
+unfolding walk_fault defaults_fault
+two_of_draw a b p q = rw (draw_one_walked a p, draw_one_turn a p, draw_two_walked a b q, draw_two_turn a b q) refl
+
+-- what a walk that ends so may still fail by
+abbrev draw_rest : Held → Kinds
+draw_rest h =
+    or_else [] (or_else (settle_fault draw_rules draw_shape.args_override_self h)
+    (or_else (defaults_fault (settled draw_rules h).rows draw_rules) (check_fault draw_shape (finished draw_rules h) false)))
+
+drawn_fault : (a b c : Text) → is_positional_word a ≡ true → is_positional_word b ≡ true → is_positional_word c ≡ true → walk_fault draw_shape [] (walk_from nothing_held) (a ∷ b ∷ c ∷ []) ≡ []
+unfolding walk_fault
+drawn_fault a b c p q r = rw (draw_one_turn a p, draw_one_walked a p, draw_two_turn a b q, draw_two_walked a b q, draw_three_turn a b c r) refl
+
+drawn_walk : (a b c : Text) → is_positional_word a ≡ true → is_positional_word b ≡ true → is_positional_word c ≡ true → walk draw_rules [] nothing_held (a ∷ b ∷ c ∷ []) ≡ standing (draw_three a b c) 4
+drawn_walk a b c p q r = rw (draw_one_walked a p, draw_two_walked a b q, draw_three_walked a b c r) refl
+
+drawn_rest : (a b c : Text) → draw_rest (draw_three a b c) ≡ []
+unfolding defaults_fault
+drawn_rest a b c = refl
+
+three_of_draw : (a b c : Text) → is_positional_word a ≡ true → is_positional_word b ≡ true → is_positional_word c ≡ true → draw_fault (a ∷ b ∷ c ∷ []) ≡ []
+three_of_draw a b c p q r =
+    ap₂ {C = Kinds} (λ (f : Kinds) (w : Walk). or_else f (draw_rest w.held)) (drawn_fault a b c p q r) (drawn_walk a b c p q r) ∙ drawn_rest a b c
+
+routed_fault : (a b c d : Text) → is_positional_word a ≡ true → is_positional_word b ≡ true → is_positional_word c ≡ true → is_positional_word d ≡ true
+    → walk_fault draw_shape [] (walk_from nothing_held) (a ∷ b ∷ c ∷ d ∷ []) ≡ []
+unfolding walk_fault
+routed_fault a b c d p q r t =
+    rw (
+      draw_one_turn a p,
+      draw_one_walked a p,
+      draw_two_turn a b q,
+      draw_two_walked a b q,
+      draw_three_turn a b c r,
+      draw_three_walked a b c r,
+      draw_four_turn a b c d t,
+    ) refl
+
+routed_walk : (a b c d : Text) → is_positional_word a ≡ true → is_positional_word b ≡ true → is_positional_word c ≡ true → is_positional_word d ≡ true
+    → walk draw_rules [] nothing_held (a ∷ b ∷ c ∷ d ∷ []) ≡ standing (draw_four a b c d) 5
+routed_walk a b c d p q r t = rw (draw_one_walked a p, draw_two_walked a b q, draw_three_walked a b c r, draw_four_walked a b c d t) refl
+
+routed_rest : (a b c d : Text) → draw_rest (draw_four a b c d) ≡ []
+unfolding defaults_fault
+routed_rest a b c d = refl
+
+four_of_draw : (a b c d : Text) → is_positional_word a ≡ true → is_positional_word b ≡ true → is_positional_word c ≡ true → is_positional_word d ≡ true → draw_fault (a ∷ b ∷ c ∷ d ∷ []) ≡ []
+four_of_draw a b c d p q r t =
+    ap₂ {C = Kinds} (λ (f : Kinds) (w : Walk). or_else f (draw_rest w.held)) (routed_fault a b c d p q r t) (routed_walk a b c d p q r t) ∙ routed_rest a b c d
+
+five_of_draw : (a b c d x : Text) (rest : List Text) → is_positional_word a ≡ true → is_positional_word b ≡ true → is_positional_word c ≡ true → is_positional_word d ≡ true → is_positional_word x ≡ true
+    → walk_fault draw_shape [] (walk_from nothing_held) (a ∷ b ∷ c ∷ d ∷ x ∷ rest) ≡ kind.UnknownArgument ∷ []
+unfolding walk_fault
+five_of_draw a b c d x rest p q r t u =
+    rw (
+      draw_one_turn a p,
+      draw_one_walked a p,
+      draw_two_turn a b q,
+      draw_two_walked a b q,
+      draw_three_turn a b c r,
+      draw_three_walked a b c r,
+      draw_four_turn a b c d t,
+      draw_four_walked a b c d t,
+      stray_draw_turn a b c d x u,
+    ) refl
+
+one_draw_row : (a : Text) → is_positional_word a ≡ true → draw_in (rows_at draw_shape (a ∷ [])).1 ≡ draw_asked (a ∷ [])
+one_draw_row a p = rw (draw_one_walked a p) refl
+
+two_draw_rows : (a b : Text) → is_positional_word a ≡ true → is_positional_word b ≡ true → draw_in (rows_at draw_shape (a ∷ b ∷ [])).1 ≡ draw_asked (a ∷ b ∷ [])
+two_draw_rows a b p q = rw (draw_one_walked a p, draw_two_walked a b q) refl
+
+three_draw_rows : (a b c : Text) → is_positional_word a ≡ true → is_positional_word b ≡ true → is_positional_word c ≡ true → draw_in (rows_at draw_shape (a ∷ b ∷ c ∷ [])).1 ≡ draw_asked (a ∷ b ∷ c ∷ [])
+three_draw_rows a b c p q r = rw (draw_one_walked a p, draw_two_walked a b q, draw_three_walked a b c r) refl
+
+four_draw_rows : (a b c d : Text) → is_positional_word a ≡ true → is_positional_word b ≡ true → is_positional_word c ≡ true → is_positional_word d ≡ true
+    → draw_in (rows_at draw_shape (a ∷ b ∷ c ∷ d ∷ [])).1 ≡ draw_asked (a ∷ b ∷ c ∷ d ∷ [])
+four_draw_rows a b c d p q r t = rw (draw_one_walked a p, draw_two_walked a b q, draw_three_walked a b c r, draw_four_walked a b c d t) refl
+
+judged_draw : (Help : Type 0) (words : List Text) → ArePositional words → IsJudged Help (draw_fault words) (draw_asked words) (draw_in (rows_at draw_shape words).1)
+judged_draw Help [] p = failed Help _ missing _ no_drawing (refl, tt)
+judged_draw Help (a ∷ []) p =
+    let pa = both_true (is_positional_word a) _ p in
+    inl (one_of_draw a pa.0, sym (one_draw_row a pa.0))
+judged_draw Help (a ∷ b ∷ []) p =
+    let pa = both_true (is_positional_word a) _ p in
+    let pb = both_true (is_positional_word b) _ pa.1 in
+    inl (two_of_draw a b pa.0 pb.0, sym (two_draw_rows a b pa.0 pb.0))
+judged_draw Help (a ∷ b ∷ c ∷ []) p =
+    let pa = both_true (is_positional_word a) _ p in
+    let pb = both_true (is_positional_word b) _ pa.1 in
+    let pc = both_true (is_positional_word c) _ pb.1 in
+    inl (three_of_draw a b c pa.0 pb.0 pc.0, sym (three_draw_rows a b c pa.0 pb.0 pc.0))
+judged_draw Help (a ∷ b ∷ c ∷ d ∷ []) p =
+    let pa = both_true (is_positional_word a) _ p in
+    let pb = both_true (is_positional_word b) _ pa.1 in
+    let pc = both_true (is_positional_word c) _ pb.1 in
+    let pd = both_true (is_positional_word d) _ pc.1 in
+    inl (four_of_draw a b c d pa.0 pb.0 pc.0 pd.0, sym (four_draw_rows a b c d pa.0 pb.0 pc.0 pd.0))
+judged_draw Help (a ∷ b ∷ c ∷ d ∷ x ∷ rest) p =
+    let pa = both_true (is_positional_word a) _ p in
+    let pb = both_true (is_positional_word b) _ pa.1 in
+    let pc = both_true (is_positional_word c) _ pb.1 in
+    let pd = both_true (is_positional_word d) _ pc.1 in
+    let px = both_true (is_positional_word x) _ pd.1 in
+    inr (inl (fault_first _ _ (subst IsFault (sym (five_of_draw a b c d x rest pa.0 pb.0 pc.0 pd.0 px.0)) (refl, tt))), refl)
+
 -- ---- the subcommands
 
 -- the first word is a subcommand, `help`, or a word too many
@@ -1164,11 +1508,11 @@ module _ (names modes : Bor (List (Bor Text))) (words : List Text) where
   unfolding clap_on_literals
   explain_stop = ap (λ (w : Walk). told_of (entered (the_app names modes) w.stopped)) (top_walked (codes "explain"))
 
-  draw_words_fault : built_fault (the_app names modes) nothing_held (codes "draw" ∷ words) ≡ paths_fault (codes "draw") names words
+  draw_words_fault : built_fault (the_app names modes) nothing_held (codes "draw" ∷ words) ≡ draw_fault words
   unfolding clap_on_literals
-  draw_words_fault = rw (top_walked (codes "draw"), top_fault (codes "draw")) (or_else-nil (paths_fault (codes "draw") names words))
+  draw_words_fault = rw (top_walked (codes "draw"), top_fault (codes "draw")) (or_else-nil (draw_fault words))
 
-  draw_stop : told_of (stop_in names modes (codes "draw" ∷ words)) ≡ option_map draw (paths_in (rows_at (paths_shape (codes "draw") names) words).1)
+  draw_stop : told_of (stop_in names modes (codes "draw" ∷ words)) ≡ draw_in (rows_at draw_shape words).1
   unfolding clap_on_literals
   draw_stop = ap (λ (w : Walk). told_of (entered (the_app names modes) w.stopped)) (top_walked (codes "draw"))
 
@@ -1179,6 +1523,14 @@ module _ (names modes : Bor (List (Bor Text))) (words : List Text) where
   solve_stop : told_of (stop_in names modes (codes "solve" ∷ words)) ≡ option_map solve (task_in (rows_at (solve_shape names) words).1)
   unfolding clap_on_literals
   solve_stop = ap (λ (w : Walk). told_of (entered (the_app names modes) w.stopped)) (top_walked (codes "solve"))
+
+  solves_words_fault : built_fault (the_app names modes) nothing_held (codes "solves" ∷ words) ≡ solves_fault names words
+  unfolding clap_on_literals
+  solves_words_fault = rw (top_walked (codes "solves"), top_fault (codes "solves")) (or_else-nil (solves_fault names words))
+
+  solves_stop : told_of (stop_in names modes (codes "solves" ∷ words)) ≡ option_map solves (tasks_in (rows_at (solves_shape names) words).1)
+  unfolding clap_on_literals
+  solves_stop = ap (λ (w : Walk). told_of (entered (the_app names modes) w.stopped)) (top_walked (codes "solves"))
 
   format_words_fault : built_fault (the_app names modes) nothing_held (codes "format" ∷ words) ≡ store_fault (codes "format") words
   unfolding clap_on_literals
@@ -1226,7 +1578,7 @@ help_fault names modes words = tt
 
 abbrev all_names : Names
 all_names =
-    (codes "audit", []) ∷ (codes "audits", []) ∷ (codes "explain", []) ∷ (codes "timetable", []) ∷ (codes "draw", []) ∷ (codes "solve", []) ∷ (codes "format", []) ∷ (codes "load", []) ∷ (codes "run", []) ∷ (codes "upgrade", []) ∷ (codes "help", []) ∷ []
+    (codes "audit", []) ∷ (codes "audits", []) ∷ (codes "explain", []) ∷ (codes "timetable", []) ∷ (codes "draw", []) ∷ (codes "solve", []) ∷ (codes "solves", []) ∷ (codes "format", []) ∷ (codes "load", []) ∷ (codes "run", []) ∷ (codes "upgrade", []) ∷ (codes "help", []) ∷ []
 
 -- the word is no subcommand's name
 record IsOther (w : Text) : Type 0 where
@@ -1241,9 +1593,10 @@ record IsOther (w : Text) : Type 0 where
   no_run : bytes_eq (codes "run") w ≡ false
   no_upgrade : bytes_eq (codes "upgrade") w ≡ false
   no_timetable : bytes_eq (codes "timetable") w ≡ false
+  no_solves : bytes_eq (codes "solves") w ≡ false
 
 no_subcommand : (w : Text) → IsOther w → bytes_eq (codes "help") w ≡ false → subcommand_met all_names idle w ≡ None
-no_subcommand w o h = rw (o.no_audit, o.no_audits, o.no_explain, o.no_draw, o.no_solve, o.no_format, o.no_load, o.no_run, o.no_upgrade, o.no_timetable, h) refl
+no_subcommand w o h = rw (o.no_audit, o.no_audits, o.no_explain, o.no_draw, o.no_solve, o.no_format, o.no_load, o.no_run, o.no_upgrade, o.no_timetable, o.no_solves, h) refl
 
 turn_fault-stray : (s : Shape) (w : Text) → IsOther w → bytes_eq (codes "help") w ≡ false → turn_fault s all_names (standing nothing_held 1) w ≡ step_fault s 1 nothing_held value
 turn_fault-stray s w o h = rw (no_subcommand w o h, word_passes s w nothing_held o.positional, word_is_value s.rules 1 w nothing_held o.positional) refl
@@ -1269,65 +1622,70 @@ judged_named names modes Help name w words fault asked told is f t j =
     (subst (λ x. IsJudged Help x asked (told_of (stop_in names modes (name ∷ words)))) (sym f) (subst (λ x. IsJudged Help fault asked x) (sym t) j))
 
 -- what the words behind the first one ask for, by whether it is the name of each subcommand
-abbrev asked_if : List Text → Bool → Bool → Bool → Bool → Bool → Bool → Bool → Bool → Bool → Bool → Option Asked
-asked_if words is_audit is_audits is_explain is_draw is_solve is_format is_load is_run is_upgrade is_timetable =
+abbrev asked_if : List Text → Bool → Bool → Bool → Bool → Bool → Bool → Bool → Bool → Bool → Bool → Bool → Option Asked
+asked_if words is_audit is_audits is_explain is_draw is_solve is_format is_load is_run is_upgrade is_timetable is_solves =
     if is_audit then option_map audit (paths_asked words)
     else (if is_audits then list_asked words
     else (if is_explain then option_map explain (paths_asked words)
-    else (if is_draw then option_map draw (paths_asked words)
+    else (if is_draw then draw_asked words
     else (if is_solve then option_map solve (task_asked words)
     else (if is_format then option_map format (store_asked words)
     else (if is_load then option_map load (load_asked words)
     else (if is_run then run_asked words
     else (if is_upgrade then upgrade_asked words
-    else (if is_timetable then timetable_asked words else None)))))))))
+    else (if is_timetable then timetable_asked words
+    else (if is_solves then option_map solves (tasks_asked words) else None))))))))))
 
-judged_first : (names modes : Bor (List (Bor Text))) (w : Text) (words : List Text) (is_audit is_audits is_explain is_draw is_solve is_format is_load is_run is_upgrade is_timetable : Bool)
+judged_first : (names modes : Bor (List (Bor Text))) (w : Text) (words : List Text) (is_audit is_audits is_explain is_draw is_solve is_format is_load is_run is_upgrade is_timetable is_solves : Bool)
     → bytes_eq (codes "audit") w ≡ is_audit → bytes_eq (codes "audits") w ≡ is_audits → bytes_eq (codes "explain") w ≡ is_explain → bytes_eq (codes "draw") w ≡ is_draw
-    → bytes_eq (codes "solve") w ≡ is_solve → bytes_eq (codes "format") w ≡ is_format → bytes_eq (codes "load") w ≡ is_load → bytes_eq (codes "run") w ≡ is_run → bytes_eq (codes "upgrade") w ≡ is_upgrade → bytes_eq (codes "timetable") w ≡ is_timetable → IsKindNames names → IsModeNames modes → ArePositional (w ∷ words)
-    → IsJudged (asks_help (w ∷ words) ≡ true) (built_fault (the_app names modes) nothing_held (w ∷ words)) (asked_if words is_audit is_audits is_explain is_draw is_solve is_format is_load is_run is_upgrade is_timetable)
+    → bytes_eq (codes "solve") w ≡ is_solve → bytes_eq (codes "format") w ≡ is_format → bytes_eq (codes "load") w ≡ is_load → bytes_eq (codes "run") w ≡ is_run → bytes_eq (codes "upgrade") w ≡ is_upgrade → bytes_eq (codes "timetable") w ≡ is_timetable → bytes_eq (codes "solves") w ≡ is_solves → IsKindNames names → IsModeNames modes → ArePositional (w ∷ words)
+    → IsJudged (asks_help (w ∷ words) ≡ true) (built_fault (the_app names modes) nothing_held (w ∷ words)) (asked_if words is_audit is_audits is_explain is_draw is_solve is_format is_load is_run is_upgrade is_timetable is_solves)
     (told_of (stop_in names modes (w ∷ words)))
-judged_first names modes w words true is_audits is_explain is_draw is_solve is_format is_load is_run is_upgrade is_timetable e1 e2 e3 e4 e5 e6 e7 e8 e9 e10 kinds named p =
+judged_first names modes w words true is_audits is_explain is_draw is_solve is_format is_load is_run is_upgrade is_timetable is_solves e1 e2 e3 e4 e5 e6 e7 e8 e9 e10 e11 kinds named p =
     let rest = (both_true _ _ p).1 in
     judged_named names modes _ (codes "audit") w words _ _ _ ((bytes_eq-Decides (codes "audit") w).0 e1) (audit_words_fault names modes words) (audit_stop names modes words)
     (judged_paths _ audit (codes "audit") names words kinds rest)
-judged_first names modes w words false true is_explain is_draw is_solve is_format is_load is_run is_upgrade is_timetable e1 e2 e3 e4 e5 e6 e7 e8 e9 e10 kinds named p =
+judged_first names modes w words false true is_explain is_draw is_solve is_format is_load is_run is_upgrade is_timetable is_solves e1 e2 e3 e4 e5 e6 e7 e8 e9 e10 e11 kinds named p =
     let rest = (both_true _ _ p).1 in
     judged_named names modes _ (codes "audits") w words _ _ _ ((bytes_eq-Decides (codes "audits") w).0 e2) (audits_words_fault names modes words) (audits_stop names modes words)
     (judged_list _ names words kinds rest)
-judged_first names modes w words false false true is_draw is_solve is_format is_load is_run is_upgrade is_timetable e1 e2 e3 e4 e5 e6 e7 e8 e9 e10 kinds named p =
+judged_first names modes w words false false true is_draw is_solve is_format is_load is_run is_upgrade is_timetable is_solves e1 e2 e3 e4 e5 e6 e7 e8 e9 e10 e11 kinds named p =
     let rest = (both_true _ _ p).1 in
     judged_named names modes _ (codes "explain") w words _ _ _ ((bytes_eq-Decides (codes "explain") w).0 e3) (explain_words_fault names modes words) (explain_stop names modes words)
     (judged_paths _ explain (codes "explain") names words kinds rest)
-judged_first names modes w words false false false true is_solve is_format is_load is_run is_upgrade is_timetable e1 e2 e3 e4 e5 e6 e7 e8 e9 e10 kinds named p =
+judged_first names modes w words false false false true is_solve is_format is_load is_run is_upgrade is_timetable is_solves e1 e2 e3 e4 e5 e6 e7 e8 e9 e10 e11 kinds named p =
     let rest = (both_true _ _ p).1 in
     judged_named names modes _ (codes "draw") w words _ _ _ ((bytes_eq-Decides (codes "draw") w).0 e4) (draw_words_fault names modes words) (draw_stop names modes words)
-    (judged_paths _ draw (codes "draw") names words kinds rest)
-judged_first names modes w words false false false false true is_format is_load is_run is_upgrade is_timetable e1 e2 e3 e4 e5 e6 e7 e8 e9 e10 kinds named p =
+    (judged_draw _ words rest)
+judged_first names modes w words false false false false true is_format is_load is_run is_upgrade is_timetable is_solves e1 e2 e3 e4 e5 e6 e7 e8 e9 e10 e11 kinds named p =
     let rest = (both_true _ _ p).1 in
     judged_named names modes _ (codes "solve") w words _ _ _ ((bytes_eq-Decides (codes "solve") w).0 e5) (solve_words_fault names modes words) (solve_stop names modes words)
     (judged_task _ names words kinds rest)
-judged_first names modes w words false false false false false true is_load is_run is_upgrade is_timetable e1 e2 e3 e4 e5 e6 e7 e8 e9 e10 kinds named p =
+judged_first names modes w words false false false false false true is_load is_run is_upgrade is_timetable is_solves e1 e2 e3 e4 e5 e6 e7 e8 e9 e10 e11 kinds named p =
     let rest = (both_true _ _ p).1 in
     judged_named names modes _ (codes "format") w words _ _ _ ((bytes_eq-Decides (codes "format") w).0 e6) (format_words_fault names modes words) (format_stop names modes words)
     (judged_store _ format (codes "format") words rest)
-judged_first names modes w words false false false false false false true is_run is_upgrade is_timetable e1 e2 e3 e4 e5 e6 e7 e8 e9 e10 kinds named p =
+judged_first names modes w words false false false false false false true is_run is_upgrade is_timetable is_solves e1 e2 e3 e4 e5 e6 e7 e8 e9 e10 e11 kinds named p =
     let rest = (both_true _ _ p).1 in
     judged_named names modes _ (codes "load") w words _ _ _ ((bytes_eq-Decides (codes "load") w).0 e7) (load_words_fault names modes words) (load_stop names modes words)
     (judged_load _ names words kinds rest)
-judged_first names modes w words false false false false false false false true is_upgrade is_timetable e1 e2 e3 e4 e5 e6 e7 e8 e9 e10 kinds named p =
+judged_first names modes w words false false false false false false false true is_upgrade is_timetable is_solves e1 e2 e3 e4 e5 e6 e7 e8 e9 e10 e11 kinds named p =
     let rest = (both_true _ _ p).1 in
     judged_named names modes _ (codes "run") w words _ _ _ ((bytes_eq-Decides (codes "run") w).0 e8) (run_words_fault names modes words) (run_stop names modes words)
     (judged_run _ modes words named rest)
-judged_first names modes w words false false false false false false false false true is_timetable e1 e2 e3 e4 e5 e6 e7 e8 e9 e10 kinds named p =
+judged_first names modes w words false false false false false false false false true is_timetable is_solves e1 e2 e3 e4 e5 e6 e7 e8 e9 e10 e11 kinds named p =
     let rest = (both_true _ _ p).1 in
     judged_named names modes _ (codes "upgrade") w words _ _ _ ((bytes_eq-Decides (codes "upgrade") w).0 e9) (upgrade_words_fault names modes words) (upgrade_stop names modes words)
     (judged_upgrade _ words rest)
-judged_first names modes w words false false false false false false false false false true e1 e2 e3 e4 e5 e6 e7 e8 e9 e10 kinds named p =
+judged_first names modes w words false false false false false false false false false true is_solves e1 e2 e3 e4 e5 e6 e7 e8 e9 e10 e11 kinds named p =
     let rest = (both_true _ _ p).1 in
     judged_named names modes _ (codes "timetable") w words _ _ _ ((bytes_eq-Decides (codes "timetable") w).0 e10) (table_words_fault names modes words) (table_stop names modes words)
     (judged_table _ words rest)
-judged_first names modes w words false false false false false false false false false false e1 e2 e3 e4 e5 e6 e7 e8 e9 e10 kinds named p =
+judged_first names modes w words false false false false false false false false false false true e1 e2 e3 e4 e5 e6 e7 e8 e9 e10 e11 kinds named p =
+    let rest = (both_true _ _ p).1 in
+    judged_named names modes _ (codes "solves") w words _ _ _ ((bytes_eq-Decides (codes "solves") w).0 e11) (solves_words_fault names modes words) (solves_stop names modes words)
+    (judged_tasks _ names words kinds rest)
+judged_first names modes w words false false false false false false false false false false false e1 e2 e3 e4 e5 e6 e7 e8 e9 e10 e11 kinds named p =
     inr (
       judged_other names modes w words (bytes_eq (codes "help") w) refl (record {
         positional = (both_true _ _ p).0;
@@ -1341,6 +1699,7 @@ judged_first names modes w words false false false false false false false false
         no_run = e8;
         no_upgrade = e9;
         no_timetable = e10;
+        no_solves = e11;
       }),
       refl,
     )
@@ -1351,7 +1710,7 @@ pub judged_words : (names modes : Bor (List (Bor Text))) (words : List Text) →
 judged_words names modes [] kinds named p = inl (no_words names modes, refl)
 judged_words names modes (w ∷ words) kinds named p =
     judged_first names modes w words (bytes_eq (codes "audit") w) (bytes_eq (codes "audits") w) (bytes_eq (codes "explain") w) (bytes_eq (codes "draw") w) (bytes_eq (codes "solve") w)
-    (bytes_eq (codes "format") w) (bytes_eq (codes "load") w) (bytes_eq (codes "run") w) (bytes_eq (codes "upgrade") w) (bytes_eq (codes "timetable") w) refl refl refl refl refl refl refl refl refl refl kinds named p
+    (bytes_eq (codes "format") w) (bytes_eq (codes "load") w) (bytes_eq (codes "run") w) (bytes_eq (codes "upgrade") w) (bytes_eq (codes "timetable") w) (bytes_eq (codes "solves") w) refl refl refl refl refl refl refl refl refl refl refl kinds named p
 
 -- ---- the values of words
 
@@ -1418,6 +1777,14 @@ module _ (f : Found) where
   pub task_is : (k i n : Option Text) → IsValue (codes "KIND") k → IsValue (codes "INSTANCE") i → IsValue (codes "STEPS") n → task_in (rows_of f) ≡ task_with k i n (first_of (codes "SEED") (rows_of f)) (first_of (codes "DEVIATION") (rows_of f))
   task_is k i n ek ei en = rw (value_is f (codes "KIND") k ek, value_is f (codes "INSTANCE") i ei, value_is f (codes "STEPS") n en) refl
 
+  -- of `solves`
+  pub tasks_is : (k l n : Option Text) → IsValue (codes "KIND") k → IsValue (codes "LIST") l → IsValue (codes "STEPS") n → tasks_in (rows_of f) ≡ tasks_with k l n (first_of (codes "SEED") (rows_of f))
+  tasks_is k l n ek el en = rw (value_is f (codes "KIND") k ek, value_is f (codes "LIST") l el, value_is f (codes "STEPS") n en) refl
+
+  -- of `draw`
+  pub draw_is : (a b c d : Option Text) → IsValue (codes "STORE|KIND") a → IsValue (codes "INSTANCE") b → IsValue (codes "SOLUTION") c → IsValue (codes "ROUTE") d → draw_in (rows_of f) ≡ draw_with a b c d
+  draw_is a b c d ea eb ec ed = rw (value_is f (codes "STORE|KIND") a ea, value_is f (codes "INSTANCE") b eb, value_is f (codes "SOLUTION") c ec, value_is f (codes "ROUTE") d ed) refl
+
   -- of `run`
   pub run_is : (w m : Option Text) → IsValue (codes "STORE") w → IsValue (codes "strict") m → run_in (rows_of f) ≡ run_with w m
   run_is w m ew em = rw (value_is f (codes "STORE") w ew, value_is f (codes "strict") m em) refl
@@ -1477,6 +1844,42 @@ task_found k i n s d kind steps seed deviation ek en es ed =
     ∙ (ap (λ o. task_from (Some kind) i o (seed_or_none s) (deviation_or_none d)) en
     ∙ (ap (λ o. task_from (Some kind) i (Some steps) o (deviation_or_none d)) es ∙ ap (task_from (Some kind) i (Some steps) (Some seed)) ed))
 
+-- words that ask for no solving of a list
+pub no_tasks_kind : (l n s : Option Text) → tasks_with None l n s ≡ None
+no_tasks_kind l n s = refl
+
+pub no_kind_of_tasks : (k : Text) (l n s : Option Text) → kind_named k ≡ None → tasks_with (Some k) l n s ≡ None
+no_kind_of_tasks k None n s e = refl
+no_kind_of_tasks k (Some l) None s e = refl
+no_kind_of_tasks k (Some l) (Some n) s e = ap (λ o. tasks_from o l (steps_named n) (seed_or_none s)) e
+
+pub no_tasks_list : (k : Text) (n s : Option Text) → tasks_with (Some k) None n s ≡ None
+no_tasks_list k n s = refl
+
+pub no_tasks_steps : (k l : Text) (s : Option Text) → tasks_with (Some k) (Some l) None s ≡ None
+no_tasks_steps k l s = refl
+
+no_listed_steps : (o : Option Kind) (l : Text) (s : Option ℕ) → tasks_from o l None s ≡ None
+no_listed_steps None l s = refl
+no_listed_steps (Some k) l s = refl
+
+pub bad_tasks_steps : (k l n : Text) (s : Option Text) → steps_named n ≡ None → tasks_with (Some k) (Some l) (Some n) s ≡ None
+bad_tasks_steps k l n s e = ap (λ o. tasks_from (kind_named k) l o (seed_or_none s)) e ∙ no_listed_steps (kind_named k) l (seed_or_none s)
+
+no_listed_seed : (o : Option Kind) (l : Text) (n : Option ℕ) → tasks_from o l n None ≡ None
+no_listed_seed None l n = refl
+no_listed_seed (Some k) l None = refl
+no_listed_seed (Some k) l (Some n) = refl
+
+pub bad_tasks_seed : (k l n : Text) (s : Option Text) → seed_or_none s ≡ None → tasks_with (Some k) (Some l) (Some n) s ≡ None
+bad_tasks_seed k l n s e = ap (λ o. tasks_from (kind_named k) l (steps_named n) o) e ∙ no_listed_seed (kind_named k) l (steps_named n)
+
+pub tasks_found : (k l n : Text) (s : Option Text) (kind : Kind) (steps seed : ℕ) → kind_named k ≡ Some kind → steps_named n ≡ Some steps → seed_or_none s ≡ Some seed
+    → tasks_with (Some k) (Some l) (Some n) s ≡ Some (record { kind = kind; list = l; steps = steps; seed = seed })
+tasks_found k l n s kind steps seed ek en es =
+    ap (λ o. tasks_from o l (steps_named n) (seed_or_none s)) ek
+    ∙ (ap (λ o. tasks_from (Some kind) l o (seed_or_none s)) en ∙ ap (tasks_from (Some kind) l (Some steps)) es)
+
 is_not : (b : Bool) → (b ≡ true → ⊥) → b ≡ false
 is_not true n = absurd (n refl)
 is_not false n = refl
@@ -1518,11 +1921,11 @@ load_found w k i s kind seed ek es = ap (λ o. load_from w o i (seed_or_none s))
 other_name : (name w : Text) → (w ≡ name → ⊥) → bytes_eq name w ≡ false
 other_name name w n = is_not (bytes_eq name w) (λ e. n (sym ((bytes_eq-Decides name w).0 e)))
 
-pub told_other : (w : Text) (rows : List Row) → (w ≡ codes "audit" → ⊥) → (w ≡ codes "explain" → ⊥) → (w ≡ codes "draw" → ⊥) → told_by w rows ≡ told_by_other w rows
-told_other w rows a e d = rw (other_name (codes "audit") w a, other_name (codes "explain") w e, other_name (codes "draw") w d) refl
+pub told_other : (w : Text) (rows : List Row) → (w ≡ codes "audit" → ⊥) → (w ≡ codes "explain" → ⊥) → told_by w rows ≡ told_by_other w rows
+told_other w rows a e = rw (other_name (codes "audit") w a, other_name (codes "explain") w e) refl
 
-pub told_store : (w : Text) (rows : List Row) → (w ≡ codes "audits" → ⊥) → (w ≡ codes "solve" → ⊥) → (w ≡ codes "timetable" → ⊥) → told_by_other w rows ≡ told_of_store w rows
-told_store w rows a s t = rw (other_name (codes "audits") w a, other_name (codes "solve") w s, other_name (codes "timetable") w t) refl
+pub told_store : (w : Text) (rows : List Row) → (w ≡ codes "audits" → ⊥) → (w ≡ codes "solve" → ⊥) → (w ≡ codes "solves" → ⊥) → (w ≡ codes "draw" → ⊥) → (w ≡ codes "timetable" → ⊥) → told_by_other w rows ≡ told_of_store w rows
+told_store w rows a s ss d t = rw (other_name (codes "audits") w a, other_name (codes "solve") w s, other_name (codes "solves") w ss, other_name (codes "draw") w d, other_name (codes "timetable") w t) refl
 
 pub told_run : (w : Text) (rows : List Row) → (w ≡ codes "format" → ⊥) → (w ≡ codes "load" → ⊥) → (w ≡ codes "upgrade" → ⊥) → told_of_store w rows ≡ run_in rows
 told_run w rows f l u = rw (other_name (codes "format") w f, other_name (codes "load") w l, other_name (codes "upgrade") w u) refl

@@ -1,5 +1,5 @@
 -- What the words of the command line ask for, those after the program's name.
-use Rattle.std.specs.Prelude.{◌≡◌, ◌==◌, ◌⊎◌, ℕ, Bool, true, false, not, List, [], ◌∷◌, codes, Option, Some, None, Result, MatchResult, if◌then◌else◌, option_and_then, option_map}
+use Rattle.std.specs.Prelude.{◌≡◌, ◌==◌, ◌⊎◌, ◌^◌, ℕ, Bool, true, false, not, List, [], ◌∷◌, codes, Option, Some, None, Result, MatchResult, if◌then◌else◌, option_and_then, option_map}
 use Rattle.std.specs.List.{list_all}
 use Rattle.std.specs.Str.{bytes_eq}
 use Rattle.clap.specs.Words.{Row, Text, first_of, kind_of}
@@ -12,9 +12,10 @@ use Rattle.command_text.specs.Asking.{field_in}
 use Rattle.text_lines.specs.Numbers.{below, digits_of}
 use Rattle.command_line.specs.declared.words.Paths.{Paths}
 use Rattle.command_line.specs.declared.words.Invocation.{Invocation}
-use Rattle.command_line.specs.declared.words.Invocation.TheVariants.{Audit, Audits, BuiltIn, Draw, Explain, Format, Load, Run, Solve, StoreTimetable, Timetable, Upgrade}
+use Rattle.command_line.specs.declared.words.Invocation.TheVariants.{Audit, Audits, BuiltIn, Draw, DrawStore, Explain, Format, Load, Run, Solve, Solves, StoreTimetable, Timetable, Upgrade}
 use Rattle.command_line.specs.declared.words.Loading.{Loading}
 use Rattle.command_line.specs.declared.words.Task.{Task}
+use Rattle.command_line.specs.declared.words.Tasks.{Tasks}
 
 -- two files of a kind of instance, by their paths
 pub record PathsAsked : Type 0 where
@@ -30,6 +31,13 @@ pub record TaskAsked : Type 0 where
   pub seed : ℕ
   pub deviation : Option ℕ
 
+-- a list of instances, by its file, and how each is solved
+pub record TasksAsked : Type 0 where
+  pub kind : Kind
+  pub list : Text
+  pub steps : ℕ
+  pub seed : ℕ
+
 -- a store's file, and an instance's file with the seed of its searches
 pub record LoadAsked : Type 0 where
   pub store : Text
@@ -37,16 +45,18 @@ pub record LoadAsked : Type 0 where
   pub instance : Text
   pub seed : ℕ
 
--- The audit of the two built-in texts, or of two files; the audits of a list; the audit of two files with what it rests on, or the picture
--- of the solution; the solving of an instance; a store made in a file, an instance loaded into one, or commands over one; a store made of an
--- old one; the timetable of a solution, or of the plan in a store, by tabs or in columns.
+-- The audit of the two built-in texts, or of two files; the audits of a list; the audit of two files with what it rests on; the picture of a
+-- solution, or of its route with this number, or of the plan in a store; the solving of an instance, or of each that a list names; a store made in a file, an instance loaded
+-- into one, or commands over one; a store made of an old one; the timetable of a solution, or of the plan in a store, by tabs or in columns.
 pub data Asked : Type 0 where
   built_in : Asked
   audit : PathsAsked → Asked
   audits : Kind → Text → Asked
   explain : PathsAsked → Asked
-  draw : PathsAsked → Asked
+  draw : PathsAsked → Option ℕ → Asked
+  draw_store : Text → Asked
   solve : TaskAsked → Asked
+  solves : TasksAsked → Asked
   format : Text → Asked
   load : LoadAsked → Asked
   run : Text → Bool → Asked
@@ -60,6 +70,9 @@ paths_of paths = record { kind = paths.kind; instance = paths.instance.now; solu
 abbrev pub task_of : Task → TaskAsked
 task_of task = record { kind = task.kind; instance = task.instance.now; steps = task.steps; seed = task.seed; deviation = task.deviation }
 
+abbrev pub tasks_of : Tasks → TasksAsked
+tasks_of tasks = record { kind = tasks.kind; list = tasks.list.now; steps = tasks.steps; seed = tasks.seed }
+
 abbrev pub load_of : Loading → LoadAsked
 load_of loading = record { store = loading.store.now; kind = loading.kind; instance = loading.instance.now; seed = loading.seed }
 
@@ -68,8 +81,10 @@ asked_of BuiltIn = built_in
 asked_of (Audit paths) = audit (paths_of paths)
 asked_of (Audits kind list) = audits kind list.now
 asked_of (Explain paths) = explain (paths_of paths)
-asked_of (Draw paths) = draw (paths_of paths)
+asked_of (Draw paths route) = draw (paths_of paths) route
+asked_of (DrawStore store) = draw_store store.now
 asked_of (Solve task) = solve (task_of task)
+asked_of (Solves tasks) = solves (tasks_of tasks)
 asked_of (Format store) = format store.now
 asked_of (Load loading) = load (load_of loading)
 asked_of (Run store is_strict) = run store.now is_strict
@@ -122,6 +137,16 @@ task_asked (kind ∷ instance ∷ steps ∷ seed ∷ deviation ∷ []) =
     task_from (kind_named kind) instance (steps_named steps) (seed_named seed) (deviation_or_none (Some deviation))
 task_asked _ = None
 
+abbrev pub tasks_from : Option Kind → Text → Option ℕ → Option ℕ → Option TasksAsked
+tasks_from (Some kind) list (Some steps) (Some seed) = Some (record { kind = kind; list = list; steps = steps; seed = seed })
+tasks_from _ _ _ _ = None
+
+-- `KIND LIST STEPS [SEED]`
+abbrev pub tasks_asked : List Text → Option TasksAsked
+tasks_asked (kind ∷ list ∷ steps ∷ []) = tasks_from (kind_named kind) list (steps_named steps) (Some 0)
+tasks_asked (kind ∷ list ∷ steps ∷ seed ∷ []) = tasks_from (kind_named kind) list (steps_named steps) (seed_named seed)
+tasks_asked _ = None
+
 -- `STORE`
 abbrev pub store_asked : List Text → Option Text
 store_asked (store ∷ []) = Some store
@@ -173,18 +198,36 @@ timetable_asked (kind ∷ instance ∷ solution ∷ []) = timetable_from (kind_n
 timetable_asked (kind ∷ instance ∷ solution ∷ last ∷ []) = timetable_from (kind_named kind) instance solution (tabs_named (Some last))
 timetable_asked _ = None
 
+-- the number of a route, in digits alone; or that none is named
+abbrev pub route_or_none : Option Text → Option (Option ℕ)
+route_or_none None = Some None
+route_or_none (Some word) = option_map (λ n. Some n) (below (2 ^ 32) (digits_of word))
+
+-- `KIND INSTANCE SOLUTION [ROUTE]`
+abbrev pub draw_from : Option Kind → Text → Text → Option (Option ℕ) → Option Asked
+draw_from (Some kind) instance solution (Some route) = Some (draw (record { kind = kind; instance = instance; solution = solution }) route)
+draw_from _ _ _ _ = None
+
+-- one word of a store, three or four of a solution
+abbrev pub draw_asked : List Text → Option Asked
+draw_asked (store ∷ []) = Some (draw_store store)
+draw_asked (kind ∷ instance ∷ solution ∷ []) = draw_from (kind_named kind) instance solution (route_or_none None)
+draw_asked (kind ∷ instance ∷ solution ∷ route ∷ []) = draw_from (kind_named kind) instance solution (route_or_none (Some route))
+draw_asked _ = None
+
 -- what the command of this name asks for with these words; no other has this name
 abbrev pub asked_with : List Text → Text → Option Asked
 asked_with words command = if bytes_eq (codes "audit") command then option_map audit (paths_asked words)
     else (if bytes_eq (codes "audits") command then list_asked words
     else (if bytes_eq (codes "explain") command then option_map explain (paths_asked words)
-    else (if bytes_eq (codes "draw") command then option_map draw (paths_asked words)
+    else (if bytes_eq (codes "draw") command then draw_asked words
     else (if bytes_eq (codes "solve") command then option_map solve (task_asked words)
     else (if bytes_eq (codes "format") command then option_map format (store_asked words)
     else (if bytes_eq (codes "load") command then option_map load (load_asked words)
     else (if bytes_eq (codes "run") command then run_asked words
     else (if bytes_eq (codes "upgrade") command then upgrade_asked words
-    else (if bytes_eq (codes "timetable") command then timetable_asked words else None)))))))))
+    else (if bytes_eq (codes "timetable") command then timetable_asked words
+    else (if bytes_eq (codes "solves") command then option_map solves (tasks_asked words) else None))))))))))
 
 -- no words, or a command with its own
 abbrev pub asked_by : List Text → Option Asked
@@ -216,6 +259,14 @@ task_with _ _ _ _ _ = None
 abbrev pub task_in : List Row → Option TaskAsked
 task_in rows = task_with (first_of (codes "KIND") rows) (first_of (codes "INSTANCE") rows) (first_of (codes "STEPS") rows) (first_of (codes "SEED") rows)
     (first_of (codes "DEVIATION") rows)
+
+-- those of `KIND LIST STEPS [SEED]`
+abbrev pub tasks_with : Option Text → Option Text → Option Text → Option Text → Option TasksAsked
+tasks_with (Some kind) (Some list) (Some steps) seed = tasks_from (kind_named kind) list (steps_named steps) (seed_or_none seed)
+tasks_with _ _ _ _ = None
+
+abbrev pub tasks_in : List Row → Option TasksAsked
+tasks_in rows = tasks_with (first_of (codes "KIND") rows) (first_of (codes "LIST") rows) (first_of (codes "STEPS") rows) (first_of (codes "SEED") rows)
 
 -- the value of `STORE`
 abbrev pub store_in : List Row → Option Text
@@ -256,6 +307,15 @@ timetable_with (Some kind) (Some instance) (Some solution) last = timetable_from
 abbrev pub timetable_in : List Row → Option Asked
 timetable_in rows = timetable_with (first_of (codes "STORE|KIND") rows) (first_of (codes "tabs|INSTANCE") rows) (first_of (codes "SOLUTION") rows) (first_of (codes "tabs") rows)
 
+-- those of `STORE`, or of `KIND INSTANCE SOLUTION [ROUTE]`
+abbrev pub draw_with : Option Text → Option Text → Option Text → Option Text → Option Asked
+draw_with (Some store) None _ _ = Some (draw_store store)
+draw_with (Some kind) (Some instance) (Some solution) route = draw_from (kind_named kind) instance solution (route_or_none route)
+draw_with _ _ _ _ = None
+
+abbrev pub draw_in : List Row → Option Asked
+draw_in rows = draw_with (first_of (codes "STORE|KIND") rows) (first_of (codes "INSTANCE") rows) (first_of (codes "SOLUTION") rows) (first_of (codes "ROUTE") rows)
+
 -- what `format`, `load`, `upgrade` or `run` asks for
 abbrev pub told_of_store : Text → List Row → Option Asked
 told_of_store name rows =
@@ -268,13 +328,14 @@ abbrev pub told_by_other : Text → List Row → Option Asked
 told_by_other name rows =
     if bytes_eq (codes "audits") name then list_in rows
     else (if bytes_eq (codes "solve") name then option_map solve (task_in rows)
-    else (if bytes_eq (codes "timetable") name then timetable_in rows else told_of_store name rows))
+    else (if bytes_eq (codes "solves") name then option_map solves (tasks_in rows)
+    else (if bytes_eq (codes "draw") name then draw_in rows
+    else (if bytes_eq (codes "timetable") name then timetable_in rows else told_of_store name rows))))
 
 -- what the subcommand of this name asks for
 abbrev pub told_by : Text → List Row → Option Asked
 told_by name rows = if bytes_eq (codes "audit") name then option_map audit (paths_in rows)
-    else (if bytes_eq (codes "explain") name then option_map explain (paths_in rows)
-    else (if bytes_eq (codes "draw") name then option_map draw (paths_in rows) else told_by_other name rows))
+    else (if bytes_eq (codes "explain") name then option_map explain (paths_in rows) else told_by_other name rows)
 
 -- what the subcommand asks for
 abbrev pub told_of : Option (Text × List Row) → Option Asked

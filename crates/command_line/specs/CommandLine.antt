@@ -33,6 +33,12 @@ solve_app names =
     let steps = with_rule (with_rule (kind_app (codes "solve") names) (word_rule (codes "INSTANCE"))) (word_rule (codes "STEPS")) in
     with_rule (with_rule steps (new_rule (codes "SEED"))) (new_rule (codes "DEVIATION"))
 
+-- `solves KIND LIST STEPS [SEED]`
+abbrev pub solves_app : Bor (List (Bor Text)) → App
+solves_app names =
+    let steps = with_rule (with_rule (kind_app (codes "solves") names) (word_rule (codes "LIST"))) (word_rule (codes "STEPS")) in
+    with_rule steps (new_rule (codes "SEED"))
+
 -- a command of this name with the word `STORE`
 abbrev pub store_app : Text → App
 store_app name = with_rule (new_app name) (word_rule (codes "STORE"))
@@ -60,6 +66,12 @@ timetable_app =
     let two = with_rule (with_rule (new_app (codes "timetable")) (word_rule (codes "STORE|KIND"))) (new_rule (codes "tabs|INSTANCE")) in
     with_rule (with_rule two (new_rule (codes "SOLUTION"))) (new_rule (codes "tabs"))
 
+-- `draw STORE` or `draw KIND INSTANCE SOLUTION [ROUTE]`
+abbrev pub draw_app : App
+draw_app =
+    let two = with_rule (with_rule (new_app (codes "draw")) (word_rule (codes "STORE|KIND"))) (new_rule (codes "INSTANCE")) in
+    with_rule (with_rule two (new_rule (codes "SOLUTION"))) (new_rule (codes "ROUTE"))
+
 -- a command that tells its version
 abbrev pub versioned_app : Text → App
 versioned_app name = on_top (λ s. record s { has_version = true }) (new_app name)
@@ -71,9 +83,10 @@ planner_app names modes =
     let audits = with_subcommand audit (audits_app names).top in
     let explain = with_subcommand audits (paths_app (codes "explain") names).top in
     let timetable = with_subcommand explain timetable_app.top in
-    let draw = with_subcommand timetable (paths_app (codes "draw") names).top in
+    let draw = with_subcommand timetable draw_app.top in
     let solve = with_subcommand draw (solve_app names).top in
-    let format = with_subcommand solve (store_app (codes "format")).top in
+    let solves = with_subcommand solve (solves_app names).top in
+    let format = with_subcommand solves (store_app (codes "format")).top in
     let load = with_subcommand format (load_app names).top in
     with_subcommand (with_subcommand load (run_app modes).top) upgrade_app.top
 

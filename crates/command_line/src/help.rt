@@ -26,6 +26,7 @@ pub(crate) const AUDIT_ANSWERS: &str = "It prints one line:\n  \
     solution NAME LINE                  the first fault of the solution's text (status 2)\n  \
     cannot read PATH                    the file can't be read (status 3)\n  \
     out of memory                       (status 4)\n\n\
+    Standard error names the first line behind the cost line that is not blank: it is not read.\n\
     Routes, places and lines count from 1. The rules:\n  \
     1   unknown stop\n  \
     2   a stop that stands twice\n  \
@@ -82,10 +83,14 @@ pub(crate) const UPGRADE_ANSWERS: &str =
 pub(crate) const AUDITS_ABOUT: &str = "Audits a list of solutions";
 
 pub(crate) const AUDITS_ANSWERS: &str =
-    "Each line of the list is the path of an instance and of a solution, with a tab between them.\n\
+    "Each line of the list is the path of an instance and of a solution, with a tab between them; behind a further tab\n\
+    may stand a best-known cost of the instance, as [VEHICLES ]DISTANCE, of a vrp instance as DISTANCE.\n\
     LIST may be - for standard input. For each line it prints one:\n  \
     INSTANCE  SOLUTION  ANSWER    with tabs between them; ANSWER is the line of `audit`\n  \
-    bad line                      it is no two paths (status 2)\n\n\
+    bad line                      it is no two paths, or the cost is none or has a distance of 0 (status 2)\n\n\
+    Where a best-known cost is told, behind a pass stands one of these:\n  \
+    vehicles +1    where the vehicles differ: so many more or fewer than the best-known ones\n  \
+    gap 1.27       else: how much longer the distance is, in percent of the best-known one; of a shorter one with a minus\n\n\
     The status is the greatest of `audit` over the lines.";
 
 pub(crate) const EXPLAIN_ABOUT: &str = "Audits a solution, and tells the figures behind the answer";
@@ -108,24 +113,30 @@ pub(crate) const TIMETABLE_ANSWERS: &str =
     latest                     the latest start from which nothing from there on is late; - where the route breaks a rule\n  \
     load                       what it carries then\n  \
     pin                        `pin VEHICLE PLACE` is taken here (a line of `run`)\n\
-    and then `unplanned R` for each request in no route. A .vrp instance has no times but arrivals.\n\n\
+    and then `unplanned R` for each request in no route, and what `why R` of `run` tells of it, behind `why R: `.\n\
+    A .vrp instance has no times but arrivals.\n\n\
     By `tabs` the fields have tabs between them, `-` stands for nothing, and each line begins with what it is of:\n  \
     vehicle    VEHICLE STOPS DISTANCE LOAD START RETURN WAITING\n  \
     stop       VEHICLE PLACE STOP KIND PARTNER ARRIVAL START WAITING LATEST LOAD PIN\n  \
-    unplanned  REQUEST\n\n\
+    unplanned  REQUEST\n  \
+    why        REQUEST LINE\n\n\
     Where a stop is unknown or stands twice, and where a text or a store is refused, the first line stands alone:\n  \
     instance NAME LINE, solution NAME LINE, cannot read PATH, out of memory    as of `audit`\n  \
     store NAME       why the store was not opened, as `run` tells it (status 2, 3 or 4)\n  \
     no NoInstance    nothing was loaded into the store (status 2)";
 
-pub(crate) const DRAW_ABOUT: &str = "Draws a solution as a picture, in SVG";
+pub(crate) const DRAW_ABOUT: &str = "Draws a solution, or the plan of a store, as a picture in SVG";
 
 pub(crate) const DRAW_ANSWERS: &str =
-    "It prints a picture of the depot, the stops, and each route with its figures; of a lilim instance also\n\
-    the day of each vehicle. What breaks a rule is drawn too, and marked (status 0).\n\
-    Where there is no picture, it prints on standard error:\n  \
+    "Its words are STORE or KIND INSTANCE SOLUTION [ROUTE]. It prints a picture of the depot, the stops, and each route\n\
+    with its figures; of a lilim instance also the day of each vehicle. By ROUTE it is that of one route alone, larger;\n\
+    routes count from 1. What breaks a rule is drawn too, and marked (status 0). Where there is no picture, it prints\n\
+    on standard error:\n  \
     instance NAME LINE  the first fault of the instance's text (status 2)\n  \
     solution NAME LINE  the first fault of the solution's text (status 2)\n  \
+    store NAME          why the store was not opened, as `run` tells it (status 2, 3 or 4)\n  \
+    no NoInstance       nothing was loaded into the store (status 2)\n  \
+    no NoSuchRoute      the solution has no route of this number (status 2)\n  \
     cannot read PATH    the file can't be read (status 3)\n  \
     out of memory       (status 4)";
 
@@ -137,7 +148,24 @@ pub(crate) const SOLVE_ANSWERS: &str =
     On standard error it prints:\n  \
     at STEPS UNPLANNED VEHICLES DISTANCE    how far it is, at the start and about each twentieth of the steps\n  \
     unplanned N: R1 R2 ..                   so many requests are in no route, and which (status 1)\n  \
+    why R: WORDS                            of each of them what `why R` of `run` tells\n  \
     instance NAME LINE                      the first fault of the instance's text (status 2)\n  \
     cannot read PATH                        the file can't be read (status 3)\n  \
     out of memory                           (status 4)\n\n\
     The same words print the same text, whatever the machine.";
+
+pub(crate) const SOLVES_ABOUT: &str = "Finds a solution of each instance of a list";
+
+pub(crate) const SOLVES_ANSWERS: &str =
+    "Each line of the list is the path of an instance and of the solution to write, with a tab between them.\n\
+    LIST may be - for standard input. The solution has the bytes that `solve` prints. For each line it prints one,\n\
+    as soon as it is done:\n  \
+    INSTANCE  SOLUTION  ANSWER     with tabs between them; ANSWER is one of these:\n  \
+    pass UNPLANNED VEHICLES DISTANCE   the audit's line for what was written (status 0)\n  \
+    unplanned N: R1 R2 ..              what was written leaves these requests out, and has no cost line (status 1)\n  \
+    instance NAME LINE                 the first fault of the instance's text (status 2)\n  \
+    there already                      something stands under the solution's path, and stays as it is (status 3)\n  \
+    cannot read PATH, cannot write PATH    (status 3)\n  \
+    out of memory                      (status 4)\n  \
+    bad line                       it is no two paths (status 2)\n\n\
+    The status is the greatest over the lines. Where the list can't be read, `cannot read PATH` stands alone.";

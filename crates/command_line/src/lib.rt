@@ -23,4 +23,4 @@
 mod help;
 mod words;
 
-pub use words::{Invocation, Loading, Paths, Task, read_words};
+pub use words::{Invocation, Loading, Paths, Task, Tasks, read_words};

@@ -5,14 +5,14 @@
 ghost use Rattle.std.specs.Prelude.{◌≡◌, Some, IfOk, codes, drop, map, option_and_then, option_map};
 ghost use Rattle.clap.specs.Words.{App, Rule, app_of, first_of, found_of, kind_of, new_rule, rows_of, subcommand_rows_of, with_rule, with_subcommand};
 ghost use Rattle.command_text.specs.Asking.{field_in};
-ghost use Rattle.command_line.specs.Asked.{ArePositional, ReadsWords, asked_of, paths_in, paths_of, run_in, kind_named, list_in, load_in, load_of, deviation_or_none, seed_named, seed_or_none, steps_named, store_in, store_timetable_from, tabs_named, task_in, task_of, timetable_from, timetable_in, told_by, told_by_other, told_of, told_of_store, upgrade_in};
-ghost use Rattle.command_line.specs.CommandLine.{IsKindNames, IsLeafCommand, IsModeNames, IsPlannerCommand, IsWord, audits_app, load_app, mode_rule, paths_app, kind_rule, run_app, solve_app, store_app, timetable_app, upgrade_app, word_rule};
+ghost use Rattle.command_line.specs.Asked.{ArePositional, ReadsWords, asked_of, paths_in, paths_of, run_in, kind_named, list_in, load_in, load_of, deviation_or_none, draw_from, draw_in, route_or_none, seed_named, seed_or_none, steps_named, store_in, store_timetable_from, tabs_named, task_in, task_of, tasks_in, tasks_of, timetable_from, timetable_in, told_by, told_by_other, told_of, told_of_store, upgrade_in};
+ghost use Rattle.command_line.specs.CommandLine.{IsKindNames, IsLeafCommand, IsModeNames, IsPlannerCommand, IsWord, audits_app, draw_app, load_app, mode_rule, paths_app, kind_rule, run_app, solve_app, solves_app, store_app, timetable_app, upgrade_app, word_rule};
 
 use crate::help::{
     ABOUT, AUDIT_ABOUT, AUDIT_ANSWERS, AUDITS_ABOUT, AUDITS_ANSWERS, DRAW_ABOUT, DRAW_ANSWERS,
     EXPLAIN_ABOUT, EXPLAIN_ANSWERS, FORMAT_ABOUT, FORMAT_ANSWERS, LOAD_ABOUT, LOAD_ANSWERS,
-    RUN_ABOUT, SOLVE_ABOUT, SOLVE_ANSWERS, STATUSES, TIMETABLE_ABOUT, TIMETABLE_ANSWERS,
-    UPGRADE_ABOUT, UPGRADE_ANSWERS, VERSION,
+    RUN_ABOUT, SOLVE_ABOUT, SOLVE_ANSWERS, SOLVES_ABOUT, SOLVES_ANSWERS, STATUSES, TIMETABLE_ABOUT,
+    TIMETABLE_ANSWERS, UPGRADE_ABOUT, UPGRADE_ANSWERS, VERSION,
 };
 use clap::error::ErrorKind;
 use clap::{Arg, ArgMatches, Command, Error};
@@ -42,6 +42,16 @@ pub struct Task<'a> {
     pub deviation: Option<u32>,
 }
 
+/// A list of instances, by the path of its file as it stands, and the steps from the plan that is built of each.
+#[derive(Clone, Copy, Debug)]
+pub struct Tasks<'a> {
+    pub kind: Kind,
+    pub list: &'a str,
+    /// How many steps are made of each, 0..=1,000,000,000.
+    pub steps: u32,
+    pub seed: u64,
+}
+
 /// A store and an instance, by the paths of their files as they stand.
 #[derive(Clone, Copy, Debug)]
 pub struct Loading<'a> {
@@ -60,26 +70,52 @@ pub enum Invocation<'a> {
     /// `audit KIND INSTANCE SOLUTION`: the audit of two files.
     Audit(Paths<'a>),
     /// `audits KIND LIST`: the audits of the pairs of files that the lines of this file name.
-    Audits { kind: Kind, list: &'a str },
+    Audits {
+        kind: Kind,
+        list: &'a str,
+    },
     /// `explain KIND INSTANCE SOLUTION`: the audit of two files, and what it rests on.
     Explain(Paths<'a>),
-    /// `draw KIND INSTANCE SOLUTION`: the picture of a solution.
-    Draw(Paths<'a>),
+    /// `draw KIND INSTANCE SOLUTION [ROUTE]`: the picture of a solution, or of its route with this number.
+    Draw {
+        paths: Paths<'a>,
+        route: Option<u32>,
+    },
+    /// `draw STORE`: that of the plan in the store in this file.
+    DrawStore {
+        store: &'a str,
+    },
     /// `solve KIND INSTANCE STEPS [SEED [DEVIATION]]`: a solution of the instance in this file.
     Solve(Task<'a>),
+    /// `solves KIND LIST STEPS [SEED]`: for each line of this file a solution of the instance that it names, in the file that it names.
+    Solves(Tasks<'a>),
     /// `format STORE`: an empty store in the file of this path.
-    Format { store: &'a str },
+    Format {
+        store: &'a str,
+    },
     /// `load STORE KIND INSTANCE [SEED]`: the instance in this file, loaded into the store in the file of this path.
     Load(Loading<'a>),
     /// `run STORE [strict]`: the commands of standard input, over the store in this file; by `strict` up to the first that is
     /// refused or fails.
-    Run { store: &'a str, is_strict: bool },
+    Run {
+        store: &'a str,
+        is_strict: bool,
+    },
     /// `upgrade OLD NEW`: a store in the file NEW, of the state that the store of version 1 in OLD stands for.
-    Upgrade { old: &'a str, new: &'a str },
+    Upgrade {
+        old: &'a str,
+        new: &'a str,
+    },
     /// `timetable KIND INSTANCE SOLUTION [tabs]`: when each vehicle of a solution is where; by `tabs` for programs.
-    Timetable { paths: Paths<'a>, is_tabbed: bool },
+    Timetable {
+        paths: Paths<'a>,
+        is_tabbed: bool,
+    },
     /// `timetable STORE [tabs]`: the same of the plan in the store in this file.
-    StoreTimetable { store: &'a str, is_tabbed: bool },
+    StoreTimetable {
+        store: &'a str,
+        is_tabbed: bool,
+    },
 }
 
 /// The greatest number of steps.
@@ -92,6 +128,12 @@ const BAD_STEPS: &str =
     "STEPS and DEVIATION are 0 to 1000000000 and SEED 0 to 18446744073709551615, in digits alone";
 
 const BAD_SEED: &str = "SEED is 0 to 18446744073709551615, in digits alone";
+
+const BAD_TASKS: &str =
+    "STEPS is 0 to 1000000000 and SEED 0 to 18446744073709551615, in digits alone";
+
+const BAD_DRAWING: &str =
+    "the words are STORE or KIND INSTANCE SOLUTION [ROUTE], KIND is lilim or vrp, and ROUTE a number, in digits alone";
 
 const BAD_TIMETABLE: &str =
     "the words are STORE [tabs] or KIND INSTANCE SOLUTION [tabs], and KIND is lilim or vrp";
@@ -118,7 +160,7 @@ pub fn read_words<'a, S: AsStr>(alloc: Global, words: &'a [S]) -> Result<Invocat
 }
 
 // The error for words that the parser let pass, with the usage of their command: a number is none, or too great, or the words
-// of a timetable are of no store and no solution.
+// of a timetable or a drawing are of no store and no solution.
 fn bad_words(alloc: Global, matches: &ArgMatches<'_>) -> Result<Error, OutOfMemory>
     ensures { IfOk result (λ error. kind_of error ≡ ErrorKind.InvalidValue) }
 {
@@ -126,6 +168,12 @@ fn bad_words(alloc: Global, matches: &ArgMatches<'_>) -> Result<Error, OutOfMemo
         Some("load") => load_command(alloc, kind_names())?
             .bin_name("planner load")?
             .error(ErrorKind::InvalidValue, BAD_SEED),
+        Some("solves") => solves_command(alloc, kind_names())?
+            .bin_name("planner solves")?
+            .error(ErrorKind::InvalidValue, BAD_TASKS),
+        Some("draw") => draw_command(alloc)?
+            .bin_name("planner draw")?
+            .error(ErrorKind::InvalidValue, BAD_DRAWING),
         Some("timetable") => timetable_command(alloc)?
             .bin_name("planner timetable")?
             .error(ErrorKind::InvalidValue, BAD_TIMETABLE),
@@ -149,9 +197,9 @@ fn planner_command<'a>(alloc: Global) -> Result<Command<'a>, OutOfMemory>
     let explain = paths_command(alloc, "explain", EXPLAIN_ABOUT, EXPLAIN_ANSWERS, kinds)?;
     let planner = with_command(planner, explain)?;
     let planner = with_command(planner, timetable_command(alloc)?)?;
-    let draw = paths_command(alloc, "draw", DRAW_ABOUT, DRAW_ANSWERS, kinds)?;
-    let planner = with_command(planner, draw)?;
+    let planner = with_command(planner, draw_command(alloc)?)?;
     let planner = with_command(planner, solve_command(alloc, kinds)?)?;
+    let planner = with_command(planner, solves_command(alloc, kinds)?)?;
     let format = store_command(alloc, "format", FORMAT_ABOUT, FORMAT_ANSWERS)?;
     let planner = with_command(planner, format)?;
     let planner = with_command(planner, load_command(alloc, kinds)?)?;
@@ -228,6 +276,18 @@ fn timetable_command<'a>(alloc: Global) -> Result<Command<'a>, OutOfMemory>
     with_word(command, tabs_word(alloc))
 }
 
+fn draw_command<'a>(alloc: Global) -> Result<Command<'a>, OutOfMemory>
+    ensures { IfOk result (IsLeafCommand draw_app) }
+{
+    let command = Command::new(alloc, "draw")
+        .about(DRAW_ABOUT)
+        .after_help(DRAW_ANSWERS);
+    let command = with_word(command, word(alloc, "STORE|KIND", "A store, or a format"))?;
+    let command = with_word(command, drawn_word(alloc))?;
+    let command = with_word(command, solution_word(alloc))?;
+    with_word(command, route_word(alloc))
+}
+
 // A command of the words `KIND INSTANCE SOLUTION`.
 fn paths_command<'a>(
     alloc: Global,
@@ -258,10 +318,7 @@ fn audits_command<'a>(alloc: Global, kinds: &'a [&'a str]) -> Result<Command<'a>
         .about(AUDITS_ABOUT)
         .after_help(AUDITS_ANSWERS);
     let command = with_word(command, kind_word(alloc, kinds))?;
-    with_word(
-        command,
-        word(alloc, "LIST", "The file of the list; - is standard input"),
-    )
+    with_word(command, list_word(alloc))
 }
 
 fn solve_command<'a>(alloc: Global, kinds: &'a [&'a str]) -> Result<Command<'a>, OutOfMemory>
@@ -275,6 +332,21 @@ fn solve_command<'a>(alloc: Global, kinds: &'a [&'a str]) -> Result<Command<'a>,
     let command = with_word(command, word(alloc, "STEPS", "How many steps are made"))?;
     let command = with_word(command, seed_word(alloc))?;
     with_word(command, deviation_word(alloc))
+}
+
+fn solves_command<'a>(alloc: Global, kinds: &'a [&'a str]) -> Result<Command<'a>, OutOfMemory>
+    ensures { IfOk result (IsLeafCommand (solves_app kinds.entry)) }
+{
+    let command = Command::new(alloc, "solves")
+        .about(SOLVES_ABOUT)
+        .after_help(SOLVES_ANSWERS);
+    let command = with_word(command, kind_word(alloc, kinds))?;
+    let command = with_word(command, list_word(alloc))?;
+    let command = with_word(
+        command,
+        word(alloc, "STEPS", "How many steps are made of each"),
+    )?;
+    with_word(command, seed_word(alloc))
 }
 
 // The word that names a kind of instance.
@@ -303,6 +375,12 @@ fn instance_word<'a>(alloc: Global) -> Arg<'a>
     )
 }
 
+fn list_word<'a>(alloc: Global) -> Arg<'a>
+    ensures { IsWord (word_rule (codes "LIST")) result }
+{
+    word(alloc, "LIST", "The file of the list; - is standard input")
+}
+
 fn seed_word<'a>(alloc: Global) -> Arg<'a>
     ensures { IsWord (new_rule (codes "SEED")) result }
 {
@@ -317,6 +395,14 @@ fn deviation_word<'a>(alloc: Global) -> Arg<'a>
     )
 }
 
+fn drawn_word<'a>(alloc: Global) -> Arg<'a>
+    ensures { IsWord (new_rule (codes "INSTANCE")) result }
+{
+    Arg::new(alloc, "INSTANCE").help(
+        "Behind a format the file of the instance; - is standard input",
+    )
+}
+
 fn second_word<'a>(alloc: Global) -> Arg<'a>
     ensures { IsWord (new_rule (codes "tabs|INSTANCE")) result }
 {
@@ -327,6 +413,12 @@ fn solution_word<'a>(alloc: Global) -> Arg<'a>
     ensures { IsWord (new_rule (codes "SOLUTION")) result }
 {
     Arg::new(alloc, "SOLUTION").help("The file of the solution; - is standard input")
+}
+
+fn route_word<'a>(alloc: Global) -> Arg<'a>
+    ensures { IsWord (new_rule (codes "ROUTE")) result }
+{
+    Arg::new(alloc, "ROUTE").help("The number of the one route to draw, counted from 1")
 }
 
 fn tabs_word<'a>(alloc: Global) -> Arg<'a>
@@ -375,7 +467,6 @@ fn command_words<'a>(name: &str, words: &ArgMatches<'a>) -> Option<Invocation<'a
     match name {
         "audit" => Some(Invocation::Audit(paths_words(words)?)),
         "explain" => Some(Invocation::Explain(paths_words(words)?)),
-        "draw" => Some(Invocation::Draw(paths_words(words)?)),
         _ => other_words(name, words),
     }
 }
@@ -387,6 +478,8 @@ fn other_words<'a>(name: &str, words: &ArgMatches<'a>) -> Option<Invocation<'a>>
     match name {
         "audits" => list_words(words),
         "solve" => Some(Invocation::Solve(task_words(words)?)),
+        "solves" => Some(Invocation::Solves(tasks_words(words)?)),
+        "draw" => draw_words(words),
         "timetable" => timetable_words(words),
         _ => store_words(name, words),
     }
@@ -446,6 +539,55 @@ fn timetable_words<'a>(matches: &ArgMatches<'a>) -> Option<Invocation<'a>>
                 solution_timetable(first, second, solution, matches.get_str("tabs"))
             }
         },
+    }
+}
+
+// One word is of a store, three or four are of a solution; `None` where they are of neither.
+fn draw_words<'a>(matches: &ArgMatches<'a>) -> Option<Invocation<'a>>
+    ensures { option_map asked_of result ≡ draw_in (rows_of (found_of matches.now)) }
+{
+    let first = matches.get_str("STORE|KIND")?;
+    match matches.get_str("INSTANCE") {
+        None => Some(Invocation::DrawStore { store: first }),
+        Some(instance) => match matches.get_str("SOLUTION") {
+            None => None,
+            Some(solution) => {
+                solution_drawing(first, instance, solution, matches.get_str("ROUTE"))
+            }
+        },
+    }
+}
+
+// `None` where the first word names no kind, or the last one no number.
+fn solution_drawing<'a>(
+    kind: &'a str,
+    instance: &'a str,
+    solution: &'a str,
+    last: Option<&'a str>,
+) -> Option<Invocation<'a>>
+    ensures { option_map asked_of result
+        ≡ draw_from (kind_named kind.now) instance.now solution.now
+        (route_or_none (option_map (λ w. w.now) last.entry)) }
+{
+    let kind = kind_of_word(kind)?;
+    let route = route_of_word(last)?;
+    Some(Invocation::Draw {
+        paths: Paths {
+            kind,
+            instance,
+            solution,
+        },
+        route,
+    })
+}
+
+// The number of a route that a last word names, if there is one; `None` where it is no number.
+fn route_of_word(word: Option<&str>) -> Option<Option<u32>>
+    ensures { result ≡ route_or_none (option_map (λ w. w.now) word.entry) }
+{
+    match word {
+        None => Some(None),
+        Some(word) => Some(Some(digits_to_u32(word.as_bytes())?)),
     }
 }
 
@@ -537,6 +679,22 @@ fn task_words<'a>(matches: &ArgMatches<'a>) -> Option<Task<'a>>
         steps,
         seed,
         deviation,
+    })
+}
+
+// `None` where a word is missing or names no kind, or no number.
+fn tasks_words<'a>(matches: &ArgMatches<'a>) -> Option<Tasks<'a>>
+    ensures { option_map tasks_of result ≡ tasks_in (rows_of (found_of matches.now)) }
+{
+    let kind = kind_of_word(matches.get_str("KIND")?)?;
+    let list = matches.get_str("LIST")?;
+    let steps = steps_of_word(matches.get_str("STEPS")?)?;
+    let seed = seed_of_words(matches)?;
+    Some(Tasks {
+        kind,
+        list,
+        steps,
+        seed,
     })
 }
 

@@ -25,6 +25,7 @@ use Rattle.command_serving.specs.declared.input.LoadText.TheVariants.{Dropped, S
 use Rattle.command_serving.specs.declared.answering.ServeFault.TheVariants as fault
 use Rattle.command_serving.proofs.ActLemmas.{begins_as, begins_before}
 use Rattle.command_serving.proofs.StreamLemmas.{extends_none, extends_on, none_put}
+use Rattle.command_serving.proofs.TryLemmas.{asked_front}
 use Rattle.command_serving.proofs.TurnLemmas.{either_part, events_both, told_before}
 use Rattle.command_serving.proofs.ServingLemmas.{answers_as, leads_as, leads_nothing, leads_on, leads_to, serves_as, serves_nothing, serves_on, tells_as, tells_nothing, tells_to}
 use Rattle.sector_disk.specs.declared.sectors.Sectors as sectors
@@ -66,6 +67,12 @@ asked_serves reading old new p ps x y serves =
         says = λ later.
             first (as_serving old (fates_of acts ++ later)) ∙ ap (λ (r : Reply). joined_replies r (served reading r.left ps)) (serves.leads.says later)
             ∙ joined_silent serves.text (carried_of acts) (as_serving new later) (served reading (as_serving new later) ps);
+        asked = asked_front old (λ s. asked_reply reading s p.asked p.text (is_short p)) (λ s. served reading s (p ∷ ps)) acts
+            (λ fates. record {
+              rest = (served reading (asked_reply reading (as_serving old fates) p.asked p.text (is_short p)).left ps).commands;
+              whole = ap (λ (r : Reply). r.commands) (first (as_serving old fates));
+            })
+            serves.leads.asked;
         asks = λ later.
             begins_as (kept_of acts) _ _ (ap (λ (r : Reply). r.commands) (first (as_serving old (unfailed (fates_of acts) ++ later))))
             (begins_before (kept_of acts) _ _ (serves.leads.asks later));
@@ -167,6 +174,7 @@ module _ {D : Type 0} (on : sectors.Ghosts D) (reading : Reading) (old new : Ses
         (λ s. record { text = record { rest = (served reading (f s).left ps).text; whole = refl }; commands = record { rest = (served reading (f s).left ps).commands; whole = refl } }) l.told;
     says = λ later.
         ap (λ (r : Reply). joined_replies r (served reading r.left ps)) (l.says later) ∙ joined_on t (carried_of l.acts) (g (as_serving told later)) (served reading (g (as_serving told later)).left ps);
+    asked = asked_front old f (with_rest f) l.acts (λ fates. record { rest = (served reading (f (as_serving old fates)).left ps).commands; whole = refl }) l.asked;
     asks = λ later. begins_before (kept_of l.acts) _ _ (l.asks later);
     state = l.state;
   }
@@ -180,6 +188,7 @@ module _ {D : Type 0} (on : sectors.Ghosts D) (reading : Reading) (old new : Ses
     run = l.run;
     says = λ later.
         ap (λ (r : Reply). joined_replies r (served reading r.left ps)) (l.says later) ∙ joined_on t (carried_of l.acts) (g (as_serving new later)) (served reading (g (as_serving new later)).left ps);
+    asked = asked_front told f (with_rest f) l.acts (λ fates. record { rest = (served reading (f (as_serving told fates)).left ps).commands; whole = refl }) l.asked;
     asks = λ later. begins_before (kept_of l.acts) _ _ (l.asks later);
     state = l.state;
     few = l.few;
@@ -395,6 +404,7 @@ all_served {on = on} follow reading old new input x y known p =
       written = subst (Extends x y (events_by serves.leads.turns)) text serves.written;
       left = left;
       carried = ap (λ (r : Reply). r.commands) said ∙ append-nil (carried_of acts);
+      asked = serves.leads.asked;
       asks = begins_as (kept_of acts) _ _ (ap (λ fates. (all (as_serving old fates)).commands) (sym (append-nil (unfailed (fates_of acts))))) (serves.leads.asks []);
       state = ap (λ (s : Serving). s.state) (sym left) ∙ follow reading (as_serving old (fates_of acts)) (pieces_of input);
     }

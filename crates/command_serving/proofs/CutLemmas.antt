@@ -1,20 +1,24 @@
 -- How an input that is known goes on by what was taken of it.
 use Rattle.std.proofs.Common.{◌≡◌, ◌∙◌, ℕ, ◌+◌, ◌≤◌, ◌<◌, Bool, true, false, List, [], ◌∷◌, ◌++◌, ◌⊎◌, inl, inr, Option, Some, None, Contains, length, take, drop, refl, sym, ap, subst, arith, append_assoc, append-nil, length-append}
-use Rattle.std.specs.Prelude.{OnSome, if◌then◌else◌}
-use Rattle.std.specs.Io.KnownBytes.{Consumes, IsAtEnd, Keeps, prepend_known}
+use Rattle.std.specs.Prelude.{OnSome, Result, if◌then◌else◌}
+use Rattle.std.specs.Io.KnownBytes.{Consumes, IsAtEnd, Keeps, ReadConsumes, prepend_known}
 use Rattle.std.specs.Str.Lines.{strip_carriage_return}
-use Rattle.std.proofs.KnownBytes.{Consumes-trans}
+use Rattle.std.proofs.KnownBytes.{Consumes-nil, Consumes-trans, Keeps-refl}
 use Rattle.std.proofs.lemmas.List.Elements.{Contains-append_cases}
 use Rattle.text_lines.specs.Lines.{HasNoFeed}
 use Rattle.command_text.specs.Asking.{asked}
 use Rattle.command_text.specs.Cutting.{announced, ends, pieces_of}
 use Rattle.command_text.specs.Laws.{PiecesEnd, PiecesFollow, cut_at, piece_at}
 use Rattle.command_text.specs.declared.asked.Asked.{Asked}
-use Rattle.command_serving.specs.Input.{CountsTaken, Cuts, CutsNext, IsLast, IsLineSoFar, IsPartOf, IsTextPart, Loads, Moves, MovesShown, TakesMore, TakesPart, TakesShown, TakesText}
+use Rattle.command_serving.specs.Input.{Counts, CountsTaken, Cuts, CutsNext, IsLast, IsLineSoFar, IsPartOf, IsTextPart, Loads, Moves, MovesShown, TakesMore, TakesPart, TakesShown, TakesText, left_of}
+use Rattle.command_serving.specs.Knowing.{Beforehand, ByReads, Fits, How, left_by}
+use Rattle.command_serving.specs.Served.{IsInputOf}
 use Rattle.command_serving.specs.declared.input.LoadText.TheVariants.{Short}
 use Rattle.command_serving.specs.declared.input.Part.{Part}
 use Rattle.command_serving.specs.declared.input.LineSoFar.{LineSoFar}
 use Rattle.command_serving.specs.declared.input.TextSoFar.{TextSoFar}
+use Rattle.command_serving.specs.declared.input.Input.{Input}
+use Rattle.command_serving.specs.declared.streams.Source as sources
 use lib.Seq.{drop-nil}
 use Rattle.command_serving.specs.declared.input.Part.TheVariants.{End, Feed, More}
 
@@ -31,6 +35,9 @@ no_feed_on a b p q h = at (Contains-append_cases a b 10 h)
     at : Contains a 10 ⊎ Contains b 10 → ⊥
     at (inl x) = p x
     at (inr y) = q y
+
+pub none_taken : (known : Option (List ℕ)) (line : LineSoFar) → IsLineSoFar [] line → IsPartOf known known line
+none_taken known line kept = record { seen = []; free = λ h. absurd (omega (arith, h.1)); moves = Consumes-nil known; kept = kept }
 
 pub part_more : (old mid new : Option (List ℕ)) (before after : LineSoFar) (n : ℕ) → IsPartOf old mid before → TakesPart mid new before after (More n) → IsPartOf old new after
 part_more old mid new before after n p t = record {
@@ -148,6 +155,37 @@ counts_on None b c m n k p q = tt
 counts_on (Some xs) None c m n k p q = absurd p
 counts_on (Some xs) (Some ys) None m n k p q = absurd q
 counts_on (Some xs) (Some ys) (Some zs) m n k p q = omega (arith, p, q)
+
+-- the same, where what is behind, the line and the part are known by other names
+pub part_named : (rest known : Option (List ℕ)) (behind behind' : List ℕ) (before after after' : LineSoFar) (part part' : Part) → behind' ≡ behind → after' ≡ after → part ≡ part' → TakesPart known (prepend_known behind rest) before after part
+    → TakesPart known (prepend_known behind' rest) before after' part'
+part_named rest known behind behind' before after after' part part' b a p t =
+    subst (TakesPart known (prepend_known behind' rest) before after') p
+    (subst (λ l. TakesPart known (prepend_known behind' rest) before l part) (sym a) (subst (λ x. TakesPart known (prepend_known x rest) before after part) (sym b) t))
+
+module _ {R : Type 0} (on : sources.Ghosts R) where
+  pub counts_nothing : (input : Input) (reader : R) → Counts on input reader input reader
+  counts_nothing input reader how fits = let left = left_of on how input reader in (fits, counts_kept left left input.left (Keeps-refl left))
+
+  pub counts_behind : (a b c : Input) (r s t : R) → Counts on a r b s → Counts on b s c t → Counts on a r c t
+  counts_behind a b c r s t first second how fits =
+      let later = second how fits in
+      let earlier = first how later.0 in
+      (earlier.0, counts_on (left_of on how a r) (left_of on how b s) (left_of on how c t) a.left b.left c.left earlier.1 later.1)
+
+  -- what was read was left before, however that is known
+  pub read_however : {E : Type 0} (old new : R) (r : Result ℕ E) (block : List ℕ) → ReadConsumes (on.remaining old) (on.remaining new) r block
+      → ((text : List ℕ) → on.gave new text → ReadConsumes (Some (on.left old text)) (Some (on.left new text)) r block) → (how : How) → Fits on how new → ReadConsumes (left_by on how old) (left_by on how new) r block
+  read_however old new r block known given Beforehand fits = known
+  read_however old new r block known given (ByReads text) fits = given text fits
+
+  pub fits_before : (old new : R) → ((text : List ℕ) → on.gave new text → on.gave old text) → (how : How) → Fits on how new → Fits on how old
+  fits_before old new given Beforehand fits = fits
+  fits_before old new given (ByReads text) fits = given text fits
+
+  pub known_somehow : (old new : R) (input : List ℕ) → IsInputOf on old new input → (how : How) × Fits on how new × (left_by on how old ≡ Some input)
+  known_somehow old new input (inl known) = (Beforehand, tt, known)
+  known_somehow old new input (inr given) = (ByReads given.0, given.1, ap Some (sym given.2))
 
 -- ---- the bytes of a text
 

@@ -4,10 +4,12 @@ pub mod CauseLemmas
 pub mod CutLemmas
 pub mod InputLemmas
 pub mod LastLineLemmas
+pub mod QuestionLemmas
 pub mod ReplyLemmas
 pub mod ServingLemmas
 pub mod StoppedLemmas
 pub mod StreamLemmas
 pub mod StrictLemmas
 pub mod TimelyLemmas
+pub mod TryLemmas
 pub mod TurnLemmas

@@ -28,6 +28,7 @@ use Rattle.command_serving.specs.Serving.{HasNoJob, load_reply, silent}
 use Rattle.command_serving.proofs.ActLemmas.{begins_at_all}
 use Rattle.sector_disk.specs.declared.sectors.Sectors as sectors
 use Rattle.command_serving.proofs.ServingLemmas.{answered_is, carried_tried, tells_as}
+use Rattle.command_serving.proofs.TryLemmas.{asked_nothing, asked_text}
 
 -- ---- what a session says that is not broken, or is
 
@@ -45,8 +46,8 @@ text_acts (Some some) = Text some ∷ []
 -- an answer that leaves the session as it is
 pub tells_fate : {D : Type 0} {on : sectors.Ghosts D} (s : SessionValue D) (f : Serving → Reply) (text : Option Bool) (a : Answer) → ((later : List Fate) → f (as_serving s (fates_of (text_acts text) ++ later)) ≡ answered (as_serving s later) a)
     → Tells on s f (line (answer_text a)) s silent
-tells_fate s f None a says = record { acts = []; run = refl; says = λ later. says later ∙ answered_is (as_serving s later) a; asks = λ later. begins_at_all _; state = refl; few = omega arith }
-tells_fate s f (Some some) a says = record { acts = Text some ∷ []; run = refl; says = λ later. says later ∙ answered_is (as_serving s later) a; asks = λ later. begins_at_all _; state = refl; few = omega arith }
+tells_fate s f None a says = record { acts = []; run = refl; says = λ later. says later ∙ answered_is (as_serving s later) a; asked = asked_nothing s f; asks = λ later. begins_at_all _; state = refl; few = omega arith }
+tells_fate s f (Some some) a says = record { acts = Text some ∷ []; run = refl; says = λ later. says later ∙ answered_is (as_serving s later) a; asked = asked_text s f some; asks = λ later. begins_at_all _; state = refl; few = omega arith }
 
 -- a text, and `ok` behind it
 tells_text_after : {D : Type 0} {on : sectors.Ghosts D} (s : SessionValue D) (f : Serving → Reply) (made : Option Bool) (text : List ℕ) → ((later : List Fate) → f (as_serving s (fates_of (text_acts made) ++ later)) ≡ with_text text (answered (as_serving s later) answer.Ok))
@@ -55,6 +56,7 @@ tells_text_after s f None text says = record {
   acts = [];
   run = refl;
   says = λ later. says later ∙ ap (λ (t : List ℕ). record { text = t; commands = []; left = as_serving s later }) (sym (append-nil (text ++ line (answer_text answer.Ok))));
+  asked = asked_nothing s f;
   asks = λ later. begins_at_all _;
   state = refl;
   few = omega arith;
@@ -63,6 +65,7 @@ tells_text_after s f (Some some) text says = record {
   acts = Text some ∷ [];
   run = refl;
   says = λ later. says later ∙ ap (λ (t : List ℕ). record { text = t; commands = []; left = as_serving s later }) (sym (append-nil (text ++ line (answer_text answer.Ok))));
+  asked = asked_text s f some;
   asks = λ later. begins_at_all _;
   state = refl;
   few = omega arith;

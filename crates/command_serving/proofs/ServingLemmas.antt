@@ -21,12 +21,13 @@ use Rattle.recover.specs.declared.denials.Denial.{Denial}
 use Rattle.recover.specs.declared.denials.Denial.TheVariants.{Broken, Core, DeviceFault, OutOfMemory, Spent}
 use Rattle.command_core.specs.Runs.{after}
 use Rattle.command_serving.specs.Streams.{Extends, HandsOn, IsHandedOn, Stream}
-use Rattle.command_serving.specs.Acts.{Applied, BeginsWith, Turn, carried_of, events_by, events_in, fates_of, kept_of, unfailed}
-use Rattle.command_serving.specs.Served.{Leads, Tells, as_serving, preceded}
+use Rattle.command_serving.specs.Acts.{Applied, BeginsWith, IsTry, Turn, carried_of, events_by, events_in, fates_of, kept_of, unfailed}
+use Rattle.command_serving.specs.Served.{AreAsked, Leads, Tells, as_serving, preceded}
 use Rattle.command_serving.specs.Serving.{Answers, IsAppliedOn, Serves, denied, progress_of, silent, still_carried}
 use Rattle.command_serving.proofs.ActLemmas.{asks_both, begins_as, begins_at_all, carried_both, fates_before, run_both}
 use Rattle.command_serving.proofs.StreamLemmas.{extends_none, extends_on}
 use Rattle.command_serving.proofs.TurnLemmas.{events_both, is_turn, told_as, told_both, told_nothing, told_once}
+use Rattle.command_serving.proofs.TryLemmas.{asked_as, asked_both, asked_command, asked_nothing}
 use Rattle.recover.specs.declared.replies.Reply.{Reply as SessionReply}
 use Rattle.sector_disk.specs.declared.sectors.Sectors as sectors
 
@@ -41,10 +42,10 @@ after_both s [] ds = refl
 after_both s (c ∷ cs) ds = after_both (effect s c) cs ds
 
 unfoldable pub leads_nothing : {D : Type 0} {on : sectors.Ghosts D} (s : SessionValue D) (f : Serving → Reply) → Leads on s f [] s f
-leads_nothing s f = record { acts = []; turns = []; run = refl; told = told_nothing s f; says = λ later. refl; asks = λ later. begins_at_all _; state = refl }
+leads_nothing s f = record { acts = []; turns = []; run = refl; told = told_nothing s f; says = λ later. refl; asked = asked_nothing s f; asks = λ later. begins_at_all _; state = refl }
 
 pub tells_nothing : {D : Type 0} {on : sectors.Ghosts D} (s : SessionValue D) (f : Serving → Reply) → Tells on s f [] s f
-tells_nothing s f = record { acts = []; run = refl; says = λ later. refl; asks = λ later. begins_at_all _; state = refl; few = omega arith }
+tells_nothing s f = record { acts = []; run = refl; says = λ later. refl; asked = asked_nothing s f; asks = λ later. begins_at_all _; state = refl; few = omega arith }
 
 unfoldable pub leads_on : {D : Type 0} {on : sectors.Ghosts D} (a b c : SessionValue D) (f g h : Serving → Reply) (t u : List ℕ) → Leads on a f t b g → Leads on b g u c h → Leads on a f (t ++ u) c h
 leads_on {on = on} a b c f g h t u p q = record {
@@ -56,6 +57,7 @@ leads_on {on = on} a b c f g h t u p q = record {
       ap (λ fates. f (as_serving a fates)) (fates_before p.acts q.acts later) ∙ p.says (fates_of q.acts ++ later) ∙ ap (preceded t (carried_of p.acts)) (q.says later)
       ∙ preceded_twice t u (carried_of p.acts) (carried_of q.acts) (h (as_serving c later))
       ∙ ap (λ cs. preceded (t ++ u) cs (h (as_serving c later))) (sym (carried_both p.acts q.acts));
+  asked = asked_both p.acts q.acts a b f g t p.says p.asked q.asked;
   asks = asks_both p.acts q.acts a b f g t p.says p.asks q.asks;
   state = q.state ∙ ap (λ s. after s (carried_of q.acts)) p.state ∙ sym (after_both a.state (carried_of p.acts) (carried_of q.acts)) ∙ ap (after a.state) (sym (carried_both p.acts q.acts));
 }
@@ -81,6 +83,7 @@ leads_as a b f f' g t same p = record {
   run = p.run;
   told = told_as a f f' p.acts t p.turns same p.told;
   says = λ later. same (fates_of p.acts ++ later) ∙ p.says later;
+  asked = asked_as a f f' p.acts same p.asked;
   asks = λ later. begins_as (kept_of p.acts) _ _ (ap (λ (r : Reply). r.commands) (same (unfailed (fates_of p.acts) ++ later))) (p.asks later);
   state = p.state;
 }
@@ -90,6 +93,7 @@ tells_as a b f f' g t same p = record {
   acts = p.acts;
   run = p.run;
   says = λ later. same (fates_of p.acts ++ later) ∙ p.says later;
+  asked = asked_as a f f' p.acts same p.asked;
   asks = λ later. begins_as (kept_of p.acts) _ _ (ap (λ (r : Reply). r.commands) (same (unfailed (fates_of p.acts) ++ later))) (p.asks later);
   state = p.state;
   few = p.few;
@@ -101,10 +105,10 @@ serves_as a b f f' g x y same p = record { text = p.text; leads = leads_as a b f
 
 -- what is answered behind it
 unfoldable pub leads_to : {D : Type 0} {on : sectors.Ghosts D} (a b : SessionValue D) (f g g' : Serving → Reply) (t : List ℕ) → ((fates : List Fate) → g (as_serving b fates) ≡ g' (as_serving b fates)) → Leads on a f t b g → Leads on a f t b g'
-leads_to a b f g g' t same p = record { acts = p.acts; turns = p.turns; run = p.run; told = p.told; says = λ later. p.says later ∙ ap (preceded t (carried_of p.acts)) (same later); asks = p.asks; state = p.state }
+leads_to a b f g g' t same p = record { acts = p.acts; turns = p.turns; run = p.run; told = p.told; says = λ later. p.says later ∙ ap (preceded t (carried_of p.acts)) (same later); asked = p.asked; asks = p.asks; state = p.state }
 
 pub tells_to : {D : Type 0} {on : sectors.Ghosts D} (a b : SessionValue D) (f g g' : Serving → Reply) (t : List ℕ) → ((fates : List Fate) → g (as_serving b fates) ≡ g' (as_serving b fates)) → Tells on a f t b g → Tells on a f t b g'
-tells_to a b f g g' t same p = record { acts = p.acts; run = p.run; says = λ later. p.says later ∙ ap (preceded t (carried_of p.acts)) (same later); asks = p.asks; state = p.state; few = p.few }
+tells_to a b f g g' t same p = record { acts = p.acts; run = p.run; says = λ later. p.says later ∙ ap (preceded t (carried_of p.acts)) (same later); asked = p.asked; asks = p.asks; state = p.state; few = p.few }
 
 -- ---- what was written of an answer
 
@@ -122,6 +126,7 @@ serves_told {on = on} a b f g t x y p handed = record {
           commands = record { rest = (g (as_serving b later)).commands; whole = ap (λ (r : Reply). r.commands) (p.says later) };
         });
     says = p.says;
+    asked = p.asked;
     asks = p.asks;
     state = p.state;
   };
@@ -178,7 +183,7 @@ pub answered_is : (s : Serving) (a : Answer) → answered s a ≡ preceded (line
 answered_is s a = ap (λ (x : List ℕ). record { text = x; commands = []; left = s }) (sym (append-nil (line (answer_text a))))
 
 pub tells_answer : {D : Type 0} {on : sectors.Ghosts D} (s : SessionValue D) (a : Answer) → Tells on s (λ t. answered t a) (line (answer_text a)) s silent
-tells_answer s a = record { acts = []; run = refl; says = λ later. answered_is (as_serving s later) a; asks = λ later. begins_at_all _; state = refl; few = omega arith }
+tells_answer s a = record { acts = []; run = refl; says = λ later. answered_is (as_serving s later) a; asked = asked_nothing s (λ t. answered t a); asks = λ later. begins_at_all _; state = refl; few = omega arith }
 
 -- ---- a command, by cases of what carries it
 
@@ -230,21 +235,43 @@ module _ {D : Type 0} (on : sectors.Ghosts D) (old new : SessionValue D) (comman
         acts = Applied command (answers_so (Ok x) n) ∷ [];
         run = (new, applied, refl);
         says = says;
+        asked = asked_command old (λ s. carried s command done) command (answers_so (Ok x) n) (Done, refl) (λ later. record { rest = (done (as_serving new later)).commands; whole = ap (λ (r : Reply). r.commands) (says later) });
         asks = λ later. record { rest = (done (as_serving new later)).commands; whole = ap (λ (r : Reply). r.commands) (says later) };
         state = applied.makes.state;
         few = omega arith;
       }
 
-  -- an answer that keeps the session as it was
+  -- the command is asked for if its try is done
+  asked_once : (done : Serving → Reply) (why : Denial) → old.is_broken ≡ false → refusal old.state command ≡ None → IsTry (Applied command (answers_so (Err why) n))
+      → AreAsked old (λ s. carried s command done) (Applied command (answers_so (Err why) n) ∷ [])
+  asked_once done why e r is_try =
+      asked_command old (λ s. carried s command done) command (answers_so (Err why) n) is_try
+      (λ later. record { rest = (done (record (tried (as_serving old (Done ∷ later))) { state = effect old.state command })).commands; whole = ap (λ (r : Reply). r.commands) (carried_tried (as_serving old (Done ∷ later)) command done e r) })
+
+  -- a try that keeps the session as it was
   ends_at : (f : Serving → Reply) (a : Answer) (why : Denial) → IsAppliedOn on old command (answers_so (Err why) n) new → kept_of (Applied command (answers_so (Err why) n) ∷ []) ≡ [] → new ≡ old
+      → AreAsked old f (Applied command (answers_so (Err why) n) ∷ [])
       → ((later : List Fate) → f (as_serving old (fates_of (Applied command (answers_so (Err why) n) ∷ []) ++ later)) ≡ answered (as_serving old later) a) → Tells on old f (line (answer_text a)) new silent
-  ends_at f a why applied none same says = record {
+  ends_at f a why applied none same asked says = record {
     acts = Applied command (answers_so (Err why) n) ∷ [];
     run = (new, applied, refl);
     says = λ later. says later ∙ answered_is (as_serving old later) a ∙ ap (λ s. preceded (line (answer_text a)) [] (silent (as_serving s later))) (sym same);
+    asked = asked;
     asks = λ later.
         let fates : List Fate = unfailed (fates_of (Applied command (answers_so (Err why) n) ∷ [])) ++ later in
         subst (λ cs. BeginsWith cs (f (as_serving old fates)).commands) (sym none) (begins_at_all (f (as_serving old fates)).commands);
+    state = ap (λ s. s.state) same;
+    few = omega arith;
+  }
+
+  -- what is no try leaves it so
+  stays_at : (f : Serving → Reply) (a : Answer) → new ≡ old → ((later : List Fate) → f (as_serving old later) ≡ answered (as_serving old later) a) → Tells on old f (line (answer_text a)) new silent
+  stays_at f a same says = record {
+    acts = [];
+    run = same;
+    says = λ later. says later ∙ answered_is (as_serving old later) a ∙ ap (λ s. preceded (line (answer_text a)) [] (silent (as_serving s later))) (sym same);
+    asked = asked_nothing old f;
+    asks = λ later. begins_at_all _;
     state = ap (λ s. s.state) same;
     few = omega arith;
   }
@@ -255,10 +282,10 @@ module _ {D : Type 0} (on : sectors.Ghosts D) (old new : SessionValue D) (comman
       by_spent : (d : Denial) → old.is_broken ≡ false → refusal old.state command ≡ None → (d ≡ Spent) ⊎ ((d ≡ OutOfMemory) ⊎ (d ≡ DeviceFault)) → IsAppliedOn on old command (answers_so (Err d) n) new → Tells on old (λ s. carried s command done) (line (answer_text (denied d))) new silent
       by_spent d e r (inl is) applied =
           subst (λ x. IsAppliedOn on old command (answers_so (Err x) n) new → Tells on old (λ s. carried s command done) (line (answer_text (denied x))) new silent) (sym is)
-          (λ applied. ends_at (λ s. carried s command done) answer.Spent Spent applied refl applied.makes (λ later. carried_tried (as_serving old (SpentFate ∷ later)) command done e r)) applied
+          (λ applied. ends_at (λ s. carried s command done) answer.Spent Spent applied refl applied.makes (asked_once done Spent e r (SpentFate, refl)) (λ later. carried_tried (as_serving old (SpentFate ∷ later)) command done e r)) applied
       by_spent d e r (inr (inl is)) applied =
           subst (λ x. IsAppliedOn on old command (answers_so (Err x) n) new → Tells on old (λ s. carried s command done) (line (answer_text (denied x))) new silent) (sym is)
-          (λ applied. ends_at (λ s. carried s command done) (answer.Refused core.OutOfMemory) OutOfMemory applied refl applied.makes (λ later. carried_tried (as_serving old (NoMemory ∷ later)) command done e r)) applied
+          (λ applied. ends_at (λ s. carried s command done) (answer.Refused core.OutOfMemory) OutOfMemory applied refl applied.makes (asked_once done OutOfMemory e r (NoMemory, refl)) (λ later. carried_tried (as_serving old (NoMemory ∷ later)) command done e r)) applied
       by_spent d e r (inr (inr is)) applied =
           subst (λ x. IsAppliedOn on old command (answers_so (Err x) n) new → Tells on old (λ s. carried s command done) (line (answer_text (denied x))) new silent) (sym is)
           (λ (applied : IsAppliedOn on old command (answers_so (Err DeviceFault) n) new).
@@ -271,6 +298,7 @@ module _ {D : Type 0} (on : sectors.Ghosts D) (old new : SessionValue D) (comman
                 carried_tried (as_serving old (Failed ∷ later)) command done e r
                 ∙ answered_is (record { state = old.state; is_broken = true; fates = later }) answer.DeviceFault
                 ∙ ap (λ s. preceded (line (answer_text answer.DeviceFault)) [] (silent s)) left;
+            asked = asked_once done DeviceFault e r (Failed, refl);
             asks = λ later. record { rest = (done (record (tried (as_serving old (Done ∷ later))) { state = effect old.state command })).commands; whole = ap (λ (r : Reply). r.commands) (carried_tried (as_serving old (Done ∷ later)) command done e r) };
             state = cut.state;
             few = omega arith;
@@ -281,11 +309,11 @@ module _ {D : Type 0} (on : sectors.Ghosts D) (old new : SessionValue D) (comman
       off true e r f' d h applied =
           let is : d ≡ Broken = cc in
           subst (λ x. IsAppliedOn on old command (answers_so (Err x) n) new → Tells on old (λ s. carried s command done) (line (answer_text (denied x))) new silent) (sym is)
-          (λ applied. ends_at (λ s. carried s command done) answer.Broken Broken applied refl applied.makes (λ later. carried_broken (as_serving old later) command done e)) applied
+          (λ applied. stays_at (λ s. carried s command done) answer.Broken applied.makes (λ later. carried_broken (as_serving old later) command done e)) applied
       off false e (Some r) f' d h applied =
           let is : d ≡ Core r = cc in
           subst (λ x. IsAppliedOn on old command (answers_so (Err x) n) new → Tells on old (λ s. carried s command done) (line (answer_text (denied x))) new silent) (sym is)
-          (λ applied. ends_at (λ s. carried s command done) (answer.Refused r) (Core r) applied refl applied.makes (λ later. carried_refused (as_serving old later) command done r e f')) applied
+          (λ applied. stays_at (λ s. carried s command done) (answer.Refused r) applied.makes (λ later. carried_refused (as_serving old later) command done r e f')) applied
       off false e None f' d h applied = by_spent d e f' (spent_only _ d h) applied
 
 -- ---- the forms that calls give
@@ -307,6 +335,7 @@ module _ {D : Type 0} (on : sectors.Ghosts D) (old new : SessionValue D) (comman
         acts = p.acts;
         run = p.run;
         says = λ later. p.says later ∙ ap (preceded [] (carried_of p.acts)) (answered_is (as_serving new later) answer.Ok);
+        asked = asked_as old (λ s. carried s command (λ t. answered t answer.Ok)) (λ s. plain s command) p.acts (λ fates. refl) p.asked;
         asks = p.asks;
         state = p.state;
         few = p.few;
@@ -340,7 +369,7 @@ next_done {on = on} old mid command all rest reply x is applied ok =
     let done : Serving → Reply = λ t. with_text (told_behind command t.state) (carried_all t rest) in
     let p : Tells on old (λ s. carried_all s all) [] mid done = tells_as old mid (λ s. carried s command done) (λ s. carried_all s all) done []
     (λ fates. ap (carried_all (as_serving old fates)) is ∙ carried_cons (as_serving old fates) command rest) (goes_on on old mid command reply applied done x ok) in
-    record { acts = p.acts; run = p.run; says = λ later. p.says later; asks = p.asks; state = p.state; few = p.few }
+    record { acts = p.acts; run = p.run; says = λ later. p.says later; asked = p.asked; asks = p.asks; state = p.state; few = p.few }
 
 -- the same of the first command of steps, where it is told as the code does
 pub step_done : {D : Type 0} {on : sectors.Ghosts D} (old mid : SessionValue D) (steps rest : StepsLeft) (command : Command) (is_told : Bool) (reply : SessionReply) (x : Unit {0})

@@ -18,16 +18,18 @@ use Rattle.command_serving.specs.Acts.{BeginsWith, commands_of, fates_of, kept_o
 use Rattle.command_serving.specs.Served.{as_serving, still}
 use Rattle.command_serving.specs.Stopped.{IsRunOfInput, ServedHeadline, ServingsAreRuns, acts_of, asked_by}
 use Rattle.command_serving.proofs.ActLemmas.{asks_both, begins_as, run_both}
+use Rattle.command_serving.proofs.TryLemmas.{asked_both}
 
 module _ {D : Type 0} (on : sectors.Ghosts D) where
   pub servings_are_runs : ServingsAreRuns on
-  servings_are_runs reading old new input before after_it (Ok done) served = record { run = served.run; asks = served.asks }
+  servings_are_runs reading old new input before after_it (Ok done) served = record { run = served.run; asked = served.asked; asks = served.asks }
   servings_are_runs reading old new input before after_it (Err fault) cut =
       let first = cut.answered.acts in
       let last = cut.tells.acts in
       let all : List Fate → List Command = λ fates. (served reading (as_serving old fates) (pieces_of input)).commands in
       record {
         run = run_both on old cut.told new first last cut.answered.run cut.tells.run;
+        asked = asked_both first last old cut.told (λ s. served reading s (pieces_of input)) (still reading cut.commands cut.behind) cut.text cut.answered.says cut.answered.asked cut.tells.asked;
         asks = begins_as (kept_of (first ++ last)) _ _ (ap all (sym (append-nil (unfailed (fates_of (first ++ last))))))
             (asks_both first last old cut.told (λ s. served reading s (pieces_of input)) (still reading cut.commands cut.behind) cut.text cut.answered.says cut.answered.asks cut.tells.asks []);
       }

@@ -9,7 +9,7 @@ use Rattle.recover.specs.declared.denials.Denial.TheVariants as denial
 use Rattle.recover.specs.declared.replies.Reply.{Reply}
 use Rattle.command_serving.specs.Streams.{Event, Flushed, Put}
 
--- A command was applied, and the session gave this reply. Or memory was asked for a text, to read the one behind a `load` or to make one for
+-- A command was tried, and the session gave this reply. Or memory was asked for a text, to read the one behind a `load` or to make one for
 -- `show` or `print`, and there was some or none.
 pub data Act : Type 0 where
   Applied : Command → Reply → Act
@@ -43,6 +43,10 @@ abbrev pub fates_in : Act → List Fate
 fates_in (Applied command reply) = fates_told reply.answer
 fates_in (Text true) = Done ∷ []
 fates_in (Text false) = NoMemory ∷ []
+
+-- it was a try: what session or state refuse changes nothing, and is none
+abbrev pub IsTry : Act → Type 0
+IsTry act = (fate : Fate) × (fates_in act ≡ fate ∷ [])
 
 -- the fates of the tries, in order
 abbrev pub fates_of : List Act → List Fate

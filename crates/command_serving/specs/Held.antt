@@ -1,8 +1,16 @@
--- A watched writer as a sink.
+-- A watched reader as a source, and a watched writer as a sink.
 use Rattle.std.specs.Prelude.{ℕ, List, Option}
-use Rattle.command_serving.specs.Streams.{Stream}
+use Rattle.command_serving.specs.Streams.{Given, Stream}
 use Rattle.command_serving.specs.declared.streams.Watched.{Watched}
 
 -- what it holds, and what was done to it
 abbrev pub held : {W : Type 0} → (W → Option (List ℕ)) → Watched W → Stream
 held contents w = record { contents = contents w.inner; events = w.log.events }
+
+-- what its reads gave, the newest first
+abbrev pub reads_of : {I : Type 0} → Watched I → List (List ℕ)
+reads_of r = r.log.reads
+
+-- what is known of the input that was read
+abbrev pub given_by : {I : Type 0} → (I → Option (List ℕ)) → Watched I → Watched I → Given
+given_by remaining old new = record { known = remaining old.inner; before = reads_of old; after = reads_of new }

@@ -15,6 +15,8 @@ use Rattle.command_serving.specs.declared.input.LineSoFar.{LineSoFar}
 use Rattle.command_serving.specs.declared.input.Input.{Input}
 use Rattle.command_serving.specs.declared.input.Part.{Part}
 use Rattle.command_serving.specs.declared.input.Part.TheVariants.{End, Feed, More}
+use Rattle.command_serving.specs.Knowing.{Fits, How, left_by}
+use Rattle.command_serving.specs.declared.streams.Source as sources
 
 -- what is kept of the bytes of a line
 abbrev pub IsLineSoFar : List ℕ → LineSoFar → Type 0
@@ -50,15 +52,24 @@ pub record TakesShown (old new : List ℕ) (before after : LineSoFar) (part : Pa
   pub moves : MovesShown part old new bytes
   pub line : (seen : List ℕ) → IsLineSoFar seen before → IsLineSoFar (seen ++ bytes) after
 
--- what is left of the input: what was read ahead, and what the reader has left
-abbrev pub left_of : {R : Type 0} → (R → Option (List ℕ)) → Input → R → Option (List ℕ)
-left_of remaining input reader = prepend_known input.ahead (remaining reader)
-
 -- As many bytes were taken as there are fewer still to be read, at least.
 abbrev pub CountsTaken : Option (List ℕ) → ℕ → Option (List ℕ) → ℕ → Type 0
 CountsTaken None left new later = ⊤
 CountsTaken (Some xs) left None later = ⊥
 CountsTaken (Some xs) left (Some ys) later = left + length ys ≤ later + length xs
+
+module _ {R : Type 0} (on : sources.Ghosts R) where
+  -- what is left of the input: what was read ahead, and what the reader has left
+  abbrev pub left_of : How → Input → R → Option (List ℕ)
+  left_of how input reader = prepend_known input.ahead (left_by on how reader)
+
+  -- however the input is known, this holds of what is left of it before and after
+  abbrev pub Between : Input → R → Input → R → (Option (List ℕ) → Option (List ℕ) → Type 0) → Type 0
+  Between old before new later Holds = (how : How) → Fits on how later → Holds (left_of how old before) (left_of how new later)
+
+  -- as it is known after, it was known before, and bytes that were taken were counted
+  abbrev pub Counts : Input → R → Input → R → Type 0
+  Counts old before new later = (how : How) → Fits on how later → Fits on how before × CountsTaken (left_of how old before) old.left (left_of how new later) new.left
 
 -- fewer are still to be read, but at the end of the input
 abbrev pub TakesLess : ℕ → ℕ → Part → Type 0

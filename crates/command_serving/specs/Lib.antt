@@ -10,4 +10,5 @@ pub mod Strict
 pub mod StrictValue
 -- of private functions alone
 pub mod Input
+pub mod Knowing
 pub mod Serving

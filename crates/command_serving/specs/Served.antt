@@ -3,15 +3,17 @@ use Rattle.std.specs.Prelude.{◌≡◌, ◌≤◌, ◌++◌, ◌^◌, ◌⊎◌
 use Rattle.std.specs.List.{AllByRecursion}
 use Rattle.command_core.specs.Runs.{after}
 use Rattle.command_core.specs.declared.commands.Command.{Command}
-use Rattle.command_text.specs.Answering.{Fate, Reply, Serving, carried_all, joined_replies, served}
+use Rattle.command_text.specs.Answering.{Fate, Done, Reply, Serving, carried_all, joined_replies, served}
 use Rattle.command_text.specs.Cutting.{Piece, pieces_of}
 use Rattle.command_text.specs.Readings.{Reading}
 use Rattle.command_serving.specs.declared.answering.ServeFault.{ServeFault}
 use Rattle.command_serving.specs.declared.answering.ServeFault.TheVariants as fault
-use Rattle.command_serving.specs.Acts.{Act, BeginsWith, IsTurn, Turn, acts_by, carried_of, commands_of, events_by, fates_of, kept_of, replies_of, text_by, unfailed}
+use Rattle.command_serving.specs.declared.streams.Source as sources
+use Rattle.command_serving.specs.Acts.{Act, Applied, BeginsWith, IsTry, IsTurn, Turn, acts_by, carried_of, commands_of, events_by, fates_of, kept_of, replies_of, text_by, unfailed}
 use Rattle.command_serving.specs.Streams.{Extends, IsPutInPart, Stream}
 use Rattle.recover.specs.Joining.{IsRunOn}
 use Rattle.recover.specs.Sessions.{SessionValue}
+use Rattle.recover.specs.declared.replies.Reply.{Reply as SessionReply}
 use Rattle.sector_disk.specs.declared.sectors.Sectors as sectors
 
 -- a session, with what becomes of its tries
@@ -40,6 +42,13 @@ pub record AreTold {D : Type 0} (old : SessionValue D) (from : Serving → Reply
   pub each : AllByRecursion IsTurn turns
   pub front : (some others : List Turn) → turns ≡ some ++ others → (later : List Fate) → Begins (text_by some) (acts_by some) (from (as_serving old (fates_of (acts_by some) ++ later)))
 
+-- Each act was a try of what was asked for: had the try of a command been done, the session would have carried out this command next, whatever
+-- became of later tries.
+pub record AreAsked {D : Type 0} (old : SessionValue D) (from : Serving → Reply) (acts : List Act) : Type 0 where
+  pub tries : AllByRecursion IsTry acts
+  pub next : (front behind : List Act) (command : Command) (reply : SessionReply) → acts ≡ front ++ Applied command reply ∷ behind
+      → (later : List Fate) → BeginsWith (carried_of front ++ command ∷ []) (from (as_serving old (fates_of front ++ Done ∷ later))).commands
+
 module _ {D : Type 0} (on : sectors.Ghosts D) where
   -- By these acts the session went from old to new, with this text: what `from` says of old is, after it, what `to` says of new, whatever
   -- becomes of later tries.
@@ -49,6 +58,7 @@ module _ {D : Type 0} (on : sectors.Ghosts D) where
     pub run : IsRunOn on old (commands_of acts) (replies_of acts) new
     pub told : AreTold old from acts text turns
     pub says : (later : List Fate) → from (as_serving old (fates_of acts ++ later)) ≡ preceded text (carried_of acts) (to (as_serving new later))
+    pub asked : AreAsked old from acts
     pub asks : (later : List Fate) → BeginsWith (kept_of acts) (from (as_serving old (unfailed (fates_of acts) ++ later))).commands
     pub state : new.state ≡ after old.state (carried_of acts)
 
@@ -57,6 +67,7 @@ module _ {D : Type 0} (on : sectors.Ghosts D) where
     pub acts : List Act
     pub run : IsRunOn on old (commands_of acts) (replies_of acts) new
     pub says : (later : List Fate) → from (as_serving old (fates_of acts ++ later)) ≡ preceded text (carried_of acts) (to (as_serving new later))
+    pub asked : AreAsked old from acts
     pub asks : (later : List Fate) → BeginsWith (kept_of acts) (from (as_serving old (unfailed (fates_of acts) ++ later))).commands
     pub state : new.state ≡ after old.state (carried_of acts)
     pub few : length acts ≤ 1
@@ -70,8 +81,9 @@ module _ {D : Type 0} (on : sectors.Ghosts D) where
     pub first : turns ≡ leads.turns ++ rest
 
   -- By these acts the session went from old to new: their commands and replies are a run. What was written is what the session answers to the
-  -- input by their fates; the commands that it then carries out are those that were acknowledged, and the state is the one after them. Had the
-  -- device not failed, the input would have asked for the one within which it did, too. It was told turn by turn, each behind the finished calls of
+  -- input by their fates; the commands that it then carries out are those that were acknowledged, and the state is the one after them. Each command
+  -- that was tried, done or denied, is the one that the input asked for then. Had the device not failed, the input would have asked for the one
+  -- within which it did, too. It was told turn by turn, each behind the finished calls of
   -- its act, and the answers to each first part of the input's pieces were handed on before the next one was begun.
   pub record IsServed (reading : Reading) (old : SessionValue D) (input : List ℕ) (before after_it : Stream) (new : SessionValue D) : Type 0 where
     pub acts : List Act
@@ -82,6 +94,7 @@ module _ {D : Type 0} (on : sectors.Ghosts D) where
     pub written : Extends before after_it (events_by turns) (served reading (as_serving old (fates_of acts)) (pieces_of input)).text
     pub left : (served reading (as_serving old (fates_of acts)) (pieces_of input)).left ≡ as_serving new []
     pub carried : (served reading (as_serving old (fates_of acts)) (pieces_of input)).commands ≡ carried_of acts
+    pub asked : AreAsked old (λ s. served reading s (pieces_of input)) acts
     pub asks : BeginsWith (kept_of acts) (served reading (as_serving old (unfailed (fates_of acts))) (pieces_of input)).commands
     pub state : new.state ≡ after old.state (served reading (as_serving old (fates_of acts)) (pieces_of input)).commands
 
@@ -115,6 +128,10 @@ module _ {D : Type 0} (on : sectors.Ghosts D) where
   abbrev pub EndsOrIsCut : {T E : Type 0} → Result T E → Reading → SessionValue D → List ℕ → Stream → Stream → SessionValue D → Type 0
   EndsOrIsCut r reading old input before after_it new =
       MatchResult r (λ _. IsServed reading old input before after_it new) (λ _. IsCutShort reading old (pieces_of input) before after_it new)
+
+-- This is the input of a source that was read: its bytes, where they were known beforehand, or what was left of a text that its reads gave.
+abbrev pub IsInputOf : {R : Type 0} → sources.Ghosts R → R → R → List ℕ → Type 0
+IsInputOf on old new input = (on.remaining old ≡ Some input) ⊎ ((text : List ℕ) × on.gave new text × (input ≡ on.left old text))
 
 -- Why the serving ended: the reader failed, or so many bytes are no longer read; the writer failed.
 abbrev pub HasCause : ServeFault → Bool → Bool → ℕ → Type 0

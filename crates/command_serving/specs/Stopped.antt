@@ -18,7 +18,7 @@ use Rattle.recover.specs.declared.replies.Reply.{Reply}
 use Rattle.sector_disk.specs.Sectors.{Throughout}
 use Rattle.sector_disk.specs.declared.sectors.Sectors as sectors
 use Rattle.command_serving.specs.Acts.{Act, BeginsWith, commands_of, fates_of, kept_of, replies_of, unfailed}
-use Rattle.command_serving.specs.Served.{EndsOrIsCut, as_serving}
+use Rattle.command_serving.specs.Served.{AreAsked, EndsOrIsCut, as_serving}
 use Rattle.command_serving.specs.Streams.{Stream}
 use Rattle.command_serving.specs.declared.answering.ServeFault.{ServeFault}
 
@@ -42,9 +42,10 @@ module _ {D : Type 0} (on : sectors.Ghosts D) where
   acts_of (Ok done) reading old input before after_it new served = served.acts
   acts_of (Err fault) reading old input before after_it new cut = cut.answered.acts ++ cut.tells.acts
 
-  -- These acts are a run, and the input asks for the commands that it keeps.
+  -- These acts are a run, each command that they try is the one that the input asked for then, and it asks for the commands that the run keeps.
   pub record IsRunOfInput (reading : Reading) (old : SessionValue D) (input : List ℕ) (acts : List Act) (new : SessionValue D) : Type 0 where
     pub run : IsRunOn on old (commands_of acts) (replies_of acts) new
+    pub asked : AreAsked old (λ s. served reading s (pieces_of input)) acts
     pub asks : BeginsWith (kept_of acts) (asked_by reading old (pieces_of input) acts)
 
   -- law: the acts of a serving are one

@@ -1,5 +1,5 @@
--- What readers and writers do to bytes that are known, and what was done to a sink.
-use Rattle.std.specs.Prelude.{◌≡◌, ◌⊎◌, ◌<◌, ◌≤◌, ◌++◌, ◌∷◌, [], ℕ, List, length, map, take, Option, Some, None, Result, Ok, Err}
+-- What readers and writers do to bytes that are known, and what was done to a source and a sink.
+use Rattle.std.specs.Prelude.{◌≡◌, ◌⊎◌, ◌<◌, ◌≤◌, ◌++◌, ◌∷◌, [], ℕ, List, length, map, take, drop, Option, Some, None, Result, Ok, Err, ⊤}
 use Rattle.std.specs.List.{concat}
 use Rattle.std.specs.Io.KnownBytes.{Appends, Consumes, IsAtEnd, Keeps}
 
@@ -8,6 +8,34 @@ use Rattle.std.specs.Io.KnownBytes.{Appends, Consumes, IsAtEnd, Keeps}
 pub data Event : Type 0 where
   Put : ℕ → List ℕ → Event
   Flushed : ℕ → Event
+
+-- what was done to a sink, in order, and what each read of a source gave that had room, the newest first
+pub record History : Type 0 where
+  pub events : List Event
+  pub reads : List (List ℕ)
+
+-- What is left of a text behind these reads.
+abbrev pub left_behind : List (List ℕ) → List ℕ → List ℕ
+left_behind [] text = text
+left_behind (piece ∷ earlier) text = drop (length piece) (left_behind earlier text)
+
+-- These reads gave the text piece by piece, from its beginning on: what was left of it began with the next one, and none gave nothing but at
+-- its end. More of it may come.
+abbrev pub GaveText : List (List ℕ) → List ℕ → Type 0
+GaveText [] text = ⊤
+GaveText (piece ∷ earlier) text = GaveText earlier text
+    × (left_behind earlier text ≡ piece ++ left_behind (piece ∷ earlier) text)
+    × (piece ≡ [] → left_behind earlier text ≡ [])
+
+-- What is known of an input that was read: its bytes, where they were known beforehand, and what reads had given before and after.
+pub record Given : Type 0 where
+  pub known : Option (List ℕ)
+  pub before : List (List ℕ)
+  pub after : List (List ℕ)
+
+-- So this is the input: as known beforehand, or what was left before of a text that reads gave.
+abbrev pub IsInput : Given → List ℕ → Type 0
+IsInput given input = (given.known ≡ Some input) ⊎ ((text : List ℕ) × GaveText given.after text × (input ≡ left_behind given.before text))
 
 -- A sink: the bytes that it holds, where they are known, and what was done to it, in order.
 pub record Stream : Type 0 where

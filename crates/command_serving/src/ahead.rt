@@ -1,6 +1,8 @@
 //! What was read of an input and not yet taken, in an array.
 ghost use Rattle.std.specs.Prelude.{◌≡◌, ◌≤◌, ℕ, List, [], OnErr, OnOk, drop, length, slice_range, true};
-ghost use Rattle.std.specs.Io.KnownBytes.{IsAtEnd, Keeps, prepend_known};
+ghost use Rattle.std.specs.Io.{ReadsAtMost};
+ghost use Rattle.std.specs.Io.KnownBytes.{IsAtEnd, Keeps, ReadConsumes, prepend_known};
+ghost use Rattle.command_serving.specs.Knowing.{Fits, How, left_by};
 
 use crate::streams::{Failed, Source};
 use std::marker::Model;
@@ -45,9 +47,12 @@ impl Ahead {
 
     /// Where nothing is left, reads once. Nothing is left then only at the end.
     pub(crate) fn fill<R: Source>(&mut self, reader: &mut R) -> Result<(), Failed>
-        ensures bytes { Keeps (prepend_known self.old (R.remaining reader.old))
-            (prepend_known self.new (R.remaining reader.new)) }
-        ensures end { OnOk result (self.new ≡ [] → IsAtEnd (R.remaining reader.new)) }
+        ensures bytes { (how : How) → Fits R.Source how reader.new
+            → Keeps (prepend_known self.old (left_by R.Source how reader.old))
+            (prepend_known self.new (left_by R.Source how reader.new)) }
+        ensures end { OnOk result (self.new ≡ [] → (how : How) → Fits R.Source how reader.new
+            → IsAtEnd (left_by R.Source how reader.new)) }
+        ensures fits { (how : How) → Fits R.Source how reader.new → Fits R.Source how reader.old }
         ensures failed { OnErr result (R.has_failed reader.new ≡ true) }
     {
         if self.start < self.end {
@@ -55,7 +60,7 @@ impl Ahead {
         }
         self.start = 0;
         self.end = 0;
-        self.end = reader.read_some(&mut self.block)?;
+        self.end = read_block(reader, &mut self.block)?;
         Ok(())
     }
 
@@ -66,4 +71,15 @@ impl Ahead {
     {
         self.start += len;
     }
+}
+
+// Reads once, however what the reader has left is known.
+fn read_block<R: Source>(reader: &mut R, block: &mut [u8]) -> Result<usize, Failed>
+    ensures bound { ReadsAtMost result block.new }
+    ensures bytes { (how : How) → Fits R.Source how reader.new
+        → ReadConsumes (left_by R.Source how reader.old) (left_by R.Source how reader.new) result block.new }
+    ensures fits { (how : How) → Fits R.Source how reader.new → Fits R.Source how reader.old }
+    ensures failed { OnErr result (R.has_failed reader.new ≡ true) }
+{
+    reader.read_some(block)
 }

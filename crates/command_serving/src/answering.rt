@@ -4,14 +4,15 @@
 ghost use Rattle.std.specs.Prelude.{◌≡◌, ◌≤◌, ◌++◌, [], IfErr, IfOk, OnErr, MatchResult, ℕ, List, Result, Ok, Err, Some, true, false, length};
 ghost use Rattle.plan_types.specs.Instance.{Instance};
 ghost use Rattle.instance_read.specs.declared.faults.ReadFault.{ReadFault};
-ghost use Rattle.command_text.specs.Answering.{carried_all, commands_of, made_or, next_stated, plain, printed, refused, shown, steps_to_make, unless_broken};
+ghost use Rattle.command_text.specs.Answering.{carried_all, commands_of, informed, made_or, next_stated, plain, printed, refused, shown, steps_to_make, unless_broken};
 ghost use Rattle.command_text.specs.Laws.{cut_at};
 ghost use Rattle.command_text.specs.Readings.{IsReading, Reading};
 ghost use Rattle.command_text.specs.Answers.{answer_text, line};
 ghost use Rattle.command_core.specs.declared.states.State.TheVariants.{Loaded};
-ghost use Rattle.command_serving.specs.Input.{CountsTaken, left_of};
+ghost use Rattle.command_serving.specs.Input.{Counts, left_of};
+ghost use Rattle.command_serving.specs.Knowing.{Fits, How};
 ghost use Rattle.command_serving.specs.Streams.{HandsOn};
-ghost use Rattle.command_serving.specs.Served.{EndsOrIsCut, HasCause, Tells};
+ghost use Rattle.command_serving.specs.Served.{EndsOrIsCut, HasCause, IsInputOf, Tells};
 ghost use Rattle.command_serving.specs.Serving.{Answers, GoesOn, HasNoJob, IsAppliedOn, IsCause, denied, goes_behind, load_reply, load_told, progress_of, silent};
 ghost use Rattle.command_serving.specs.Stopped.{RunsLeave};
 ghost use Rattle.command_serving.specs.declared.answering.ServeFault.TheVariants.{WriteFault};
@@ -20,8 +21,9 @@ use crate::input::{Input, LoadText, Unread};
 use crate::streams::{Failed, Sink, Source};
 use command_core::{Command, Job, Refusal, State};
 use command_text::{
-    Answer, Asked, Goal, Steps, at_line, help_lines, makes_steps, next_command, next_line,
-    pieces_follow, print, read_instance, show, states_follow, steps_to_make,
+    Answer, Asked, Goal, Question, Steps, at_line, help_lines, makes_steps, next_command,
+    next_line, pieces_follow, print, question_refusal, question_text, read_instance, show,
+    states_follow, steps_to_make,
 };
 use plan_types::Kind;
 use recover::{Denial, Reply, Session, runs_add_up};
@@ -71,9 +73,9 @@ enum Goes {
 /// Does what each line of the input asks for, and writes its answer, until the input ends, or a `load` line leaves open
 /// how many bytes follow it. Takes no memory to read lines.
 ///
-/// `ok` and `at` stand behind the last sync of what they acknowledge. Where the bytes of the input are known and all are
-/// served, what is written is the answer to them, and the session has carried out just the commands that it says, up to
-/// a failed device.
+/// `ok` and `at` stand behind the last sync of what they acknowledge. Where all of the input is served, what is written is the
+/// answer to it, and the session has carried out just the commands that it says, up to a failed device. The input is what is
+/// known of it beforehand, or each text that its reads gave piece by piece (`IsInputOf`).
 ///
 /// # Errors
 ///
@@ -86,12 +88,12 @@ pub fn serve<D: Sectors, R: Source, W: Sink>(
     writer: &mut W,
 ) -> Result<(), ServeFault>
     ensures serves { (reading : Reading) (input : List ℕ) → IsReading reading
-        → R.remaining reader.old ≡ Some input
+        → IsInputOf R.Source reader.old reader.new input
         → EndsOrIsCut D.Sectors result reading session.old input
         (W.stream writer.old) (W.stream writer.new) session.new }
     ensures moments { RunsLeave D.Sectors session.old session.new }
     ensures origin { W.origin writer.new ≡ W.origin writer.old }
-    ensures cause { (input : List ℕ) → R.remaining reader.old ≡ Some input
+    ensures cause { (input : List ℕ) → IsInputOf R.Source reader.old reader.new input
         → IfErr result (λ fault. HasCause fault (R.has_failed reader.new)
         (W.has_failed writer.new) (length input)) }
 {
@@ -109,15 +111,14 @@ fn serve_lines<D: Sectors, R: Source, W: Sink>(
     input: &mut Input,
     writer: &mut W,
 ) -> Result<(), ServeFault>
-    ensures serves { (reading : Reading) (bytes : List ℕ) → IsReading reading
-        → left_of R.remaining input.old reader.old ≡ Some bytes
+    ensures serves { (reading : Reading) (bytes : List ℕ) (how : How) → IsReading reading
+        → Fits R.Source how reader.new → left_of R.Source how input.old reader.old ≡ Some bytes
         → EndsOrIsCut D.Sectors result reading session.old bytes
         (W.stream writer.old) (W.stream writer.new) session.new }
     ensures origin { W.origin writer.new ≡ W.origin writer.old }
     ensures cause { IfErr result (λ fault. IsCause fault (R.has_failed reader.new)
         (W.has_failed writer.new) input.new.left) }
-    ensures counted { CountsTaken (left_of R.remaining input.old reader.old) input.old.left
-        (left_of R.remaining input.new reader.new) input.new.left }
+    ensures counted { Counts R.Source input.old reader.old input.new reader.new }
 {
     pieces_follow();
     states_follow();
@@ -140,16 +141,15 @@ fn serve_asked<D: Sectors, R: Source, W: Sink>(
     writer: &mut W,
     asked: Asked,
 ) -> Result<Goes, ServeFault>
-    ensures serves { (reading : Reading) (rest : List ℕ) → IsReading reading
-        → left_of R.remaining input.old reader.old ≡ Some rest
+    ensures serves { (reading : Reading) (rest : List ℕ) (how : How) → IsReading reading
+        → Fits R.Source how reader.new → left_of R.Source how input.old reader.old ≡ Some rest
         → GoesOn D.Sectors result reading session.old (cut_at asked rest)
         (W.stream writer.old) (W.stream writer.new) session.new
-        (left_of R.remaining input.new reader.new) }
+        (left_of R.Source how input.new reader.new) }
     ensures origin { W.origin writer.new ≡ W.origin writer.old }
     ensures cause { IfErr result (λ fault. IsCause fault (R.has_failed reader.new)
         (W.has_failed writer.new) input.new.left) }
-    ensures counted { CountsTaken (left_of R.remaining input.old reader.old) input.old.left
-        (left_of R.remaining input.new reader.new) input.new.left }
+    ensures counted { Counts R.Source input.old reader.old input.new reader.new }
     ensures less { input.new.left ≤ input.old.left }
 {
     match asked {
@@ -172,6 +172,9 @@ fn serve_asked<D: Sectors, R: Source, W: Sink>(
         Asked::Steps(goal) => once(serve_steps(alloc, session, writer, goal), Goes::On),
         Asked::Print => once(serve_print(alloc, session, writer), Goes::On),
         Asked::Show => once(serve_show(alloc, session, writer), Goes::On),
+        Asked::Tell(question) => {
+            once(serve_question(alloc, session, writer, question), Goes::On)
+        }
         Asked::Next => once(serve_next(session, writer), Goes::On),
         Asked::Help => once(tell_line(session, writer, help_lines()), Goes::On),
     }
@@ -505,6 +508,32 @@ fn serve_show<D: Sectors, W: Sink>(
     match show(alloc, job) {
         Ok(text) => tell_text(session, writer, text.as_bytes()),
         Err(_) => tell(session, writer, Answer::Refused(Refusal::OutOfMemory)),
+    }
+}
+
+// Tells what the job is asked, unless it refuses to.
+fn serve_question<D: Sectors, W: Sink>(
+    alloc: Global,
+    session: &Session<D>,
+    writer: &mut W,
+    question: Question,
+) -> Result<(), Failed>
+    ensures answers { Answers D.Sectors result session.now
+        (λ s. unless_broken s (informed question s s.state))
+        (W.stream writer.old) (W.stream writer.new) session.now silent }
+    ensures failed { OnErr result (W.has_failed writer.new ≡ true) }
+    ensures origin { W.origin writer.new ≡ W.origin writer.old }
+{
+    let job = match job_of(session) {
+        Ok(job) => job,
+        Err(answer) => return tell(session, writer, answer),
+    };
+    match question_refusal(job, question) {
+        Some(refusal) => tell(session, writer, Answer::Refused(refusal)),
+        None => match question_text(alloc, job, question) {
+            Ok(text) => tell_text(session, writer, text.as_bytes()),
+            Err(_) => tell(session, writer, Answer::Refused(Refusal::OutOfMemory)),
+        },
     }
 }
 

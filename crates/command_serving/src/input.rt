@@ -5,7 +5,7 @@
 ghost use Rattle.std.specs.Prelude.{◌≡◌, ◌≤◌, ◌<◌, ◌+◌, ◌-◌, ◌++◌, IfOk, MatchResult, OnErr, OnSome, ℕ, List, [], length};
 ghost use Rattle.std.specs.Str.Lines.{strip_carriage_return};
 ghost use Rattle.command_text.specs.Asking.{asked};
-ghost use Rattle.command_serving.specs.Input.{CountsTaken, CutsNext, EndsFree, IsLast, IsLineSoFar, IsTextSoFar, IsUnread, Loads, TakesLess, TakesMore, TakesPart, TakesShown, TakesText, left_of};
+ghost use Rattle.command_serving.specs.Input.{Between, Counts, CutsNext, EndsFree, IsLast, IsLineSoFar, IsTextSoFar, IsUnread, Loads, TakesLess, TakesMore, TakesPart, TakesShown, TakesText};
 
 use crate::ahead::Ahead;
 use crate::streams::{Failed, Source};
@@ -225,10 +225,9 @@ impl Input {
 
     /// What the next line asks for, or `None` where there is none. A line ends with a line feed or with the input.
     pub(crate) fn next_asked<R: Source>(&mut self, reader: &mut R) -> Result<Option<Asked>, Unread>
-        ensures cuts { IfOk result (λ next. CutsNext next
-            (left_of R.remaining self.old reader.old) (left_of R.remaining self.new reader.new)) }
-        ensures counted { CountsTaken (left_of R.remaining self.old reader.old) self.old.left
-            (left_of R.remaining self.new reader.new) self.new.left }
+        ensures cuts { IfOk result (λ next. Between R.Source self.old reader.old self.new reader.new
+            (CutsNext next)) }
+        ensures counted { Counts R.Source self.old reader.old self.new reader.new }
         ensures less { IfOk result (λ next. OnSome next (self.new.left < self.old.left)) }
         ensures unread { OnErr result (IsUnread (R.has_failed reader.new) self.new.left) }
     {
@@ -245,10 +244,9 @@ impl Input {
 
     // Takes and counts what is read of the line.
     fn take_line<R: Source>(&mut self, reader: &mut R) -> Result<Part, Unread>
-        ensures part { IfOk result (TakesPart (left_of R.remaining self.old reader.old)
-            (left_of R.remaining self.new reader.new) self.old.line self.new.line) }
-        ensures counted { CountsTaken (left_of R.remaining self.old reader.old) self.old.left
-            (left_of R.remaining self.new reader.new) self.new.left }
+        ensures part { IfOk result (λ part. Between R.Source self.old reader.old self.new reader.new
+            (λ old new. TakesPart old new self.old.line self.new.line part)) }
+        ensures counted { Counts R.Source self.old reader.old self.new reader.new }
         ensures less { IfOk result (TakesLess self.old.left self.new.left) }
         ensures unread { OnErr result (IsUnread (R.has_failed reader.new) self.new.left) }
     {
@@ -266,10 +264,9 @@ impl Input {
         reader: &mut R,
         len: usize,
     ) -> Result<LoadText, Unread>
-        ensures loads { IfOk result (Loads len (left_of R.remaining self.old reader.old)
-            (left_of R.remaining self.new reader.new)) }
-        ensures counted { CountsTaken (left_of R.remaining self.old reader.old) self.old.left
-            (left_of R.remaining self.new reader.new) self.new.left }
+        ensures loads { IfOk result (λ text. Between R.Source self.old reader.old self.new reader.new
+            (λ old new. Loads len old new text)) }
+        ensures counted { Counts R.Source self.old reader.old self.new reader.new }
         ensures less { self.new.left ≤ self.old.left }
         ensures unread { OnErr result (IsUnread (R.has_failed reader.new) self.new.left) }
     {
@@ -288,10 +285,9 @@ impl Input {
 
     // Takes and counts what is read of the text, and says whether that is anything.
     fn take_more<R: Source>(&mut self, reader: &mut R, text: &mut TextSoFar) -> Result<bool, Unread>
-        ensures more { IfOk result (TakesMore (left_of R.remaining self.old reader.old)
-            (left_of R.remaining self.new reader.new) text.old text.new) }
-        ensures counted { CountsTaken (left_of R.remaining self.old reader.old) self.old.left
-            (left_of R.remaining self.new reader.new) self.new.left }
+        ensures more { IfOk result (λ some. Between R.Source self.old reader.old self.new reader.new
+            (λ old new. TakesMore old new text.old text.new some)) }
+        ensures counted { Counts R.Source self.old reader.old self.new reader.new }
         ensures less { self.new.left ≤ self.old.left }
         ensures unread { OnErr result (IsUnread (R.has_failed reader.new) self.new.left) }
     {

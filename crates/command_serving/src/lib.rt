@@ -9,11 +9,11 @@
 //! one only what tells whether its first word is `load`. So lines take no memory, and no want of it looks like a
 //! reader that failed; the text behind a `load` does. `ok` and `at` are written behind the last sync of what they
 //! acknowledge, and each answer is flushed. Each call of a sink is handed the session, so that clauses see what was put and
-//! flushed when how many calls of the device had finished.
+//! flushed when how many calls of the device had finished. What reads of a source gave is noted, for clauses alone.
 //!
 //! Modules, in reading order:
 //! - `streams`: `Source`, `Sink`, and `Watched`, which makes one of each reader and writer of std
-//! - `log`: what was done to a sink, for clauses alone
+//! - `log`: what was done to a sink, and what reads of a source gave, for clauses alone
 //! - `since`: what a writer held at a moment, for clauses alone
 //! - `strict`: `Strict`, a sink whose `flush` fails behind a line that tells a refusal or a failed device
 //! - `ahead`: what was read and not yet taken
@@ -22,8 +22,8 @@
 //! - `laws`: what stops leave of a serving, and the causes of its answers
 //!
 //! Said by `specs/Served.antt`, `Acts.antt`, `Stopped.antt`, `Timely.antt`, `Causes.antt`, `Streams.antt` and
-//! `Strict.antt`. Proved of `serve`,
-//! where the bytes of the input are known:
+//! `Strict.antt`. Proved of `serve`, for an input as it is known beforehand, and for each text that its reads gave piece by piece
+//! (`IsInputOf`, `GaveText`):
 //! - `serves`, after `Ok` (`IsServed`): all is served, what is appended is the answer to the input, and the state
 //!   is the one after the commands that were carried out
 //! - `serves`, behind a `ServeFault` (`IsCutShort`): the answers to a first part of the input stand whole, and of
@@ -31,6 +31,7 @@
 //!   the next tells
 //! - `serves`, in both cases (`run`): what was done are acts, whose commands and replies are a run of the session, and the
 //!   answers are those that follow these replies
+//! - `serves`, in both cases (`AreAsked`): each command that was tried, done or denied, is the one that the input asked for then
 //! - `serves`, in both cases (`AreTold`): acts are told turn by turn, one act at most and then a flush, and each text is put when
 //!   the calls of the command that it tells have finished. The answers to each line are flushed before the next one is begun
 //!   (`AreAnswered`). So, by the clause `told` of `stopped_servings_recover`, what was put by m finished calls tells commands alone
@@ -46,6 +47,8 @@
 //! - `origin`: where a sink began to follow what is written, no serving changes, so of a `Strict` the last line is that of the
 //!   answers
 //! - what a whole line asks for does not depend on the pieces in which its bytes come (`input`)
+//!
+//! Where a byte comes behind an end, as a terminal may give it, there is no such text, and nothing is said.
 //!
 //! Not excluded by these clauses: a try that answers `OutOfMemory` though there is memory, a `flush` that hands nothing on, and
 //! a `Watched` that fails always and notes it, since of std's readers and writers no contract says when a call may fail, nor

@@ -1,11 +1,13 @@
 //! Where commands come from and answers go: readers and writers that tell whether they have failed.
 //!
 //! Std's `Read` and `Write` don't say when a call may fail. A `Source` and a `Sink` tell whether one has, so that a
-//! fault has a cause which a contract can name. A slice of bytes is a source that never fails.
+//! fault has a cause which a contract can name. Nor does std know a byte of standard input: so what reads gave is noted, for
+//! clauses alone, and what is said of an input is said of each text that they gave piece by piece. A slice of bytes is a source
+//! that never fails.
 ghost use Rattle.std.specs.Prelude.{◌≡◌, ◌<◌, ◌≤◌, [], ℕ, List, Option, Bool, true, false, None, Some, IfOk, IfSome, IsNone, OnErr, length, take};
 ghost use Rattle.std.specs.Io.{ReadsAtMost};
 ghost use Rattle.std.specs.Io.KnownBytes.{Appends, Keeps, ReadConsumes};
-ghost use Rattle.command_serving.specs.Streams.{Flushes, Puts, ReadsSome, Stream, WritesSome, WritesUpTo};
+ghost use Rattle.command_serving.specs.Streams.{Flushes, GaveText, Puts, ReadsSome, Stream, WritesSome, WritesUpTo, left_behind};
 
 use crate::log::Log;
 use recover::Session;
@@ -22,6 +24,12 @@ pub trait Source {
     // The bytes that are still to come, where they are known.
     ghost remaining: { Self → Option (List ℕ) };
 
+    // In all calls so far it gave this text piece by piece, and nothing only at its end. More of it may come.
+    ghost gave: { Self → List ℕ → Type 0 };
+
+    // What is left of such a text.
+    ghost left: { Self → List ℕ → List ℕ };
+
     // Whether a call has failed.
     ghost has_failed: { Self → Bool };
 
@@ -29,6 +37,9 @@ pub trait Source {
     fn read_some(&mut self, block: &mut [u8]) -> Result<usize, Failed>
         ensures bound { ReadsAtMost result block.new }
         ensures bytes { ReadConsumes (remaining self.old) (remaining self.new) result block.new }
+        ensures gave { (text : List ℕ) → gave self.new text → gave self.old text }
+        ensures text { (text : List ℕ) → gave self.new text
+            → ReadConsumes (Some (left self.old text)) (Some (left self.new text)) result block.new }
         ensures failed { OnErr result (has_failed self.new ≡ true) };
 }
 
@@ -80,6 +91,7 @@ impl<T> Watched<T> {
         ensures inner { result.inner ≡ inner }
         ensures has_failed { result.has_failed ≡ false }
         ensures log { result.log.events ≡ [] }
+        ensures reads { result.log.reads ≡ [] }
     {
         Watched {
             inner,
@@ -107,6 +119,7 @@ impl<T> Watched<T> {
         ensures inner { result.0 ≡ self.inner }
         ensures has_failed { result.1.has_failed ≡ self.has_failed }
         ensures log { result.1.log.events ≡ self.log.events }
+        ensures reads { result.1.log.reads ≡ self.log.reads }
     {
         let Watched {
             inner,
@@ -121,6 +134,7 @@ impl<T> Watched<T> {
         ensures inner { result.inner ≡ inner }
         ensures has_failed { result.has_failed ≡ noted.has_failed }
         ensures log { result.log.events ≡ noted.log.events }
+        ensures reads { result.log.reads ≡ noted.log.reads }
     {
         let Noted { has_failed, log } = noted;
         Watched {
@@ -131,15 +145,24 @@ impl<T> Watched<T> {
     }
 }
 
-/// A call that a signal came between is made again.
+/// A call that a signal came between is made again. What reads with room gave is noted.
 impl<R: Read> Source for Watched<R> {
     ghost remaining = { λ r. R.remaining r.inner };
+
+    ghost gave = { λ r text. GaveText r.log.reads text };
+
+    ghost left = { λ r text. left_behind r.log.reads text };
 
     ghost has_failed = { λ r. r.has_failed };
 
     fn read_some(&mut self, block: &mut [u8]) -> Result<usize, Failed> {
         match read_once(&mut self.inner, block) {
-            Some(len) => Ok(len),
+            Some(len) => {
+                if !block.is_empty() {
+                    self.log = self.log.with_read(&block[..len]);
+                }
+                Ok(len)
+            }
             None => {
                 self.has_failed = true;
                 Err(Failed)
@@ -205,9 +228,13 @@ impl<W: Write> Write for Watched<W> {
     }
 }
 
-/// It can't fail.
+/// It can't fail. Its bytes are known, and reads of it are not noted.
 impl Source for &[u8] {
     ghost remaining = { λ s. Some s.now };
+
+    ghost gave = { λ _ _. ⊥ };
+
+    ghost left = { λ s _. s.now };
 
     ghost has_failed = { λ _. false };
 

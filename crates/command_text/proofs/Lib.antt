@@ -2,6 +2,8 @@ pub mod AgainLemmas
 pub mod CutLemmas
 pub mod FieldLemmas
 pub mod ReadLemmas
+pub mod ReadingLemmas
+pub mod RouteLemmas
 pub mod ScanLemmas
 pub mod StagingLemmas
 pub mod StateLemmas

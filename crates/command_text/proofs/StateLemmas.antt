@@ -11,15 +11,17 @@ use Rattle.command_core.specs.declared.states.State.TheVariants.{Empty, Loaded}
 use Rattle.command_core.specs.declared.commands.Command.{Command}
 use Rattle.command_core.specs.declared.commands.Command.TheVariants as command
 use Rattle.command_core.specs.declared.refusals.Refusal.{Refusal}
-use Rattle.command_text.specs.Answering.{Fate, Done, NoMemory, Spent, Failed, Serving, Reply, answered, by_fate, carried, load, loaded, next_fate, next_stated, asked_reply, printed, refused, reply, steps_to_make, commands_of, carried_all, made_or, served, shown, told, told_behind, tried, unless_broken, unless_refused, with_text}
+use Rattle.command_text.specs.Answering.{Fate, Done, NoMemory, Spent, Failed, Serving, Reply, answered, by_fate, carried, informed, load, loaded, next_fate, next_stated, asked_reply, printed, refused, reply, steps_to_make, commands_of, carried_all, made_or, served, shown, told, told_behind, told_unless, tried, unless_broken, unless_refused, with_text}
 use Rattle.command_text.specs.Cutting.{Piece, is_short}
 use Rattle.command_text.specs.Laws.{StatesFollow}
+use Rattle.command_text.specs.Questions.{question_refusal, question_text}
 use Rattle.command_text.specs.Readings.{Reading}
 use Rattle.command_text.specs.Showing.{print_text, show_text}
 use Rattle.command_text.specs.declared.answers.Answer.TheVariants as answer
 use Rattle.command_text.specs.declared.asked.Asked.{Asked}
+use Rattle.command_text.specs.declared.questions.Question.{Question}
 use Rattle.command_text.specs.declared.steps.Steps.{Steps as StepsLeft}
-use Rattle.command_text.specs.declared.asked.Asked.TheVariants.{Nothing, BadLine, BadLoad, LoadRange, Load, Plain, Refused, Steps, Print, Show, Next, Help}
+use Rattle.command_text.specs.declared.asked.Asked.TheVariants.{Nothing, BadLine, BadLoad, LoadRange, Load, Plain, Refused, Steps, Print, Show, Tell, Next, Help}
 
 abbrev Follows : Serving → Reply → Type 0
 Follows s r = r.left.state ≡ after s.state r.commands
@@ -66,6 +68,14 @@ prints s Empty = refl
 prints s (Loaded j) =
     one_of (unplanned_count j.problem j.plan == 0) s (told (next_fate s.fates) (tried s) (print_text j)) (answered s answer.Unplanned) (tells (next_fate s.fates) (tried s) (print_text j)) refl
 
+tells_unless : (r : Option Refusal) (s : Serving) (text : List ℕ) → Follows s (told_unless r s text)
+tells_unless (Some r) s text = refl
+tells_unless None s text = tells (next_fate s.fates) (tried s) text
+
+informs : (q : Question) (s : Serving) (state : State) → Follows s (informed q s state)
+informs q s Empty = refl
+informs q s (Loaded j) = tells_unless (question_refusal j q) s (question_text j q)
+
 states_next : (s : Serving) (state : State) → Follows s (next_stated s state)
 states_next s Empty = refl
 states_next s (Loaded j) = refl
@@ -100,6 +110,7 @@ answers reading s (Refused r) text short = unbroken s (refused s s.state r) (ref
 answers reading s (Steps g) text short = unbroken s (made_or s (steps_to_make s.state g)) (makes_or s (steps_to_make s.state g))
 answers reading s Print text short = unbroken s (printed s s.state) (prints s s.state)
 answers reading s Show text short = unbroken s (shown s s.state) (shows s s.state)
+answers reading s (Tell q) text short = unbroken s (informed q s s.state) (informs q s s.state)
 answers reading s Next text short = unbroken s (next_stated s s.state) (states_next s s.state)
 answers reading s Help text short = refl
 

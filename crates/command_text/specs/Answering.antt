@@ -14,20 +14,22 @@ use Rattle.command_core.specs.declared.refusals.Refusal.{Refusal}
 use Rattle.command_core.specs.declared.refusals.Refusal.TheVariants.{NoInstance, Range, StepsSpent, OutOfMemory}
 use Rattle.command_text.specs.Answers.{answer_text, at_text, help_text, line, next_text}
 use Rattle.command_text.specs.Cutting.{Piece, is_short, pieces_of}
+use Rattle.command_text.specs.Questions.{question_refusal, question_text}
 use Rattle.command_text.specs.Readings.{Reading}
 use Rattle.command_text.specs.Showing.{print_text, show_text}
 use Rattle.command_text.specs.Staging.{commands_in_stage, stage_commands}
 use Rattle.command_text.specs.declared.answers.Answer.{Answer}
 use Rattle.command_text.specs.declared.answers.Answer.TheVariants as answer
 use Rattle.command_text.specs.declared.asked.Asked.{Asked}
-use Rattle.command_text.specs.declared.asked.Asked.TheVariants.{Nothing, BadLine, BadLoad, LoadRange, Load, Plain, Refused, Steps, Print, Show, Next, Help}
+use Rattle.command_text.specs.declared.asked.Asked.TheVariants.{Nothing, BadLine, BadLoad, LoadRange, Load, Plain, Refused, Steps, Print, Show, Tell, Next, Help}
+use Rattle.command_text.specs.declared.questions.Question.{Question}
 use Rattle.command_text.specs.declared.steps.Goal.{Goal}
 use Rattle.command_text.specs.declared.steps.Goal.TheVariants as goal
 use Rattle.command_text.specs.declared.steps.Steps.{Steps as StepsLeft}
 use Rattle.command_text.specs.declared.steps.Steps.TheVariants as makes
 
 -- What became of a try: it was done; memory was refused; there is no room left in the store; the device failed. A try is a command that session
--- and state accept, the text of a `load`, or a `show` or `print` that has something to tell.
+-- and state accept, the text of a `load`, or a line that has something to tell, as `show` and `timetable`.
 pub data Fate : Type 0 where
   Done : Fate
   NoMemory : Fate
@@ -170,6 +172,15 @@ printed s Empty = answered s (answer.Refused NoInstance)
 printed s (Loaded j) =
     if unplanned_count j.problem j.plan == 0 then told (next_fate s.fates) (tried s) (print_text j) else answered s answer.Unplanned
 
+-- what a job is asked, unless it refuses to tell it
+abbrev pub told_unless : Option Refusal → Serving → List ℕ → Reply
+told_unless (Some r) s text = answered s (answer.Refused r)
+told_unless None s text = told (next_fate s.fates) (tried s) text
+
+abbrev pub informed : Question → Serving → State → Reply
+informed q s Empty = answered s (answer.Refused NoInstance)
+informed q s (Loaded j) = told_unless (question_refusal j q) s (question_text j q)
+
 -- lines that take no memory, then `ok`
 abbrev pub stated : Serving → List ℕ → Reply
 stated s text = with_text (line text) (answered s answer.Ok)
@@ -205,6 +216,7 @@ asked_reply reading s (Refused r) text short = unless_broken s (refused s s.stat
 asked_reply reading s (Steps g) text short = unless_broken s (made_or s (steps_to_make s.state g))
 asked_reply reading s Print text short = unless_broken s (printed s s.state)
 asked_reply reading s Show text short = unless_broken s (shown s s.state)
+asked_reply reading s (Tell q) text short = unless_broken s (informed q s s.state)
 asked_reply reading s Next text short = unless_broken s (next_stated s s.state)
 asked_reply reading s Help text short = stated s help_text
 

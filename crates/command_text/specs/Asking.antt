@@ -15,7 +15,9 @@ use Rattle.command_text.specs.declared.fields.Field.{Field}
 use Rattle.command_text.specs.declared.verbs.Verb.{Verb}
 use Rattle.command_text.specs.declared.verbs.Verb.TheVariants as verb
 use Rattle.command_text.specs.declared.asked.Asked.{Asked}
-use Rattle.command_text.specs.declared.asked.Asked.TheVariants.{Nothing, BadLine, BadLoad, LoadRange, Load, Plain, Refused, Steps, Print, Show, Next, Help}
+use Rattle.command_text.specs.declared.asked.Asked.TheVariants.{Nothing, BadLine, BadLoad, LoadRange, Load, Plain, Refused, Steps, Print, Show, Tell, Next, Help}
+use Rattle.command_text.specs.declared.questions.Question.{Question}
+use Rattle.command_text.specs.declared.questions.Question.TheVariants as question
 use Rattle.command_text.specs.declared.steps.Goal.{Goal}
 use Rattle.command_text.specs.declared.steps.Goal.TheVariants as goal
 
@@ -85,12 +87,18 @@ abbrev pub stages_of : Option ℕ → Option ℕ → Option Goal
 stages_of (Some from) (Some to) = if nat_le from to && nat_le to (2 ^ 60) then Some (goal.Stages from to) else None
 stages_of _ _ = None
 
+-- a question whose number has room in its field; what is told where it has not
+abbrev pub question_or : Refusal → Option Question → Asked
+question_or refusal None = Refused refusal
+question_or refusal (Some q) = Tell q
+
 -- a command with no number
 abbrev pub bare_asked : Verb → Asked
 bare_asked verb.Build = Plain command.Build
 bare_asked verb.Checkpoint = Plain command.Checkpoint
 bare_asked verb.Print = Print
 bare_asked verb.Show = Show
+bare_asked verb.Timetable = Tell question.Timetable
 bare_asked verb.Next = Next
 bare_asked verb.Help = Help
 bare_asked _ = BadLine
@@ -99,6 +107,8 @@ bare_asked _ = BadLine
 abbrev pub single_asked : Verb → Field → Asked
 single_asked verb.Withdraw r = plain_or NoSuchRequest (option_map command.Withdraw (as_u32 r))
 single_asked verb.Unpin v = plain_or NoSuchPlace (option_map command.Unpin (as_u32 v))
+single_asked verb.Timetable v = question_or Range (option_map question.VehicleTimetable (as_u32 v))
+single_asked verb.Why r = question_or NoSuchRequest (option_map question.Why (as_u32 r))
 single_asked verb.Search n = steps_or (search_of n.unsigned)
 single_asked verb.Reach n = steps_or (reach_of n.unsigned)
 single_asked verb.Anneal n = steps_or (anneal_of n.unsigned)
@@ -166,6 +176,8 @@ verb_named word =
     if bytes_eq (codes "anneal") word then Some verb.Anneal else
     if bytes_eq (codes "print") word then Some verb.Print else
     if bytes_eq (codes "show") word then Some verb.Show else
+    if bytes_eq (codes "timetable") word then Some verb.Timetable else
+    if bytes_eq (codes "why") word then Some verb.Why else
     if bytes_eq (codes "next") word then Some verb.Next else
     if bytes_eq (codes "help") word then Some verb.Help else None
 

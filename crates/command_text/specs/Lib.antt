@@ -4,6 +4,7 @@ pub mod Answers
 pub mod Asking
 pub mod Cutting
 pub mod Laws
+pub mod Questions
 pub mod Readings
 pub mod Scanning
 pub mod Showing

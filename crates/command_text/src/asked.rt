@@ -6,6 +6,7 @@ ghost use Rattle.text_lines.specs.Numbers.{below};
 ghost use Rattle.command_text.specs.Asking.{add1_of, add_of, anneal_of, asked, bare_asked, begins_load, count_of, double_asked, fields_of, load_asked, load_of, load_within, numbers_asked, pin_of, plain_or, reach_of, search_of, single_asked, spot_asked, spot_of, spots_asked, stages_of, steps_or, verb_asked, words_asked};
 
 use crate::fields::{Field, Fields, integers};
+use crate::questions::Question;
 use crate::steps::Goal;
 use crate::verbs::{Verb, is_word, kind_named, verb_named};
 use command_core::{Command, MAX_STEPS, Refusal, Spot};
@@ -39,6 +40,8 @@ pub enum Asked {
     Steps(Goal),
     Print,
     Show,
+    /// Something about the plan.
+    Tell(Question),
     /// The number that the next order gets.
     Next,
     /// What lines there are.
@@ -127,6 +130,7 @@ fn bare_asked(verb: Verb) -> Asked
         Verb::Checkpoint => Asked::Plain(Command::Checkpoint),
         Verb::Print => Asked::Print,
         Verb::Show => Asked::Show,
+        Verb::Timetable => Asked::Tell(Question::Timetable),
         Verb::Next => Asked::Next,
         Verb::Help => Asked::Help,
         _ => Asked::BadLine,
@@ -144,6 +148,14 @@ fn single_asked(verb: Verb, number: &Field) -> Asked
         Verb::Unpin => match number.as_u32() {
             Some(vehicle) => Asked::Plain(Command::Unpin(vehicle)),
             None => Asked::Refused(Refusal::NoSuchPlace),
+        },
+        Verb::Timetable => match number.as_u32() {
+            Some(vehicle) => Asked::Tell(Question::VehicleTimetable(vehicle)),
+            None => Asked::Refused(Refusal::Range),
+        },
+        Verb::Why => match number.as_u32() {
+            Some(name) => Asked::Tell(Question::Why(name)),
+            None => Asked::Refused(Refusal::NoSuchRequest),
         },
         Verb::Search => steps_or(search_of(number.unsigned)),
         Verb::Reach => steps_or(reach_of(number.unsigned)),

@@ -15,6 +15,8 @@ pub const HELP: &str = "Each line asks for one thing:\n  \
     withdraw R                 takes out the request with this name\n  \
     pin V K, unpin V           keeps the first K stops of vehicle V as they are, or none\n  \
     show, print                the state, or the plan as a solution's text\n  \
+    timetable, timetable V     when each vehicle, or vehicle V, is where\n  \
+    why R                      where and when request R is served, or why it is in no route\n  \
     next                       `next N`: the number that the next order gets, its pickup's if a pair\n  \
     checkpoint                 a snapshot, so that less is repeated at the next run\n  \
     help                       these lines\n\n\

@@ -1,7 +1,10 @@
-//! How an input is cut and answered, each law for every input.
+//! How an input is cut and answered, each law for every input, and that what texts are read as is a function.
 ghost use Rattle.std.specs.Prelude.{◌≡◌, []};
 ghost use Rattle.command_text.specs.Cutting.{pieces_of};
 ghost use Rattle.command_text.specs.Laws.{PiecesEnd, PiecesFollow, StagedLinesMayBeCut, StagesMayBeCut, StatesFollow};
+ghost use Rattle.command_text.specs.Readings.{ReadingsAgree, SomeReadingIs};
+
+use instance_read::each_text_is_read;
 
 /// An input is cut into lines, each `load` line with the bytes that it announces.
 pub fn pieces_follow()
@@ -20,3 +23,12 @@ pub fn stages_may_be_cut()
     ensures commands { StagesMayBeCut }
     ensures lines { StagedLinesMayBeCut }
 {}
+
+/// Each text of either kind spells a problem or has a first fault, and no two of them. So there is a reading, and what is
+/// promised for every reading is promised for that one.
+pub fn texts_have_a_reading()
+    ensures some { SomeReadingIs }
+    ensures one { ReadingsAgree }
+{
+    each_text_is_read();
+}

@@ -1,8 +1,8 @@
 //! The command text, without device and stream: what a line asks for, the bytes that answer it, and the definition of a
 //! whole input's answers. `command_serving` serves a session by it, `plan_solve` tells its steps by it.
 //!
-//! Entry functions: `read_line` for a line; `Answer::line`, `at_line`, `next_line`, `help_lines`, `show` and `print` for
-//! an answer; `steps_to_make` and `next_command` for the commands of a line that asks for steps.
+//! Entry functions: `read_line` for a line; `Answer::line`, `at_line`, `next_line`, `help_lines`, `show`, `print` and
+//! `question_text` for an answer; `steps_to_make` and `next_command` for the commands of a line that asks for steps.
 //!
 //! Source: this project's own.
 //!
@@ -13,7 +13,7 @@
 //!
 //! What becomes of commands is a list of fates, one for each try, and not the number of the one that failed, so want of
 //! memory and a full store have their place; the plain case is the empty list. What a text spells is a function that is
-//! given (`Reading`), with the premise that it tells each text's problem or first fault.
+//! given (`Reading`), with the premise that it tells each text's problem or first fault; there is one.
 //!
 //! Modules, in reading order:
 //! - `verbs`: the names of commands
@@ -25,18 +25,21 @@
 //! - `answers`: the lines that answer
 //! - `help`: what `help` tells
 //! - `showing`: what `show` and `print` write
+//! - `questions`: what is told of a job where a line asks
 //! - `laws`: how an input is cut and answered
 //!
-//! Said by `specs/Asking.antt`, `Cutting.antt`, `Answers.antt`, `Showing.antt`, `Staging.antt` and `Answering.antt`. Proved:
+//! Said by `specs/Asking.antt`, `Cutting.antt`, `Answers.antt`, `Showing.antt`, `Questions.antt`, `Staging.antt` and `Answering.antt`. Proved:
 //! - `read_line`: what a line of any length asks for (`asked`), without memory
 //! - `FirstWord`: whether the first word of a line in parts is `load`
 //! - `Answer::line`, `at_line`, `next_line`, `help_lines`, `show`, `print`: each byte; `print` is read back as the plan's
 //!   routes and distance, and tells how many requests are unplanned
+//! - `question_refusal`, `question_text`: which question is left open, and each byte of what is told
 //! - `steps_to_make`, `next_command`, `next_count`: which steps a line makes, or why it is refused, and the next command
 //! - `read_instance`: what the text spells or its first fault, or want of memory
 //! - `pieces_follow`: an input is cut into lines, each `load` line with the bytes that it announces
 //! - `states_follow`: the state that an input leaves is the one after the commands that were carried out
 //! - `stages_may_be_cut`: annealing by stages that is cut anywhere and asked for again ends in the state of the uncut one
+//! - `texts_have_a_reading`: there is one function that tells each text's problem or first fault
 #![tactic(auto)]
 
 mod answers;
@@ -46,6 +49,7 @@ mod first_word;
 mod help;
 mod instances;
 mod laws;
+mod questions;
 mod showing;
 mod staging;
 mod steps;
@@ -56,6 +60,7 @@ pub use asked::{Asked, MAX_LEN, MAX_LINE, MAX_SEARCH, read_line};
 pub use first_word::FirstWord;
 pub use help::{HELP, help_lines};
 pub use instances::read_instance;
-pub use laws::{pieces_follow, stages_may_be_cut, states_follow};
+pub use laws::{pieces_follow, stages_may_be_cut, states_follow, texts_have_a_reading};
+pub use questions::{Question, question_refusal, question_text};
 pub use showing::{Text, print, show};
 pub use steps::{Goal, Steps, makes_steps, next_command, next_count, steps_to_make};

@@ -21,6 +21,8 @@ pub(crate) enum Verb {
     Anneal,
     Print,
     Show,
+    Timetable,
+    Why,
     Next,
     Help,
 }
@@ -71,6 +73,12 @@ pub(crate) fn verb_named(word: &[u8]) -> Option<Verb>
     }
     if is_word(word, b"show") {
         return Some(Verb::Show);
+    }
+    if is_word(word, b"timetable") {
+        return Some(Verb::Timetable);
+    }
+    if is_word(word, b"why") {
+        return Some(Verb::Why);
     }
     if is_word(word, b"next") {
         return Some(Verb::Next);

@@ -23,3 +23,4 @@ pub mod VrpProblemLemmas
 pub mod ReadVrpLemmas
 pub mod VrpLawProofs
 pub mod KeyLineProofs
+pub mod ReadableLemmas

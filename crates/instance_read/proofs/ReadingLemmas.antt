@@ -43,7 +43,7 @@ compare_splits {A} (z ∷ b) x a (w ∷ c) y d e =
     step (inr (inr earlier)) h = inr (inr (earlier.0, ap (λ q. q ∷ b) h ∙ ap (λ l. w ∷ l) earlier.1))
 
 -- one line more without a fault
-clean_more : (before : List Placed) (p : Placed) → HasNoLineFault before → HasNoKind (place_fault before p.row p.place) → HasNoLineFault (before ++ p ∷ [])
+pub clean_more : (before : List Placed) (p : Placed) → HasNoLineFault before → HasNoKind (place_fault before p.row p.place) → HasNoLineFault (before ++ p ∷ [])
 clean_more before p clean none b q a e =
     by (compare_splits before p [] b q a e)
   where

@@ -9,6 +9,7 @@ pub mod VrpLines
 pub mod Vrp
 pub mod VrpKeys
 pub mod VrpLaws
+pub mod Readable
 -- of private functions alone
 pub mod RowViews
 pub mod FieldValues

@@ -1,4 +1,5 @@
-//! What a line of a `.vrp` text says, and where the lines stand, each law for every text.
+//! What a line of a `.vrp` text says, where the lines stand, and that each text is read: laws for every text.
+ghost use Rattle.instance_read.specs.Readable.{TextsAreRead, TextsAreReadOneWay};
 ghost use Rattle.instance_read.specs.VrpKeys.{AreKeyLines};
 ghost use Rattle.instance_read.specs.VrpLaws.{DepotsAreTwoWords, DimensionAloneAnnounces, EndIsTheEnd, OtherLinesStayOutside, SectionsHaveALineForEachNode};
 
@@ -28,4 +29,11 @@ pub fn depots_are_two_words()
 /// Nothing counts behind EOF.
 pub fn eof_is_the_end()
     ensures { EndIsTheEnd }
+{}
+
+/// Each text spells a problem or has a first fault, in either format, and no two of them: so what a text is read as is a
+/// function of it.
+pub fn each_text_is_read()
+    ensures some { TextsAreRead }
+    ensures one { TextsAreReadOneWay }
 {}

@@ -25,7 +25,7 @@
 //! - `vrp_draft`: what the lines so far have said
 //! - `vrp_problem`: the problem that they spell
 //! - `vrp`: the reader of `.vrp` texts
-//! - `laws`: what lines of a `.vrp` text are, in other words
+//! - `laws`: what lines of a `.vrp` text are, in other words, and that each text is read
 //!
 //! Said by `specs/Lilim.antt`, `Pairs.antt`, `Vrp.antt`, `VrpLines.antt` and `Faults.antt`. Proved:
 //! - `read_lilim`, `read_vrp`: `value`, the problem is the one that the text spells (`SpellsLilim`, `SpellsVrp`);
@@ -35,6 +35,7 @@
 //! - `eof_is_the_end`: nothing counts behind EOF
 //! - `other_lines_stay_outside`: a line of any other key leaves its place outside the sections
 //! - `key_lines_are_made`: key and value are the parts around the first colon
+//! - `each_text_is_read`: each text spells one problem or has one first fault, in either format
 #![tactic(auto)]
 
 mod entries;
@@ -54,8 +55,8 @@ mod vrp_problem;
 
 pub use faults::{ReadFault, ReadFaultKind};
 pub use laws::{
-    depots_are_two_words, eof_is_the_end, key_lines_are_made, other_lines_stay_outside,
-    sections_have_a_line_for_each_node,
+    depots_are_two_words, each_text_is_read, eof_is_the_end, key_lines_are_made,
+    other_lines_stay_outside, sections_have_a_line_for_each_node,
 };
 pub use lilim::read_lilim;
 pub use vrp::read_vrp;

@@ -254,21 +254,3 @@ module _ (found : NamedAreFound) (p : Instance) (valid : IsInstance p) (a b : �
     pub exchanged_is : (t : Bool) → t ≡ list_all (feasible_alone p) (map (map (counterpart r s)) routes) → exchanged p pins routes a b ≡ cond t (Some (map (map (counterpart r s)) routes)) None
     exchanged_is t e =
         rw (apart_eqb a b apart, is_r, is_s, can, passes_where_feasible local says p pins routes good others others_plan (length-map routes (map (counterpart r s))) others_pinned t e) refl
-
--- the same of what the code has: its lists and its answers
-module _ (found : NamedAreFound) (local : PassesAreLocal) (plans : PlansAreLocal) (says : TestsSayFeasible) (p : Instance) (pins routes : List (List ℕ)) (valid : IsInstance p)
-    (good : passes p pins routes ≡ true) (a b : ℕ) (apart : a ≡ b → ⊥) (r s : Request) (is_r : lookup (nat_eq a) p.requests ≡ Some r) (is_s : lookup (nat_eq b) p.requests ≡ Some s)
-    (kept given : List (List ℕ)) (is_pins : kept ≡ pins) (is_routes : given ≡ routes) (can : true ≡ are_exchangeable kept given r s) (new : List (List ℕ)) (is_new : new ≡ map (map (counterpart r s)) given) where
-  exchangeable : are_exchangeable pins routes r s ≡ true
-  exchangeable = ap (λ k. are_exchangeable k routes r s) (sym is_pins) ∙ (ap (λ g. are_exchangeable kept g r s) (sym is_routes) ∙ sym can)
-
-  new_is : new ≡ map (map (counterpart r s)) routes
-  new_is = is_new ∙ ap (map (map (counterpart r s))) is_routes
-
-  pub new_once : All (AreLiveOnce p) new
-  new_once = subst (All (AreLiveOnce p)) (sym new_is) (others_once found p valid a b apart r s is_r is_s local plans says pins routes good exchangeable)
-
-  pub exchanged_answer : (t : Bool) → t ≡ list_all (feasible_alone p) new → cond t (Some new) None ≡ exchanged p pins routes a b
-  exchanged_answer t e =
-      ap (λ (l : List (List ℕ)). cond t (Some l) None) new_is
-      ∙ sym (exchanged_is found p valid a b apart r s is_r is_s local plans says pins routes good exchangeable t (e ∙ ap (list_all (feasible_alone p)) new_is))

@@ -207,23 +207,3 @@ module _ (found : NamedAreFound) (local : PassesAreLocal) (says : TestsSayFeasib
 
   pub put_in_is : (b : Bool) → b ≡ feasible_alone p (inserted r x.1 x.2 (of_vehicle routes x.0)) → put_in p pins routes name x ≡ cond b (Some (with_request_at routes r x)) None
   put_in_is b e = rw (named, free, place, passes_where_feasible b e) refl
-
--- the same of what the code has: its lists and its answers
-module _ (found : NamedAreFound) (local : PassesAreLocal) (says : TestsSayFeasible) (p : Instance) (pins routes : List (List ℕ)) (valid : IsInstance p) (good : passes p pins routes ≡ true)
-    (name : ℕ) (r : Request) (named : lookup (nat_eq name) p.requests ≡ Some r) (x : Insertion) (kept given : List (List ℕ)) (is_pins : kept ≡ pins) (is_routes : given ≡ routes)
-    (free : false ≡ is_planned given r) (place : true ≡ is_place_of kept given r x) (new old : List ℕ) (is_new : new ≡ inserted r x.1 x.2 old) (is_old : old ≡ of_vehicle given x.0) where
-  not_planned : is_planned routes r ≡ false
-  not_planned = ap (λ g. is_planned g r) (sym is_routes) ∙ sym free
-
-  at_place : is_place_of pins routes r x ≡ true
-  at_place = ap (λ k. is_place_of k routes r x) (sym is_pins) ∙ (ap (λ g. is_place_of kept g r x) (sym is_routes) ∙ sym place)
-
-  new_is : new ≡ inserted r x.1 x.2 (of_vehicle routes x.0)
-  new_is = is_new ∙ ap (inserted r x.1 x.2) (is_old ∙ ap (λ g. of_vehicle g x.0) is_routes)
-
-  pub new_asked : AreLiveOnce p new
-  new_asked = subst (AreLiveOnce p) (sym new_is) (route_once found local says p pins routes valid good name r named not_planned x at_place)
-
-  pub put_in_answer : (b : Bool) → b ≡ feasible_alone p new → cond b (Some (with_route routes x.0 new)) None ≡ put_in p pins routes name x
-  put_in_answer b e =
-      ap (λ l. cond b (Some (with_route routes x.0 l)) None) new_is ∙ sym (put_in_is found local says p pins routes valid good name r named not_planned x at_place b (e ∙ ap (feasible_alone p) new_is))

@@ -9,6 +9,7 @@ pub mod Costs
 pub mod Counting
 pub mod Crossing
 pub mod Drafting
+pub mod Exchanged
 pub mod Exchanging
 pub mod Fitting
 pub mod Fronts
@@ -17,6 +18,7 @@ pub mod Inserting
 pub mod Installing
 pub mod Keeping
 pub mod Leaving
+pub mod LimitRules
 pub mod Logging
 pub mod Places
 pub mod Placing
@@ -25,6 +27,8 @@ pub mod Putting
 pub mod Refreshing
 pub mod Removing
 pub mod Replacing
+pub mod Restoring
 pub mod Seating
+pub mod TakenOut
 pub mod Times
 pub mod Touring

@@ -1,11 +1,12 @@
 -- The log of a draft, in which no vehicle stands twice.
-use Rattle.std.proofs.Common.{◌≡◌, ℕ, zero, suc, ◌+◌, ◌-◌, ◌<◌, ◌≤◌, ◌||◌, Bool, true, false, eqb, List, [], ◌∷◌, ◌++◌, length, drop, set, get_or, Option, None, Some, slice_get, refl, sym, ap, subst, ◌∙◌, inl, inr, arith}
-use Rattle.std.specs.Prelude.{MatchOption}
-use Rattle.std.specs.List.{remove}
+use Rattle.std.proofs.Common.{◌≡◌, ℕ, zero, suc, ◌+◌, ◌-◌, ◌<◌, ◌≤◌, ◌||◌, Bool, true, false, eqb, List, [], ◌∷◌, ◌++◌, length, drop, map, set, get_or, Option, None, Some, slice_get, refl, sym, ap, subst, ◌∙◌, inl, inr, arith}
+use Rattle.std.specs.Prelude.{MatchOption, vec_capacity}
+use Rattle.std.specs.List.{list_any, remove, AllByRecursion, IsDistinct}
 use Rattle.std.specs.Option.{is_none, is_some}
 use Rattle.std.proofs.lemmas.Bool.{or_cases}
 use Rattle.std.proofs.lemmas.Bool.Decides.{eqb_tells}
-use Rattle.std.proofs.lemmas.List.{drop_more, length-set}
+use Rattle.std.proofs.lemmas.List.{drop_more, length-map, length-set}
+use Rattle.std.proofs.lemmas.Map.Steps.{length-le_from_distinct_below}
 use Rattle.plan_audit.specs.Passes.{has}
 use Rattle.slack_tables.specs.Course.{Course, route_of}
 use Rattle.move_ops.specs.declared.draft.Draft.TheInside.{Inside}
@@ -143,18 +144,64 @@ pub logged : (o : Option ℕ) (log : List (ℕ × Course)) (v : ℕ) → MatchOp
 logged None log v told some = absurd (let h : false ≡ true = some in cc)
 logged (Some k) log v told some = has_at log k (v, told.0) told.1
 
+-- ---- room for a vehicle that it does not have: with 0 and this vehicle its vehicles are distinct numbers, none above the fleet's
+apart_from : (log : List (ℕ × Course)) (v : ℕ) → is_logged log v ≡ false → AllByRecursion (λ u. eqb v u ≡ false) (map (λ e. e.0) log)
+apart_from [] v none = tt
+apart_from (e ∷ log) v none =
+    let parts = or_false (eqb e.0 v) (is_logged log v) none in
+    let other : eqb v e.0 ≡ false = elim (eqb_tells v e.0) [
+      | inl t ↦ elim (eqb_tells e.0 v) [ inl u ↦ absurd (let k : true ≡ false = sym u.0 ∙ parts.0 in cc) | inr u ↦ absurd (u.1 (sym t.1)) ]
+      | inr t ↦ t.0
+    ] in
+    (other, apart_from log v parts.1)
+
+distinct_once : (log : List (ℕ × Course)) → AreOnce log → IsDistinct eqb (map (λ e. e.0) log)
+unfolding IsDistinct
+distinct_once [] once = tt
+distinct_once (e ∷ log) once = (apart_from log e.0 once.0, distinct_once log once.1)
+
+apart_zero : (n : ℕ) (log : List (ℕ × Course)) → AreWithin n log → AllByRecursion (λ u. eqb 0 u ≡ false) (map (λ e. e.0) log)
+apart_zero n [] all = tt
+apart_zero n (e ∷ log) all =
+    let low = all.0.0 in
+    (elim (eqb_tells 0 e.0) [ inl t ↦ (let h = t.1 in absurd (omega arith)) | inr t ↦ t.0 ], apart_zero n log all.1)
+
+below_all : (n : ℕ) (log : List (ℕ × Course)) → AreWithin n log → (q : ℕ) → list_any (eqb q) (map (λ e. e.0) log) ≡ true → q < n + 1
+below_all n [] all q some = absurd (let h : false ≡ true = some in cc)
+below_all n (e ∷ log) all q some = elim (or_cases (eqb q e.0) (list_any (eqb q) (map (λ e. e.0) log)) some) [
+  | inl here ↦ (let high = all.0.1 in elim (eqb_tells q e.0) [ inl t ↦ (let h = t.1 in omega arith) | inr t ↦ absurd (let k : true ≡ false = sym here ∙ t.0 in cc) ])
+  | inr later ↦ below_all n log all.1 q later
+]
+
+pub room_left : (n : ℕ) (log : List (ℕ × Course)) (v : ℕ) → 1 ≤ v → v ≤ n → AreWithin n log → AreOnce log → is_logged log v ≡ false → length log + 1 ≤ n
+unfolding IsDistinct
+room_left n log v low high all once none =
+    let vehicles = map (λ (e : ℕ × Course). e.0) log in
+    let zero_v : eqb 0 v ≡ false = elim (eqb_tells 0 v) [ inl t ↦ (let h = t.1 in absurd (omega arith)) | inr t ↦ t.0 ] in
+    let most = length-le_from_distinct_below (0 ∷ v ∷ vehicles) (n + 1) ((zero_v, apart_zero n log all), (apart_from log v none, distinct_once log once))
+    (λ q some. elim (or_cases (eqb q 0) (eqb q v || list_any (eqb q) vehicles) some) [
+      | inl here ↦ elim (eqb_tells q 0) [ inl t ↦ (let h = t.1 in omega arith) | inr t ↦ absurd (let k : true ≡ false = sym here ∙ t.0 in cc) ]
+      | inr later ↦ elim (or_cases (eqb q v) (list_any (eqb q) vehicles) later) [
+        | inl here ↦ elim (eqb_tells q v) [ inl t ↦ (let h = t.1 in omega arith) | inr t ↦ absurd (let k : true ≡ false = sym here ∙ t.0 in cc) ]
+        | inr among ↦ below_all n log all q among
+      ]
+    ]) in
+    let long = length-map log (λ (e : ℕ × Course). e.0) in
+    omega arith
+
 -- ---- what a draft keeps where a vehicle gets another tour
 pub kept_with : (old new : Inside) (v : ℕ) (tour : Course) (seats : List ℕ) → IsKept old → new.tours.items ≡ set old.tours.items (v - 1) tour → new.seats.items ≡ seats
     → ((n : ℕ) → slice_get seats n ≡ Some 0 → has (route_of tour) n ≡ false) → ((n : ℕ) → slice_get seats n ≡ Some 0 → slice_get old.seats.items n ≡ Some 0)
     → 1 ≤ v → v ≤ length old.tours.items → old.front ≤ new.front → v ≤ new.front → ((k : ℕ) → old.front ≤ k → v ≤ k → new.front ≤ k)
-    → AreWithin (length old.tours.items) new.log.items → AreOnce new.log.items → IsKept new
-kept_with old new v tour seats kept is_tours is_seats out others from within low high least logs once =
+    → AreWithin (length old.tours.items) new.log.items → AreOnce new.log.items → vec_capacity new.log ≡ vec_capacity old.log → IsKept new
+kept_with old new v tour seats kept is_tours is_seats out others from within low high least logs once room =
     let long = ap length is_tours ∙ length-set old.tours.items (v - 1) tour in
     record {
       seats = subst (λ (l : List ℕ). AreSeats l (plan_of new.tours.items)) (sym is_seats)
           (subst (λ (l : List Course). AreSeats seats (plan_of l)) (sym is_tours) (seats_with old.seats.items seats old.tours.items (v - 1) tour kept.seats out others));
       within = subst (λ (k : ℕ). AreWithin k new.log.items) (sym long) logs;
       once = once;
+      room = (let had = kept.room in omega arith);
       front = (let most = least (length old.tours.items) kept.front within in omega arith);
       idle = front_with old.tours.items new.tours.items v tour old.front new.front is_tours from kept.idle low high;
     }

@@ -1,27 +1,26 @@
--- A request put at its best insertion.
-use Rattle.std.proofs.Common.{◌≡◌, ℕ, ◌+◌, ◌≤◌, ◌&&◌, true, false, leb, ltb, eqb, List, length, Option, Some, refl, subst, arith, nat_eq}
-use Rattle.std.specs.Prelude.{MatchOption, [], ◌^◌}
+-- A request put in at a place where it can be put.
+use Rattle.std.proofs.Common.{◌≡◌, ℕ, ◌+◌, ◌≤◌, ◌&&◌, true, false, leb, ltb, eqb, cond, Bool, List, length, Some, None, refl, ap, ◌∙◌, arith, nat_eq}
 use Rattle.std.specs.List.{concat}
 use Rattle.std.specs.Map.{lookup}
 use Rattle.std.proofs.lemmas.Bool.{and_from, and_parts, ltb-true, lt-ltb}
 use Rattle.plan_types.specs.Instance.{Instance, IsInstance}
 use Rattle.plan_types.specs.Laws.{NamedAreFound, RequestsStandByName, StopsAreBelowNext}
+use Rattle.plan_types.specs.Request.{request_name}
 use Rattle.plan_types.specs.declared.requests.Request.{Request}
 use Rattle.plan_types.specs.declared.requests.Request.TheVariants.{Single, Pair}
-use Rattle.route_sched.specs.Cost.{is_planned, unplanned_count, total_length}
+use Rattle.route_sched.specs.Cost.{is_planned, unplanned_count}
 use Rattle.route_sched.specs.Route.{AreLiveOnce}
-use Rattle.slack_tables.specs.Insertion.{inserted, KeepsLimits}
 use Rattle.plan_audit.specs.Locality.{PassesAreLocal, TestsSayFeasible}
-use Rattle.plan_audit.specs.Passes.{passes}
-use Rattle.move_ops.specs.Insertion.{Insertion, of_vehicle, with_request_at, insertions, insertions_of, are_places, is_place_of, best_insertion}
-use Rattle.move_ops.specs.Laws.{BestInsertionsAreLeast, IsBest}
-use Rattle.move_ops.specs.Drafts.{placed}
+use Rattle.plan_audit.specs.Passes.{passes, feasible_alone}
+use Rattle.move_ops.specs.Insertion.{Insertion, of_vehicle, with_request_at, inserted, are_places, is_place_of, put_in}
+use Rattle.move_ops.specs.Changes.{IsPut}
 use Rattle.move_ops.proofs.Times.{times}
-use Rattle.move_ops.proofs.Inserting.{numbers_of, route_once}
-use Rattle.move_ops.proofs.Places.{within, listed}
+use Rattle.move_ops.proofs.Inserting.{numbers_of, route_once, passes_where_feasible, put_in_is}
+use Rattle.move_ops.proofs.Places.{contained, to_list}
 use Rattle.move_ops.proofs.Choosing.{Fits, insertion_fits}
 use Rattle.move_ops.proofs.Costs.{often_with}
 use Rattle.move_ops.proofs.Counting.{one_more_planned, planned_where, plan_small}
+use Rattle.move_ops.proofs.Replacing.{parts}
 
 -- places behind a pin are places behind no pin
 no_pin : (r : Request) (kept n i j : ℕ) → are_places r kept n i j ≡ true → are_places r 0 n i j ≡ true
@@ -34,48 +33,56 @@ no_pin (Pair c d) kept n i j t =
     let less = ltb-true kept i a.0 in
     and_from (ltb 0 i) (ltb i j && leb j (n + 2)) (lt-ltb 0 i (omega arith)) a.1
 
-module _ (law : NamedAreFound) (stand : RequestsStandByName) (local : PassesAreLocal) (says : TestsSayFeasible) (least : BestInsertionsAreLeast) (below : StopsAreBelowNext)
-    (p : Instance) (pins routes : List (List ℕ)) (valid : IsInstance p) (good : passes p pins routes ≡ true) (name : ℕ) (r : Request) (named : lookup (nat_eq name) p.requests ≡ Some r)
-    (x : Insertion) (best : best_insertion p pins routes name ≡ Some x) where
-  is_best : IsBest p pins routes r x
-  is_best = subst (λ (o : Option Insertion). MatchOption o (insertions p pins routes name ≡ []) (IsBest p pins routes r)) best (least p pins routes name r named)
+-- a place behind its pin is one behind no pin
+pub open_places : (pins routes : List (List ℕ)) (r : Request) (x : Insertion) → is_place_of pins routes r x ≡ true → are_places r 0 (length (of_vehicle routes x.0)) x.1 x.2 ≡ true
+open_places pins routes r x place =
+    let a = and_parts (leb 1 x.0) (leb x.0 (length routes) && are_places r (length (of_vehicle pins x.0)) (length (of_vehicle routes x.0)) x.1 x.2) place in
+    let b = and_parts (leb x.0 (length routes)) (are_places r (length (of_vehicle pins x.0)) (length (of_vehicle routes x.0)) x.1 x.2) a.1 in
+    no_pin r (length (of_vehicle pins x.0)) (length (of_vehicle routes x.0)) x.1 x.2 b.1
 
-  told : (is_planned routes r ≡ false) × (is_place_of pins routes r x ≡ true) × (passes p pins (with_request_at routes r x) ≡ true)
-  told = listed p pins routes r x (within (insertions_of p pins routes r) x (is_best.among))
+module _ (law : NamedAreFound) (stand : RequestsStandByName) (local : PassesAreLocal) (says : TestsSayFeasible) (below : StopsAreBelowNext)
+    (p : Instance) (pins routes : List (List ℕ)) (valid : IsInstance p) (good : passes p pins routes ≡ true) (r : Request) (named : lookup (nat_eq (request_name r)) p.requests ≡ Some r)
+    (x : Insertion) (free : is_planned routes r ≡ false) (place : is_place_of pins routes r x ≡ true) where
+  -- the route may be asked
+  pub asked_once : AreLiveOnce p (inserted r x.1 x.2 (of_vehicle routes x.0))
+  asked_once = route_once law local says p pins routes valid good (request_name r) r named free x place
 
-  fit : Fits law stand local says p pins routes valid good name r named (told.0) x
-  fit = insertion_fits law stand local says p pins routes valid good name r named (told.0) x (is_best.among)
+  module _ (passed : passes p pins (with_request_at routes r x) ≡ true) where
+    fit : Fits law stand local says p pins routes valid good (request_name r) r named free x
+    fit = insertion_fits law stand local says p pins routes valid good (request_name r) r named free x (contained _ x (to_list p pins routes r x free place passed))
 
-  pub vehicle_from : 1 ≤ x.0
-  vehicle_from = fit.from
+    often : (n : ℕ) → times n (concat (with_request_at routes r x)) ≡ times n (concat routes) + times n (numbers_of r)
+    often = often_with p routes r x fit.from fit.within
 
-  pub vehicle_within : x.0 ≤ length routes
-  vehicle_within = fit.within
+    one_less : unplanned_count p routes ≡ unplanned_count p (with_request_at routes r x) + 1
+    one_less =
+        one_more_planned routes (with_request_at routes r x) r (λ n none. let e = often n in omega arith) free (planned_where (with_request_at routes r x) r (λ n. let e = often n in omega arith)) p valid (request_name r) named
 
-  pub are_open : are_places r 0 (length (of_vehicle routes x.0)) x.1 x.2 ≡ true
-  are_open =
-      let a = and_parts (leb 1 x.0) (leb x.0 (length routes) && are_places r (length (of_vehicle pins x.0)) (length (of_vehicle routes x.0)) x.1 x.2) told.1 in
-      let b = and_parts (leb x.0 (length routes)) (are_places r (length (of_vehicle pins x.0)) (length (of_vehicle routes x.0)) x.1 x.2) a.1 in
-      no_pin r (length (of_vehicle pins x.0)) (length (of_vehicle routes x.0)) x.1 x.2 b.1
+    few : x.0 ≤ 40000
+    few =
+        let h = fit.within in
+        let e = (parts local p pins routes good).fleet in
+        let f = valid.fleet in
+        let most = f.1 in
+        omega arith
 
-  pub new_once : AreLiveOnce p (inserted r x.1 x.2 (of_vehicle routes x.0))
-  new_once = route_once law local says p pins routes valid good name r named (told.0) x (told.1)
+    pub is_put : IsPut p pins routes r x
+    is_put = record {
+      from = fit.from;
+      within = fit.within;
+      few = few;
+      places = open_places pins routes r x place;
+      once = asked_once;
+      keeps = fit.keeps;
+      passes = passed;
+      small = plan_small below local p valid pins (with_request_at routes r x) passed;
+      unplanned = one_less;
+      there = rw (named, free, place, passed) refl;
+    }
 
-  pub new_keeps : KeepsLimits p (inserted r x.1 x.2 (of_vehicle routes x.0))
-  new_keeps = fit.keeps
+  -- it can be put in where the route is feasible alone, and only there
+  pub feasible_put : (b : Bool) → b ≡ feasible_alone p (inserted r x.1 x.2 (of_vehicle routes x.0)) → b ≡ true → IsPut p pins routes r x
+  feasible_put b e t = is_put (passes_where_feasible law local says p pins routes valid good (request_name r) r named free x place b e ∙ t)
 
-  pub new_passes : passes p pins (with_request_at routes r x) ≡ true
-  new_passes = told.2
-
-  pub placed_is : placed p pins routes name ≡ with_request_at routes r x
-  placed_is = rw (best, named, told.0, told.1, told.2) refl
-
-  often : (n : ℕ) → times n (concat (with_request_at routes r x)) ≡ times n (concat routes) + times n (numbers_of r)
-  often = often_with p routes r x vehicle_from vehicle_within
-
-  pub one_less : unplanned_count p routes ≡ unplanned_count p (with_request_at routes r x) + 1
-  one_less =
-      one_more_planned routes (with_request_at routes r x) r (λ n none. let e = often n in omega arith) (told.0) (planned_where (with_request_at routes r x) r (λ n. let e = often n in omega arith)) p valid name named
-
-  pub new_small : total_length p (with_request_at routes r x) ≤ 2 ^ 63
-  new_small = plan_small below local p valid pins (with_request_at routes r x) new_passes
+  pub not_put : (b : Bool) → b ≡ feasible_alone p (inserted r x.1 x.2 (of_vehicle routes x.0)) → b ≡ false → put_in p pins routes (request_name r) x ≡ None
+  not_put b e f = put_in_is law local says p pins routes valid good (request_name r) r named free x place b e ∙ ap (λ t. cond t (Some (with_request_at routes r x)) None) f

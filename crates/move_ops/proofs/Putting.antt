@@ -1,8 +1,9 @@
--- A draft with a request put at its best insertion.
-use Rattle.std.proofs.Common.{◌≡◌, ℕ, ◌+◌, ◌-◌, ◌≤◌, true, List, length, set, Some, None, refl, sym, ap, subst, ◌∙◌, arith}
-use Rattle.std.specs.Prelude.{◌^◌}
+-- A draft with a request put in where it can be put.
+use Rattle.std.proofs.Common.{◌≡◌, ℕ, ◌+◌, ◌-◌, ◌≤◌, cond, Bool, true, false, List, length, set, Option, Some, None, refl, sym, ap, subst, ◌∙◌, arith, nat_eq}
+use Rattle.std.specs.Prelude.{◌^◌, MatchOption, []}
+use Rattle.std.specs.Map.{lookup}
 use Rattle.std.proofs.lemmas.List.{length-map}
-use Rattle.plan_types.specs.Instance.{Instance}
+use Rattle.plan_types.specs.Instance.{Instance, IsInstance}
 use Rattle.plan_types.specs.Laws.{NamedAreFound, RequestsStandByName, StopsAreBelowNext}
 use Rattle.plan_types.specs.Request.{request_name}
 use Rattle.plan_types.specs.declared.requests.Request.{Request}
@@ -12,64 +13,108 @@ use Rattle.slack_tables.specs.Course.{Course, course_of, route_of}
 use Rattle.slack_tables.specs.Insertion.{inserted, KeepsLimits}
 use Rattle.plan_audit.specs.Locality.{PassesAreLocal, TestsSayFeasible}
 use Rattle.plan_audit.specs.Passes.{passes}
-use Rattle.move_ops.specs.Insertion.{Insertion, request_named, of_vehicle, with_request_at, with_route, are_places, best_insertion}
-use Rattle.move_ops.specs.Laws.{BestInsertionsAreLeast}
+use Rattle.move_ops.specs.Insertion.{Insertion, request_named, of_vehicle, with_request_at, with_route, insertions, insertions_of, are_places, best_insertion, put_in}
+use Rattle.move_ops.specs.Laws.{BestInsertionsAreLeast, IsBest}
 use Rattle.move_ops.specs.Tables.{plan_of, AreTablesIn}
-use Rattle.move_ops.specs.Drafts.{Drafted, draft_of, IsDraftOf, placed}
-use Rattle.move_ops.proofs.Replacing.{parts}
-use Rattle.move_ops.proofs.Placing.{vehicle_from, vehicle_within, are_open, new_once, new_keeps, new_passes, placed_is, one_less, new_small}
+use Rattle.move_ops.specs.Drafts.{Drafted, draft_of, IsDraftOf, IsMade, placed}
+use Rattle.move_ops.specs.Changes.{IsPut}
+use Rattle.move_ops.proofs.Choosing.{name_of}
+use Rattle.move_ops.proofs.Places.{within, listed}
+use Rattle.move_ops.proofs.Placing.{is_put}
 use Rattle.move_ops.proofs.Drafting.{plan_with, tables_with}
 
-pub placed_none : (p : Instance) (pins routes : List (List ℕ)) (name : ℕ) → None ≡ best_insertion p pins routes name → routes ≡ placed p pins routes name
+placed_none : (p : Instance) (pins routes : List (List ℕ)) (name : ℕ) → None ≡ best_insertion p pins routes name → routes ≡ placed p pins routes name
 placed_none p pins routes name none = rw (sym none) refl
 
-module _ (law : NamedAreFound) (stand : RequestsStandByName) (local : PassesAreLocal) (says : TestsSayFeasible) (least : BestInsertionsAreLeast) (below : StopsAreBelowNext)
-    (p : Instance) (pins : List (List ℕ)) (d : Drafted) (is : IsDraftOf p pins d) (r : Request) (named : request_named p (request_name r) ≡ Some r)
-    (x : Insertion) (best : best_insertion p pins (draft_of d) (request_name r) ≡ Some x) where
-  pub from : 1 ≤ x.0
-  from = vehicle_from law stand local says least below p pins (draft_of d) (is.valid) (is.draft) (request_name r) r named x best
+-- the best insertion can be put in
+pub best_put : NamedAreFound → RequestsStandByName → PassesAreLocal → TestsSayFeasible → StopsAreBelowNext → BestInsertionsAreLeast
+    → (p : Instance) (pins routes : List (List ℕ)) → IsInstance p → passes p pins routes ≡ true → (r : Request) → request_named p (request_name r) ≡ Some r
+    → (x : Insertion) → best_insertion p pins routes (request_name r) ≡ Some x → IsPut p pins routes r x
+best_put law stand local says below least p pins routes valid good r named x best =
+    let is : IsBest p pins routes r x = subst (λ (o : Option Insertion). MatchOption o (insertions p pins routes (request_name r) ≡ []) (IsBest p pins routes r)) best (least p pins routes (request_name r) r named) in
+    let told = listed p pins routes r x (within (insertions_of p pins routes r) x is.among) in
+    is_put law stand local says below p pins routes valid good r named x told.0 told.1 told.2
 
-  pub within : x.0 ≤ length d.tours
-  within = let h = vehicle_within law stand local says least below p pins (draft_of d) (is.valid) (is.draft) (request_name r) r named x best in let e = length-map d.tours route_of in omega arith
+placed_is : (p : Instance) (pins routes : List (List ℕ)) (r : Request) (x : Insertion) → best_insertion p pins routes (request_name r) ≡ Some x → IsPut p pins routes r x
+    → placed p pins routes (request_name r) ≡ with_request_at routes r x
+placed_is p pins routes r x best put = rw (best, put.there) refl
 
-  pub few : x.0 ≤ 40000
-  few =
-      let h = vehicle_within law stand local says least below p pins (draft_of d) (is.valid) (is.draft) (request_name r) r named x best in
-      let e = (parts local p pins (draft_of d) (is.draft)).fleet in
-      let f = (is.valid).fleet in
-      let most = f.1 in
-      omega arith
+-- a request is found by its own name, and so is what is said of it
+module _ (p : Instance) (valid : IsInstance p) (name : ℕ) (r : Request) (found : lookup (nat_eq name) p.requests ≡ Some r) where
+  pub named_so : request_name r ≡ name
+  named_so = name_of p.requests name r valid.named found
 
-  pub open_places : (old : List ℕ) → old ≡ of_vehicle (draft_of d) x.0 → are_places r 0 (length old) x.1 x.2 ≡ true
-  open_places old is_old = subst (λ (l : List ℕ). are_places r 0 (length l) x.1 x.2 ≡ true) (sym is_old) (are_open law stand local says least below p pins (draft_of d) (is.valid) (is.draft) (request_name r) r named x best)
+  pub named_request : request_named p (request_name r) ≡ Some r
+  named_request = subst (λ (n : ℕ). request_named p n ≡ Some r) (sym named_so) found
 
-  module _ (route : List ℕ) (is_route : route ≡ inserted r x.1 x.2 (of_vehicle (draft_of d) x.0)) where
-    pub once : AreLiveOnce p route
-    once = subst (AreLiveOnce p) (sym is_route) (new_once law stand local says least below p pins (draft_of d) (is.valid) (is.draft) (request_name r) r named x best)
+  module _ (pins routes : List (List ℕ)) where
+    pub put_named : (x : Insertion) (o : Option (List (List ℕ))) → put_in p pins routes (request_name r) x ≡ o → put_in p pins routes name x ≡ o
+    put_named x o is = ap (λ n. put_in p pins routes n x) (sym named_so) ∙ is
 
-    pub keeps : KeepsLimits p route
-    keeps = subst (KeepsLimits p) (sym is_route) (new_keeps law stand local says least below p pins (draft_of d) (is.valid) (is.draft) (request_name r) r named x best)
+    pub placed_named : (x : Insertion) → best_insertion p pins routes (request_name r) ≡ Some x → IsPut p pins routes r x → with_request_at routes r x ≡ placed p pins routes name
+    placed_named x best put = sym (placed_is p pins routes r x best put) ∙ ap (placed p pins routes) named_so
 
-    pub small_route : total_length p (with_route (draft_of d) x.0 route) ≤ 2 ^ 63
-    small_route =
-        subst (λ (l : List ℕ). total_length p (with_route (draft_of d) x.0 l) ≤ 2 ^ 63) (sym is_route)
-        (new_small law stand local says least below p pins (draft_of d) (is.valid) (is.draft) (request_name r) r named x best)
+    pub stays_named : None ≡ best_insertion p pins routes (request_name r) → routes ≡ placed p pins routes name
+    stays_named none = placed_none p pins routes name (none ∙ ap (best_insertion p pins routes) named_so)
 
-    pub unplanned_route : d.cost.unplanned ≡ unplanned_count p (with_route (draft_of d) x.0 route) + 1
-    unplanned_route =
-        ap (λ c. c.unplanned) (is.cost)
-        ∙ (one_less law stand local says least below p pins (draft_of d) (is.valid) (is.draft) (request_name r) r named x best
-        ∙ ap (λ (l : List ℕ). unplanned_count p (with_route (draft_of d) x.0 l) + 1) (sym is_route))
+-- whether a move was made
+pub was_made : (o : Option (List (List ℕ))) (routes : List (List ℕ)) (old new : Drafted) → o ≡ Some routes → draft_of new ≡ routes → IsMade o true old new
+was_made o routes old new some is = rw some (refl, is)
 
-    module _ (tour : Course) (made : tour ≡ course_of p route) (of_tour : route_of tour ≡ route) (new : List Course) (is_new : new ≡ set d.tours (x.0 - 1) tour) where
+pub was_not_made : (o : Option (List (List ℕ))) (d : Drafted) → o ≡ None → IsMade o false d d
+was_not_made o d none = rw none (refl, refl)
+
+-- the plan of a draft where it was made
+pub made_plan : (o : Option (List (List ℕ))) (made : Bool) (old new : Drafted) → IsMade o made old new → cond made (Some (draft_of new)) None ≡ o
+made_plan None made old new is = rw is.0 refl
+made_plan (Some routes) made old new is = rw is.0 (ap Some is.1)
+
+-- of what the code has: its tours, the old route, the new one, and the same lent
+module _ (p : Instance) (pins : List (List ℕ)) (d : Drafted) (is : IsDraftOf p pins d) (r : Request) (x : Insertion) (put : IsPut p pins (draft_of d) r x) (tours : List Course) (has_tours : tours ≡ d.tours)
+    (old : List ℕ) (is_old : old ≡ of_vehicle (plan_of tours) x.0) where
+  old_is : old ≡ of_vehicle (draft_of d) x.0
+  old_is = is_old ∙ ap (λ (l : List Course). of_vehicle (plan_of l) x.0) has_tours
+
+  pub within_tours : x.0 ≤ length tours
+  within_tours = let h = put.within in let e = length-map d.tours route_of in let f = ap length has_tours in omega arith
+
+  pub has_places : are_places r 0 (length old) x.1 x.2 ≡ true
+  has_places = subst (λ (l : List ℕ). are_places r 0 (length l) x.1 x.2 ≡ true) (sym old_is) put.places
+
+  module _ (route : List ℕ) (is_route : route ≡ inserted r x.1 x.2 old) (given : List ℕ) (is_given : given ≡ route) where
+    route_is : route ≡ inserted r x.1 x.2 (of_vehicle (draft_of d) x.0)
+    route_is = is_route ∙ ap (inserted r x.1 x.2) old_is
+
+    given_is : inserted r x.1 x.2 (of_vehicle (draft_of d) x.0) ≡ given
+    given_is = sym route_is ∙ sym is_given
+
+    plan_given : with_request_at (draft_of d) r x ≡ with_route (plan_of tours) x.0 given
+    plan_given = ap (with_route (draft_of d) x.0) given_is ∙ ap (λ (l : List Course). with_route (plan_of l) x.0 given) (sym has_tours)
+
+    pub given_once : AreLiveOnce p given
+    given_once = subst (AreLiveOnce p) given_is put.once
+
+    pub given_keeps : KeepsLimits p given
+    given_keeps = subst (KeepsLimits p) given_is put.keeps
+
+    pub given_small : total_length p (with_route (plan_of tours) x.0 given) ≤ 2 ^ 63
+    given_small = subst (λ (l : List (List ℕ)). total_length p l ≤ 2 ^ 63) plan_given put.small
+
+    pub given_unplanned : d.cost.unplanned ≡ unplanned_count p (with_route (plan_of tours) x.0 given) + 1
+    given_unplanned = ap (λ c. c.unplanned) is.cost ∙ (put.unplanned ∙ ap (λ (l : List (List ℕ)). unplanned_count p l + 1) plan_given)
+
+    module _ (of_tour : route_of (course_of p given) ≡ given) (new : List Course) (is_new : new ≡ set tours (x.0 - 1) (course_of p given)) where
+      new_is : new ≡ set d.tours (x.0 - 1) (course_of p given)
+      new_is = is_new ∙ ap (λ (l : List Course). set l (x.0 - 1) (course_of p given)) has_tours
+
       pub plan_new : plan_of new ≡ with_request_at (draft_of d) r x
-      plan_new = ap plan_of is_new ∙ (plan_with d.tours (x.0 - 1) tour ∙ ap (λ l. set (plan_of d.tours) (x.0 - 1) l) (of_tour ∙ is_route))
+      plan_new = ap plan_of new_is ∙ (plan_with d.tours (x.0 - 1) (course_of p given) ∙ ap (λ l. set (plan_of d.tours) (x.0 - 1) l) (of_tour ∙ sym given_is))
 
       pub tables_new : AreTablesIn p new
-      tables_new = subst (AreTablesIn p) (sym is_new) (tables_with p d.tours (x.0 - 1) tour (is.tables) (ap (course_of p) of_tour ∙ sym made))
+      tables_new = subst (AreTablesIn p) (sym new_is) (tables_with p d.tours (x.0 - 1) (course_of p given) is.tables (ap (course_of p) of_tour))
 
       pub passes_new : passes p pins (plan_of new) ≡ true
-      passes_new = ap (passes p pins) plan_new ∙ new_passes law stand local says least below p pins (draft_of d) (is.valid) (is.draft) (request_name r) r named x best
+      passes_new = ap (passes p pins) plan_new ∙ put.passes
 
-      pub placed_new : plan_of new ≡ placed p pins (draft_of d) (request_name r)
-      placed_new = plan_new ∙ sym (placed_is law stand local says least below p pins (draft_of d) (is.valid) (is.draft) (request_name r) r named x best)
+      pub plan_cost : with_route (plan_of tours) x.0 given ≡ plan_of new
+      plan_cost = sym plan_given ∙ sym plan_new

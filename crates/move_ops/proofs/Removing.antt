@@ -132,20 +132,3 @@ module _ (by_name : RequestsStandByName) (local : PassesAreLocal) (plans : Plans
   pub removed_is : (b : Bool) → b ≡ list_all (feasible_alone p) (without_named p names routes) → removed p pins routes names ≡ cond b (Some (without_named p names routes)) None
   removed_is b e =
       rw (movable, passes_where_feasible local says p pins routes good (without_named p names routes) left_plan (length-map routes (filter (λ m. not (is_of_named p names m)))) left_pinned b e) refl
-
--- the same of what the code has: its lists and its answers
-module _ (by_name : RequestsStandByName) (local : PassesAreLocal) (plans : PlansAreLocal) (says : TestsSayFeasible) (p : Instance) (pins routes : List (List ℕ)) (valid : IsInstance p)
-    (good : passes p pins routes ≡ true) (names : List ℕ) (kept given : List (List ℕ)) (is_pins : kept ≡ pins) (is_routes : given ≡ routes)
-    (movable : true ≡ list_all (is_movable_name p kept given) names) (new : List (List ℕ)) (is_new : new ≡ without_named p names given) where
-  all_movable : list_all (is_movable_name p pins routes) names ≡ true
-  all_movable = ap (λ k. list_all (is_movable_name p k routes) names) (sym is_pins) ∙ (ap (λ g. list_all (is_movable_name p kept g) names) (sym is_routes) ∙ sym movable)
-
-  new_is : new ≡ without_named p names routes
-  new_is = is_new ∙ ap (without_named p names) is_routes
-
-  pub new_once : All (AreLiveOnce p) new
-  new_once = subst (All (AreLiveOnce p)) (sym new_is) (left_once by_name local plans says p pins routes valid good names all_movable)
-
-  pub removed_answer : (b : Bool) → b ≡ list_all (feasible_alone p) new → cond b (Some new) None ≡ removed p pins routes names
-  removed_answer b e =
-      ap (λ (l : List (List ℕ)). cond b (Some l) None) new_is ∙ sym (removed_is by_name local plans says p pins routes valid good names all_movable b (e ∙ ap (list_all (feasible_alone p)) new_is))

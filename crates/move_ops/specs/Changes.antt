@@ -1,13 +1,15 @@
 -- Routes of a plan that others take the place of.
-use Rattle.std.specs.Prelude.{◌≡◌, ℕ, ◌+◌, ◌==◌, not, ◌≤◌, if◌then◌else◌, true, false, All, List, [], ◌∷◌, length, filter, map, Option, MatchOption}
+use Rattle.std.specs.Prelude.{◌≡◌, ℕ, ◌+◌, ◌==◌, not, ◌≤◌, ◌^◌, if◌then◌else◌, true, false, All, List, [], ◌∷◌, length, filter, map, Option, Some, MatchOption}
 use Rattle.std.specs.List.{AllByRecursion}
 use Rattle.plan_types.specs.Instance.{Instance}
-use Rattle.route_sched.specs.Cost.{has_stop, unplanned_count}
+use Rattle.plan_types.specs.Request.{request_name}
+use Rattle.plan_types.specs.declared.requests.Request.{Request}
+use Rattle.route_sched.specs.Cost.{has_stop, total_length, unplanned_count}
 use Rattle.route_sched.specs.Route.{AreLiveOnce}
 use Rattle.plan_audit.specs.Passes.{has, passes, feasible_alone}
 use Rattle.slack_tables.specs.Course.{Course, course_of, route_of, IsCourseIn}
 use Rattle.slack_tables.specs.Insertion.{KeepsLimits}
-use Rattle.move_ops.specs.Insertion.{with_route, of_vehicle}
+use Rattle.move_ops.specs.Insertion.{Insertion, with_route, with_request_at, of_vehicle, inserted, are_places, put_in}
 use Rattle.move_ops.specs.Moves.{is_of_named, without_named}
 use Rattle.move_ops.specs.declared.changes.Change.{Change}
 
@@ -83,3 +85,16 @@ pub record Notes (routes : List (List ℕ)) (asked : ℕ → Type 0) (before aft
 -- how many vehicles a route uses, one or none
 abbrev pub used : List ℕ → ℕ
 used route = if not (length route == 0) then 1 else 0
+
+-- the request can be put in there, and this holds of its new route
+pub record IsPut (p : Instance) (pins routes : List (List ℕ)) (r : Request) (x : Insertion) : Type 0 where
+  pub from : 1 ≤ x.0
+  pub within : x.0 ≤ length routes
+  pub few : x.0 ≤ 40000
+  pub places : are_places r 0 (length (of_vehicle routes x.0)) x.1 x.2 ≡ true
+  pub once : AreLiveOnce p (inserted r x.1 x.2 (of_vehicle routes x.0))
+  pub keeps : KeepsLimits p (inserted r x.1 x.2 (of_vehicle routes x.0))
+  pub passes : passes p pins (with_request_at routes r x) ≡ true
+  pub small : total_length p (with_request_at routes r x) ≤ 2 ^ 63
+  pub unplanned : unplanned_count p routes ≡ unplanned_count p (with_request_at routes r x) + 1
+  pub there : put_in p pins routes (request_name r) x ≡ Some (with_request_at routes r x)

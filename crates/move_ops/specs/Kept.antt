@@ -1,5 +1,5 @@
 -- What a draft keeps beside its routes.
-use Rattle.std.specs.Prelude.{◌≡◌, ◌≤◌, ℕ, false, List, length, Some, slice_get}
+use Rattle.std.specs.Prelude.{◌≡◌, ◌≤◌, ℕ, false, List, length, Some, slice_get, vec_capacity}
 use Rattle.route_sched.specs.Cost.{has_stop}
 use Rattle.move_ops.specs.Tables.{plan_of}
 use Rattle.move_ops.specs.Drafts.{Drafted, AreIdleBehind}
@@ -18,5 +18,7 @@ pub record IsKept (a : Inside) : Type 0 where
   pub seats : AreSeats a.seats.items (plan_of a.tours.items)
   pub within : AreWithin (length a.tours.items) a.log.items
   pub once : AreOnce a.log.items
+  -- there is room for what each vehicle had
+  pub room : length a.tours.items ≤ vec_capacity a.log
   pub front : a.front ≤ length a.tours.items
   pub idle : AreIdleBehind a.front (plan_of a.tours.items)

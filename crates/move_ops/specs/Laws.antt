@@ -1,10 +1,12 @@
 -- What the best insertion is, for every problem and plan.
-use Rattle.std.specs.Prelude.{◌≡◌, ◌↔◌, ℕ, true, List, [], Some, IsSome}
+use Rattle.std.specs.Prelude.{◌≡◌, ◌↔◌, ℕ, true, List, [], ◌∷◌, Some, IsSome}
 use Rattle.std.specs.List.{Contains}
 use Rattle.std.specs.Option.{MatchOption}
-use Rattle.plan_types.specs.Instance.{Instance}
+use Rattle.plan_types.specs.Instance.{Instance, IsInstance}
 use Rattle.plan_types.specs.declared.requests.Request.{Request}
 use Rattle.plan_audit.specs.Passes.{passes}
+use Rattle.plan_audit.specs.Rules.{IsOverloaded, IsLate, IsLateReturn}
+use Rattle.slack_tables.specs.Insertion.{KeepsLimits}
 use Rattle.move_ops.specs.Insertion.{Insertion, request_named, insertions, insertions_of, is_no_worse, best_insertion, put_in}
 
 -- it is an insertion, and no worse than any: by cost, vehicle, pickup and delivery
@@ -28,3 +30,8 @@ InsertionsCanBePutIn = (p : Instance) (pins routes : List (List ℕ)) (name : �
 -- law: a plan that passes with its pins passes with none
 abbrev pub PlansPassWithoutPins : Type 0
 PlansPassWithoutPins = (p : Instance) (pins routes : List (List ℕ)) → passes p pins routes ≡ true → passes p [] routes ≡ true
+
+-- law: a route keeps the limits of load and time exactly where, as the only route, it breaks none of the auditor's rules on them
+abbrev pub LimitsAreRules : Type 0
+LimitsAreRules = (p : Instance) (route : List ℕ) → IsInstance p
+    → KeepsLimits p route ↔ ((r i n : ℕ) → (IsOverloaded p (route ∷ []) r i n → ⊥) × (IsLate p (route ∷ []) r i n → ⊥) × (IsLateReturn p (route ∷ []) r i n → ⊥))

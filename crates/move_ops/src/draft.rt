@@ -3,7 +3,8 @@
 //! The draft is changed where it stands. What a vehicle had in the base is kept in a log, of each vehicle
 //! once: dropping the draft puts these routes and tables back, taking it forgets them. Its moves stand in the
 //! files of `draft/`. A removal takes two short lists of memory, of vehicles and of their tours, an exchange
-//! and a crossing a few.
+//! and a crossing a few. All that a move takes it takes before its first change, and the log has room for each
+//! vehicle from the start, so where memory is refused the draft is as it was.
 //!
 //! What is kept beside the routes, so that a step does not grow with the fleet:
 //! - the front: no vehicle behind the first so many has a stop. Best insertions look at these vehicles and at
@@ -16,7 +17,7 @@
 //!   counts once; one that is placed is one less.
 //!
 //! Problem and pins are given in each call and tied to the draft by `IsDraftOf`, so the type borrows nothing.
-ghost use Rattle.std.specs.Prelude.{◌≡◌, ◌≤◌, ◌<◌, ◌-◌, ◌==◌, not, true, false, ℕ, List, Some, IfOk, OnOk, MatchOption, length, slice_get, slice_set, slice_index_or};
+ghost use Rattle.std.specs.Prelude.{◌≡◌, ◌≤◌, ◌<◌, ◌-◌, ◌==◌, not, true, false, ℕ, List, Some, IfOk, MatchOption, length, slice_get, slice_set, slice_index_or};
 ghost use Rattle.slack_tables.specs.Course.{Course};
 ghost use Rattle.plan_types.specs.Instance.{Instance};
 ghost use Rattle.plan_audit.specs.Passes.{passes};
@@ -51,7 +52,7 @@ pub struct Draft {
     tours: Vec<Tour>,
     // No vehicle behind the first so many has a stop.
     front: usize,
-    // What vehicles had in the base that were changed since, none twice.
+    // What vehicles had in the base that were changed since, none twice. There is room for all of them.
     log: Vec<(u32, Tour)>,
     // Memory for tours and for a route.
     spare: Vec<Tour>,
@@ -93,6 +94,7 @@ impl Draft {
         plans_pass_without_pins();
         let len = problem.next_number as usize;
         let tours = tours_of(alloc, problem, plan.routes.as_slice())?;
+        let log = Vec::with_capacity(alloc, tours.len())?;
         let front = front_of(&tours, tours.len());
         let seats = seats_of(alloc, &tours, len)?;
         let pinned = marks(alloc, pins.routes.as_slice(), len)?;
@@ -100,7 +102,7 @@ impl Draft {
         Ok(Draft {
             tours,
             front,
-            log: Vec::new(alloc),
+            log,
             spare: Vec::new(alloc),
             room: Vec::new(alloc),
             seats,
@@ -265,27 +267,25 @@ impl Draft {
         !self.log.is_empty()
     }
 
-    // Gives the vehicle another route.
-    fn set_tour(&mut self, vehicle: u32, tour: Tour) -> Result<(), OutOfMemory>
+    // Gives the vehicle another route. Takes no memory, as the log has room for each vehicle.
+    fn set_tour(&mut self, vehicle: u32, tour: Tour)
         requires from_one { 1 ≤ vehicle }
         requires within { vehicle ≤ length self.old.tours }
-        ensures tours { OnOk result (self.new.tours ≡ slice_set self.old.tours (vehicle - 1) tour) }
-        ensures base { OnOk result (undone self.new.tours self.new.log
-            ≡ undone self.old.tours self.old.log) }
-        ensures pinned { OnOk result (self.new.pinned ≡ self.old.pinned) }
-        ensures cost { OnOk result (self.new.cost ≡ self.old.cost) }
-        ensures base_cost { OnOk result (self.new.base_cost ≡ self.old.base_cost) }
+        ensures tours { self.new.tours ≡ slice_set self.old.tours (vehicle - 1) tour }
+        ensures base { undone self.new.tours self.new.log ≡ undone self.old.tours self.old.log }
+        ensures pinned { self.new.pinned ≡ self.old.pinned }
+        ensures cost { self.new.cost ≡ self.old.cost }
+        ensures base_cost { self.new.base_cost ≡ self.old.base_cost }
     {
         let is_first = self.entry_of(vehicle).is_none();
         seat(&mut self.seats, tour.stops(), vehicle);
         let old = swap(&mut self.tours, (vehicle - 1) as usize, tour);
         self.front = front_with(self.front, vehicle);
         if is_first {
-            self.log.push((vehicle, old))?;
+            self.log.push_reserved((vehicle, old));
         } else {
             keep(&mut self.spare, old);
         }
-        Ok(())
     }
 
     // The place in the log of what a vehicle had in the base, where it was changed since.

@@ -1,6 +1,6 @@
 //! What the best insertion is: the least by a test that compares costs and then places. The list of insertions rises, but
 //! nothing rests on that.
-ghost use Rattle.move_ops.specs.Laws.{BestInsertionsAreLeast, BestInsertionsAreUnique, InsertionsCanBePutIn, PlansPassWithoutPins};
+ghost use Rattle.move_ops.specs.Laws.{BestInsertionsAreLeast, BestInsertionsAreUnique, InsertionsCanBePutIn, LimitsAreRules, PlansPassWithoutPins};
 
 use plan_audit::passes_are_local;
 use plan_types::costs_are_in_order;
@@ -31,3 +31,9 @@ pub fn plans_pass_without_pins()
 {
     passes_are_local();
 }
+
+/// A route keeps the limits of load and time, of which tables are built, exactly where it breaks none of the auditor's rules on them as
+/// the only route: no load above the capacity, no service after its latest time, and the vehicle back by the depot's.
+pub fn limits_are_rules()
+    ensures { LimitsAreRules }
+{}

@@ -2,18 +2,18 @@
 //! best.
 //!
 //! The search (`seeded_search`) works on a `Draft`, a plan that is changed in its place over kept tables, and
-//! so do the commands that put requests in. `insert_at`, `remove`, `exchange` and `two_opt_star` are the same
-//! moves from plan to plan; `best_insertion` and `Tables` find where a request is put in best.
+//! so do the commands that put requests in. `insert_at`, `remove`, `exchange`, `two_opt_star` and
+//! `best_insertion` are the same from plan to plan: each makes a draft of the plan and asks it. `Tables` finds
+//! where requests are put in best, and leaves the plan to its caller.
 //!
 //! Modules, in reading order:
-//! - `lists`, `changed`: routes and pins by vehicle; whether the routes that a move changes are feasible
-//!   alone.
-//! - `insert`, `removal`, `swap`, `cross`: the four moves, from plan to plan.
-//! - `tables`, `best`: the best insertion, by a table for each vehicle.
-//! - `pairing`, `tour`, `tours`, `changes`: a route with its table, and what is asked of a new one.
-//! - `seats`: where to look for a stop.
+//! - `plan_moves`: the moves from plan to plan.
 //! - `draft`: the draft; in `draft/` its moves: `removing`, `rearranging` (exchange and 2-opt*), `placing`,
 //!   and `installing`, which they share.
+//! - `lists`, `insert`, `removal`, `swap`: routes and pins by vehicle, and the stops of new routes.
+//! - `pairing`, `tour`, `tours`, `changes`: a route with its table, and what is asked of a new one.
+//! - `seats`: where to look for a stop.
+//! - `tables`: the best insertion, by a table for each vehicle.
 //! - `laws`: what the best insertion is, without code.
 //!
 //! Specs: `Insertion` and `Moves` name the plan of each move, `Tables` and `Drafts` say what is kept, `Laws`
@@ -37,18 +37,17 @@
 //!   `placed`), `cost` is what it costs, `take` makes it the base and `drop_draft` forgets it, without
 //!   memory;
 //! - the laws: the best insertion is the least and the only one; the list of insertions holds those that can
-//!   be put in and no others; a plan that passes with its pins passes without them.
+//!   be put in and no others; a plan that passes with its pins passes without them; the limits of which tables
+//!   speak are the auditor's rules on load and time.
 #![tactic(auto)]
 
-mod best;
-mod changed;
 mod changes;
-mod cross;
 mod draft;
 mod insert;
 mod laws;
 mod lists;
 mod pairing;
+mod plan_moves;
 mod removal;
 mod seats;
 mod swap;
@@ -56,14 +55,10 @@ mod tables;
 mod tour;
 mod tours;
 
-pub use best::best_insertion;
-pub use cross::two_opt_star;
 pub use draft::Draft;
-pub use insert::insert_at;
 pub use laws::{
     best_insertions_are_least, best_insertions_are_unique, insertions_can_be_put_in,
-    plans_pass_without_pins,
+    limits_are_rules, plans_pass_without_pins,
 };
-pub use removal::remove;
-pub use swap::exchange;
+pub use plan_moves::{best_insertion, exchange, insert_at, remove, two_opt_star};
 pub use tables::Tables;

@@ -11,7 +11,7 @@ ghost use Rattle.std.specs.Option.{option_map};
 ghost use Rattle.plan_types.specs.Instance.{IsInstance};
 ghost use Rattle.plan_types.specs.Request.{request_name, IsRequest};
 ghost use Rattle.slack_tables.specs.Course.{route_of, IsCourseIn};
-ghost use Rattle.move_ops.specs.Insertion.{request_named, best_insertion};
+ghost use Rattle.move_ops.specs.Insertion.{request_named, of_vehicle, best_insertion};
 ghost use Rattle.plan_audit.specs.Passes.{passes};
 ghost use Rattle.move_ops.specs.Refreshing.{fresh_of};
 ghost use Rattle.move_ops.specs.Tables.{plan_of, AreVehicles};
@@ -20,6 +20,7 @@ ghost use Rattle.move_ops.specs.Choosing.{opens, bound_of, place_found, IsAsked,
 use crate::laws::{best_insertions_are_least, best_insertions_are_unique};
 use crate::lists::of_vehicle;
 use crate::tour::Tour;
+use crate::tours::tours_of;
 use plan_audit::{passes_are_local, plans_are_local, tests_say_feasible};
 use plan_types::{
     Kind, OutOfMemory, Pins, Plan, Problem, Request, Route, costs_are_in_order,
@@ -74,14 +75,9 @@ impl Tables {
         ensures tables { IfOk result (λ tables. tables ≡ tables_of problem.now plan.now.routes) }
         ensures plan { IfOk result (λ tables. plan_of tables ≡ plan.now.routes) }
     {
-        passes_are_local();
-        plans_are_local();
-        tests_say_feasible();
-        let mut tables = Vec::with_capacity(alloc, problem.fleet as usize)?;
-        for route in plan.routes.as_slice() {
-            tables.push(Tour::build(alloc, problem, route.as_slice())?)?;
-        }
-        Ok(Tables { tables })
+        Ok(Tables {
+            tables: tours_of(alloc, problem, plan.routes.as_slice())?,
+        })
     }
 
     /// The best insertion of a request into the plan of the tables, as `best_insertion` has it; the name has to be of a live
@@ -214,19 +210,19 @@ pub(crate) fn best_of(
             }
             has_idle = true;
         }
-        let kept = of_vehicle(pins, vehicle).len() as u64;
-        look_at(problem, request, table, kept, vehicle, &mut best);
+        look_at(problem, request, table, pins, vehicle, &mut best);
     }
     best
 }
 
 // Lets the best insertion so far become a better one at this vehicle, if there is one. It is written in its place, since to copy it takes
-// longer than to look at a vehicle that is too far away.
+// longer than to look at a vehicle that is too far away; the pin is looked up of the others alone.
+#[inline(always)]
 fn look_at(
     problem: &Problem,
     request: &Request,
     table: &Tour,
-    kept: u64,
+    pins: &[Route],
     vehicle: u64,
     best: &mut Option<Found>,
 )
@@ -234,13 +230,18 @@ fn look_at(
     requires course { IsCourseIn problem.now table.now }
     requires request { request_named problem.now (request_name request.now) ≡ Some request.now }
     requires valid { IsRequest request.now }
-    requires kept { kept ≤ length table.now.stops }
-    ensures { IsBetter problem.now (route_of table.now) request.now kept vehicle best.old best.new }
+    requires pin { length (of_vehicle pins.now vehicle) ≤ length table.now.stops }
+    ensures { IsBetter problem.now (route_of table.now) request.now
+        (length (of_vehicle pins.now vehicle)) vehicle best.old best.new }
 {
     let opens = opens(problem.kind, table);
     let Some(below) = bound(opens, best) else {
         return;
     };
+    if table.table().rules_out(request, below) {
+        return;
+    }
+    let kept = of_vehicle(pins, vehicle).len() as u64;
     if let Some(addition) = table.table().best_places(request, kept, below) {
         *best = Some(Found {
             vehicle,
@@ -251,6 +252,7 @@ fn look_at(
 }
 
 // Whether a request put into this route uses one vehicle more.
+#[inline(always)]
 fn opens(kind: Kind, table: &Tour) -> bool
     ensures { result ≡ opens kind (route_of table.now) }
 {
@@ -261,6 +263,7 @@ fn opens(kind: Kind, table: &Tour) -> bool
 }
 
 // What an insertion must add less than to be better than the best so far.
+#[inline(always)]
 fn bound(opens: bool, best: &Option<Found>) -> Option<i64>
     ensures { result ≡ bound_of opens best.now }
 {

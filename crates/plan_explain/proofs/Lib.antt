@@ -1,3 +1,5 @@
+pub mod BehindLemmas
+pub mod BreachLemmas
 pub mod LineLemmas
 pub mod RouteLemmas
 pub mod RowLemmas

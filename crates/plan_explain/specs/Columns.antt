@@ -1,5 +1,5 @@
 -- Lines and columns of numbers in decimal.
-use Rattle.std.specs.Prelude.{ℕ, ◌-◌, ◌^◌, ℤ, List, [], ◌∷◌, ◌++◌}
+use Rattle.std.specs.Prelude.{ℕ, ◌-◌, ◌^◌, ℤ, List}
 use Rattle.std.specs.Fmt.{format_spec, styled_decimal, styled_signed_decimal}
 
 -- a number at the right of a column that is so wide, with blanks before it; what is wider stands whole

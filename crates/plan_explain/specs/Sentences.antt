@@ -2,7 +2,8 @@
 use Rattle.std.specs.Prelude.{ℕ, ◌+◌, ◌-◌, ◌==◌, if◌then◌else◌, List, [], ◌∷◌, ◌++◌, length, Option, Some, None, unwrap_or, decimal}
 use Rattle.std.specs.Fmt.{signed_decimal}
 use Rattle.std.specs.Option.{option_map, option_or}
-use Rattle.plan_types.specs.Instance.{Instance, partner_at, pickup_at}
+use Rattle.plan_types.specs.declared.requests.Stop.{Stop}
+use Rattle.plan_types.specs.Instance.{Instance, partner_at, pickup_at, stop_at}
 use Rattle.route_sched.specs.Schedule.{start}
 use Rattle.route_sched.specs.Cost.{total_length, used_count}
 use Rattle.sol_text.specs.declared.read.Solution.{Solution}
@@ -11,7 +12,7 @@ use Rattle.plan_audit.specs.Rules.{item_at}
 use Rattle.plan_explain.specs.Phrases.{phrase}
 use Rattle.plan_explain.specs.Tables.{rows_of}
 use Rattle.plan_explain.specs.declared.phrases.Phrase.{Phrase}
-use Rattle.plan_explain.specs.declared.phrases.Phrase.TheVariants.{UnknownStop, NumbersBelow, VisitedTwice, First, MissingStop, SplitPair, EarlyDelivery, OtherStop, ItsPickup, Stop, Stands, There, Nowhere, AtPlace, OfRoute, Overload, Capacity, LateService, LateReturn, Latest, LateBy, TooManyVehicles, Fleet, WrongCost, Driven}
+use Rattle.plan_explain.specs.declared.phrases.Phrase.TheVariants.{UnknownStop, NumbersBelow, VisitedTwice, First, MissingStop, SplitPair, EarlyDelivery, OtherStop, ItsPickup, Stop as StopWord, Stands, There, Nowhere, AtPlace, OfRoute, Overload, DemandIs, LoadIs, Capacity, LateService, StartsAt, LateReturn, BackAt, Latest, LateBy, TooManyVehicles, Fleet, WrongCost, Driven}
 use Rattle.plan_explain.specs.declared.rows.Row.{Row}
 use Rattle.plan_explain.specs.declared.seats.Seat.{Seat}
 
@@ -33,7 +34,7 @@ seat_text (Some s) = phrase AtPlace ++ decimal s.place ++ phrase OfRoute ++ deci
 
 -- where a stop stands first
 abbrev pub stands_text : List (List ℕ) → ℕ → List ℕ
-stands_text routes n = phrase Stop ++ decimal n ++ phrase Stands ++ seat_text (first_seat routes n)
+stands_text routes n = phrase StopWord ++ decimal n ++ phrase Stands ++ seat_text (first_seat routes n)
 
 -- and another stop beside it, if there is one
 abbrev pub beside_text : List (List ℕ) → Phrase → Option ℕ → List ℕ
@@ -61,22 +62,43 @@ split_sentence p routes n = phrase SplitPair ++ pair_text p routes n
 abbrev pub early_sentence : Instance → List (List ℕ) → ℕ → List ℕ
 early_sentence p routes n = phrase EarlyDelivery ++ stands_text routes n ++ beside_text routes ItsPickup (pickup_at p n)
 
+-- a stop's demand
+abbrev pub demand_text : Option Stop → List ℕ
+demand_text None = []
+demand_text (Some s) = phrase DemandIs ++ signed_decimal s.demand
+
+-- words, and behind them a stop with its demand
+abbrev pub stop_text : Instance → Phrase → ℕ → List ℕ
+stop_text p words n = (phrase words ++ decimal n) ++ demand_text (stop_at p n)
+
 -- 6 and 7, by the row of the place that is told
 abbrev pub load_sentence : Instance → Option Row → List ℕ
 load_sentence p None = []
-load_sentence p (Some row) = phrase Overload ++ signed_decimal row.load ++ phrase Capacity ++ decimal p.capacity
+load_sentence p (Some row) = stop_text p Overload row.stop ++ (phrase LoadIs ++ signed_decimal row.load) ++ (phrase Capacity ++ decimal p.capacity)
 
 -- a time, the latest time, and by how much it is late
 abbrev pub late_text : ℕ → ℕ → List ℕ
 late_text start latest = decimal start ++ phrase Latest ++ decimal latest ++ phrase LateBy ++ decimal (start - latest)
 
-abbrev pub late_sentence : Option Row → List ℕ
-late_sentence None = []
-late_sentence (Some row) = phrase LateService ++ late_text row.start row.latest
+abbrev pub late_sentence : Instance → Option Row → List ℕ
+late_sentence p None = []
+late_sentence p (Some row) = stop_text p LateService row.stop ++ phrase StartsAt ++ late_text row.start row.latest
 
--- 8
-abbrev pub return_sentence : Instance → List ℕ → List ℕ
-return_sentence p route = phrase LateReturn ++ late_text (start p route (length route + 1)) p.depot.latest
+-- the last of these stops; this one, where there is none
+abbrev pub last_from : ℕ → List ℕ → ℕ
+last_from n [] = n
+last_from n (m ∷ route) = last_from m route
+
+-- the last stop of a route; 0 where it has none
+abbrev pub last_stop : List ℕ → ℕ
+last_stop route = last_from 0 route
+
+-- 8: the last stop, and when the vehicle is back behind it
+abbrev pub return_text : Instance → ℕ → ℕ → List ℕ
+return_text p n back = stop_text p LateReturn n ++ phrase BackAt ++ late_text back p.depot.latest
+
+unfoldable pub return_sentence : Instance → List ℕ → List ℕ
+return_sentence p route = return_text p (last_stop route) (start p route (length route + 1))
 
 -- the row of a place, counted from 1
 abbrev pub row_told : Instance → List ℕ → ℕ → Option Row
@@ -98,7 +120,7 @@ sentence p plan rule r i n =
     else if rule == 4 then split_sentence p plan.routes n
     else if rule == 5 then early_sentence p plan.routes n
     else if rule == 6 then load_sentence p (row_told p (route_told plan.routes r) i)
-    else if rule == 7 then late_sentence (row_told p (route_told plan.routes r) i)
+    else if rule == 7 then late_sentence p (row_told p (route_told plan.routes r) i)
     else if rule == 8 then return_sentence p (route_told plan.routes r)
     else if rule == 9 then fleet_sentence p plan.routes
     else if rule == 11 then cost_sentence p plan

@@ -1,5 +1,5 @@
 -- A route as a table: a row for each place, the return to the depot last. Places count from 1.
-use Rattle.std.specs.Prelude.{ℕ, ◌+◌, List, [], ◌∷◌, ◌++◌, map, length, codes}
+use Rattle.std.specs.Prelude.{ℕ, ◌+◌, Bool, false, nat_lt, List, [], ◌∷◌, ◌++◌, map, length, codes, pos, int_lt}
 use Rattle.std.specs.List.{flat_map, range_with_len}
 use Rattle.plan_types.specs.Instance.{Instance}
 use Rattle.plan_types.specs.declared.requests.Kind.{Kind}
@@ -8,8 +8,8 @@ use Rattle.route_sched.specs.Route.{place}
 use Rattle.route_sched.specs.Schedule.{leg, load, start}
 use Rattle.text_lines.specs.Lines.{ended}
 use Rattle.plan_explain.specs.Columns.{left, right, right_signed}
-use Rattle.plan_explain.specs.Phrases.{phrase}
-use Rattle.plan_explain.specs.declared.phrases.Phrase.TheVariants.{LoadsHeading, StopsHeading, TimesHeading}
+use Rattle.plan_explain.specs.Phrases.{phrase, text_if}
+use Rattle.plan_explain.specs.declared.phrases.Phrase.TheVariants.{LoadsHeading, MarkLate, MarkOverload, StopsHeading, TimesHeading}
 use Rattle.plan_explain.specs.declared.rows.Row.{Row}
 
 -- when the vehicle comes to the place behind place k: it leaves after the service there, and drives on
@@ -41,17 +41,33 @@ unfoldable pub times_text : Row → List ℕ
 times_text r = right 5 r.place ++ codes " " ++ right 6 r.stop ++ codes " " ++ right 10 r.arrival ++ codes " " ++ right 10 r.start ++ codes " "
 
 unfoldable pub window_text : Row → List ℕ
-window_text r = ended (right 10 r.earliest ++ codes ".." ++ left 10 r.latest ++ codes " " ++ right_signed 9 r.load)
+window_text r = right 10 r.earliest ++ codes ".." ++ left 10 r.latest ++ codes " " ++ right_signed 9 r.load
 
 unfoldable pub load_text : Row → List ℕ
-load_text r = ended (right 5 r.place ++ codes " " ++ right 6 r.stop ++ codes " " ++ right 10 r.arrival ++ codes " " ++ right_signed 9 r.load)
+load_text r = right 5 r.place ++ codes " " ++ right 6 r.stop ++ codes " " ++ right 10 r.arrival ++ codes " " ++ right_signed 9 r.load
 
-abbrev pub row_text : Kind → Row → List ℕ
-row_text LiLim r = times_text r ++ window_text r
-row_text Vrp r = load_text r
+abbrev pub figures_text : Kind → Row → List ℕ
+figures_text LiLim r = times_text r ++ window_text r
+figures_text Vrp r = load_text r
+
+-- the vehicle carries more than it can after that place
+abbrev pub is_overload : Instance → Row → Bool
+is_overload p r = int_lt (pos p.capacity) r.load
+
+-- it is late there, where times are asked
+abbrev pub late_in : Kind → Row → Bool
+late_in LiLim r = nat_lt r.latest r.start
+late_in Vrp r = false
+
+abbrev pub is_late : Instance → Row → Bool
+is_late p r = late_in p.kind r
+
+-- a row, with a mark where the vehicle carries too much, and one where it is late
+abbrev pub row_text : Instance → Row → List ℕ
+row_text p r = figures_text p.kind r ++ text_if (is_overload p r) MarkOverload ++ text_if (is_late p r) MarkLate ++ codes "\n"
 
 abbrev pub table_text : Instance → List ℕ → List ℕ
-table_text p route = heading p.kind ++ flat_map (row_text p.kind) (rows_of p route)
+table_text p route = heading p.kind ++ flat_map (row_text p) (rows_of p route)
 
 -- Where a stop is unknown or stands twice, nobody knows when the vehicle comes: places and stops alone.
 abbrev pub stop_rows : ℕ → List ℕ → List ℕ

@@ -6,39 +6,70 @@
 //!
 //! Source: this project's own. Each figure is `route_sched`'s start, load, length or cost.
 //!
-//! How it works: for a broken rule a sentence with its figures, then the route that is told as a table; where a
-//! stop of it is unknown or stands twice, that has places and stops alone. For a wrong cost, or a solution that
-//! passes, a line for each route and the sums. The "start" in such a line is the start of service at the route's
-//! first stop, since each vehicle leaves at the depot's earliest time.
+//! How it works: for a broken rule a sentence with its figures, then the route that is told as a table, then how often the
+//! rule is broken and where else. Where a stop of that route is unknown or stands twice, the table has places and stops
+//! alone. For a wrong cost, or a solution that passes, a line for each route and the sums. The "start" in such a line is
+//! the start of service at the route's first stop, since each vehicle leaves at the depot's earliest time.
+//!
+//! A refused text is read once more, up to the line of its fault, for what that line has of it: the field, the limits,
+//! the section, the other task of a pair. The readers tell the kind of a fault and its line alone.
 //!
 //! Modules, in reading order:
-//! - `phrases`: the words between the figures
+//! - `phrases`, `names`: the words between the figures, the names of fields and keys
 //! - `seats`: where a stop stands first
 //! - `rows`: what happens at the places of a route
 //! - `tables`: a route as a table
 //! - `summaries`: a line for each route, and the sums
 //! - `sentences`: the sentence on a broken rule
+//! - `breaches`, `further`: all places that break a rule, and how they are told
 //! - `verdicts`: what is said of a verdict
+//! - `cited`, `told_lines`, `numbers`: bytes, lines and words of a refused text
+//! - `layouts`, `words_told`: what numbers a line has, and what is said of a wrong one
+//! - `pair_faults`, `lilim_faults`: what is said of a fault of a Li-Lim text
+//! - `vrp_keys`, `vrp_walk`, `vrp_faults`: keys and sections of a `.vrp` text, what is said of a fault of one
+//! - `sol_faults`: what is said of a fault of a solution's text
+//! - `behind`: what stands behind the cost line of one
+//! - `notes`: a byte order mark, a text that looks like the other kind
 //! - `refused`: what is said of a text that is refused
+//! - `laws`: what is read of a solution's text
 //!
-//! Said by `specs/Explained.antt`, `Sentences.antt`, `Tables.antt`, `Summaries.antt` and `Refused.antt`. Proved:
+//! Said by `specs/Explained.antt`, `Sentences.antt`, `Tables.antt`, `Further.antt`, `Summaries.antt` and `Refused.antt`. Proved:
 //! - `explain_verdict`: for each verdict on a printed solution the bytes are those of `verdict_text`
-//! - `explain_instance_fault`, `explain_solution_fault` (`TellsFault`): some sentence on one line, then the line
-//!   that the fault names, cut at 200 bytes, with `?` for what can't be printed
+//! - `explain_instance_fault`, `explain_solution_fault`: for each text and fault the bytes are those of
+//!   `instance_fault_text` and `solution_fault_text`
+//! - `line_behind_cost`: the first line that is not blank behind the cost line of a solution's text, which its reader passes over
+//!   (`reading_ends_at_the_cost_line`)
 //! - `rows_of`, `wait`, `summary_of`: the rows of a route, and what it comes to
-//!
-//! The words of that sentence are tested, not proved: a derived `Display` has no contract.
 #![tactic(auto)]
 
+mod behind;
+mod breaches;
+mod cited;
+mod further;
+mod laws;
+mod layouts;
+mod lilim_faults;
+mod names;
+mod notes;
+mod numbers;
+mod pair_faults;
 mod phrases;
 mod refused;
 mod rows;
 mod seats;
 mod sentences;
+mod sol_faults;
 mod summaries;
 mod tables;
+mod told_lines;
 mod verdicts;
+mod vrp_faults;
+mod vrp_keys;
+mod vrp_walk;
+mod words_told;
 
+pub use behind::line_behind_cost;
+pub use laws::reading_ends_at_the_cost_line;
 pub use refused::{explain_instance_fault, explain_solution_fault};
 pub use rows::{Row, rows_of};
 pub use summaries::{Summary, summary_of, wait};

@@ -1,32 +1,39 @@
-//! What is said of a text that is refused: the sentence of its fault, and under it the line that the fault names.
-//!
-//! A line that is cited keeps its tabs, since Li and Lim's files use them; other bytes that can't be printed are `?`.
-ghost use Rattle.std.specs.Prelude.{◌≡◌, ◌++◌, IfOk, OnOk, map, string_bytes, take};
-ghost use Rattle.std.specs.Option.{option_copied};
-ghost use Rattle.text_lines.specs.Lines.{ended, lines_of};
-ghost use Rattle.plan_audit.specs.Rules.{item_at};
-ghost use Rattle.plan_explain.specs.Refused.{TellsFault, cited_line, shown_byte, shown_bytes};
+//! What is said of a text that is refused: the sentence of its fault, under it the line that the fault names, and what is said of the
+//! text as a whole.
+ghost use Rattle.std.specs.Prelude.{◌≡◌, ◌++◌, IfOk, OnOk, string_bytes};
+ghost use Rattle.plan_explain.specs.Refused.{instance_detail, instance_fault_text, instance_reason, instance_sentence, solution_fault_text, solution_reason, solution_sentence, too_many, under_sentence};
 
-use instance_read::ReadFault;
-use plan_types::OutOfMemory;
-use sol_text::SolFault;
+use crate::cited::put_line;
+use crate::lilim_faults::put_lilim_detail;
+use crate::notes::{put_kind_note, put_mark_note};
+use crate::phrases::Phrase;
+use crate::sentences::{put_named, put_phrase};
+use crate::sol_faults::put_sol_detail;
+use crate::told_lines::line_at;
+use crate::vrp_faults::put_vrp_detail;
+use instance_read::{ReadFault, ReadFaultKind};
+use plan_types::{Kind, OutOfMemory};
+use sol_text::{SolFault, SolFaultKind};
 use std::alloc::Global;
-use text_lines::Lines;
 
-/// How many bytes of a line are shown.
-const SHOWN: usize = 200;
-
-/// The sentence on a fault of an instance's text, and under it the line that the fault names, if the text has it: its first 200 bytes,
-/// with `?` for each that is neither a printable character of ASCII nor a tab.
+/// The sentence on a fault of the text of an instance that was read as this kind, and under it the line that the fault names, if the
+/// text has it: its first 200 bytes, with `?` for each that is neither a printable character of ASCII nor a tab. Then, where it is so,
+/// that the text begins with a byte order mark, or looks like an instance of the other kind.
 pub fn explain_instance_fault(
     alloc: Global,
+    kind: Kind,
     text: &[u8],
     fault: ReadFault,
 ) -> Result<String, OutOfMemory>
-    ensures { IfOk result (λ answer. TellsFault text.now fault.line (string_bytes answer)) }
+    ensures { IfOk result (λ answer. string_bytes answer
+        ≡ instance_fault_text kind text.now fault) }
 {
-    let sentence = format!(in alloc; "{fault}")?;
-    cite(sentence, text, fault.line)
+    let mut answer = String::new(alloc);
+    put_instance_sentence(&mut answer, kind, text, fault)?;
+    put_line_under(&mut answer, text, fault.line)?;
+    put_mark_note(&mut answer, text)?;
+    put_kind_note(&mut answer, kind, text)?;
+    Ok(answer)
 }
 
 /// The same of a fault of a solution's text.
@@ -35,66 +42,108 @@ pub fn explain_solution_fault(
     text: &[u8],
     fault: SolFault,
 ) -> Result<String, OutOfMemory>
-    ensures { IfOk result (λ answer. TellsFault text.now fault.line (string_bytes answer)) }
+    ensures { IfOk result (λ answer. string_bytes answer ≡ solution_fault_text text.now fault) }
 {
-    let sentence = format!(in alloc; "{fault}")?;
-    cite(sentence, text, fault.line)
-}
-
-// The sentence, and under it the line with this number.
-fn cite(sentence: String, text: &[u8], number: u64) -> Result<String, OutOfMemory>
-    ensures { IfOk result (λ answer. string_bytes answer
-        ≡ ended (string_bytes sentence) ++ cited_line (item_at (lines_of text.now) number)) }
-{
-    let mut answer = sentence;
-    answer.push_str("\n")?;
-    if let Some(bytes) = line_at(text, number) {
-        put_cited(&mut answer, bytes)?;
-    }
+    let mut answer = String::new(alloc);
+    put_solution_sentence(&mut answer, text, fault)?;
+    put_line_under(&mut answer, text, fault.line)?;
+    put_mark_note(&mut answer, text)?;
     Ok(answer)
 }
 
-fn put_cited(text: &mut String, bytes: &[u8]) -> Result<(), OutOfMemory>
-    ensures { OnOk result (string_bytes text.new
-        ≡ string_bytes text.old ++ ended (shown_bytes bytes.now)) }
+fn put_instance_sentence(
+    answer: &mut String,
+    kind: Kind,
+    text: &[u8],
+    fault: ReadFault,
+) -> Result<(), OutOfMemory>
+    ensures { OnOk result (string_bytes answer.new
+        ≡ string_bytes answer.old ++ instance_sentence kind text.now fault) }
 {
-    put_bytes(text, front(bytes))?;
-    text.push_str("\n")
+    put_named(answer, Phrase::Line, fault.line)?;
+    put_phrase(answer, Phrase::Colon)?;
+    put_phrase(answer, instance_reason(kind, fault.kind))?;
+    put_instance_detail(answer, kind, text, fault)
 }
 
-// As much of a line as is shown.
-#[tactic(auto, using(std::proofs::lemmas::List::take_min))]
-fn front(bytes: &[u8]) -> &[u8]
-    ensures { result.now ≡ take 200 bytes.now }
+// What the line that the fault names has of it.
+fn put_instance_detail(
+    answer: &mut String,
+    kind: Kind,
+    text: &[u8],
+    fault: ReadFault,
+) -> Result<(), OutOfMemory>
+    ensures { OnOk result (string_bytes answer.new
+        ≡ string_bytes answer.old ++ instance_detail kind text.now fault) }
 {
-    &bytes[..SHOWN.min(bytes.len())]
-}
-
-// The line with this number, counted from 1.
-fn line_at(text: &[u8], number: u64) -> Option<&[u8]>
-    ensures { option_copied result ≡ item_at (lines_of text.now) number }
-{
-    if number == 0 {
-        return None;
+    match kind {
+        Kind::LiLim => put_lilim_detail(answer, text, fault),
+        Kind::Vrp => put_vrp_detail(answer, text, fault),
     }
-    Lines::new(text).nth(number as usize - 1)
 }
 
-fn put_bytes(text: &mut String, bytes: &[u8]) -> Result<(), OutOfMemory>
-    ensures { OnOk result (string_bytes text.new
-        ≡ string_bytes text.old ++ map shown_byte bytes.now) }
+fn instance_reason(kind: Kind, fault: ReadFaultKind) -> Phrase
+    ensures { result ≡ instance_reason kind fault }
 {
-    for byte in bytes {
-        text.push(char::from(shown_byte(*byte)))?;
+    match fault {
+        ReadFaultKind::BadNumber => Phrase::NoWholeNumber,
+        ReadFaultKind::Range => Phrase::OutsideLimits,
+        ReadFaultKind::FieldCount => Phrase::WordCount,
+        ReadFaultKind::TaskOrder => Phrase::TaskOrder,
+        ReadFaultKind::PairMismatch => Phrase::NoHalf,
+        ReadFaultKind::EmptyWindow => Phrase::EmptyWindow,
+        ReadFaultKind::TooManyStops => too_many(kind),
+        ReadFaultKind::MissingKey => Phrase::KeyMissing,
+        ReadFaultKind::Unsupported => Phrase::NotSupported,
+        ReadFaultKind::DepotNotFirst => Phrase::DepotNotFirst,
+        ReadFaultKind::NodeRepeated => Phrase::Repeated,
+        ReadFaultKind::Truncated => Phrase::EndsEarly,
+        ReadFaultKind::OutOfMemory => Phrase::OutOfMemory,
+    }
+}
+
+fn too_many(kind: Kind) -> Phrase
+    ensures { result ≡ too_many kind }
+{
+    match kind {
+        Kind::LiLim => Phrase::TaskAbove,
+        Kind::Vrp => Phrase::NodesAbove,
+    }
+}
+
+fn put_solution_sentence(
+    answer: &mut String,
+    text: &[u8],
+    fault: SolFault,
+) -> Result<(), OutOfMemory>
+    ensures { OnOk result (string_bytes answer.new
+        ≡ string_bytes answer.old ++ solution_sentence text.now fault) }
+{
+    put_named(answer, Phrase::Line, fault.line)?;
+    put_phrase(answer, Phrase::Colon)?;
+    put_phrase(answer, solution_reason(fault.kind))?;
+    put_sol_detail(answer, text, fault)
+}
+
+fn solution_reason(fault: SolFaultKind) -> Phrase
+    ensures { result ≡ solution_reason fault }
+{
+    match fault {
+        SolFaultKind::BadLine => Phrase::NoSolutionLine,
+        SolFaultKind::BadNumber => Phrase::OtherNumber,
+        SolFaultKind::NoCost => Phrase::NoCostLine,
+        SolFaultKind::OutOfMemory => Phrase::OutOfMemory,
+    }
+}
+
+// The end of the sentence's line, and the line with this number, if the text has it.
+fn put_line_under(answer: &mut String, text: &[u8], number: u64) -> Result<(), OutOfMemory>
+    ensures { OnOk result (string_bytes answer.new
+        ≡ string_bytes answer.old ++ under_sentence text.now number) }
+{
+    answer.push_str("\n")?;
+    if let Some(bytes) = line_at(text, number) {
+        put_line(answer, bytes)?;
     }
     Ok(())
-}
-
-fn shown_byte(byte: u8) -> u8
-    ensures { result ≡ shown_byte byte }
-{
-    match byte {
-        b' '..=b'~' | b'\t' => byte,
-        _ => b'?',
-    }
 }

@@ -1,20 +1,21 @@
 //! The sentence on a broken rule.
 ghost use Rattle.std.specs.Prelude.{◌≡◌, ◌++◌, All, OnOk, decimal, string_bytes};
 ghost use Rattle.std.specs.Fmt.{signed_decimal};
+ghost use Rattle.std.specs.Option.{option_copied};
 ghost use Rattle.route_sched.specs.Route.{AreLiveOnce};
 ghost use Rattle.route_sched.specs.Cost.{used_count};
-ghost use Rattle.plan_explain.specs.Phrases.{phrase};
-ghost use Rattle.plan_explain.specs.Sentences.{beside_text, cost_sentence, early_sentence, first_seat, fleet_sentence, late_sentence, late_text, load_sentence, missing_sentence, pair_text, return_sentence, seat_text, split_sentence, stands_text, twice_sentence, unknown_sentence};
+ghost use Rattle.plan_explain.specs.Phrases.{phrase, text_if};
+ghost use Rattle.plan_explain.specs.Sentences.{beside_text, cost_sentence, demand_text, early_sentence, first_seat, fleet_sentence, last_stop, late_sentence, late_text, load_sentence, missing_sentence, pair_text, return_sentence, return_text, seat_text, split_sentence, stands_text, stop_text, twice_sentence, unknown_sentence};
 
 use crate::phrases::Phrase;
 use crate::rows::{Row, visit_behind};
 use crate::seats::{Seat, first_seat};
 use crate::summaries::total_distance;
-use plan_types::{OutOfMemory, Problem, Route};
+use plan_types::{OutOfMemory, Problem, Route, Stop};
 use sol_text::Solution;
 
-// Words, and the number behind them.
-fn put_named(text: &mut String, words: Phrase, n: u64) -> Result<(), OutOfMemory>
+/// Appends words, and the number behind them.
+pub(crate) fn put_named(text: &mut String, words: Phrase, n: u64) -> Result<(), OutOfMemory>
     ensures { OnOk result (string_bytes text.new
         ≡ string_bytes text.old ++ (phrase words ++ decimal n)) }
 {
@@ -27,6 +28,17 @@ pub(crate) fn put_phrase(text: &mut String, words: Phrase) -> Result<(), OutOfMe
     ensures { OnOk result (string_bytes text.new ≡ string_bytes text.old ++ phrase words) }
 {
     text.push_str(words.text())
+}
+
+/// Appends words, if so.
+pub(crate) fn put_mark(text: &mut String, holds: bool, words: Phrase) -> Result<(), OutOfMemory>
+    ensures { OnOk result (string_bytes text.new ≡ string_bytes text.old ++ text_if holds words) }
+{
+    if holds {
+        put_phrase(text, words)
+    } else {
+        Ok(())
+    }
 }
 
 /// Appends that a stop is of no request.
@@ -160,29 +172,72 @@ pub(crate) fn put_overload(
     let Some(row) = row else {
         return Ok(());
     };
-    put_phrase(text, Phrase::Overload)?;
-    put_signed(text, row.load)?;
+    put_stop(text, problem, Phrase::Overload, row.stop)?;
+    put_signed(text, Phrase::LoadIs, row.load)?;
     put_named(text, Phrase::Capacity, u64::from(problem.capacity))
 }
 
-fn put_signed(text: &mut String, n: i64) -> Result<(), OutOfMemory>
-    ensures { OnOk result (string_bytes text.new ≡ string_bytes text.old ++ signed_decimal n) }
+// Words, and the number behind them.
+fn put_signed(text: &mut String, words: Phrase, n: i64) -> Result<(), OutOfMemory>
+    ensures { OnOk result (string_bytes text.new
+        ≡ string_bytes text.old ++ (phrase words ++ signed_decimal n)) }
 {
+    put_phrase(text, words)?;
     write!(text, "{n}")
 }
 
+// Words, and behind them a stop with its demand.
+fn put_stop(
+    text: &mut String,
+    problem: &Problem,
+    words: Phrase,
+    stop: u32,
+) -> Result<(), OutOfMemory>
+    ensures { OnOk result (string_bytes text.new
+        ≡ string_bytes text.old ++ stop_text problem.now words stop) }
+{
+    put_named(text, words, u64::from(stop))?;
+    put_demand(text, problem.stop(stop))
+}
+
+fn put_demand(text: &mut String, stop: Option<&Stop>) -> Result<(), OutOfMemory>
+    ensures { OnOk result (string_bytes text.new
+        ≡ string_bytes text.old ++ demand_text (option_copied stop.entry)) }
+{
+    let Some(stop) = stop else {
+        return Ok(());
+    };
+    put_phrase(text, Phrase::DemandIs)?;
+    put_demand_of(text, stop)
+}
+
+fn put_demand_of(text: &mut String, stop: &Stop) -> Result<(), OutOfMemory>
+    ensures { OnOk result (string_bytes text.new
+        ≡ string_bytes text.old ++ signed_decimal stop.now.demand) }
+{
+    let demand = stop.demand;
+    write!(text, "{demand}")
+}
+
 /// Appends the start of service at the place of this row, and the latest there.
-pub(crate) fn put_late(text: &mut String, row: Option<Row>) -> Result<(), OutOfMemory>
-    ensures { OnOk result (string_bytes text.new ≡ string_bytes text.old ++ late_sentence row) }
+pub(crate) fn put_late(
+    text: &mut String,
+    problem: &Problem,
+    row: Option<Row>,
+) -> Result<(), OutOfMemory>
+    ensures { OnOk result (string_bytes text.new
+        ≡ string_bytes text.old ++ late_sentence problem.now row) }
 {
     let Some(row) = row else {
         return Ok(());
     };
-    put_phrase(text, Phrase::LateService)?;
+    put_stop(text, problem, Phrase::LateService, row.stop)?;
+    put_phrase(text, Phrase::StartsAt)?;
     put_lateness(text, row.start, row.latest)
 }
 
 /// Appends when the vehicle is back, and the depot's latest.
+#[tactic(auto, unfolding(crate::specs::Sentences::return_sentence))]
 pub(crate) fn put_late_return(
     text: &mut String,
     problem: &Problem,
@@ -193,8 +248,28 @@ pub(crate) fn put_late_return(
         ≡ string_bytes text.old ++ return_sentence problem.now route.now) }
 {
     let back = visit_behind(problem, route, route.len()).start;
-    put_phrase(text, Phrase::LateReturn)?;
+    put_return(text, problem, last_stop(route), back)
+}
+
+// The last stop, and when the vehicle is back behind it.
+fn put_return(text: &mut String, problem: &Problem, stop: u32, back: u64) -> Result<(), OutOfMemory>
+    ensures { OnOk result (string_bytes text.new
+        ≡ string_bytes text.old ++ return_text problem.now stop back) }
+{
+    put_stop(text, problem, Phrase::LateReturn, stop)?;
+    put_phrase(text, Phrase::BackAt)?;
     put_lateness(text, back, problem.depot.latest)
+}
+
+// The last stop of a route; 0 where it has none.
+fn last_stop(route: &[u32]) -> u32
+    ensures { result ≡ last_stop route.now }
+{
+    let mut last = 0;
+    for stop in route {
+        last = *stop;
+    }
+    last
 }
 
 fn put_lateness(text: &mut String, start: u64, latest: u32) -> Result<(), OutOfMemory>

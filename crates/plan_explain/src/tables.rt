@@ -5,11 +5,11 @@ ghost use Rattle.route_sched.specs.Route.{AreLiveOnce};
 ghost use Rattle.text_lines.specs.Lines.{ended};
 ghost use Rattle.plan_explain.specs.Columns.{right};
 ghost use Rattle.plan_explain.specs.Phrases.{phrase};
-ghost use Rattle.plan_explain.specs.Tables.{heading, load_text, row_text, stop_rows, stops_table, table_text, times_text, window_text};
+ghost use Rattle.plan_explain.specs.Tables.{figures_text, heading, is_late, is_overload, load_text, row_text, stop_rows, stops_table, table_text, times_text, window_text};
 
 use crate::phrases::Phrase;
 use crate::rows::{Row, rows_of};
-use crate::sentences::put_phrase;
+use crate::sentences::{put_mark, put_phrase};
 use plan_types::{Kind, OutOfMemory, Problem};
 use std::alloc::Global;
 
@@ -26,7 +26,7 @@ pub(crate) fn put_table(
 {
     let rows = rows_of(alloc, problem, route)?;
     put_phrase(text, heading(problem.kind))?;
-    put_rows(text, problem.kind, rows.as_slice())
+    put_rows(text, problem, rows.as_slice())
 }
 
 fn heading(kind: Kind) -> Phrase
@@ -38,18 +38,47 @@ fn heading(kind: Kind) -> Phrase
     }
 }
 
-fn put_rows(text: &mut String, kind: Kind, rows: &[Row]) -> Result<(), OutOfMemory>
+fn put_rows(text: &mut String, problem: &Problem, rows: &[Row]) -> Result<(), OutOfMemory>
     ensures { OnOk result (string_bytes text.new
-        ≡ string_bytes text.old ++ flat_map (row_text kind) rows.now) }
+        ≡ string_bytes text.old ++ flat_map (row_text problem.now) rows.now) }
 {
     for row in rows {
-        put_row(text, kind, row)?;
+        put_row(text, problem, row)?;
     }
     Ok(())
 }
 
-fn put_row(text: &mut String, kind: Kind, row: &Row) -> Result<(), OutOfMemory>
-    ensures { OnOk result (string_bytes text.new ≡ string_bytes text.old ++ row_text kind row.now) }
+// A row, with a mark where the vehicle carries too much, and one where it is late.
+fn put_row(text: &mut String, problem: &Problem, row: &Row) -> Result<(), OutOfMemory>
+    ensures { OnOk result (string_bytes text.new
+        ≡ string_bytes text.old ++ row_text problem.now row.now) }
+{
+    put_figures(text, problem.kind, row)?;
+    put_mark(text, is_overload(problem, row), Phrase::MarkOverload)?;
+    put_mark(text, is_late(problem, row), Phrase::MarkLate)?;
+    text.push_str("\n")
+}
+
+/// Whether the vehicle carries more than it can after the place of this row.
+pub(crate) fn is_overload(problem: &Problem, row: &Row) -> bool
+    ensures { result ≡ is_overload problem.now row.now }
+{
+    row.load > i64::from(problem.capacity)
+}
+
+/// Whether it is late there.
+pub(crate) fn is_late(problem: &Problem, row: &Row) -> bool
+    ensures { result ≡ is_late problem.now row.now }
+{
+    match problem.kind {
+        Kind::LiLim => row.start > u64::from(row.latest),
+        Kind::Vrp => false,
+    }
+}
+
+fn put_figures(text: &mut String, kind: Kind, row: &Row) -> Result<(), OutOfMemory>
+    ensures { OnOk result (string_bytes text.new
+        ≡ string_bytes text.old ++ figures_text kind row.now) }
 {
     match kind {
         Kind::LiLim => {
@@ -84,7 +113,7 @@ fn put_window(text: &mut String, row: &Row) -> Result<(), OutOfMemory>
         load,
         ..
     } = *row;
-    writeln!(text, "{earliest:>10}..{latest:<10} {load:>9}")
+    write!(text, "{earliest:>10}..{latest:<10} {load:>9}")
 }
 
 #[tactic(auto, unfolding(crate::specs::Tables::load_text))]
@@ -98,7 +127,7 @@ fn put_load(text: &mut String, row: &Row) -> Result<(), OutOfMemory>
         load,
         ..
     } = *row;
-    writeln!(text, "{place:>5} {stop:>6} {arrival:>10} {load:>9}")
+    write!(text, "{place:>5} {stop:>6} {arrival:>10} {load:>9}")
 }
 
 /// Appends the places of a route with their stops, without times.

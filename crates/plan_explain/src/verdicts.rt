@@ -2,10 +2,11 @@
 ghost use Rattle.std.specs.Prelude.{◌≡◌, ◌<◌, ◌++◌, All, IfOk, OnOk, string_bytes};
 ghost use Rattle.route_sched.specs.Route.{AreLiveOnce};
 ghost use Rattle.plan_audit.specs.Verdict.{IsVerdict, printed};
-ghost use Rattle.plan_explain.specs.Explained.{shown_text, verdict_text};
+ghost use Rattle.plan_explain.specs.Explained.{places_shown, shown_text, verdict_text};
 ghost use Rattle.plan_explain.specs.Sentences.{route_told, row_told, sentence};
 ghost use Rattle.plan_audit.specs.declared.rules.Verdict.TheVariants.{Broken};
 
+use crate::further::put_further;
 use crate::rows::{Row, rows_of};
 use crate::sentences as say;
 use crate::summaries::put_summary;
@@ -40,14 +41,8 @@ pub fn explain_verdict(
                 alloc, &mut text, problem, solution, rule, route, place, stop,
             )?;
             text.push_str("\n")?;
-            put_shown(
-                alloc,
-                &mut text,
-                problem,
-                solution.routes.as_slice(),
-                rule,
-                route,
-            )?;
+            let routes = solution.routes.as_slice();
+            put_places(alloc, &mut text, problem, routes, rule, route)?;
         }
     }
     Ok(text)
@@ -78,12 +73,29 @@ fn put_sentence(
         4 => say::put_split(text, problem, routes, stop),
         5 => say::put_early(text, problem, routes, stop),
         6 => say::put_overload(text, problem, row_told(alloc, problem, stops, place)?),
-        7 => say::put_late(text, row_told(alloc, problem, stops, place)?),
+        7 => say::put_late(text, problem, row_told(alloc, problem, stops, place)?),
         8 => say::put_late_return(text, problem, stops),
         9 => say::put_fleet(text, problem, routes),
         11 => say::put_cost(text, problem, solution),
         _ => Ok(()),
     }
+}
+
+// What is shown of the routes, and how often and where else the rule is broken.
+fn put_places(
+    alloc: Global,
+    text: &mut String,
+    problem: &Problem,
+    routes: &[Route],
+    rule: u32,
+    route: u64,
+) -> Result<(), OutOfMemory>
+    requires { 2 < rule → All (AreLiveOnce problem.now) routes.now }
+    ensures { OnOk result (string_bytes text.new
+        ≡ string_bytes text.old ++ places_shown problem.now routes.now rule route) }
+{
+    put_shown(alloc, text, problem, routes, rule, route)?;
+    put_further(alloc, text, problem, routes, rule)
 }
 
 // What is shown of the routes for a broken rule.

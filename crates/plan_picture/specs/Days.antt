@@ -1,12 +1,15 @@
--- The chart beside the table: when each vehicle drives, waits and serves, with the windows of its stops below.
-use Rattle.std.specs.Prelude.{ℕ, ◌+◌, ◌-◌, ◌*◌, ◌==◌, max, List, [], ◌∷◌, ◌++◌, map, fold, length, if◌then◌else◌}
+-- The chart beside the table: when each vehicle drives, waits and serves, with the windows of its stops below, stops and
+-- times beside the bars, and an axis with ticks.
+use Rattle.std.specs.Prelude.{zero, suc, ℕ, ◌+◌, ◌-◌, ◌*◌, ◌/◌, ◌==◌, nat_le, max, List, [], ◌∷◌, ◌++◌, map, fold, length, if◌then◌else◌}
+use Rattle.std.specs.Int.{div_ceil}
+use Rattle.std.specs.List.{flat_map, range_with_len}
 use Rattle.plan_types.specs.Instance.{Instance}
 use Rattle.plan_types.specs.declared.requests.Kind.{Kind}
 use Rattle.plan_types.specs.declared.requests.Kind.TheVariants.{LiLim, Vrp}
 use Rattle.plan_types.specs.declared.requests.Stop.{Stop}
 use Rattle.route_sched.specs.declared.visits.Visit.{Visit}
 use Rattle.plan_picture.specs.Known.{visits_of}
-use Rattle.plan_picture.specs.Svg.{attribute, bar, each, named}
+use Rattle.plan_picture.specs.Svg.{attribute, bar, digit_count, each, named, placed_text}
 use Rattle.plan_picture.specs.Texts.{fixed}
 use Rattle.plan_picture.specs.declared.texts.Text.TheVariants as text
 
@@ -35,7 +38,7 @@ visits_text start service (v ∷ visits) = visit_text (start + service) v ++ vis
 -- the day of the vehicle whose row is at this index
 unfoldable pub day_text : Instance → ℕ → List ℕ → List ℕ
 day_text p index route =
-    named text.Day (20 * index) ++ fixed text.DayOpen ++ visits_text p.depot.earliest 0 (visits_of p route) ++ fixed text.GroupEnd
+    named text.Day (30 * index) ++ fixed text.DayOpen ++ visits_text p.depot.earliest 0 (visits_of p route) ++ fixed text.GroupEnd
 
 -- the latest of a time and these starts of service
 abbrev pub last_start : ℕ → List Visit → ℕ
@@ -46,20 +49,71 @@ abbrev pub horizon : Instance → ℕ → List (List ℕ) → ℕ
 horizon p last [] = last
 horizon p last (route ∷ routes) = horizon p (last_start last (visits_of p route)) routes
 
--- the times at the ends of the chart, and what its colours mean
-unfoldable pub axis_text : ℕ → ℕ → List ℕ
-axis_text first last =
-    named text.First first ++ named text.Last last ++ fixed text.Key
+-- the distance of the day's ticks: 1, 2 or 5 with zeros behind it, so that about twelve fit
+abbrev pub tick_step : ℕ → ℕ → ℕ
+tick_step zero span = 1
+tick_step (suc k) span =
+    if nat_le span 12 then 1
+    else if nat_le span 24 then 2
+    else if nat_le span 60 then 5
+    else 10 * tick_step k (span / 10)
+
+-- where a time stands beside the table
+unfoldable pub across : ℕ → ℕ → ℕ → ℕ
+across first last time = 320 + 840 * (time - first) / max (last - first) 1
+
+-- a tick is a line down all rows, with its time above
+unfoldable pub tick_line : ℕ → ℕ → List ℕ
+tick_line x height =
+    fixed text.TickLine ++ attribute text.X x ++ attribute text.Height height ++ fixed text.Close
+
+unfoldable pub tick_text : ℕ → ℕ → ℕ → ℕ → List ℕ
+tick_text first last height time =
+    if nat_le time last then tick_line (across first last time) height ++ placed_text text.TickTime (across first last time) time else []
+
+-- the tick with this number, from the first multiple of the step in the day on
+abbrev pub nth_tick : ℕ → ℕ → ℕ → ℕ → ℕ → List ℕ
+nth_tick first last height step n = tick_text first last height (step * (div_ceil first step + n))
+
+unfoldable pub ticks_text : ℕ → ℕ → ℕ → List ℕ
+ticks_text first last height =
+    fixed text.Ticks ++ flat_map (nth_tick first last height (tick_step 20 (last - first))) (range_with_len 0 14) ++ fixed text.GroupEnd
+
+-- a stop, and when service starts there
+unfoldable pub time_text : ℕ → Visit → List ℕ
+time_text x v = placed_text text.TimeStop x v.stop.number ++ placed_text text.TimeStart x v.start
+
+-- how much room a stop and its time need
+abbrev pub time_room : Visit → ℕ
+time_room v = 6 * max (digit_count v.start) (digit_count v.stop.number) + 5
+
+-- the times of these visits, each where it begins no further left than this, so that none covers another
+abbrev pub times_text : ℕ → ℕ → ℕ → List Visit → List ℕ
+times_text first last free [] = []
+times_text first last free (v ∷ visits) =
+    if nat_le free (across first last v.start) then time_text (across first last v.start) v ++ times_text first last (across first last v.start + time_room v) visits else times_text first last free visits
+
+-- the times in the row at this index
+unfoldable pub times_row : Instance → ℕ → ℕ → List ℕ → List ℕ
+times_row p last index route =
+    named text.Day (1116 + 30 * index) ++ fixed text.DayOpen ++ times_text p.depot.earliest last 0 (visits_of p route) ++ fixed text.GroupEnd
+
+unfoldable pub times_rows : Instance → ℕ → List (List ℕ) → List ℕ
+times_rows p last routes = fixed text.Times ++ each (times_row p last) 0 routes ++ fixed text.GroupEnd
 
 unfoldable pub chart_head : ℕ → ℕ → ℕ → List ℕ
 chart_head first last height =
-    attribute text.Chart height ++ named text.ChartBox first ++ named text.ChartWidth (last - first) ++ attribute text.Blank height
+    attribute text.Chart height ++ named text.ChartBox first ++ named text.ChartWidth (last - first) ++ (attribute text.Blank height ++ fixed text.Open)
+
+unfoldable pub bars_text : Instance → ℕ → List (List ℕ) → List ℕ
+bars_text p last routes =
+    chart_head p.depot.earliest last (30 * length routes) ++ each (day_text p) 0 routes ++ fixed text.End
 
 unfoldable pub chart_text : Instance → ℕ → List (List ℕ) → List ℕ
 chart_text p last routes =
-    axis_text p.depot.earliest last ++ chart_head p.depot.earliest last (20 * length routes) ++ fixed text.Open ++ each (day_text p) 0 routes
+    ticks_text p.depot.earliest last (30 * length routes) ++ bars_text p last routes ++ times_rows p last routes
 
 -- a chart only where windows count
 abbrev pub days_text : Kind → Instance → List (List ℕ) → List ℕ
-days_text LiLim p routes = chart_text p (horizon p p.depot.latest routes) routes ++ fixed text.End
+days_text LiLim p routes = chart_text p (horizon p p.depot.latest routes) routes
 days_text Vrp p routes = []

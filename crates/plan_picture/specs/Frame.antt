@@ -1,5 +1,5 @@
 -- Where the stops stand in the picture: x grows to the right, y upward, and both are multiplied by one whole number.
-use Rattle.std.specs.Prelude.{ℕ, ◌+◌, ◌*◌, ◌/◌, max, ℤ, ◌-ℤ◌, unsigned_abs, List, fold}
+use Rattle.std.specs.Prelude.{ℕ, ◌+◌, ◌-◌, ◌*◌, ◌/◌, max, ℤ, ◌-ℤ◌, unsigned_abs, List, fold}
 use Rattle.std.specs.Int.{div_ceil, int_max, int_min}
 use Rattle.plan_types.specs.declared.requests.Stop.{Stop}
 use Rattle.plan_picture.specs.declared.frame.Bounds.{Bounds}
@@ -34,17 +34,25 @@ scale_of b = div_ceil 4000 (size_of b)
 unfoldable pub unit_of : Bounds → ℕ
 unit_of b = scale_of b * size_of b / 400
 
--- the frame of these bounds, with ten units of room on each side
+-- the frame of these bounds, with twelve units of room on each side
 unfoldable pub framed : Bounds → Frame
 framed b = record {
   left = b.left;
   top = b.top;
   scale = scale_of b;
   unit = unit_of b;
-  width = scale_of b * gap b.left b.right + 20 * unit_of b;
-  height = scale_of b * gap b.top b.bottom + 20 * unit_of b;
+  width = scale_of b * gap b.left b.right + 24 * unit_of b;
+  height = scale_of b * gap b.top b.bottom + 24 * unit_of b;
 }
 
 -- where a stop stands
 unfoldable pub point_of : Frame → Stop → Point
-point_of f s = record { x = 10 * f.unit + f.scale * gap s.x f.left; y = 10 * f.unit + f.scale * gap f.top s.y }
+point_of f s = record { x = 12 * f.unit + f.scale * gap s.x f.left; y = 12 * f.unit + f.scale * gap f.top s.y }
+
+-- how far two numbers are apart
+abbrev pub apart : ℕ → ℕ → ℕ
+apart m n = max (m - n) (n - m)
+
+-- three fifths of the way from one place to another: there and back are told apart
+abbrev pub on_the_way : Point → Point → Point
+on_the_way a b = record { x = (2 * a.x + 3 * b.x) / 5; y = (2 * a.y + 3 * b.y) / 5 }

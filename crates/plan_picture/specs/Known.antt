@@ -1,6 +1,6 @@
 -- The stops that are drawn, and what is drawn of a route.
-use Rattle.std.specs.Prelude.{zero, suc, ℕ, ◌==◌, ◌&&◌, not, Bool, List, [], ◌∷◌, ◌++◌, Option, Some, None, is_some, if◌then◌else◌}
-use Rattle.std.specs.List.{list_any}
+use Rattle.std.specs.Prelude.{zero, suc, ℕ, ◌==◌, ◌&&◌, not, Bool, true, false, List, [], ◌∷◌, ◌++◌, Option, Some, None, is_some, if◌then◌else◌}
+use Rattle.std.specs.List.{flat_map, list_any}
 use Rattle.plan_types.specs.Instance.{Instance, stop_at}
 use Rattle.plan_types.specs.declared.requests.Stop.{Stop}
 use Rattle.route_sched.specs.Visiting.{visits_from}
@@ -36,3 +36,24 @@ kept_of p route = kept_after p [] route
 -- what happens at each stop of a route, and at the return
 abbrev pub visits_of : Instance → List ℕ → List Visit
 visits_of p route = visits_from p route 0
+
+-- the stops of a route, in its order
+abbrev pub stops_along : Instance → List ℕ → List Stop
+stops_along p route = flat_map (λ n. listed (stop_at p n)) route
+
+-- the stop with this number among these
+abbrev pub stop_among : ℕ → List Stop → Option Stop
+stop_among n [] = None
+stop_among n (s ∷ stops) = if s.number == n then Some s else stop_among n stops
+
+-- a route has this stop
+abbrev pub is_served : List (List ℕ) → ℕ → Bool
+is_served [] n = false
+is_served (route ∷ routes) n = if list_any (λ m. m == n) route then true else is_served routes n
+
+-- the stops that no route has
+abbrev pub unserved_one : List (List ℕ) → Stop → List Stop
+unserved_one routes s = if is_served routes s.number then [] else s ∷ []
+
+abbrev pub unserved : List (List ℕ) → List Stop → List Stop
+unserved routes stops = flat_map (unserved_one routes) stops

@@ -1,14 +1,16 @@
--- What is in the picture: the mark of each stop, the line of each route, and in it each leg.
-use Rattle.std.specs.Prelude.{◌≡◌, ℕ, ◌+◌, ◌≤◌, List, ◌++◌, length, slice_get, Some}
+-- What is in the picture: the mark of each stop, the line of each route, and in it each leg; and that it is well-formed.
+use Rattle.std.specs.Prelude.{◌≡◌, ℕ, ◌+◌, ◌≤◌, List, ◌++◌, length, slice_get, Some, IfSome, if◌then◌else◌}
 use Rattle.plan_types.specs.Instance.{Instance, IsInstance, stop_at}
 use Rattle.plan_types.specs.declared.requests.Stop.{Stop}
 use Rattle.plan_audit.specs.declared.rules.Verdict.{Verdict}
 use Rattle.route_sched.specs.Route.{AreLiveOnce, place}
 use Rattle.plan_picture.specs.Frame.{bounds_of, framed}
 use Rattle.plan_picture.specs.Known.{kept_of, known_stops}
-use Rattle.plan_picture.specs.Map.{line_text, point_text, stop_mark}
-use Rattle.plan_picture.specs.Picture.{broken_route, picture}
+use Rattle.plan_picture.specs.Map.{is_delivery, leg_text, line_text, mark_text, under_shape}
+use Rattle.plan_picture.specs.Picture.{broken_route, picture, route_picture}
+use Rattle.plan_picture.specs.WellFormed.{IsWellFormed}
 use Rattle.plan_picture.specs.declared.frame.Frame.{Frame}
+use Rattle.plan_picture.specs.declared.texts.Text.TheVariants as text
 
 -- these bytes stand in the text, one after another
 abbrev pub IsIn : List ℕ → List ℕ → Type 0
@@ -17,6 +19,10 @@ IsIn part text = (before : List ℕ) × (after : List ℕ) × (text ≡ before +
 -- the frame of the depot and the stops
 abbrev pub frame_of : Instance → Frame
 frame_of p = framed (bounds_of p.depot (known_stops p))
+
+-- the mark of a stop: pickups, deliveries and single stops are told apart
+abbrev pub stop_mark : Instance → Frame → Stop → List ℕ
+stop_mark p f s = mark_text (if is_delivery p s then text.DeliveryMark else under_shape p s) f s
 
 -- each stop of the problem has its mark
 abbrev pub StopsAreMarked : Type 0
@@ -30,10 +36,13 @@ RoutesAreDrawn = (p : Instance) (routes : List (List ℕ)) (verdict : Verdict) (
 abbrev pub RoutesAreKept : Type 0
 RoutesAreKept = (p : Instance) (route : List ℕ) → AreLiveOnce p route → kept_of p route ≡ route
 
--- the places of two stops, one after the other
-abbrev pub leg_text : Frame → Stop → Stop → List ℕ
-leg_text f a b = point_text f a ++ point_text f b
-
--- the line of such a route has each leg, from place k to the next one
+-- the line of a route has each leg, from place k to the next one
 abbrev pub LegsAreDrawn : Type 0
-LegsAreDrawn = (p : Instance) (f : Frame) (broken number : ℕ) (route : List ℕ) (k : ℕ) → IsInstance p → AreLiveOnce p route → k ≤ length route → IsIn (leg_text f (place p route k) (place p route (k + 1))) (line_text p f broken number route)
+LegsAreDrawn = (p : Instance) (f : Frame) (broken number : ℕ) (route : List ℕ) (k : ℕ) → k ≤ length route → IsIn (leg_text f (place p route k) (place p route (k + 1))) (line_text p f broken number route)
+
+-- whatever is drawn, the text is well-formed
+abbrev pub PicturesAreWellFormed : Type 0
+PicturesAreWellFormed = (p : Instance) (routes : List (List ℕ)) (verdict : Verdict) → IsWellFormed (picture p routes verdict)
+
+abbrev pub RoutePicturesAreWellFormed : Type 0
+RoutePicturesAreWellFormed = (p : Instance) (routes : List (List ℕ)) (verdict : Verdict) (number : ℕ) → IfSome (route_picture p routes verdict number) IsWellFormed

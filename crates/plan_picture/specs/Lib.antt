@@ -1,10 +1,13 @@
 -- what public contracts say
 pub mod Days
 pub mod Frame
+pub mod Heads
 pub mod Known
+pub mod Labels
 pub mod Laws
 pub mod Map
 pub mod Picture
 pub mod Svg
 pub mod Table
 pub mod Texts
+pub mod WellFormed

@@ -1,77 +1,147 @@
--- The map: a line for each route, a mark for each stop, a ring round the broken one, and the number of each route.
-use Rattle.std.specs.Prelude.{ℕ, ◌*◌, ◌/◌, List, [], ◌++◌, length, slice_get, is_some, if◌then◌else◌}
+-- The map: pairs, the legs of each route, a mark for each stop, rings round unserved stops and the broken one, and numbers.
+use Rattle.std.specs.Prelude.{ℕ, ◌-◌, ◌*◌, ◌/◌, ◌==◌, ◌||◌, nat_le, max, Bool, List, [], ◌∷◌, ◌++◌, is_some, if◌then◌else◌}
 use Rattle.std.specs.List.{flat_map}
 use Rattle.std.specs.Option.{option_and_then, option_map_or}
-use Rattle.plan_types.specs.Instance.{Instance, partner_at, pickup_at, stop_at}
+use Rattle.plan_types.specs.Instance.{Instance, partner_at, pickup_at}
 use Rattle.plan_types.specs.declared.requests.Stop.{Stop}
-use Rattle.plan_picture.specs.Frame.{bounds_of, framed, point_of}
-use Rattle.plan_picture.specs.Svg.{attribute, broken_class, colour, each, named, placed_tag}
-use Rattle.plan_picture.specs.declared.frame.Frame.{Frame}
+use Rattle.route_sched.specs.declared.visits.Visit.{Visit}
+use Rattle.plan_picture.specs.Frame.{apart, bounds_of, framed, on_the_way, point_of}
+use Rattle.plan_picture.specs.Known.{stop_among, unserved, visits_of}
+use Rattle.plan_picture.specs.Labels.{labels_of, quarters}
+use Rattle.plan_picture.specs.Svg.{at_text, attribute, broken_class, colour, each, named, placed_tag}
 use Rattle.plan_picture.specs.Texts.{fixed}
+use Rattle.plan_picture.specs.declared.frame.Frame.{Frame}
+use Rattle.plan_picture.specs.declared.frame.Point.{Point}
+use Rattle.plan_picture.specs.declared.labels.Area.{Area}
+use Rattle.plan_picture.specs.declared.labels.Label.{Label}
+use Rattle.plan_picture.specs.declared.labels.LabelKind.{LabelKind}
+use Rattle.plan_picture.specs.declared.labels.LabelKind.TheVariants.{Mark, Badge, Number}
 use Rattle.plan_picture.specs.declared.texts.Text.{Text}
 use Rattle.plan_picture.specs.declared.texts.Text.TheVariants as text
 
--- a place of a line, as ` X,Y`
-unfoldable pub point_text : Frame → Stop → List ℕ
-point_text f s = named text.Blank (point_of f s).x ++ named text.Comma (point_of f s).y
+-- a line from one stop to another
+unfoldable pub join_text : Frame → Stop → Stop → List ℕ
+join_text f a b = fixed text.Leg ++ at_text (point_of f a) ++ at_text (point_of f b) ++ fixed text.LineEnd
 
--- the places of a route: the depot, its stops, and the depot
-unfoldable pub points_text : Instance → Frame → List ℕ → List ℕ
-points_text p f route =
-    point_text f p.depot ++ flat_map (λ n. option_map_or (point_text f) (stop_at p n) []) route ++ point_text f p.depot
+-- a delivery is joined with its pickup, where both are drawn
+abbrev pub pair_text : Instance → Frame → List Stop → Stop → List ℕ
+pair_text p f stops s =
+    option_map_or (λ a. join_text f a s) (option_and_then (λ n. stop_among n stops) (pickup_at p s.number)) []
 
--- the beginning of a route's line: whether it is the broken one, and its colour
+unfoldable pub pairs_text : Instance → Frame → List Stop → List ℕ
+pairs_text p f stops = fixed text.Pairs ++ flat_map (pair_text p f stops) stops ++ fixed text.GroupEnd
+
+-- legs of 14 units and more, across or down, have an arrow
+unfoldable pub has_arrow : Frame → Point → Point → Bool
+has_arrow f a b = nat_le (14 * f.unit) (max (apart a.x b.x) (apart a.y b.y))
+
+-- the place of a leg's arrow
+abbrev pub arrow_text : Frame → Point → Point → List ℕ
+arrow_text f a b = if has_arrow f a b then at_text (on_the_way a b) else []
+
+-- a leg to or from the depot is pale
+abbrev pub leg_head : Stop → Stop → Text
+leg_head a b = if (a.number == 0) || (b.number == 0) then text.DepotLeg else text.Leg
+
+-- a leg from one stop to the next: the arrow stands at the place between its ends
+unfoldable pub leg_text : Frame → Stop → Stop → List ℕ
+leg_text f a b =
+    fixed (leg_head a b) ++ at_text (point_of f a) ++ arrow_text f (point_of f a) (point_of f b) ++ (at_text (point_of f b) ++ fixed text.LineEnd)
+
+-- the legs to these visits, one after the other
+abbrev pub legs_text : Frame → Stop → List Visit → List ℕ
+legs_text f last [] = []
+legs_text f last (v ∷ visits) = leg_text f last v.stop ++ legs_text f v.stop visits
+
+-- the beginning of a route's group: whether it is the broken one, and its colour
 unfoldable pub line_head : ℕ → ℕ → List ℕ
-line_head broken number = fixed text.Polyline ++ broken_class broken number ++ colour text.Stroke number
+line_head broken number = fixed text.Route ++ broken_class broken number ++ colour text.Stroke number ++ fixed text.Open
 
--- the line of a route
+-- the legs of a route
 unfoldable pub line_text : Instance → Frame → ℕ → ℕ → List ℕ → List ℕ
-line_text p f broken number route = line_head broken number ++ fixed text.Points ++ points_text p f route ++ fixed text.LineEnd
+line_text p f broken number route = line_head broken number ++ legs_text f p.depot (visits_of p route) ++ fixed text.GroupEnd
+
+unfoldable pub lines_text : Instance → Frame → ℕ → ℕ → List (List ℕ) → List ℕ
+lines_text p f broken first routes =
+    fixed text.Legs ++ each (line_text p f broken) first routes ++ fixed text.GroupEnd
 
 -- a shape where the stop stands, with the stop's number as its title
 unfoldable pub mark_text : Text → Frame → Stop → List ℕ
-mark_text shape f s = placed_tag shape (point_of f s) ++ named text.Title s.number ++ fixed text.MarkEnd
+mark_text shape f s = placed_tag shape (point_of f s) ++ named text.MarkTitle s.number ++ fixed text.MarkEnd
 
--- pickups, deliveries and single stops are told apart
-abbrev pub shape_of : Instance → ℕ → Text
-shape_of p n =
-    if is_some (pickup_at p n) then text.DeliveryMark else if is_some (partner_at p n) then text.PickupMark else text.StopMark
+abbrev pub is_delivery : Instance → Stop → Bool
+is_delivery p s = is_some (pickup_at p s.number)
 
--- the mark of a stop
-abbrev pub stop_mark : Instance → Frame → Stop → List ℕ
-stop_mark p f s = mark_text (shape_of p s.number) f s
+-- pickups and single stops lie below, deliveries above, so that two at one place are both seen
+abbrev pub under_shape : Instance → Stop → Text
+under_shape p s = if is_some (partner_at p s.number) then text.PickupMark else text.StopMark
 
--- the ring round the broken stop, if the problem has it
-abbrev pub ring_text : Instance → Frame → ℕ → List ℕ
-ring_text p f n = option_map_or (mark_text text.BrokenMark f) (stop_at p n) []
+abbrev pub under_mark : Instance → Frame → Stop → List ℕ
+under_mark p f s = if is_delivery p s then [] else mark_text (under_shape p s) f s
 
--- the number of a route at the stop in its middle
-unfoldable pub label_at : Frame → ℕ → Stop → List ℕ
-label_at f number s =
-    placed_tag text.Label (point_of f s) ++ colour text.Fill number ++ named text.LabelNumber number ++ fixed text.LabelEnd
+abbrev pub over_mark : Instance → Frame → Stop → List ℕ
+over_mark p f s = if is_delivery p s then mark_text text.DeliveryMark f s else []
 
-abbrev pub label_text : Instance → Frame → ℕ → List ℕ → List ℕ
-label_text p f number route = option_map_or (label_at f number) (option_and_then (stop_at p) (slice_get route (length route / 2))) []
+-- the ring round the broken stop, where it is drawn
+abbrev pub ring_text : Frame → List Stop → ℕ → List ℕ
+ring_text f stops n = option_map_or (mark_text text.BrokenMark f) (stop_among n stops) []
+
+unfoldable pub rings_text : Frame → List Stop → List Stop → ℕ → List ℕ
+rings_text f stops left broken = flat_map (mark_text text.UnservedMark f) left ++ ring_text f stops broken
+
+unfoldable pub marks_text : Instance → Frame → List Stop → List ℕ
+marks_text p f stops =
+    mark_text text.DepotMark f p.depot ++ flat_map (under_mark p f) stops ++ flat_map (over_mark p f) stops
+
+-- the box of a route's number
+unfoldable pub box_size : Area → List ℕ
+box_size a = attribute text.Width (a.right - a.left) ++ attribute text.Height (a.bottom - a.top)
+
+unfoldable pub box_text : ℕ → Area → List ℕ
+box_text n a =
+    placed_tag text.BadgeBox (record { x = a.left; y = a.top }) ++ box_size a ++ colour text.Fill n ++ fixed text.Close
+
+-- where the letters of a number stand: in the middle of its area, and so many quarters of the unit above its lower edge
+abbrev pub foot_of : Frame → ℕ → Area → Point
+foot_of f k a = record { x = a.right - (a.right - a.left) / 2; y = a.bottom - quarters f k }
+
+unfoldable pub number_text : Frame → Text → ℕ → ℕ → Area → List ℕ
+number_text f t k n a = placed_tag t (foot_of f k a) ++ named text.Tag n ++ fixed text.TextEnd
+
+unfoldable pub badge_text : Frame → ℕ → Area → List ℕ
+badge_text f n a = box_text n a ++ number_text f text.Badge 5 n a
+
+abbrev pub label_kind_text : Frame → LabelKind → ℕ → Area → List ℕ
+label_kind_text f Mark n a = []
+label_kind_text f Badge n a = badge_text f n a
+label_kind_text f Number n a = number_text f text.Number 2 n a
+
+abbrev pub label_text : Frame → Label → List ℕ
+label_text f l = label_kind_text f l.kind l.number l.area
+
+unfoldable pub labels_text : Frame → List Label → List ℕ
+labels_text f labels = fixed text.Labels ++ flat_map (label_text f) labels ++ fixed text.MapEnd
 
 -- the frame's size, and the unit as the size of letters
 unfoldable pub opening_text : Frame → List ℕ
 opening_text f =
     named text.Map f.width ++ named text.Blank f.height ++ attribute text.Letters f.unit ++ fixed text.Open
 
-unfoldable pub lines_text : Instance → Frame → ℕ → List (List ℕ) → List ℕ
-lines_text p f broken routes =
-    fixed text.Lines ++ each (line_text p f broken) 1 routes ++ fixed text.GroupEnd
+-- the lines of the map in this frame
+unfoldable pub under_text : Instance → Frame → List Stop → ℕ → List (List ℕ) → ℕ → List ℕ
+under_text p f stops first routes broken =
+    opening_text f ++ pairs_text p f stops ++ lines_text p f broken first routes
 
-unfoldable pub marks_text : Instance → Frame → ℕ → List Stop → List ℕ
-marks_text p f broken stops = mark_text text.DepotMark f p.depot ++ flat_map (stop_mark p f) stops ++ ring_text p f broken
+-- what lies above them
+unfoldable pub over_text : Instance → Frame → List Stop → ℕ → List (List ℕ) → ℕ → List ℕ
+over_text p f stops first routes broken =
+    marks_text p f stops ++ rings_text f stops (unserved routes stops) broken ++ labels_text f (labels_of p f first routes stops)
 
-unfoldable pub labels_text : Instance → Frame → List (List ℕ) → List ℕ
-labels_text p f routes =
-    attribute text.Labels (3 * f.unit) ++ fixed text.Open ++ each (label_text p f) 1 routes ++ fixed text.MapEnd
+-- the map of these stops and routes, the first of which has this number, with the number of the broken route and that of
+-- the broken stop
+unfoldable pub map_in : Frame → Instance → List Stop → ℕ → List (List ℕ) → ℕ → ℕ → List ℕ
+map_in f p stops first routes route stop =
+    under_text p f stops first routes route ++ over_text p f stops first routes stop
 
--- the map in this frame, with the number of the broken route and that of the broken stop
-unfoldable pub map_in : Frame → Instance → List Stop → List (List ℕ) → ℕ → ℕ → List ℕ
-map_in f p stops routes route stop = opening_text f ++ lines_text p f route routes ++ marks_text p f stop stops ++ labels_text p f routes
-
-abbrev pub map_text : Instance → List Stop → List (List ℕ) → ℕ → ℕ → List ℕ
-map_text p stops routes route stop = map_in (framed (bounds_of p.depot stops)) p stops routes route stop
+abbrev pub map_text : Instance → List Stop → ℕ → List (List ℕ) → ℕ → ℕ → List ℕ
+map_text p stops first routes route stop = map_in (framed (bounds_of p.depot stops)) p stops first routes route stop

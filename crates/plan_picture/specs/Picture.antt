@@ -1,14 +1,16 @@
--- The picture of a plan, byte by byte.
-use Rattle.std.specs.Prelude.{ℕ, ◌+◌, ◌*◌, List, ◌++◌, map, length}
+-- The picture of a plan, or of one of its routes, byte by byte.
+use Rattle.std.specs.Prelude.{ℕ, ◌+◌, ◌*◌, List, [], ◌∷◌, ◌++◌, Option, map, length}
+use Rattle.std.specs.Option.{option_map}
 use Rattle.plan_types.specs.Instance.{Instance}
-use Rattle.plan_types.specs.declared.plans.Cost.{Cost}
+use Rattle.plan_types.specs.declared.requests.Stop.{Stop}
+use Rattle.plan_audit.specs.Rules.{item_at}
 use Rattle.plan_audit.specs.declared.rules.Verdict.{Verdict}
 use Rattle.plan_audit.specs.declared.rules.Verdict.TheVariants.{Broken, Pass}
 use Rattle.plan_picture.specs.Days.{days_text}
-use Rattle.plan_picture.specs.Known.{kept_of, known_stops}
+use Rattle.plan_picture.specs.Heads.{head_text, title_text, unserved_text}
+use Rattle.plan_picture.specs.Known.{kept_of, known_stops, stops_along, unserved}
 use Rattle.plan_picture.specs.Map.{map_text}
-use Rattle.plan_picture.specs.Svg.{attribute, named}
-use Rattle.plan_picture.specs.Table.{rows_text}
+use Rattle.plan_picture.specs.Table.{grid_of, rows_text}
 use Rattle.plan_picture.specs.Texts.{fixed}
 use Rattle.plan_picture.specs.declared.texts.Text.TheVariants as text
 
@@ -22,29 +24,30 @@ abbrev pub broken_stop : Verdict → ℕ
 broken_stop (Pass cost) = 0
 broken_stop (Broken rule route place stop) = stop
 
-unfoldable pub cost_text : Cost → List ℕ
-cost_text cost =
-    named text.Unplanned cost.unplanned ++ named text.Vehicles cost.vehicles ++ named text.Distance cost.distance
+-- the map and the table of these stops and routes, the first of which has this number
+unfoldable pub drawn_text : Instance → List Stop → ℕ → List (List ℕ) → Verdict → List ℕ
+drawn_text p stops first routes verdict =
+    map_text p stops first routes (broken_route verdict) (broken_stop verdict) ++ rows_text p (grid_of p.kind (length routes)) (broken_route verdict) first routes ++ days_text p.kind p routes
 
-unfoldable pub broken_text : ℕ → ℕ → ℕ → ℕ → List ℕ
-broken_text rule route place stop =
-    named text.BrokenRule rule ++ named text.BrokenRoute route ++ named text.BrokenPlace place ++ named text.BrokenStop stop
+-- the head of a picture with so many rows
+abbrev pub sized_head : Instance → ℕ → List ℕ
+sized_head p rows = head_text p.kind (1130 + (grid_of p.kind rows).pitch * (grid_of p.kind rows).rows)
 
--- the line over the map
-abbrev pub verdict_text : Verdict → List ℕ
-verdict_text (Pass cost) = cost_text cost
-verdict_text (Broken rule route place stop) = broken_text rule route place stop
+-- the picture of all routes
+unfoldable pub whole_text : Instance → List (List ℕ) → Verdict → List ℕ
+whole_text p routes verdict =
+    sized_head p (length routes) ++ title_text p routes verdict 0 ++ unserved_text (length (unserved routes (known_stops p))) ++ drawn_text p (known_stops p) 1 routes verdict
 
--- the size of the picture, its shapes, and the verdict
-unfoldable pub head_text : ℕ → Verdict → List ℕ
-head_text rows verdict =
-    attribute text.Head (1120 + 20 * rows) ++ fixed text.Style ++ verdict_text verdict ++ fixed text.TextEnd
-
--- the picture of routes of live stops, each once
-unfoldable pub drawing : Instance → List (List ℕ) → Verdict → List ℕ
-drawing p routes verdict =
-    head_text (length routes) verdict ++ map_text p (known_stops p) routes (broken_route verdict) (broken_stop verdict) ++ rows_text p (broken_route verdict) routes ++ days_text p.kind p routes
+-- the picture of one of them: its stops alone, so that they stand further apart
+unfoldable pub route_text : Instance → List (List ℕ) → Verdict → ℕ → List ℕ → List ℕ
+route_text p routes verdict number route =
+    sized_head p 1 ++ title_text p routes verdict number ++ drawn_text p (stops_along p route) number (route ∷ []) verdict
 
 -- the picture of any routes
 abbrev pub picture : Instance → List (List ℕ) → Verdict → List ℕ
-picture p routes verdict = drawing p (map (kept_of p) routes) verdict ++ fixed text.End
+picture p routes verdict = whole_text p (map (kept_of p) routes) verdict ++ fixed text.End
+
+-- the picture of the route with this number, counted from 1, if there is one
+abbrev pub route_picture : Instance → List (List ℕ) → Verdict → ℕ → Option (List ℕ)
+route_picture p routes verdict number =
+    option_map (λ route. route_text p (map (kept_of p) routes) verdict number route ++ fixed text.End) (item_at (map (kept_of p) routes) number)

@@ -1,5 +1,5 @@
 -- The pieces of SVG that a picture is made of.
-use Rattle.std.specs.Prelude.{ℕ, ◌+◌, ◌*◌, ◌%◌, ◌==◌, if◌then◌else◌, List, [], ◌∷◌, ◌++◌, decimal}
+use Rattle.std.specs.Prelude.{ℕ, ◌+◌, ◌*◌, ◌%◌, ◌==◌, if◌then◌else◌, List, [], ◌∷◌, ◌++◌, decimal, length}
 use Rattle.plan_picture.specs.Texts.{fixed}
 use Rattle.plan_picture.specs.declared.frame.Point.{Point}
 use Rattle.plan_picture.specs.declared.texts.Text.{Text}
@@ -12,6 +12,22 @@ named t n = fixed t ++ decimal n
 -- the same with the quote that ends an attribute
 unfoldable pub attribute : Text → ℕ → List ℕ
 attribute t n = fixed t ++ decimal n ++ fixed text.Quote
+
+-- the same, and nothing where the number is 0
+abbrev pub some_named : Text → ℕ → List ℕ
+some_named t n = if n == 0 then [] else named t n
+
+-- a place of a line, as ` X,Y`
+unfoldable pub at_text : Point → List ℕ
+at_text point = named text.Blank point.x ++ named text.Comma point.y
+
+-- a number as an element `text`, whose tag is begun by this text
+unfoldable pub placed_text : Text → ℕ → ℕ → List ℕ
+placed_text t x n = fixed t ++ attribute text.X x ++ named text.Tag n ++ fixed text.TextEnd
+
+-- how many digits a number has
+abbrev pub digit_count : ℕ → ℕ
+digit_count n = length (decimal n)
 
 -- a tag with the place where it stands, not closed yet
 unfoldable pub placed_tag : Text → Point → List ℕ

@@ -1,11 +1,12 @@
 //! The chart beside the table: when each vehicle drives, waits and serves.
-ghost use Rattle.std.specs.Prelude.{◌≡◌, ◌+◌, ◌≤◌, ◌^◌, ◌++◌, All, IfOk, OnOk};
+ghost use Rattle.std.specs.Prelude.{◌≡◌, ◌+◌, ◌≤◌, ◌^◌, ◌++◌, max, All, IfOk, OnOk};
+ghost use Rattle.std.specs.List.{flat_map, range_with_len};
 ghost use Rattle.route_sched.specs.Route.{AreLiveOnce};
-ghost use Rattle.plan_picture.specs.Days.{axis_text, chart_head, chart_text, day_text, days_text, horizon, last_start, late_text, visit_text, visits_text, window_text, work_text};
+ghost use Rattle.plan_picture.specs.Days.{across, bars_text, chart_head, chart_text, day_text, days_text, horizon, last_start, late_text, nth_tick, tick_line, tick_step, tick_text, ticks_text, time_room, time_text, times_row, times_rows, times_text, visit_text, visits_text, window_text, work_text};
 ghost use Rattle.plan_picture.specs.Svg.{each};
 
 use crate::known::visits;
-use crate::svg::Svg;
+use crate::svg::{Svg, digits};
 use crate::texts::Text;
 use plan_types::{Kind, OutOfMemory, Problem, Route, Stop};
 use route_sched::Visit;
@@ -26,8 +27,7 @@ impl Svg {
         match problem.kind {
             Kind::LiLim => {
                 let last = horizon(alloc, problem, routes)?;
-                self.put_chart(alloc, problem, last, routes)?;
-                self.put(Text::End)
+                self.put_chart(alloc, problem, last, routes)
             }
             Kind::Vrp => Ok(()),
         }
@@ -45,20 +45,84 @@ impl Svg {
         ensures { OnOk result (self.new ≡ self.old ++ chart_text problem.now last routes.now) }
     {
         let first = problem.depot.earliest;
-        self.put_axis(first, last)?;
-        self.put_chart_head(first, last, 20 * routes.len() as u128)?;
-        self.put(Text::Open)?;
-        self.put_each_day(alloc, problem, routes)
+        self.put_ticks(first, last, 30 * routes.len() as u128)?;
+        self.put_bars(alloc, problem, last, routes)?;
+        self.put_times_rows(alloc, problem, last, routes)
     }
 
-    // The times at the ends of the chart, and what its colours mean.
-    #[tactic(auto, unfolding(crate::specs::Days::axis_text))]
-    fn put_axis(&mut self, first: u32, last: u64) -> Result<(), OutOfMemory>
-        ensures { OnOk result (self.new ≡ self.old ++ axis_text first last) }
+    // The axis.
+    #[tactic(auto, unfolding(crate::specs::Days::ticks_text))]
+    fn put_ticks(&mut self, first: u32, last: u64, height: u128) -> Result<(), OutOfMemory>
+        ensures { OnOk result (self.new ≡ self.old ++ ticks_text first last height) }
     {
-        self.put_named(Text::First, first as u128)?;
-        self.put_named(Text::Last, last as u128)?;
-        self.put(Text::Key)
+        let step = tick_step(20, last.saturating_sub(u64::from(first)));
+        self.put(Text::Ticks)?;
+        self.put_each_tick(first, last, height, step)?;
+        self.put(Text::GroupEnd)
+    }
+
+    fn put_each_tick(
+        &mut self,
+        first: u32,
+        last: u64,
+        height: u128,
+        step: u64,
+    ) -> Result<(), OutOfMemory>
+        requires { 1 ≤ step }
+        ensures { OnOk result (self.new ≡ self.old
+            ++ flat_map (nth_tick first last height step) (range_with_len 0 14)) }
+    {
+        for n in 0..14u64 {
+            let ticks = u64::from(first).div_ceil(step) as u128 + n as u128;
+            self.put_tick(first, last, height, step as u128 * ticks)?;
+        }
+        Ok(())
+    }
+
+    // A line down all rows, with its time above.
+    #[tactic(auto, unfolding(crate::specs::Days::tick_text))]
+    fn put_tick(
+        &mut self,
+        first: u32,
+        last: u64,
+        height: u128,
+        time: u128,
+    ) -> Result<(), OutOfMemory>
+        ensures { OnOk result (self.new ≡ self.old ++ tick_text first last height time) }
+    {
+        if time > last as u128 {
+            return Ok(());
+        }
+        let x = across(first, last, time as u64);
+        self.put_tick_line(x, height)?;
+        self.put_text(Text::TickTime, x, time)
+    }
+
+    #[tactic(auto, unfolding(crate::specs::Days::tick_line))]
+    fn put_tick_line(&mut self, x: u128, height: u128) -> Result<(), OutOfMemory>
+        ensures { OnOk result (self.new ≡ self.old ++ tick_line x height) }
+    {
+        self.put(Text::TickLine)?;
+        self.put_attribute(Text::X, x)?;
+        self.put_attribute(Text::Height, height)?;
+        self.put(Text::Close)
+    }
+
+    #[tactic(auto, unfolding(crate::specs::Days::bars_text))]
+    fn put_bars(
+        &mut self,
+        alloc: Global,
+        problem: &Problem,
+        last: u64,
+        routes: &[Route],
+    ) -> Result<(), OutOfMemory>
+        requires { All (AreLiveOnce problem.now) routes.now }
+        ensures { OnOk result (self.new ≡ self.old ++ bars_text problem.now last routes.now) }
+    {
+        let height = 30 * routes.len() as u128;
+        self.put_chart_head(problem.depot.earliest, last, height)?;
+        self.put_each_day(alloc, problem, routes)?;
+        self.put(Text::End)
     }
 
     #[tactic(auto, unfolding(crate::specs::Days::chart_head))]
@@ -71,7 +135,84 @@ impl Svg {
             Text::ChartWidth,
             last.saturating_sub(u64::from(first)) as u128,
         )?;
-        self.put_attribute(Text::Blank, height)
+        self.put_attribute(Text::Blank, height)?;
+        self.put(Text::Open)
+    }
+
+    #[tactic(auto, unfolding(crate::specs::Days::times_rows))]
+    fn put_times_rows(
+        &mut self,
+        alloc: Global,
+        problem: &Problem,
+        last: u64,
+        routes: &[Route],
+    ) -> Result<(), OutOfMemory>
+        requires { All (AreLiveOnce problem.now) routes.now }
+        ensures { OnOk result (self.new ≡ self.old ++ times_rows problem.now last routes.now) }
+    {
+        self.put(Text::Times)?;
+        self.put_each_times_row(alloc, problem, last, routes)?;
+        self.put(Text::GroupEnd)
+    }
+
+    fn put_each_times_row(
+        &mut self,
+        alloc: Global,
+        problem: &Problem,
+        last: u64,
+        routes: &[Route],
+    ) -> Result<(), OutOfMemory>
+        requires { All (AreLiveOnce problem.now) routes.now }
+        ensures { OnOk result (self.new ≡ self.old
+            ++ each (times_row problem.now last) 0 routes.now) }
+    {
+        for (index, route) in routes.iter().enumerate() {
+            self.put_times_row(alloc, problem, last, index, route.as_slice())?;
+        }
+        Ok(())
+    }
+
+    #[tactic(auto, unfolding(crate::specs::Days::times_row))]
+    fn put_times_row(
+        &mut self,
+        alloc: Global,
+        problem: &Problem,
+        last: u64,
+        index: usize,
+        route: &[u32],
+    ) -> Result<(), OutOfMemory>
+        requires { AreLiveOnce problem.now route.now }
+        ensures { OnOk result (self.new ≡ self.old ++ times_row problem.now last index route.now) }
+    {
+        let visits = visits(alloc, problem, route)?;
+        self.put_named(Text::Day, 1116 + 30 * index as u128)?;
+        self.put(Text::DayOpen)?;
+        self.put_times(problem.depot.earliest, last, &visits)?;
+        self.put(Text::GroupEnd)
+    }
+
+    // The times of the visits, each where it covers none before.
+    fn put_times(&mut self, first: u32, last: u64, visits: &[Visit]) -> Result<(), OutOfMemory>
+        ensures { OnOk result (self.new ≡ self.old ++ times_text first last 0 visits.now) }
+    {
+        let mut free = 0;
+        for visit in visits {
+            let x = across(first, last, visit.start);
+            if free <= x {
+                self.put_time(x, visit)?;
+                free = x + u128::from(time_room(visit));
+            }
+        }
+        Ok(())
+    }
+
+    // A stop, and when service starts there.
+    #[tactic(auto, unfolding(crate::specs::Days::time_text))]
+    fn put_time(&mut self, x: u128, visit: &Visit) -> Result<(), OutOfMemory>
+        ensures { OnOk result (self.new ≡ self.old ++ time_text x visit.now) }
+    {
+        self.put_text(Text::TimeStop, x, visit.stop.number as u128)?;
+        self.put_text(Text::TimeStart, x, visit.start as u128)
     }
 
     fn put_each_day(
@@ -102,7 +243,7 @@ impl Svg {
         ensures { OnOk result (self.new ≡ self.old ++ day_text problem.now index route.now) }
     {
         let visits = visits(alloc, problem, route)?;
-        self.put_named(Text::Day, 20 * index as u128)?;
+        self.put_named(Text::Day, 30 * index as u128)?;
         self.put(Text::DayOpen)?;
         self.put_visits(problem.depot.earliest, &visits)?;
         self.put(Text::GroupEnd)
@@ -196,4 +337,41 @@ fn last_start(first: u64, visits: &[Visit]) -> u64
         last = last.max(visit.start);
     }
     last
+}
+
+// The distance of the ticks of a day that is so long: 1, 2 or 5 with zeros behind it, so that about twelve fit.
+fn tick_step(zeros: u32, span: u64) -> u64
+    ensures value { result ≡ tick_step zeros span }
+    ensures some { 1 ≤ result }
+    ensures bound { result ≤ max span 1 }
+{
+    if zeros == 0 || span <= 12 {
+        return 1;
+    }
+    if span <= 24 {
+        return 2;
+    }
+    if span <= 60 {
+        return 5;
+    }
+    10 * tick_step(zeros - 1, span / 10)
+}
+
+// How much room a stop and its time need.
+fn time_room(visit: &Visit) -> u32
+    ensures { result ≡ time_room visit.now }
+{
+    let number = u64::from(visit.stop.number);
+    6 * digits(visit.start).max(digits(number)) + 5
+}
+
+// Where a time stands beside the table.
+#[tactic(auto, unfolding(crate::specs::Days::across))]
+fn across(first: u32, last: u64, time: u64) -> u128
+    ensures value { result ≡ across first last time }
+    ensures bound { result ≤ 2 ^ 80 }
+{
+    let first = u64::from(first);
+    let span = last.saturating_sub(first).max(1);
+    320 + 840 * time.saturating_sub(first) as u128 / span as u128
 }

@@ -1,21 +1,24 @@
-//! The whole picture: the verdict, the map, the table and the days.
-ghost use Rattle.std.specs.Prelude.{◌≡◌, ◌++◌, All, IfOk, OnOk};
+//! The whole picture: the verdict, the map, the table and the days; and that of one route.
+ghost use Rattle.std.specs.Prelude.{◌≡◌, ◌≤◌, ◌^◌, [], ◌∷◌, ◌++◌, All, IfOk, OnOk};
+ghost use Rattle.std.specs.Option.{option_map};
 ghost use Rattle.route_sched.specs.Route.{AreLiveOnce};
-ghost use Rattle.plan_picture.specs.Picture.{broken_route, broken_stop, broken_text, cost_text, drawing, head_text, picture, verdict_text};
+ghost use Rattle.plan_picture.specs.Picture.{broken_route, broken_stop, drawn_text, picture, route_picture, route_text, sized_head, whole_text};
 
-use crate::known::{kept_routes, known_stops};
+use crate::known::{kept_routes, known_stops, stops_along, unserved};
 use crate::map::Broken;
 use crate::svg::Svg;
+use crate::table::grid_of;
 use crate::texts::Text;
 use plan_audit::Verdict;
-use plan_types::{Cost, OutOfMemory, Problem, Route};
+use plan_types::{OutOfMemory, Problem, Route, Stop};
 use std::alloc::Global;
+use std::slice;
 
-/// The picture of a plan as SVG 2, in whole numbers alone: a line for each route, a mark for each stop, a row of figures for each route,
-/// and, where windows count, the day of each vehicle.
+/// The picture of a plan as SVG 2: a line for each route with its direction, a mark and a number for each stop, a row of figures for
+/// each route, and, where windows count, the day of each vehicle. All numbers that are computed are whole.
 ///
-/// What the verdict tells as broken is marked. Of each route the stops are drawn that the problem has, each where it stands first, so a
-/// plan that breaks rules is drawn too.
+/// What the verdict tells as broken is marked, and told in words. Of each route the stops are drawn that the problem has, each where
+/// it stands first, so a plan that breaks rules is drawn too. Stops that no route has are ringed and counted.
 pub fn draw(
     alloc: Global,
     problem: &Problem,
@@ -26,9 +29,33 @@ pub fn draw(
 {
     let kept = kept_routes(alloc, problem, routes)?;
     let mut svg = Svg::new(alloc);
-    svg.put_drawing(alloc, problem, &kept, verdict)?;
+    svg.put_whole(alloc, problem, &kept, verdict)?;
     svg.put(Text::End)?;
     Ok(svg.into_vec())
+}
+
+/// The picture of one route alone, larger: its stops fill the map. Routes count from 1; `None` where there is none with this number.
+pub fn draw_route(
+    alloc: Global,
+    problem: &Problem,
+    routes: &[Route],
+    verdict: Verdict,
+    number: u64,
+) -> Result<Option<Vec<u8>>, OutOfMemory>
+    ensures { IfOk result (λ svg. option_map (λ svg. svg.items) svg
+        ≡ route_picture problem.now routes.now verdict number) }
+{
+    let kept = kept_routes(alloc, problem, routes)?;
+    if number == 0 {
+        return Ok(None);
+    }
+    let Some(route) = kept.get(number as usize - 1) else {
+        return Ok(None);
+    };
+    let mut svg = Svg::new(alloc);
+    svg.put_route(alloc, problem, &kept, verdict, number, route)?;
+    svg.put(Text::End)?;
+    Ok(Some(svg.into_vec()))
 }
 
 fn broken_at(verdict: Verdict) -> Broken
@@ -42,8 +69,8 @@ fn broken_at(verdict: Verdict) -> Broken
 }
 
 impl Svg {
-    #[tactic(auto, unfolding(crate::specs::Picture::drawing))]
-    fn put_drawing(
+    #[tactic(auto, unfolding(crate::specs::Picture::whole_text))]
+    fn put_whole(
         &mut self,
         alloc: Global,
         problem: &Problem,
@@ -51,63 +78,76 @@ impl Svg {
         verdict: Verdict,
     ) -> Result<(), OutOfMemory>
         requires { All (AreLiveOnce problem.now) routes.now }
-        ensures { OnOk result (self.new ≡ self.old ++ drawing problem.now routes.now verdict) }
+        ensures { OnOk result (self.new ≡ self.old ++ whole_text problem.now routes.now verdict) }
     {
         let stops = known_stops(alloc, problem)?;
-        let broken = broken_at(verdict);
-        self.put_head(routes.len(), verdict)?;
-        self.put_map(problem, &stops, routes, broken)?;
-        self.put_rows(alloc, problem, broken.route, routes)?;
-        self.put_days(alloc, problem, routes)
+        let left = unserved(alloc, routes, &stops)?;
+        self.put_sized_head(problem, routes.len())?;
+        self.put_title(alloc, problem, routes, verdict, 0)?;
+        self.put_unserved_count(left.len())?;
+        self.put_drawn(alloc, problem, &stops, 1, routes, verdict)
     }
 
-    // The size of the picture, its shapes, and the verdict.
-    #[tactic(auto, unfolding(crate::specs::Picture::head_text))]
-    fn put_head(&mut self, rows: usize, verdict: Verdict) -> Result<(), OutOfMemory>
-        ensures { OnOk result (self.new ≡ self.old ++ head_text rows verdict) }
-    {
-        self.put_attribute(Text::Head, 1120 + 20 * rows as u128)?;
-        self.put(Text::Style)?;
-        self.put_verdict(verdict)?;
-        self.put(Text::TextEnd)
-    }
-
-    fn put_verdict(&mut self, verdict: Verdict) -> Result<(), OutOfMemory>
-        ensures { OnOk result (self.new ≡ self.old ++ verdict_text verdict) }
-    {
-        match verdict {
-            Verdict::Pass(cost) => self.put_cost(cost),
-            Verdict::Broken {
-                rule,
-                route,
-                place,
-                stop,
-            } => self.put_broken_place(rule, route, place, stop),
-        }
-    }
-
-    #[tactic(auto, unfolding(crate::specs::Picture::cost_text))]
-    fn put_cost(&mut self, cost: Cost) -> Result<(), OutOfMemory>
-        ensures { OnOk result (self.new ≡ self.old ++ cost_text cost) }
-    {
-        self.put_named(Text::Unplanned, cost.unplanned as u128)?;
-        self.put_named(Text::Vehicles, cost.vehicles as u128)?;
-        self.put_named(Text::Distance, cost.distance as u128)
-    }
-
-    #[tactic(auto, unfolding(crate::specs::Picture::broken_text))]
-    fn put_broken_place(
+    #[tactic(auto, unfolding(crate::specs::Picture::route_text))]
+    fn put_route(
         &mut self,
-        rule: u32,
-        route: u64,
-        place: u64,
-        stop: u32,
+        alloc: Global,
+        problem: &Problem,
+        routes: &[Route],
+        verdict: Verdict,
+        number: u64,
+        route: &Route,
     ) -> Result<(), OutOfMemory>
-        ensures { OnOk result (self.new ≡ self.old ++ broken_text rule route place stop) }
+        requires number { number ≤ 2 ^ 63 }
+        requires routes { All (AreLiveOnce problem.now) routes.now }
+        requires route { AreLiveOnce problem.now route.now }
+        ensures { OnOk result (self.new ≡ self.old
+            ++ route_text problem.now routes.now verdict number route.now) }
     {
-        self.put_named(Text::BrokenRule, rule as u128)?;
-        self.put_named(Text::BrokenRoute, route as u128)?;
-        self.put_named(Text::BrokenPlace, place as u128)?;
-        self.put_named(Text::BrokenStop, stop as u128)
+        let stops = stops_along(alloc, problem, route.as_slice())?;
+        self.put_sized_head(problem, 1)?;
+        self.put_title(alloc, problem, routes, verdict, number)?;
+        self.put_drawn(
+            alloc,
+            problem,
+            &stops,
+            number,
+            slice::from_ref(route),
+            verdict,
+        )
+    }
+
+    // The head of a picture with so many rows.
+    fn put_sized_head(&mut self, problem: &Problem, rows: usize) -> Result<(), OutOfMemory>
+        ensures { OnOk result (self.new ≡ self.old ++ sized_head problem.now rows) }
+    {
+        let grid = grid_of(problem.kind, rows);
+        self.put_head(
+            problem.kind,
+            1130 + u128::from(grid.pitch) * grid.rows as u128,
+        )
+    }
+
+    // The map and the table of these stops and routes, the first of which has the number `first`.
+    #[tactic(auto, unfolding(crate::specs::Picture::drawn_text))]
+    fn put_drawn(
+        &mut self,
+        alloc: Global,
+        problem: &Problem,
+        stops: &[Stop],
+        first: u64,
+        routes: &[Route],
+        verdict: Verdict,
+    ) -> Result<(), OutOfMemory>
+        requires first { first ≤ 2 ^ 63 }
+        requires routes { All (AreLiveOnce problem.now) routes.now }
+        ensures { OnOk result (self.new ≡ self.old
+            ++ drawn_text problem.now stops.now first routes.now verdict) }
+    {
+        let broken = broken_at(verdict);
+        let grid = grid_of(problem.kind, routes.len());
+        self.put_map(alloc, problem, stops, first, routes, broken)?;
+        self.put_rows(alloc, problem, grid, broken.route, first, routes)?;
+        self.put_days(alloc, problem, routes)
     }
 }

@@ -2,9 +2,9 @@
 //!
 //! The scale is the least whole number by which the greater side becomes 4000 long or more. Marks, lines and
 //! letters are measured in `em` of a font as large as the unit, a 400th of that side rounded down.
-ghost use Rattle.std.specs.Prelude.{◌≡◌, ◌≤◌};
+ghost use Rattle.std.specs.Prelude.{◌≡◌, ◌≤◌, ◌^◌};
 ghost use Rattle.std.specs.Int.{int_max, int_min};
-ghost use Rattle.plan_picture.specs.Frame.{bounds_at, bounds_of, framed, gap, point_of, scale_of, size_of, unit_of, widened};
+ghost use Rattle.plan_picture.specs.Frame.{apart, bounds_at, bounds_of, framed, gap, on_the_way, point_of, scale_of, size_of, unit_of, widened};
 
 use plan_types::Stop;
 
@@ -130,8 +130,8 @@ impl Bounds {
             top: self.top,
             scale,
             unit,
-            width: across + 20 * u128::from(unit),
-            height: down + 20 * u128::from(unit),
+            width: across + 24 * u128::from(unit),
+            height: down + 24 * u128::from(unit),
         }
     }
 }
@@ -140,13 +140,38 @@ impl Frame {
     /// Where a stop stands.
     #[tactic(auto, unfolding(crate::specs::Frame::point_of))]
     pub(crate) fn point(&self, stop: &Stop) -> Point
-        ensures { result ≡ point_of self.now stop.now }
+        ensures place { result ≡ point_of self.now stop.now }
+        ensures near { result.x ≤ 2 ^ 70 }
+        ensures high { result.y ≤ 2 ^ 70 }
     {
         let scale = u128::from(self.scale);
-        let room = 10 * u128::from(self.unit);
+        let room = 12 * u128::from(self.unit);
         Point {
             x: room + scale * u128::from(gap(stop.x, self.left)),
             y: room + scale * u128::from(gap(self.top, stop.y)),
+        }
+    }
+}
+
+/// How far two numbers are apart.
+pub(crate) fn apart(m: u128, n: u128) -> u128
+    ensures { result ≡ apart m n }
+{
+    m.saturating_sub(n).max(n.saturating_sub(m))
+}
+
+impl Point {
+    /// The place three fifths of the way to another one.
+    pub(crate) fn on_the_way(&self, end: &Point) -> Point
+        requires near { self.now.x ≤ 2 ^ 70 }
+        requires high { self.now.y ≤ 2 ^ 70 }
+        requires end_near { end.now.x ≤ 2 ^ 70 }
+        requires end_high { end.now.y ≤ 2 ^ 70 }
+        ensures { result ≡ on_the_way self.now end.now }
+    {
+        Point {
+            x: (2 * self.x + 3 * end.x) / 5,
+            y: (2 * self.y + 3 * end.y) / 5,
         }
     }
 }

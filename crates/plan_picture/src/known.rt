@@ -1,7 +1,8 @@
 //! The stops that are drawn, and what is drawn of a route.
-ghost use Rattle.std.specs.Prelude.{◌≡◌, All, IfOk, map};
+ghost use Rattle.std.specs.Prelude.{◌≡◌, ◌++◌, All, IfOk, OnOk, map};
+ghost use Rattle.std.specs.Option.{option_copied};
 ghost use Rattle.route_sched.specs.Route.{AreLiveOnce};
-ghost use Rattle.plan_picture.specs.Known.{is_new, kept_of, known_stops, visits_of};
+ghost use Rattle.plan_picture.specs.Known.{is_new, is_served, kept_of, known_stops, stop_among, stops_along, unserved, unserved_one, visits_of};
 
 use plan_types::{OutOfMemory, Problem, Route, Stop};
 use route_sched::{Visit, Visits};
@@ -66,4 +67,70 @@ pub(crate) fn visits(
     ensures { IfOk result (λ visits. visits.items ≡ visits_of problem.now route.now) }
 {
     Visits::new(problem, route).collect(alloc)
+}
+
+/// The stops of a route, in its order.
+pub(crate) fn stops_along(
+    alloc: Global,
+    problem: &Problem,
+    route: &[u32],
+) -> Result<Vec<Stop>, OutOfMemory>
+    ensures { IfOk result (λ stops. stops.items ≡ stops_along problem.now route.now) }
+{
+    let mut stops = Vec::new(alloc);
+    for number in route {
+        if let Some(stop) = problem.stop(*number) {
+            stops.push(*stop)?;
+        }
+    }
+    Ok(stops)
+}
+
+/// The stop with this number among these.
+pub(crate) fn stop_among(number: u32, stops: &[Stop]) -> Option<&Stop>
+    ensures { option_copied result ≡ stop_among number stops.now }
+{
+    for stop in stops {
+        if stop.number == number {
+            return Some(stop);
+        }
+    }
+    None
+}
+
+/// The stops that no route has.
+pub(crate) fn unserved(
+    alloc: Global,
+    routes: &[Route],
+    stops: &[Stop],
+) -> Result<Vec<Stop>, OutOfMemory>
+    ensures { IfOk result (λ left. left.items ≡ unserved routes.now stops.now) }
+{
+    let mut left = Vec::new(alloc);
+    for stop in stops {
+        keep_unserved(&mut left, routes, stop)?;
+    }
+    Ok(left)
+}
+
+fn keep_unserved(left: &mut Vec<Stop>, routes: &[Route], stop: &Stop) -> Result<(), OutOfMemory>
+    ensures { OnOk result (left.new.items ≡ left.old.items ++ unserved_one routes.now stop.now) }
+{
+    if is_served(routes, stop.number) {
+        return Ok(());
+    }
+    left.push(*stop)?;
+    Ok(())
+}
+
+// Whether a route has this stop.
+fn is_served(routes: &[Route], number: u32) -> bool
+    ensures { result ≡ is_served routes.now number }
+{
+    for route in routes {
+        if route.as_slice().contains(&number) {
+            return true;
+        }
+    }
+    false
 }

@@ -1,5 +1,5 @@
-//! What is in each picture.
-ghost use Rattle.plan_picture.specs.Laws.{LegsAreDrawn, RoutesAreDrawn, RoutesAreKept, StopsAreMarked};
+//! What is in each picture, and that it is well-formed.
+ghost use Rattle.plan_picture.specs.Laws.{LegsAreDrawn, PicturesAreWellFormed, RoutePicturesAreWellFormed, RoutesAreDrawn, RoutesAreKept, StopsAreMarked};
 
 use plan_types::numbers_are_below_the_next;
 
@@ -10,9 +10,15 @@ pub fn stops_are_marked()
     numbers_are_below_the_next();
 }
 
-/// Each route has its line, and where its stops are live, each once, the line has each of its legs.
+/// Each route has its line, with each of its legs; where its stops are live, each once, none is left out.
 pub fn legs_are_drawn()
     ensures routes { RoutesAreDrawn }
     ensures kept { RoutesAreKept }
     ensures legs { LegsAreDrawn }
+{}
+
+/// Each opened element is closed, in order, and each attribute is quoted.
+pub fn pictures_are_well_formed()
+    ensures whole { PicturesAreWellFormed }
+    ensures route { RoutePicturesAreWellFormed }
 {}

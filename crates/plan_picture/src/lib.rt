@@ -1,28 +1,35 @@
-//! A plan as a picture: the depot, the stops, each route with its figures, and the day of each vehicle.
+//! A plan as a picture: the depot, the stops with their numbers, each route with its direction and its figures, and the day of
+//! each vehicle; or one route of it, larger.
 //!
-//! Entry function: `draw`, called by `planner_cli` (the word `draw`).
+//! Entry functions: `draw`, called by `planner_cli` (the word `draw`), and `draw_route`.
 //!
 //! Source: SVG 2 for the elements; the picture is this project's own.
 //!
-//! How it works: places count from the least x and the greatest y and are multiplied by one whole number, so the
-//! text has no fraction. What the verdict tells as broken is drawn too: of a route the stops that the problem has,
-//! each where it stands first. The route that the verdict names has a broken line and a red row, its stop a ring.
+//! How it works: places count from the least x and the greatest y and are multiplied by one whole number, so no number that is
+//! computed has a fraction. What the verdict tells as broken is drawn too: of a route the stops that the problem has, each where
+//! it stands first. The route that the verdict names has a broken line and a red row, its stop a ring; the rule stands in words
+//! over the map. Stops that no route has are ringed and counted. A number of a route or a stop takes the first place around its
+//! mark where it covers no mark and no number before it, and is left out where there is none.
 //!
 //! Modules, in reading order:
 //! - `texts`: the fixed texts
 //! - `svg`: the text of a picture, piece by piece
 //! - `frame`: where the stops stand
 //! - `known`: the stops that are drawn, and what is drawn of a route
-//! - `map`: lines, marks and the routes' numbers
+//! - `labels`: where numbers stand
+//! - `map`: pairs, legs, marks and numbers
 //! - `table`: a row of figures for each route
 //! - `days`: when each vehicle drives, waits and serves
-//! - `drawing`: `draw`, the whole picture
+//! - `heads`: what stands over the map
+//! - `drawing`: `draw` and `draw_route`, the whole pictures
 //! - `laws`: what is in each picture
 //!
 //! Said by `specs/Picture.antt`, and piece by piece by the files that have the modules' names. Proved:
-//! - `draw`: the bytes are those of the definition (`picture`), or want of memory
+//! - `draw`, `draw_route`: the bytes are those of the definition (`picture`, `route_picture`), or want of memory
 //! - `stops_are_marked`: each stop of the problem has its mark, at its coordinates scaled by a whole number
-//! - `legs_are_drawn`: each route has its line; that of a route of live stops, each once, has each of its legs
+//! - `legs_are_drawn`: each route has its line, with each of its legs; of live stops, each once, none is left out
+//! - `pictures_are_well_formed`: each element that is opened is closed, the last one first, and each attribute has a value in
+//!   quotes (`specs/WellFormed.antt`); that no attribute stands twice in a tag is seen by `tests/picture.py` alone
 //!
 //! Loads, starts and distances are `route_sched`'s. How it looks is judged by eye (`examples/lc101.svg`).
 #![tactic(auto)]
@@ -30,12 +37,14 @@
 mod days;
 mod drawing;
 mod frame;
+mod heads;
 mod known;
+mod labels;
 mod laws;
 mod map;
 mod svg;
 mod table;
 mod texts;
 
-pub use drawing::draw;
-pub use laws::{legs_are_drawn, stops_are_marked};
+pub use drawing::{draw, draw_route};
+pub use laws::{legs_are_drawn, pictures_are_well_formed, stops_are_marked};

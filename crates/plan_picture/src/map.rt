@@ -1,15 +1,18 @@
-//! The map: the lines, the marks and the routes' numbers.
-ghost use Rattle.std.specs.Prelude.{◌≡◌, ◌/◌, ◌++◌, [], OnOk, length, slice_get};
+//! The map: pairs, legs, marks, rings and numbers.
+ghost use Rattle.std.specs.Prelude.{◌≡◌, ◌≤◌, ◌^◌, ◌++◌, All, OnOk, is_some};
 ghost use Rattle.std.specs.List.{flat_map};
-ghost use Rattle.std.specs.Option.{option_and_then, option_copied, option_map_or};
-ghost use Rattle.plan_types.specs.Instance.{stop_at};
-ghost use Rattle.plan_picture.specs.Map.{label_at, label_text, labels_text, line_head, line_text, lines_text, map_in, map_text, mark_text, marks_text, opening_text, point_text, points_text, ring_text, shape_of, stop_mark};
+ghost use Rattle.route_sched.specs.Route.{AreLiveOnce};
+ghost use Rattle.plan_picture.specs.Map.{arrow_text, badge_text, box_size, box_text, foot_of, has_arrow, is_delivery, join_text, label_text, labels_text, leg_head, leg_text, legs_text, line_head, line_text, lines_text, map_in, map_text, mark_text, marks_text, number_text, opening_text, over_mark, over_text, pair_text, pairs_text, ring_text, rings_text, under_mark, under_shape, under_text};
 ghost use Rattle.plan_picture.specs.Svg.{each};
 
-use crate::frame::{Frame, stop_bounds};
+use crate::frame::{Frame, Point, apart, stop_bounds};
+use crate::known::{stop_among, unserved, visits};
+use crate::labels::{Area, Label, LabelKind, labels};
 use crate::svg::Svg;
 use crate::texts::Text;
 use plan_types::{OutOfMemory, Problem, Route, Stop};
+use route_sched::Visit;
+use std::alloc::Global;
 
 /// What is broken: the number of a route and that of a stop, 0 for none.
 #[derive(Clone, Copy, Debug, PartialEq, Eq)]
@@ -19,37 +22,88 @@ pub(crate) struct Broken {
 }
 
 impl Svg {
-    /// Appends the map: an element `svg` with lines, marks, ring and numbers.
+    /// Appends the map of these stops and routes, the first of which has the number `first`: an element `svg`.
     pub(crate) fn put_map(
         &mut self,
+        alloc: Global,
         problem: &Problem,
         stops: &[Stop],
+        first: u64,
         routes: &[Route],
         broken: Broken,
     ) -> Result<(), OutOfMemory>
-        ensures { OnOk result (self.new ≡ self.old
-            ++ map_text problem.now stops.now routes.now broken.route broken.stop) }
+        requires first { first ≤ 2 ^ 63 }
+        requires routes { All (AreLiveOnce problem.now) routes.now }
+        ensures { OnOk result (self.new ≡ self.old ++ map_text problem.now stops.now first
+            routes.now broken.route broken.stop) }
     {
         let frame = stop_bounds(&problem.depot, stops).frame();
-        self.put_map_in(&frame, problem, stops, routes, broken)
+        self.put_map_in(alloc, &frame, problem, stops, first, routes, broken)
     }
 
     #[tactic(auto, unfolding(crate::specs::Map::map_in))]
     fn put_map_in(
         &mut self,
+        alloc: Global,
         frame: &Frame,
         problem: &Problem,
         stops: &[Stop],
+        first: u64,
         routes: &[Route],
         broken: Broken,
     ) -> Result<(), OutOfMemory>
+        requires first { first ≤ 2 ^ 63 }
+        requires routes { All (AreLiveOnce problem.now) routes.now }
+        ensures { OnOk result (self.new ≡ self.old ++ map_in frame.now problem.now stops.now first
+            routes.now broken.route broken.stop) }
+    {
+        self.put_under(alloc, problem, frame, stops, first, routes, broken.route)?;
+        self.put_over(alloc, problem, frame, stops, first, routes, broken.stop)
+    }
+
+    // The lines.
+    #[tactic(auto, unfolding(crate::specs::Map::under_text))]
+    fn put_under(
+        &mut self,
+        alloc: Global,
+        problem: &Problem,
+        frame: &Frame,
+        stops: &[Stop],
+        first: u64,
+        routes: &[Route],
+        broken: u64,
+    ) -> Result<(), OutOfMemory>
+        requires first { first ≤ 2 ^ 63 }
+        requires routes { All (AreLiveOnce problem.now) routes.now }
         ensures { OnOk result (self.new ≡ self.old
-            ++ map_in frame.now problem.now stops.now routes.now broken.route broken.stop) }
+            ++ under_text problem.now frame.now stops.now first routes.now broken) }
     {
         self.put_opening(frame)?;
-        self.put_lines(problem, frame, broken.route, routes)?;
-        self.put_marks(problem, frame, broken.stop, stops)?;
-        self.put_labels(problem, frame, routes)
+        self.put_pairs(problem, frame, stops)?;
+        self.put_lines(alloc, problem, frame, broken, first, routes)
+    }
+
+    // What lies above the lines.
+    #[tactic(auto, unfolding(crate::specs::Map::over_text))]
+    fn put_over(
+        &mut self,
+        alloc: Global,
+        problem: &Problem,
+        frame: &Frame,
+        stops: &[Stop],
+        first: u64,
+        routes: &[Route],
+        broken: u32,
+    ) -> Result<(), OutOfMemory>
+        requires { first ≤ 2 ^ 63 }
+        ensures { OnOk result (self.new ≡ self.old
+            ++ over_text problem.now frame.now stops.now first routes.now broken) }
+    {
+        let left = unserved(alloc, routes, stops)?;
+        let labels = labels(alloc, problem, frame, first, routes, stops)?;
+        self.put_marks(problem, frame, stops)?;
+        self.put_rings(frame, stops, &left, broken)?;
+        self.put_labels(frame, &labels)
     }
 
     #[tactic(auto, unfolding(crate::specs::Map::opening_text))]
@@ -62,106 +116,175 @@ impl Svg {
         self.put(Text::Open)
     }
 
-    #[tactic(auto, unfolding(crate::specs::Map::lines_text))]
-    fn put_lines(
+    #[tactic(auto, unfolding(crate::specs::Map::pairs_text))]
+    fn put_pairs(
         &mut self,
         problem: &Problem,
         frame: &Frame,
-        broken: u64,
-        routes: &[Route],
+        stops: &[Stop],
+    ) -> Result<(), OutOfMemory>
+        ensures { OnOk result (self.new ≡ self.old ++ pairs_text problem.now frame.now stops.now) }
+    {
+        self.put(Text::Pairs)?;
+        self.put_each_pair(problem, frame, stops)?;
+        self.put(Text::GroupEnd)
+    }
+
+    fn put_each_pair(
+        &mut self,
+        problem: &Problem,
+        frame: &Frame,
+        stops: &[Stop],
     ) -> Result<(), OutOfMemory>
         ensures { OnOk result (self.new ≡ self.old
-            ++ lines_text problem.now frame.now broken routes.now) }
+            ++ flat_map (pair_text problem.now frame.now stops.now) stops.now) }
     {
-        self.put(Text::Lines)?;
-        self.put_each_line(problem, frame, broken, routes)?;
+        for stop in stops {
+            self.put_pair(problem, frame, stops, stop)?;
+        }
+        Ok(())
+    }
+
+    // A delivery is joined with its pickup.
+    fn put_pair(
+        &mut self,
+        problem: &Problem,
+        frame: &Frame,
+        stops: &[Stop],
+        stop: &Stop,
+    ) -> Result<(), OutOfMemory>
+        ensures { OnOk result (self.new ≡ self.old
+            ++ pair_text problem.now frame.now stops.now stop.now) }
+    {
+        let Some(number) = problem.pickup_of(stop.number) else {
+            return Ok(());
+        };
+        match stop_among(number, stops) {
+            Some(pickup) => self.put_join(frame, pickup, stop),
+            None => Ok(()),
+        }
+    }
+
+    #[tactic(auto, unfolding(crate::specs::Map::join_text))]
+    fn put_join(&mut self, frame: &Frame, start: &Stop, end: &Stop) -> Result<(), OutOfMemory>
+        ensures { OnOk result (self.new ≡ self.old ++ join_text frame.now start.now end.now) }
+    {
+        self.put(Text::Leg)?;
+        self.put_at(frame.point(start))?;
+        self.put_at(frame.point(end))?;
+        self.put(Text::LineEnd)
+    }
+
+    #[tactic(auto, unfolding(crate::specs::Map::lines_text))]
+    fn put_lines(
+        &mut self,
+        alloc: Global,
+        problem: &Problem,
+        frame: &Frame,
+        broken: u64,
+        first: u64,
+        routes: &[Route],
+    ) -> Result<(), OutOfMemory>
+        requires first { first ≤ 2 ^ 63 }
+        requires routes { All (AreLiveOnce problem.now) routes.now }
+        ensures { OnOk result (self.new ≡ self.old
+            ++ lines_text problem.now frame.now broken first routes.now) }
+    {
+        self.put(Text::Legs)?;
+        self.put_each_line(alloc, problem, frame, broken, first, routes)?;
         self.put(Text::GroupEnd)
     }
 
     fn put_each_line(
         &mut self,
+        alloc: Global,
         problem: &Problem,
         frame: &Frame,
         broken: u64,
+        first: u64,
         routes: &[Route],
     ) -> Result<(), OutOfMemory>
+        requires first { first ≤ 2 ^ 63 }
+        requires routes { All (AreLiveOnce problem.now) routes.now }
         ensures { OnOk result (self.new ≡ self.old
-            ++ each (line_text problem.now frame.now broken) 1 routes.now) }
+            ++ each (line_text problem.now frame.now broken) first routes.now) }
     {
-        for (place, route) in routes.iter().enumerate() {
-            self.put_line(problem, frame, broken, place as u64 + 1, route.as_slice())?;
+        for (index, route) in routes.iter().enumerate() {
+            let number = first + index as u64;
+            self.put_line(alloc, problem, frame, broken, number, route.as_slice())?;
         }
         Ok(())
     }
 
-    // The line of a route.
+    // The legs of a route.
     #[tactic(auto, unfolding(crate::specs::Map::line_text))]
     fn put_line(
         &mut self,
+        alloc: Global,
         problem: &Problem,
         frame: &Frame,
         broken: u64,
         number: u64,
         route: &[u32],
     ) -> Result<(), OutOfMemory>
+        requires { AreLiveOnce problem.now route.now }
         ensures { OnOk result (self.new ≡ self.old
             ++ line_text problem.now frame.now broken number route.now) }
     {
+        let visits = visits(alloc, problem, route)?;
         self.put_line_head(broken, number)?;
-        self.put(Text::Points)?;
-        self.put_points(problem, frame, route)?;
-        self.put(Text::LineEnd)
+        self.put_legs(frame, &problem.depot, &visits)?;
+        self.put(Text::GroupEnd)
     }
 
     #[tactic(auto, unfolding(crate::specs::Map::line_head))]
     fn put_line_head(&mut self, broken: u64, number: u64) -> Result<(), OutOfMemory>
         ensures { OnOk result (self.new ≡ self.old ++ line_head broken number) }
     {
-        self.put(Text::Polyline)?;
+        self.put(Text::Route)?;
         self.put_broken(broken, number)?;
-        self.put_colour(Text::Stroke, number)
+        self.put_colour(Text::Stroke, number)?;
+        self.put(Text::Open)
     }
 
-    // The places of the depot, the route's stops, and the depot.
-    #[tactic(auto, unfolding(crate::specs::Map::points_text))]
-    fn put_points(
-        &mut self,
-        problem: &Problem,
-        frame: &Frame,
-        route: &[u32],
-    ) -> Result<(), OutOfMemory>
+    fn put_legs(&mut self, frame: &Frame, depot: &Stop, visits: &[Visit]) -> Result<(), OutOfMemory>
         ensures { OnOk result (self.new ≡ self.old
-            ++ points_text problem.now frame.now route.now) }
+            ++ legs_text frame.now depot.now visits.now) }
     {
-        self.put_point(frame, &problem.depot)?;
-        self.put_stop_points(problem, frame, route)?;
-        self.put_point(frame, &problem.depot)
-    }
-
-    fn put_stop_points(
-        &mut self,
-        problem: &Problem,
-        frame: &Frame,
-        route: &[u32],
-    ) -> Result<(), OutOfMemory>
-        ensures { OnOk result (self.new ≡ self.old ++ flat_map
-            (λ n. option_map_or (point_text frame.now) (stop_at problem.now n) []) route.now) }
-    {
-        for number in route {
-            if let Some(stop) = problem.stop(*number) {
-                self.put_point(frame, stop)?;
-            }
+        let mut last = *depot;
+        for visit in visits {
+            self.put_leg(frame, &last, &visit.stop)?;
+            last = visit.stop;
         }
         Ok(())
     }
 
-    #[tactic(auto, unfolding(crate::specs::Map::point_text))]
-    fn put_point(&mut self, frame: &Frame, stop: &Stop) -> Result<(), OutOfMemory>
-        ensures { OnOk result (self.new ≡ self.old ++ point_text frame.now stop.now) }
+    #[tactic(auto, unfolding(crate::specs::Map::leg_text))]
+    fn put_leg(&mut self, frame: &Frame, start: &Stop, end: &Stop) -> Result<(), OutOfMemory>
+        ensures { OnOk result (self.new ≡ self.old ++ leg_text frame.now start.now end.now) }
     {
-        let point = frame.point(stop);
-        self.put_named(Text::Blank, point.x)?;
-        self.put_named(Text::Comma, point.y)
+        let from = frame.point(start);
+        let to = frame.point(end);
+        self.put(leg_head(start, end))?;
+        self.put_at(from)?;
+        self.put_arrow(frame, &from, &to)?;
+        self.put_at(to)?;
+        self.put(Text::LineEnd)
+    }
+
+    // The place of a leg's arrow, where the leg is long enough.
+    fn put_arrow(&mut self, frame: &Frame, from: &Point, to: &Point) -> Result<(), OutOfMemory>
+        requires near { from.now.x ≤ 2 ^ 70 }
+        requires high { from.now.y ≤ 2 ^ 70 }
+        requires end_near { to.now.x ≤ 2 ^ 70 }
+        requires end_high { to.now.y ≤ 2 ^ 70 }
+        ensures { OnOk result (self.new ≡ self.old ++ arrow_text frame.now from.now to.now) }
+    {
+        if has_arrow(frame, from, to) {
+            self.put_at(from.on_the_way(to))
+        } else {
+            Ok(())
+        }
     }
 
     #[tactic(auto, unfolding(crate::specs::Map::marks_text))]
@@ -169,28 +292,69 @@ impl Svg {
         &mut self,
         problem: &Problem,
         frame: &Frame,
-        broken: u32,
         stops: &[Stop],
     ) -> Result<(), OutOfMemory>
-        ensures { OnOk result (self.new ≡ self.old
-            ++ marks_text problem.now frame.now broken stops.now) }
+        ensures { OnOk result (self.new ≡ self.old ++ marks_text problem.now frame.now stops.now) }
     {
         self.put_mark(Text::DepotMark, frame, &problem.depot)?;
-        self.put_each_mark(problem, frame, stops)?;
-        self.put_ring(problem, frame, broken)
+        self.put_under_marks(problem, frame, stops)?;
+        self.put_over_marks(problem, frame, stops)
     }
 
-    fn put_each_mark(
+    fn put_under_marks(
         &mut self,
         problem: &Problem,
         frame: &Frame,
         stops: &[Stop],
     ) -> Result<(), OutOfMemory>
         ensures { OnOk result (self.new ≡ self.old
-            ++ flat_map (stop_mark problem.now frame.now) stops.now) }
+            ++ flat_map (under_mark problem.now frame.now) stops.now) }
     {
         for stop in stops {
-            self.put_mark(shape(problem, stop.number), frame, stop)?;
+            self.put_under_mark(problem, frame, stop)?;
+        }
+        Ok(())
+    }
+
+    fn put_over_marks(
+        &mut self,
+        problem: &Problem,
+        frame: &Frame,
+        stops: &[Stop],
+    ) -> Result<(), OutOfMemory>
+        ensures { OnOk result (self.new ≡ self.old
+            ++ flat_map (over_mark problem.now frame.now) stops.now) }
+    {
+        for stop in stops {
+            self.put_over_mark(problem, frame, stop)?;
+        }
+        Ok(())
+    }
+
+    fn put_under_mark(
+        &mut self,
+        problem: &Problem,
+        frame: &Frame,
+        stop: &Stop,
+    ) -> Result<(), OutOfMemory>
+        ensures { OnOk result (self.new ≡ self.old ++ under_mark problem.now frame.now stop.now) }
+    {
+        if is_delivery(problem, stop) {
+            return Ok(());
+        }
+        self.put_mark(under_shape(problem, stop), frame, stop)
+    }
+
+    fn put_over_mark(
+        &mut self,
+        problem: &Problem,
+        frame: &Frame,
+        stop: &Stop,
+    ) -> Result<(), OutOfMemory>
+        ensures { OnOk result (self.new ≡ self.old ++ over_mark problem.now frame.now stop.now) }
+    {
+        if is_delivery(problem, stop) {
+            return self.put_mark(Text::DeliveryMark, frame, stop);
         }
         Ok(())
     }
@@ -201,98 +365,168 @@ impl Svg {
         ensures { OnOk result (self.new ≡ self.old ++ mark_text shape frame.now stop.now) }
     {
         self.put_placed(shape, frame.point(stop))?;
-        self.put_named(Text::Title, stop.number as u128)?;
+        self.put_named(Text::MarkTitle, stop.number as u128)?;
         self.put(Text::MarkEnd)
     }
 
-    fn put_ring(&mut self, problem: &Problem, frame: &Frame, stop: u32) -> Result<(), OutOfMemory>
-        ensures { OnOk result (self.new ≡ self.old ++ ring_text problem.now frame.now stop) }
+    #[tactic(auto, unfolding(crate::specs::Map::rings_text))]
+    fn put_rings(
+        &mut self,
+        frame: &Frame,
+        stops: &[Stop],
+        left: &[Stop],
+        broken: u32,
+    ) -> Result<(), OutOfMemory>
+        ensures { OnOk result (self.new ≡ self.old
+            ++ rings_text frame.now stops.now left.now broken) }
     {
-        match problem.stop(stop) {
+        self.put_unserved(frame, left)?;
+        self.put_ring(frame, stops, broken)
+    }
+
+    fn put_unserved(&mut self, frame: &Frame, left: &[Stop]) -> Result<(), OutOfMemory>
+        ensures { OnOk result (self.new ≡ self.old
+            ++ flat_map (mark_text Text.UnservedMark frame.now) left.now) }
+    {
+        for stop in left {
+            self.put_mark(Text::UnservedMark, frame, stop)?;
+        }
+        Ok(())
+    }
+
+    fn put_ring(&mut self, frame: &Frame, stops: &[Stop], number: u32) -> Result<(), OutOfMemory>
+        ensures { OnOk result (self.new ≡ self.old ++ ring_text frame.now stops.now number) }
+    {
+        match stop_among(number, stops) {
             Some(stop) => self.put_mark(Text::BrokenMark, frame, stop),
             None => Ok(()),
         }
     }
 
     #[tactic(auto, unfolding(crate::specs::Map::labels_text))]
-    fn put_labels(
-        &mut self,
-        problem: &Problem,
-        frame: &Frame,
-        routes: &[Route],
-    ) -> Result<(), OutOfMemory>
-        ensures { OnOk result (self.new ≡ self.old
-            ++ labels_text problem.now frame.now routes.now) }
+    fn put_labels(&mut self, frame: &Frame, labels: &[Label]) -> Result<(), OutOfMemory>
+        ensures { OnOk result (self.new ≡ self.old ++ labels_text frame.now labels.now) }
     {
-        let unit = frame.unit;
-        self.put_attribute(Text::Labels, 3 * unit as u128)?;
-        self.put(Text::Open)?;
-        self.put_each_label(problem, frame, routes)?;
+        self.put(Text::Labels)?;
+        self.put_each_label(frame, labels)?;
         self.put(Text::MapEnd)
     }
 
-    fn put_each_label(
-        &mut self,
-        problem: &Problem,
-        frame: &Frame,
-        routes: &[Route],
-    ) -> Result<(), OutOfMemory>
+    fn put_each_label(&mut self, frame: &Frame, labels: &[Label]) -> Result<(), OutOfMemory>
         ensures { OnOk result (self.new ≡ self.old
-            ++ each (label_text problem.now frame.now) 1 routes.now) }
+            ++ flat_map (label_text frame.now) labels.now) }
     {
-        for (place, route) in routes.iter().enumerate() {
-            self.put_label(problem, frame, place as u64 + 1, route.as_slice())?;
+        for label in labels {
+            self.put_label(frame, label)?;
         }
         Ok(())
     }
 
-    fn put_label(
-        &mut self,
-        problem: &Problem,
-        frame: &Frame,
-        number: u64,
-        route: &[u32],
-    ) -> Result<(), OutOfMemory>
-        ensures { OnOk result (self.new ≡ self.old
-            ++ label_text problem.now frame.now number route.now) }
+    fn put_label(&mut self, frame: &Frame, label: &Label) -> Result<(), OutOfMemory>
+        ensures { OnOk result (self.new ≡ self.old ++ label_text frame.now label.now) }
     {
-        match middle(problem, route) {
-            Some(stop) => self.put_label_at(frame, number, stop),
-            None => Ok(()),
+        match label.kind {
+            LabelKind::Mark => Ok(()),
+            LabelKind::Badge => self.put_badge(frame, label.number, &label.area),
+            LabelKind::Number => {
+                self.put_number_at(frame, Text::Number, 2, label.number, &label.area)
+            }
         }
     }
 
-    #[tactic(auto, unfolding(crate::specs::Map::label_at))]
-    fn put_label_at(&mut self, frame: &Frame, number: u64, stop: &Stop) -> Result<(), OutOfMemory>
-        ensures { OnOk result (self.new ≡ self.old ++ label_at frame.now number stop.now) }
+    #[tactic(auto, unfolding(crate::specs::Map::badge_text))]
+    fn put_badge(&mut self, frame: &Frame, number: u64, area: &Area) -> Result<(), OutOfMemory>
+        ensures { OnOk result (self.new ≡ self.old ++ badge_text frame.now number area.now) }
     {
-        self.put_placed(Text::Label, frame.point(stop))?;
+        self.put_box(number, area)?;
+        self.put_number_at(frame, Text::Badge, 5, number, area)
+    }
+
+    #[tactic(auto, unfolding(crate::specs::Map::box_text))]
+    fn put_box(&mut self, number: u64, area: &Area) -> Result<(), OutOfMemory>
+        ensures { OnOk result (self.new ≡ self.old ++ box_text number area.now) }
+    {
+        let corner = Point {
+            x: area.left,
+            y: area.top,
+        };
+        self.put_placed(Text::BadgeBox, corner)?;
+        self.put_box_size(area)?;
         self.put_colour(Text::Fill, number)?;
-        self.put_named(Text::LabelNumber, number as u128)?;
-        self.put(Text::LabelEnd)
+        self.put(Text::Close)
+    }
+
+    #[tactic(auto, unfolding(crate::specs::Map::box_size))]
+    fn put_box_size(&mut self, area: &Area) -> Result<(), OutOfMemory>
+        ensures { OnOk result (self.new ≡ self.old ++ box_size area.now) }
+    {
+        self.put_attribute(Text::Width, area.right.saturating_sub(area.left))?;
+        self.put_attribute(Text::Height, area.bottom.saturating_sub(area.top))
+    }
+
+    // A number in its area.
+    #[tactic(auto, unfolding(crate::specs::Map::number_text))]
+    fn put_number_at(
+        &mut self,
+        frame: &Frame,
+        text: Text,
+        k: u32,
+        number: u64,
+        area: &Area,
+    ) -> Result<(), OutOfMemory>
+        ensures { OnOk result (self.new ≡ self.old
+            ++ number_text frame.now text k number area.now) }
+    {
+        let foot = foot_of(frame, k, area);
+        self.put_placed(text, foot)?;
+        self.put_named(Text::Tag, number as u128)?;
+        self.put(Text::TextEnd)
     }
 }
 
-// The stop in the middle of a route.
-fn middle<'a>(problem: &'a Problem, route: &[u32]) -> Option<&'a Stop>
-    ensures { option_copied result ≡ option_and_then (stop_at problem.now)
-        (slice_get route.now (length route.now / 2)) }
+// A leg to or from the depot is pale.
+fn leg_head(start: &Stop, end: &Stop) -> Text
+    ensures { result ≡ leg_head start.now end.now }
 {
-    match route.get(route.len() / 2) {
-        Some(number) => problem.stop(*number),
-        None => None,
+    if start.number == 0 || end.number == 0 {
+        Text::DepotLeg
+    } else {
+        Text::Leg
     }
 }
 
-// The shape of a stop.
-fn shape(problem: &Problem, number: u32) -> Text
-    ensures { result ≡ shape_of problem.now number }
+// Whether a leg is long enough for an arrow.
+#[tactic(auto, unfolding(crate::specs::Map::has_arrow))]
+fn has_arrow(frame: &Frame, from: &Point, to: &Point) -> bool
+    ensures { result ≡ has_arrow frame.now from.now to.now }
 {
-    if problem.pickup_of(number).is_some() {
-        return Text::DeliveryMark;
+    14 * u128::from(frame.unit) <= apart(from.x, to.x).max(apart(from.y, to.y))
+}
+
+fn is_delivery(problem: &Problem, stop: &Stop) -> bool
+    ensures { result ≡ is_delivery problem.now stop.now }
+{
+    problem.pickup_of(stop.number).is_some()
+}
+
+// The shape of a stop that is no delivery.
+fn under_shape(problem: &Problem, stop: &Stop) -> Text
+    ensures { result ≡ under_shape problem.now stop.now }
+{
+    if problem.partner_of(stop.number).is_some() {
+        Text::PickupMark
+    } else {
+        Text::StopMark
     }
-    if problem.partner_of(number).is_some() {
-        return Text::PickupMark;
+}
+
+// Where the letters of a number stand: in the middle of its area, `k` quarters of the unit above its lower edge.
+fn foot_of(frame: &Frame, k: u32, area: &Area) -> Point
+    ensures { result ≡ foot_of frame.now k area.now }
+{
+    let half = area.right.saturating_sub(area.left) / 2;
+    Point {
+        x: area.right.saturating_sub(half),
+        y: area.bottom.saturating_sub(frame.quarters(k)),
     }
-    Text::StopMark
 }

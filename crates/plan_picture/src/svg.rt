@@ -1,9 +1,9 @@
 //! The text of a picture, piece by piece.
 //!
 //! Route n has the colour `hsl(137 n mod 360, 75%, 30 + 4 (n mod 7)%)`, which is another one for 2,520 routes.
-ghost use Rattle.std.specs.Prelude.{◌≡◌, ◌++◌, [], OnOk, decimal};
+ghost use Rattle.std.specs.Prelude.{◌≡◌, ◌++◌, ◌≤◌, [], OnOk, decimal};
 ghost use Rattle.std.specs.Fmt.{signed_decimal};
-ghost use Rattle.plan_picture.specs.Svg.{attribute, bar, broken_class, colour, named, placed_tag};
+ghost use Rattle.plan_picture.specs.Svg.{at_text, attribute, bar, broken_class, colour, digit_count, named, placed_tag, placed_text, some_named};
 ghost use Rattle.plan_picture.specs.Texts.{fixed};
 
 use crate::frame::Point;
@@ -102,6 +102,36 @@ impl Svg {
         self.put_attribute(Text::Y, point.y)
     }
 
+    /// The same, and nothing where the number is 0.
+    pub(crate) fn put_some(&mut self, text: Text, n: u128) -> Result<(), OutOfMemory>
+        ensures { OnOk result (self.new ≡ self.old ++ some_named text n) }
+    {
+        if n == 0 {
+            return Ok(());
+        }
+        self.put_named(text, n)
+    }
+
+    /// A place of a line, as ` X,Y`.
+    #[tactic(auto, unfolding(crate::specs::Svg::at_text))]
+    pub(crate) fn put_at(&mut self, point: Point) -> Result<(), OutOfMemory>
+        ensures { OnOk result (self.new ≡ self.old ++ at_text point) }
+    {
+        self.put_named(Text::Blank, point.x)?;
+        self.put_named(Text::Comma, point.y)
+    }
+
+    /// A number as an element `text`, whose tag is begun by this text.
+    #[tactic(auto, unfolding(crate::specs::Svg::placed_text))]
+    pub(crate) fn put_text(&mut self, text: Text, x: u128, n: u128) -> Result<(), OutOfMemory>
+        ensures { OnOk result (self.new ≡ self.old ++ placed_text text x n) }
+    {
+        self.put(text)?;
+        self.put_attribute(Text::X, x)?;
+        self.put_named(Text::Tag, n)?;
+        self.put(Text::TextEnd)
+    }
+
     /// An attribute with the colour of the route with this number.
     #[tactic(auto, unfolding(crate::specs::Svg::colour))]
     pub(crate) fn put_colour(&mut self, text: Text, number: u64) -> Result<(), OutOfMemory>
@@ -144,4 +174,13 @@ impl Svg {
         self.put_attribute(Text::Width, width)?;
         self.put(Text::Close)
     }
+}
+
+/// How many digits a number has.
+pub(crate) fn digits(n: u64) -> u32
+    ensures count { result ≡ digit_count n }
+    ensures few { result ≤ 40 }
+{
+    let mut buffer = Buffer::new();
+    buffer.format(n).len() as u32
 }

@@ -1,31 +1,82 @@
-//! The table under the map: a row for each route, with its colour and its figures. Where windows count, the day of its
-//! vehicle stands beside it.
-ghost use Rattle.std.specs.Prelude.{◌≡◌, ◌++◌, All, OnOk};
+//! The table under the map: a row for each route, with its colour and its figures in columns. Where windows count, the day of
+//! its vehicle stands beside it, else the rows stand in three blocks.
+ghost use Rattle.std.specs.Prelude.{◌≡◌, ◌+◌, ◌<◌, ◌≤◌, ◌^◌, ◌++◌, All, OnOk};
 ghost use Rattle.route_sched.specs.Route.{AreLiveOnce};
-ghost use Rattle.plan_picture.specs.Table.{figures_text, load_text, row_head, row_text, rows_text, top_load};
+ghost use Rattle.plan_picture.specs.Svg.{each};
+ghost use Rattle.plan_picture.specs.Table.{figures_text, grid_of, heading_text, load_text, row_end, row_head, row_place, row_text, rows_text, top_load};
 
 use crate::known::visits;
 use crate::svg::Svg;
 use crate::texts::Text;
-use plan_types::{OutOfMemory, Problem, Route};
+use plan_types::{Kind, OutOfMemory, Problem, Route};
 use route_sched::{Visit, route_distance};
 use std::alloc::Global;
 
+/// How many rows stand in a block of the table, and how far they are apart.
+#[derive(Clone, Copy, Debug, PartialEq, Eq)]
+pub(crate) struct Grid {
+    pub rows: usize,
+    pub pitch: u32,
+}
+
+/// The grid for so many rows.
+#[tactic(auto, unfolding(crate::specs::Table::grid_of))]
+pub(crate) fn grid_of(kind: Kind, rows: usize) -> Grid
+    ensures value { result ≡ grid_of kind rows }
+    ensures some { 0 < result.rows }
+{
+    match kind {
+        Kind::LiLim => Grid {
+            rows: rows.max(1),
+            pitch: 30,
+        },
+        Kind::Vrp => Grid {
+            rows: rows.div_ceil(3).max(1),
+            pitch: 20,
+        },
+    }
+}
+
 impl Svg {
-    /// Appends a row of figures for each route.
+    /// Appends a row of figures for each route, the first of which has the number `first`.
+    #[tactic(auto, unfolding(crate::specs::Table::rows_text))]
     pub(crate) fn put_rows(
         &mut self,
         alloc: Global,
         problem: &Problem,
+        grid: Grid,
         broken: u64,
+        first: u64,
         routes: &[Route],
     ) -> Result<(), OutOfMemory>
-        requires { All (AreLiveOnce problem.now) routes.now }
+        requires grid { 0 < grid.rows }
+        requires first { first ≤ 2 ^ 63 }
+        requires routes { All (AreLiveOnce problem.now) routes.now }
         ensures { OnOk result (self.new ≡ self.old
-            ++ rows_text problem.now broken routes.now) }
+            ++ rows_text problem.now grid broken first routes.now) }
     {
-        for (place, route) in routes.iter().enumerate() {
-            self.put_row(alloc, problem, broken, place as u64 + 1, route.as_slice())?;
+        self.put(Text::Table)?;
+        self.put_each_row(alloc, problem, grid, broken, first, routes)?;
+        self.put(Text::GroupEnd)
+    }
+
+    fn put_each_row(
+        &mut self,
+        alloc: Global,
+        problem: &Problem,
+        grid: Grid,
+        broken: u64,
+        first: u64,
+        routes: &[Route],
+    ) -> Result<(), OutOfMemory>
+        requires grid { 0 < grid.rows }
+        requires first { first ≤ 2 ^ 63 }
+        requires routes { All (AreLiveOnce problem.now) routes.now }
+        ensures { OnOk result (self.new ≡ self.old
+            ++ each (row_text problem.now grid broken first) 0 routes.now) }
+    {
+        for (index, route) in routes.iter().enumerate() {
+            self.put_row(alloc, problem, grid, broken, first, index, route.as_slice())?;
         }
         Ok(())
     }
@@ -35,24 +86,40 @@ impl Svg {
         &mut self,
         alloc: Global,
         problem: &Problem,
+        grid: Grid,
         broken: u64,
-        number: u64,
+        first: u64,
+        index: usize,
         route: &[u32],
     ) -> Result<(), OutOfMemory>
-        requires { AreLiveOnce problem.now route.now }
+        requires grid { 0 < grid.rows }
+        requires number { first + index < 2 ^ 64 }
+        requires route { AreLiveOnce problem.now route.now }
         ensures { OnOk result (self.new ≡ self.old
-            ++ row_text problem.now broken number route.now) }
+            ++ row_text problem.now grid broken first index route.now) }
     {
+        let number = first + index as u64;
+        self.put_row_place(grid, index)?;
         self.put_row_head(broken, number)?;
         self.put_figures(alloc, problem, number, route)?;
-        self.put(Text::RowEnd)
+        self.put_row_end(grid, index)
+    }
+
+    #[tactic(auto, unfolding(crate::specs::Table::row_place))]
+    fn put_row_place(&mut self, grid: Grid, index: usize) -> Result<(), OutOfMemory>
+        requires { 0 < grid.rows }
+        ensures { OnOk result (self.new ≡ self.old ++ row_place grid index) }
+    {
+        let block = index / grid.rows;
+        let row = index % grid.rows;
+        self.put_named(Text::Row, 390 * block as u128)?;
+        self.put_named(Text::Blank, 1116 + u128::from(grid.pitch) * row as u128)
     }
 
     #[tactic(auto, unfolding(crate::specs::Table::row_head))]
     fn put_row_head(&mut self, broken: u64, number: u64) -> Result<(), OutOfMemory>
         ensures { OnOk result (self.new ≡ self.old ++ row_head broken number) }
     {
-        self.put_named(Text::Row, 1080 + 20 * number as u128)?;
         self.put_colour(Text::RowColour, number)?;
         self.put(Text::RowText)?;
         self.put_broken(broken, number)
@@ -71,18 +138,40 @@ impl Svg {
             ++ figures_text problem.now number route.now) }
     {
         let visits = visits(alloc, problem, route)?;
-        self.put_named(Text::RouteNumber, number as u128)?;
-        self.put_named(Text::RouteStops, route.len() as u128)?;
+        self.put_named(Text::RouteCell, number as u128)?;
+        self.put_named(Text::StopsCell, route.len() as u128)?;
         self.put_load(top_load(&visits))?;
-        self.put_named(Text::Distance, route_distance(problem, route) as u128)
+        self.put_named(Text::DistanceCell, route_distance(problem, route) as u128)
     }
 
     #[tactic(auto, unfolding(crate::specs::Table::load_text))]
     fn put_load(&mut self, load: i64) -> Result<(), OutOfMemory>
         ensures { OnOk result (self.new ≡ self.old ++ load_text load) }
     {
-        self.put(Text::RouteLoad)?;
+        self.put(Text::LoadCell)?;
         self.put_signed(load)
+    }
+
+    #[tactic(auto, unfolding(crate::specs::Table::row_end))]
+    fn put_row_end(&mut self, grid: Grid, index: usize) -> Result<(), OutOfMemory>
+        requires { 0 < grid.rows }
+        ensures { OnOk result (self.new ≡ self.old ++ row_end grid index) }
+    {
+        self.put(Text::CellsEnd)?;
+        self.put_heading(grid, index)?;
+        self.put(Text::GroupEnd)
+    }
+
+    // What the columns are, over the first row of each block.
+    fn put_heading(&mut self, grid: Grid, index: usize) -> Result<(), OutOfMemory>
+        requires { 0 < grid.rows }
+        ensures { OnOk result (self.new ≡ self.old ++ heading_text grid index) }
+    {
+        if index % grid.rows == 0 {
+            self.put(Text::Heading)
+        } else {
+            Ok(())
+        }
     }
 }
 

@@ -2,4 +2,5 @@ mod AuditedLemmas
 mod SearchLemmas
 mod SolveLemmas
 mod StageLemmas
+mod StoreLemmas
 mod TryLemmas

@@ -17,9 +17,11 @@ use Rattle.command_core.specs.Runs.{after, is_searching, steps_of}
 use Rattle.command_core.specs.declared.commands.Command.{Command}
 use Rattle.command_core.specs.declared.commands.Command.TheVariants.{Build, Deviation, Load}
 use Rattle.command_core.specs.declared.states.State.TheVariants.{Empty, Loaded}
+use Rattle.command_text.specs.Answering.{commands_of}
 use Rattle.command_text.specs.Answers.{at_text, line}
 use Rattle.command_text.specs.Readings.{InstanceFault, SpellsInstance}
 use Rattle.command_text.specs.Showing.{print_text, solution_of}
+use Rattle.command_text.specs.declared.steps.Steps.TheVariants as makes
 use Rattle.plan_solve.specs.Staged.{Stand, by_stages, first_stand}
 use Rattle.plan_solve.specs.Tried.{by_tries}
 use Rattle.plan_solve.specs.declared.faults.SolveFault.{SolveFault}
@@ -86,6 +88,11 @@ abbrev pub IsWhatCommandsMake : Type 0
 IsWhatCommandsMake = (p : Instance) (seed deviation : ℕ) (cs : List Command) → deviation ≤ 1000000000 → list_all is_searching cs ≡ true
     → after Empty (Load p seed ∷ Build ∷ Deviation deviation ∷ cs) ≡ Loaded (solved p seed (sum_by steps_of cs) (Some deviation))
 
+-- law: where vehicles do not count, annealing is what the commands of a store's line `anneal 0 STEPS` make
+abbrev pub IsWhatStagesMake : Type 0
+IsWhatStagesMake = (p : Instance) (seed steps : ℕ) → p.kind ≡ Vrp
+    → after Empty (Load p seed ∷ Build ∷ commands_of (makes.Stages 0 steps) (Loaded (begun p seed))) ≡ Loaded (solved p seed steps None)
+
 -- ---- the answer
 
 -- the text of a plan: a solution's where no request is left out, else the route lines alone
@@ -94,6 +101,7 @@ plan_text j = if length (unplanned_names j.problem j.plan) == 0 then print_text 
 
 -- the text is the plan's, and the requests that it leaves out are named; where there are none, the text is read back as the plan's solution
 pub record TellsPlan (j : JobValue) (found : Solved) : Type 0 where
+  pub job : found.job ≡ j
   pub text : found.text.items ≡ plan_text j
   pub unplanned : found.unplanned.items ≡ unplanned_names j.problem j.plan
   pub spells : found.unplanned.items ≡ [] → Spells found.text.items (solution_of j)

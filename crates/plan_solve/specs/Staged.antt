@@ -1,16 +1,10 @@
 -- Annealing by stages, and what is told between them.
 use Rattle.std.specs.Prelude.{ℕ, zero, suc, ◌+◌, ◌-◌, ◌*◌, ◌/◌, nat_lt, ◌==◌, if◌then◌else◌, List, ◌++◌}
-use Rattle.anneal_search.specs.Annealing.{anneal_steps, walked}
 use Rattle.anneal_stages.specs.Stages.{boundary, hundredths_of, share}
 use Rattle.command_core.specs.Effects.{with_deviation}
+pub use Rattle.command_core.specs.Effects.{annealed}
 use Rattle.command_core.specs.Job.{JobValue}
 use Rattle.command_text.specs.Answers.{at_text, line}
-
--- the job after so many annealing steps, from the number of those already made on
-abbrev pub annealed : JobValue → ℕ → JobValue
-annealed j count =
-    let s = anneal_steps j.problem j.pins j.deviation j.seed j.steps count (walked j.plan j.work) in
-    record j { plan = s.incumbent; work = s.working; steps = j.steps + count }
 
 -- its working plan is the incumbent, and may be so many hundredths of the incumbent's mean leg from it
 abbrev pub with_share : JobValue → ℕ → JobValue

@@ -27,6 +27,8 @@
 //! - `solve`, where it refuses (`Fails`): the text's first fault, with nothing written
 //! - `solving_is_commands`: with a deviation the plan is what the commands of a store make of the instance, however the
 //!   steps are cut
+//! - `annealing_is_commands`: without one, where vehicles do not count, it is what the commands of the line
+//!   `anneal 0 STEPS` make behind `load` and `build`
 //! - `what_is_solved_passes_the_audit`: where no request is left out, both texts spell values, the solution is sound,
 //!   serves each request, keeps the fleet and prints the distance that it drives
 //!
@@ -44,5 +46,5 @@ mod telling;
 mod trying;
 
 pub use faults::SolveFault;
-pub use laws::{solving_is_commands, what_is_solved_passes_the_audit};
+pub use laws::{annealing_is_commands, solving_is_commands, what_is_solved_passes_the_audit};
 pub use solving::{Solved, solve};

@@ -17,17 +17,18 @@ use sol_text::write_sol;
 use std::alloc::{AllocError, Global};
 
 /// What is told of a job's plan.
-pub(crate) fn answer(alloc: Global, walk: &Walk) -> Result<Solved, OutOfMemory>
-    ensures plan { IfOk result (TellsPlan walk.now.job) }
-    ensures told { IfOk result (λ solved. solved.is_told ≡ walk.now.is_told) }
+pub(crate) fn answer(alloc: Global, walk: Walk) -> Result<Solved, OutOfMemory>
+    ensures plan { IfOk result (TellsPlan walk.job) }
+    ensures told { IfOk result (λ solved. solved.is_told ≡ walk.is_told) }
 {
-    let job = &walk.job;
+    let Walk { job, is_told, .. } = walk;
     let unplanned = unplanned_names(alloc, &job.problem, job.plan.routes.as_slice())?;
-    let text = plan_text(alloc, job, &unplanned)?;
+    let text = plan_text(alloc, &job, &unplanned)?;
     Ok(Solved {
         text,
         unplanned,
-        is_told: walk.is_told,
+        job,
+        is_told,
     })
 }
 

@@ -24,6 +24,8 @@ pub struct Solved {
     pub text: Vec<u8>,
     /// The names of the requests that are in no route, rising.
     pub unplanned: Vec<u32>,
+    /// What was found, as it would stand in a store.
+    pub job: Job,
     /// Whether each line of progress was written.
     pub is_told: bool,
 }
@@ -55,7 +57,7 @@ pub fn solve<W: Write>(
 {
     let begun = begin(alloc, kind, instance, seed)?;
     let walk = walk(alloc, begun, steps, deviation, progress)?;
-    Ok(answer(alloc, &walk)?)
+    Ok(answer(alloc, walk)?)
 }
 
 // Loads the instance and builds a plan.

@@ -1,4 +1,4 @@
--- A timetable as text: the block of each vehicle that is used, then the unplanned requests. Vehicles count from 1.
+-- A timetable as text: the block of each vehicle that is used, then the unplanned requests, each with why it is so. Vehicles count from 1.
 use Rattle.std.specs.Prelude.{ℕ, ◌+◌, ◌==◌, nat_le, Bool, true, false, List, [], ◌∷◌, ◌++◌, length, if◌then◌else◌}
 use Rattle.std.specs.Fmt.{signed_decimal}
 use Rattle.std.specs.List.{flat_map}
@@ -10,6 +10,9 @@ use Rattle.plan_audit.specs.declared.rules.Verdict.{Verdict}
 use Rattle.plan_audit.specs.declared.rules.Verdict.TheVariants.{Broken, Pass}
 use Rattle.plan_explain.specs.Summaries.{summary_of, wait}
 use Rattle.plan_explain.specs.declared.summaries.Summary.{Summary}
+use Rattle.plan_why.specs.Why.{reason_text}
+use Rattle.plan_why.specs.declared.leads.Lead.{Lead}
+use Rattle.plan_why.specs.declared.leads.Lead.TheVariants.{Named, Tabbed}
 use Rattle.plan_timetable.specs.Cells.{named, number, number_or_nothing, signed}
 use Rattle.plan_timetable.specs.Entries.{entries_of}
 use Rattle.plan_timetable.specs.Words.{word}
@@ -82,23 +85,36 @@ heading Vrp = LoadsHeading
 abbrev pub block_text : Form → Instance → ℕ → List ℕ → List ℕ
 block_text form p v route = vehicle_line form p.kind v (summary_of p route) ++ word form (heading p.kind) ++ flat_map (entry_text form p.kind v) (entries_of p route)
 
--- the block of each vehicle that is used, the first of them with this number
+-- this vehicle's, if it is used
+abbrev pub vehicle_text : Form → Instance → ℕ → List ℕ → List ℕ
+vehicle_text form p v route = if length route == 0 then [] else block_text form p v route
+
+-- that of each vehicle, the first of them with this number
 abbrev pub blocks_from : Form → Instance → ℕ → List (List ℕ) → List ℕ
 blocks_from form p v [] = []
-blocks_from form p v (route ∷ routes) = (if length route == 0 then [] else block_text form p v route) ++ blocks_from form p (v + 1) routes
+blocks_from form p v (route ∷ routes) = vehicle_text form p v route ++ blocks_from form p (v + 1) routes
 
 abbrev pub unplanned_line : Form → ℕ → List ℕ
 unplanned_line form n = ended (named form Unplanned n)
 
--- each of these requests, by name
-abbrev pub unplanned_text : Form → List ℕ → List ℕ
-unplanned_text form names = (if length names == 0 then [] else word form Gap) ++ flat_map (unplanned_line form) names
+-- what stands before each line that tells why
+abbrev pub lead_of : Form → Lead
+lead_of Columns = Named
+lead_of Tabs = Tabbed
 
--- the whole timetable, with the names of the unplanned requests
-abbrev pub timetable_text : Form → Instance → List (List ℕ) → List ℕ → List ℕ
-timetable_text form p routes unplanned = blocks_from form p 1 routes ++ unplanned_text form unplanned
+-- a request by its name, and why it is in no route, with these pins
+abbrev pub unplanned_block : Form → Instance → List (List ℕ) → List (List ℕ) → ℕ → List ℕ
+unplanned_block form p pins routes n = unplanned_line form n ++ reason_text (lead_of form) p pins routes n
 
--- that of a printed solution; none where a stop is unknown or stands twice
+-- each of these requests
+abbrev pub unplanned_text : Form → Instance → List (List ℕ) → List (List ℕ) → List ℕ → List ℕ
+unplanned_text form p pins routes names = (if length names == 0 then [] else word form Gap) ++ flat_map (unplanned_block form p pins routes) names
+
+-- the whole timetable, with these pins and the names of the unplanned requests
+abbrev pub timetable_text : Form → Instance → List (List ℕ) → List (List ℕ) → List ℕ → List ℕ
+timetable_text form p pins routes unplanned = blocks_from form p 1 routes ++ unplanned_text form p pins routes unplanned
+
+-- that of a printed solution, which has no pins; none where a stop is unknown or stands twice
 abbrev pub judged_text : Form → Instance → List (List ℕ) → List ℕ → Verdict → List ℕ
-judged_text form p routes unplanned (Pass cost) = timetable_text form p routes unplanned
-judged_text form p routes unplanned (Broken rule r i n) = if nat_le rule 2 then [] else timetable_text form p routes unplanned
+judged_text form p routes unplanned (Pass cost) = timetable_text form p [] routes unplanned
+judged_text form p routes unplanned (Broken rule r i n) = if nat_le rule 2 then [] else timetable_text form p [] routes unplanned

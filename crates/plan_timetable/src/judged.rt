@@ -10,8 +10,8 @@ use plan_types::{OutOfMemory, Problem};
 use sol_text::Solution;
 use std::alloc::Global;
 
-/// The timetable of a printed solution with this verdict, and with the names of the unplanned requests. It has no line where a stop
-/// is unknown or stands twice (rules 1 and 2): then nobody knows when a vehicle comes.
+/// The timetable of a printed solution with this verdict, which has no pins, and with the names of the unplanned requests. It has no line
+/// where a stop is unknown or stands twice (rules 1 and 2): then nobody knows when a vehicle comes.
 pub fn judged_timetable(
     alloc: Global,
     problem: &Problem,
@@ -26,12 +26,12 @@ pub fn judged_timetable(
 {
     let routes = solution.routes.as_slice();
     match verdict {
-        Verdict::Pass(_) => timetable(alloc, problem, routes, unplanned, form),
+        Verdict::Pass(_) => timetable(alloc, problem, &[], routes, unplanned, form),
         Verdict::Broken { rule, .. } => {
             if rule <= 2 {
                 return Ok(String::new(alloc));
             }
-            timetable(alloc, problem, routes, unplanned, form)
+            timetable(alloc, problem, &[], routes, unplanned, form)
         }
     }
 }

@@ -1,14 +1,14 @@
 //! When each vehicle is where: the stops of a plan with arrival, start, waiting, latest start and load, and behind which of them
 //! a pin may end.
 //!
-//! Entry functions, called by `planner_cli` (the word `timetable`): `timetable` for a plan, `judged_timetable` for a printed solution
-//! with its verdict.
+//! Entry functions: `timetable` for a plan, `vehicle_timetable` for one of its vehicles, and `judged_timetable` for a printed solution
+//! with its verdict. `planner_cli` calls them for the word `timetable`, `command_text` for the line `timetable [V]`.
 //!
 //! Source: this project's own. Arrivals, starts, loads and distances are `route_sched`'s, latest starts those of `slack_tables`,
 //! and a pin may end where the stops so far are a feasible route by `plan_audit`.
 //!
-//! How it works: a block for each vehicle that is used, a line for each of its stops and one for the return, and at the end a line
-//! for each unplanned request. `Form` says whether it stands in columns under headings, or by tabs: then the first word of a line
+//! How it works: a block for each vehicle that is used, a line for each of its stops and one for the return, and at the end
+//! each unplanned request, with why it is so (`plan_why`). `Form` says whether it stands in columns under headings, or by tabs: then the first word of a line
 //! says what the line is of, and a vehicle's number stands in each of its lines. A problem of kind `Vrp` asks for no times: its
 //! lines leave start, waiting and latest start out.
 //!
@@ -23,12 +23,12 @@
 //! - `entries`: what is told of each place of a route
 //! - `lines`: the line of a place
 //! - `vehicles`: the block of a vehicle
-//! - `timetables`: `timetable`
+//! - `timetables`: `timetable`, `vehicle_timetable`
 //! - `judged`: `judged_timetable`
 //! - `laws`: what a latest start means
 //!
 //! Said by `specs/Timetable.antt`, `Entries.antt` and `Words.antt`. Proved:
-//! - `timetable`: the bytes are those of `timetable_text`, or want of memory
+//! - `timetable`, `vehicle_timetable`: the bytes are those of `timetable_text` and of `vehicle_text`, or want of memory
 //! - `judged_timetable`: the same for a solution, with none where a stop is unknown or stands twice
 //! - `latest_starts_are_greatest`: the latest start that is told of a place is the greatest one from which neither this service
 //!   nor one behind it nor the return is late, by `slack_tables`
@@ -49,4 +49,4 @@ mod words;
 pub use forms::Form;
 pub use judged::judged_timetable;
 pub use laws::latest_starts_are_greatest;
-pub use timetables::timetable;
+pub use timetables::{timetable, vehicle_timetable};

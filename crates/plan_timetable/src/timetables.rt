@@ -2,55 +2,95 @@
 ghost use Rattle.std.specs.Prelude.{◌≡◌, ◌++◌, All, IfOk, OnOk, string_bytes};
 ghost use Rattle.std.specs.List.{flat_map};
 ghost use Rattle.route_sched.specs.Route.{AreLiveOnce};
-ghost use Rattle.plan_timetable.specs.Timetable.{timetable_text, unplanned_line, unplanned_text};
+ghost use Rattle.plan_timetable.specs.Timetable.{lead_of, timetable_text, unplanned_block, unplanned_line, unplanned_text, vehicle_text};
 
 use crate::cells::{put_named, put_word};
 use crate::forms::Form;
-use crate::vehicles::put_blocks;
+use crate::vehicles::{put_blocks, put_vehicle};
 use crate::words::Word;
 use plan_types::{OutOfMemory, Problem, Route};
+use plan_why::{Lead, reason};
 use std::alloc::Global;
 
 /// When each vehicle is where, in whole lines: for each one that is used its figures, then a line for each stop and for the return; then
-/// a line for each of these unplanned requests, by name. Vehicles count as their routes do, from 1; places too.
+/// each of these unplanned requests, by name, and why it is in no route, as `plan_why` tells it. Vehicles count as their routes do,
+/// from 1; places too.
 ///
 /// Times and distances are in the problem's unit, loads in that of its demands. The stops of each route are live and stand once in it;
-/// it may break every other rule.
+/// it may break every other rule. No unplanned request is tried before the end of a pin.
 pub fn timetable(
     alloc: Global,
     problem: &Problem,
+    pins: &[Route],
     routes: &[Route],
     unplanned: &[u32],
     form: Form,
 ) -> Result<String, OutOfMemory>
     requires { All (AreLiveOnce problem.now) routes.now }
     ensures { IfOk result (λ text. string_bytes text
-        ≡ timetable_text form problem.now routes.now unplanned.now) }
+        ≡ timetable_text form problem.now pins.now routes.now unplanned.now) }
 {
     let mut text = String::new(alloc);
     put_blocks(alloc, &mut text, form, problem, routes)?;
-    put_unplanned(&mut text, form, unplanned)?;
+    put_unplanned(alloc, &mut text, form, problem, pins, routes, unplanned)?;
+    Ok(text)
+}
+
+/// When this vehicle is where: its figures and its lines, as `timetable` has them; none where it is not used.
+pub fn vehicle_timetable(
+    alloc: Global,
+    problem: &Problem,
+    vehicle: u64,
+    route: &[u32],
+    form: Form,
+) -> Result<String, OutOfMemory>
+    requires { AreLiveOnce problem.now route.now }
+    ensures { IfOk result (λ text. string_bytes text
+        ≡ vehicle_text form problem.now vehicle route.now) }
+{
+    let mut text = String::new(alloc);
+    put_vehicle(alloc, &mut text, form, problem, vehicle, route)?;
     Ok(text)
 }
 
 // Appends the lines of unplanned requests.
-fn put_unplanned(text: &mut String, form: Form, names: &[u32]) -> Result<(), OutOfMemory>
-    ensures { OnOk result (string_bytes text.new
-        ≡ string_bytes text.old ++ unplanned_text form names.now) }
+fn put_unplanned(
+    alloc: Global,
+    text: &mut String,
+    form: Form,
+    problem: &Problem,
+    pins: &[Route],
+    routes: &[Route],
+    names: &[u32],
+) -> Result<(), OutOfMemory>
+    requires { All (AreLiveOnce problem.now) routes.now }
+    ensures { OnOk result (string_bytes text.new ≡ string_bytes text.old
+        ++ unplanned_text form problem.now pins.now routes.now names.now) }
 {
     if names.is_empty() {
         return Ok(());
     }
     put_word(text, form, Word::Gap)?;
-    put_names(text, form, names)
+    put_names(alloc, text, form, problem, pins, routes, names)
 }
 
-fn put_names(text: &mut String, form: Form, names: &[u32]) -> Result<(), OutOfMemory>
-    ensures { OnOk result (string_bytes text.new
-        ≡ string_bytes text.old ++ flat_map (unplanned_line form) names.now) }
+fn put_names(
+    alloc: Global,
+    text: &mut String,
+    form: Form,
+    problem: &Problem,
+    pins: &[Route],
+    routes: &[Route],
+    names: &[u32],
+) -> Result<(), OutOfMemory>
+    requires { All (AreLiveOnce problem.now) routes.now }
+    ensures { OnOk result (string_bytes text.new ≡ string_bytes text.old
+        ++ flat_map (unplanned_block form problem.now pins.now routes.now) names.now) }
 {
     for name in names {
         put_name(text, form, *name)?;
+        let reason = reason(alloc, lead_of(form), problem, pins, routes, *name)?;
+        text.push_str(reason.as_str())?;
     }
     Ok(())
 }
@@ -61,4 +101,14 @@ fn put_name(text: &mut String, form: Form, name: u32) -> Result<(), OutOfMemory>
 {
     put_named(text, form, Word::Unplanned, u64::from(name))?;
     text.push_str("\n")
+}
+
+// What stands before each line that tells why.
+fn lead_of(form: Form) -> Lead
+    ensures { result ≡ lead_of form }
+{
+    match form {
+        Form::Columns => Lead::Named,
+        Form::Tabs => Lead::Tabbed,
+    }
 }

@@ -1,8 +1,8 @@
 //! The block of a vehicle: its figures, and a line for each place of its route.
-ghost use Rattle.std.specs.Prelude.{◌≡◌, ◌<◌, ◌==◌, ◌++◌, [], All, OnOk, if◌then◌else◌, length, string_bytes};
+ghost use Rattle.std.specs.Prelude.{◌≡◌, ◌<◌, ◌++◌, All, OnOk, length, string_bytes};
 ghost use Rattle.route_sched.specs.Route.{AreLiveOnce};
 ghost use Rattle.text_lines.specs.Lines.{ended};
-ghost use Rattle.plan_timetable.specs.Timetable.{block_text, blocks_from, day_text, heading, top_load_text, vehicle_line, way_text};
+ghost use Rattle.plan_timetable.specs.Timetable.{block_text, blocks_from, day_text, heading, top_load_text, vehicle_line, vehicle_text, way_text};
 
 use crate::cells::{put_named, put_word};
 use crate::entries::entries;
@@ -38,8 +38,8 @@ pub(crate) fn put_blocks(
     Ok(())
 }
 
-// The block of a vehicle, if it is used.
-fn put_vehicle(
+/// Appends the block of a vehicle, if it is used.
+pub(crate) fn put_vehicle(
     alloc: Global,
     text: &mut String,
     form: Form,
@@ -48,9 +48,8 @@ fn put_vehicle(
     route: &[u32],
 ) -> Result<(), OutOfMemory>
     requires { AreLiveOnce problem.now route.now }
-    ensures { OnOk result (string_bytes text.new ≡ string_bytes text.old
-        ++ (if length route.now == 0 then []
-        else block_text form problem.now vehicle route.now)) }
+    ensures { OnOk result (string_bytes text.new
+        ≡ string_bytes text.old ++ vehicle_text form problem.now vehicle route.now) }
 {
     if route.is_empty() {
         return Ok(());

@@ -9,7 +9,7 @@
 //! printed would overwrite it; so each such number is taken first.
 #![tactic(auto)]
 
-use planner_cli::{HostFiles, Streams, Watched, run_words, status};
+use planner_cli::{HostFiles, HostNewFiles, Streams, Watched, run_words, status};
 use sector_disk::Unknown;
 use std::env::Env;
 use std::fs::File;
@@ -38,12 +38,21 @@ fn main(rt: HostRuntime) -> ExitCode {
 // Does what the words ask for, over the system's files and the standard streams.
 fn status_of(rt: &HostRuntime, words: &[String]) -> u8 {
     let mut files = HostFiles::new(rt);
+    let mut new_files = HostNewFiles::new(rt);
     let streams = Streams {
         input: Watched::new(rt.reader()),
         output: Watched::new(io::writer(rt)),
         errors: rt.stderr(),
     };
-    let (status, _streams) = run_words(rt, Unknown, Unknown, &mut files, streams, words);
+    let (status, _streams) = run_words(
+        rt,
+        Unknown,
+        Unknown,
+        &mut files,
+        &mut new_files,
+        streams,
+        words,
+    );
     status
 }
 

@@ -15,6 +15,7 @@ use Rattle.command_serving.specs.Timely.{AnswersComeAfter, TellsAcknowledged, ca
 use Rattle.command_serving.proofs.ActLemmas.{honest_before}
 use Rattle.command_serving.proofs.StoppedLemmas.{recovered_of, weaker}
 use Rattle.command_text.specs.Cutting.{pieces_of}
+use Rattle.command_text.specs.Readings.{IsReading, Reading}
 use Rattle.planner_cli.specs.Recovering.{HoldsWhatWasTold, RunHeadline, RunKeepsAnswers, ServedRunHeadline, acts_in}
 use Rattle.planner_cli.specs.Running.{IsOpened}
 use Rattle.recover.specs.Applying.{IsAnswer, IsBetween, Makes, calls_of, denial, is_snapshot_due}
@@ -106,32 +107,32 @@ module _ {D : Type 0} (on : sectors.Ghosts D) where
           (none_yet commands replies session new run m (omega (arith, left.0.1, opened.finished))) (stood image left.1)
       at opening (inr some) = some
 
-pub run_headline : {D E : Type 0} (on : sectors.Ghosts D) (again : sectors.Ghosts E) → Headline on again → ServingsAreRuns on → RunHeadline on again
-run_headline on again law runs run device m image other left outcome is honest stood stop reads settled opens =
-    let acts : List Act = acts_in on run device is in
+pub run_headline : {D E : Type 0} (on : sectors.Ghosts D) (again : sectors.Ghosts E) (reading : Reading) (reads : IsReading reading) → Headline on again → ServingsAreRuns on → RunHeadline on again reading reads
+run_headline on again reading reads law runs run device m image other left outcome is honest stood stop given settled opens =
+    let acts : List Act = acts_in on reading reads run device is in
     let session = is.session in
     let new = is.runs.new in
-    let done : IsRunOfInput on run.reading session run.input acts new =
-    runs run.reading session new run.input is.runs.opened is.runs.answered is.runs.served ((is.runs.ends.serves run.input is.knows).serves run.reading is.reads) in
-    let asked = asked_by run.reading session (pieces_of run.input) acts in
+    let done : IsRunOfInput on reading session run.input acts new =
+    runs reading session new run.input is.runs.opened is.runs.answered is.runs.served ((is.runs.ends.serves run.input is.is_input).serves reading reads) in
+    let asked = asked_by reading session (pieces_of run.input) acts in
     let leaves = from_before on device session new is.replayed (commands_of acts) (replies_of acts) is.opened done.run (is.runs.ends.moments (commands_of acts) (replies_of acts) done.run is.opened.whole) stood in
     weaker (IsRecovered session.state (kept_of acts) (acked m (replies_of acts))) (IsRecovered session.state asked (acked m (replies_of acts)))
     (λ given found. recovered_of session.state (kept_of acts) asked (acked m (replies_of acts)) given done.asks found) outcome
-    (law (record session { device = device }) new (commands_of acts) (replies_of acts) m image other left outcome is.opened.whole honest leaves stop reads settled opens)
+    (law (record session { device = device }) new (commands_of acts) (replies_of acts) m image other left outcome is.opened.whole honest leaves stop given settled opens)
 
-pub served_run_headline : {D E : Type 0} (on : sectors.Ghosts D) (again : sectors.Ghosts E) → ServedHeadline on again → ServedRunHeadline on again
-served_run_headline on again law run device m image other left outcome is honest stop reads settled opens =
-    law run.reading is.session is.runs.new run.input is.runs.opened is.runs.answered is.runs.served m image other left outcome ((is.runs.ends.serves run.input is.knows).serves run.reading is.reads)
-    is.opened.whole honest is.runs.ends.moments stop reads settled opens
+pub served_run_headline : {D E : Type 0} (on : sectors.Ghosts D) (again : sectors.Ghosts E) (reading : Reading) (reads : IsReading reading) → ServedHeadline on again → ServedRunHeadline on again reading reads
+served_run_headline on again reading reads law run device m image other left outcome is honest stop given settled opens =
+    law reading is.session is.runs.new run.input is.runs.opened is.runs.answered is.runs.served m image other left outcome ((is.runs.ends.serves run.input is.is_input).serves reading reads)
+    is.opened.whole honest is.runs.ends.moments stop given settled opens
 
-pub run_keeps_answers : {D E : Type 0} (on : sectors.Ghosts D) (again : sectors.Ghosts E) → AnswersComeAfter on → RunHeadline on again → RunKeepsAnswers on again
-run_keeps_answers on again told_law law run device m image other left outcome events others is honest stood stop done timely reads settled opens =
-    let acts : List Act = acts_in on run device is in
+pub run_keeps_answers : {D E : Type 0} (on : sectors.Ghosts D) (again : sectors.Ghosts E) (reading : Reading) (reads : IsReading reading) → AnswersComeAfter on → RunHeadline on again reading reads → RunKeepsAnswers on again reading reads
+run_keeps_answers on again reading reads told_law law run device m image other left outcome events others is honest stood stop done timely given settled opens =
+    let acts : List Act = acts_in on reading reads run device is in
     let runs = is.runs in
     let noted : runs.answered.events ≡ runs.opened.events ++ (events ++ others) =
     sym runs.noted ∙ done ∙ ap (λ l. l ++ (events ++ others)) (sym (append-nil run.before.events) ∙ sym runs.tells_opened.noted) in
-    let told : TellsAcknowledged run.reading is.session run.input acts m (put_by events) =
-    told_law run.reading is.session runs.new run.input runs.opened runs.answered runs.served m events others ((runs.ends.serves run.input is.knows).serves run.reading is.reads) noted timely in
-    weaker (IsRecovered is.session.state (asked_by run.reading is.session (pieces_of run.input) acts) (acked m (replies_of acts))) (HoldsWhatWasTold on again run device is m (put_by events))
+    let told : TellsAcknowledged reading is.session run.input acts m (put_by events) =
+    told_law reading is.session runs.new run.input runs.opened runs.answered runs.served m events others ((runs.ends.serves run.input is.is_input).serves reading reads) noted timely in
+    weaker (IsRecovered is.session.state (asked_by reading is.session (pieces_of run.input) acts) (acked m (replies_of acts))) (HoldsWhatWasTold on again reading reads run device is m (put_by events))
     (λ given found. record { told = told; recovered = found; holds = omega (arith, told.acknowledged, found.all_acknowledged) }) outcome
-    (law run device m image other left outcome is honest stood stop reads settled opens)
+    (law run device m image other left outcome is honest stood stop given settled opens)

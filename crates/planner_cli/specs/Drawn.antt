@@ -1,36 +1,53 @@
 -- What is told of a drawing.
-use Rattle.std.specs.Prelude.{◌≡◌, ◌⊎◌, ℕ, List, [], codes, Option, Result, Ok, Err, IfOk}
+use Rattle.std.specs.Prelude.{◌≡◌, ◌⊎◌, ◌+◌, ◌==◌, ℕ, if◌then◌else◌, List, [], ◌∷◌, codes, length, take, Option, Some, None, Result, Ok, Err, IfOk}
 use Rattle.std.specs.Io.KnownBytes.{Appends}
 use Rattle.std.specs.declared.alloc.AllocError.{AllocError}
 use Rattle.std.specs.declared.io.ErrorKind.{ErrorKind}
 use Rattle.plan_types.specs.declared.requests.Kind.{Kind}
-use Rattle.plan_picture.specs.Picture.{picture}
+use Rattle.plan_types.specs.Instance.{Instance}
+use Rattle.plan_audit.specs.declared.rules.Verdict.{Verdict}
+use Rattle.plan_audit.specs.declared.rules.Verdict.TheVariants.{Pass}
+use Rattle.plan_picture.specs.Picture.{picture, route_picture}
+use Rattle.route_sched.specs.Cost.{cost_of}
+use Rattle.command_core.specs.Job.{JobValue}
+use Rattle.command_core.specs.declared.states.State.{State}
+use Rattle.command_core.specs.declared.states.State.TheVariants.{Empty, Loaded}
 use Rattle.planner_cli.specs.Examined.{IsExamined, answer_of}
 use Rattle.planner_cli.specs.Files.{AreBothRead, IsUnread}
 use Rattle.planner_cli.specs.Reads.{FileRead}
 use Rattle.command_text.specs.Answers.{line}
-use Rattle.planner_cli.specs.Telling.{TellsUnread}
+use Rattle.planner_cli.specs.Running.{OpensDevice, TellsFault}
+use Rattle.planner_cli.specs.Telling.{TellsUnread, open_line, open_status}
 use Rattle.planner_cli.specs.declared.audit.Examined.{Examined}
 use Rattle.planner_cli.specs.declared.audit.Examined.TheVariants.{BadInstance, BadSolution, Judged}
 use Rattle.planner_cli.specs.declared.drawn.Drawing.{Drawing}
-use Rattle.planner_cli.specs.declared.drawn.Drawing.TheVariants.{Picture, Refused}
+use Rattle.planner_cli.specs.declared.drawn.Drawing.TheVariants.{NoSuchRoute, Picture, Refused}
+use Rattle.sector_disk.specs.declared.file_device.FileFault.{FileFault}
+use Rattle.sector_disk.specs.declared.sectors.Sectors as sectors
+
+-- the picture of these routes with a verdict; or of the one with this number, counted from 1, if there is one
+abbrev pub IsPictureOf : Option ℕ → Instance → List (List ℕ) → Verdict → Drawing → Type 0
+IsPictureOf None p routes verdict (Picture svg) = svg.items ≡ picture p routes verdict
+IsPictureOf (Some number) p routes verdict (Picture svg) = Some svg.items ≡ route_picture p routes verdict number
+IsPictureOf (Some number) p routes verdict NoSuchRoute = None ≡ route_picture p routes verdict number
+IsPictureOf _ p routes verdict drawing = ⊥
 
 -- the picture of the solution with the verdict on it, or, where a text is refused, the answer of the audit
-abbrev pub IsDrawingOf : Examined → Drawing → Type 0
-IsDrawingOf (BadInstance fault) drawing = drawing ≡ Refused (answer_of (BadInstance fault))
-IsDrawingOf (BadSolution fault) drawing = drawing ≡ Refused (answer_of (BadSolution fault))
-IsDrawingOf (Judged problem plan verdict) (Picture svg) = svg.items ≡ picture problem plan.routes verdict
-IsDrawingOf (Judged problem plan verdict) (Refused answer) = ⊥
+abbrev pub IsDrawingOf : Option ℕ → Examined → Drawing → Type 0
+IsDrawingOf route (BadInstance fault) drawing = drawing ≡ Refused (answer_of (BadInstance fault))
+IsDrawingOf route (BadSolution fault) drawing = drawing ≡ Refused (answer_of (BadSolution fault))
+IsDrawingOf route (Judged problem plan verdict) drawing = IsPictureOf route problem plan.routes verdict drawing
 
--- what comes of drawing two texts
-pub record IsDrawing (kind : Kind) (instance solution : List ℕ) (drawing : Drawing) : Type 0 where
+-- what comes of drawing two texts, or one route
+pub record IsDrawing (kind : Kind) (route : Option ℕ) (instance solution : List ℕ) (drawing : Drawing) : Type 0 where
   pub examined : Examined
   pub is_examined : IsExamined kind instance solution examined
-  pub drawn : IsDrawingOf examined drawing
+  pub drawn : IsDrawingOf route examined drawing
 
--- the picture is written to the output, or the answer to the errors, and nothing to the other
+-- the picture is written to the output, or why there is none to the errors, and nothing to the other
 abbrev pub TellsDrawing : Drawing → Option (List ℕ) → Option (List ℕ) → Option (List ℕ) → Option (List ℕ) → ℕ → Type 0
 TellsDrawing (Picture svg) output after errors later status = (status ≡ 0) × Appends output after svg.items × Appends errors later []
+TellsDrawing NoSuchRoute output after errors later status = (status ≡ 2) × Appends errors later (line (codes "no NoSuchRoute")) × Appends output after []
 TellsDrawing (Refused answer) output after errors later status = (status ≡ answer.status) × Appends errors later (line answer.line) × Appends output after []
 
 abbrev pub TellsResult : {E : Type 0} → Result Drawing E → Option (List ℕ) → Option (List ℕ) → Option (List ℕ) → Option (List ℕ) → ℕ → Type 0
@@ -38,12 +55,12 @@ TellsResult (Ok drawing) output after errors later status = TellsDrawing drawing
 TellsResult (Err e) output after errors later status = (status ≡ 4) × Appends errors later (line (codes "out of memory")) × Appends output after []
 
 -- two texts are read, and the solution is drawn
-pub record TellsBoth (k : Kind) (instance solution : List ℕ) (was now : List FileRead) (output after errors later : Option (List ℕ)) (status : ℕ) : Type 0 where
+pub record TellsBoth (k : Kind) (route : Option ℕ) (instance solution : List ℕ) (was now : List FileRead) (output after errors later : Option (List ℕ)) (status : ℕ) : Type 0 where
   pub x : List ℕ
   pub y : List ℕ
   pub read : AreBothRead instance solution x y was now
   pub drawn : Result Drawing AllocError
-  pub draws : IfOk drawn (IsDrawing k x y)
+  pub draws : IfOk drawn (IsDrawing k route x y)
   pub told : TellsResult drawn output after errors later status
 
 -- or one can't be read
@@ -54,6 +71,39 @@ pub record TellsNotRead (instance solution : List ℕ) (was now : List FileRead)
   pub told : TellsUnread path error errors later status
   pub silent : Appends output after []
 
-abbrev pub TellsDrawn : Kind → List ℕ → List ℕ → List FileRead → List FileRead → Option (List ℕ) → Option (List ℕ) → Option (List ℕ) → Option (List ℕ) → ℕ → Type 0
-TellsDrawn k instance solution was now output after errors later status =
-    TellsBoth k instance solution was now output after errors later status ⊎ TellsNotRead instance solution was now output after errors later status
+abbrev pub TellsDrawn : Kind → Option ℕ → List ℕ → List ℕ → List FileRead → List FileRead → Option (List ℕ) → Option (List ℕ) → Option (List ℕ) → Option (List ℕ) → ℕ → Type 0
+TellsDrawn k route instance solution was now output after errors later status =
+    TellsBoth k route instance solution was now output after errors later status ⊎ TellsNotRead instance solution was now output after errors later status
+
+-- how many vehicles there are up to the last one with a stop, where so many stand before these and so many are counted
+abbrev pub busy_after : ℕ → ℕ → List (List ℕ) → ℕ
+busy_after count before [] = count
+busy_after count before (route ∷ routes) = busy_after (if length route == 0 then count else before + 1) (before + 1) routes
+
+-- the vehicles up to the last one with a stop: those behind it are idle
+abbrev pub busy_front : List (List ℕ) → List (List ℕ)
+busy_front routes = take (busy_after 0 0 routes) routes
+
+-- the picture of a job's plan, which passes, without the idle vehicles at its end
+abbrev pub IsPlanDrawn : JobValue → Drawing → Type 0
+IsPlanDrawn job drawing = IsPictureOf None job.problem (busy_front job.plan) (Pass (cost_of job.problem job.plan)) drawing
+
+-- that of a state's plan, or that nothing was loaded, which is written to the errors
+abbrev pub DrawsState : State → Option (List ℕ) → Option (List ℕ) → Option (List ℕ) → Option (List ℕ) → ℕ → Type 0
+DrawsState Empty output after errors later status = (status ≡ 2) × Appends errors later (line (codes "no NoInstance")) × Appends output after []
+DrawsState (Loaded job) output after errors later status = (drawn : Result Drawing AllocError) × IfOk drawn (IsPlanDrawn job) × TellsResult drawn output after errors later status
+
+module _ {D : Type 0} (on : sectors.Ghosts D) where
+  -- The store on the device is opened, and its plan drawn; or it is told on the errors why there is no picture. `errors` is what they hold
+  -- behind the line of how many search steps are repeated. `left` is the device as it is left: as opening left it.
+  abbrev pub DrawsDevice : D → Option (List ℕ) → Option (List ℕ) → Option (List ℕ) → D → ℕ → Type 0
+  DrawsDevice device output after later left status =
+      (errors : Option (List ℕ))
+      × OpensDevice on device (λ session replayed. (left ≡ session.device) × DrawsState session.state output after errors later status)
+      (λ refused fault. (left ≡ refused) × TellsFault fault errors later status × Appends output after [])
+
+  -- the same for the device over a file, or it is told why there is none
+  abbrev pub DrawsStore : (D → Type 0) → List ℕ → Option (List ℕ) → Option (List ℕ) → Option (List ℕ) → Option (List ℕ) → ℕ → Type 0
+  DrawsStore IsNew path output after errors later status =
+      ((device : D) × (left : D) × IsNew device × DrawsDevice device output after later left status)
+      ⊎ ((fault : FileFault) × (status ≡ open_status fault) × Appends errors later (open_line path fault) × Appends output after [])

@@ -5,7 +5,7 @@ use Rattle.std.specs.declared.alloc.AllocError.{AllocError}
 use Rattle.std.specs.declared.io.ErrorKind.{ErrorKind}
 use Rattle.plan_types.specs.declared.requests.Kind.{Kind}
 use Rattle.plan_explain.specs.Explained.{verdict_text}
-use Rattle.plan_explain.specs.Refused.{TellsFault}
+use Rattle.plan_explain.specs.Refused.{instance_fault_text, solution_fault_text}
 use Rattle.planner_cli.specs.Answer.{IsAnswer}
 use Rattle.planner_cli.specs.Examined.{IsExamined, answer_of}
 use Rattle.planner_cli.specs.Files.{AreBothRead, IsUnread}
@@ -16,18 +16,18 @@ use Rattle.planner_cli.specs.declared.audit.Examined.{Examined}
 use Rattle.planner_cli.specs.declared.audit.Examined.TheVariants.{BadInstance, BadSolution, Judged}
 use Rattle.planner_cli.specs.declared.explained.Explanation.{Explanation}
 
--- what the answer for two texts rests on: a fault and its line, or the verdict in figures
-abbrev pub RestsOn : List ℕ → List ℕ → Examined → List ℕ → Type 0
-RestsOn instance solution (BadInstance fault) text = TellsFault instance fault.line text
-RestsOn instance solution (BadSolution fault) text = TellsFault solution fault.line text
-RestsOn instance solution (Judged problem plan verdict) text = text ≡ verdict_text problem plan verdict
+-- what the answer for two texts rests on, of which the instance was read as this kind: a fault and its line, or the verdict in figures
+abbrev pub RestsOn : Kind → List ℕ → List ℕ → Examined → List ℕ → Type 0
+RestsOn kind instance solution (BadInstance fault) text = text ≡ instance_fault_text kind instance fault
+RestsOn kind instance solution (BadSolution fault) text = text ≡ solution_fault_text solution fault
+RestsOn kind instance solution (Judged problem plan verdict) text = text ≡ verdict_text problem plan verdict
 
 -- the answer for what two texts are, and what it rests on
 pub record IsExplanation (kind : Kind) (instance solution : List ℕ) (explanation : Explanation) : Type 0 where
   pub examined : Examined
   pub is_examined : IsExamined kind instance solution examined
   pub answers : explanation.answer ≡ answer_of examined
-  pub rests : RestsOn instance solution examined (string_bytes explanation.text)
+  pub rests : RestsOn kind instance solution examined (string_bytes explanation.text)
 
 -- the answer's line, and behind it what it rests on
 abbrev pub explanation_text : {E : Type 0} → Result Explanation E → List ℕ

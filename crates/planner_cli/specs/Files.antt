@@ -9,10 +9,10 @@ use Rattle.planner_cli.specs.Reads.{FileRead}
 use Rattle.planner_cli.specs.Telling.{answer_line, answer_status, unread_line, unread_status}
 use Rattle.planner_cli.specs.declared.answer.AuditAnswer.{AuditAnswer}
 
--- what is told of two texts, and the status that goes with it
-abbrev pub IsToldOfTexts : Kind → List ℕ → List ℕ → List ℕ → ℕ → Type 0
-IsToldOfTexts kind instance solution text status =
-    (answer : Result AuditAnswer AllocError) × IfOk answer (IsAnswer kind instance solution) × (text ≡ answer_line answer) × (status ≡ answer_status answer)
+-- what is told of two texts whose answer is of this kind, and the status that goes with it
+abbrev pub IsToldOfTextsBy : (List ℕ → List ℕ → AuditAnswer → Type 0) → List ℕ → List ℕ → List ℕ → ℕ → Type 0
+IsToldOfTextsBy IsAnswered instance solution text status =
+    (answer : Result AuditAnswer AllocError) × IfOk answer (IsAnswered instance solution) × (text ≡ answer_line answer) × (status ≡ answer_status answer)
 
 -- both files were read, the instance first, and these are their texts
 abbrev pub AreBothRead : List ℕ → List ℕ → List ℕ → List ℕ → List FileRead → List FileRead → Type 0
@@ -29,11 +29,19 @@ abbrev pub AreReadInTurn : List ℕ → List ℕ → List FileRead → List File
 AreReadInTurn instance solution was now =
     ((x : List ℕ) × (y : List ℕ) × AreBothRead instance solution x y was now) ⊎ ((path : List ℕ) × (kind : ErrorKind) × IsUnread instance solution path kind was now)
 
--- what `audit` tells of two files: the audit of their texts, or that one can't be read
-abbrev pub IsToldOfFiles : Kind → List ℕ → List ℕ → List FileRead → List FileRead → List ℕ → ℕ → Type 0
-IsToldOfFiles k instance solution was now text status =
-    ((x : List ℕ) × (y : List ℕ) × AreBothRead instance solution x y was now × IsToldOfTexts k x y text status)
+-- what is told of two files: the answer for their texts, or that one can't be read
+abbrev pub IsToldOfFilesBy : (List ℕ → List ℕ → AuditAnswer → Type 0) → List ℕ → List ℕ → List FileRead → List FileRead → List ℕ → ℕ → Type 0
+IsToldOfFilesBy IsAnswered instance solution was now text status =
+    ((x : List ℕ) × (y : List ℕ) × AreBothRead instance solution x y was now × IsToldOfTextsBy IsAnswered x y text status)
     ⊎ ((path : List ℕ) × (error : ErrorKind) × IsUnread instance solution path error was now × (text ≡ unread_line path error) × (status ≡ unread_status error))
 
+abbrev pub TellsFilesBy : (List ℕ → List ℕ → AuditAnswer → Type 0) → List ℕ → List ℕ → List FileRead → List FileRead → Option (List ℕ) → Option (List ℕ) → ℕ → Type 0
+TellsFilesBy IsAnswered instance solution was now before after status =
+    (text : List ℕ) × IsToldOfFilesBy IsAnswered instance solution was now text status × Appends before after text
+
+-- what `audit` tells of two files
+abbrev pub IsToldOfFiles : Kind → List ℕ → List ℕ → List FileRead → List FileRead → List ℕ → ℕ → Type 0
+IsToldOfFiles k instance solution was now text status = IsToldOfFilesBy (IsAnswer k) instance solution was now text status
+
 abbrev pub TellsFiles : Kind → List ℕ → List ℕ → List FileRead → List FileRead → Option (List ℕ) → Option (List ℕ) → ℕ → Type 0
-TellsFiles k instance solution was now before after status = (text : List ℕ) × IsToldOfFiles k instance solution was now text status × Appends before after text
+TellsFiles k instance solution was now before after status = TellsFilesBy (IsAnswer k) instance solution was now before after status

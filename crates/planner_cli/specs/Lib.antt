@@ -1,6 +1,8 @@
 -- what public contracts reach
 pub mod Answer
 pub mod AnswerText
+pub mod Behind
+pub mod Compared
 pub mod Drawn
 pub mod Examined
 pub mod Explained
@@ -12,6 +14,7 @@ pub mod Program
 pub mod Reads
 pub mod Recovering
 pub mod Running
+pub mod SolvedList
 pub mod Solving
 pub mod Statuses
 pub mod Telling

@@ -1,18 +1,21 @@
--- What the program does with its words: which files it reads, what it writes to the output and to the errors, and which status it ends with.
+-- What the program does with its words: which files it reads and makes, what it writes to the output and to the errors, and which status it
+-- ends with.
 use Rattle.std.specs.Prelude.{◌≡◌, ◌⊎◌, ℕ, Bool, false, List, Option}
 use Rattle.clap.specs.Words.{Text}
-use Rattle.command_line.specs.Asked.{Asked, IsUsageStatus, asks_help, audit, audits, built_in, draw, explain, format, load, run, solve, store_timetable, timetable, upgrade}
+use Rattle.command_line.specs.Asked.{Asked, IsUsageStatus, asks_help, audit, audits, built_in, draw, draw_store, explain, format, load, run, solve, solves, store_timetable, timetable, upgrade}
 use Rattle.plan_types.specs.declared.requests.Kind.TheVariants.{LiLim}
-use Rattle.command_serving.specs.Held.{held}
-use Rattle.command_serving.specs.Streams.{Stream}
-use Rattle.planner_cli.specs.Drawn.{TellsDrawn}
+use Rattle.command_serving.specs.Held.{held, reads_of}
+use Rattle.command_serving.specs.Streams.{Given, Stream}
+use Rattle.planner_cli.specs.Behind.{TellsBehind}
+use Rattle.planner_cli.specs.Drawn.{DrawsStore, TellsDrawn}
 use Rattle.planner_cli.specs.Explained.{TellsExplained}
 use Rattle.planner_cli.specs.Files.{AreReadInTurn, TellsFiles}
 use Rattle.planner_cli.specs.Formatting.{FormatsStore}
 use Rattle.planner_cli.specs.Listed.{TellsList, list_path}
 use Rattle.planner_cli.specs.Loading.{TellsLoad}
-use Rattle.planner_cli.specs.Reads.{FileRead, IsRead, IsReadFirst}
+use Rattle.planner_cli.specs.Reads.{FileRead, FileWrite, IsGrown, IsRead, IsReadFirst}
 use Rattle.planner_cli.specs.Running.{RunsStore}
+use Rattle.planner_cli.specs.SolvedList.{FilesDone, SolvesList}
 use Rattle.planner_cli.specs.Solving.{TellsTask}
 use Rattle.planner_cli.specs.Statuses.{CanEndWith}
 use Rattle.planner_cli.specs.Telling.{TellsAudit, example_instance, example_solution}
@@ -21,26 +24,39 @@ use Rattle.planner_cli.specs.Upgrading.{UpgradesStore}
 use Rattle.planner_cli.specs.declared.program.Streams.{Streams}
 use Rattle.sector_disk.specs.declared.sectors.Sectors as sectors
 
--- What the program reads and writes, as far as it is known: the files that were read, the newest first; what the input still holds, and
--- what the output and the errors hold, and what was done to the output as a sink; whether the input or the output has failed.
+-- What the program reads and writes, as far as it is known: the files that were read and those that were to be made beside stores, the newest
+-- first; what the input still holds, and what its reads gave, the newest first; what the output and the errors hold, and what was done to the
+-- output as a sink; whether the input or the output has failed.
 pub record World : Type 0 where
   pub files : List FileRead
+  pub new_files : List FileWrite
   pub input : Option (List ℕ)
+  pub reads : List (List ℕ)
   pub output : Stream
   pub errors : Option (List ℕ)
   pub input_failed : Bool
   pub output_failed : Bool
 
--- what `F`, `I`, `W` and `E` tell of it
-abbrev pub seen : {F I W E : Type 0} → (F → List FileRead) → (I → Option (List ℕ)) → (W → Option (List ℕ)) → (E → Option (List ℕ)) → F → Streams I W E → World
-seen reads remaining written told files streams = record {
+-- what `F`, `N`, `I`, `W` and `E` tell of it
+abbrev pub seen : {F N I W E : Type 0} → (F → List FileRead) → (N → List FileWrite) → (I → Option (List ℕ)) → (W → Option (List ℕ)) → (E → Option (List ℕ)) → F → N → Streams I W E → World
+seen reads writes remaining written told files new_files streams = record {
   files = reads files;
+  new_files = writes new_files;
   input = remaining streams.input.inner;
+  reads = reads_of streams.input;
   output = held written streams.output;
   errors = told streams.errors;
   input_failed = streams.input.has_failed;
   output_failed = streams.output.has_failed;
 }
+
+-- what is known of the input
+abbrev pub given_in : World → World → Given
+given_in old new = record { known = old.input; before = old.reads; after = new.reads }
+
+-- the files that were read and made
+abbrev pub done_in : World → FilesDone
+done_in w = record { reads = w.files; writes = w.new_files }
 
 -- which files a word reads, also where an answer can't be printed
 abbrev pub AreReadFor : Asked → List FileRead → List FileRead → Type 0
@@ -48,8 +64,10 @@ AreReadFor built_in was now = now ≡ was
 AreReadFor (audit paths) was now = AreReadInTurn paths.instance paths.solution was now
 AreReadFor (audits kind list) was now = IsReadFirst (list_path list) was now
 AreReadFor (explain paths) was now = AreReadInTurn paths.instance paths.solution was now
-AreReadFor (draw paths) was now = AreReadInTurn paths.instance paths.solution was now
+AreReadFor (draw paths route) was now = AreReadInTurn paths.instance paths.solution was now
+AreReadFor (draw_store store) was now = now ≡ was
 AreReadFor (solve task) was now = IsRead task.instance was now
+AreReadFor (solves tasks) was now = IsReadFirst (list_path tasks.list) was now
 AreReadFor (format store) was now = now ≡ was
 AreReadFor (load asked) was now = IsRead asked.instance was now
 AreReadFor (run store is_strict) was now = now ≡ was
@@ -57,14 +75,22 @@ AreReadFor (upgrade old new) was now = now ≡ was
 AreReadFor (timetable paths is_tabbed) was now = AreReadInTurn paths.instance paths.solution was now
 AreReadFor (store_timetable store is_tabbed) was now = now ≡ was
 
+-- only `solves` makes files, beside stores
+abbrev pub AreMadeFor : Asked → List FileWrite → List FileWrite → Type 0
+AreMadeFor (solves tasks) was now = IsGrown was now
+AreMadeFor _ was now = now ≡ was
+
 -- only `run` reads the input
 abbrev pub IsInputKept : Asked → World → World → Type 0
 IsInputKept (run store is_strict) old new = Unit {0}
-IsInputKept _ old new = new.input ≡ old.input
+IsInputKept _ old new = (new.input ≡ old.input) × (new.reads ≡ old.reads)
 
 -- only these words write to the errors
 abbrev pub AreErrorsKept : Asked → World → World → Type 0
-AreErrorsKept (draw paths) old new = Unit {0}
+AreErrorsKept (audit paths) old new = Unit {0}
+AreErrorsKept (explain paths) old new = Unit {0}
+AreErrorsKept (draw paths route) old new = Unit {0}
+AreErrorsKept (draw_store store) old new = Unit {0}
 AreErrorsKept (solve task) old new = Unit {0}
 AreErrorsKept (load asked) old new = Unit {0}
 AreErrorsKept (run store is_strict) old new = Unit {0}
@@ -76,14 +102,21 @@ module _ {D N : Type 0} (on_old : sectors.Ghosts D) (on_new : sectors.Ghosts N) 
   -- is opened, `IsNew` of one over a file that is made beside it.
   abbrev pub Does : Asked → World → World → ℕ → Type 0
   Does built_in old new status = TellsAudit LiLim example_instance example_solution old.output.contents new.output.contents status
-  Does (audit paths) old new status = TellsFiles paths.kind paths.instance paths.solution old.files new.files old.output.contents new.output.contents status
+  Does (audit paths) old new status =
+      TellsFiles paths.kind paths.instance paths.solution old.files new.files old.output.contents new.output.contents status
+      × TellsBehind paths.instance paths.solution old.files new.files old.errors new.errors
   Does (audits kind list) old new status = TellsList kind list old.files new.files old.output.contents new.output.contents status
-  Does (explain paths) old new status = TellsExplained paths.kind paths.instance paths.solution old.files new.files old.output.contents new.output.contents status
-  Does (draw paths) old new status = TellsDrawn paths.kind paths.instance paths.solution old.files new.files old.output.contents new.output.contents old.errors new.errors status
+  Does (explain paths) old new status =
+      TellsExplained paths.kind paths.instance paths.solution old.files new.files old.output.contents new.output.contents status
+      × TellsBehind paths.instance paths.solution old.files new.files old.errors new.errors
+  Does (draw paths route) old new status = TellsDrawn paths.kind route paths.instance paths.solution old.files new.files old.output.contents new.output.contents old.errors new.errors status
+  Does (draw_store store) old new status = DrawsStore on_old IsOld store old.output.contents new.output.contents old.errors new.errors status
   Does (solve task) old new status = TellsTask task old.files new.files old.output.contents new.output.contents old.errors new.errors status
+  Does (solves tasks) old new status =
+      SolvesList tasks (done_in old) (done_in new) old.output.contents new.output.contents status
   Does (format store) old new status = FormatsStore on_old IsOld store old.output.contents new.output.contents status
   Does (load asked) old new status = TellsLoad on_old on_new IsOld IsNew asked old.files new.files old.output.contents new.output.contents status
-  Does (run store is_strict) old new status = RunsStore on_old IsOld store is_strict old.input old.output new.output new.input_failed new.output_failed status
+  Does (run store is_strict) old new status = RunsStore on_old IsOld store is_strict (given_in old new) old.output new.output new.input_failed new.output_failed status
   Does (upgrade path new_path) old new status = UpgradesStore on_old on_new IsOld IsNew path new_path old.output.contents new.output.contents status
   Does (timetable paths is_tabbed) old new status =
       TellsTimetable paths.kind (form_of is_tabbed) paths.instance paths.solution old.files new.files old.output.contents new.output.contents status
@@ -93,6 +126,7 @@ module _ {D N : Type 0} (on_old : sectors.Ghosts D) (on_new : sectors.Ghosts N) 
   pub record Works (asked : Asked) (old new : World) (status : ℕ) : Type 0 where
     pub does : Does asked old new status ⊎ (status ≡ 3)
     pub reads : AreReadFor asked old.files new.files
+    pub makes : AreMadeFor asked old.new_files new.new_files
     pub input : IsInputKept asked old new
     pub errors : AreErrorsKept asked old new
     pub statuses : CanEndWith asked status
@@ -104,7 +138,9 @@ module _ {D N : Type 0} (on_old : sectors.Ghosts D) (on_new : sectors.Ghosts N) 
 -- The words ask for nothing. Help goes to the output alone, and what is wrong with the words to the errors alone.
 pub record TellsUsage (asked : List Text) (old new : World) (status : ℕ) : Type 0 where
   pub files : new.files ≡ old.files
+  pub new_files : new.new_files ≡ old.new_files
   pub input : new.input ≡ old.input
+  pub reads : new.reads ≡ old.reads
   pub help : status ≡ 0 → new.errors ≡ old.errors
   pub mistake : status ≡ 64 → new.output ≡ old.output
   pub memory : status ≡ 4 → new ≡ old

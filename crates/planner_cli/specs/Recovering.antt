@@ -1,13 +1,13 @@
 -- The headline of the word `run`. Stopped at any moment since the device was handed to it, with any choice that the device allows, opening the
 -- device gives the state after a first part of the commands of its input, which holds every acknowledged one, and at most one more. Its plan
 -- passes the auditor, and costs no more than any incumbent since the last change of requests or pins.
-use Rattle.std.specs.Prelude.{◌≡◌, ◌≤◌, ℕ, Bool, List, ◌++◌, length, Option, Some, Result}
+use Rattle.std.specs.Prelude.{◌≡◌, ◌≤◌, ℕ, Bool, List, ◌++◌, length, Result}
 use Rattle.std.specs.List.{AllByRecursion}
 use Rattle.checkpoint.specs.declared.faults.StoreFault.{StoreFault}
 use Rattle.command_core.specs.declared.states.State.{State}
 use Rattle.command_serving.specs.Acts.{Act, carried_of, replies_of}
 use Rattle.command_serving.specs.Stopped.{acts_of, asked_by}
-use Rattle.command_serving.specs.Streams.{Event, Stream}
+use Rattle.command_serving.specs.Streams.{Event, Given, IsInput, Stream}
 use Rattle.command_serving.specs.Timely.{TellsAcknowledged, calls_at, put_by}
 use Rattle.command_text.specs.Cutting.{pieces_of}
 use Rattle.command_text.specs.Readings.{IsReading, Reading}
@@ -20,16 +20,19 @@ use Rattle.recover.specs.StandsFor.{StandsFor}
 use Rattle.sector_disk.specs.declared.sectors.Sectors as sectors
 use Rattle.state_codec.specs.declared.version.Version.TheVariants.{Two}
 
--- What was run: the words, the bytes of the input, how each kind of text is read, and what came of the streams.
+-- What was run: the words, the bytes of the input, and what came of the streams.
 pub record Run : Type 0 where
   pub is_strict : Bool
   pub input : List ℕ
-  pub reading : Reading
   pub before : Stream
   pub after : Stream
   pub reader_failed : Bool
   pub writer_failed : Bool
   pub status : ℕ
+
+-- There is a function that tells of each text what it spells, and of that one this is said. No other does (`ReadingsAgree`).
+abbrev pub OfTheReading : ((reading : Reading) → IsReading reading → Type 0) → Type 0
+OfTheReading Says = (reading : Reading) × (reads : IsReading reading) × Says reading reads
 
 module _ {D : Type 0} (on : sectors.Ghosts D) where
   -- the store on the device was opened, and the input served over it
@@ -37,23 +40,22 @@ module _ {D : Type 0} (on : sectors.Ghosts D) where
     pub session : SessionValue D
     pub replayed : ℕ
     pub opened : IsOpened on device session replayed
-    pub known : Option (List ℕ)
-    pub knows : known ≡ Some run.input
-    pub runs : RunsSession on session replayed run.is_strict known run.before run.after run.reader_failed run.writer_failed run.status
-    pub reads : IsReading run.reading
+    pub given : Given
+    pub is_input : IsInput given run.input
+    pub runs : RunsSession on session replayed run.is_strict given run.before run.after run.reader_failed run.writer_failed run.status
 
   -- the acts by which it was
-  abbrev pub acts_in : (run : Run) (device : D) → RunsOver run device → List Act
-  acts_in run device is =
-      acts_of on is.runs.served run.reading is.session run.input is.runs.opened is.runs.answered is.runs.new
-      ((is.runs.ends.serves run.input is.knows).serves run.reading is.reads)
+  abbrev pub acts_in : (reading : Reading) → IsReading reading → (run : Run) (device : D) → RunsOver run device → List Act
+  acts_in reading reads run device is =
+      acts_of on is.runs.served reading is.session run.input is.runs.opened is.runs.answered is.runs.new
+      ((is.runs.ends.serves run.input is.is_input).serves reading reads)
 
-module _ {D E : Type 0} (on : sectors.Ghosts D) (again : sectors.Ghosts E) where
+module _ {D E : Type 0} (on : sectors.Ghosts D) (again : sectors.Ghosts E) (reading : Reading) (reads : IsReading reading) where
   -- the conclusion: of a run that was stopped when m calls had finished
   abbrev pub GivesFirstPart : (run : Run) (device : D) → RunsOver on run device → ℕ → Result State StoreFault → Type 0
   GivesFirstPart run device is m outcome =
-      let acts = acts_in on run device is in
-      GivesUnlessFailed (IsRecovered is.session.state (asked_by run.reading is.session (pieces_of run.input) acts) (acked m (replies_of acts))) outcome
+      let acts = acts_in on reading reads run device is in
+      GivesUnlessFailed (IsRecovered is.session.state (asked_by reading is.session (pieces_of run.input) acts) (acked m (replies_of acts))) outcome
 
   -- Law: behind the opening, for every device. Within it each image is one of those before (`moments` of `IsOpened`, and of `IsRefused`).
   abbrev pub ServedRunHeadline : Type 0
@@ -80,8 +82,8 @@ module _ {D E : Type 0} (on : sectors.Ghosts D) (again : sectors.Ghosts E) where
   -- What this text tells is held: it tells commands alone that are acknowledged when m calls have finished, and the state that is given is the one
   -- after so many commands at least.
   pub record HoldsWhatWasTold (run : Run) (device : D) (is : RunsOver on run device) (m : ℕ) (text : List ℕ) (given : State) : Type 0 where
-    pub told : TellsAcknowledged run.reading is.session run.input (acts_in on run device is) m text
-    pub recovered : IsRecovered is.session.state (asked_by run.reading is.session (pieces_of run.input) (acts_in on run device is)) (acked m (replies_of (acts_in on run device is))) given
+    pub told : TellsAcknowledged reading is.session run.input (acts_in on reading reads run device is) m text
+    pub recovered : IsRecovered is.session.state (asked_by reading is.session (pieces_of run.input) (acts_in on reading reads run device is)) (acked m (replies_of (acts_in on reading reads run device is))) given
     pub holds : length (carried_of told.first) ≤ recovered.count
 
   -- Law: so it is of what was put to the output, and may have been handed on, by the time of the stop.

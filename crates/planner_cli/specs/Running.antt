@@ -8,7 +8,7 @@ use Rattle.checkpoint.specs.declared.faults.StoreFault.TheVariants.{NotFormatted
 use Rattle.command_core.specs.Runs.{IsState}
 use Rattle.command_serving.specs.Served.{EndsOrIsCut, HasCause}
 use Rattle.command_serving.specs.Stopped.{RunsLeave}
-use Rattle.command_serving.specs.Streams.{Extends, Stream}
+use Rattle.command_serving.specs.Streams.{Extends, Given, IsInput, Stream}
 use Rattle.command_serving.specs.Strict.{TellsLast, is_stopped}
 use Rattle.command_serving.specs.declared.answering.ServeFault.{ServeFault}
 use Rattle.command_serving.specs.declared.answering.ServeFault.TheVariants as serve
@@ -26,7 +26,7 @@ use Rattle.sector_disk.specs.declared.file_device.FileFault.{FileFault}
 use Rattle.sector_disk.specs.declared.sectors.Sectors as sectors
 use Rattle.state_codec.specs.declared.version.Version.TheVariants.{Two}
 
--- An input whose bytes are known was served, or the serving cut short, and for this cause, as `serve` says it.
+-- An input was served, or the serving cut short, and for this cause, as `serve` says it.
 pub record Serves {D : Type 0} (on : sectors.Ghosts D) (served : Result ⊤ ServeFault) (old : SessionValue D) (input : List ℕ) (before after : Stream) (reader_failed writer_failed : Bool) (new : SessionValue D) : Type 0 where
   pub serves : (reading : Reading) → IsReading reading → EndsOrIsCut on served reading old input before after new
   pub cause : IfErr served (λ fault. HasCause fault reader_failed writer_failed (length input))
@@ -58,10 +58,10 @@ abbrev pub stop_unless : Bool → Option Stopped → Option Stopped
 stop_unless true told = None
 stop_unless false told = told
 
--- An input was served, by `strict` up to an answer that lets none follow, which is `stopped`. `known` are the bytes of the input, where they are
--- known. At each moment of it a stop leaves what a run promises.
-pub record IsEnded {D : Type 0} (on : sectors.Ghosts D) (old : SessionValue D) (is_strict : Bool) (known : Option (List ℕ)) (opened : Stream) (served : Result ⊤ ServeFault) (stopped : Option Stopped) (answered : Stream) (reader_failed writer_failed : Bool) (new : SessionValue D) : Type 0 where
-  pub serves : (input : List ℕ) → known ≡ Some input → Serves on served old input opened answered reader_failed (writer_failed || is_stopped stopped) new
+-- An input was served, by `strict` up to an answer that lets none follow, which is `stopped`. `given` is what is known of the input. At each moment
+-- of it a stop leaves what a run promises.
+pub record IsEnded {D : Type 0} (on : sectors.Ghosts D) (old : SessionValue D) (is_strict : Bool) (given : Given) (opened : Stream) (served : Result ⊤ ServeFault) (stopped : Option Stopped) (answered : Stream) (reader_failed writer_failed : Bool) (new : SessionValue D) : Type 0 where
+  pub serves : (input : List ℕ) → IsInput given input → Serves on served old input opened answered reader_failed (writer_failed || is_stopped stopped) new
   pub plain : is_strict ≡ false → stopped ≡ None
   pub moments : RunsLeave on old new
   -- what the last whole line of the answers tells, unless the writer has failed
@@ -75,14 +75,14 @@ TellsEnded served (Some stop.DeviceFault) before after status = (status ≡ 3) �
 
 -- Over a session that was opened: first it is told how many steps were repeated, then stand the answers to the input, and behind them that
 -- the input can't be read, if so it was. Nothing else is done to the output as a sink.
-pub record RunsSession {D : Type 0} (on : sectors.Ghosts D) (old : SessionValue D) (replayed : ℕ) (is_strict : Bool) (known : Option (List ℕ)) (before after : Stream) (reader_failed writer_failed : Bool) (status : ℕ) : Type 0 where
+pub record RunsSession {D : Type 0} (on : sectors.Ghosts D) (old : SessionValue D) (replayed : ℕ) (is_strict : Bool) (given : Given) (before after : Stream) (reader_failed writer_failed : Bool) (status : ℕ) : Type 0 where
   pub opened : Stream
   pub tells_opened : Extends before opened [] (opened_line replayed)
   pub served : Result ⊤ ServeFault
   pub stopped : Option Stopped
   pub answered : Stream
   pub new : SessionValue D
-  pub ends : IsEnded on old is_strict known opened served stopped answered reader_failed writer_failed new
+  pub ends : IsEnded on old is_strict given opened served stopped answered reader_failed writer_failed new
   pub tells : TellsEnded served stopped answered.contents after.contents status
   pub noted : after.events ≡ answered.events
 
@@ -120,12 +120,12 @@ module _ {D : Type 0} (on : sectors.Ghosts D) where
       ⊎ ((fault : StoreFault) × (later : D) × IsRefused device later fault × OnRefused later fault)
 
   -- The store on the device is opened and the input served over it, or it is told why it can't be opened.
-  abbrev pub RunsDevice : D → Bool → Option (List ℕ) → Stream → Stream → Bool → Bool → ℕ → Type 0
-  RunsDevice device is_strict known before after reader_failed writer_failed status =
-      OpensDevice device (λ session replayed. RunsSession on session replayed is_strict known before after reader_failed writer_failed status) (λ later fault. TellsFault fault before.contents after.contents status)
+  abbrev pub RunsDevice : D → Bool → Given → Stream → Stream → Bool → Bool → ℕ → Type 0
+  RunsDevice device is_strict given before after reader_failed writer_failed status =
+      OpensDevice device (λ session replayed. RunsSession on session replayed is_strict given before after reader_failed writer_failed status) (λ later fault. TellsFault fault before.contents after.contents status)
 
   -- The same for the device over a file, or it is told why there is none. `IsNew` is what is known of the device.
-  abbrev pub RunsStore : (D → Type 0) → List ℕ → Bool → Option (List ℕ) → Stream → Stream → Bool → Bool → ℕ → Type 0
-  RunsStore IsNew path is_strict known before after reader_failed writer_failed status =
-      ((device : D) × IsNew device × RunsDevice device is_strict known before after reader_failed writer_failed status)
+  abbrev pub RunsStore : (D → Type 0) → List ℕ → Bool → Given → Stream → Stream → Bool → Bool → ℕ → Type 0
+  RunsStore IsNew path is_strict given before after reader_failed writer_failed status =
+      ((device : D) × IsNew device × RunsDevice device is_strict given before after reader_failed writer_failed status)
       ⊎ ((fault : FileFault) × (status ≡ open_status fault) × Appends before.contents after.contents (open_line path fault))

@@ -1,8 +1,12 @@
 -- What is told of a solving.
-use Rattle.std.specs.Prelude.{◌≡◌, ℕ, ◌⊎◌, List, [], ◌∷◌, ◌++◌, length, codes, decimal, Option, Result, Ok, Err, MatchResult}
+use Rattle.std.specs.Prelude.{◌≡◌, ℕ, ◌⊎◌, List, [], ◌∷◌, ◌++◌, length, take, codes, decimal, Option, Result, Ok, Err, MatchResult}
 use Rattle.std.specs.Io.KnownBytes.{Appends}
+use Rattle.std.specs.List.{flat_map}
 use Rattle.std.specs.declared.io.ErrorKind.{ErrorKind}
 use Rattle.instance_read.specs.Names.{kind_name}
+use Rattle.command_core.specs.Job.{JobValue}
+use Rattle.plan_why.specs.Why.{reason_text}
+use Rattle.plan_why.specs.declared.leads.Lead.TheVariants.{Named}
 use Rattle.plan_solve.specs.Solved.{Fails, IsSolved}
 use Rattle.plan_solve.specs.declared.faults.SolveFault.{SolveFault}
 use Rattle.plan_solve.specs.declared.faults.SolveFault.TheVariants as fault
@@ -30,15 +34,31 @@ IsToldFault f before after status = (status ≡ fault_status f) × Appends befor
 abbrev pub unplanned_line : List ℕ → List ℕ
 unplanned_line names = line (codes "unplanned " ++ decimal (length names) ++ codes ":" ++ customers_text names)
 
--- the text of a plan is written to the output; of one that leaves no request out nothing to the errors, else which it leaves out
-abbrev pub TellsPlan : List ℕ → List ℕ → Option (List ℕ) → Option (List ℕ) → Option (List ℕ) → Option (List ℕ) → ℕ → Type 0
-TellsPlan text [] output after errors later status = (status ≡ 0) × Appends output after text × Appends errors later []
-TellsPlan text (name ∷ names) output after errors later status =
-    (status ≡ 1) × Appends output after text × Appends errors later (unplanned_line (name ∷ names))
+-- of each of these requests why it is in no route of the job's plan, as `why` tells it
+abbrev pub reasons_text : JobValue → List ℕ → List ℕ
+reasons_text j names = flat_map (reason_text Named j.problem j.pins j.plan) names
+
+-- that is told of all of them, or of the first ones until memory was refused
+abbrev pub AreReasons : JobValue → List ℕ → List ℕ → ℕ → Type 0
+AreReasons j names text status =
+    ((status ≡ 1) × (text ≡ reasons_text j names)) ⊎ ((k : ℕ) × (status ≡ 4) × (text ≡ reasons_text j (take k names) ++ line (codes "out of memory")))
+
+abbrev pub TellsReasons : JobValue → List ℕ → Option (List ℕ) → Option (List ℕ) → ℕ → Type 0
+TellsReasons j names errors later status = (text : List ℕ) × AreReasons j names text status × Appends errors later text
+
+-- which requests a plan leaves out, and why; nothing where it leaves none out
+abbrev pub TellsUnplanned : JobValue → List ℕ → Option (List ℕ) → Option (List ℕ) → ℕ → Type 0
+TellsUnplanned j [] errors later status = (status ≡ 0) × Appends errors later []
+TellsUnplanned j (name ∷ names) errors later status =
+    (reasons : List ℕ) × AreReasons j (name ∷ names) reasons status × Appends errors later (unplanned_line (name ∷ names) ++ reasons)
+
+-- the text of a plan is written to the output, and what it leaves out to the errors
+abbrev pub TellsPlan : Solved → Option (List ℕ) → Option (List ℕ) → Option (List ℕ) → Option (List ℕ) → ℕ → Type 0
+TellsPlan solved output after errors later status = Appends output after solved.text.items × TellsUnplanned solved.job solved.unplanned.items errors later status
 
 -- the plan is told, or why there is none, which is written to the errors alone
 abbrev pub TellsSolved : Result Solved SolveFault → Option (List ℕ) → Option (List ℕ) → Option (List ℕ) → Option (List ℕ) → ℕ → Type 0
-TellsSolved (Ok solved) output after errors later status = TellsPlan solved.text.items solved.unplanned.items output after errors later status
+TellsSolved (Ok solved) output after errors later status = TellsPlan solved output after errors later status
 TellsSolved (Err f) output after errors later status = IsToldFault f errors later status × Appends output after []
 
 -- an instance's text is solved, and it is told what comes of it

@@ -43,6 +43,21 @@ unread_status kind = if is_memory kind then 4 else 3
 abbrev pub TellsUnread : List ℕ → ErrorKind → Option (List ℕ) → Option (List ℕ) → ℕ → Type 0
 TellsUnread path kind before after status = (status ≡ unread_status kind) × Appends before after (unread_line path kind)
 
+-- a file that can't be made: something stands under its path, or why else
+abbrev pub is_there : ErrorKind → Bool
+is_there kind.AlreadyExists = true
+is_there _ = false
+
+abbrev pub unwritten_line : List ℕ → ErrorKind → List ℕ
+unwritten_line path kind =
+    if is_there kind then line (codes "there already") else (if is_memory kind then line (codes "out of memory") else line (codes "cannot write " ++ path))
+
+abbrev pub unwritten_status : ErrorKind → ℕ
+unwritten_status kind = if is_there kind then 3 else (if is_memory kind then 4 else 3)
+
+abbrev pub TellsUnwritten : List ℕ → ErrorKind → Option (List ℕ) → Option (List ℕ) → ℕ → Type 0
+TellsUnwritten path kind before after status = (status ≡ unwritten_status kind) × Appends before after (unwritten_line path kind)
+
 -- the answer of an audit
 abbrev pub answer_line : {E : Type 0} → Result AuditAnswer E → List ℕ
 answer_line (Ok answer) = line answer.line

@@ -33,9 +33,9 @@ abbrev pub form_of : Bool → Form
 form_of true = Tabs
 form_of false = Columns
 
--- the timetable of routes, with each request that is in none of them
-abbrev pub plan_text : Form → Instance → List (List ℕ) → List ℕ
-plan_text form p routes = timetable_text form p routes (unplanned_names p routes)
+-- the timetable of routes with pins, with each request that is in none of them
+abbrev pub plan_text : Form → Instance → List (List ℕ) → List (List ℕ) → List ℕ
+plan_text form p pins routes = timetable_text form p pins routes (unplanned_names p routes)
 
 abbrev pub solution_text : Form → Instance → List (List ℕ) → Verdict → List ℕ
 solution_text form p routes verdict = judged_text form p routes (unplanned_names p routes) verdict
@@ -71,7 +71,7 @@ TellsTimetable k form instance solution was now before after status =
 -- a job's plan passes, with its cost, and this is its timetable
 pub record IsPlanTold (form : Form) (job : JobValue) (told : Explanation) : Type 0 where
   pub answers : told.answer ≡ verdict_answer (Pass (cost_of job.problem job.plan))
-  pub tells : string_bytes told.text ≡ plan_text form job.problem job.plan
+  pub tells : string_bytes told.text ≡ plan_text form job.problem job.pins job.plan
 
 -- the timetable of a state's plan, or that nothing was loaded
 abbrev pub TellsState : Form → State → Option (List ℕ) → Option (List ℕ) → ℕ → Type 0

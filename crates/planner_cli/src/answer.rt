@@ -2,7 +2,7 @@
 //!
 //! Lines are written by `format!`, where the text of a solution is printed number by number without taking memory
 //! for each.
-ghost use Rattle.std.specs.Prelude.{◌≡◌, ℕ, List, IfOk};
+ghost use Rattle.std.specs.Prelude.{◌≡◌, ◌++◌, ℕ, List, IfOk};
 ghost use Rattle.planner_cli.specs.AnswerText.{broken_text, fault_text, pass_text};
 
 use plan_types::{Cost, OutOfMemory};
@@ -40,6 +40,15 @@ impl Line {
         ensures { result.now ≡ self.now }
     {
         self.bytes.as_slice()
+    }
+
+    /// The line with a further text behind it.
+    pub(crate) fn with(self, text: &str) -> Result<Line, OutOfMemory>
+        ensures { IfOk result (λ line. line ≡ self ++ text.now) }
+    {
+        let mut bytes = self.into_vec();
+        bytes.extend_from_slice(text.as_bytes())?;
+        Ok(Line { bytes })
     }
 
     /// Gives the bytes back, without taking memory.

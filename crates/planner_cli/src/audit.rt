@@ -136,7 +136,8 @@ fn refused(alloc: Global, text: &str, name: &str, line: u64) -> Result<AuditAnsw
     })
 }
 
-fn verdict_told(alloc: Global, verdict: Verdict) -> Result<AuditAnswer, OutOfMemory>
+/// What is told of a verdict.
+pub(crate) fn verdict_told(alloc: Global, verdict: Verdict) -> Result<AuditAnswer, OutOfMemory>
     ensures { IfOk result (λ answer. answer ≡ verdict_answer verdict) }
 {
     match verdict {

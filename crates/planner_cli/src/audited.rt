@@ -1,9 +1,11 @@
 //! The audit of two files.
 ghost use Rattle.std.specs.Prelude.{◌≡◌, ◌≤◌, IfOk, MatchResult};
 ghost use Rattle.std.specs.IoError.{error_kind};
+ghost use Rattle.planner_cli.specs.Behind.{TellsBehind};
 ghost use Rattle.planner_cli.specs.Files.{AreBothRead, AreReadInTurn, IsUnread, TellsFiles};
 
 use crate::audit::audit_text;
+use crate::behind::tell_behind;
 use crate::files::ReadFiles;
 use crate::telling::{tell_audit, tell_unread};
 use command_line::Paths;
@@ -49,6 +51,33 @@ fn not_read<'a>(path: &'a str, error: &io::Error) -> Unread<'a>
         path,
         kind: error.kind(),
     }
+}
+
+/// Tells the audit of two files as `audit_read` does, and on `errors` what stands behind the cost line of the solution.
+pub(crate) fn audit_noted<F: ReadFiles, W: Write, E: Write>(
+    alloc: Global,
+    paths: Paths,
+    files: &mut F,
+    output: &mut W,
+    errors: &mut E,
+) -> io::Result<u8>
+    ensures status { IfOk result (λ status. status ≤ 4) }
+    ensures reads { AreReadInTurn paths.entry.instance.now paths.entry.solution.now
+        (F.reads files.old) (F.reads files.new) }
+    ensures told { IfOk result (λ status. TellsFiles paths.entry.kind paths.entry.instance.now
+        paths.entry.solution.now (F.reads files.old) (F.reads files.new)
+        (W.contents output.old) (W.contents output.new) status
+        × TellsBehind paths.entry.instance.now paths.entry.solution.now
+        (F.reads files.old) (F.reads files.new)
+        (E.contents errors.old) (E.contents errors.new)) }
+{
+    let both = match read_both(paths, files) {
+        Ok(both) => both,
+        Err(unread) => return tell_unread(output, unread.path, unread.kind),
+    };
+    let status = tell_audit(output, &audit_text(alloc, paths.kind, &both.0, &both.1))?;
+    tell_behind(paths.solution, &both.1, errors)?;
+    Ok(status)
 }
 
 /// Reads the whole of both texts before it looks into either, and tells what comes of their audit.

@@ -1,35 +1,47 @@
-//! The picture of a solution in a file.
-ghost use Rattle.std.specs.Prelude.{◌≡◌, ◌≤◌, IfOk};
-ghost use Rattle.planner_cli.specs.Drawn.{IsDrawing, IsDrawingOf, TellsDrawing, TellsDrawn, TellsResult};
+//! The picture of a solution in a file, or of the plan in a store, which is opened as for its timetable.
+ghost use Rattle.std.specs.Prelude.{◌≡◌, ◌≤◌, IfOk, None, Some, length};
+ghost use Rattle.sector_disk.specs.FileDevice.{IsUnused};
+ghost use Rattle.planner_cli.specs.Drawn.{DrawsDevice, DrawsState, DrawsStore, IsDrawing, IsDrawingOf, IsPictureOf, IsPlanDrawn, TellsDrawing, TellsDrawn, TellsResult, busy_after, busy_front};
 ghost use Rattle.planner_cli.specs.Files.{AreReadInTurn};
 
 use crate::answer::AuditAnswer;
 use crate::audit::{Examined, answer_of, examine};
 use crate::audited::read_both;
 use crate::files::ReadFiles;
-use crate::status::{DONE, OUT_OF_MEMORY};
-use crate::telling::{tell_unread, write_line};
+use crate::opened::open_session;
+use crate::status::{DONE, OUT_OF_MEMORY, REFUSED};
+use crate::telling::{tell_cause, tell_file_fault, tell_store_fault, tell_unread, write_line};
+use command_core::{Job, State};
 use command_line::Paths;
-use plan_picture::draw;
-use plan_types::{Kind, OutOfMemory};
+use plan_audit::{Verdict, passes_are_local, plans_are_local};
+use plan_picture::{draw, draw_route};
+use plan_types::{Kind, OutOfMemory, Problem, Route};
+use recover::Opened;
+use route_sched::plan_cost;
+use sector_disk::{FileCalls, FileDevice, HostFile, Sectors, Start};
 use std::alloc::Global;
+use std::fs::File;
 use std::io;
 use std::io::Write;
+use std::rt::Files;
 
 /// What comes of drawing a solution.
 #[derive(Debug, Drop)]
 pub(crate) enum Drawing {
     /// The picture, as SVG.
     Picture(Vec<u8>),
+    /// No route has the number that was asked for.
+    NoSuchRoute,
     /// The audit's answer for a text that is refused.
     Refused(AuditAnswer),
 }
 
-/// Reads both texts as `audit_read` does, and draws the solution. The picture goes to `output`, and whatever else is told to
-/// `errors`.
+/// Reads both texts as `audit_read` does, and draws the solution, or its one route with this number. The picture goes to
+/// `output`, and whatever else is told to `errors`.
 pub(crate) fn draw_read<F: ReadFiles, W: Write, E: Write>(
     alloc: Global,
     paths: Paths,
+    route: Option<u32>,
     files: &mut F,
     output: &mut W,
     errors: &mut E,
@@ -37,7 +49,7 @@ pub(crate) fn draw_read<F: ReadFiles, W: Write, E: Write>(
     ensures status { IfOk result (λ status. status ≤ 4) }
     ensures reads { AreReadInTurn paths.entry.instance.now paths.entry.solution.now
         (F.reads files.old) (F.reads files.new) }
-    ensures told { IfOk result (TellsDrawn paths.entry.kind paths.entry.instance.now
+    ensures told { IfOk result (TellsDrawn paths.entry.kind route paths.entry.instance.now
         paths.entry.solution.now (F.reads files.old) (F.reads files.new)
         (W.contents output.old) (W.contents output.new)
         (E.contents errors.old) (E.contents errors.new)) }
@@ -46,7 +58,7 @@ pub(crate) fn draw_read<F: ReadFiles, W: Write, E: Write>(
         Ok(both) => both,
         Err(unread) => return tell_unread(errors, unread.path, unread.kind),
     };
-    let drawn = draw_texts(alloc, paths.kind, &both.0, &both.1);
+    let drawn = draw_texts(alloc, paths.kind, route, &both.0, &both.1);
     tell_drawn(&drawn, output, errors)
 }
 
@@ -84,6 +96,10 @@ fn tell_drawing<W: Write, E: Write>(
             output.write_all(svg)?;
             Ok(DONE)
         }
+        Drawing::NoSuchRoute => {
+            write_line(errors, b"no NoSuchRoute")?;
+            Ok(REFUSED)
+        }
         Drawing::Refused(answer) => {
             write_line(errors, answer.line.as_bytes())?;
             Ok(answer.status)
@@ -91,28 +107,182 @@ fn tell_drawing<W: Write, E: Write>(
     }
 }
 
-// Reads both texts, audits the solution, and draws it.
+// Reads both texts, audits the solution, and draws it or its route.
 fn draw_texts(
     alloc: Global,
     kind: Kind,
+    route: Option<u32>,
     instance: &[u8],
     solution: &[u8],
 ) -> Result<Drawing, OutOfMemory>
-    ensures { IfOk result (IsDrawing kind instance.now solution.now) }
+    ensures { IfOk result (IsDrawing kind route instance.now solution.now) }
 {
     let examined = examine(alloc, kind, instance, solution)?;
-    drawing_of(alloc, &examined)
+    drawing_of(alloc, route, &examined)
 }
 
 // The picture of what two texts are.
-fn drawing_of(alloc: Global, examined: &Examined) -> Result<Drawing, OutOfMemory>
-    ensures { IfOk result (IsDrawingOf examined.now) }
+fn drawing_of(
+    alloc: Global,
+    route: Option<u32>,
+    examined: &Examined,
+) -> Result<Drawing, OutOfMemory>
+    ensures { IfOk result (IsDrawingOf route examined.now) }
 {
     match examined {
         Examined::Judged(problem, plan, verdict) => {
-            let svg = draw(alloc, problem, plan.routes.as_slice(), *verdict)?;
-            Ok(Drawing::Picture(svg))
+            picture_of(alloc, route, problem, plan.routes.as_slice(), *verdict)
         }
         _ => Ok(Drawing::Refused(answer_of(alloc, examined)?)),
     }
+}
+
+// The picture of all routes, or of the one with this number.
+fn picture_of(
+    alloc: Global,
+    route: Option<u32>,
+    problem: &Problem,
+    routes: &[Route],
+    verdict: Verdict,
+) -> Result<Drawing, OutOfMemory>
+    ensures { IfOk result (IsPictureOf route problem.now routes.now verdict) }
+{
+    match route {
+        None => Ok(Drawing::Picture(draw(alloc, problem, routes, verdict)?)),
+        Some(number) => enlarged(alloc, number, problem, routes, verdict),
+    }
+}
+
+// The picture of the one route with this number.
+fn enlarged(
+    alloc: Global,
+    number: u32,
+    problem: &Problem,
+    routes: &[Route],
+    verdict: Verdict,
+) -> Result<Drawing, OutOfMemory>
+    ensures { IfOk result (IsPictureOf (Some number) problem.now routes.now verdict) }
+{
+    match draw_route(alloc, problem, routes, verdict, u64::from(number))? {
+        Some(svg) => Ok(Drawing::Picture(svg)),
+        None => Ok(Drawing::NoSuchRoute),
+    }
+}
+
+/// Opens the store in the file, and draws its plan. The picture goes to `output`. How many search steps opening repeats is told
+/// on `errors` first, and so is whatever else is told.
+pub(crate) fn draw_store<R, T: Start, W: Write, E: Write>(
+    rt: &R,
+    start: T,
+    store: &str,
+    output: &mut W,
+    errors: &mut E,
+) -> io::Result<u8>
+where
+    R: Files<File = File> + Eprint + AllocGlobal,
+    ensures status { IfOk result (λ status. status ≤ 4) }
+    ensures told { IfOk result (DrawsStore ⟦<FileDevice<T> as Sectors>⟧
+        (IsUnused ⟦<HostFile as FileCalls>⟧.entries) store.now
+        (W.contents output.old) (W.contents output.new)
+        (E.contents errors.old) (E.contents errors.new)) }
+{
+    match FileDevice::at_or_cause(rt, store, start) {
+        Ok(device) => {
+            let (told, device) = draw_device(rt.alloc(), device, output, errors);
+            tell_cause(rt, store, device.cause());
+            told
+        }
+        Err(refusal) => {
+            tell_cause(rt, store, refusal.cause);
+            tell_file_fault(errors, store, refusal.fault)
+        }
+    }
+}
+
+// Opens the store on the device, draws its plan, and gives the device back.
+fn draw_device<D: Sectors + Drop, W: Write, E: Write>(
+    alloc: Global,
+    device: D,
+    output: &mut W,
+    errors: &mut E,
+) -> (io::Result<u8>, D)
+    ensures status { IfOk result.0 (λ status. status ≤ 4) }
+    ensures told { IfOk result.0 (DrawsDevice D.Sectors device
+        (W.contents output.old) (W.contents output.new) (E.contents errors.new) result.1) }
+{
+    let opening = open_session(alloc, device, errors);
+    match opening.into_opened() {
+        Ok(opened) => draw_opened(alloc, opened, output, errors),
+        Err((fault, device)) => (tell_store_fault(errors, fault), device),
+    }
+}
+
+// Draws a session's plan, and gives the device back.
+fn draw_opened<D: Sectors + Drop, W: Write, E: Write>(
+    alloc: Global,
+    opened: Opened<D>,
+    output: &mut W,
+    errors: &mut E,
+) -> (io::Result<u8>, D)
+    ensures status { IfOk result.0 (λ status. status ≤ 4) }
+    ensures told { IfOk result.0 (DrawsState opened.session.state
+        (W.contents output.old) (W.contents output.new)
+        (E.contents errors.old) (E.contents errors.new)) }
+    ensures kept { result.1 ≡ opened.session.device }
+{
+    let session = opened.session;
+    let told = draw_state(alloc, session.state(), output, errors);
+    (told, session.close())
+}
+
+// Draws a state's plan, or tells that nothing was loaded.
+fn draw_state<W: Write, E: Write>(
+    alloc: Global,
+    state: &State,
+    output: &mut W,
+    errors: &mut E,
+) -> io::Result<u8>
+    ensures status { IfOk result (λ status. status ≤ 4) }
+    ensures told { IfOk result (DrawsState state.now
+        (W.contents output.old) (W.contents output.new)
+        (E.contents errors.old) (E.contents errors.new)) }
+{
+    match state {
+        State::Empty => {
+            write_line(errors, b"no NoInstance")?;
+            Ok(REFUSED)
+        }
+        State::Loaded(job) => tell_drawn(&draw_job(alloc, job), output, errors),
+    }
+}
+
+// The picture of a job's plan, which passes. A vehicle keeps its number, so only the idle ones at the end are left out.
+fn draw_job(alloc: Global, job: &Job) -> Result<Drawing, OutOfMemory>
+    ensures { IfOk result (IsPlanDrawn job.now) }
+{
+    passes_are_local();
+    plans_are_local();
+    let verdict = Verdict::Pass(plan_cost(&job.problem, &job.plan));
+    let routes = busy_front(job.plan.routes.as_slice());
+    picture_of(alloc, None, &job.problem, routes, verdict)
+}
+
+// The vehicles up to the last one with a stop.
+fn busy_front(routes: &[Route]) -> &[Route]
+    ensures { result.now ≡ busy_front routes.now }
+{
+    &routes[..busy_count(routes)]
+}
+
+fn busy_count(routes: &[Route]) -> usize
+    ensures count { result ≡ busy_after 0 0 routes.now }
+    ensures bound { result ≤ length routes.now }
+{
+    let mut count = 0;
+    for (index, route) in routes.iter().enumerate() {
+        if !route.as_slice().is_empty() {
+            count = index + 1;
+        }
+    }
+    count
 }

@@ -1,6 +1,7 @@
 //! The audit of two files, and what it rests on.
 ghost use Rattle.std.specs.Prelude.{◌≡◌, ◌≤◌, IfOk, string_bytes};
 ghost use Rattle.planner_cli.specs.Answer.{IsAnswer};
+ghost use Rattle.planner_cli.specs.Behind.{TellsBehind};
 ghost use Rattle.planner_cli.specs.Examined.{HasVerdict};
 ghost use Rattle.planner_cli.specs.Explained.{IsExplanation, RestsOn, TellsExplained, TellsExplanation};
 ghost use Rattle.planner_cli.specs.Files.{AreReadInTurn};
@@ -8,6 +9,7 @@ ghost use Rattle.planner_cli.specs.Files.{AreReadInTurn};
 use crate::answer::AuditAnswer;
 use crate::audit::{Examined, answer_of, examine};
 use crate::audited::read_both;
+use crate::behind::tell_behind;
 use crate::files::ReadFiles;
 use crate::status::OUT_OF_MEMORY;
 use crate::telling::{tell_unread, write_line};
@@ -25,25 +27,32 @@ pub(crate) struct Explanation {
     pub text: String,
 }
 
-/// Reads both texts as `audit_read` does, and tells the audit's answer and what it rests on.
-pub(crate) fn explain_read<F: ReadFiles, W: Write>(
+/// Reads both texts as `audit_read` does, and tells the audit's answer and what it rests on; on `errors` what stands behind the cost line
+/// of the solution.
+pub(crate) fn explain_read<F: ReadFiles, W: Write, E: Write>(
     alloc: Global,
     paths: Paths,
     files: &mut F,
     output: &mut W,
+    errors: &mut E,
 ) -> io::Result<u8>
     ensures status { IfOk result (λ status. status ≤ 4) }
     ensures reads { AreReadInTurn paths.entry.instance.now paths.entry.solution.now
         (F.reads files.old) (F.reads files.new) }
-    ensures told { IfOk result (TellsExplained paths.entry.kind paths.entry.instance.now
+    ensures told { IfOk result (λ status. TellsExplained paths.entry.kind paths.entry.instance.now
         paths.entry.solution.now (F.reads files.old) (F.reads files.new)
-        (W.contents output.old) (W.contents output.new)) }
+        (W.contents output.old) (W.contents output.new) status
+        × TellsBehind paths.entry.instance.now paths.entry.solution.now
+        (F.reads files.old) (F.reads files.new)
+        (E.contents errors.old) (E.contents errors.new)) }
 {
     let both = match read_both(paths, files) {
         Ok(both) => both,
         Err(unread) => return tell_unread(output, unread.path, unread.kind),
     };
-    tell_explanation(output, &explain(alloc, paths.kind, &both.0, &both.1))
+    let status = tell_explanation(output, &explain(alloc, paths.kind, &both.0, &both.1))?;
+    tell_behind(paths.solution, &both.1, errors)?;
+    Ok(status)
 }
 
 /// Tells an answer with its lines, or want of memory.
@@ -81,23 +90,24 @@ fn explain(
 {
     let examined = examine(alloc, kind, instance, solution)?;
     let answer = answer_of(alloc, &examined)?;
-    let text = rests_on(alloc, instance, solution, &examined)?;
+    let text = rests_on(alloc, kind, instance, solution, &examined)?;
     Ok(Explanation { answer, text })
 }
 
 // What the answer for two texts rests on.
 fn rests_on(
     alloc: Global,
+    kind: Kind,
     instance: &[u8],
     solution: &[u8],
     examined: &Examined,
 ) -> Result<String, OutOfMemory>
     requires { HasVerdict examined.now }
-    ensures { IfOk result (λ text. RestsOn instance.now solution.now examined.now
+    ensures { IfOk result (λ text. RestsOn kind instance.now solution.now examined.now
         (string_bytes text)) }
 {
     match examined {
-        Examined::BadInstance(fault) => explain_instance_fault(alloc, instance, *fault),
+        Examined::BadInstance(fault) => explain_instance_fault(alloc, kind, instance, *fault),
         Examined::BadSolution(fault) => explain_solution_fault(alloc, solution, *fault),
         Examined::Judged(problem, plan, verdict) => explain_verdict(alloc, problem, plan, *verdict),
     }

@@ -5,40 +5,47 @@
 //!
 //! Source: this project's own; status 64 is `EX_USAGE` of BSD's `sysexits.h`.
 //!
-//! How it works: each word of the program has one private function over whatever reads files, reader and writer
-//! (`audit_read`, `audits_read`, `explain_read`, `timetable_read`, `draw_read`, `solve_read`, `load_read`, `format_store`,
-//! `run_store`, `timetable_store`, `upgrade_store`).
-//! `run_words` hands them the paths, and what reads files and the streams, which `main` makes.
+//! How it works: each word of the program has one private function over whatever reads and makes files, reader and writer
+//! (`audit_read`, `audits_read`, `explain_read`, `timetable_read`, `draw_read`, `solve_read`, `solves_read`, `load_read`,
+//! `format_store`, `run_store`, `timetable_store`, `draw_store`, `upgrade_store`).
+//! `run_words` hands them the paths, and what reads and makes files and the streams, which `main` makes.
 //!
 //! Modules, in reading order:
 //! - `status`: the statuses that the program ends with
 //! - `answer`: the lines that answer an audit
 //! - `audit`: the audit of two texts
 //! - `telling`: lines for files and stores that can't be read, made or opened
-//! - `read_record`, `files`: what reads files, and the list of those that were read
-//! - `audited`, `listed`: the words `audit` and `audits`
-//! - `explained`, `drawn`, `solved`: the words `explain`, `draw` and `solve`
+//! - `file_record`, `files`: what reads files and what makes them, and the lists of those that were read and made
+//! - `behind`: what stands behind the cost line of a solution
+//! - `audited`, `compared`, `listed`: the words `audit` and `audits`, also beside a best-known cost
+//! - `explained`: the word `explain`
 //! - `opened`: the opening of a store
-//! - `timetabled`: the word `timetable`
+//! - `drawn`, `timetabled`: the words `draw` and `timetable`
+//! - `solved`, `solved_list`: the words `solve` and `solves`
 //! - `laws`: what stops leave of the word `run`
 //! - `stores`: the words `format`, `run` and `upgrade`
 //! - `loaded`: the word `load`
 //! - `program`: `run_words`
 //!
-//! Said by `specs/Answer.antt`, `Program.antt` and `Reads.antt`, and word by word by `Files.antt`, `Listed.antt`,
-//! `Explained.antt`, `Drawn.antt`, `Solving.antt`, `Formatting.antt`, `Foretold.antt`, `Loading.antt`, `Running.antt`,
-//! `Timetabled.antt` and `Upgrading.antt`, which statuses by `Statuses.antt`. Proved:
+//! Said by `specs/Answer.antt`, `Program.antt` and `Reads.antt`, and word by word by `Files.antt`, `Behind.antt`, `Listed.antt`, `Compared.antt`,
+//! `Explained.antt`, `Drawn.antt`, `Solving.antt`, `SolvedList.antt`, `Formatting.antt`, `Foretold.antt`, `Loading.antt`,
+//! `Running.antt`, `Timetabled.antt` and `Upgrading.antt`, which statuses by `Statuses.antt`. Proved:
 //! - `audit_text`: line and status are those of the first fault or of the verdict on what the texts spell; the
 //!   status is 0 exactly where both spell a value and the solution keeps the rules, serves every request, keeps the
 //!   fleet and prints the distance that it drives (`SaysSound`)
 //! - `run_words`, of words without hyphen that ask for something (`EndsWith`): which files were read, each once and in which
-//!   order (`AreReadFor`); what was written to the output and to the errors, and the status that goes with it, from what
-//!   these files gave (`Does`), but for an answer that could not be printed; that the input is read by `run` alone. Of words that
-//!   ask for nothing (`TellsUsage`): no file is read, help goes to the output alone, a mistake to the errors alone
-//! - `audits_read` (`TellsList`): of each line what `audit` tells of that pair alone, or `bad line`; the greatest
-//!   status
+//!   order (`AreReadFor`); that none but `solves` makes a file beside a store (`AreMadeFor`); what was written to the output and
+//!   to the errors, and the status that goes with it, from what these files gave (`Does`), but for an answer that could not be
+//!   printed; that the input is read by `run` alone. Of words that ask for nothing (`TellsUsage`): no file is read or made, help
+//!   goes to the output alone, a mistake to the errors alone
+//! - `audits_read` (`TellsList`): of each line what `audit` tells of that pair alone, behind a pass also how its cost compares with
+//!   the best-known one that the line names; or `bad line`; the greatest status
 //! - `explain_read` (`TellsExplained`), `draw_read` (`TellsDrawn`), `solve_read` (`TellsTask`): the audit's line
 //!   and what it rests on; the picture; the text of a solution, or why there is none
+//! - `solves_read` (`SolvesList`): of each line what was written where, which is what `solve` prints, or why nothing was; the
+//!   audit of what was written, or what it leaves out; the greatest status
+//! - `draw_store` (`DrawsStore`): the picture of the plan in the store that opening the device gives, which is left as opening
+//!   leaves it
 //! - `timetable_read` (`TellsTimetable`), `timetable_store` (`TimetablesStore`): the audit's line and the timetable of the solution;
 //!   those of the plan in the store that opening the device gives, which is left as opening leaves it
 //! - `run_store` (`RunsStore`): the device that `FileDevice::at_or_cause` gives is opened, and what `serve` writes over that
@@ -56,22 +63,26 @@
 //!   formatted only where opening told that it holds no store
 //! - `upgrade_store` (`UpgradesStore`): `same store` where the words are the same; a device over the old file, then one of
 //!   8,450 sectors over the new one, and what `upgrade` of `recover` made of both
-//! - `HostFiles` notes each file of the system with what reading it gave; what is under a path no contract says
+//! - `HostFiles` notes each file of the system with what reading it gave, `HostNewFiles` each that was to be made with what was
+//!   written; what is under a path no contract says
 #![tactic(auto)]
 
 mod answer;
 mod audit;
 mod audited;
+mod behind;
+mod compared;
 mod drawn;
 mod explained;
+mod file_record;
 mod files;
 mod laws;
 mod listed;
 mod loaded;
 mod opened;
 mod program;
-mod read_record;
 mod solved;
+mod solved_list;
 pub mod status;
 mod stores;
 mod telling;
@@ -79,8 +90,8 @@ mod timetabled;
 
 pub use answer::{AuditAnswer, Line};
 pub use audit::audit_text;
-pub use command_line::{Invocation, Loading, Paths, Task, read_words};
+pub use command_line::{Invocation, Loading, Paths, Task, Tasks, read_words};
 pub use command_serving::{Failed, ServeFault, Sink, Source, Watched, serve};
-pub use files::{HostFiles, ReadFiles};
+pub use files::{HostFiles, HostNewFiles, ReadFiles, WriteFiles};
 pub use laws::stopped_runs_recover;
 pub use program::{Streams, run_words};

@@ -3,19 +3,29 @@ ghost use Rattle.std.specs.Prelude.{◌≡◌, ◌≤◌, IfOk, MatchOption, cod
 ghost use Rattle.std.specs.List.{position_or_len};
 ghost use Rattle.std.specs.Io.KnownBytes.{Appends};
 ghost use Rattle.command_text.specs.Answers.{line};
-ghost use Rattle.planner_cli.specs.Listed.{IsPair, NamesNone, TellsLine, TellsLines, TellsList, is_path, is_tab, list_path, parts_of};
+ghost use Rattle.planner_cli.specs.Listed.{ComparesNone, IsAudited, IsComparedLine, IsComparedPair, IsPair, NamesNone, TellsLine, TellsLines, TellsList, compared_parts, cut, is_path, is_tab, list_path, parts_of};
 ghost use Rattle.planner_cli.specs.Reads.{IsGrown, IsReadFirst};
 
 use crate::audited::audit_read;
+use crate::compared::compare_read;
 use crate::files::ReadFiles;
 use crate::status::{DONE, REFUSED};
 use crate::telling::{tell_unread, write_line};
+use best_known::BestKnown;
 use command_line::Paths;
 use plan_types::Kind;
 use std::alloc::Global;
 use std::io::Write;
 use std::{io, str};
 use text_lines::Lines;
+
+// An instance and a solution, by their paths, and a best-known cost of the instance.
+#[derive(Debug, Drop)]
+struct ComparedPair<'a> {
+    instance: &'a str,
+    solution: &'a str,
+    best: BestKnown,
+}
 
 /// Reads a list, and audits the pair that each of its lines names, as `audit_read` does. Gives the greatest status.
 pub(crate) fn audits_read<F: ReadFiles, W: Write>(
@@ -37,8 +47,8 @@ pub(crate) fn audits_read<F: ReadFiles, W: Write>(
     }
 }
 
-// The path by which the list is read.
-fn list_path(list: &str) -> &str
+/// The path by which the list is read.
+pub(crate) fn list_path(list: &str) -> &str
     ensures { result.now ≡ list_path list.now }
 {
     if list == "-" { "/dev/stdin" } else { list }
@@ -54,7 +64,8 @@ fn audit_lines<F: ReadFiles, W: Write>(
 ) -> io::Result<u8>
     ensures status { IfOk result (λ status. status ≤ 4) }
     ensures reads { IsGrown (F.reads files.old) (F.reads files.new) }
-    ensures told { IfOk result (TellsLines kind lines.entry (F.reads files.old) (F.reads files.new)
+    ensures told { IfOk result (TellsLines (IsAudited kind) lines.entry
+        (F.reads files.old) (F.reads files.new)
         (W.contents output.old) (W.contents output.new)) }
 {
     let mut greatest = DONE;
@@ -65,8 +76,8 @@ fn audit_lines<F: ReadFiles, W: Write>(
     Ok(greatest)
 }
 
-// The greater status.
-fn greater(one: u8, other: u8) -> u8
+/// The greater status.
+pub(crate) fn greater(one: u8, other: u8) -> u8
     requires { (one ≤ 4) × (other ≤ 4) }
     ensures value { max one other ≡ result }
     ensures bound { result ≤ 4 }
@@ -84,7 +95,8 @@ fn audit_line<F: ReadFiles, W: Write>(
 ) -> io::Result<u8>
     ensures status { IfOk result (λ status. status ≤ 4) }
     ensures reads { IsGrown (F.reads files.old) (F.reads files.new) }
-    ensures told { IfOk result (TellsLine kind line.now (F.reads files.old) (F.reads files.new)
+    ensures told { IfOk result (TellsLine (IsAudited kind) line.now
+        (F.reads files.old) (F.reads files.new)
         (W.contents output.old) (W.contents output.new)) }
 {
     let status = audit_named(alloc, kind, line, files, output)?;
@@ -102,12 +114,13 @@ fn audit_named<F: ReadFiles, W: Write>(
 ) -> io::Result<u8>
     ensures status { IfOk result (λ status. status ≤ 4) }
     ensures reads { IsGrown (F.reads files.old) (F.reads files.new) }
-    ensures told { IfOk result (TellsLine kind line.now (F.reads files.old) (F.reads files.new)
+    ensures told { IfOk result (TellsLine (IsAudited kind) line.now
+        (F.reads files.old) (F.reads files.new)
         (W.contents output.old) (W.contents output.new)) }
 {
     let (instance, solution) = match pair_of(line) {
         Some(pair) => pair,
-        None => return tell_bad_line(output),
+        None => return compare_named(alloc, kind, line, files, output),
     };
     write!(output, "{instance}\t{solution}\t")?;
     let paths = Paths {
@@ -118,8 +131,39 @@ fn audit_named<F: ReadFiles, W: Write>(
     audit_read(alloc, paths, files, output)
 }
 
-// Tells a line that names no pair.
-fn tell_bad_line<W: Write>(output: &mut W) -> io::Result<u8>
+// Tells the audit of the pair that the line names beside the best-known cost that it names.
+fn compare_named<F: ReadFiles, W: Write>(
+    alloc: Global,
+    kind: Kind,
+    line: &[u8],
+    files: &mut F,
+    output: &mut W,
+) -> io::Result<u8>
+    ensures status { IfOk result (λ status. status ≤ 4) }
+    ensures reads { IsGrown (F.reads files.old) (F.reads files.new) }
+    ensures told { IfOk result (TellsLine (IsComparedLine kind) line.now
+        (F.reads files.old) (F.reads files.new)
+        (W.contents output.old) (W.contents output.new)) }
+{
+    let ComparedPair {
+        instance,
+        solution,
+        best,
+    } = match compared_of(kind, line) {
+        Some(compared) => compared,
+        None => return tell_bad_line(output),
+    };
+    write!(output, "{instance}\t{solution}\t")?;
+    let paths = Paths {
+        kind,
+        instance,
+        solution,
+    };
+    compare_read(alloc, paths, &best, files, output)
+}
+
+/// Tells a line that names no pair.
+pub(crate) fn tell_bad_line<W: Write>(output: &mut W) -> io::Result<u8>
     ensures { IfOk result (λ status. (status ≡ 2)
         × Appends (W.contents output.old) (W.contents output.new) (line (codes "bad line"))) }
 {
@@ -127,8 +171,8 @@ fn tell_bad_line<W: Write>(output: &mut W) -> io::Result<u8>
     Ok(REFUSED)
 }
 
-// The paths of an instance and a solution with a tab between them.
-fn pair_of(line: &[u8]) -> Option<(&str, &str)>
+/// The paths of an instance and a solution with a tab between them.
+pub(crate) fn pair_of(line: &[u8]) -> Option<(&str, &str)>
     ensures { MatchOption result (NamesNone line.now) (λ p. IsPair line.now p.0.now p.1.now) }
 {
     let (instance, solution) = match parts_of(line) {
@@ -164,6 +208,58 @@ fn is_path(path: &[u8]) -> bool
     ensures { result ≡ is_path path.now }
 {
     !path.is_empty() && tab_at(path) == path.len()
+}
+
+// The paths of an instance and a solution, and a best-known cost, with tabs between them.
+fn compared_of(kind: Kind, line: &[u8]) -> Option<ComparedPair<'_>>
+    ensures { MatchOption result (ComparesNone kind line.now)
+        (λ c. IsComparedPair kind line.now c.instance.now c.solution.now c.best) }
+{
+    let (instance, solution, best) = match compared_parts(kind, line) {
+        Some(parts) => parts,
+        None => return None,
+    };
+    let Ok(instance) = str::from_utf8(instance) else {
+        return None;
+    };
+    let Ok(solution) = str::from_utf8(solution) else {
+        return None;
+    };
+    Some(ComparedPair {
+        instance,
+        solution,
+        best,
+    })
+}
+
+// The columns of a line with two tabs, if neither path is empty and the last one is a best-known cost.
+fn compared_parts(kind: Kind, line: &[u8]) -> Option<(&[u8], &[u8], BestKnown)>
+    ensures { option_map (λ p. (p.0.now, p.1.now, p.2)) result ≡ compared_parts kind line.now }
+{
+    let Some((instance, rest)) = cut(line) else {
+        return None;
+    };
+    let Some((solution, column)) = cut(rest) else {
+        return None;
+    };
+    if instance.is_empty() || solution.is_empty() {
+        return None;
+    }
+    let Some(best) = BestKnown::read(kind, column) else {
+        return None;
+    };
+    Some((instance, solution, best))
+}
+
+// What stands before and behind the first tab.
+fn cut(text: &[u8]) -> Option<(&[u8], &[u8])>
+    ensures { option_map (λ p. (p.0.now, p.1.now)) result ≡ cut text.now }
+{
+    let (front, rest) = text.split_at(tab_at(text));
+    match rest {
+        [] => None,
+        [_, behind @ ..] => Some((front, behind)),
+    }
 }
 
 fn is_tab(byte: u8) -> bool

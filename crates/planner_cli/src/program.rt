@@ -1,26 +1,27 @@
-//! What the program does with its words: files are read, answers are printed.
+//! What the program does with its words: files are read and made, answers are printed.
 //!
-//! `run_words` takes what reads files, and the streams, and values of `T: Start` and `U: Start`, all of which `main` makes: what the
-//! files of a store, and of one that a load or an upgrade makes, are as they are opened.
+//! `run_words` takes what reads files and what makes them, the streams, and values of `T: Start` and `U: Start`, all of which `main`
+//! makes: what the files of a store, and of one that a load or an upgrade makes, are as they are opened.
 ghost use Rattle.std.specs.Prelude.{◌≡◌, ◌≢◌, ◌≤◌, IfOk, drop, map};
 ghost use Rattle.clap.specs.Words.{kind_of};
 ghost use Rattle.command_line.specs.Asked.{ArePositional, Asked, asked_by, asked_of, usage_status_of};
 ghost use Rattle.plan_types.specs.declared.requests.Kind.TheVariants.{LiLim};
-ghost use Rattle.command_serving.specs.Held.{held};
+ghost use Rattle.command_serving.specs.Held.{given_by, held};
 ghost use Rattle.sector_disk.specs.FileDevice.{IsUnused};
-ghost use Rattle.planner_cli.specs.Program.{AreErrorsKept, AreReadFor, Does, EndsWith, IsInputKept, TellsUsage, seen};
+ghost use Rattle.planner_cli.specs.Program.{AreErrorsKept, AreMadeFor, AreReadFor, Does, EndsWith, IsInputKept, TellsUsage, seen};
 ghost use Rattle.planner_cli.specs.Running.{RunsStore};
 ghost use Rattle.planner_cli.specs.Statuses.{CanEndWith};
 ghost use Rattle.planner_cli.specs.Telling.{TellsAudit, example_instance, example_solution};
 
 use crate::audit::audit_text;
-use crate::audited::audit_read;
-use crate::drawn::draw_read;
+use crate::audited::audit_noted;
+use crate::drawn::{draw_read, draw_store};
 use crate::explained::explain_read;
-use crate::files::ReadFiles;
+use crate::files::{ReadFiles, WriteFiles};
 use crate::listed::audits_read;
 use crate::loaded::load_read;
 use crate::solved::solve_read;
+use crate::solved_list::solves_read;
 use crate::status::{DONE, OUT_OF_MEMORY, USAGE};
 use crate::stores::{format_store, run_store, upgrade_store};
 use crate::telling::{status_of, tell_audit};
@@ -55,11 +56,22 @@ pub struct Streams<I, W, E> {
 /// Does what the words of the command line ask for, the program's name first, and gives the status to end with
 /// (`status`) and the streams. Where an answer cannot be printed, the status is `FILE`. `start` stands for what the store's file is as
 /// it is opened, `start_of_new` for that of a store that is made.
-pub fn run_words<R, T: Start, U: Start, F: ReadFiles, I: Read, W: Write, E: Write, S: AsStr>(
+pub fn run_words<
+    R,
+    T: Start,
+    U: Start,
+    F: ReadFiles,
+    N: WriteFiles,
+    I: Read,
+    W: Write,
+    E: Write,
+    S: AsStr,
+>(
     rt: &R,
     start: T,
     start_of_new: U,
     files: &mut F,
+    new_files: &mut N,
     streams: Streams<I, W, E>,
     words: &[S],
 ) -> (u8, Streams<I, W, E>)
@@ -69,16 +81,27 @@ where
         (a : Asked) → ArePositional asked → asked_by asked ≡ Some a
         → EndsWith ⟦<FileDevice<T> as Sectors>⟧ ⟦<FileDevice<U> as Sectors>⟧
         (IsUnused ⟦<HostFile as FileCalls>⟧.entries) (IsUnused ⟦<HostFile as FileCalls>⟧.entries) a
-        (seen F.reads I.remaining W.contents E.contents files.old streams)
-        (seen F.reads I.remaining W.contents E.contents files.new result.1) result.0 }
+        (seen F.reads N.writes I.remaining W.contents E.contents files.old new_files.old streams)
+        (seen F.reads N.writes I.remaining W.contents E.contents files.new new_files.new result.1)
+        result.0 }
     ensures usage { let asked = drop 1 (map S.text words.now) in
         ArePositional asked → asked_by asked ≡ None
-        → TellsUsage asked (seen F.reads I.remaining W.contents E.contents files.old streams)
-        (seen F.reads I.remaining W.contents E.contents files.new result.1) result.0 }
+        → TellsUsage asked
+        (seen F.reads N.writes I.remaining W.contents E.contents files.old new_files.old streams)
+        (seen F.reads N.writes I.remaining W.contents E.contents files.new new_files.new result.1)
+        result.0 }
 {
     match read_words(rt.alloc(), words) {
         Ok(invocation) => {
-            let (told, streams) = do_asked(rt, start, start_of_new, files, streams, invocation);
+            let (told, streams) = do_asked(
+                rt,
+                start,
+                start_of_new,
+                files,
+                new_files,
+                streams,
+                invocation,
+            );
             (status_of(told), streams)
         }
         Err(error) => {
@@ -90,11 +113,12 @@ where
 }
 
 // Does what is asked for, and tells what came of it.
-fn do_asked<R, T: Start, U: Start, F: ReadFiles, I: Read, W: Write, E: Write>(
+fn do_asked<R, T: Start, U: Start, F: ReadFiles, N: WriteFiles, I: Read, W: Write, E: Write>(
     rt: &R,
     start: T,
     start_of_new: U,
     files: &mut F,
+    new_files: &mut N,
     streams: Streams<I, W, E>,
     invocation: Invocation,
 ) -> (io::Result<u8>, Streams<I, W, E>)
@@ -102,17 +126,20 @@ where
     R: Files<File = File> + Eprint + AllocGlobal,
     ensures status { IfOk result.0 (CanEndWith (asked_of invocation.entry)) }
     ensures reads { AreReadFor (asked_of invocation.entry) (F.reads files.old) (F.reads files.new) }
+    ensures makes { AreMadeFor (asked_of invocation.entry) (N.writes new_files.old)
+        (N.writes new_files.new) }
     ensures input { IsInputKept (asked_of invocation.entry)
-        (seen F.reads I.remaining W.contents E.contents files.old streams)
-        (seen F.reads I.remaining W.contents E.contents files.new result.1) }
+        (seen F.reads N.writes I.remaining W.contents E.contents files.old new_files.old streams)
+        (seen F.reads N.writes I.remaining W.contents E.contents files.new new_files.new result.1) }
     ensures errors { AreErrorsKept (asked_of invocation.entry)
-        (seen F.reads I.remaining W.contents E.contents files.old streams)
-        (seen F.reads I.remaining W.contents E.contents files.new result.1) }
+        (seen F.reads N.writes I.remaining W.contents E.contents files.old new_files.old streams)
+        (seen F.reads N.writes I.remaining W.contents E.contents files.new new_files.new result.1) }
     ensures does { IfOk result.0 (Does ⟦<FileDevice<T> as Sectors>⟧ ⟦<FileDevice<U> as Sectors>⟧
         (IsUnused ⟦<HostFile as FileCalls>⟧.entries) (IsUnused ⟦<HostFile as FileCalls>⟧.entries)
         (asked_of invocation.entry)
-        (seen F.reads I.remaining W.contents E.contents files.old streams)
-        (seen F.reads I.remaining W.contents E.contents files.new result.1)) }
+        (seen F.reads N.writes I.remaining W.contents E.contents files.old new_files.old streams)
+        (seen F.reads N.writes I.remaining W.contents E.contents files.new new_files.new
+        result.1)) }
 {
     let mut streams = streams;
     let alloc = rt.alloc();
@@ -122,7 +149,8 @@ where
             (told, streams)
         }
         Invocation::Audit(paths) => {
-            let told = audit_read(alloc, paths, files, &mut streams.output);
+            let Streams { output, errors, .. } = &mut streams;
+            let told = audit_noted(alloc, paths, files, output, errors);
             (told, streams)
         }
         Invocation::Audits { kind, list } => {
@@ -130,17 +158,27 @@ where
             (told, streams)
         }
         Invocation::Explain(paths) => {
-            let told = explain_read(alloc, paths, files, &mut streams.output);
+            let Streams { output, errors, .. } = &mut streams;
+            let told = explain_read(alloc, paths, files, output, errors);
             (told, streams)
         }
-        Invocation::Draw(paths) => {
+        Invocation::Draw { paths, route } => {
             let Streams { output, errors, .. } = &mut streams;
-            let told = draw_read(alloc, paths, files, output, errors);
+            let told = draw_read(alloc, paths, route, files, output, errors);
+            (told, streams)
+        }
+        Invocation::DrawStore { store } => {
+            let Streams { output, errors, .. } = &mut streams;
+            let told = draw_store(rt, start, store, output, errors);
             (told, streams)
         }
         Invocation::Solve(task) => {
             let Streams { output, errors, .. } = &mut streams;
             let told = solve_read(alloc, task, files, output, errors);
+            (told, streams)
+        }
+        Invocation::Solves(tasks) => {
+            let told = solves_read(alloc, tasks, files, new_files, &mut streams.output);
             (told, streams)
         }
         Invocation::Format { store } => {
@@ -183,7 +221,7 @@ where
     ensures status { IfOk result.0 (λ status. status ≤ 4) }
     ensures runs { IfOk result.0 (RunsStore ⟦<FileDevice<T> as Sectors>⟧
         (IsUnused ⟦<HostFile as FileCalls>⟧.entries) store.now is_strict
-        (I.remaining streams.input.inner) (held W.contents streams.output)
+        (given_by I.remaining streams.input result.1.input) (held W.contents streams.output)
         (held W.contents result.1.output) result.1.input.has_failed
         result.1.output.has_failed) }
 {

@@ -1,15 +1,22 @@
 //! The solving of an instance in a file.
-ghost use Rattle.std.specs.Prelude.{◌≤◌, IfOk, OnOk};
+ghost use Rattle.std.specs.Prelude.{◌≡◌, ◌≤◌, IfOk, OnOk, codes, string_bytes};
 ghost use Rattle.std.specs.Io.KnownBytes.{Appends};
 ghost use Rattle.command_line.specs.Asked.{task_of};
-ghost use Rattle.planner_cli.specs.Solving.{IsToldFault, TellsPlan, TellsSolved, TellsTask, unplanned_line};
+ghost use Rattle.command_text.specs.Answers.{line};
+ghost use Rattle.plan_why.specs.Why.{reason_text};
+ghost use Rattle.plan_why.specs.declared.leads.Lead.TheVariants.{Named};
+ghost use Rattle.planner_cli.specs.Solving.{IsToldFault, TellsPlan, TellsReasons, TellsSolved, TellsTask, unplanned_line};
 ghost use Rattle.planner_cli.specs.Reads.{IsRead};
 
 use crate::files::ReadFiles;
 use crate::status::{BROKEN, DONE, OUT_OF_MEMORY, REFUSED};
 use crate::telling::{tell_unread, write_line};
+use command_core::Job;
 use command_line::Task;
+use plan_audit::{passes_are_local, plans_are_local};
 use plan_solve::{SolveFault, Solved, solve};
+use plan_types::OutOfMemory;
+use plan_why::{Lead, reason};
 use std::alloc::Global;
 use std::io;
 use std::io::Write;
@@ -42,11 +49,12 @@ pub(crate) fn solve_read<F: ReadFiles, W: Write, E: Write>(
         task.deviation,
         errors,
     );
-    tell_solved(&solved, output, errors)
+    tell_solved(alloc, &solved, output, errors)
 }
 
 // Tells the plan, or why there is none.
 fn tell_solved<W: Write, E: Write>(
+    alloc: Global,
     solved: &Result<Solved, SolveFault>,
     output: &mut W,
     errors: &mut E,
@@ -57,28 +65,76 @@ fn tell_solved<W: Write, E: Write>(
         (E.contents errors.old) (E.contents errors.new)) }
 {
     match solved {
-        Ok(solved) => tell_plan(solved, output, errors),
+        Ok(solved) => tell_plan(alloc, solved, output, errors),
         Err(fault) => tell_fault(*fault, errors),
     }
 }
 
-// Tells the text of the plan, and which requests it leaves out.
-fn tell_plan<W: Write, E: Write>(solved: &Solved, output: &mut W, errors: &mut E) -> io::Result<u8>
+// Tells the text of the plan, which requests it leaves out, and why.
+fn tell_plan<W: Write, E: Write>(
+    alloc: Global,
+    solved: &Solved,
+    output: &mut W,
+    errors: &mut E,
+) -> io::Result<u8>
     ensures status { IfOk result (λ status. status ≤ 4) }
-    ensures told { IfOk result (TellsPlan solved.now.text.items solved.now.unplanned.items
+    ensures told { IfOk result (TellsPlan solved.now
         (W.contents output.old) (W.contents output.new)
         (E.contents errors.old) (E.contents errors.new)) }
 {
-    output.write_all(&solved.text)?;
+    write_flushed(output, &solved.text)?;
     if solved.unplanned.is_empty() {
         return Ok(DONE);
     }
     tell_unplanned(errors, &solved.unplanned)?;
+    tell_reasons(alloc, &solved.job, &solved.unplanned, errors)
+}
+
+// Writes a text and flushes it: what follows may take long.
+fn write_flushed<W: Write>(output: &mut W, text: &[u8]) -> io::Result<()>
+    ensures { OnOk result (Appends (W.contents output.old) (W.contents output.new) text.now) }
+{
+    output.write_all(text)?;
+    output.flush()
+}
+
+// Tells of each of these requests why it is in no route of the plan, as soon as it is known.
+fn tell_reasons<E: Write>(alloc: Global, job: &Job, names: &[u32], errors: &mut E) -> io::Result<u8>
+    ensures status { IfOk result (λ status. status ≤ 4) }
+    ensures told { IfOk result (TellsReasons job.now names.now
+        (E.contents errors.old) (E.contents errors.new)) }
+{
+    for name in names {
+        let told = match reason_of(alloc, job, *name) {
+            Ok(text) => text,
+            Err(_) => return tell_want(errors),
+        };
+        errors.write_all(told.as_bytes())?;
+    }
     Ok(BROKEN)
 }
 
-// `unplanned N: R1 R2 ..`
-fn tell_unplanned<E: Write>(errors: &mut E, names: &[u32]) -> io::Result<()>
+fn tell_want<E: Write>(errors: &mut E) -> io::Result<u8>
+    ensures { IfOk result (λ status. (status ≡ 4)
+        × Appends (E.contents errors.old) (E.contents errors.new) (line (codes "out of memory"))) }
+{
+    write_line(errors, b"out of memory")?;
+    Ok(OUT_OF_MEMORY)
+}
+
+fn reason_of(alloc: Global, job: &Job, name: u32) -> Result<String, OutOfMemory>
+    ensures { IfOk result (λ text. string_bytes text
+        ≡ reason_text Named job.now.problem job.now.pins job.now.plan name) }
+{
+    passes_are_local();
+    plans_are_local();
+    let pins = job.pins.routes.as_slice();
+    let routes = job.plan.routes.as_slice();
+    reason(alloc, Lead::Named, &job.problem, pins, routes, name)
+}
+
+/// `unplanned N: R1 R2 ..`
+pub(crate) fn tell_unplanned<E: Write>(errors: &mut E, names: &[u32]) -> io::Result<()>
     ensures { OnOk result (Appends (E.contents errors.old) (E.contents errors.new)
         (unplanned_line names.now)) }
 {
@@ -90,8 +146,8 @@ fn tell_unplanned<E: Write>(errors: &mut E, names: &[u32]) -> io::Result<()>
     errors.write_all(b"\n")
 }
 
-// Tells why there is no plan.
-fn tell_fault<E: Write>(fault: SolveFault, errors: &mut E) -> io::Result<u8>
+/// Tells why there is no plan.
+pub(crate) fn tell_fault<E: Write>(fault: SolveFault, errors: &mut E) -> io::Result<u8>
     ensures status { IfOk result (λ status. status ≤ 4) }
     ensures told { IfOk result (IsToldFault fault (E.contents errors.old) (E.contents errors.new)) }
 {

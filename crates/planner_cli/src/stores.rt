@@ -4,7 +4,7 @@
 //! error; no clause speaks of it.
 ghost use Rattle.std.specs.Prelude.{◌≡◌, ◌≢◌, ◌≤◌, Err, IfOk, OnOk, false, true};
 ghost use Rattle.std.specs.Io.KnownBytes.{Appends};
-ghost use Rattle.command_serving.specs.Held.{held};
+ghost use Rattle.command_serving.specs.Held.{given_by, held};
 ghost use Rattle.command_serving.specs.Strict.{TellsLast};
 ghost use Rattle.command_serving.specs.declared.answering.ServeFault.TheVariants.{ReadFault};
 ghost use Rattle.sector_disk.specs.FileDevice.{IsUnused};
@@ -76,7 +76,7 @@ where
     ensures status { IfOk result.0 (λ status. status ≤ 4) }
     ensures runs { IfOk result.0 (RunsStore ⟦<FileDevice<T> as Sectors>⟧
         (IsUnused ⟦<HostFile as FileCalls>⟧.entries) store.now is_strict
-        (I.remaining input.old.inner) (held W.contents output) (held W.contents result.1)
+        (given_by I.remaining input.old input.new) (held W.contents output) (held W.contents result.1)
         input.new.has_failed result.1.has_failed) }
 {
     match FileDevice::at_or_cause(rt, store, start) {
@@ -192,7 +192,7 @@ fn run_device<D: Sectors + Drop, I: Read, W: Write, E: Write>(
 ) -> (io::Result<u8>, D, Watched<W>)
     ensures status { IfOk result.0 (λ status. status ≤ 4) }
     ensures runs { IfOk result.0 (RunsDevice D.Sectors device is_strict
-        (I.remaining input.old.inner) (held W.contents output) (held W.contents result.2)
+        (given_by I.remaining input.old input.new) (held W.contents output) (held W.contents result.2)
         input.new.has_failed result.2.has_failed) }
 {
     let opening = open_session(alloc, device, errors);
@@ -230,7 +230,7 @@ fn serve_opened<D: Sectors + Drop, I: Read, W: Write>(
 ) -> (io::Result<u8>, Watched<W>)
     ensures status { IfOk result.0 (λ status. status ≤ 4) }
     ensures runs { IfOk result.0 (RunsSession D.Sectors session.old replayed is_strict
-        (I.remaining input.old.inner) (held W.contents output) (held W.contents result.1)
+        (given_by I.remaining input.old input.new) (held W.contents output) (held W.contents result.1)
         input.new.has_failed result.1.has_failed) }
 {
     let (mut writer, noted) = output.apart();
@@ -272,7 +272,7 @@ fn serve_input<D: Sectors + Drop, I: Read, W: Write>(
     input: &mut Watched<I>,
     output: Watched<W>,
 ) -> Ended<W>
-    ensures { IsEnded D.Sectors session.old is_strict (I.remaining input.old.inner)
+    ensures { IsEnded D.Sectors session.old is_strict (given_by I.remaining input.old input.new)
         (held W.contents output) result.served result.stopped (held W.contents result.output)
         input.new.has_failed result.output.has_failed session.new }
 {
@@ -295,7 +295,7 @@ fn serve_strictly<D: Sectors + Drop, I: Read, W: Write>(
     input: &mut Watched<I>,
     output: Watched<W>,
 ) -> Ended<W>
-    ensures { IsEnded D.Sectors session.old true (I.remaining input.old.inner)
+    ensures { IsEnded D.Sectors session.old true (given_by I.remaining input.old input.new)
         (held W.contents output) result.served result.stopped (held W.contents result.output)
         input.new.has_failed result.output.has_failed session.new }
 {

@@ -2,7 +2,7 @@
 ghost use Rattle.std.specs.Prelude.{◌≡◌, ◌≢◌, ◌≤◌, ◌++◌, ◌∷◌, [], IfOk, MatchResult, OnOk, codes};
 ghost use Rattle.std.specs.Io.KnownBytes.{Appends};
 ghost use Rattle.planner_cli.specs.Foretold.{repeating_line};
-ghost use Rattle.planner_cli.specs.Telling.{TellsAnswer, TellsAnswered, TellsInstanceFault, TellsUnread, denial_line, denial_status, format_line, format_status, is_device_fault, is_memory, new_line, open_line, open_status, store_line, store_status, unmade_line, upgrade_line, upgrade_status, wants_memory};
+ghost use Rattle.planner_cli.specs.Telling.{TellsAnswer, TellsAnswered, TellsInstanceFault, TellsUnread, TellsUnwritten, denial_line, denial_status, format_line, format_status, is_device_fault, is_memory, is_there, new_line, open_line, open_status, store_line, store_status, unmade_line, upgrade_line, upgrade_status, wants_memory};
 
 use crate::answer::AuditAnswer;
 use crate::status::{DONE, FILE, OUT_OF_MEMORY, REFUSED};
@@ -49,6 +49,38 @@ fn is_want_of_memory(kind: ErrorKind) -> bool
 {
     match kind {
         ErrorKind::OutOfMemory => true,
+        _ => false,
+    }
+}
+
+/// Tells a file that can't be made.
+pub(crate) fn tell_unwritten<W: Write>(
+    output: &mut W,
+    path: &str,
+    kind: ErrorKind,
+) -> io::Result<u8>
+    ensures status { IfOk result (λ status. status ≤ 4) }
+    ensures told { IfOk result (TellsUnwritten path.now kind (W.contents output.old)
+        (W.contents output.new)) }
+{
+    if is_there(kind) {
+        write_line(output, b"there already")?;
+        return Ok(FILE);
+    }
+    if is_want_of_memory(kind) {
+        write_line(output, b"out of memory")?;
+        return Ok(OUT_OF_MEMORY);
+    }
+    writeln!(output, "cannot write {path}")?;
+    Ok(FILE)
+}
+
+// Whether it tells that something stands under the path.
+fn is_there(kind: ErrorKind) -> bool
+    ensures { result ≡ is_there kind }
+{
+    match kind {
+        ErrorKind::AlreadyExists => true,
         _ => false,
     }
 }

@@ -199,7 +199,9 @@ fn plan_told(alloc: Global, job: &Job, form: Form) -> Result<Explanation, OutOfM
     passes_are_local();
     plans_are_local();
     let line = pass_line(alloc, plan_cost(&job.problem, &job.plan))?;
-    let text = plan_text(alloc, form, &job.problem, job.plan.routes.as_slice())?;
+    let pins = job.pins.routes.as_slice();
+    let routes = job.plan.routes.as_slice();
+    let text = plan_text(alloc, form, &job.problem, pins, routes)?;
     let answer = AuditAnswer { line, status: DONE };
     Ok(Explanation { answer, text })
 }
@@ -208,11 +210,13 @@ fn plan_text(
     alloc: Global,
     form: Form,
     problem: &Problem,
+    pins: &[Route],
     routes: &[Route],
 ) -> Result<String, OutOfMemory>
     requires { All (AreLiveOnce problem.now) routes.now }
-    ensures { IfOk result (λ text. string_bytes text ≡ plan_text form problem.now routes.now) }
+    ensures { IfOk result (λ text. string_bytes text
+        ≡ plan_text form problem.now pins.now routes.now) }
 {
     let unplanned = unplanned_names(alloc, problem, routes)?;
-    timetable(alloc, problem, routes, unplanned.as_slice(), form)
+    timetable(alloc, problem, pins, routes, unplanned.as_slice(), form)
 }

@@ -3,14 +3,15 @@
 //! `Session::open` opens the store on a device, `apply` and `run` carry commands out, `close` gives the device back.
 //! `steps_to_repeat` tells beforehand how long opening takes. `upgrade` takes a store of version 1 over. `command_serving` serves a session by lines of text, `planner_cli` opens it.
 //!
-//! A command is checked, the state after it computed, and then committed: as one record, or for `Load`, `Checkpoint` and
-//! `Anneal` and where 256 records stand by a snapshot of that state. Only then is it answered. Opening syncs once, since reads
-//! may give what is not durable yet; then it reads alone: the snapshot, and the records, whose commands are applied again. So a
-//! search is stored as its number of steps, and is made once more; annealing is stored as what it leaves, and is not.
+//! A command is checked and carried out in its place (`Planner` of `command_core`), and then committed: as one record, or
+//! for `Load`, `Checkpoint` and `Anneal` and where 256 records stand by a snapshot of that state. Only then is it answered;
+//! where the commit fails, what stood before is put back. Opening syncs once, since reads may give what is not durable yet;
+//! then it reads alone: the snapshot, and the records, whose commands are carried out again by one planner. So a search is
+//! stored as its number of steps, and is made once more; annealing is stored as what it leaves, and is not.
 //!
 //! Modules, in reading order:
 //! - `denials`, `replies`: what a session answers
-//! - `sessions`: a session, and `apply`; `effects`: the state after a command; `commits`: a command made durable
+//! - `sessions`: a session, and `apply`; `commits`: a command made durable
 //! - `runs`: a list of commands
 //! - `opening`, `repeating`: what a device's store stands for, and the commands of its records once more
 //! - `upgrading`: a store of version 1 read by the same code, and a new store of its state
@@ -49,7 +50,6 @@
 
 mod commits;
 mod denials;
-mod effects;
 mod laws;
 mod opening;
 mod repeating;

@@ -4,9 +4,8 @@ ghost use Rattle.command_core.specs.Runs.{IsState, AreAccepted, after, steps_of}
 ghost use Rattle.recover.specs.Opening.{steps_in};
 ghost use Rattle.recover.specs.Repeating.{fault_of, IsOfRepeating};
 
-use crate::effects::state_after;
 use checkpoint::StoreFault;
-use command_core::{Command, Refusal, State};
+use command_core::{Command, Planner, Refusal, State};
 use state_codec::CodecFault;
 use std::alloc::Global;
 
@@ -79,12 +78,11 @@ pub(crate) fn repeat(
     ensures facts { IfOk result IsState }
     ensures refused { IfErr result (IsOfRepeating snapshot commands.now) }
 {
-    let mut state = snapshot;
+    let mut planner = Planner::new(snapshot);
     for command in commands {
-        state = match state_after(alloc, &state, command) {
-            Ok(next) => next,
-            Err(refusal) => return Err(fault_of(refusal)),
-        };
+        if let Err(refusal) = planner.change(alloc, command) {
+            return Err(fault_of(refusal));
+        }
     }
-    Ok(state)
+    Ok(planner.into_state())
 }

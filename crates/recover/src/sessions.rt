@@ -9,10 +9,9 @@ ghost use Rattle.recover.specs.Applying.{denial, calls_of, IsAnswer, Makes, IsBe
 
 use crate::commits::{CommitFault, commit, is_snapshot_due};
 use crate::denials::Denial;
-use crate::effects::state_after;
 use crate::replies::Reply;
 use checkpoint::Place;
-use command_core::{Command, State, accepted_commands_fit_records, check};
+use command_core::{Command, Planner, State, accepted_commands_fit_records, check};
 use sector_disk::{MemDevice, Sectors};
 use std::alloc::Global;
 use std::marker::Model;
@@ -24,7 +23,7 @@ const LAST_SEQUENCE: u64 = 1 << 60;
 #[derive(Drop)]
 pub struct Session<D: Sectors> {
     device: D,
-    state: State,
+    planner: Planner,
     place: Place,
     is_broken: bool,
 }
@@ -38,14 +37,14 @@ impl<D: Sectors> Model for Session<D> {
 
     ghost view = { λ s. record {
       device = s.device;
-      state = s.state;
+      state = s.planner;
       place = s.place;
       is_broken =
           s.is_broken;
     } };
 
     ghost invariant = { λ s. IsSession D.len D.honest D.possible
-        (record { device = s.device; state = s.state; place = s.place; is_broken = s.is_broken }) };
+        (record { device = s.device; state = s.planner; place = s.place; is_broken = s.is_broken }) };
 }
 
 impl<D: Sectors> Session<D> {
@@ -65,7 +64,7 @@ impl<D: Sectors> Session<D> {
     {
         Session {
             device,
-            state,
+            planner: Planner::new(state),
             place,
             is_broken: false,
         }
@@ -133,7 +132,7 @@ impl<D: Sectors> Session<D> {
         if self.is_broken {
             return Some(Denial::Broken);
         }
-        if let Err(refusal) = check(&self.state, command) {
+        if let Err(refusal) = check(self.planner.state(), command) {
             return Some(Denial::Core(refusal));
         }
         if is_snapshot_due(self.place, command) && self.place.sequence == LAST_SEQUENCE {
@@ -142,7 +141,8 @@ impl<D: Sectors> Session<D> {
         None
     }
 
-    // Carries out a command that is not denied: first the state after it, for which there may be no memory, and then the commit.
+    // Carries out a command that is not denied: first the state after it, for which there may be no memory, and then the commit. Where that
+    // fails, what stood before is put back.
     fn carry_out(&mut self, alloc: Global, command: &Command) -> Result<(), Denial>
         requires { denial self.old command.now ≡ None }
         ensures answer { IsAnswer None result }
@@ -162,17 +162,26 @@ impl<D: Sectors> Session<D> {
             (IsBetween (D.calls self.old.device) (D.calls self.old.device + calls_of self.old.place command.now)) }
     {
         accepted_commands_fit_records();
-        let Ok(next) = state_after(alloc, &self.state, command) else {
+        let Ok(before) = self.planner.change(alloc, command) else {
             return Err(Denial::OutOfMemory);
         };
-        match commit(alloc, &mut self.device, self.place, command, &next) {
+        match commit(
+            alloc,
+            &mut self.device,
+            self.place,
+            command,
+            self.planner.state(),
+        ) {
             Ok(place) => {
-                self.state = next;
                 self.place = place;
                 Ok(())
             }
-            Err(CommitFault::OutOfMemory) => Err(Denial::OutOfMemory),
+            Err(CommitFault::OutOfMemory) => {
+                self.planner.put_back(before);
+                Err(Denial::OutOfMemory)
+            }
             Err(CommitFault::DeviceFault) => {
+                self.planner.put_back(before);
                 self.is_broken = true;
                 Err(Denial::DeviceFault)
             }
@@ -192,7 +201,7 @@ impl<D: Sectors> Session<D> {
         ensures state { result.now ≡ self.now.state }
         ensures facts { IsState self.now.state }
     {
-        &self.state
+        self.planner.state()
     }
 
     /// Whether the device has failed in a command. Then each command is answered `Broken`, until the device is opened again.

@@ -1,5 +1,9 @@
 //! Stores that are stopped, and what both readings say of them.
 
+ghost use Rattle.std.specs.Prelude.{◌≡◌, ◌+◌, ◌<◌, ◌≤◌, ◌^◌, IfOk, OnOk};
+ghost use Rattle.state_codec.specs.declared.version.Version.TheVariants.{Two};
+ghost use Rattle.state_codec.specs.Limits.{IsRecorded};
+
 use crate::images::held;
 use crate::trouble::Trouble;
 use checkpoint::{Loaded, Place, StoreFault, commit_record, commit_snapshot, format, load_latest};
@@ -51,14 +55,52 @@ fn are_told_alike(
 }
 
 /// A format, two records, a snapshot of the empty state and one more record: 16 device calls.
-pub(crate) fn small_run(alloc: Global, device: &mut MemDevice) -> Result<Place, StoreFault> {
+pub(crate) fn small_run<D: Sectors>(alloc: Global, device: &mut D) -> Result<Place, StoreFault> {
+    let place = formatted(alloc, device)?;
+    let place = recorded(device, place, &Command::Search(3))?;
+    let place = recorded(device, place, &Command::Pin(1, 2))?;
+    let place = saved(alloc, device, place)?;
+    recorded(device, place, &Command::Build)
+}
+
+// The place of a new store.
+fn formatted<D: Sectors>(alloc: Global, device: &mut D) -> Result<Place, StoreFault>
+    ensures place { IfOk result (λ place. place ≡ record { sequence = 1; used = 0 }) }
+    ensures room { OnOk result (8450 ≤ D.len device.new) }
+{
     let Ok(place) = format(alloc, device) else {
         return Err(StoreFault::DeviceFault);
     };
-    let place = commit_record(device, place, &Command::Search(3))?;
-    let place = commit_record(device, place, &Command::Pin(1, 2))?;
-    let place = commit_snapshot(alloc, device, place, &State::Empty)?;
-    commit_record(device, place, &Command::Build)
+    Ok(place)
+}
+
+// The place behind one more record.
+fn recorded<D: Sectors>(
+    device: &mut D,
+    place: Place,
+    command: &Command,
+) -> Result<Place, StoreFault>
+    requires room { 8450 ≤ D.len device.old }
+    requires free { place.used < 256 }
+    requires first { 1 ≤ place.sequence }
+    requires last { place.sequence ≤ 2 ^ 60 }
+    requires recorded { IsRecorded Two command.now }
+    ensures place { IfOk result (λ next. next
+        ≡ record { sequence = place.sequence; used = place.used + 1 }) }
+    ensures room { OnOk result (8450 ≤ D.len device.new) }
+{
+    commit_record(device, place, command)
+}
+
+// The place behind a snapshot of the empty state.
+fn saved<D: Sectors>(alloc: Global, device: &mut D, place: Place) -> Result<Place, StoreFault>
+    requires room { 8450 ≤ D.len device.old }
+    requires first { 1 ≤ place.sequence }
+    requires last { place.sequence < 2 ^ 60 }
+    ensures place { IfOk result (λ next. next ≡ record { sequence = place.sequence + 1; used = 0 }) }
+    ensures room { OnOk result (8450 ≤ D.len device.new) }
+{
+    commit_snapshot(alloc, device, place, &State::Empty)
 }
 
 /// A state with 40 requests of one stop: 1,238 bytes.

@@ -6,7 +6,7 @@
 //! fails.
 #![tactic(auto)]
 
-use planner_cli::{HostFiles, Streams, Watched, run_words};
+use planner_cli::{HostFiles, HostNewFiles, Streams, Watched, run_words};
 use sector_disk::Unknown;
 use std::alloc::{AllocError, Global};
 use std::{fs, io};
@@ -29,12 +29,21 @@ fn main(rt: HostRuntime) -> io::Result<()> {
 // The status that the program ends with.
 fn status_of(rt: &HostRuntime, words: &[&str]) -> u8 {
     let mut files = HostFiles::new(rt);
+    let mut new_files = HostNewFiles::new(rt);
     let streams = Streams {
         input: Watched::new(rt.reader()),
         output: Watched::new(io::writer(rt)),
         errors: rt.stderr(),
     };
-    let (status, _streams) = run_words(rt, Unknown, Unknown, &mut files, streams, words);
+    let (status, _streams) = run_words(
+        rt,
+        Unknown,
+        Unknown,
+        &mut files,
+        &mut new_files,
+        streams,
+        words,
+    );
     status
 }
 

@@ -1,4 +1,4 @@
--- The lists that a step draws from.
+-- The names of requests that pass a test, and the lists that a step draws from.
 use Rattle.std.proofs.Common.{◌≡◌, ℕ, zero, suc, ◌+◌, ◌-◌, ◌<◌, ◌≤◌, ◌==◌, ◌&&◌, not, Bool, true, false, cond, List, [], ◌∷◌, ◌++◌, length, drop, filter, map, Some, None, slice_get, refl, sym, ap, ◌∙◌, inl, inr, arith}
 use Rattle.std.specs.List.{range_with_len}
 use Rattle.std.specs.Option.{option_and_then}
@@ -86,7 +86,7 @@ module _ (test : Request → Bool) where
   name_end names es k all so_far past = sym (append-nil names) ∙ (ap (λ l. names ++ names_where test l) (sym (drop_all k es past)) ∙ so_far)
 
 -- two tests that agree on all requests of a list
-names_same : (f g : Request → Bool) (es : List (ℕ × Request)) → ((k name : ℕ) (r : Request) → slice_get es k ≡ Some (name, r) → f r ≡ g r) → names_where f es ≡ names_where g es
+pub names_same : (f g : Request → Bool) (es : List (ℕ × Request)) → ((k name : ℕ) (r : Request) → slice_get es k ≡ Some (name, r) → f r ≡ g r) → names_where f es ≡ names_where g es
 names_same f g [] same = refl
 names_same f g (e ∷ es) same =
     first_name f e es

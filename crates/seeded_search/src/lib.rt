@@ -1,7 +1,8 @@
 //! A search whose steps are a function of the plans, a seed and the step's number, and the random words that
 //! it goes by.
 //!
-//! `search_steps` is what the command `search` runs (`command_core`), and what a recovery runs again.
+//! `search_steps` makes steps from two plans, `walk_on` those of the command `search` (`command_core`), which a recovery
+//! runs again.
 //! `search_step` is one step, `words` gives the random words of a step, `pick` one of m things by a word.
 //!
 //! Modules, in reading order:
@@ -28,6 +29,7 @@
 //!
 //! What a step of another kind needs too is public: `Walk` with its `Lists` begins, ends and takes a candidate,
 //! `StepWords` gives the words of one step after another, `place_all` recreates, `follow` and `is_near` settle.
+//! A walk may be kept between searches (`command_core`): `walk_on` makes further steps, `plans` copies both plans.
 //!
 //! The definition of a step knows nothing of the code: commands and the journal speak of `step` and `steps`
 //! alone. A step is a function of the plans, deviation, seed and number, so searches may be cut and run
@@ -37,7 +39,8 @@
 //! - `words` are the words `16 step` to `16 step + 15` of the key stream under the seed, by the RFC's block
 //!   function (`steps_are_blocks`); `pick` is `floor(w m / 2^32)`, and each of m things is picked by
 //!   `floor(2^32 / m)` words or by one more (`picks_are_even`); neither takes memory;
-//! - `search_step` and `search_steps` give exactly the plans of `step` and `steps`, or tell want of memory;
+//! - `search_step`, `search_steps` and `walk_on` give exactly the plans of `step` and `steps`, or tell want of
+//!   memory;
 //! - the laws of these: steps add up, however they are cut (`steps_add_up`); plans that pass are walked on to
 //!   such (`steps_keep_passing`); the incumbent never costs more (`incumbents_never_cost_more`); a working
 //!   plan within the deviation stays there (`working_stays_near`).
@@ -62,7 +65,7 @@ pub use laws::{
 };
 pub use lists::Lists;
 pub use operators::place_all;
-pub use search::{Found, search_step, search_steps};
+pub use search::{Found, search_step, search_steps, walk_on};
 pub use stream::{StepWords, words};
 pub use walk::{Walk, is_near};
 

@@ -3,6 +3,7 @@ ghost use Rattle.std.specs.Prelude.{◌≡◌, ◌+◌, ◌<◌, ◌≤◌, ◌^
 ghost use Rattle.plan_audit.specs.Passes.{passes};
 ghost use Rattle.seeded_search.specs.Steps.{walked, step as one_step, steps};
 ghost use Rattle.seeded_search.specs.StepLaws.{BothPass};
+ghost use Rattle.seeded_search.specs.Working.{IsWalk, walked_by};
 
 use crate::stream::StepWords;
 use crate::walk::Walk;
@@ -46,7 +47,6 @@ pub fn search_step(
 }
 
 /// `count` steps of a search, one after another, from step number `step` on, each as `search_step` makes it; the last is below 2^60.
-#[tactic(auto, unfolding(crate::specs::Steps::step, crate::specs::Steps::steps))]
 pub fn search_steps(
     alloc: Global,
     problem: &Problem,
@@ -69,10 +69,33 @@ pub fn search_steps(
         (λ found. BothPass problem.now pins.now.routes
         (walked found.plan.routes found.work.routes)) }
 {
-    let mut walk = Walk::begin(alloc, problem, pins, plan, work)?;
+    let walk = Walk::begin(alloc, problem, pins, plan, work)?;
+    walk_on(alloc, problem, pins, walk, deviation, seed, step, count)?.end(alloc)
+}
+
+/// So many steps of a walk that goes on, from step number `step` on. It is lost where memory is refused.
+#[tactic(auto, unfolding(crate::specs::Steps::step, crate::specs::Steps::steps))]
+pub fn walk_on(
+    alloc: Global,
+    problem: &Problem,
+    pins: &Pins,
+    walk: Walk,
+    deviation: u32,
+    seed: u64,
+    step: u64,
+    count: u64,
+) -> Result<Walk, OutOfMemory>
+    requires walk { IsWalk problem.now pins.now.routes walk }
+    requires first { step < 2 ^ 60 }
+    requires last { step + count ≤ 2 ^ 60 }
+    ensures walked { IfOk result (λ on. walked_by on
+        ≡ steps problem.now pins.now.routes deviation seed step count (walked_by walk)) }
+    ensures walk { IfOk result (λ on. IsWalk problem.now pins.now.routes on) }
+{
+    let mut walk = walk;
     let mut words = StepWords::from_step(seed, step);
     for done in 0..count {
         walk.step(alloc, problem, pins, deviation, &words.next_step())?;
     }
-    walk.end(alloc)
+    Ok(walk)
 }

@@ -130,6 +130,18 @@ impl Walk {
         self.lists.fill(problem, pins, &self.draft)
     }
 
+    /// A copy of both plans. The walk can go on.
+    pub fn plans(&self, alloc: Global) -> Result<Found, OutOfMemory>
+        requires { draft_of self.now.draft ≡ base_of self.now.draft }
+        ensures { IfOk result (λ found. walked found.plan.routes found.work.routes
+            ≡ walked_by self.now) }
+    {
+        Ok(Found {
+            plan: self.incumbent.copy()?,
+            work: self.draft.plan(alloc)?,
+        })
+    }
+
     /// Both plans.
     pub fn end(self, alloc: Global) -> Result<Found, OutOfMemory>
         requires { draft_of self.draft ≡ base_of self.draft }

@@ -1,6 +1,7 @@
 -- what public contracts say
 pub mod Best
 pub mod Course
+pub mod FitsNowhere
 pub mod Insertion
 pub mod Latest
 -- what private functions do

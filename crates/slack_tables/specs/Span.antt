@@ -1,7 +1,10 @@
 -- What bounds the distance that a request adds to a route, without a look at each of its places.
-use Rattle.std.specs.Prelude.{◌≡◌, ℕ, ◌+◌, ◌-◌, ◌^◌, ◌<◌, ◌≤◌, ℤ, pos, ◌+ℤ◌, ◌-ℤ◌, ◌≤ℤ◌, unsigned_abs, List, length, slice_index_or}
+use Rattle.std.specs.Prelude.{◌≡◌, ℕ, ◌+◌, ◌-◌, ◌^◌, ◌<◌, ◌≤◌, ℤ, pos, ◌+ℤ◌, ◌-ℤ◌, ◌≤ℤ◌, unsigned_abs, List, length, None, slice_index_or}
 use Rattle.plan_types.specs.declared.requests.Stop.{Stop}
 use Rattle.nint_dist.specs.Distance.{distance}
+use Rattle.slack_tables.specs.Best.{IsFirstOf}
+use Rattle.slack_tables.specs.Scan.{AddsSingle}
+use Rattle.slack_tables.specs.declared.progress.Limits.{Limits}
 use Rattle.slack_tables.specs.declared.progress.Row.{Row}
 use Rattle.slack_tables.specs.declared.span.Span.{Span}
 use Rattle.slack_tables.specs.declared.span.Nearest.{Nearest}
@@ -95,3 +98,8 @@ pub record AreHome (depot : Stop) (places : List Row) : Type 0 where
 pub record AreLaden (places : List Row) : Type 0 where
   pub step : (k : ℕ) (d : Row) → k + 1 < length places → (slice_index_or places (k + 1) d).at.load ≡ (slice_index_or places k d).at.load +ℤ (slice_index_or places (k + 1) d).at.stop.demand
   pub most : (k : ℕ) (d : Row) → k < length places → (slice_index_or places (length places - 1) d).at.load ≤ℤ (slice_index_or places k d).most_load
+
+-- a single fits nowhere for less than the bound into a route of this span
+abbrev pub RulesOut : Limits → Span → Stop → Stop → ℤ → Type 0
+RulesOut limits span depot s below =
+    (places : List Row) (kept : ℕ) (d : Row) → IsSpan span places → AreLaden places → AreHome depot places → IsFirstOf (AddsSingle limits places s kept below d) None

@@ -2,8 +2,8 @@
 //! it gets.
 //!
 //! `RouteTable::build` makes the table of a route, `try_insert` prices one pair of places, `best_places`
-//! finds the best of all places. The moves (`move_ops`) keep a table for each vehicle, and ask `best_places`
-//! for each request that they put in.
+//! finds the best of all places. The moves (`move_ops`) keep a table for each vehicle, and ask `rules_out` and
+//! then `best_places` for each request that they put in.
 //!
 //! Modules, in reading order:
 //! - `table`: the table, and the passes that fill it.
@@ -15,8 +15,8 @@
 //! - `span`: bounds by which a whole scan is left out.
 //! - `front`, `ways`: what is taken from a table of a route that differs little.
 //!
-//! Specs: `Course` (what the schedule of a route depends on), `Latest`, `Insertion` and `Best` say what
-//! public functions answer; the others follow the modules.
+//! Specs: `Course` (what the schedule of a route depends on), `Latest`, `Insertion`, `Best` and `FitsNowhere` say
+//! what public functions answer; the others follow the modules.
 //!
 //! Source: the forward time slack of routing with time windows (Savelsbergh), in whole numbers and with
 //! rounded distances, which break the triangle inequality.
@@ -39,7 +39,8 @@
 //! - `try_insert`: exactly by how much the new route is longer, or none exactly where it breaks a limit;
 //! - `best_places`: of all places behind the pin where the new route keeps the limits and gets longer by less
 //!   than a bound, the first by distance, pickup place and delivery place; none exactly where there is none;
-//!   without memory. `best_places_are_one`: there is one such answer.
+//!   without memory. `best_places_are_one`: there is one such answer;
+//! - `rules_out`: true only where `best_places` finds none below that bound, wherever the pin ends.
 #![tactic(auto)]
 
 mod closed;

@@ -2,7 +2,7 @@
 //!
 //! A scan goes over the places of the pickup, and for each over those of the delivery. Most are left out
 //! before a root is taken:
-//! - by the span of the route, the whole scan (`span`);
+//! - by the span of the route, the whole scan, before it is asked for (`rules_out` of `table`);
 //! - by times from below, places of the pickup where it, or the stop behind it, comes too late (`closed`);
 //! - by prices from below, a place of the pickup where each place of the delivery adds the bound or more, and
 //!   a place of a single likewise;
@@ -12,7 +12,7 @@
 //! (`legs`), for routes of up to 128 places with the depot's; in longer ones none are kept. So a scan takes
 //! no memory.
 
-ghost use Rattle.std.specs.Prelude.{◌≡◌, ◌+◌, ◌^◌, ◌-◌, ◌≤◌, ◌<◌, pos, ◌+ℤ◌, ◌-ℤ◌, ◌≤ℤ◌, All, IfSome, IsTrue, length, slice_index_or, unsigned_abs};
+ghost use Rattle.std.specs.Prelude.{◌≡◌, ◌+◌, ◌^◌, ◌-◌, ◌≤◌, ◌<◌, pos, ◌+ℤ◌, ◌-ℤ◌, ◌≤ℤ◌, All, IfSome, IsTrue, true, length, slice_index_or, unsigned_abs};
 ghost use Rattle.plan_types.specs.Limits.{IsVisit};
 ghost use Rattle.nint_dist.specs.Distance.{distance};
 ghost use Rattle.slack_tables.specs.declared.progress.Row.{Row};
@@ -21,7 +21,7 @@ ghost use Rattle.slack_tables.specs.Closed.{AreTight};
 ghost use Rattle.slack_tables.specs.Driven.{IsSmall, IsSmallRow};
 ghost use Rattle.slack_tables.specs.Legs.{AreLeast, AreLinked, AreRising};
 ghost use Rattle.slack_tables.specs.Walk.{IsTrip, IsUnderway, IsNearWay};
-ghost use Rattle.slack_tables.specs.Span.{AreHome, AreLaden, IsSpan};
+ghost use Rattle.slack_tables.specs.Span.{IsSmallSpan, RulesOut};
 ghost use Rattle.slack_tables.specs.Ride.{IsSmallRide, IsNearRide};
 ghost use Rattle.slack_tables.specs.Scan.{AddsSingle, AddsPair, AddsDelivery, AreDear, IsNearUnderway, served_single, picked_up, gone_on, none_below, offered, accepted};
 
@@ -93,30 +93,37 @@ impl Best {
     }
 }
 
+/// Whether a route's span tells that a single fits nowhere into the route for less than `below`.
+#[inline(always)]
+pub(crate) fn rules_out_single(
+    limits: Limits,
+    span: &Span,
+    depot: &Stop,
+    stop: &Stop,
+    below: i64,
+) -> bool
+    requires small { IsSmallSpan span.now }
+    ensures { result ≡ true → RulesOut limits span.now depot.now stop.now below }
+{
+    if span.is_full(limits, stop) {
+        return true;
+    }
+    span.is_far_single(depot, stop, below)
+}
+
 /// The best place of a single behind the first `kept` stops.
 pub(crate) fn best_single(
     limits: Limits,
     places: &[Row],
-    span: &Span,
-    depot: &Stop,
     stop: &Stop,
     kept: usize,
     below: i64,
 ) -> Option<Addition>
     requires places { All IsSmallRow places.now }
-    requires laden { AreLaden places.now }
-    requires span { IsSpan span.now places.now }
-    requires home { AreHome depot.now places.now }
     requires stop { IsVisit stop.now }
     requires kept { kept + 2 ≤ length places.now }
     ensures { (d : Row) → IsFirstOf (AddsSingle limits places.now stop.now kept below d) result }
 {
-    if span.is_full(limits, stop) {
-        return None;
-    }
-    if span.is_far_single(depot, stop, below) {
-        return None;
-    }
     let mut best = Best::none_below(below);
     let mut to = least_leg_at(places, kept, stop);
     for i in kept + 1..places.len() {
@@ -169,8 +176,6 @@ fn single_at(
 pub(crate) fn best_pair(
     limits: Limits,
     places: &[Row],
-    span: &Span,
-    depot: &Stop,
     pickup: &Stop,
     delivery: &Stop,
     kept: usize,
@@ -181,17 +186,12 @@ pub(crate) fn best_pair(
     requires rising { AreRising places.now }
     requires tight { AreTight limits.kind places.now }
     requires few { length places.now ≤ 40003 }
-    requires span { IsSpan span.now places.now }
-    requires home { AreHome depot.now places.now }
     requires pickup { IsVisit pickup.now }
     requires delivery { IsVisit delivery.now }
     requires kept { kept + 2 ≤ length places.now }
     ensures { (d : Row) → IsFirstOf
         (AddsPair limits places.now pickup.now delivery.now kept below d) result }
 {
-    if span.is_far_pair(depot, pickup, delivery, below) {
-        return None;
-    }
     let first = first_open(limits, places, pickup, kept);
     if first == places.len() {
         return None;

@@ -22,7 +22,7 @@ ghost use Rattle.slack_tables.specs.Legs.{AreLinked};
 use crate::front::{behind_front, copy_front, same_front};
 use crate::insertion::{pair_added, single_added};
 use crate::progress::{Limits, Progress, Row, driven_on, keeps};
-use crate::scan::{Addition, best_pair, best_single};
+use crate::scan::{Addition, best_pair, best_single, rules_out_single};
 use crate::slack::fill_slack;
 use crate::span::Span;
 use crate::ways::place_seen;
@@ -64,6 +64,7 @@ impl RouteTable {
     ghost use Rattle.slack_tables.specs.Course.{course_of, route_of, IsCourseIn};
     ghost use Rattle.slack_tables.specs.Insertion.{inserted, ArePlaces, KeepsLimits, IsAdded};
     ghost use Rattle.slack_tables.specs.Best.{IsBestAddition};
+    ghost use Rattle.slack_tables.specs.FitsNowhere.{FitsNowhere};
 
     /// The table of a route of live, distinct stops that keeps the capacity and the windows.
     pub fn build(alloc: Global, problem: &Problem, route: &[u32]) -> Result<RouteTable, OutOfMemory>
@@ -233,12 +234,29 @@ impl RouteTable {
         }
     }
 
+    /// Whether a look at the route's extent and load tells that a request fits nowhere for less than `below`; where it doesn't,
+    /// `best_places` may still find none.
+    #[inline(always)]
+    pub fn rules_out(&self, request: &Request, below: i64) -> bool
+        ensures { result ≡ true → FitsNowhere self.now request.now below }
+    {
+        requests_are_found_by_stop();
+        match request {
+            Request::Single(stop) => {
+                rules_out_single(self.limits, &self.span, &self.depot, stop, below)
+            }
+            Request::Pair(pickup, delivery) => {
+                self.span.is_far_pair(&self.depot, pickup, delivery, below)
+            }
+        }
+    }
+
     /// The places at which a request adds the least distance to the route, its pickup or single
     /// behind the first `kept` stops; `None` where it fits nowhere for less than `below`. Of places
     /// that add the same the earliest by the pickup, then by the delivery. Takes no memory.
     ///
     /// This is what `try_insert` answers at the best of all places, in a problem that has the
-    /// request and the route's stops.
+    /// request and the route's stops. Ask `rules_out` first: it is far quicker where the answer is `None`.
     pub fn best_places(&self, request: &Request, kept: u64, below: i64) -> Option<Addition>
         requires request { IsRequest request.now }
         requires kept { kept ≤ length self.now.stops }
@@ -250,21 +268,11 @@ impl RouteTable {
         let places = self.places.as_slice();
         match request {
             Request::Single(stop) => {
-                best_single(
-                    self.limits,
-                    places,
-                    &self.span,
-                    &self.depot,
-                    stop,
-                    kept as usize,
-                    below,
-                )
+                best_single(self.limits, places, stop, kept as usize, below)
             }
             Request::Pair(pickup, delivery) => best_pair(
                 self.limits,
                 places,
-                &self.span,
-                &self.depot,
                 pickup,
                 delivery,
                 kept as usize,

@@ -290,12 +290,15 @@ fn line(alloc: Global) -> Result<Problem, Fail> {
     Ok(problem)
 }
 
-// Three customers more, the last of them with as much as the vehicle has room for.
+// Four customers more, one of them with as much as the vehicle has room for, and one far off the line, as is a pair.
 fn long_line(alloc: Global) -> Result<Problem, Fail> {
     let mut problem = line(alloc)?;
     problem.put(single(6, (5, 0), 1, 100))?;
     problem.put(single(7, (12, 0), 1, 100))?;
     problem.put(single(8, (12, 0), 8, 100))?;
+    problem.put(single(9, (20, 1000), 1, 100))?;
+    let pickup = stop_at(10, (20, 1000), 1, 100, 0);
+    problem.put(Request::Pair(pickup, stop_at(11, (20, 990), -1, 100, 0)))?;
     Ok(problem)
 }
 
@@ -315,6 +318,34 @@ fn finds_the_best_place_of_a_single(rt: HostRuntime) -> Result<(), Fail> {
     ] {
         let best = best_of(rt.alloc(), &problem, &[1, 2, 3], name, (kept, 100))?;
         assert_eq!(rt; best, Some(want), "the best place of {name} behind {kept}");
+    }
+    Ok(())
+}
+
+// What `rules_out` answers, `None` where no request has the name.
+fn ruled_out(problem: &Problem, table: &RouteTable, name: u32, below: i64) -> Option<bool> {
+    let request = problem.requests.get(&name)?;
+    Some(table.rules_out(request, below))
+}
+
+// The way over stop 9 adds 1,970 at least, and so does that over stops 10 and 11; stop 8 brings too much wherever it stands.
+#[test]
+fn rules_requests_out(rt: HostRuntime) -> Result<(), Fail> {
+    let problem = long_line(rt.alloc())?;
+    let Some(table) = table_of(rt.alloc(), &problem, &[1, 2, 3])? else {
+        return Err(Fail::from("the route does not fit"));
+    };
+    for (name, below, want) in [
+        (9, 1_000, true),
+        (9, 1_971, false),
+        (8, i64::MAX, true),
+        (7, 1, false),
+        (4, 1, false),
+        (10, 1_000, true),
+        (10, 1_971, false),
+    ] {
+        let told = ruled_out(&problem, &table, name, below);
+        assert_eq!(rt; told, Some(want), "{name} below {below}");
     }
     Ok(())
 }

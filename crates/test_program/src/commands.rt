@@ -3,8 +3,8 @@
 use crate::solving::SIX;
 use command_core::{Command, Job, Refusal, State, apply};
 use command_text::{
-    Answer, Asked, FirstWord, Goal, Steps, at_line, next_command, next_line, print, read_instance,
-    read_line, show, steps_to_make,
+    Answer, Asked, FirstWord, Goal, Question, Steps, at_line, next_command, next_line, print,
+    read_instance, read_line, show, steps_to_make,
 };
 use instance_read::{ReadFault, ReadFaultKind};
 use plan_types::Kind;
@@ -13,10 +13,10 @@ use std::process::Abort;
 use std::test::Fail;
 
 /// Two pairs, each of which alone can be served with the other.
-const TWO_PAIRS: &[u8] =
+pub(crate) const TWO_PAIRS: &[u8] =
     b"1 10 1\n0 0 0 0 0 100 0 0 0\n1 1 1 1 0 50 0 0 2\n2 1 1 -1 0 50 0 1 0\n3 2 2 1 0 2 0 0 4\n4 2 2 -1 0 50 0 3 0\n";
 
-const THREE_CUSTOMERS: &[u8] =
+pub(crate) const THREE_CUSTOMERS: &[u8] =
     b"NAME : t3\nTYPE : CVRP\nDIMENSION : 4\nEDGE_WEIGHT_TYPE : EUC_2D\nCAPACITY : 10\nNODE_COORD_SECTION\n1 0 0\n2 3 4\n3 6 8\n4 0 5\nDEMAND_SECTION\n1 0\n2 6\n3 4\n4 5\nDEPOT_SECTION\n1\n-1\nEOF\n";
 
 // What is asked for, in a word, and the first number of it.
@@ -32,6 +32,7 @@ fn summary(asked: &Asked) -> (&'static str, u64) {
         Asked::Steps(goal) => goal_summary(*goal),
         Asked::Print => ("print", 0),
         Asked::Show => ("show", 0),
+        Asked::Tell(question) => question_summary(*question),
         Asked::Next => ("next", 0),
         Asked::Help => ("help", 0),
     }
@@ -43,6 +44,14 @@ fn goal_summary(goal: Goal) -> (&'static str, u64) {
         Goal::Reach(number) => ("reach", number),
         Goal::Anneal(steps) => ("anneal", u64::from(steps)),
         Goal::Stages { to, .. } => ("anneal to", to),
+    }
+}
+
+fn question_summary(question: Question) -> (&'static str, u64) {
+    match question {
+        Question::Timetable => ("timetable", 0),
+        Question::VehicleTimetable(vehicle) => ("timetable", u64::from(vehicle)),
+        Question::Why(name) => ("why", u64::from(name)),
     }
 }
 
@@ -65,7 +74,7 @@ fn command_summary(command: &Command) -> (&'static str, u64) {
 /// A line, the word for what it asks, and the first number of that.
 type Reading = (&'static [u8], &'static str, u64);
 
-const READINGS: [Reading; 61] = [
+const READINGS: [Reading; 68] = [
     (b"", "nothing", 0),
     (b" \t ", "nothing", 0),
     (b"\r", "bad line", 0),
@@ -79,6 +88,13 @@ const READINGS: [Reading; 61] = [
     (b"print", "print", 0),
     (b"show now", "bad line", 0),
     (b"show", "show", 0),
+    (b"timetable", "timetable", 0),
+    (b"timetable 3", "timetable", 3),
+    (b"timetable -1", "Range", 0),
+    (b"timetable 1 2", "bad line", 0),
+    (b"why 7", "why", 7),
+    (b"why", "bad line", 0),
+    (b"why 4294967296", "NoSuchRequest", 0),
     (b"next", "next", 0),
     (b"next 1", "bad line", 0),
     (b" help", "help", 0),
@@ -224,7 +240,7 @@ fn writes_answers(rt: HostRuntime) {
     check_answers(&rt, &ANSWERS);
 }
 
-fn loaded(alloc: Global, kind: Kind, text: &[u8]) -> Result<State, Fail> {
+pub(crate) fn loaded(alloc: Global, kind: Kind, text: &[u8]) -> Result<State, Fail> {
     seeded(alloc, kind, text, 0)
 }
 
@@ -251,12 +267,12 @@ fn first_of(steps: Steps, state: &State) -> Result<Command, Fail> {
 }
 
 // What a line makes of a state.
-fn after(alloc: Global, state: &State, line: &[u8]) -> Result<State, Fail> {
+pub(crate) fn after(alloc: Global, state: &State, line: &[u8]) -> Result<State, Fail> {
     let command = command_of(line, state)?;
     Ok(apply(alloc, state, &command).ok().ok_or("accepted")?)
 }
 
-fn job_of(state: &State) -> Result<&Job, Fail> {
+pub(crate) fn job_of(state: &State) -> Result<&Job, Fail> {
     match state {
         State::Loaded(job) => Ok(job),
         State::Empty => Err("a job".into()),

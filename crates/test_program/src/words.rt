@@ -8,7 +8,7 @@ use std::process::Abort;
 use std::test::Fail;
 
 /// Words, and what they ask for, as `Debug` has it.
-const READINGS: [(&[&str], &str); 13] = [
+const READINGS: [(&[&str], &str); 17] = [
     (&["planner"], "BuiltIn"),
     (
         &["planner", "audit", "vrp", "a b.vrp", "c.sol"],
@@ -48,7 +48,23 @@ const READINGS: [(&[&str], &str); 13] = [
     ),
     (
         &["planner", "draw", "lilim", "a.txt", "b.sol"],
-        "Draw(Paths { kind: LiLim, instance: \"a.txt\", solution: \"b.sol\" })",
+        "Draw { paths: Paths { kind: LiLim, instance: \"a.txt\", solution: \"b.sol\" }, route: None }",
+    ),
+    (
+        &["planner", "draw", "vrp", "a.vrp", "b.sol", "4294967295"],
+        "Draw { paths: Paths { kind: Vrp, instance: \"a.vrp\", solution: \"b.sol\" }, route: Some(4294967295) }",
+    ),
+    (
+        &["planner", "draw", "lilim"],
+        "DrawStore { store: \"lilim\" }",
+    ),
+    (
+        &["planner", "solves", "lilim", "a.list", "1000000000"],
+        "Solves(Tasks { kind: LiLim, list: \"a.list\", steps: 1000000000, seed: 0 })",
+    ),
+    (
+        &["planner", "solves", "vrp", "-", "0", "18446744073709551615"],
+        "Solves(Tasks { kind: Vrp, list: \"-\", steps: 0, seed: 18446744073709551615 })",
     ),
     (
         &["planner", "timetable", "lilim"],
@@ -77,7 +93,7 @@ fn reads_words(rt: HostRuntime) -> Result<(), Fail> {
     check_readings(&rt, &READINGS)
 }
 
-const REFUSALS: [(&[&str], ErrorKind); 22] = [
+const REFUSALS: [(&[&str], ErrorKind); 31] = [
     (
         &["planner", "audit", "lilim", "a"],
         ErrorKind::MissingRequiredArgument,
@@ -119,6 +135,36 @@ const REFUSALS: [(&[&str], ErrorKind); 22] = [
     ),
     (
         &["planner", "solve", "vrp", "a", "1", "2", "3", "4"],
+        ErrorKind::UnknownArgument,
+    ),
+    (
+        &["planner", "solves", "lilim", "a.list"],
+        ErrorKind::MissingRequiredArgument,
+    ),
+    (
+        &["planner", "solves", "lilim", "a.list", "1000000001"],
+        ErrorKind::InvalidValue,
+    ),
+    (
+        &["planner", "solves", "vrp", "a.list", "1", "2", "3"],
+        ErrorKind::UnknownArgument,
+    ),
+    (&["planner", "draw"], ErrorKind::MissingRequiredArgument),
+    (&["planner", "draw", "lilim", "a"], ErrorKind::InvalidValue),
+    (
+        &["planner", "draw", "Vrp", "a", "b"],
+        ErrorKind::InvalidValue,
+    ),
+    (
+        &["planner", "draw", "vrp", "a", "b", "4294967296"],
+        ErrorKind::InvalidValue,
+    ),
+    (
+        &["planner", "draw", "vrp", "a", "b", "first"],
+        ErrorKind::InvalidValue,
+    ),
+    (
+        &["planner", "draw", "vrp", "a", "b", "1", "2"],
         ErrorKind::UnknownArgument,
     ),
     (&["planner", "check"], ErrorKind::InvalidSubcommand),

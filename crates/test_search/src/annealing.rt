@@ -194,6 +194,7 @@ const BUILT: &[u32] = &[
 const BUILT_PAIRS: &[u32] = &[1, 2, 3, 4, 9, 10, 0, 5, 11, 12, 6, 7, 8, 0, 0, 0, 0, 0];
 
 const TRACES: [Example; 8] = [
+    // Of its first five routes 2 1 3, 6 5 4, 8 7 11, 10 9 and 12 the strings take 3, 6 and 4 around the kept 5, 8 7, the whole 10 9 and 12.
     (
         Planned::Customers(CUSTOMERS),
         &[],

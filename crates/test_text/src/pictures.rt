@@ -1,7 +1,7 @@
 //! Plans as pictures.
 
 use plan_audit::Verdict;
-use plan_picture::draw;
+use plan_picture::{draw, draw_route};
 use plan_types::{Cost, Kind, Problem, Request, Route, Stop};
 use std::alloc::Global;
 use std::test::Fail;
@@ -19,7 +19,7 @@ fn stop_at(number: u32, x: i32, y: i32, demand: i32, latest: u32) -> Stop {
 }
 
 // A pickup at (3, 4) and its delivery at (6, 8), with the depot at (0, 0). The greater side is 8 long, so the scale is
-// 4000 / 8 = 500 and the unit 500 * 8 / 400 = 10.
+// 4000 / 8 = 500, the unit 500 * 8 / 400 = 10, and the room on each side 12 * 10.
 fn one_pair(alloc: Global) -> Result<Problem, Fail> {
     let depot = Stop {
         service: 0,
@@ -32,13 +32,29 @@ fn one_pair(alloc: Global) -> Result<Problem, Fail> {
     Ok(problem)
 }
 
-// The picture of one route.
+// The picture of a plan of one route.
 fn drawn(alloc: Global, stops: &[u32], verdict: Verdict) -> Result<String, Fail> {
     let problem = one_pair(alloc)?;
     let mut route = Route::new(alloc);
     route.extend_from_slice(stops)?;
     let svg = draw(alloc, &problem, &[route], verdict)?;
     Ok(String::from_utf8(svg)?)
+}
+
+// The picture of the route with this number of such a plan, empty where there is none.
+fn drawn_route(
+    alloc: Global,
+    stops: &[u32],
+    verdict: Verdict,
+    number: u64,
+) -> Result<String, Fail> {
+    let problem = one_pair(alloc)?;
+    let mut route = Route::new(alloc);
+    route.extend_from_slice(stops)?;
+    match draw_route(alloc, &problem, &[route], verdict, number)? {
+        Some(svg) => Ok(String::from_utf8(svg)?),
+        None => Ok(String::new(alloc)),
+    }
 }
 
 // The first line that the text has not.
@@ -61,17 +77,16 @@ fn draws_a_pair(rt: HostRuntime) -> Result<(), Fail> {
     let text = drawn(rt.alloc(), &[1, 2], Verdict::Pass(cost))?;
     // The vehicle arrives at 5, leaves at 7, arrives at 12, which is 1 too late, leaves at 14 and is back at 24.
     let lines = [
-        ">unplanned 0, vehicles 1, distance 20</text>\n",
-        "viewBox='0 0 3200 4200' font-size='10'>\n",
-        "<polyline stroke='hsl(137,75%,34%)' points=' 100,4100 1600,2100 3100,100 100,4100'/>\n",
-        "<use href='#depot' x='100' y='4100'><title>0</title></use>\n",
-        "<use href='#pickup' x='1600' y='2100'><title>1</title></use>\n",
-        "<use href='#delivery' x='3100' y='100'><title>2</title></use>\n<g text-anchor='middle'",
-        "<text dy='-4em' x='3100' y='100' fill='hsl(137,75%,34%)'><tspan font-size='8em'>1</tspan></text>\n",
-        "<text x='24' y='12'>route 1: stops 2, load 4, distance 20</text></g>\n",
-        "<rect class='drive' y='3' height='8' x='7' width='5'/>\n<rect class='serve' y='3' height='8' x='12' width='2'/>\n",
-        "<rect class='window' y='13' height='3' x='0' width='11'/>\n<rect class='late' y='13' height='3' x='11' width='1'/>\n",
-        "<rect class='drive' y='3' height='8' x='14' width='10'/>\n</g>\n</svg>\n</svg>\n",
+        ">unplanned 0, vehicles 1, distance 20</text>\n<svg",
+        "viewBox='0 0 3240 4240' font-size='10'>\n",
+        "<g class='pairs'>\n<polyline points=' 1620,2120 3120,120'/>\n</g>\n",
+        "<g stroke='hsl(137,75%,34%)'>\n<polyline class='depot' points=' 120,4120 1020,2920 1620,2120'/>\n<polyline points=' 1620,2120 2520,920 3120,120'/>\n<polyline class='depot' points=' 3120,120 1320,2520 120,4120'/>\n</g>\n",
+        "<use href='#depot' x='120' y='4120'><title>0</title></use>\n<use href='#pickup' x='1620' y='2120'><title>1</title></use>\n<use href='#delivery' x='3120' y='120'><title>2</title></use>\n<g text-anchor='middle'>\n",
+        "<rect rx='1em' x='3085' y='25' width='70' height='60' fill='hsl(137,75%,34%)'/>\n<text class='badge' x='3120' y='73'>1</text>\n<text class='number' x='1620' y='2085'>1</text>\n<text class='number' x='3163' y='135'>2</text>\n</g>\n</svg>\n",
+        "<text y='13'><tspan x='70'>1</tspan><tspan x='130'>2</tspan><tspan x='200'>4</tspan><tspan x='290'>20</tspan></text><g class='heading'>",
+        "<text y='1106' x='404'>10</text>\n<rect fill='#ddd' y='1112' width='1' x='488' height='30'/>\n<text y='1106' x='488'>20</text>\n",
+        "<rect class='drive' y='10' height='7' x='7' width='5'/>\n<rect class='serve' y='10' height='7' x='12' width='2'/>\n<rect class='window' y='18' height='2' x='0' width='11'/>\n<rect class='late' y='18' height='2' x='11' width='1'/>\n",
+        "<text class='at' y='8' x='420'>2</text>\n<text class='time' y='28' x='420'>12</text>\n<text class='at' y='8' x='521'>0</text>\n<text class='time' y='28' x='521'>24</text>\n</g>\n</g>\n</svg>\n",
     ];
     assert_eq!(rt; missing(text.as_str(), &lines), None);
     Ok(())
@@ -85,14 +100,34 @@ fn draws_what_is_broken(rt: HostRuntime) -> Result<(), Fail> {
         place: 3,
         stop: 1,
     };
-    // Stop 7 is unknown, and stop 1 stands twice.
-    let text = drawn(rt.alloc(), &[1, 7, 1, 2], verdict)?;
+    // Stop 7 is unknown, stop 1 stands twice, and stop 2 nowhere.
+    let text = drawn(rt.alloc(), &[1, 7, 1], verdict)?;
     let lines = [
-        ">broken: rule 2, route 1, place 3, stop 1</text>\n",
-        "<polyline class='broken' stroke='hsl(137,75%,34%)' points=' 100,4100 1600,2100 3100,100 100,4100'/>\n",
-        "<use href='#broken' x='1600' y='2100'><title>1</title></use>\n",
-        "<text x='24' y='12' class='broken'>route 1: stops 2, load 4, distance 20</text></g>\n",
+        ">broken rule 2, visited twice, route 1, place 3, stop 1</text>\n",
+        ">unserved stops, ringed: 1</text>\n",
+        "<g class='broken' stroke='hsl(137,75%,34%)'>\n<polyline class='depot' points=' 120,4120 1020,2920 1620,2120'/>\n<polyline class='depot' points=' 1620,2120 720,3320 120,4120'/>\n</g>\n",
+        "<use href='#unserved' x='3120' y='120'><title>2</title></use>\n<use href='#broken' x='1620' y='2120'><title>1</title></use>\n",
+        "<text y='13' class='broken'><tspan x='70'>1</tspan><tspan x='130'>1</tspan>",
     ];
     assert_eq!(rt; missing(text.as_str(), &lines), None);
+    Ok(())
+}
+
+#[test]
+fn draws_one_route(rt: HostRuntime) -> Result<(), Fail> {
+    let verdict = Verdict::Broken {
+        rule: 7,
+        route: 1,
+        place: 2,
+        stop: 2,
+    };
+    let title =
+        ">route 1 of 1, of the plan: broken rule 7, late service, route 1, place 2, stop 2, starts at 12, latest 11</text>\n";
+    let text = drawn_route(rt.alloc(), &[1, 2], verdict, 1)?;
+    assert_eq!(rt; missing(text.as_str(), &[title]), None);
+    let before = drawn_route(rt.alloc(), &[1, 2], verdict, 0)?;
+    assert_eq!(rt; before.len(), 0);
+    let beyond = drawn_route(rt.alloc(), &[1, 2], verdict, 2)?;
+    assert_eq!(rt; beyond.len(), 0);
     Ok(())
 }

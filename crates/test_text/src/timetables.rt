@@ -117,15 +117,50 @@ fn leaves_idle_vehicles_out(rt: HostRuntime) -> Result<(), Fail> {
     let rows = [
         (
             Form::Columns,
-            "\nvehicle 2: stops 2, distance 6, load 1, start 3, return 6, waiting 0\n place  stop  kind      partner  arrival    start  waiting   latest     load\n     1     3  pickup          4        3        3        0       50        1\n     2     4  delivery        3        3        3        0       50        0 pin\n     3     0  return          -        6        6        0      100        0\n\nunplanned 1\n",
+            "\nvehicle 2: stops 2, distance 6, load 1, start 3, return 6, waiting 0\n place  stop  kind      partner  arrival    start  waiting   latest     load\n     1     3  pickup          4        3        3        0       50        1\n     2     4  delivery        3        3        3        0       50        0 pin\n     3     0  return          -        6        6        0      100        0\n\nunplanned 1\nwhy 1: alone: a vehicle can serve it\nwhy 1: vehicle 2: fits at places 1 and 4\nwhy 1: fleet: 1 of 2 vehicles are used\n",
         ),
         (
             Form::Tabs,
-            "vehicle\t2\t2\t6\t1\t3\t6\t0\nstop\t2\t1\t3\tpickup\t4\t3\t3\t0\t50\t1\t-\nstop\t2\t2\t4\tdelivery\t3\t3\t3\t0\t50\t0\tpin\nstop\t2\t3\t0\treturn\t-\t6\t6\t0\t100\t0\t-\nunplanned\t1\n",
+            "vehicle\t2\t2\t6\t1\t3\t6\t0\nstop\t2\t1\t3\tpickup\t4\t3\t3\t0\t50\t1\t-\nstop\t2\t2\t4\tdelivery\t3\t3\t3\t0\t50\t0\tpin\nstop\t2\t3\t0\treturn\t-\t6\t6\t0\t100\t0\t-\nunplanned\t1\nwhy\t1\talone: a vehicle can serve it\nwhy\t1\tvehicle 2: fits at places 1 and 4\nwhy\t1\tfleet: 1 of 2 vehicles are used\n",
         ),
     ];
     for (form, want) in rows {
         let text = told(rt.alloc(), Kind::LiLim, TWO_PAIRS, solution, &[1], form)?;
+        assert_eq!(rt; text.as_str(), want);
+    }
+    Ok(())
+}
+
+/// A pair that is on time and one that no vehicle can serve: stop 3 lies 10 from the depot, and is due at 8.
+const ONE_TOO_FAR: &[u8] =
+    b"1 10 1\n0 0 0 0 0 100 0 0 0\n1 3 4 4 0 50 2 0 2\n2 6 8 -4 0 60 2 1 0\n3 0 10 1 0 8 0 0 4\n4 0 10 -1 0 50 0 3 0\n";
+
+/// The vehicle is late by 2 already, and so it is with the other pair behind stop 3.
+const LATE: &[u8] = b"Route #1: 3 4\nCost 20\n";
+
+#[test]
+fn tells_why_a_request_is_left_out(rt: HostRuntime) -> Result<(), Fail> {
+    let rows: [(&[u8], u32, &str); 2] = [
+        (
+            BOTH,
+            3,
+            "vehicle\t1\t2\t20\t4\t5\t24\t0\nstop\t1\t1\t1\tpickup\t2\t5\t5\t0\t50\t4\t-\nstop\t1\t2\t2\tdelivery\t1\t12\t12\t0\t60\t0\tpin\nstop\t1\t3\t0\treturn\t-\t24\t24\t0\t100\t0\t-\nunplanned\t3\nwhy\t3\talone: stop 3 starts at 10, latest 8\n",
+        ),
+        (
+            LATE,
+            1,
+            "vehicle\t1\t2\t20\t1\t10\t20\t0\nstop\t1\t1\t3\tpickup\t4\t10\t10\t0\t-\t1\t-\nstop\t1\t2\t4\tdelivery\t3\t10\t10\t0\t-\t0\t-\nstop\t1\t3\t0\treturn\t-\t20\t20\t0\t-\t0\t-\nunplanned\t1\nwhy\t1\talone: a vehicle can serve it\nwhy\t1\tvehicle 1: stop 3 would start 2 late\nwhy\t1\tfleet: 1 of 1 vehicles are used\n",
+        ),
+    ];
+    for (solution, name, want) in rows {
+        let text = told(
+            rt.alloc(),
+            Kind::LiLim,
+            ONE_TOO_FAR,
+            solution,
+            &[name],
+            Form::Tabs,
+        )?;
         assert_eq!(rt; text.as_str(), want);
     }
     Ok(())

@@ -1,6 +1,6 @@
 //! Other routes for vehicles of a draft, in memory that others left; the cost goes with them.
 // Other routes for vehicles of a draft.
-ghost use Rattle.std.specs.Prelude.{◌≡◌, ◌≤◌, ◌^◌, true, All, IfSome, IfOk, OnOk, length};
+ghost use Rattle.std.specs.Prelude.{◌≡◌, ◌≤◌, ◌^◌, true, All, IfSome, IfOk, OnOk, OnErr, length};
 ghost use Rattle.move_ops.specs.Pairing.{are_paired};
 ghost use Rattle.move_ops.specs.Refreshing.{AreWithin};
 ghost use Rattle.slack_tables.specs.Course.{course_of, route_of};
@@ -38,70 +38,67 @@ impl Draft {
         ensures draft { IfOk result (λ made.
             IsMade (option_map (λ cs. with_routes (draft_of self.old) cs.items) changes) made
             self.old self.new) }
+        ensures err { OnErr result (self.new ≡ self.old) }
     {
         match changes {
             Some(changes) => {
                 let tours = self.new_tours(problem, &changes)?;
-                self.install(problem, pins, tours, unplanned)?;
+                self.install(problem, pins, tours, unplanned);
                 Ok(true)
             }
             None => Ok(false),
         }
     }
 
-    /// Gives some vehicles other tours.
+    /// Gives some vehicles other tours. Takes no memory.
     pub(crate) fn install(
         &mut self,
         problem: &Problem,
         pins: &Pins,
         tours: Vec<(u32, Tour)>,
         unplanned: u64,
-    ) -> Result<(), OutOfMemory>
+    )
         requires is { IsDraftOf problem.now pins.now.routes self.old }
         requires courses { AreCourses problem.now tours.items }
         requires change { IsChange problem.now pins.now.routes
             (draft_of self.old) (changes_of tours.items) unplanned }
-        ensures is { OnOk result (IsDraftOf problem.now pins.now.routes self.new) }
-        ensures base { OnOk result (base_of self.new ≡ base_of self.old) }
-        ensures draft { OnOk result (draft_of self.new
-            ≡ with_routes (draft_of self.old) (changes_of tours.items)) }
+        ensures is { IsDraftOf problem.now pins.now.routes self.new }
+        ensures base { base_of self.new ≡ base_of self.old }
+        ensures draft { draft_of self.new
+            ≡ with_routes (draft_of self.old) (changes_of tours.items) }
     {
         passes_are_local();
         numbers_are_below_the_next();
-        let distance = self.set_tours(problem, tours)?;
+        let distance = self.set_tours(problem, tours);
         self.cost = Cost {
             unplanned,
             vehicles: vehicle_count(problem.kind, &self.tours, self.front),
             distance,
         };
-        Ok(())
     }
 
     // Answers how far all vehicles drive then.
-    fn set_tours(&mut self, problem: &Problem, tours: Vec<(u32, Tour)>) -> Result<u64, OutOfMemory>
+    fn set_tours(&mut self, problem: &Problem, tours: Vec<(u32, Tour)>) -> u64
         requires tables { AreTablesIn problem.now self.old.tours }
         requires within { AreWithin (length self.old.tours) tours.items }
         requires courses { AreCourses problem.now tours.items }
         requires distance { self.old.cost.distance ≡ total_length problem.now (draft_of self.old) }
         requires small { total_length problem.now
             (with_routes (draft_of self.old) (changes_of tours.items)) ≤ 2 ^ 63 }
-        ensures tables { OnOk result (AreTablesIn problem.now self.new.tours) }
-        ensures plan { OnOk result (draft_of self.new
-            ≡ with_routes (draft_of self.old) (changes_of tours.items)) }
-        ensures base { OnOk result (undone self.new.tours self.new.log
-            ≡ undone self.old.tours self.old.log) }
-        ensures distance { IfOk result (λ distance.
-            distance ≡ total_length problem.now (draft_of self.new)) }
-        ensures pinned { OnOk result (self.new.pinned ≡ self.old.pinned) }
-        ensures base_cost { OnOk result (self.new.base_cost ≡ self.old.base_cost) }
+        ensures tables { AreTablesIn problem.now self.new.tours }
+        ensures plan { draft_of self.new ≡ with_routes (draft_of self.old) (changes_of tours.items) }
+        ensures base { undone self.new.tours self.new.log ≡ undone self.old.tours self.old.log }
+        ensures distance { result ≡ total_length problem.now (draft_of self.new) }
+        ensures pinned { self.new.pinned ≡ self.old.pinned }
+        ensures base_cost { self.new.base_cost ≡ self.old.base_cost }
     {
         let mut driven = u128::from(self.cost.distance);
         for (vehicle, tour) in tours {
             driven += u128::from(tour.table().distance());
             driven -= u128::from(self.distance_of(problem, vehicle));
-            self.set_tour(vehicle, tour)?;
+            self.set_tour(vehicle, tour);
         }
-        Ok(driven as u64)
+        driven as u64
     }
 
     // The tours of changes, all of which keep the limits.

@@ -5,26 +5,27 @@
 //! base again, as when the request is put back where it was, the route and table in the log are put back, and
 //! nothing is computed.
 // Requests put into a draft.
-ghost use Rattle.std.specs.Prelude.{◌≡◌, ◌≤◌, ◌^◌, length, Some, IfOk, OnOk};
+ghost use Rattle.std.specs.Prelude.{◌≡◌, ◌≤◌, ◌^◌, length, true, false, Some, None, IfSome, IfOk, OnOk, OnErr};
 ghost use Rattle.route_sched.specs.Cost.{cost_of, total_length, unplanned_count};
 ghost use Rattle.slack_tables.specs.Course.{course_of, route_of};
 ghost use Rattle.move_ops.specs.Tables.{AreTablesIn};
-ghost use Rattle.move_ops.specs.Changes.{used};
+ghost use Rattle.move_ops.specs.Changes.{used, IsPut};
 ghost use Rattle.plan_types.specs.Request.{request_name};
-ghost use Rattle.move_ops.specs.Insertion.{best_insertion, request_named, with_route};
+ghost use Rattle.move_ops.specs.Insertion.{best_insertion, is_place_of, put_in, request_named, with_request_at, with_route};
 ghost use Rattle.route_sched.specs.Route.{AreLiveOnce};
 ghost use Rattle.slack_tables.specs.Insertion.{KeepsLimits};
 ghost use Rattle.move_ops.specs.Logged.{HasRoute};
-ghost use Rattle.move_ops.specs.Drafts.{undone, draft_of, base_of, IsDraftOf, placed};
+ghost use Rattle.move_ops.specs.Drafts.{undone, draft_of, base_of, IsDraftOf, IsMade, placed};
 
 use super::Draft;
-use crate::insert::put_into;
+use crate::insert::{are_places, put_into};
 use crate::laws::best_insertions_are_least;
+use crate::lists::of_vehicle;
 use crate::tables::best_of;
-use crate::tour::Tour;
+use crate::tour::{Tour, tour_of};
 use plan_audit::{passes_are_local, tests_say_feasible};
 use plan_types::{
-    Cost, Kind, OutOfMemory, Pins, Problem, Request, numbers_are_below_the_next,
+    Cost, Kind, OutOfMemory, Pins, Problem, Request, Route, numbers_are_below_the_next,
     requests_are_found_by_stop, requests_stand_by_name,
 };
 use std::mem;
@@ -38,21 +39,116 @@ impl Draft {
         ensures base { OnOk result (base_of self.new ≡ base_of self.old) }
         ensures draft { OnOk result (draft_of self.new
             ≡ placed problem.now pins.now.routes (draft_of self.old) name) }
+        ensures err { OnErr result (self.new ≡ self.old) }
     {
         let Some(request) = problem.requests.get(&name) else {
             return Ok(());
         };
-        if self.is_planned(request) {
-            return Ok(());
-        }
-        let kept = pins.routes.as_slice();
-        match best_of(problem, kept, &self.tours, self.reach(), request) {
-            Some(found) => self.put(problem, pins, request, found.place()),
+        match self.best(problem, pins, request) {
+            Some(place) => self.put(problem, pins, request, place),
             None => Ok(()),
         }
     }
 
-    // Puts the request into the draft at its best insertion.
+    /// Puts a request into the draft at this place, as `insert_at` does; answers whether it did.
+    pub(crate) fn insert(
+        &mut self,
+        problem: &Problem,
+        pins: &Pins,
+        name: u32,
+        place: (u64, u64, u64),
+    ) -> Result<bool, OutOfMemory>
+        requires { IsDraftOf problem.now pins.now.routes self.old }
+        ensures { IfOk result (λ made.
+            IsMade (put_in problem.now pins.now.routes (draft_of self.old) name place) made
+            self.old self.new) }
+    {
+        let Some(request) = problem.requests.get(&name) else {
+            return Ok(false);
+        };
+        if !self.can_be_put(problem, pins, request, place)? {
+            return Ok(false);
+        }
+        self.put(problem, pins, request, place)?;
+        Ok(true)
+    }
+
+    /// Where a live request is put into the draft best, as `best_insertion` has it.
+    pub(crate) fn best(
+        &self,
+        problem: &Problem,
+        pins: &Pins,
+        request: &Request,
+    ) -> Option<(u64, u64, u64)>
+        requires is { IsDraftOf problem.now pins.now.routes self.now }
+        requires request { request_named problem.now (request_name request.now) ≡ Some request.now }
+        ensures best { result ≡ best_insertion problem.now pins.now.routes (draft_of self.now)
+            (request_name request.now) }
+        ensures put { IfSome result
+            (IsPut problem.now pins.now.routes (draft_of self.now) request.now) }
+    {
+        passes_are_local();
+        tests_say_feasible();
+        best_insertions_are_least();
+        requests_are_found_by_stop();
+        requests_stand_by_name();
+        numbers_are_below_the_next();
+        if self.is_planned(request) {
+            return None;
+        }
+        let kept = pins.routes.as_slice();
+        match best_of(problem, kept, &self.tours, self.reach(), request) {
+            Some(found) => Some(found.place()),
+            None => None,
+        }
+    }
+
+    // Whether a live request can be put in there: it is unplanned, the place is one behind the pin, and the result passes.
+    fn can_be_put(
+        &self,
+        problem: &Problem,
+        pins: &Pins,
+        request: &Request,
+        place: (u64, u64, u64),
+    ) -> Result<bool, OutOfMemory>
+        requires is { IsDraftOf problem.now pins.now.routes self.now }
+        requires request { request_named problem.now (request_name request.now) ≡ Some request.now }
+        ensures put { IfOk result (λ can. can ≡ true
+            → IsPut problem.now pins.now.routes (draft_of self.now) request.now place) }
+        ensures none { IfOk result (λ can. can ≡ false → put_in problem.now pins.now.routes
+            (draft_of self.now) (request_name request.now) place ≡ None) }
+    {
+        passes_are_local();
+        tests_say_feasible();
+        requests_are_found_by_stop();
+        requests_stand_by_name();
+        numbers_are_below_the_next();
+        if self.is_planned(request) {
+            return Ok(false);
+        }
+        if !self.is_place_of(pins.routes.as_slice(), request, place) {
+            return Ok(false);
+        }
+        let (vehicle, pickup, delivery) = place;
+        let mut route = Vec::new(*self.tours.allocator());
+        put_into(&mut route, request, pickup, delivery, self.route(vehicle))?;
+        Ok(tour_of(&self.tours, vehicle).is_feasible(problem, &route))
+    }
+
+    // Whether the request can have these places behind the pins.
+    fn is_place_of(&self, pins: &[Route], request: &Request, place: (u64, u64, u64)) -> bool
+        ensures { result ≡ is_place_of pins.now (draft_of self.now) request.now place }
+    {
+        let (vehicle, pickup, delivery) = place;
+        if vehicle < 1 || (self.tours.len() as u64) < vehicle {
+            return false;
+        }
+        let kept = of_vehicle(pins, vehicle).len() as u64;
+        let stops = self.route(vehicle).len() as u64;
+        are_places(request, kept, stops, pickup, delivery)
+    }
+
+    // Puts the request into the draft at a place where it can be put.
     fn put(
         &mut self,
         problem: &Problem,
@@ -61,21 +157,13 @@ impl Draft {
         place: (u64, u64, u64),
     ) -> Result<(), OutOfMemory>
         requires is { IsDraftOf problem.now pins.now.routes self.old }
-        requires request { request_named problem.now (request_name request.now) ≡ Some request.now }
-        requires best { best_insertion problem.now pins.now.routes (draft_of self.old)
-            (request_name request.now) ≡ Some place }
+        requires put { IsPut problem.now pins.now.routes (draft_of self.old) request.now place }
         ensures is { OnOk result (IsDraftOf problem.now pins.now.routes self.new) }
         ensures base { OnOk result (base_of self.new ≡ base_of self.old) }
         ensures draft { OnOk result (draft_of self.new
-            ≡ placed problem.now pins.now.routes (draft_of self.old)
-            (request_name request.now)) }
+            ≡ with_request_at (draft_of self.old) request.now place) }
+        ensures err { OnErr result (self.new ≡ self.old) }
     {
-        passes_are_local();
-        tests_say_feasible();
-        best_insertions_are_least();
-        requests_are_found_by_stop();
-        requests_stand_by_name();
-        numbers_are_below_the_next();
         let (vehicle, pickup, delivery) = place;
         let mut route = mem::replace(&mut self.room, Vec::new(*self.tours.allocator()));
         put_into(&mut route, request, pickup, delivery, self.route(vehicle))?;
@@ -109,6 +197,7 @@ impl Draft {
             (with_route (draft_of self.old) vehicle route.now)) }
         ensures set { OnOk result
             (HasRoute problem.now self.old self.new vehicle route.now) }
+        ensures err { OnErr result (self.new ≡ self.old) }
     {
         if let Some(entry) = self.entry_of(vehicle) {
             if self.log[entry].1.stops() == route {
@@ -124,7 +213,7 @@ impl Draft {
         }
         let tour = self.new_tour(problem, vehicle, route)?;
         let cost = self.cost_with(problem, u64::from(vehicle), &tour, unplanned);
-        self.set_tour(vehicle, tour)?;
+        self.set_tour(vehicle, tour);
         Ok(cost)
     }
 

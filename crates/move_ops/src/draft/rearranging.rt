@@ -4,17 +4,16 @@
 //! Such moves are refused often, so their routes are judged before any table is made: the limits first, since
 //! they are broken more often, and then the pairs.
 // Stops of a draft that take one another's places.
-ghost use Rattle.std.specs.Prelude.{◌≡◌, ◌≤◌, ◌⊎◌, nat_eq, map, length, IsSome, IfSome, IfOk, OnOk};
+ghost use Rattle.std.specs.Prelude.{◌≡◌, ◌≤◌, ◌⊎◌, nat_eq, map, length, IsSome, IfSome, IfOk, OnOk, OnErr};
 ghost use Rattle.std.specs.List.{concat, IsDistinct};
 ghost use Rattle.plan_types.specs.Request.{stop_in};
 ghost use Rattle.move_ops.specs.Changes.{with_routes, AreChanges, AreIn, AreVehiclesOf, IsChange};
-ghost use Rattle.move_ops.specs.Moves.{counterpart, exchanged, crossed, is_cut, are_exchangeable};
+ghost use Rattle.move_ops.specs.Moves.{counterpart, exchanged, crossed, joined, is_cut, are_exchangeable};
 ghost use Rattle.std.specs.Option.{option_map};
 ghost use Rattle.move_ops.specs.Drafts.{draft_of, base_of, IsDraftOf, IsMade};
 
 use super::Draft;
 use crate::changes::{Change, are_all_feasible};
-use crate::cross::joined;
 use crate::lists::of_vehicle;
 use crate::swap::{counterparts, have_same_form};
 use crate::tour::tour_of;
@@ -22,6 +21,7 @@ use plan_audit::{passes_are_local, plans_are_local, tests_say_feasible};
 use plan_types::{
     OutOfMemory, Pins, Problem, Request, Route, requests_are_found_by_stop, requests_stand_by_name,
 };
+use std::alloc::Global;
 
 impl Draft {
     /// Lets two requests of the draft take one another's places, as `exchange` does; answers whether it did.
@@ -38,6 +38,7 @@ impl Draft {
         ensures draft { IfOk result (λ made.
             IsMade (exchanged problem.now pins.now.routes (draft_of self.old) a b) made self.old
             self.new) }
+        ensures err { OnErr result (self.new ≡ self.old) }
     {
         let unplanned = self.cost.unplanned;
         let changes = self.exchanging(problem, pins, a, b)?;
@@ -155,6 +156,7 @@ impl Draft {
         ensures draft { IfOk result (λ made.
             IsMade (crossed problem.now pins.now.routes (draft_of self.old) a a_cut b b_cut)
             made self.old self.new) }
+        ensures err { OnErr result (self.new ≡ self.old) }
     {
         let unplanned = self.cost.unplanned;
         let changes = self.crossing(problem, pins, a, a_cut, b, b_cut)?;
@@ -223,4 +225,24 @@ impl Draft {
         let stops = self.route(vehicle).len() as u64;
         kept <= cut && cut <= stops
     }
+}
+
+// The first stops of one route, and then the other from behind its first ones on.
+fn joined(
+    alloc: Global,
+    front: &[u32],
+    front_cut: u64,
+    back: &[u32],
+    back_cut: u64,
+) -> Result<Route, OutOfMemory>
+    requires front { front_cut ≤ length front.now }
+    requires back { back_cut ≤ length back.now }
+    ensures { IfOk result (λ new. new ≡ joined front.now front_cut back.now back_cut) }
+{
+    let front = &front[..front_cut as usize];
+    let back = &back[back_cut as usize..];
+    let mut new = Route::with_capacity(alloc, front.len() + back.len())?;
+    new.extend_from_slice(front)?;
+    new.extend_from_slice(back)?;
+    Ok(new)
 }

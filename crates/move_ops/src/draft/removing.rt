@@ -6,7 +6,7 @@
 //! (`Tour::remade_if_feasible`), which drives it once; the memory of a table whose route is refused goes back
 //! to the allocator.
 // Requests taken out of a draft.
-ghost use Rattle.std.specs.Prelude.{◌≡◌, ◌≤◌, ◌+◌, ◌∷◌, [], length, nat_eq, true, false, ℕ, All, IsSome, IfSome, IfOk, OnOk, MatchOption};
+ghost use Rattle.std.specs.Prelude.{◌≡◌, ◌≤◌, ◌+◌, ◌∷◌, [], length, nat_eq, true, false, ℕ, All, IsSome, IfSome, IfOk, OnOk, OnErr, MatchOption};
 ghost use Rattle.route_sched.specs.Cost.{has_stop};
 ghost use Rattle.move_ops.specs.Changes.{changes_of, distinct_count, removals, with_routes, AreCourses, AreIn, AreToursOf, AreVehiclesOf, IsChange, IsRemoval, Notes};
 ghost use Rattle.move_ops.specs.Moves.{removed, without_named, is_of_named, is_movable_name};
@@ -45,10 +45,11 @@ impl Draft {
         ensures draft { IfOk result (λ made.
             IsMade (removed problem.now pins.now.routes (draft_of self.old) names.now) made
             self.old self.new) }
+        ensures err { OnErr result (self.new ≡ self.old) }
     {
         match self.removing(problem, pins, names)? {
             Some(tours) => {
-                self.take_out(problem, pins, names, tours)?;
+                self.take_out(problem, pins, names, tours);
                 Ok(true)
             }
             None => Ok(false),
@@ -56,13 +57,7 @@ impl Draft {
     }
 
     // Gives some vehicles the tours without these requests.
-    fn take_out(
-        &mut self,
-        problem: &Problem,
-        pins: &Pins,
-        names: &[u32],
-        tours: Vec<(u32, Tour)>,
-    ) -> Result<(), OutOfMemory>
+    fn take_out(&mut self, problem: &Problem, pins: &Pins, names: &[u32], tours: Vec<(u32, Tour)>)
         requires is { IsDraftOf problem.now pins.now.routes self.old }
         requires courses { AreCourses problem.now tours.items }
         requires change { IsChange problem.now pins.now.routes
@@ -70,15 +65,14 @@ impl Draft {
             (self.old.cost.unplanned + distinct_count names.now) }
         requires names { with_routes (draft_of self.old) (changes_of tours.items)
             ≡ without_named problem.now names.now (draft_of self.old) }
-        ensures is { OnOk result (IsDraftOf problem.now pins.now.routes self.new) }
-        ensures base { OnOk result (base_of self.new ≡ base_of self.old) }
-        ensures draft { OnOk result (draft_of self.new
-            ≡ with_routes (draft_of self.old) (changes_of tours.items)) }
+        ensures is { IsDraftOf problem.now pins.now.routes self.new }
+        ensures base { base_of self.new ≡ base_of self.old }
+        ensures draft { draft_of self.new
+            ≡ with_routes (draft_of self.old) (changes_of tours.items) }
     {
         let unplanned = self.cost.unplanned + distinct_count(names);
-        self.install(problem, pins, tours, unplanned)?;
+        self.install(problem, pins, tours, unplanned);
         self.clear_named(problem, names);
-        Ok(())
     }
 
     // Notes that no stop of these requests is in the draft.
@@ -130,7 +124,7 @@ impl Draft {
             ≡ removed problem.now pins.now.routes (draft_of self.old) names.now) }
         ensures tours { IfOk result (λ o. IfSome o (λ ts. IsRemoval problem.now pins.now.routes
             (draft_of self.old) names.now self.old.cost.unplanned ts.items)) }
-        ensures same { OnOk result (self.new ≡ self.old) }
+        ensures same { self.new ≡ self.old }
     {
         passes_are_local();
         plans_are_local();
@@ -166,7 +160,7 @@ impl Draft {
             (removals problem.now names.now (draft_of self.old) vehicles.now) ≡ true)
             × AreToursOf problem.now
             (removals problem.now names.now (draft_of self.old) vehicles.now) tours.items)) }
-        ensures same { OnOk result (self.new ≡ self.old) }
+        ensures same { self.new ≡ self.old }
     {
         let alloc = *self.tours.allocator();
         let mut tours = Vec::with_capacity(alloc, vehicles.len())?;

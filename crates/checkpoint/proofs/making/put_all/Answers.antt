@@ -1,9 +1,13 @@
 -- What a stop may leave within the zeros' put and within the snapshot's.
-use Rattle.std.proofs.Common.{refl, arith}
+use Rattle.std.proofs.Common.{List, ℕ, OnOk, refl, subst, ◌∙◌, ap, arith}
+use Rattle.sector_disk.specs.Image.{written}
+use Rattle.sector_disk.specs.Sectors.{Only}
 use Rattle.sector_disk.specs.Throughout.{joined, weakened}
 use Rattle.checkpoint.specs.Puts.{IsInPut, IsInSnapshot}
 use Rattle.checkpoint.proofs.Cleared.{clears, length_cleared}
 use Rattle.checkpoint.proofs.NewStore.{IsMaking, first_header, in_zeros, in_snapshot}
+use Rattle.checkpoint.specs.Written.{with_both}
+use Rattle.checkpoint.proofs.FrontZeros.{front_zeros}
 use Rattle.checkpoint.proofs.making.put_all.Goals as goal
 
 pub put-requires : goal.put-requires
@@ -41,3 +45,12 @@ returns-clause-moments g c honest =
     (d.possible c.put.new.device) (d.seen c.put.new.device) (d.calls c.put.new.device) c.in_ok-put.ensures.finished (c.in_ok-put.ensures.seen mid) (c.in_ok-put.ensures.durable mid))
     (c.put_snapshot.ensures.moments honest) in
     joined d.clock d.possible_since start c.put.new.device c.put_snapshot.new.device all first second
+
+pub returns-clause-durable : goal.returns-clause-durable
+returns-clause-durable g c honest =
+    let d = g.D.Sectors in
+    let mid = c.put_snapshot.ensures.honest honest in
+    let end = d.possible c.put_snapshot.new.device in
+    subst (λ (image : List ℕ). OnOk c.put_snapshot.result (Only (with_both (first_header c.args.size) c.args.bytes.now image) end))
+    (c.in_ok-put.ensures.seen mid ∙ ap (λ (zeros : List ℕ). written 0 zeros (d.seen c.args.device.now)) (front_zeros c.args.zeros.now c.requires.zeros))
+    (c.put_snapshot.ensures.durable honest)

@@ -1,7 +1,7 @@
 use Rattle.std.proofs.Common.{rules, ◌≡◌, ◌++◌, ◌∷◌, [], not, Some, None, sym, ◌∙◌}
 use Rattle.seeded_search.specs.Names.{names_where}
 use Rattle.command_core.specs.Marks.{is_marked}
-use Rattle.command_core.proofs.NameLemmas.{name_pushed, name_passed}
+use Rattle.seeded_search.proofs.NameLemmas.{name_pushed, name_passed}
 use Rattle.command_core.proofs.marks.unmarked_names.Goals as goal
 use Rattle.command_core.proofs.marks.unmarked_names.Goals.{in-Some+in_ok-push, in_default}
 

@@ -1,7 +1,7 @@
 use Rattle.std.proofs.Common.{rules, subst, ◌∙◌}
 use Rattle.std.proofs.lemmas.Result.{IfOk-weaker}
 use Rattle.plan_types.specs.Instance.{IsInstance}
-use Rattle.command_core.proofs.NameLemmas.{AreMarks, unplanned_unmarked}
+use Rattle.command_core.proofs.MarkLemmas.{AreMarks, unplanned_unmarked}
 use Rattle.command_core.proofs.marks.unplanned_names.Goals as goal
 
 pub returns : goal.returns

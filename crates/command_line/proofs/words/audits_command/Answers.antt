@@ -12,4 +12,4 @@ returns c =
       local = ap (λ f. f.has_globals) c.after_help-command.ensures ∙ (ap (λ f. f.has_globals) c.about.ensures ∙ c.new.ensures.local);
     } in
     let one = c.in_ok-command.ensures (new_app (codes "audits")) (kind_rule c.args.kinds) leaf c.kind_word.ensures in
-    c.with_word-2.ensures (kind_app (codes "audits") c.args.kinds) (word_rule (codes "LIST")) one c.word.ensures
+    c.with_word-2.ensures (kind_app (codes "audits") c.args.kinds) (word_rule (codes "LIST")) one c.list_word.ensures

@@ -7,4 +7,4 @@ use Rattle.command_line.proofs.words.command_words.Goals as goal
 pub returns-in_default : goal.returns-in_default
 returns-in_default c =
     c.other_words.ensures
-    ∙ sym (told_other c.args.name.now (rows_of (found_of c.args.words.now)) c.in_default.not-audit c.in_default.not-explain c.in_default.not-draw)
+    ∙ sym (told_other c.args.name.now (rows_of (found_of c.args.words.now)) c.in_default.not-audit c.in_default.not-explain)

@@ -4,17 +4,21 @@ use Rattle.std.proofs.lemmas.Result.{IfErr-weaker}
 use Rattle.std.proofs.KnownBytes.{prepend_known-nil}
 use Rattle.std.specs.Io.KnownBytes.{prepend_known}
 use Rattle.command_serving.specs.Input.{CountsTaken, left_of}
+use Rattle.command_serving.specs.Knowing.{left_by}
 use Rattle.command_serving.specs.Served.{HasCause}
 use Rattle.command_serving.specs.Serving.{IsCause}
 use Rattle.command_serving.proofs.ActLemmas.{honest_before}
 use Rattle.command_serving.proofs.AskedLemmas.{cause_of, whole_input}
+use Rattle.command_serving.proofs.CutLemmas.{known_somehow}
 use Rattle.command_serving.proofs.answering.serve.Goals as goal
 
 pub returns-clause-serves : goal.returns-clause-serves
-returns-clause-serves g c = λ reading input is known.
-    let reader = g.R.Source.remaining c.args.reader.now in
-    let start : left_of g.R.Source.remaining c.new-input.result c.args.reader.now ≡ Some input = ap (λ a. prepend_known a reader) c.new-input.ensures.ahead ∙ prepend_known-nil reader ∙ known in
-    c.serve_lines.ensures.serves reading input is start
+returns-clause-serves g c = λ reading input is given.
+    let known = known_somehow g.R.Source c.args.reader.now c.serve_lines.new.reader input given in
+    let how = known.0 in
+    let reader = left_by g.R.Source how c.args.reader.now in
+    let start : left_of g.R.Source how c.new-input.result c.args.reader.now ≡ Some input = ap (λ a. prepend_known a reader) c.new-input.ensures.ahead ∙ prepend_known-nil reader ∙ known.2 in
+    c.serve_lines.ensures.serves reading input how is known.1 start
 
 pub returns-clause-moments : goal.returns-clause-moments
 returns-clause-moments g c = λ commands replies run whole honest.
@@ -23,14 +27,16 @@ returns-clause-moments g c = λ commands replies run whole honest.
     c.runs_add_up.ensures.moments old old c.serve_lines.new.session [] commands [] replies refl run whole honest stands
 
 pub returns-clause-cause : goal.returns-clause-cause
-returns-clause-cause g c = λ input known.
-    let reader = g.R.Source.remaining c.args.reader.now in
-    let start : left_of g.R.Source.remaining c.new-input.result c.args.reader.now ≡ Some input = ap (λ a. prepend_known a reader) c.new-input.ensures.ahead ∙ prepend_known-nil reader ∙ known in
-    let rest = left_of g.R.Source.remaining c.serve_lines.new.input c.serve_lines.new.reader in
+returns-clause-cause g c = λ input given.
+    let known = known_somehow g.R.Source c.args.reader.now c.serve_lines.new.reader input given in
+    let how = known.0 in
+    let reader = left_by g.R.Source how c.args.reader.now in
+    let start : left_of g.R.Source how c.new-input.result c.args.reader.now ≡ Some input = ap (λ a. prepend_known a reader) c.new-input.ensures.ahead ∙ prepend_known-nil reader ∙ known.2 in
+    let rest = left_of g.R.Source how c.serve_lines.new.input c.serve_lines.new.reader in
     let left = c.serve_lines.new.input.left in
     let read = g.R.Source.has_failed c.serve_lines.new.reader in
     let written = g.W.Sink.has_failed c.serve_lines.new.writer in
     let counted = subst (λ k. CountsTaken k 1000000000000 rest left) start
-    (subst (λ l. CountsTaken (left_of g.R.Source.remaining c.new-input.result c.args.reader.now) l rest left) c.new-input.ensures.left c.serve_lines.ensures.counted) in
+    (subst (λ l. CountsTaken (left_of g.R.Source how c.new-input.result c.args.reader.now) l rest left) c.new-input.ensures.left (c.serve_lines.ensures.counted how known.1).1) in
     IfErr-weaker c.serve_lines.result (λ f. IsCause f read written left) (λ f. HasCause f read written (length input))
     (λ f cause. cause_of f read written left (length input) (λ none. whole_input input rest left counted none) cause) c.serve_lines.ensures.cause

@@ -1,4 +1,5 @@
-use Rattle.std.proofs.Common.{◌≡◌, rules, true, false, refl, sym, ◌∙◌, arith, subst}
+use Rattle.std.proofs.Common.{◌≡◌, ◌+◌, rules, true, false, refl, sym, ◌∙◌, arith, subst}
+use Rattle.move_ops.specs.Insertion.{of_vehicle}
 use Rattle.move_ops.specs.Tables.{plan_of}
 use Rattle.move_ops.specs.Choosing.{IsBestUpTo}
 use Rattle.move_ops.proofs.Asked.{course_at, request_valid, none_yet, pin_fits, idle_here, idle_more, one_more, one_skipped, beyond, answered}
@@ -35,12 +36,12 @@ look_at-requires-clause-valid c =
     c.costs_compare_part_by_part.ensures.at_most_tells c.costs_are_in_order.ensures.total c.costs_are_in_order.ensures.transitive c.costs_are_in_order.ensures.below_then_at_most
     c.costs_are_in_order.ensures.at_most_then_below c.costs_are_in_order.ensures.below_is_at_most c.args.problem.now c.args.pins.now c.args.tables.now c.args.request.now c.requires.asked
 
-pub look_at-requires-clause-kept : goal.look_at-requires-clause-kept
-look_at-requires-clause-kept c =
+pub look_at-requires-clause-pin : goal.look_at-requires-clause-pin
+look_at-requires-clause-pin c =
     pin_fits c.requests_are_found_by_stop.ensures c.requests_stand_by_name.ensures c.passes_are_local.ensures c.tests_say_feasible.ensures c.costs_compare_part_by_part.ensures.below_tells
     c.costs_compare_part_by_part.ensures.at_most_tells c.costs_are_in_order.ensures.total c.costs_are_in_order.ensures.transitive c.costs_are_in_order.ensures.below_then_at_most
     c.costs_are_in_order.ensures.at_most_then_below c.costs_are_in_order.ensures.below_is_at_most c.args.problem.now c.args.pins.now c.args.tables.now c.args.request.now c.requires.asked
-    c.loop-k.k c.index-tables-k.result c.index-tables-k.is (omega arith) c.of_vehicle.result.now c.of_vehicle.ensures
+    c.loop-k.k c.index-tables-k.result c.index-tables-k.is (omega arith) (of_vehicle c.args.pins.now (c.loop-k.k + 1)) refl
 
 pub loop-k-preserved : goal.loop-k-preserved
 loop-k-preserved c =
@@ -50,7 +51,7 @@ loop-k-preserved c =
       best = one_more c.requests_are_found_by_stop.ensures c.requests_stand_by_name.ensures c.passes_are_local.ensures c.tests_say_feasible.ensures c.costs_compare_part_by_part.ensures.below_tells
           c.costs_compare_part_by_part.ensures.at_most_tells c.costs_are_in_order.ensures.total c.costs_are_in_order.ensures.transitive c.costs_are_in_order.ensures.below_then_at_most
           c.costs_are_in_order.ensures.at_most_then_below c.costs_are_in_order.ensures.below_is_at_most c.args.problem.now c.args.pins.now c.args.tables.now c.args.request.now c.requires.asked
-          c.loop-k.k c.index-tables-k.result c.index-tables-k.is (omega arith) c.of_vehicle.result.now c.of_vehicle.ensures (omega arith) c.loop-k.best c.look_at.new.best c.loop-k.invariant.best c.look_at.ensures;
+          c.loop-k.k c.index-tables-k.result c.index-tables-k.is (omega arith) (of_vehicle c.args.pins.now (c.loop-k.k + 1)) refl (omega arith) c.loop-k.best c.look_at.new.best c.loop-k.invariant.best c.look_at.ensures;
       idle = λ h. elim c.if-stop_count-eq0.branch [
         | then-stop_count-eq0+else-has_idle w ↦ (let none = w.if-stop_count-eq0 in idle_here c.requests_are_found_by_stop.ensures c.requests_stand_by_name.ensures c.passes_are_local.ensures c.tests_say_feasible.ensures c.costs_compare_part_by_part.ensures.below_tells
             c.costs_compare_part_by_part.ensures.at_most_tells c.costs_are_in_order.ensures.total c.costs_are_in_order.ensures.transitive c.costs_are_in_order.ensures.below_then_at_most

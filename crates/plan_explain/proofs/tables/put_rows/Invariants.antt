@@ -5,4 +5,4 @@ use Rattle.plan_explain.proofs.tables.put_rows.Given as goal
 
 -- the text so far and that of the rows to come
 abbrev pub invariant-loop-row : goal.invariant-loop-row
-invariant-loop-row l = string_bytes l.text ++ flat_map (row_text l.kind) (drop l.row-index l.rows) ≡ string_bytes l.fn.text ++ flat_map (row_text l.kind) l.rows
+invariant-loop-row l = string_bytes l.text ++ flat_map (row_text l.problem) (drop l.row-index l.rows) ≡ string_bytes l.fn.text ++ flat_map (row_text l.problem) l.rows

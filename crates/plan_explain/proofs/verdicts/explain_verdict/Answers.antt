@@ -9,8 +9,8 @@ put_summary-requires c =
     let s = printed c.args.solution.now.routes c.args.solution.now.cost in
     subst (All (AreLiveOnce c.args.problem.now)) (sym c.as_slice.ensures) (live_passing c.args.problem.now s c.in-Pass.field-0 (subst (IsVerdict c.args.problem.now s) c.in-Pass.is c.requires))
 
-pub put_shown-requires : goal.put_shown-requires
-put_shown-requires c = λ above.
+pub put_places-requires : goal.put_places-requires
+put_places-requires c = λ above.
     (let s = printed c.args.solution.now.routes c.args.solution.now.cost in
-    subst (All (AreLiveOnce c.args.problem.now)) (sym c.as_slice-in-Broken.ensures)
+    subst (All (AreLiveOnce c.args.problem.now)) (sym c.as_slice-routes.ensures)
     (live_above c.args.problem.now s c.in-Broken.rule c.in-Broken.route c.in-Broken.place c.in-Broken.stop (subst (IsVerdict c.args.problem.now s) c.in-Broken.is c.requires) above))

@@ -21,9 +21,10 @@ returns-in-Err-clause-told g c =
 pub returns-clause-told : goal.returns-clause-told
 returns-clause-told g c =
     let kind = c.args.paths.kind in
+    let route = c.args.route in
     let both = c.in-Ok.both in
     let drawn = c.draw_texts-drawn.result in
-    let draws = subst (λ x. IfOk drawn (IsDrawing kind x both.1.items)) c.deref.ensures.value
-    (subst (λ y. IfOk drawn (IsDrawing kind c.deref.result.now y)) c.deref-2.ensures.value c.draw_texts-drawn.ensures) in
+    let draws = subst (λ x. IfOk drawn (IsDrawing kind route x both.1.items)) c.deref.ensures.value
+    (subst (λ y. IfOk drawn (IsDrawing kind route c.deref.result.now y)) c.deref-2.ensures.value c.draw_texts-drawn.ensures) in
     IfOk-weaker c.tell_drawn.result _ _
     (λ status told. inl (record { x = both.0.items; y = both.1.items; read = c.in-Ok.ensures; drawn = drawn; draws = draws; told = told })) c.tell_drawn.ensures

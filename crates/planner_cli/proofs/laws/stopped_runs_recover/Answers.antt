@@ -2,11 +2,20 @@ use Rattle.planner_cli.proofs.StopLemmas.{run_headline, run_keeps_answers, serve
 use Rattle.planner_cli.proofs.laws.stopped_runs_recover.Goals as goal
 
 pub returns-clause-behind : goal.returns-clause-behind
-returns-clause-behind g c = served_run_headline g.D.Sectors g.E.Sectors c.stopped_servings_recover.ensures.stopped
+returns-clause-behind g c =
+    let some = c.texts_have_a_reading.ensures.some in
+    (some.0, some.1, served_run_headline g.D.Sectors g.E.Sectors some.0 some.1 c.stopped_servings_recover.ensures.stopped)
 
 pub returns-clause-whole : goal.returns-clause-whole
-returns-clause-whole g c = run_headline g.D.Sectors g.E.Sectors c.recovery_keeps_every_acknowledged_command.ensures c.stopped_servings_recover.ensures.runs
+returns-clause-whole g c =
+    let some = c.texts_have_a_reading.ensures.some in
+    (some.0, some.1, run_headline g.D.Sectors g.E.Sectors some.0 some.1 c.recovery_keeps_every_acknowledged_command.ensures c.stopped_servings_recover.ensures.runs)
 
 pub returns-clause-told : goal.returns-clause-told
 returns-clause-told g c =
-    run_keeps_answers g.D.Sectors g.E.Sectors c.stopped_servings_recover.ensures.told (run_headline g.D.Sectors g.E.Sectors c.recovery_keeps_every_acknowledged_command.ensures c.stopped_servings_recover.ensures.runs)
+    let some = c.texts_have_a_reading.ensures.some in (
+      some.0,
+      some.1,
+      run_keeps_answers g.D.Sectors g.E.Sectors some.0 some.1 c.stopped_servings_recover.ensures.told
+          (run_headline g.D.Sectors g.E.Sectors some.0 some.1 c.recovery_keeps_every_acknowledged_command.ensures c.stopped_servings_recover.ensures.runs),
+    )

@@ -1,5 +1,6 @@
 -- Each line adds its own, and behind the last one all is told.
 use Rattle.std.proofs.Common.{◌≡◌, ◌∷◌, [], refl, rules, arith}
+use Rattle.planner_cli.specs.Listed.{IsAudited}
 use Rattle.planner_cli.proofs.ListLemmas.{all_told, grown_twice, left_as, line_told, nothing_told, status_as}
 use Rattle.planner_cli.proofs.listed.audit_lines.Goals as goal
 
@@ -8,7 +9,7 @@ loop-line-init g c =
     let before = g.W.Write.contents c.args.output.now in
     let was = g.F.ReadFiles.reads c.args.files.now in
     let same : c.args.lines ≡ c.into_iter-line-iterator.result = search rules in
-    (left_as _ _ _ _ was before c.args.lines c.into_iter-line-iterator.result 0 same (nothing_told c.args.kind c.args.lines was before), omega arith, ([], refl))
+    (left_as _ _ _ _ was before c.args.lines c.into_iter-line-iterator.result 0 same (nothing_told (IsAudited c.args.kind) c.args.lines was before), omega arith, ([], refl))
 
 pub loop-line-preserved : goal.loop-line-preserved
 loop-line-preserved g c =
@@ -24,7 +25,7 @@ loop-line-preserved g c =
     let greatest = c.loop-line.greatest in
     let step : c.loop-line.line-iterator ≡ line ∷ rest = search rules in (
       status_as _ _ _ _ later after rest _ c.greater-greatest.result c.greater-greatest.ensures.value
-          (line_told c.args.kind c.args.lines was before next later now after line rest greatest status
+          (line_told (IsAudited c.args.kind) c.args.lines was before next later now after line rest greatest status
           (left_as _ _ _ _ next now c.loop-line.line-iterator (line ∷ rest) greatest step c.loop-line.invariant.0) c.in_ok-status.ensures.told),
       c.greater-greatest.ensures.bound,
       grown_twice was next later c.loop-line.invariant.2 c.audit_line.ensures.reads,

@@ -1,11 +1,12 @@
 -- What is told of the lines so far.
 use Rattle.std.proofs.Common.{◌≤◌}
+use Rattle.planner_cli.specs.Listed.{IsAudited}
 use Rattle.planner_cli.specs.Reads.{IsGrown}
 use Rattle.planner_cli.proofs.ListLemmas.{IsSoFar}
 use Rattle.planner_cli.proofs.listed.audit_lines.Given as goal
 
 abbrev pub invariant-loop-line : goal.invariant-loop-line
 invariant-loop-line g l =
-    IsSoFar l.fn.kind l.fn.lines (g.F.ReadFiles.reads l.fn.files) (g.W.Write.contents l.fn.output) (g.F.ReadFiles.reads l.files) (g.W.Write.contents l.output) l.line-iterator l.greatest
+    IsSoFar (IsAudited l.fn.kind) l.fn.lines (g.F.ReadFiles.reads l.fn.files) (g.W.Write.contents l.fn.output) (g.F.ReadFiles.reads l.files) (g.W.Write.contents l.output) l.line-iterator l.greatest
     × (l.greatest ≤ 4)
     × IsGrown (g.F.ReadFiles.reads l.fn.files) (g.F.ReadFiles.reads l.files)

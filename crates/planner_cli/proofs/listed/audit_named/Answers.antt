@@ -1,14 +1,14 @@
 -- The pair of the line with what is told of it, or that it names none.
-use Rattle.std.proofs.Common.{◌++◌, ◌∷◌, [], codes, inl, inr, refl, rules, subst}
+use Rattle.std.proofs.Common.{◌++◌, ◌∷◌, [], inl, inr, refl, rules, subst}
 use Rattle.std.specs.Io.KnownBytes.{Appends}
 use Rattle.std.proofs.KnownBytes.{Appends-trans}
 use Rattle.std.proofs.lemmas.Result.{IfOk-weaker}
-use Rattle.command_text.specs.Answers.{line}
+use Rattle.planner_cli.specs.Listed.{pair_text}
 use Rattle.planner_cli.proofs.ListLemmas.{read_in_turn, tabs}
 use Rattle.planner_cli.proofs.listed.audit_named.Goals as goal
 
 pub returns-in-None-clause-told : goal.returns-in-None-clause-told
-returns-in-None-clause-told g c = IfOk-weaker c.tell_bad_line.result _ _ (λ status told. (line (codes "bad line"), inr (c.in-None.ensures, refl, refl, told.0), told.1)) c.tell_bad_line.ensures
+returns-in-None-clause-told g c = IfOk-weaker c.compare_named.result _ _ (λ status told. (told.0, inr (c.in-None.ensures, told.1), told.2)) c.compare_named.ensures.told
 
 pub returns-clause-told : goal.returns-clause-told
 returns-clause-told g c =
@@ -20,7 +20,7 @@ returns-clause-told g c =
     let wrote : Appends before mid (instance ++ 9 ∷ (solution ++ 9 ∷ [])) = search rules in
     IfOk-weaker c.audit_read.result _ _
     (λ status told. (
-      instance ++ 9 ∷ (solution ++ 9 ∷ told.0),
+      pair_text instance solution told.0,
       inl (record { instance = instance; solution = solution; pair = c.in-Some.ensures; answer = told.0; told = told.1; text_is = refl }),
       subst (Appends before after) (tabs instance solution told.0) (Appends-trans before mid after (instance ++ 9 ∷ (solution ++ 9 ∷ [])) told.0 wrote told.2),
     )) c.audit_read.ensures.told

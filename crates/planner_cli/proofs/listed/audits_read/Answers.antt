@@ -4,7 +4,7 @@ use Rattle.std.specs.IoError.{error_kind}
 use Rattle.std.specs.declared.io.ErrorKind.{ErrorKind}
 use Rattle.std.proofs.lemmas.Result.{IfOk-weaker}
 use Rattle.text_lines.specs.Lines.{lines_of}
-use Rattle.planner_cli.specs.Listed.{list_path}
+use Rattle.planner_cli.specs.Listed.{IsAudited, list_path}
 use Rattle.planner_cli.specs.Reads.{FileRead, IsGrown}
 use Rattle.planner_cli.specs.Telling.{TellsUnread}
 use Rattle.planner_cli.proofs.ListLemmas.{lines_as, read_as}
@@ -33,7 +33,7 @@ returns-in-Ok-clause-told g c =
     let e = as_path _ (list_path c.args.list.now) (Ok text) was mid c.list_path-path.ensures c.in-Ok.ensures in
     let are : c.new.result ≡ lines_of text = c.new.ensures.lines ∙ ap lines_of c.deref.ensures.value in
     IfOk-weaker c.audit_lines.result _ _
-    (λ status told. inl (text, read_as c.args.kind (lines_of text) mid _ now before after status e (lines_as c.args.kind c.new.result (lines_of text) mid now before after status are told)))
+    (λ status told. inl (text, read_as (IsAudited c.args.kind) (lines_of text) mid _ now before after status e (lines_as (IsAudited c.args.kind) c.new.result (lines_of text) mid now before after status are told)))
     c.audit_lines.ensures.told
 
 pub returns-in-Err-clause-reads : goal.returns-in-Err-clause-reads

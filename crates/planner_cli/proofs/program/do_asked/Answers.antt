@@ -15,3 +15,12 @@ returns-in-Timetable-clause-does g c = rw c.in-Timetable.is (rw c.form_of-form.e
 
 pub returns-in-StoreTimetable-clause-does : goal.returns-in-StoreTimetable-clause-does
 returns-in-StoreTimetable-clause-does g c = rw c.in-StoreTimetable.is (rw c.form_of.ensures at c.timetable_store-told.ensures.told)
+
+pub returns-in-Solves-clause-does : goal.returns-in-Solves-clause-does
+returns-in-Solves-clause-does g c = rw c.in-Solves.is c.solves_read-told.ensures.told
+
+pub returns-in-DrawStore-clause-does : goal.returns-in-DrawStore-clause-does
+returns-in-DrawStore-clause-does g c = rw c.in-DrawStore.is c.draw_store-told.ensures.told
+
+pub returns-in-Draw-clause-does : goal.returns-in-Draw-clause-does
+returns-in-Draw-clause-does g c = rw c.in-Draw.is c.draw_read-told.ensures.told

@@ -2,7 +2,7 @@
 use Rattle.std.proofs.Common.{◌∙◌, ap, subst, sym, append-nil}
 use Rattle.std.specs.Io.KnownBytes.{Appends}
 use Rattle.std.proofs.lemmas.Result.{IfOk-weaker}
-use Rattle.command_serving.specs.Held.{held}
+use Rattle.command_serving.specs.Held.{given_by, held}
 use Rattle.planner_cli.specs.Running.{IsEnded, TellsEnded, opened_line}
 use Rattle.planner_cli.proofs.stores.serve_opened.Goals as goal
 
@@ -26,7 +26,7 @@ returns-in-Ok-clause-runs g c =
       stopped = ended.stopped;
       answered = answered;
       new = c.serve_input-ended.new.session;
-      ends = subst (λ f. IsEnded g.D.Sectors c.args.session.now c.args.is_strict (g.I.Read.remaining c.args.input.now.inner) opened ended.served ended.stopped answered c.serve_input-ended.new.input.has_failed f c.serve_input-ended.new.session)
+      ends = subst (λ f. IsEnded g.D.Sectors c.args.session.now c.args.is_strict (given_by g.I.Read.remaining c.args.input.now c.serve_input-ended.new.input) opened ended.served ended.stopped answered c.serve_input-ended.new.input.has_failed f c.serve_input-ended.new.session)
           (sym failed) c.serve_input-ended.ensures;
       tells = subst (λ x. TellsEnded ended.served ended.stopped x after status) (ap contents c.apart-writer-in-Ok.ensures.inner)
           (subst (λ x. TellsEnded ended.served ended.stopped (contents c.apart-writer-in-Ok.result.0) x status) (sym (ap contents c.again.ensures.inner)) tells);

@@ -7,4 +7,4 @@ pub plan_text-requires : goal.plan_text-requires
 plan_text-requires c =
     let job = c.job.inside in
     let passing = (c.passes_are_local.ensures job.problem job.pins.routes job.plan.routes).0 c.job.invariant.plan in
-    subst (All (AreLiveOnce job.problem)) (sym c.as_slice.ensures) (((c.plans_are_local.ensures job.problem job.plan.routes).0 passing.plan).0)
+    subst (All (AreLiveOnce job.problem)) (sym c.as_slice-routes.ensures) (((c.plans_are_local.ensures job.problem job.plan.routes).0 passing.plan).0)

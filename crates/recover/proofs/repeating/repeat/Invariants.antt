@@ -4,7 +4,7 @@ use Rattle.recover.proofs.repeating.repeat.Given as goal
 
 abbrev pub invariant-loop-command : goal.invariant-loop-command
 invariant-loop-command l =
-    IsState l.state
-    × (after l.fn.snapshot l.commands ≡ after l.state (drop l.command-index l.commands))
-    × (AreAccepted l.fn.snapshot l.commands → AreAccepted l.state (drop l.command-index l.commands))
-    × (AreAccepted l.state (drop l.command-index l.commands) → AreAccepted l.fn.snapshot l.commands)
+    IsState l.planner
+    × (after l.fn.snapshot l.commands ≡ after l.planner (drop l.command-index l.commands))
+    × (AreAccepted l.fn.snapshot l.commands → AreAccepted l.planner (drop l.command-index l.commands))
+    × (AreAccepted l.planner (drop l.command-index l.commands) → AreAccepted l.fn.snapshot l.commands)

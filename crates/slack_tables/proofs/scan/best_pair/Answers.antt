@@ -4,8 +4,6 @@ use Rattle.std.proofs.lemmas.Int.{to_z-of_z}
 use Rattle.slack_tables.specs.Best.{IsFirstOf}
 use Rattle.slack_tables.specs.Closed.{AreClosed}
 use Rattle.slack_tables.specs.Scan.{AddsPair}
-use Rattle.slack_tables.specs.Span.{IsFarPair}
-use Rattle.slack_tables.proofs.SpanLemmas.{far-pair}
 use Rattle.slack_tables.proofs.TightLemmas.{none-open, open-only}
 use Rattle.slack_tables.proofs.scan.best_pair.Goals as goal
 
@@ -23,9 +21,3 @@ returns c = λ d.
     (let below : SFits w64 c.args.below = record { sfits = c.ranges.below.sfits } in
     open-only c.args.limits c.args.places.now c.args.pickup.now c.args.delivery.now c.args.kept c.first_open-first.result _ d _ c.first_open-first.ensures.behind c.first_open-first.ensures.closed
     (subst (λ x. IsFirstOf (AddsPair c.args.limits c.args.places.now c.args.pickup.now c.args.delivery.now (c.first_open-first.result - 1) x d) c.best_from-2.result) (to_z-of_z w64 c.args.below below) (c.best_from-2.ensures d)))
-
-pub returns-then-is_far_pair : goal.returns-then-is_far_pair
-returns-then-is_far_pair c = λ d.
-    (let below : SFits w64 c.args.below = record { sfits = c.ranges.below.sfits } in
-    far-pair c.args.limits c.args.places.now c.args.depot.now c.args.pickup.now c.args.delivery.now c.args.kept c.args.below d c.args.span.now c.requires.ways c.requires.span c.requires.home
-    (subst (λ x. IsFarPair c.args.span.now c.args.depot.now c.args.pickup.now c.args.delivery.now x) (to_z-of_z w64 c.args.below below) (c.is_far_pair.ensures c.if-is_far_pair.true)))

@@ -5,8 +5,6 @@ use Rattle.nint_dist.specs.Distance.{distance}
 use Rattle.slack_tables.specs.Best.{IsFirstOf}
 use Rattle.slack_tables.specs.Scan.{AddsSingle, offered, served_single}
 use Rattle.slack_tables.proofs.ScanLemmas.{singles-begin, single-more, singles-end}
-use Rattle.slack_tables.specs.Span.{IsFarSingle}
-use Rattle.slack_tables.proofs.SpanLemmas.{full-single, far-single}
 use Rattle.slack_tables.proofs.WalkLemmas.{offered-single}
 use Rattle.slack_tables.proofs.scan.best_single.Goals as goal
 
@@ -37,12 +35,3 @@ pub returns : goal.returns
 returns c = λ d.
     (let fits : SFits w64 c.args.below = record { sfits = c.ranges.below.sfits } in
     subst (λ x. IsFirstOf (AddsSingle c.args.limits c.args.places.now c.args.stop.now c.args.kept x d) c.loop-i.best.found) (to_z-of_z w64 c.args.below fits) (singles-end c.args.limits c.args.places.now c.args.stop.now c.args.kept d _ c.loop-i.i c.loop-i.best (c.loop-i.invariant.best d) (omega arith)))
-
-pub returns-then-is_full : goal.returns-then-is_full
-returns-then-is_full c = λ d. full-single c.args.limits c.args.places.now c.args.stop.now c.args.kept c.args.below d c.args.span.now c.requires.span c.requires.laden (c.is_full.ensures c.if-is_full.true)
-
-pub returns-then-is_far_single : goal.returns-then-is_far_single
-returns-then-is_far_single c = λ d.
-    (let below : SFits w64 c.args.below = record { sfits = c.ranges.below.sfits } in
-    far-single c.args.limits c.args.places.now c.args.depot.now c.args.stop.now c.args.kept c.args.below d c.args.span.now c.requires.span c.requires.home
-    (subst (λ x. IsFarSingle c.args.span.now c.args.depot.now c.args.stop.now x) (to_z-of_z w64 c.args.below below) (c.is_far_single.ensures c.if-is_far_single.true)))

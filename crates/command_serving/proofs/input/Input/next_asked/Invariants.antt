@@ -1,12 +1,12 @@
 -- A part of one line was taken.
 use Rattle.std.proofs.Common.{◌<◌, ◌≤◌, length}
-use Rattle.command_serving.specs.Input.{CountsTaken, IsPartOf, left_of}
+use Rattle.command_serving.specs.Input.{Between, Counts, IsPartOf}
 use Rattle.command_serving.proofs.input.Input.next_asked.Given as goal
 
 abbrev pub invariant-loop-self : goal.invariant-loop-self
 invariant-loop-self g l =
-    IsPartOf (left_of g.R.Source.remaining l.fn.self l.fn.reader) (left_of g.R.Source.remaining l.self l.reader) l.self.line
-    × CountsTaken (left_of g.R.Source.remaining l.fn.self l.fn.reader) l.fn.self.left (left_of g.R.Source.remaining l.self l.reader) l.self.left
+    Between g.R.Source l.fn.self l.fn.reader l.self l.reader (λ old now. IsPartOf old now l.self.line)
+    × Counts g.R.Source l.fn.self l.fn.reader l.self l.reader
     × (l.self.left ≤ l.fn.self.left)
     × (0 < length l.self.line.kept.items → l.self.left < l.fn.self.left)
 

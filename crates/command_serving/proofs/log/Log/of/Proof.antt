@@ -1,7 +1,6 @@
 -- `of` makes a value of no bytes, at the ghost value that it is given.
 use mathlib.Core.Path.{refl}
-use Rattle.std.proofs.Common.{List}
-use Rattle.command_serving.specs.Streams.{Event}
+use Rattle.command_serving.specs.Streams.{History}
 use mathlib.Core.List.{[], ◌∷◌}
 use seplogic.Ra.Ura.{Ura}
 use mir.Val.{Val, vstruct, vcons, vnil}
@@ -33,8 +32,8 @@ use Rattle.command_serving.proofs.log.Log.of.Code as code
 abbrev v : Val
 v = vstruct (vcons (vstruct vnil) vnil)
 
-abbrev r : List Event → Log
-r held = record { marker = record {}; events = held }
+abbrev r : History → Log
+r held = record { marker = record {}; events = held.events; reads = held.reads }
 
 meets : {M : Type 1} {𝓤 : Ura M} (𝓛 : Logic 𝓤) → (at_mem : Memory → SProp 𝓤) (run : Routine → Fun 𝓤) (𝓣 : Tables 𝓤 𝓛.H)
     → Meets 𝓛 it.signature (WpFn 𝓤 𝓛.H 𝓣.C 𝓣.Λ code.function) (it.spec 𝓛 at_mem run)
@@ -46,7 +45,7 @@ meets {𝓤 = 𝓤} 𝓛 at_mem run 𝓣 =
     sets ! (agg ! (no_more !)) refl (tt, tt) $ sets ! (agg ! (and_then ! (get ! refl) (no_more !))) refl (tt, (tt, tt)) $
     returns ! (look_at ! 0 refl) $ free_all ! refl $
     pure_i ! ((T.the_row).own_val (r g) (v ∷ [])) ((λ vss. (tt, ((λ uss. (tt, tt)), tt))), tt) (((vstruct vnil ∷ [], tt), (refl, ((tt, (refl, tt)), tt))), tt) $
-    suffices ! _ (ends_at 𝓛 it.ended tt (it.clauses 𝓛 at_mem run) ((κs, qs, bounds, a, tt), g) v (r g) tt tt) $ says ! refl $
+    suffices ! _ (ends_at 𝓛 it.ended tt (it.clauses 𝓛 at_mem run) ((κs, qs, bounds, a, tt), g) v (r g) tt tt) $ says ! (refl, refl) $
     nothing ! $ join ! $ nothing ! $ done !)))
 
 pub of_spec : {M : Type 1} → stated.statement M

@@ -2,4 +2,4 @@
 use Rattle.command_serving.proofs.log.Log.of_flush.Given as goal
 
 abbrev pub ghost-of : goal.ghost-of
-ghost-of g a = g.events
+ghost-of g a = g.history

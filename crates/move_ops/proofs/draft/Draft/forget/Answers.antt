@@ -1,4 +1,4 @@
-use Rattle.std.proofs.Common.{◌≡◌, ◌++◌, ◌∷◌, [], ℕ, List, length, subst}
+use Rattle.std.proofs.Common.{◌≡◌, ◌++◌, ◌∷◌, [], ℕ, List, length, subst, arith}
 use Rattle.slack_tables.specs.Course.{Course}
 use Rattle.move_ops.specs.Logged.{AreOnce}
 use Rattle.move_ops.specs.Refreshing.{AreWithin}
@@ -14,6 +14,7 @@ invariant_of-self c =
       seats = c.self.invariant.seats;
       within = (within_front (length old.tours.items) c.pop.new.self.items c.in-Some.field-0-0 c.in-Some.tour (subst (λ (l : List (ℕ × Course)). AreWithin (length old.tours.items) l) log c.self.invariant.within)).0;
       once = once_front c.pop.new.self.items (c.in-Some.field-0-0, c.in-Some.tour) (subst AreOnce log c.self.invariant.once);
+      room = (let had = c.self.invariant.room in let same = c.pop.ensures.capacity in omega arith);
       front = c.self.invariant.front;
       idle = c.self.invariant.idle;
     }

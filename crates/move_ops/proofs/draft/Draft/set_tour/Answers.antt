@@ -1,6 +1,6 @@
-use Rattle.std.proofs.Common.{rules, ◌≡◌, ◌≤◌, ◌-◌, ◌++◌, ◌∷◌, [], ℕ, List, true, false, length, set, slice_get, ◌∙◌, sym, ap, subst}
+use Rattle.std.proofs.Common.{rules, ◌≡◌, ◌≤◌, ◌-◌, ◌++◌, ◌∷◌, [], ℕ, List, true, false, length, set, slice_get, ◌∙◌, refl, sym, ap, subst, arith}
 use Rattle.std.specs.Option.{is_none, is_some}
-use Rattle.std.specs.Vec.{with_items}
+use Rattle.std.specs.Vec.{vec_len, with_items}
 use Rattle.std.proofs.lemmas.List.{with_items_is}
 use Rattle.slack_tables.specs.Course.{Course}
 use Rattle.plan_audit.specs.Passes.{has}
@@ -8,22 +8,20 @@ use Rattle.move_ops.specs.Drafts.{undone}
 use Rattle.move_ops.specs.Logged.{is_logged, AreOnce}
 use Rattle.move_ops.specs.Refreshing.{AreWithin}
 use Rattle.move_ops.proofs.Drafting.{within_more, undone_with}
-use Rattle.move_ops.proofs.Logging.{kept_with, logged, not_logged, once_more, undone_same}
+use Rattle.move_ops.proofs.Logging.{kept_with, logged, not_logged, once_more, room_left, undone_same}
 use Rattle.move_ops.proofs.draft.Draft.set_tour.Goals as goal
 
-pub invariant_of-self-in_err-push : goal.invariant_of-self-in_err-push
-invariant_of-self-in_err-push c =
+pub push_reserved-requires : goal.push_reserved-requires
+push_reserved-requires c =
     let old = c.self.inside in
-    let seat_len : length old.seats.items ≡ old.seats.len = search rules in
-    let seated : c.deref_mut.result.now ≡ old.seats.items = search rules in
-    let new : c.swap-old.new.tours.items ≡ set old.tours.items (c.args.vehicle - 1) c.args.tour = search rules in
-    let held : (with_items old.seats c.seat.new.seats).items ≡ c.seat.new.seats = with_items_is old.seats c.seat.new.seats (c.seat.ensures.len ∙ (ap length seated ∙ seat_len)) in
     let within : c.args.vehicle ≤ length old.tours.items = search rules in
-    let front = c.front_with-self-inside.ensures in
-    let log : c.push.new.self.items ≡ old.log.items = search rules in
-    kept_with old _ c.args.vehicle c.args.tour c.seat.new.seats c.self.invariant new held (λ n at. ap (λ l. has l n) (sym c.stops.ensures) ∙ c.seat.ensures.stops n at)
-    (λ n at. ap (λ l. slice_get l n) (sym seated) ∙ c.seat.ensures.others n at) c.requires.from_one within front.front front.vehicle front.least
-    (subst (λ (l : List (ℕ × Course)). AreWithin (length old.tours.items) l) (sym log) c.self.invariant.within) (subst AreOnce (sym log) c.self.invariant.once)
+    let first : is_none c.entry_of.result ≡ true = search rules in
+    let view : c.self.inside.log.items ≡ c.args.self.now.log = search rules in
+    let none : is_logged old.log.items c.args.vehicle ≡ false = ap (λ (l : List (ℕ × Course)). is_logged l c.args.vehicle) view ∙ not_logged c.entry_of.result c.args.self.now.log c.args.vehicle c.entry_of.ensures first in
+    let few = room_left (length old.tours.items) old.log.items c.args.vehicle c.requires.from_one within c.self.invariant.within c.self.invariant.once none in
+    let room = c.self.invariant.room in
+    let long : length old.log.items ≡ vec_len old.log = search rules in
+    omega arith
 
 pub invariant_of-self : goal.invariant_of-self
 invariant_of-self c =
@@ -37,11 +35,11 @@ invariant_of-self c =
     let first : is_none c.entry_of.result ≡ true = search rules in
     let view : c.self.inside.log.items ≡ c.args.self.now.log = search rules in
     let none : is_logged old.log.items c.args.vehicle ≡ false = ap (λ (l : List (ℕ × Course)). is_logged l c.args.vehicle) view ∙ not_logged c.entry_of.result c.args.self.now.log c.args.vehicle c.entry_of.ensures first in
-    let log : c.push.new.self.items ≡ old.log.items ++ (c.args.vehicle, c.swap-old.result) ∷ [] = search rules in
+    let log : c.push_reserved.new.self.items ≡ old.log.items ++ (c.args.vehicle, c.swap-old.result) ∷ [] = search rules in
     kept_with old _ c.args.vehicle c.args.tour c.seat.new.seats c.self.invariant new held (λ n at. ap (λ l. has l n) (sym c.stops.ensures) ∙ c.seat.ensures.stops n at)
     (λ n at. ap (λ l. slice_get l n) (sym seated) ∙ c.seat.ensures.others n at) c.requires.from_one within front.front front.vehicle front.least
     (subst (λ (l : List (ℕ × Course)). AreWithin (length old.tours.items) l) (sym log) (within_more (length old.tours.items) old.log.items c.args.vehicle c.swap-old.result c.requires.from_one within c.self.invariant.within))
-    (subst AreOnce (sym log) (once_more old.log.items c.args.vehicle c.swap-old.result none c.self.invariant.once))
+    (subst AreOnce (sym log) (once_more old.log.items c.args.vehicle c.swap-old.result none c.self.invariant.once)) c.push_reserved.ensures.capacity
 
 pub invariant_of-self-else-is_first : goal.invariant_of-self-else-is_first
 invariant_of-self-else-is_first c =
@@ -54,11 +52,11 @@ invariant_of-self-else-is_first c =
     let front = c.front_with-self-inside.ensures in
     kept_with old _ c.args.vehicle c.args.tour c.seat.new.seats c.self.invariant new held (λ n at. ap (λ l. has l n) (sym c.stops.ensures) ∙ c.seat.ensures.stops n at)
     (λ n at. ap (λ l. slice_get l n) (sym seated) ∙ c.seat.ensures.others n at) c.requires.from_one within front.front front.vehicle front.least
-    c.self.invariant.within c.self.invariant.once
+    c.self.invariant.within c.self.invariant.once refl
 
-pub returns-in_ok-push-clause-base : goal.returns-in_ok-push-clause-base
-returns-in_ok-push-clause-base c =
-    undone_with c.self.inside.tours.items c.swap-old.new.tours.items c.self.inside.log.items c.push.new.self.items c.args.vehicle c.args.tour c.swap-old.result (search rules) (search rules) (search rules)
+pub returns-then-is_first-clause-base : goal.returns-then-is_first-clause-base
+returns-then-is_first-clause-base c =
+    undone_with c.self.inside.tours.items c.swap-old.new.tours.items c.self.inside.log.items c.push_reserved.new.self.items c.args.vehicle c.args.tour c.swap-old.result (search rules) (search rules) (search rules)
     ∙ (search rules)
 
 pub returns-else-is_first-clause-base : goal.returns-else-is_first-clause-base

@@ -52,7 +52,7 @@ invariant_of-self c =
     let front = c.front_with-self-inside.ensures in
     kept_with old _ c.remove-vehicle.result.0 c.remove-vehicle.result.1 c.seat.new.seats c.self.invariant new held (λ n at. ap (λ l. has l n) (sym c.stops.ensures) ∙ c.seat.ensures.stops n at)
     (λ n at. ap (λ l. slice_get l n) (sym seated) ∙ c.seat.ensures.others n at) parts.1.0 parts.1.1 front.front front.vehicle front.least
-    (subst (λ (l : List (ℕ × Course)). AreWithin (length old.tours.items) l) (sym log) parts.0) (subst AreOnce (sym log) (once_without old.log.items c.args.entry c.self.invariant.once))
+    (subst (λ (l : List (ℕ × Course)). AreWithin (length old.tours.items) l) (sym log) parts.0) (subst AreOnce (sym log) (once_without old.log.items c.args.entry c.self.invariant.once)) c.remove-vehicle.ensures.capacity
 
 pub returns-clause-tours : goal.returns-clause-tours
 returns-clause-tours c =

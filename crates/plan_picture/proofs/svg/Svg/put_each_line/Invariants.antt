@@ -4,5 +4,5 @@ use Rattle.plan_picture.specs.Svg.{each}
 use Rattle.plan_picture.proofs.svg.Svg.put_each_line.Given as goal
 
 -- the text so far and that of the routes to come
-abbrev pub invariant-loop-place : goal.invariant-loop-place
-invariant-loop-place l = l.self ++ each (line_text l.problem l.frame l.broken) (l.place + 1) (drop l.place l.routes) ≡ l.fn.self ++ each (line_text l.problem l.frame l.broken) 1 l.routes
+abbrev pub invariant-loop-index : goal.invariant-loop-index
+invariant-loop-index l = l.self ++ each (line_text l.problem l.frame l.broken) (l.first + l.index) (drop l.index l.routes) ≡ l.fn.self ++ each (line_text l.problem l.frame l.broken) l.first l.routes

@@ -1,15 +1,18 @@
-use Rattle.std.proofs.Common.{◌≡◌, ℕ, ◌+◌, ◌≤◌, [], ◌∷◌, sym, subst}
+use Rattle.std.proofs.Common.{◌≡◌, ◌∙◌, ℕ, ◌+◌, ◌≤◌, [], ◌∷◌, sym, subst}
 use Rattle.std.specs.Prelude.{None, Ok, Err}
 use Rattle.sector_disk.specs.Sectors.{Throughout}
 use Rattle.sector_disk.specs.Throughout.{weakened}
+use Rattle.command_core.specs.declared.states.State.{State}
 use Rattle.checkpoint.specs.declared.places.Place.{Place}
 use Rattle.recover.specs.declared.denials.Denial.TheVariants.{OutOfMemory, DeviceFault}
 use Rattle.recover.specs.Moments.{RunLeaves}
-use Rattle.recover.specs.Sessions.{SessionValue, IsSession}
-use Rattle.recover.specs.Applying.{denial, calls_of, IsBetween}
-use Rattle.recover.specs.Committing.{LeavesDevice}
+use Rattle.recover.specs.Sessions.{SessionValue, AllHold, IsSession}
+use Rattle.recover.specs.Applying.{denial, calls_of, place_after, IsDone, IsBetween}
+use Rattle.recover.specs.Committing.{IsInStep, LeavesDevice}
 use Rattle.recover.proofs.SessionLemmas.{is_whole, is_unspent, place_fits, stands_of, leaves_ok, leaves_fault, still, still_between}
+use Rattle.recover.proofs.sessions.Session.carry_out.Goals.{in-Whole+in-Loaded-1, in-Whole+in-Empty-1, in-Within+in-Pinned-1, in-Within+in-Working-1, in-Within+in-Plans-1, in-Within+in-Nothing-1}
 use Rattle.recover.proofs.sessions.Session.carry_out.Goals as goal
+use Rattle.recover.proofs.sessions.Session.carry_out.Given as given
 
 -- want of memory for the state after the command
 pub returns-in_default-clause-moments : goal.returns-in_default-clause-moments
@@ -17,31 +20,55 @@ returns-in_default-clause-moments g c =
     let d = g.D.Sectors in
     let i = c.self.inside in
     let command = c.args.command.now in
-    let none : denial (record { device = i.device; state = i.state; place = i.place; is_broken = i.is_broken }) command ≡ None = subst (λ (s : SessionValue _). denial s command ≡ None) (sym c.self.view_is) c.requires in
-    subst (λ (s : SessionValue _). d.honest s.device → Throughout d.clock d.possible_since s.device s.device (RunLeaves s.state (command ∷ []) (record { answer = Err OutOfMemory; calls = d.calls s.device } ∷ []))) c.self.view_is
-    (λ honest. still d.calls d.honest d.clock d.possible_since d.possible g.met.D.Sectors.only_now i.device honest i.state
-    (stands_of (d.possible i.device) i.state i.place (c.self.invariant.durable (is_whole (record { device = i.device; state = i.state; place = i.place; is_broken = i.is_broken }) command none) honest))
+    let none : denial (record { device = i.device; state = i.planner; place = i.place; is_broken = i.is_broken }) command ≡ None = subst (λ (s : SessionValue _). denial s command ≡ None) (sym c.self.view_is) c.requires in
+    subst (λ (s : SessionValue _). d.honest i.device → Throughout d.clock d.possible_since s.device i.device (RunLeaves s.state (command ∷ []) (record { answer = Err OutOfMemory; calls = d.calls i.device } ∷ []))) c.self.view_is
+    (λ honest. still d.calls d.honest d.clock d.possible_since d.possible g.met.D.Sectors.only_now i.device honest i.planner
+    (stands_of (d.possible i.device) i.planner i.place (c.self.invariant.durable (is_whole (record { device = i.device; state = i.planner; place = i.place; is_broken = i.is_broken }) command none) honest))
     command OutOfMemory (d.calls i.device))
 
 pub commit-requires-clause-fits : goal.commit-requires-clause-fits
-commit-requires-clause-fits g c recorded = c.accepted_commands_fit_records.ensures c.self.inside.state c.args.command.now c.in-Ok.ensures.accepted.1 recorded
+commit-requires-clause-fits g c recorded = c.accepted_commands_fit_records.ensures c.self.inside.planner c.args.command.now c.in-Ok.ensures.ok.accepted.1 recorded
 
-pub invariant_of-self : goal.invariant_of-self
-invariant_of-self g c =
+pub invariant_of-self-in-Ok-commit : goal.invariant_of-self-in-Ok-commit
+invariant_of-self-in-Ok-commit g c =
     let d = g.D.Sectors in
     let i = c.self.inside in
     let command = c.args.command.now in
-    let none : denial (record { device = i.device; state = i.state; place = i.place; is_broken = i.is_broken }) command ≡ None = subst (λ (s : SessionValue _). denial s command ≡ None) (sym c.self.view_is) c.requires in
-    let unspent = is_unspent (record { device = i.device; state = i.state; place = i.place; is_broken = i.is_broken }) command none in
+    let none : denial (record { device = i.device; state = i.planner; place = i.place; is_broken = i.is_broken }) command ≡ None = subst (λ (s : SessionValue _). denial s command ≡ None) (sym c.self.view_is) c.requires in
+    let unspent = is_unspent (record { device = i.device; state = i.planner; place = i.place; is_broken = i.is_broken }) command none in
     let fits = place_fits i.place command unspent c.self.invariant.first c.self.invariant.last c.self.invariant.used in
-    subst (λ (p : Place). IsSession d.len d.honest d.possible (record { device = c.commit.new.device; state = c.in-Ok.next; place = p; is_broken = i.is_broken })) (sym c.in-Ok-commit.ensures.place) (record {
-      state = c.in-Ok.ensures.facts;
+    subst (λ (p : Place). IsSession d.len d.honest d.possible (record { device = c.commit.new.device; state = c.change.new.self; place = p; is_broken = i.is_broken })) (sym c.in-Ok-commit.ensures.place) (record {
+      state = c.in-Ok.ensures.ok.facts;
       room = subst (λ (n : ℕ). 8450 ≤ n) (sym c.commit.ensures.same_len) c.self.invariant.room;
       first = fits.0;
       last = fits.1;
       used = fits.2;
-      durable = λ whole honest. c.in-Ok-commit.ensures.after honest i.state c.in-Ok.ensures.accepted c.in-Ok.ensures.next (c.self.invariant.durable whole (c.commit.ensures.honest honest));
+      durable = λ whole honest. subst (λ (s : State). AllHold (d.possible c.commit.new.device) s (place_after i.place command)) c.state.ensures (c.in-Ok-commit.ensures.after honest i.planner c.in-Ok.ensures.ok.accepted (c.state.ensures ∙ c.in-Ok.ensures.ok.effect) (c.self.invariant.durable whole (c.commit.ensures.honest honest)));
     })
+
+-- the session after a commit, whatever the change was that is dropped then
+committed : (g : given.Over) (c : goal.Joined-before g) → c.match-before.self ≡ record { device = c.commit.new.device; state = c.change.new.self; place = c.in-Ok-commit.place; is_broken = c.self.inside.is_broken }
+committed g c = elim c.match-before.branch [
+  | in-Whole+in-Loaded-1 w ↦ w.self-is
+  | in-Whole+in-Empty-1 w ↦ w.self-is
+  | in-Within+in-Pinned-1 w ↦ w.self-is
+  | in-Within+in-Working-1 w ↦ w.self-is
+  | in-Within+in-Plans-1 w ↦ w.self-is
+  | in-Within+in-Nothing-1 w ↦ w.self-is
+]
+
+pub returns-in-Ok-commit-clause-makes : goal.returns-in-Ok-commit-clause-makes
+returns-in-Ok-commit-clause-makes g c =
+    let i = c.self.inside in
+    let command = c.args.command.now in
+    let none : denial (record { device = i.device; state = i.planner; place = i.place; is_broken = i.is_broken }) command ≡ None = subst (λ (s : SessionValue _). denial s command ≡ None) (sym c.self.view_is) c.requires in
+    subst (λ (new : SessionValue _). IsDone c.args.self.now command new) (sym (committed g c))
+    (subst (λ (old : SessionValue _). IsDone old command (record { device = c.commit.new.device; state = c.change.new.self; place = c.in-Ok-commit.place; is_broken = i.is_broken })) c.self.view_is (record {
+      accepted = c.in-Ok.ensures.ok.accepted;
+      state = c.in-Ok.ensures.ok.effect;
+      place = c.in-Ok-commit.ensures.place;
+      is_broken = is_whole (record { device = i.device; state = i.planner; place = i.place; is_broken = i.is_broken }) command none;
+    }))
 
 pub returns-in-Ok-commit-clause-moments : goal.returns-in-Ok-commit-clause-moments
 returns-in-Ok-commit-clause-moments g c =
@@ -49,12 +76,13 @@ returns-in-Ok-commit-clause-moments g c =
     let i = c.self.inside in
     let end = c.commit.new.device in
     let command = c.args.command.now in
-    let none : denial (record { device = i.device; state = i.state; place = i.place; is_broken = i.is_broken }) command ≡ None = subst (λ (s : SessionValue _). denial s command ≡ None) (sym c.self.view_is) c.requires in
-    subst (λ (s : SessionValue _). d.honest end → Throughout d.clock d.possible_since s.device end (RunLeaves s.state (command ∷ []) (record { answer = Ok tt; calls = d.calls end } ∷ []))) c.self.view_is
-    (λ honest. weakened d.clock d.possible_since i.device end _ _
-    (λ m image step. leaves_ok i.state command c.in-Ok.ensures.accepted c.in-Ok.next c.in-Ok.ensures.next (d.calls i.device) (calls_of i.place command) (d.calls end) m image step tt c.in-Ok-commit.ensures.finished)
-    (c.commit.ensures.moments honest i.state c.in-Ok.ensures.accepted c.in-Ok.ensures.next
-    (c.self.invariant.durable (is_whole (record { device = i.device; state = i.state; place = i.place; is_broken = i.is_broken }) command none) (c.commit.ensures.honest honest))))
+    let none : denial (record { device = i.device; state = i.planner; place = i.place; is_broken = i.is_broken }) command ≡ None = subst (λ (s : SessionValue _). denial s command ≡ None) (sym c.self.view_is) c.requires in
+    subst (λ (new : SessionValue _). d.honest new.device → Throughout d.clock d.possible_since c.args.self.now.device new.device (RunLeaves c.args.self.now.state (command ∷ []) (record { answer = Ok tt; calls = d.calls new.device } ∷ []))) (sym (committed g c))
+    (subst (λ (s : SessionValue _). d.honest end → Throughout d.clock d.possible_since s.device end (RunLeaves s.state (command ∷ []) (record { answer = Ok tt; calls = d.calls end } ∷ []))) c.self.view_is
+    (λ honest. weakened d.clock d.possible_since i.device end (IsInStep i.planner c.state.result.now (d.calls i.device) (calls_of i.place command)) _
+    (λ m image step. leaves_ok i.planner command c.in-Ok.ensures.ok.accepted c.state.result.now (c.state.ensures ∙ c.in-Ok.ensures.ok.effect) (d.calls i.device) (calls_of i.place command) (d.calls end) m image step tt c.in-Ok-commit.ensures.finished)
+    (c.commit.ensures.moments honest i.planner c.in-Ok.ensures.ok.accepted (c.state.ensures ∙ c.in-Ok.ensures.ok.effect)
+    (c.self.invariant.durable (is_whole (record { device = i.device; state = i.planner; place = i.place; is_broken = i.is_broken }) command none) (c.commit.ensures.honest honest)))))
 
 pub returns-in-Ok-commit-clause-counts : goal.returns-in-Ok-commit-clause-counts
 returns-in-Ok-commit-clause-counts g c =
@@ -62,12 +90,13 @@ returns-in-Ok-commit-clause-counts g c =
     let i = c.self.inside in
     let end = c.commit.new.device in
     let command = c.args.command.now in
-    let none : denial (record { device = i.device; state = i.state; place = i.place; is_broken = i.is_broken }) command ≡ None = subst (λ (s : SessionValue _). denial s command ≡ None) (sym c.self.view_is) c.requires in
-    subst (λ (s : SessionValue _). d.honest end → Throughout d.clock d.possible_since s.device end (IsBetween (d.calls s.device) (d.calls s.device + calls_of s.place command))) c.self.view_is
-    (λ honest. weakened d.clock d.possible_since i.device end _ (IsBetween (d.calls i.device) (d.calls i.device + calls_of i.place command))
+    let none : denial (record { device = i.device; state = i.planner; place = i.place; is_broken = i.is_broken }) command ≡ None = subst (λ (s : SessionValue _). denial s command ≡ None) (sym c.self.view_is) c.requires in
+    subst (λ (new : SessionValue _). d.honest new.device → Throughout d.clock d.possible_since c.args.self.now.device new.device (IsBetween (d.calls c.args.self.now.device) (d.calls c.args.self.now.device + calls_of c.args.self.now.place command))) (sym (committed g c))
+    (subst (λ (s : SessionValue _). d.honest end → Throughout d.clock d.possible_since s.device end (IsBetween (d.calls s.device) (d.calls s.device + calls_of s.place command))) c.self.view_is
+    (λ honest. weakened d.clock d.possible_since i.device end (IsInStep i.planner c.state.result.now (d.calls i.device) (calls_of i.place command)) (IsBetween (d.calls i.device) (d.calls i.device + calls_of i.place command))
     (λ m image step. (step.from, step.to))
-    (c.commit.ensures.moments honest i.state c.in-Ok.ensures.accepted c.in-Ok.ensures.next
-    (c.self.invariant.durable (is_whole (record { device = i.device; state = i.state; place = i.place; is_broken = i.is_broken }) command none) (c.commit.ensures.honest honest))))
+    (c.commit.ensures.moments honest i.planner c.in-Ok.ensures.ok.accepted (c.state.ensures ∙ c.in-Ok.ensures.ok.effect)
+    (c.self.invariant.durable (is_whole (record { device = i.device; state = i.planner; place = i.place; is_broken = i.is_broken }) command none) (c.commit.ensures.honest honest)))))
 
 -- want of memory for a snapshot
 pub returns-in-Err-OutOfMemory-clause-moments : goal.returns-in-Err-OutOfMemory-clause-moments
@@ -76,12 +105,12 @@ returns-in-Err-OutOfMemory-clause-moments g c =
     let i = c.self.inside in
     let end = c.commit.new.device in
     let command = c.args.command.now in
-    let none : denial (record { device = i.device; state = i.state; place = i.place; is_broken = i.is_broken }) command ≡ None = subst (λ (s : SessionValue _). denial s command ≡ None) (sym c.self.view_is) c.requires in
+    let none : denial (record { device = i.device; state = i.planner; place = i.place; is_broken = i.is_broken }) command ≡ None = subst (λ (s : SessionValue _). denial s command ≡ None) (sym c.self.view_is) c.requires in
     let same : end ≡ i.device = subst (λ fault. LeavesDevice fault i.device end) c.in-Err-OutOfMemory.field-0-is c.in-Err-OutOfMemory.ensures.left in
     subst (λ (s : SessionValue _). d.honest end → Throughout d.clock d.possible_since s.device end (RunLeaves s.state (command ∷ []) (record { answer = Err OutOfMemory; calls = d.calls end } ∷ []))) c.self.view_is
-    (subst (λ device. d.honest device → Throughout d.clock d.possible_since i.device device (RunLeaves i.state (command ∷ []) (record { answer = Err OutOfMemory; calls = d.calls device } ∷ []))) (sym same)
-    (λ honest. still d.calls d.honest d.clock d.possible_since d.possible g.met.D.Sectors.only_now i.device honest i.state
-    (stands_of (d.possible i.device) i.state i.place (c.self.invariant.durable (is_whole (record { device = i.device; state = i.state; place = i.place; is_broken = i.is_broken }) command none) honest))
+    (subst (λ device. d.honest device → Throughout d.clock d.possible_since i.device device (RunLeaves i.planner (command ∷ []) (record { answer = Err OutOfMemory; calls = d.calls device } ∷ []))) (sym same)
+    (λ honest. still d.calls d.honest d.clock d.possible_since d.possible g.met.D.Sectors.only_now i.device honest i.planner
+    (stands_of (d.possible i.device) i.planner i.place (c.self.invariant.durable (is_whole (record { device = i.device; state = i.planner; place = i.place; is_broken = i.is_broken }) command none) honest))
     command OutOfMemory (d.calls i.device)))
 
 pub returns-in-Err-OutOfMemory-clause-counts : goal.returns-in-Err-OutOfMemory-clause-counts
@@ -96,28 +125,28 @@ returns-in-Err-OutOfMemory-clause-counts g c =
     (λ honest. still_between d.calls d.honest d.clock d.possible_since d.possible g.met.D.Sectors.only_now i.device honest (calls_of i.place command)))
 
 -- the device failed
-pub returns-clause-moments : goal.returns-clause-moments
-returns-clause-moments g c =
+pub returns-in-Err-DeviceFault-clause-moments : goal.returns-in-Err-DeviceFault-clause-moments
+returns-in-Err-DeviceFault-clause-moments g c =
     let d = g.D.Sectors in
     let i = c.self.inside in
     let end = c.commit.new.device in
     let command = c.args.command.now in
-    let none : denial (record { device = i.device; state = i.state; place = i.place; is_broken = i.is_broken }) command ≡ None = subst (λ (s : SessionValue _). denial s command ≡ None) (sym c.self.view_is) c.requires in
+    let none : denial (record { device = i.device; state = i.planner; place = i.place; is_broken = i.is_broken }) command ≡ None = subst (λ (s : SessionValue _). denial s command ≡ None) (sym c.self.view_is) c.requires in
     subst (λ (s : SessionValue _). d.honest end → Throughout d.clock d.possible_since s.device end (RunLeaves s.state (command ∷ []) (record { answer = Err DeviceFault; calls = d.calls end } ∷ []))) c.self.view_is
-    (λ honest. weakened d.clock d.possible_since i.device end _ _
-    (λ m image step. leaves_fault i.state command c.in-Ok.ensures.accepted c.in-Ok.next c.in-Ok.ensures.next (d.calls i.device) (calls_of i.place command) (d.calls end) m image step)
-    (c.commit.ensures.moments honest i.state c.in-Ok.ensures.accepted c.in-Ok.ensures.next
-    (c.self.invariant.durable (is_whole (record { device = i.device; state = i.state; place = i.place; is_broken = i.is_broken }) command none) (c.commit.ensures.honest honest))))
+    (λ honest. weakened d.clock d.possible_since i.device end (IsInStep i.planner c.state.result.now (d.calls i.device) (calls_of i.place command)) _
+    (λ m image step. leaves_fault i.planner command c.in-Ok.ensures.ok.accepted c.state.result.now (c.state.ensures ∙ c.in-Ok.ensures.ok.effect) (d.calls i.device) (calls_of i.place command) (d.calls end) m image step)
+    (c.commit.ensures.moments honest i.planner c.in-Ok.ensures.ok.accepted (c.state.ensures ∙ c.in-Ok.ensures.ok.effect)
+    (c.self.invariant.durable (is_whole (record { device = i.device; state = i.planner; place = i.place; is_broken = i.is_broken }) command none) (c.commit.ensures.honest honest))))
 
-pub returns-clause-counts : goal.returns-clause-counts
-returns-clause-counts g c =
+pub returns-in-Err-DeviceFault-clause-counts : goal.returns-in-Err-DeviceFault-clause-counts
+returns-in-Err-DeviceFault-clause-counts g c =
     let d = g.D.Sectors in
     let i = c.self.inside in
     let end = c.commit.new.device in
     let command = c.args.command.now in
-    let none : denial (record { device = i.device; state = i.state; place = i.place; is_broken = i.is_broken }) command ≡ None = subst (λ (s : SessionValue _). denial s command ≡ None) (sym c.self.view_is) c.requires in
+    let none : denial (record { device = i.device; state = i.planner; place = i.place; is_broken = i.is_broken }) command ≡ None = subst (λ (s : SessionValue _). denial s command ≡ None) (sym c.self.view_is) c.requires in
     subst (λ (s : SessionValue _). d.honest end → Throughout d.clock d.possible_since s.device end (IsBetween (d.calls s.device) (d.calls s.device + calls_of s.place command))) c.self.view_is
-    (λ honest. weakened d.clock d.possible_since i.device end _ (IsBetween (d.calls i.device) (d.calls i.device + calls_of i.place command))
+    (λ honest. weakened d.clock d.possible_since i.device end (IsInStep i.planner c.state.result.now (d.calls i.device) (calls_of i.place command)) (IsBetween (d.calls i.device) (d.calls i.device + calls_of i.place command))
     (λ m image step. (step.from, step.to))
-    (c.commit.ensures.moments honest i.state c.in-Ok.ensures.accepted c.in-Ok.ensures.next
-    (c.self.invariant.durable (is_whole (record { device = i.device; state = i.state; place = i.place; is_broken = i.is_broken }) command none) (c.commit.ensures.honest honest))))
+    (c.commit.ensures.moments honest i.planner c.in-Ok.ensures.ok.accepted (c.state.ensures ∙ c.in-Ok.ensures.ok.effect)
+    (c.self.invariant.durable (is_whole (record { device = i.device; state = i.planner; place = i.place; is_broken = i.is_broken }) command none) (c.commit.ensures.honest honest))))

@@ -7,8 +7,6 @@ use Rattle.slack_tables.specs.Best.{IsFirstOf, IsBestAddition}
 use Rattle.slack_tables.specs.Course.{Course, route_of}
 use Rattle.std.specs.Prelude.{All}
 use Rattle.slack_tables.specs.Driven.{IsSmallRow}
-use Rattle.slack_tables.specs.Span.{AreHome, AreLaden}
-use Rattle.slack_tables.proofs.SpanLemmas.{home, laden}
 use Rattle.slack_tables.specs.Inside.{AreKnown, course_within}
 use Rattle.slack_tables.specs.Legs.{AreLinked, AreRising}
 use Rattle.slack_tables.specs.Scan.{AddsSingle, AddsPair}
@@ -67,16 +65,5 @@ returns-in-Pair c = λ p name valid is named.
     subst (λ r. IsBestAddition p (route_of c.args.self.now) r c.args.kept c.args.below c.best_pair.result) (sym c.in-Pair.is)
     (pair-best p c.args.self.now c.self.inside.places.items table valid is c.requests_are_found_by_stop.ensures name c.args.kept c.args.below d c.in-Pair.pickup c.in-Pair.delivery c.best_pair.result (named ∙ ap (λ r. Some r) c.in-Pair.is) first))
 
-pub best_single-requires-clause-laden : goal.best_single-requires-clause-laden
-best_single-requires-clause-laden c =
-    let table : AreKnown c.args.self.now c.self.inside.places.items = subst (λ q. AreKnown q c.self.inside.places.items) c.self.view_is c.self.invariant.0 in
-    subst (λ xs. AreLaden xs) (sym c.as_slice-places.ensures.value) (laden c.args.self.now c.self.inside.places.items table)
-
-pub best_single-requires-clause-home : goal.best_single-requires-clause-home
-best_single-requires-clause-home c = subst (λ xs. AreHome c.self.inside.depot xs) (sym c.as_slice-places.ensures.value) (home (course_within c.self.inside) c.self.inside.places.items c.self.invariant.0)
-
 pub best_pair-requires-clause-places : goal.best_pair-requires-clause-places
 best_pair-requires-clause-places c = subst (λ xs. All IsSmallRow xs) (sym c.as_slice-places.ensures.value) c.self.invariant.0.small
-
-pub best_pair-requires-clause-home : goal.best_pair-requires-clause-home
-best_pair-requires-clause-home c = subst (λ xs. AreHome c.self.inside.depot xs) (sym c.as_slice-places.ensures.value) (home (course_within c.self.inside) c.self.inside.places.items c.self.invariant.0)

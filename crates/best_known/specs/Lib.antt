@@ -1,0 +1,2 @@
+pub mod BestKnown
+pub mod Gaps

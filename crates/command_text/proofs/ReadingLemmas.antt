@@ -1,0 +1,42 @@
+-- What texts are read as, from the laws of their formats.
+use Rattle.std.proofs.Common.{◌≡◌, inl, inr, List, ℕ, Ok, Err, Result, ap}
+use Rattle.plan_types.specs.Instance.{Instance}
+use Rattle.plan_types.specs.declared.requests.Kind.{Kind}
+use Rattle.plan_types.specs.declared.requests.Kind.TheVariants.{LiLim, Vrp}
+use Rattle.instance_read.specs.Readable.{IsOneWay, SpellsOrFails, TextsAreRead, TextsAreReadOneWay}
+use Rattle.instance_read.specs.declared.faults.ReadFault.{ReadFault}
+use Rattle.command_text.specs.Readings.{InstanceFault, IsFound, ReadingsAgree, SomeReadingIs, SpellsInstance}
+
+abbrev Reads : Kind → List ℕ → Type 0
+Reads kind text = SpellsOrFails (SpellsInstance kind text) (InstanceFault kind text)
+
+module _ (law : TextsAreRead) where
+  reads : (kind : Kind) (text : List ℕ) → Reads kind text
+  reads LiLim text = (law text).0
+  reads Vrp text = (law text).1
+
+  read_as : (kind : Kind) (text : List ℕ) → Reads kind text → Result Instance ReadFault
+  read_as kind text (inl spelled) = Ok spelled.0
+  read_as kind text (inr first) = Err first.0
+
+  is_found : (kind : Kind) (text : List ℕ) (r : Reads kind text) → IsFound kind text (read_as kind text r)
+  unfolding read_as
+  is_found kind text (inl spelled) = spelled.1
+  is_found kind text (inr first) = first.1
+
+  pub some_reading : SomeReadingIs
+  some_reading = ((λ kind text. read_as kind text (reads kind text)), (λ kind text. is_found kind text (reads kind text)))
+
+module _ (law : TextsAreReadOneWay) where
+  one_way : (kind : Kind) (text : List ℕ) → IsOneWay (SpellsInstance kind text) (InstanceFault kind text)
+  one_way LiLim text = (law text).0
+  one_way Vrp text = (law text).1
+
+  same : (kind : Kind) (text : List ℕ) (r q : Result Instance ReadFault) → IsFound kind text r → IsFound kind text q → r ≡ q
+  same kind text (Ok p) (Ok q) a b = ap (λ x. Ok x) ((one_way kind text).problems p q a b)
+  same kind text (Ok p) (Err f) a b = absurd ((one_way kind text).either p f a b)
+  same kind text (Err f) (Ok p) a b = absurd ((one_way kind text).either p f b a)
+  same kind text (Err f) (Err g) a b = ap (λ x. Err x) ((one_way kind text).faults f g a b)
+
+  pub readings_agree : ReadingsAgree
+  readings_agree reading other a b kind text = same kind text (reading kind text) (other kind text) (a kind text) (b kind text)

@@ -1,0 +1,136 @@
+//! What is told of a job where a line asks: what it refuses to tell, and the text.
+ghost use Rattle.std.specs.Prelude.{◌≡◌, [], All, IfOk, string_bytes, true, unwrap_or};
+ghost use Rattle.route_sched.specs.Route.{AreLiveOnce};
+ghost use Rattle.plan_timetable.specs.declared.forms.Form.TheVariants.{Columns};
+ghost use Rattle.plan_timetable.specs.Timetable.{timetable_text, vehicle_text};
+ghost use Rattle.plan_audit.specs.Passes.{passes};
+ghost use Rattle.plan_why.specs.Why.{why_named};
+ghost use Rattle.move_ops.specs.Insertion.{of_vehicle, request_named};
+ghost use Rattle.seeded_search.specs.Steps.{unplanned_names};
+ghost use Rattle.command_text.specs.Questions.{name_refusal, question_refusal, question_text, vehicle_refusal};
+
+use command_core::{Job, Refusal, unplanned_names};
+use plan_audit::{passes_are_local, plans_are_local};
+use plan_timetable::{Form, timetable, vehicle_timetable};
+use plan_types::{OutOfMemory, Pins, Plan, Problem, Route};
+use plan_why::why;
+use std::alloc::Global;
+
+/// What a line asks of a job.
+#[derive(Clone, Copy, Debug, PartialEq, Eq)]
+pub enum Question {
+    /// When each vehicle is where.
+    Timetable,
+    /// When this vehicle is where; they count from 1.
+    VehicleTimetable(u32),
+    /// Why the request of this name is where it is, or in no route.
+    Why(u32),
+}
+
+/// Why a job leaves a question open: `Range` of a vehicle that the fleet has not, `NoSuchRequest` of a name that no live request has.
+pub fn question_refusal(job: &Job, question: Question) -> Option<Refusal>
+    ensures { result ≡ question_refusal job.now question }
+{
+    match question {
+        Question::Timetable => None,
+        Question::VehicleTimetable(vehicle) => vehicle_refusal(&job.problem, vehicle),
+        Question::Why(name) => name_refusal(&job.problem, name),
+    }
+}
+
+fn vehicle_refusal(problem: &Problem, vehicle: u32) -> Option<Refusal>
+    ensures { result ≡ vehicle_refusal problem.now vehicle }
+{
+    if 1 <= vehicle && vehicle <= problem.fleet {
+        None
+    } else {
+        Some(Refusal::Range)
+    }
+}
+
+fn name_refusal(problem: &Problem, name: u32) -> Option<Refusal>
+    ensures { result ≡ name_refusal (request_named problem.now name) }
+{
+    match problem.requests.get(&name) {
+        Some(_) => None,
+        None => Some(Refusal::NoSuchRequest),
+    }
+}
+
+/// What is told of a job, in whole lines for people.
+pub fn question_text(alloc: Global, job: &Job, question: Question) -> Result<String, OutOfMemory>
+    ensures { IfOk result (λ text. string_bytes text ≡ question_text job.now question) }
+{
+    passes_are_local();
+    plans_are_local();
+    let problem = &job.problem;
+    let routes = job.plan.routes.as_slice();
+    match question {
+        Question::Timetable => {
+            let pins = job.pins.routes.as_slice();
+            whole_timetable(alloc, problem, pins, routes)
+        }
+        Question::VehicleTimetable(vehicle) => vehicle_day(alloc, problem, routes, vehicle),
+        Question::Why(name) => reason(alloc, problem, &job.pins, &job.plan, name),
+    }
+}
+
+fn whole_timetable(
+    alloc: Global,
+    problem: &Problem,
+    pins: &[Route],
+    routes: &[Route],
+) -> Result<String, OutOfMemory>
+    requires { All (AreLiveOnce problem.now) routes.now }
+    ensures { IfOk result (λ text. string_bytes text ≡ timetable_text Columns problem.now
+        pins.now routes.now (unplanned_names problem.now routes.now)) }
+{
+    let unplanned = unplanned_names(alloc, problem, routes)?;
+    let names = unplanned.as_slice();
+    timetable(alloc, problem, pins, routes, names, Form::Columns)
+}
+
+fn vehicle_day(
+    alloc: Global,
+    problem: &Problem,
+    routes: &[Route],
+    vehicle: u32,
+) -> Result<String, OutOfMemory>
+    requires { All (AreLiveOnce problem.now) routes.now }
+    ensures { IfOk result (λ text. string_bytes text
+        ≡ vehicle_text Columns problem.now vehicle (of_vehicle routes.now vehicle)) }
+{
+    let route = of_vehicle(routes, vehicle);
+    vehicle_timetable(alloc, problem, u64::from(vehicle), route, Form::Columns)
+}
+
+// Why the request of this name is where it is; no line where there is none.
+fn reason(
+    alloc: Global,
+    problem: &Problem,
+    pins: &Pins,
+    plan: &Plan,
+    name: u32,
+) -> Result<String, OutOfMemory>
+    requires { passes problem.now pins.now.routes plan.now.routes ≡ true }
+    ensures { IfOk result (λ text. string_bytes text
+        ≡ unwrap_or (why_named problem.now pins.now.routes plan.now.routes name) []) }
+{
+    match why(alloc, problem, pins, plan, name)? {
+        Some(text) => Ok(text),
+        None => Ok(String::new(alloc)),
+    }
+}
+
+// The route of a vehicle; none where there is no such vehicle.
+fn of_vehicle(routes: &[Route], vehicle: u32) -> &[u32]
+    ensures { result.now ≡ of_vehicle routes.now vehicle }
+{
+    if vehicle == 0 {
+        return &[];
+    }
+    match routes.get((vehicle - 1) as usize) {
+        Some(route) => route.as_slice(),
+        None => &[],
+    }
+}

@@ -1,0 +1,52 @@
+-- A vehicle that gets the route back that it has in the base, with its table.
+use Rattle.std.proofs.Common.{◌≡◌, ◌∙◌, ◌-◌, ◌<◌, ◌≤◌, ℕ, List, Some, length, get_or, slice_get, refl, sym, ap, subst}
+use Rattle.std.proofs.lemmas.Option.{slice_get_read, slice_get_within}
+use Rattle.plan_types.specs.Instance.{Instance}
+use Rattle.slack_tables.specs.Course.{Course, course_of, route_of}
+use Rattle.move_ops.specs.declared.draft.Draft.TheInside.{Inside}
+use Rattle.move_ops.specs.Drafts.{Drafted, undone, draft_of}
+use Rattle.move_ops.specs.Insertion.{with_route}
+use Rattle.move_ops.specs.Kept.{IsKept}
+use Rattle.move_ops.specs.Logged.{AreOnce}
+use Rattle.move_ops.specs.Refreshing.{AreWithin}
+use Rattle.move_ops.specs.Tables.{AreTablesIn}
+use Rattle.move_ops.proofs.Drafting.{base_course}
+use Rattle.move_ops.proofs.Logging.{base_at}
+use Rattle.move_ops.proofs.Times.{some_same}
+
+module _ (p : Instance) (d : Drafted) (old : Inside) (kept : IsKept old) (view : old.log.items ≡ d.log) (base : AreTablesIn p (undone d.tours d.log)) (v k : ℕ) (high : v ≤ length d.tours)
+    (x : Course) (there : slice_get d.log k ≡ Some (v, x)) where
+  below : k < length d.log
+  below = slice_get_within d.log k (v, x) there
+
+  pub in_log : k < length old.log.items
+  in_log = subst (λ (l : List (ℕ × Course)). k < length l) (sym view) below
+
+  is_course : course_of p (route_of x) ≡ x
+  is_course =
+      let within : AreWithin (length old.tours.items) d.log = subst (AreWithin (length old.tours.items)) view kept.within in
+      let once : AreOnce d.log = subst AreOnce view kept.once in
+      base_course p (undone d.tours d.log) (v - 1) x (base_at d.tours d.log (length old.tours.items) k (v, x) there within once high) base
+
+  read : (e : ℕ × Course) → e ≡ get_or old.log.items k e → e ≡ (v, x)
+  read e at = some_same e (v, x) (sym (slice_get_read d.log (length d.log) k e refl below (subst (λ (l : List (ℕ × Course)). e ≡ get_or l k e) view at)) ∙ there)
+
+  -- what is read there is its table of the base
+  pub read_course : (e : ℕ × Course) → e ≡ get_or old.log.items k e → course_of p (route_of e.1) ≡ e.1
+  read_course e at = subst (λ (y : ℕ × Course). course_of p (route_of y.1) ≡ y.1) (sym (read e at)) is_course
+
+  -- and where its stops are those of a route, so is the table
+  module _ (first : ℕ × Course) (at_first : first ≡ get_or old.log.items k first) (stops route : List ℕ) (of_first : stops ≡ route_of first.1) (same : stops ≡ route) where
+    of_base : route_of x ≡ route
+    of_base = sym (of_first ∙ ap (λ (y : ℕ × Course). route_of y.1) (read first at_first)) ∙ same
+
+    pub base_is : x ≡ course_of p route
+    base_is = sym is_course ∙ ap (course_of p) of_base
+
+    pub base_stops : route_of (course_of p route) ≡ route
+    base_stops = ap route_of (sym base_is) ∙ of_base
+
+    pub same_plan : (second : ℕ × Course) → second ≡ get_or old.log.items k second → (u : ℕ) → u ≡ v → with_route (draft_of d) u (route_of second.1) ≡ with_route (draft_of d) v route
+    same_plan second at u is =
+        ap (λ (w : ℕ). with_route (draft_of d) w (route_of second.1)) is
+        ∙ (ap (λ (y : ℕ × Course). with_route (draft_of d) v (route_of y.1)) (read second at) ∙ ap (λ (r : List ℕ). with_route (draft_of d) v r) of_base)

@@ -1,0 +1,34 @@
+use Rattle.std.proofs.Common.{rules, ◌≡◌, true, false, None, Some, nat_eq}
+use Rattle.std.specs.Map.{lookup}
+use Rattle.move_ops.specs.Drafts.{draft_of}
+use Rattle.move_ops.specs.Insertion.{put_in, with_request_at}
+use Rattle.move_ops.proofs.Putting.{named_request, put_named, was_made, was_not_made}
+use Rattle.move_ops.proofs.draft.Draft.insert.Goals as goal
+
+pub can_be_put-requires-clause-request : goal.can_be_put-requires-clause-request
+can_be_put-requires-clause-request c =
+    let found : lookup (nat_eq c.args.name) c.args.problem.now.requests ≡ Some c.in-Some.request.now = search rules in
+    named_request c.args.problem.now c.requires.valid c.args.name c.in-Some.request.now found
+
+pub returns-then-not-branch : goal.returns-then-not-branch
+returns-then-not-branch c =
+    let p = c.args.problem.now in
+    let pins = c.args.pins.now.routes in
+    let routes = draft_of c.args.self.now in
+    let r = c.in-Some.request.now in
+    let found : lookup (nat_eq c.args.name) p.requests ≡ Some r = search rules in
+    let cannot : c.in_ok-can_be_put.field-0 ≡ false = search rules in
+    was_not_made (put_in p pins routes c.args.name c.args.place) c.args.self.now
+    (put_named p c.requires.valid c.args.name r found pins routes c.args.place None (c.in_ok-can_be_put.ensures.none cannot))
+
+pub returns : goal.returns
+returns c =
+    let p = c.args.problem.now in
+    let pins = c.args.pins.now.routes in
+    let routes = draft_of c.args.self.now in
+    let r = c.in-Some.request.now in
+    let found : lookup (nat_eq c.args.name) p.requests ≡ Some r = search rules in
+    let can : c.in_ok-can_be_put.field-0 ≡ true = search rules in
+    let new = with_request_at routes r c.args.place in
+    was_made (put_in p pins routes c.args.name c.args.place) new c.args.self.now c.put.new.self
+    (put_named p c.requires.valid c.args.name r found pins routes c.args.place (Some new) (c.in_ok-can_be_put.ensures.put can).there) c.in_ok-put.ensures.draft

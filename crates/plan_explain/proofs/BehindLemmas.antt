@@ -1,0 +1,148 @@
+-- What is read of a solution's text ends at the first cost line.
+use Rattle.std.proofs.Common.{◌≡◌, ◌∙◌, ℕ, zero, suc, ◌+◌, ◌≤◌, ◌==◌, Bool, true, false, List, [], ◌∷◌, length, take, Option, Some, None, is_some, refl, sym, ap, subst, inl, inr, arith, one-add}
+use Rattle.std.specs.List.{AllByRecursion, before_first, find, position_or_len}
+use Rattle.std.proofs.lemmas.Bool.{cases_Bool}
+use Rattle.std.proofs.lemmas.Bool.Decides.{eqb_tells}
+use Rattle.text_lines.specs.Lines.{lines_of}
+use Rattle.text_lines.specs.Words.{is_blank_line}
+use Rattle.sol_text.specs.Faults.{Fault, FaultAmong, LineCounts, has_bad_number, is_bad_line, line_at}
+use Rattle.sol_text.specs.LineShapes.{is_cost_line, only_word}
+use Rattle.sol_text.specs.Values.{solution_among}
+use Rattle.sol_text.specs.declared.faults.SolFaultKind.{SolFaultKind}
+use Rattle.sol_text.specs.declared.faults.SolFaultKind.TheVariants.{BadLine, BadNumber, NoCost, OutOfMemory}
+use Rattle.plan_explain.specs.Behind.{ReadingEndsAtCost, ToldLinesAreUnread, filled_behind, first_filled, up_to_cost}
+
+-- the answer of lines behind the cost line, or before it
+abbrev pub filled_from : Bool → ℕ → List (List ℕ) → Option ℕ
+filled_from true n lines = first_filled n lines
+filled_from false n lines = filled_behind n lines
+
+pub one_word : (words : List (List ℕ)) → (length words == 1) ≡ is_some (only_word words)
+one_word [] = refl
+one_word (w ∷ []) = refl
+one_word (w ∷ v ∷ ws) = elim (eqb_tells (length (w ∷ v ∷ ws)) 1) [
+  | inl t ↦ absurd (let e = t.1 in omega arith)
+  | inr t ↦ t.0
+]
+
+none_some : {X : Type 0} (x : X) → None ≡ Some x → ⊥
+none_some x e = absurd cc
+
+-- ---- lines that count are read, and no others
+abbrev HasNoCost : List (List ℕ) → Type 0
+HasNoCost lines = AllByRecursion (λ line. is_cost_line line ≡ false) lines
+
+read_at : (line : List ℕ) (lines : List (List ℕ)) → is_cost_line line ≡ true → up_to_cost (line ∷ lines) ≡ line ∷ []
+read_at line lines is = rw is refl
+
+read_on : (line : List ℕ) (lines : List (List ℕ)) → is_cost_line line ≡ false → up_to_cost (line ∷ lines) ≡ line ∷ up_to_cost lines
+read_on line lines is = rw is refl
+
+counts_read : (lines : List (List ℕ)) (k : ℕ) → LineCounts lines k → LineCounts (up_to_cost lines) k × (line_at (up_to_cost lines) k ≡ line_at lines k)
+counts_read [] k counts = absurd (let few = counts.0 in omega arith)
+counts_read (line ∷ lines) zero counts = ((omega arith, tt), refl)
+counts_read (line ∷ lines) (suc k) counts =
+    let apart = counts.1.0 in
+    let few = counts.0 in
+    let rest = counts_read lines k (omega arith, counts.1.1) in
+    let within = rest.0.0 in
+    subst (λ (ls : List (List ℕ)). LineCounts ls (suc k) × (line_at ls (suc k) ≡ line_at (line ∷ lines) (suc k))) (sym (read_on line lines apart)) ((omega arith, (apart, rest.0.1)), rest.1)
+
+read_counts : (lines : List (List ℕ)) (k : ℕ) → LineCounts (up_to_cost lines) k → LineCounts lines k × (line_at (up_to_cost lines) k ≡ line_at lines k)
+read_counts [] k counts = absurd (let few = counts.0 in omega arith)
+read_counts (line ∷ lines) zero counts = ((omega arith, tt), refl)
+read_counts (line ∷ lines) (suc k) counts =
+    let apart = counts.1.0 in
+    let same = read_on line lines apart in
+    let counts_on : LineCounts (line ∷ up_to_cost lines) (suc k) = subst (λ (ls : List (List ℕ)). LineCounts ls (suc k)) same counts in
+    let few = counts_on.0 in
+    let rest = read_counts lines k (omega arith, counts_on.1.1) in
+    let within = rest.0.0 in
+    ((omega arith, (apart, rest.0.1)), ap (λ (ls : List (List ℕ)). line_at ls (suc k)) same ∙ rest.1)
+
+-- without a cost line all is read
+all_read : (lines : List (List ℕ)) → HasNoCost lines → up_to_cost lines ≡ lines
+all_read [] none = refl
+all_read (line ∷ lines) none = read_on line lines none.0 ∙ ap (λ (ls : List (List ℕ)). line ∷ ls) (all_read lines none.1)
+
+none_read : (lines : List (List ℕ)) → HasNoCost (up_to_cost lines) → HasNoCost lines
+none_read [] none = tt
+none_read (line ∷ lines) none =
+    let same = read_on line lines none.0 in
+    let rest : HasNoCost (line ∷ up_to_cost lines) = subst HasNoCost same none in
+    (none.0, none_read lines rest.1)
+
+-- ---- so the faults are those of the lines that are read
+to_read : (lines : List (List ℕ)) (k : ℕ) (kind : SolFaultKind) → FaultAmong lines k kind → FaultAmong (up_to_cost lines) k kind
+to_read lines k BadLine fault = let read = counts_read lines k fault.0 in (read.0, ap is_bad_line read.1 ∙ fault.1)
+to_read lines k BadNumber fault = let read = counts_read lines k fault.0 in (read.0, ap has_bad_number read.1 ∙ fault.1)
+to_read lines k NoCost fault = let same = all_read lines fault.1 in (fault.0 ∙ ap length (sym same), subst HasNoCost (sym same) fault.1)
+to_read lines k OutOfMemory fault = fault
+
+from_read : (lines : List (List ℕ)) (k : ℕ) (kind : SolFaultKind) → FaultAmong (up_to_cost lines) k kind → FaultAmong lines k kind
+from_read lines k BadLine fault = let read = read_counts lines k fault.0 in (read.0, ap is_bad_line (sym read.1) ∙ fault.1)
+from_read lines k BadNumber fault = let read = read_counts lines k fault.0 in (read.0, ap has_bad_number (sym read.1) ∙ fault.1)
+from_read lines k NoCost fault = let none = none_read lines fault.1 in (fault.0 ∙ ap length (all_read lines none), none)
+from_read lines k OutOfMemory fault = fault
+
+-- ---- and the solution
+find_read : (lines : List (List ℕ)) → find is_cost_line (up_to_cost lines) ≡ find is_cost_line lines
+find_read [] = refl
+find_read (line ∷ lines) = elim (cases_Bool (is_cost_line line)) [
+  | inl is ↦ rw is refl
+  | inr apart ↦ rw apart (find_read lines)
+]
+
+take_one : (n : ℕ) (line : List ℕ) (lines : List (List ℕ)) → take (1 + n) (line ∷ lines) ≡ line ∷ take n lines
+take_one n line lines = rw (one-add n) refl
+
+routes_read : (lines : List (List ℕ)) → before_first is_cost_line (up_to_cost lines) ≡ before_first is_cost_line lines
+routes_read [] = refl
+routes_read (line ∷ lines) = elim (cases_Bool (is_cost_line line)) [
+  | inl is ↦ rw is refl
+  | inr apart ↦ rw apart (
+      take_one (position_or_len is_cost_line (up_to_cost lines)) line (up_to_cost lines) ∙ ap (λ (ls : List (List ℕ)). line ∷ ls) (routes_read lines)
+      ∙ sym (take_one (position_or_len is_cost_line lines) line lines))
+]
+
+solution_read : (lines : List (List ℕ)) → solution_among (up_to_cost lines) ≡ solution_among lines
+solution_read lines = rw (find_read lines, routes_read lines) refl
+
+-- ---- texts of which the same is read
+module _ (text other : List ℕ) (same : up_to_cost (lines_of text) ≡ up_to_cost (lines_of other)) where
+  fault_to : (line : ℕ) (kind : SolFaultKind) → Fault text line kind → Fault other line kind
+  fault_to line kind fault =
+      (fault.0, fault.1, from_read (lines_of other) fault.0 kind (subst (λ (ls : List (List ℕ)). FaultAmong ls fault.0 kind) same (to_read (lines_of text) fault.0 kind fault.2)))
+
+  solution_same : solution_among (lines_of text) ≡ solution_among (lines_of other)
+  solution_same = sym (solution_read (lines_of text)) ∙ ap solution_among same ∙ solution_read (lines_of other)
+
+pub reading_ends_at_cost : ReadingEndsAtCost
+reading_ends_at_cost text other same = (
+  λ s spells. (λ line kind fault. spells.0 line kind (fault_to other text (sym same) line kind fault), spells.1 ∙ solution_same text other same),
+  λ f first. (fault_to text other same f.line f.kind first.0, λ line kind fault. first.1 line kind (fault_to other text (sym same) line kind fault)),
+)
+
+-- ---- the line that is told
+filled_from_on : (lines : List (List ℕ)) (n m : ℕ) → first_filled n lines ≡ Some m → n ≤ m
+filled_from_on [] n m is = absurd (none_some m is)
+filled_from_on (line ∷ lines) n m is = elim (cases_Bool (is_blank_line line)) [
+  | inl blank ↦ (let later = filled_from_on lines (n + 1) m (rw blank at is) in omega arith)
+  | inr filled ↦ (let here : Some n ≡ Some m = rw filled at is in let at : n ≡ m = cc in omega arith)
+]
+
+behind_read : (lines : List (List ℕ)) (n m : ℕ) → filled_behind n lines ≡ Some m → n + length (up_to_cost lines) ≤ m
+behind_read [] n m is = absurd (none_some m is)
+behind_read (line ∷ lines) n m is = elim (cases_Bool (is_cost_line line)) [
+  | inl cost ↦ (
+      let later = filled_from_on lines (n + 1) m (rw cost at is) in
+      let one = ap length (read_at line lines cost) in
+      omega arith)
+  | inr apart ↦ (
+      let later = behind_read lines (n + 1) m (rw apart at is) in
+      let more = ap length (read_on line lines apart) in
+      omega arith)
+]
+
+pub told_are_unread : ToldLinesAreUnread
+told_are_unread text n is = let later = behind_read (lines_of text) 1 n is in omega arith

@@ -1,0 +1,11 @@
+use Rattle.std.proofs.Common.{◌≡◌, ◌+◌, ◌≤◌, length}
+use Rattle.plan_explain.specs.Behind.{line_behind_cost}
+use Rattle.plan_explain.proofs.BehindLemmas.{filled_from}
+use Rattle.plan_explain.proofs.behind.line_behind_cost.Given as goal
+
+-- the lines that are left have the answer of all
+abbrev pub invariant-loop-line : goal.invariant-loop-line
+invariant-loop-line l = record {
+  few : l.number + length l.line-iterator ≤ length l.text;
+  rest : filled_from l.is_behind (l.number + 1) l.line-iterator ≡ line_behind_cost l.text;
+}

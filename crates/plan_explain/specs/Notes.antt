@@ -1,0 +1,33 @@
+-- What is said of a refused text as a whole.
+use Rattle.std.specs.Prelude.{ℕ, ◌==◌, ◌&&◌, ◌||◌, Bool, false, is_none, List, ◌∷◌, length}
+use Rattle.std.specs.List.{list_any, position_from}
+use Rattle.text_lines.specs.Lines.{lines_of}
+use Rattle.text_lines.specs.Words.{words_of}
+use Rattle.plan_types.specs.declared.requests.Kind.{Kind}
+use Rattle.plan_types.specs.declared.requests.Kind.TheVariants.{LiLim, Vrp}
+use Rattle.instance_read.specs.Fields.{is_no_number}
+use Rattle.plan_explain.specs.Phrases.{text_if}
+use Rattle.plan_explain.specs.VrpKeys.{is_key}
+use Rattle.plan_explain.specs.declared.names.Name.TheVariants.{KeyDimension, KeyCoordinates}
+use Rattle.plan_explain.specs.declared.phrases.Phrase.TheVariants.{ByteOrderMark, LooksLilim, LooksVrp}
+
+-- U+FEFF in UTF-8 is first
+abbrev pub has_mark : List ℕ → Bool
+has_mark (a ∷ b ∷ c ∷ rest) = a == 239 && b == 187 && c == 191
+has_mark _ = false
+
+abbrev pub mark_note : List ℕ → List ℕ
+mark_note text = text_if (has_mark text) ByteOrderMark
+
+-- the line announces nodes or their coordinates
+abbrev pub is_vrp_line : List ℕ → Bool
+is_vrp_line line = is_key KeyDimension line || is_key KeyCoordinates line
+
+-- the line has the nine numbers of a task
+abbrev pub has_nine_numbers : List ℕ → Bool
+has_nine_numbers line = length (words_of line) == 9 && is_none (position_from is_no_number 0 (words_of line))
+
+-- an instance that is read as this kind looks like the other one
+abbrev pub kind_note : Kind → List ℕ → List ℕ
+kind_note LiLim text = text_if (list_any is_vrp_line (lines_of text)) LooksVrp
+kind_note Vrp text = text_if (list_any has_nine_numbers (lines_of text)) LooksLilim

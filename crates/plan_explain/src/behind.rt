@@ -1,0 +1,44 @@
+//! What stands behind the cost line of a solution's text. The reader ends there; here it is looked for.
+ghost use Rattle.std.specs.Prelude.{◌≡◌, is_some};
+ghost use Rattle.text_lines.specs.Words.{words_of};
+ghost use Rattle.sol_text.specs.LineShapes.{is_cost_line, only_word};
+ghost use Rattle.plan_explain.specs.Behind.{line_behind_cost};
+
+use crate::sol_faults::cost_tail;
+use crate::told_lines::word_count;
+use text_lines::{Lines, is_blank_line};
+
+/// The number of the first line behind the cost line of a solution's text that has more than blanks and tabs, from 1; none where nothing
+/// stands there. The reader of solutions passes it over.
+pub fn line_behind_cost(text: &[u8]) -> Option<u64>
+    ensures { result ≡ line_behind_cost text.now }
+{
+    let mut number = 0;
+    let mut is_behind = false;
+    for line in Lines::new(text) {
+        number += 1;
+        if is_behind {
+            if !is_blank_line(line) {
+                return Some(number);
+            }
+        } else {
+            is_behind = is_cost_line(line);
+        }
+    }
+    None
+}
+
+fn is_cost_line(line: &[u8]) -> bool
+    ensures { result ≡ is_cost_line line.now }
+{
+    match cost_tail(line) {
+        Some(tail) => has_one_word(tail),
+        None => false,
+    }
+}
+
+fn has_one_word(tail: &[u8]) -> bool
+    ensures { result ≡ is_some (only_word (words_of tail.now)) }
+{
+    word_count(tail) == 1
+}

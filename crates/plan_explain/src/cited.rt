@@ -1,0 +1,54 @@
+//! Bytes of a text as a terminal gets them.
+//!
+//! What is cited keeps its tabs, since Li and Lim's files use them; other bytes that can't be printed are `?`.
+ghost use Rattle.std.specs.Prelude.{◌≡◌, ◌++◌, OnOk, map, string_bytes, take};
+ghost use Rattle.text_lines.specs.Lines.{ended};
+ghost use Rattle.plan_explain.specs.Cited.{shown_byte, shown_bytes};
+
+use plan_types::OutOfMemory;
+
+/// How many bytes of a line or of a word are shown.
+const SHOWN: usize = 200;
+
+/// Appends a line of its own with these bytes.
+pub(crate) fn put_line(text: &mut String, bytes: &[u8]) -> Result<(), OutOfMemory>
+    ensures { OnOk result (string_bytes text.new
+        ≡ string_bytes text.old ++ ended (shown_bytes bytes.now)) }
+{
+    put_shown(text, bytes)?;
+    text.push_str("\n")
+}
+
+/// Appends the bytes, as many of them as are shown.
+pub(crate) fn put_shown(text: &mut String, bytes: &[u8]) -> Result<(), OutOfMemory>
+    ensures { OnOk result (string_bytes text.new ≡ string_bytes text.old ++ shown_bytes bytes.now) }
+{
+    put_bytes(text, front(bytes))
+}
+
+// As many bytes as are shown.
+#[tactic(auto, using(std::proofs::lemmas::List::take_min))]
+fn front(bytes: &[u8]) -> &[u8]
+    ensures { result.now ≡ take 200 bytes.now }
+{
+    &bytes[..SHOWN.min(bytes.len())]
+}
+
+fn put_bytes(text: &mut String, bytes: &[u8]) -> Result<(), OutOfMemory>
+    ensures { OnOk result (string_bytes text.new
+        ≡ string_bytes text.old ++ map shown_byte bytes.now) }
+{
+    for byte in bytes {
+        text.push(char::from(shown_byte(*byte)))?;
+    }
+    Ok(())
+}
+
+fn shown_byte(byte: u8) -> u8
+    ensures { result ≡ shown_byte byte }
+{
+    match byte {
+        b' '..=b'~' | b'\t' => byte,
+        _ => b'?',
+    }
+}

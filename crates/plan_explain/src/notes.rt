@@ -1,0 +1,75 @@
+//! What is said of a refused text as a whole: that it begins with a byte order mark, or looks like the other kind.
+ghost use Rattle.std.specs.Prelude.{◌≡◌, ◌++◌, OnOk, string_bytes};
+ghost use Rattle.std.specs.List.{list_any};
+ghost use Rattle.text_lines.specs.Lines.{lines_of};
+ghost use Rattle.plan_explain.specs.Notes.{has_nine_numbers, is_vrp_line, kind_note, mark_note};
+
+use crate::names::Name;
+use crate::phrases::Phrase;
+use crate::sentences::{put_mark, put_phrase};
+use crate::told_lines::word_count;
+use crate::vrp_keys::is_key;
+use crate::words_told::no_number_place;
+use plan_types::{Kind, OutOfMemory};
+use text_lines::Lines;
+
+/// Appends that a text begins with a byte order mark, if it does.
+pub(crate) fn put_mark_note(text: &mut String, refused: &[u8]) -> Result<(), OutOfMemory>
+    ensures { OnOk result (string_bytes text.new ≡ string_bytes text.old ++ mark_note refused.now) }
+{
+    match refused {
+        [0xef, 0xbb, 0xbf, ..] => put_phrase(text, Phrase::ByteOrderMark),
+        _ => Ok(()),
+    }
+}
+
+/// Appends that an instance that is read as this kind looks like the other one, if it does.
+pub(crate) fn put_kind_note(
+    text: &mut String,
+    kind: Kind,
+    instance: &[u8],
+) -> Result<(), OutOfMemory>
+    ensures { OnOk result (string_bytes text.new
+        ≡ string_bytes text.old ++ kind_note kind instance.now) }
+{
+    match kind {
+        Kind::LiLim => put_mark(text, looks_vrp(instance), Phrase::LooksVrp),
+        Kind::Vrp => put_mark(text, looks_lilim(instance), Phrase::LooksLilim),
+    }
+}
+
+// Whether a line announces nodes or their coordinates.
+fn looks_vrp(instance: &[u8]) -> bool
+    ensures { result ≡ list_any is_vrp_line (lines_of instance.now) }
+{
+    for line in Lines::new(instance) {
+        if is_vrp_line(line) {
+            return true;
+        }
+    }
+    false
+}
+
+fn is_vrp_line(line: &[u8]) -> bool
+    ensures { result ≡ is_vrp_line line.now }
+{
+    is_key(Name::KeyDimension, line) || is_key(Name::KeyCoordinates, line)
+}
+
+// Whether a line has the nine numbers of a task.
+fn looks_lilim(instance: &[u8]) -> bool
+    ensures { result ≡ list_any has_nine_numbers (lines_of instance.now) }
+{
+    for line in Lines::new(instance) {
+        if has_nine_numbers(line) {
+            return true;
+        }
+    }
+    false
+}
+
+fn has_nine_numbers(line: &[u8]) -> bool
+    ensures { result ≡ has_nine_numbers line.now }
+{
+    word_count(line) == 9 && no_number_place(line).is_none()
+}

@@ -1,9 +1,0 @@
-use Rattle.std.proofs.Common.{◌≡◌, ◌++◌, drop}
-use Rattle.std.specs.List.{flat_map}
-use Rattle.plan_picture.specs.Map.{stop_mark}
-use Rattle.plan_picture.proofs.svg.Svg.put_each_mark.Given as goal
-
--- the text so far and that of the stops to come
-abbrev pub invariant-loop-stop : goal.invariant-loop-stop
-invariant-loop-stop l =
-    l.self ++ flat_map (stop_mark l.problem l.frame) (drop l.stop-index l.stops) ≡ l.fn.self ++ flat_map (stop_mark l.problem l.frame) l.stops

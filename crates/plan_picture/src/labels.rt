@@ -1,0 +1,339 @@
+//! Where the numbers of routes and stops stand, so that none covers a mark or another number.
+//!
+//! The routes' numbers take their places first, then the stops' by rising number: each above its mark, to the right, below or
+//! to the left, where that is free.
+ghost use Rattle.std.specs.Prelude.{◌≡◌, ◌≤◌, ◌^◌, [], IfOk, OnOk, Some};
+ghost use Rattle.plan_picture.specs.Labels.{area_above, area_below, area_left, area_on, area_right, badge_area, badge_extent, covers, free_along, free_area, is_free, is_within, labels_of, marked, noted, number_extent, overlaps, quarters, with_badges, with_marks, with_numbers};
+
+use crate::frame::Frame;
+use crate::known::stops_along;
+use crate::svg::digits;
+use plan_types::{OutOfMemory, Problem, Route, Stop};
+use std::alloc::Global;
+
+/// A part of the map.
+#[derive(Clone, Copy, Debug, PartialEq, Eq)]
+pub(crate) struct Area {
+    pub left: u128,
+    pub right: u128,
+    pub top: u128,
+    pub bottom: u128,
+}
+
+/// Half the width and half the height of a number, and how far it is from the middle of its mark, in quarters of the unit.
+#[derive(Clone, Copy, Debug, PartialEq, Eq)]
+pub(crate) struct Extent {
+    pub across: u32,
+    pub down: u32,
+    pub gap: u32,
+}
+
+/// What takes a place on the map.
+#[derive(Clone, Copy, Debug, PartialEq, Eq)]
+pub(crate) enum LabelKind {
+    /// The mark of a stop or of the depot.
+    Mark,
+    /// The number of a route.
+    Badge,
+    /// The number of a stop.
+    Number,
+}
+
+/// A mark or a number, and where it stands.
+#[derive(Clone, Copy, Debug, PartialEq, Eq)]
+pub(crate) struct Label {
+    pub kind: LabelKind,
+    pub number: u64,
+    pub area: Area,
+}
+
+/// The marks, and the numbers of routes and stops that found a place. The first route has the number `first`.
+pub(crate) fn labels(
+    alloc: Global,
+    problem: &Problem,
+    frame: &Frame,
+    first: u64,
+    routes: &[Route],
+    stops: &[Stop],
+) -> Result<Vec<Label>, OutOfMemory>
+    requires { first ≤ 2 ^ 63 }
+    ensures { IfOk result (λ labels. labels.items
+        ≡ labels_of problem.now frame.now first routes.now stops.now) }
+{
+    let mut labels = Vec::new(alloc);
+    note_marks(&mut labels, frame, &problem.depot, stops)?;
+    note_badges(alloc, &mut labels, problem, frame, first, routes)?;
+    note_numbers(&mut labels, frame, stops)?;
+    Ok(labels)
+}
+
+fn note(
+    labels: &mut Vec<Label>,
+    kind: LabelKind,
+    number: u64,
+    area: Option<Area>,
+) -> Result<(), OutOfMemory>
+    ensures { OnOk result (labels.new.items ≡ noted labels.old.items kind number area) }
+{
+    match area {
+        Some(area) => labels.push(Label { kind, number, area })?,
+        None => {}
+    }
+    Ok(())
+}
+
+fn note_marks(
+    labels: &mut Vec<Label>,
+    frame: &Frame,
+    depot: &Stop,
+    stops: &[Stop],
+) -> Result<(), OutOfMemory>
+    requires { labels.old.items ≡ [] }
+    ensures { OnOk result (labels.new.items ≡ marked frame.now depot.now stops.now) }
+{
+    note(labels, LabelKind::Mark, 0, Some(frame.area_on(17, depot)))?;
+    note_each_mark(labels, frame, stops)
+}
+
+fn note_each_mark(labels: &mut Vec<Label>, frame: &Frame, stops: &[Stop]) -> Result<(), OutOfMemory>
+    ensures { OnOk result (labels.new.items ≡ with_marks frame.now labels.old.items stops.now) }
+{
+    for stop in stops {
+        let area = frame.area_on(10, stop);
+        note(labels, LabelKind::Mark, u64::from(stop.number), Some(area))?;
+    }
+    Ok(())
+}
+
+fn note_badges(
+    alloc: Global,
+    labels: &mut Vec<Label>,
+    problem: &Problem,
+    frame: &Frame,
+    first: u64,
+    routes: &[Route],
+) -> Result<(), OutOfMemory>
+    requires { first ≤ 2 ^ 63 }
+    ensures { OnOk result (labels.new.items
+        ≡ with_badges problem.now frame.now labels.old.items first routes.now) }
+{
+    for (index, route) in routes.iter().enumerate() {
+        let number = first + index as u64;
+        let stops = stops_along(alloc, problem, route.as_slice())?;
+        let area = frame.badge_area(labels.as_slice(), number, &stops);
+        note(labels, LabelKind::Badge, number, area)?;
+    }
+    Ok(())
+}
+
+fn note_numbers(labels: &mut Vec<Label>, frame: &Frame, stops: &[Stop]) -> Result<(), OutOfMemory>
+    ensures { OnOk result (labels.new.items ≡ with_numbers frame.now labels.old.items stops.now) }
+{
+    for stop in stops {
+        let number = u64::from(stop.number);
+        let area = frame.free_area(labels.as_slice(), &number_extent(number), stop);
+        note(labels, LabelKind::Number, number, area)?;
+    }
+    Ok(())
+}
+
+fn number_extent(number: u64) -> Extent
+    ensures value { result ≡ number_extent number }
+    ensures across { result.across ≤ 400 }
+    ensures down { result.down ≤ 400 }
+    ensures gap { result.gap ≤ 400 }
+{
+    Extent {
+        across: 5 * digits(number),
+        down: 8,
+        gap: 12,
+    }
+}
+
+fn badge_extent(number: u64) -> Extent
+    ensures value { result ≡ badge_extent number }
+    ensures across { result.across ≤ 400 }
+    ensures down { result.down ≤ 400 }
+    ensures gap { result.gap ≤ 400 }
+{
+    Extent {
+        across: 8 * digits(number) + 6,
+        down: 12,
+        gap: 14,
+    }
+}
+
+impl Area {
+    // Whether two areas have a place in common.
+    fn overlaps(&self, other: &Area) -> bool
+        ensures { result ≡ overlaps self.now other.now }
+    {
+        self.left < other.right
+            && other.left < self.right
+            && self.top < other.bottom
+            && other.top < self.bottom
+    }
+
+    // Whether it covers something that was placed before.
+    fn covers(&self, labels: &[Label]) -> bool
+        ensures { result ≡ covers self.now labels.now }
+    {
+        for label in labels {
+            if self.overlaps(&label.area) {
+                return true;
+            }
+        }
+        false
+    }
+}
+
+impl Frame {
+    /// So many quarters of the unit.
+    pub(crate) fn quarters(&self, k: u32) -> u128
+        ensures value { result ≡ quarters self.now k }
+        ensures bound { result ≤ 2 ^ 96 }
+    {
+        u128::from(k) * u128::from(self.unit) / 4
+    }
+
+    // The area of a mark.
+    fn area_on(&self, k: u32, stop: &Stop) -> Area
+        ensures { result ≡ area_on self.now k stop.now }
+    {
+        let point = self.point(stop);
+        Area {
+            left: point.x.saturating_sub(self.quarters(k)),
+            right: point.x + self.quarters(k),
+            top: point.y.saturating_sub(self.quarters(k)),
+            bottom: point.y + self.quarters(k),
+        }
+    }
+
+    fn area_above(&self, extent: &Extent, stop: &Stop) -> Area
+        requires down { extent.now.down ≤ 400 }
+        requires gap { extent.now.gap ≤ 400 }
+        ensures { result ≡ area_above self.now extent.now stop.now }
+    {
+        let point = self.point(stop);
+        Area {
+            left: point.x.saturating_sub(self.quarters(extent.across)),
+            right: point.x + self.quarters(extent.across),
+            top: point
+                .y
+                .saturating_sub(self.quarters(extent.gap + 2 * extent.down)),
+            bottom: point.y.saturating_sub(self.quarters(extent.gap)),
+        }
+    }
+
+    fn area_right(&self, extent: &Extent, stop: &Stop) -> Area
+        requires across { extent.now.across ≤ 400 }
+        requires gap { extent.now.gap ≤ 400 }
+        ensures { result ≡ area_right self.now extent.now stop.now }
+    {
+        let point = self.point(stop);
+        Area {
+            left: point.x + self.quarters(extent.gap),
+            right: point.x + self.quarters(extent.gap + 2 * extent.across),
+            top: point.y.saturating_sub(self.quarters(extent.down)),
+            bottom: point.y + self.quarters(extent.down),
+        }
+    }
+
+    fn area_below(&self, extent: &Extent, stop: &Stop) -> Area
+        requires down { extent.now.down ≤ 400 }
+        requires gap { extent.now.gap ≤ 400 }
+        ensures { result ≡ area_below self.now extent.now stop.now }
+    {
+        let point = self.point(stop);
+        Area {
+            left: point.x.saturating_sub(self.quarters(extent.across)),
+            right: point.x + self.quarters(extent.across),
+            top: point.y + self.quarters(extent.gap),
+            bottom: point.y + self.quarters(extent.gap + 2 * extent.down),
+        }
+    }
+
+    fn area_left(&self, extent: &Extent, stop: &Stop) -> Area
+        requires across { extent.now.across ≤ 400 }
+        requires gap { extent.now.gap ≤ 400 }
+        ensures { result ≡ area_left self.now extent.now stop.now }
+    {
+        let point = self.point(stop);
+        Area {
+            left: point
+                .x
+                .saturating_sub(self.quarters(extent.gap + 2 * extent.across)),
+            right: point.x.saturating_sub(self.quarters(extent.gap)),
+            top: point.y.saturating_sub(self.quarters(extent.down)),
+            bottom: point.y + self.quarters(extent.down),
+        }
+    }
+
+    fn is_within(&self, area: &Area) -> bool
+        ensures { result ≡ is_within self.now area.now }
+    {
+        0 < area.left && area.right <= self.width && 0 < area.top && area.bottom <= self.height
+    }
+
+    // Whether an area is within the frame, and covers nothing that was placed before.
+    #[tactic(auto, unfolding(crate::specs::Labels::is_free))]
+    fn is_free(&self, labels: &[Label], area: &Area) -> bool
+        ensures { result ≡ is_free self.now labels.now area.now }
+    {
+        self.is_within(area) && !area.covers(labels)
+    }
+
+    // The first free area around a mark.
+    #[tactic(auto, unfolding(crate::specs::Labels::free_area))]
+    fn free_area(&self, labels: &[Label], extent: &Extent, stop: &Stop) -> Option<Area>
+        requires across { extent.now.across ≤ 400 }
+        requires down { extent.now.down ≤ 400 }
+        requires gap { extent.now.gap ≤ 400 }
+        ensures { result ≡ free_area self.now labels.now extent.now stop.now }
+    {
+        let above = self.area_above(extent, stop);
+        if self.is_free(labels, &above) {
+            return Some(above);
+        }
+        let right = self.area_right(extent, stop);
+        if self.is_free(labels, &right) {
+            return Some(right);
+        }
+        let below = self.area_below(extent, stop);
+        if self.is_free(labels, &below) {
+            return Some(below);
+        }
+        let left = self.area_left(extent, stop);
+        if self.is_free(labels, &left) {
+            return Some(left);
+        }
+        None
+    }
+
+    // The first free area around any of these stops.
+    fn free_along(&self, labels: &[Label], extent: &Extent, stops: &[Stop]) -> Option<Area>
+        requires across { extent.now.across ≤ 400 }
+        requires down { extent.now.down ≤ 400 }
+        requires gap { extent.now.gap ≤ 400 }
+        ensures { result ≡ free_along self.now labels.now extent.now stops.now }
+    {
+        for stop in stops {
+            if let Some(area) = self.free_area(labels, extent, stop) {
+                return Some(area);
+            }
+        }
+        None
+    }
+
+    // Where the number of a route stands: at a stop from its middle on, else at one before.
+    fn badge_area(&self, labels: &[Label], number: u64, stops: &[Stop]) -> Option<Area>
+        ensures { result ≡ badge_area self.now labels.now number stops.now }
+    {
+        let extent = badge_extent(number);
+        let middle = stops.len() / 2;
+        match self.free_along(labels, &extent, &stops[middle..]) {
+            Some(area) => Some(area),
+            None => self.free_along(labels, &extent, &stops[..middle]),
+        }
+    }
+}

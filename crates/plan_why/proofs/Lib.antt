@@ -1,0 +1,4 @@
+pub mod AloneLemmas
+pub mod BestLemmas
+pub mod MayTake
+pub mod TrialLemmas

@@ -1,0 +1,19 @@
+-- What the best trial means, and what is told of a request alone.
+use Rattle.std.specs.Prelude.{◌≡◌, ◌↔◌, ℕ, false, List, None, Some}
+use Rattle.std.specs.List.{AllByRecursion}
+use Rattle.plan_types.specs.Instance.{Instance, IsInstance}
+use Rattle.plan_types.specs.declared.requests.Request.{Request}
+use Rattle.plan_audit.specs.Alone.{IsFeasibleAlone}
+use Rattle.move_ops.specs.Insertion.{request_named}
+use Rattle.plan_why.specs.Missed.{miss_of}
+use Rattle.plan_why.specs.Trials.{best_trial, is_better, trials}
+use Rattle.plan_why.specs.Why.{alone_route}
+use Rattle.plan_why.specs.declared.trials.Trial.{Trial}
+
+-- law: no trial misses less than the best one, or as much on a shorter way
+abbrev pub NoneIsBetter : Type 0
+NoneIsBetter = (p : Instance) (route : List ℕ) (r : Request) (kept : ℕ) (best : Trial) → best_trial p route r kept ≡ Some best → AllByRecursion (λ t. is_better t best ≡ false) (trials p route r kept)
+
+-- law: a vehicle that serves a live request and nothing else exceeds no limit exactly where the auditor finds its route feasible alone
+abbrev pub AloneIsJudgedByRules : Type 0
+AloneIsJudgedByRules = (p : Instance) (name : ℕ) (r : Request) → IsInstance p → request_named p name ≡ Some r → (miss_of p (alone_route r) ≡ None) ↔ IsFeasibleAlone p (alone_route r)

@@ -1,0 +1,7 @@
+-- what public contracts say
+pub mod Laws
+pub mod Leads
+pub mod Missed
+pub mod Trials
+pub mod Why
+pub mod Words

@@ -1,0 +1,54 @@
+-- The first limit that a route exceeds: the capacity at any stop (rule 6 of the auditor), then the latest start at a stop (7) or of
+-- the return (8).
+use Rattle.std.specs.Prelude.{ℕ, ◌-◌, ◌==◌, not, ◌&&◌, nat_lt, int_lt, pos, unsigned_abs, Bool, if◌then◌else◌, List, Option, Some, None}
+use Rattle.std.specs.List.{find}
+use Rattle.std.specs.Option.{option_map, option_or}
+use Rattle.plan_types.specs.Instance.{Instance}
+use Rattle.plan_types.specs.declared.requests.Kind.{Kind}
+use Rattle.plan_types.specs.declared.requests.Kind.TheVariants.{LiLim, Vrp}
+use Rattle.plan_explain.specs.Tables.{rows_of}
+use Rattle.plan_explain.specs.declared.rows.Row.{Row}
+use Rattle.plan_why.specs.declared.missed.Limit.{Limit}
+use Rattle.plan_why.specs.declared.missed.Limit.TheVariants.{Capacity, Start, Return}
+use Rattle.plan_why.specs.declared.missed.Miss.{Miss}
+
+-- behind a stop the vehicle carries more than it can
+abbrev pub is_heavy : ℕ → Row → Bool
+is_heavy capacity row = not (row.stop == 0) && int_lt (pos capacity) row.load
+
+-- service starts, or the vehicle is back, after the latest time
+abbrev pub is_late : Row → Bool
+is_late row = nat_lt row.latest row.start
+
+-- both in figures; the depot is stop 0
+abbrev pub overload_at : ℕ → Row → Miss
+overload_at capacity row = record { limit = Capacity; stop = row.stop; figure = unsigned_abs row.load; most = capacity }
+
+abbrev pub time_limit : ℕ → Limit
+time_limit stop = if stop == 0 then Return else Start
+
+abbrev pub lateness_at : Row → Miss
+lateness_at row = record { limit = time_limit row.stop; stop = row.stop; figure = row.start; most = row.latest }
+
+-- a problem of kind `Vrp` asks for no times
+abbrev pub lateness_in : Kind → List Row → Option Miss
+lateness_in LiLim rows = option_map lateness_at (find is_late rows)
+lateness_in Vrp rows = None
+
+abbrev pub overload_in : ℕ → List Row → Option Miss
+overload_in capacity rows = option_map (overload_at capacity) (find (is_heavy capacity) rows)
+
+-- the first limit that a route exceeds
+abbrev pub miss_in : Instance → List Row → Option Miss
+miss_in p rows = option_or (overload_in p.capacity rows) (lateness_in p.kind rows)
+
+abbrev pub miss_of : Instance → List ℕ → Option Miss
+miss_of p route = miss_in p (rows_of p route)
+
+-- by how much a limit is exceeded
+abbrev pub excess : Miss → ℕ
+excess m = m.figure - m.most
+
+abbrev pub excess_of : Option Miss → ℕ
+excess_of None = 0
+excess_of (Some m) = excess m

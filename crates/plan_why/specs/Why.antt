@@ -1,0 +1,122 @@
+-- Why a request is where it is, or in no route, as text. Vehicles and places count from 1.
+use Rattle.std.specs.Prelude.{ℕ, ◌+◌, ◌==◌, if◌then◌else◌, Bool, List, [], ◌∷◌, ◌++◌, map, filter, length, is_some, Option, Some, None}
+use Rattle.std.specs.List.{flat_map}
+use Rattle.plan_types.specs.Instance.{Instance}
+use Rattle.plan_types.specs.Request.{stop_in, stops_of}
+use Rattle.plan_types.specs.declared.requests.Kind.{Kind}
+use Rattle.plan_types.specs.declared.requests.Kind.TheVariants.{LiLim, Vrp}
+use Rattle.plan_types.specs.declared.requests.Request.{Request}
+use Rattle.route_sched.specs.Cost.{is_planned, used_count}
+use Rattle.text_lines.specs.Lines.{ended}
+use Rattle.std.specs.Option.{option_map}
+use Rattle.move_ops.specs.Insertion.{of_vehicle, request_named}
+use Rattle.plan_explain.specs.Tables.{rows_of}
+use Rattle.plan_explain.specs.declared.rows.Row.{Row}
+use Rattle.plan_why.specs.Leads.{lead_text}
+use Rattle.plan_why.specs.Missed.{excess, miss_of}
+use Rattle.plan_why.specs.Trials.{best_trial}
+use Rattle.plan_why.specs.Words.{named, word}
+use Rattle.plan_why.specs.declared.leads.Lead.{Lead}
+use Rattle.plan_why.specs.declared.missed.Limit.{Limit}
+use Rattle.plan_why.specs.declared.missed.Limit.TheVariants.{Capacity, Start, Return}
+use Rattle.plan_why.specs.declared.missed.Miss.{Miss}
+use Rattle.plan_why.specs.declared.trials.Trial.{Trial}
+use Rattle.plan_why.specs.declared.words.Word.TheVariants.{AloneStop, AloneBack, AloneFits, Needs, VehicleTakes, StartsAt, Latest, Vehicle, Stop, WouldStart, Back, Late, Behind, WouldCarry, TooMuch, FitsAtPlace, FitsAtPlaces, And, AtPlace, Fleet, Of, VehiclesUsed}
+
+-- a vehicle that serves the request and nothing else
+abbrev pub alone_route : Request → List ℕ
+alone_route r = map (λ s. s.number) (stops_of r)
+
+-- the first limit that it exceeds, in figures
+abbrev pub alone_by : Limit → Miss → List ℕ
+alone_by Capacity m = named AloneStop m.stop ++ named Needs m.figure ++ named VehicleTakes m.most
+alone_by Start m = named AloneStop m.stop ++ named StartsAt m.figure ++ named Latest m.most
+alone_by Return m = named AloneBack m.figure ++ named Latest m.most
+
+-- each line stands behind a lead
+abbrev pub alone_text : List ℕ → Miss → List ℕ
+alone_text lead m = lead ++ ended (alone_by m.limit m)
+
+-- by how much the first limit would be exceeded
+abbrev pub miss_by : Limit → Miss → List ℕ
+miss_by Capacity m = named Behind m.stop ++ named WouldCarry (excess m) ++ word TooMuch
+miss_by Start m = named Stop m.stop ++ named WouldStart (excess m) ++ word Late
+miss_by Return m = named Back (excess m) ++ word Late
+
+-- the places where a request fits: one for a single
+abbrev pub places_text : ℕ → ℕ → List ℕ
+places_text i j = if i == j then named FitsAtPlace i else named FitsAtPlaces i ++ named And j
+
+abbrev pub outcome_text : Option Miss → Trial → List ℕ
+outcome_text None t = places_text t.pickup t.delivery
+outcome_text (Some m) t = miss_by m.limit m
+
+-- what comes of the best trial with a vehicle; there is none where all places are pinned
+abbrev pub trial_text : List ℕ → ℕ → Option Trial → List ℕ
+trial_text lead v None = []
+trial_text lead v (Some t) = lead ++ named Vehicle v ++ ended (outcome_text t.miss t)
+
+-- what comes of it with a vehicle that is used; its pin has so many stops
+abbrev pub used_trial : Instance → Request → ℕ → List ℕ → Option Trial
+used_trial p r kept route = if length route == 0 then None else best_trial p route r kept
+
+-- the lines of vehicles, the first of them with this number
+abbrev pub vehicles_from : List ℕ → Instance → List (List ℕ) → Request → ℕ → List (List ℕ) → List ℕ
+vehicles_from lead p pins r v [] = []
+vehicles_from lead p pins r v (route ∷ routes) = trial_text lead v (used_trial p r (length (of_vehicle pins v)) route) ++ vehicles_from lead p pins r (v + 1) routes
+
+-- how many vehicles are used, of all
+abbrev pub fleet_text : List ℕ → Instance → List (List ℕ) → List ℕ
+fleet_text lead p routes = lead ++ named Fleet (used_count routes) ++ named Of p.fleet ++ ended (word VehiclesUsed)
+
+-- of a request that a vehicle of its own could serve: what comes of it with each vehicle that is used, and how many of all are
+abbrev pub tried_text : List ℕ → Instance → List (List ℕ) → List (List ℕ) → Request → List ℕ
+tried_text lead p pins routes r = lead ++ word AloneFits ++ vehicles_from lead p pins r 1 routes ++ fleet_text lead p routes
+
+-- of any unplanned request: the first limit that a vehicle of its own exceeds, or what comes of it with the others
+abbrev pub unplanned_by : Option Miss → List ℕ → Instance → List (List ℕ) → List (List ℕ) → Request → List ℕ
+unplanned_by (Some m) lead p pins routes r = alone_text lead m
+unplanned_by None lead p pins routes r = tried_text lead p pins routes r
+
+abbrev pub unplanned_text : List ℕ → Instance → List (List ℕ) → List (List ℕ) → Request → List ℕ
+unplanned_text lead p pins routes r = unplanned_by (miss_of p (alone_route r)) lead p pins routes r
+
+-- So of one of several, by its name; no line where a route has a stop of it, or no live request has the name.
+abbrev pub reason_of : Option Request → Lead → Instance → List (List ℕ) → List (List ℕ) → ℕ → List ℕ
+reason_of None lead p pins routes name = []
+reason_of (Some r) lead p pins routes name = if is_planned routes r then [] else unplanned_text (lead_text lead name) p pins routes r
+
+abbrev pub reason_text : Lead → Instance → List (List ℕ) → List (List ℕ) → ℕ → List ℕ
+reason_text lead p pins routes name = reason_of (request_named p name) lead p pins routes name
+
+-- a stop of the request
+abbrev pub is_stop_of : Request → Row → Bool
+is_stop_of r row = is_some (stop_in row.stop r)
+
+-- where a vehicle serves it, and when; a problem of kind `Vrp` asks for no times
+abbrev pub start_text : Kind → Row → List ℕ
+start_text LiLim row = named StartsAt row.start
+start_text Vrp row = []
+
+abbrev pub service_text : Kind → ℕ → Row → List ℕ
+service_text kind v row = named Vehicle v ++ named Stop row.stop ++ named AtPlace row.place ++ ended (start_text kind row)
+
+-- each service of the request among these rows of a vehicle's route
+abbrev pub services_in : Kind → Request → ℕ → List Row → List ℕ
+services_in kind r v rows = flat_map (service_text kind v) (filter (is_stop_of r) rows)
+
+abbrev pub services_text : Instance → Request → ℕ → List ℕ → List ℕ
+services_text p r v route = services_in p.kind r v (rows_of p route)
+
+-- and by any of these, the first of them with this number
+abbrev pub services_from : Instance → Request → ℕ → List (List ℕ) → List ℕ
+services_from p r v [] = []
+services_from p r v (route ∷ routes) = services_text p r v route ++ services_from p r (v + 1) routes
+
+-- the whole: of a planned request its services, of an unplanned one why it is so
+abbrev pub why_text : Instance → List (List ℕ) → List (List ℕ) → Request → List ℕ
+why_text p pins routes r = if is_planned routes r then services_from p r 1 routes else unplanned_text [] p pins routes r
+
+-- of the live request of this name
+abbrev pub why_named : Instance → List (List ℕ) → List (List ℕ) → ℕ → Option (List ℕ)
+why_named p pins routes name = option_map (why_text p pins routes) (request_named p name)

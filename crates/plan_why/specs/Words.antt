@@ -1,0 +1,36 @@
+-- The words between the figures.
+use Rattle.std.specs.Prelude.{ℕ, List, ◌++◌, codes, decimal}
+use Rattle.plan_why.specs.declared.words.Word.{Word}
+use Rattle.plan_why.specs.declared.words.Word.TheVariants as the
+
+unfoldable pub word : Word → List ℕ
+word the.AloneStop = codes "alone: stop "
+word the.AloneBack = codes "alone: back at "
+word the.AloneFits = codes "alone: a vehicle can serve it\n"
+word the.Needs = codes " needs "
+word the.VehicleTakes = codes ", a vehicle takes "
+word the.StartsAt = codes " starts at "
+word the.Latest = codes ", latest "
+word the.Vehicle = codes "vehicle "
+word the.Stop = codes ": stop "
+word the.WouldStart = codes " would start "
+word the.Back = codes ": would be back "
+word the.Late = codes " late"
+word the.Behind = codes ": behind stop "
+word the.WouldCarry = codes " it would carry "
+word the.TooMuch = codes " too much"
+word the.FitsAtPlace = codes ": fits at place "
+word the.FitsAtPlaces = codes ": fits at places "
+word the.And = codes " and "
+word the.AtPlace = codes " at place "
+word the.Fleet = codes "fleet: "
+word the.Of = codes " of "
+word the.VehiclesUsed = codes " vehicles are used"
+word the.Why = codes "why "
+word the.Colon = codes ": "
+word the.WhyTab = codes "why\t"
+word the.Tab = codes "\t"
+
+-- words, and a number behind them
+abbrev pub named : Word → ℕ → List ℕ
+named w n = word w ++ decimal n

@@ -1,0 +1,311 @@
+//! The whole answer.
+ghost use Rattle.std.specs.Prelude.{◌≡◌, ◌++◌, ◌+◌, true, All, IfOk, OnOk, length, string_bytes};
+ghost use Rattle.std.specs.Option.{option_map};
+ghost use Rattle.route_sched.specs.Cost.{has_stop, is_planned};
+ghost use Rattle.route_sched.specs.Route.{AreLiveOnce};
+ghost use Rattle.plan_audit.specs.Passes.{has, passes};
+ghost use Rattle.move_ops.specs.Insertion.{of_vehicle};
+ghost use Rattle.plan_why.specs.Missed.{miss_of};
+ghost use Rattle.plan_why.specs.Trials.{MayTake};
+ghost use Rattle.plan_why.specs.Why.{alone_route, alone_text, is_stop_of, reason_text, services_from, services_in, services_text, tried_text, unplanned_text, used_trial, vehicles_from, why_named};
+
+use crate::leads::Lead;
+use crate::missed::{Miss, miss_of};
+use crate::sentences::{put_alone, put_fleet, put_service, put_trial};
+use crate::trials::{Trial, best_trial};
+use crate::words::{Word, put_word};
+use plan_audit::{passes_are_local, plans_are_local};
+use plan_explain::{Row, rows_of};
+use plan_types::{OutOfMemory, Pins, Plan, Problem, Request, Route, requests_are_found_by_stop};
+use std::alloc::Global;
+
+/// Why the request of this name is where it is, or in no route, in whole lines; none where no live request has the name. Of a planned
+/// one: where its vehicle serves it, and when. Of an unplanned one: the first limit that a vehicle of its own exceeds; where there is
+/// none, the place with each vehicle that is used where it misses least, and how many vehicles are used.
+///
+/// Vehicles and places count from 1. Times are in the problem's unit, loads in that of its demands. The time is cubic in a route's length.
+pub fn why(
+    alloc: Global,
+    problem: &Problem,
+    pins: &Pins,
+    plan: &Plan,
+    name: u32,
+) -> Result<Option<String>, OutOfMemory>
+    requires { passes problem.now pins.now.routes plan.now.routes ≡ true }
+    ensures { IfOk result (λ text. option_map string_bytes text
+        ≡ why_named problem.now pins.now.routes plan.now.routes name) }
+{
+    requests_are_found_by_stop();
+    passes_are_local();
+    plans_are_local();
+    let Some(request) = problem.requests.get(&name) else {
+        return Ok(None);
+    };
+    let routes = plan.routes.as_slice();
+    if is_planned(routes, request) {
+        return Ok(Some(planned_text(alloc, problem, request, routes)?));
+    }
+    let pins = pins.routes.as_slice();
+    Ok(Some(unplanned_text(alloc, "", problem, pins, routes, request)?))
+}
+
+/// Why the request of this name is in none of these routes, as `why` tells it, each line behind its lead; no line where a route has a
+/// stop of it, or no live request has the name.
+///
+/// The routes may break every rule but that their stops are live and stand once in each. The time is that of `why`.
+pub fn reason(
+    alloc: Global,
+    lead: Lead,
+    problem: &Problem,
+    pins: &[Route],
+    routes: &[Route],
+    name: u32,
+) -> Result<String, OutOfMemory>
+    requires { All (AreLiveOnce problem.now) routes.now }
+    ensures { IfOk result (λ text. string_bytes text
+        ≡ reason_text lead problem.now pins.now routes.now name) }
+{
+    requests_are_found_by_stop();
+    let Some(request) = problem.requests.get(&name) else {
+        return Ok(String::new(alloc));
+    };
+    if is_planned(routes, request) {
+        return Ok(String::new(alloc));
+    }
+    let lead = lead.text(alloc, name)?;
+    unplanned_text(alloc, lead.as_str(), problem, pins, routes, request)
+}
+
+// Where a planned request is served, and when.
+fn planned_text(
+    alloc: Global,
+    problem: &Problem,
+    request: &Request,
+    routes: &[Route],
+) -> Result<String, OutOfMemory>
+    requires { All (AreLiveOnce problem.now) routes.now }
+    ensures { IfOk result (λ text. string_bytes text
+        ≡ services_from problem.now request.now 1 routes.now) }
+{
+    let mut text = String::new(alloc);
+    put_services(alloc, &mut text, problem, request, routes)?;
+    Ok(text)
+}
+
+// Why a request is in no route, each line behind this lead.
+fn unplanned_text(
+    alloc: Global,
+    lead: &str,
+    problem: &Problem,
+    pins: &[Route],
+    routes: &[Route],
+    request: &Request,
+) -> Result<String, OutOfMemory>
+    requires alone { AreLiveOnce problem.now (alone_route request.now) }
+    requires tried { All (MayTake problem.now request.now) routes.now }
+    ensures { IfOk result (λ text. string_bytes text
+        ≡ unplanned_text lead.now problem.now pins.now routes.now request.now) }
+{
+    let miss = miss_alone(alloc, problem, request)?;
+    match miss {
+        Some(miss) => alone_text(alloc, lead, &miss),
+        None => tried_text(alloc, lead, problem, pins, routes, request),
+    }
+}
+
+// Whether a stop of the request is in a route.
+fn is_planned(routes: &[Route], request: &Request) -> bool
+    ensures { result ≡ is_planned routes.now request.now }
+{
+    match request {
+        Request::Single(stop) => has_stop(routes, stop.number),
+        Request::Pair(pickup, delivery) => {
+            has_stop(routes, pickup.number) || has_stop(routes, delivery.number)
+        }
+    }
+}
+
+#[tactic(auto, using(move_ops::proofs::Times::has_stop_more))]
+fn has_stop(routes: &[Route], number: u32) -> bool
+    ensures { result ≡ has_stop routes.now number }
+{
+    for route in routes {
+        if is_in(route.as_slice(), number) {
+            return true;
+        }
+    }
+    false
+}
+
+fn is_in(route: &[u32], number: u32) -> bool
+    ensures { result ≡ has route.now number }
+{
+    route.contains(&number)
+}
+
+// Appends each service of the request.
+fn put_services(
+    alloc: Global,
+    text: &mut String,
+    problem: &Problem,
+    request: &Request,
+    routes: &[Route],
+) -> Result<(), OutOfMemory>
+    requires { All (AreLiveOnce problem.now) routes.now }
+    ensures { OnOk result (string_bytes text.new
+        ≡ string_bytes text.old ++ services_from problem.now request.now 1 routes.now) }
+{
+    for (place, route) in routes.iter().enumerate() {
+        put_route(
+            alloc,
+            text,
+            problem,
+            request,
+            place as u64 + 1,
+            route.as_slice(),
+        )?;
+    }
+    Ok(())
+}
+
+// Appends those by one vehicle.
+fn put_route(
+    alloc: Global,
+    text: &mut String,
+    problem: &Problem,
+    request: &Request,
+    vehicle: u64,
+    route: &[u32],
+) -> Result<(), OutOfMemory>
+    requires { AreLiveOnce problem.now route.now }
+    ensures { OnOk result (string_bytes text.new
+        ≡ string_bytes text.old ++ services_text problem.now request.now vehicle route.now) }
+{
+    let rows = rows_of(alloc, problem, route)?;
+    put_rows(text, problem, request, vehicle, rows.as_slice())
+}
+
+fn put_rows(
+    text: &mut String,
+    problem: &Problem,
+    request: &Request,
+    vehicle: u64,
+    rows: &[Row],
+) -> Result<(), OutOfMemory>
+    ensures { OnOk result (string_bytes text.new ≡ string_bytes text.old
+        ++ services_in problem.now.kind request.now vehicle rows.now) }
+{
+    for row in rows {
+        if is_stop_of(request, row) {
+            put_service(text, problem.kind, vehicle, row)?;
+        }
+    }
+    Ok(())
+}
+
+fn is_stop_of(request: &Request, row: &Row) -> bool
+    ensures { result ≡ is_stop_of request.now row.now }
+{
+    match request {
+        Request::Single(stop) => stop.number == row.stop,
+        Request::Pair(pickup, delivery) => {
+            pickup.number == row.stop || delivery.number == row.stop
+        }
+    }
+}
+
+// The first limit that a vehicle exceeds which serves the request and nothing else.
+fn miss_alone(
+    alloc: Global,
+    problem: &Problem,
+    request: &Request,
+) -> Result<Option<Miss>, OutOfMemory>
+    requires { AreLiveOnce problem.now (alone_route request.now) }
+    ensures { IfOk result (λ miss. miss ≡ miss_of problem.now (alone_route request.now)) }
+{
+    match request {
+        Request::Single(stop) => miss_of(alloc, problem, &[stop.number]),
+        Request::Pair(pickup, delivery) => {
+            miss_of(alloc, problem, &[pickup.number, delivery.number])
+        }
+    }
+}
+
+// That a vehicle which serves nothing else exceeds this limit.
+fn alone_text(alloc: Global, lead: &str, miss: &Miss) -> Result<String, OutOfMemory>
+    ensures { IfOk result (λ text. string_bytes text ≡ alone_text lead.now miss.now) }
+{
+    let mut text = String::new(alloc);
+    put_alone(&mut text, lead, miss)?;
+    Ok(text)
+}
+
+// What comes of a request that a vehicle could serve alone.
+fn tried_text(
+    alloc: Global,
+    lead: &str,
+    problem: &Problem,
+    pins: &[Route],
+    routes: &[Route],
+    request: &Request,
+) -> Result<String, OutOfMemory>
+    requires { All (MayTake problem.now request.now) routes.now }
+    ensures { IfOk result (λ text. string_bytes text
+        ≡ tried_text lead.now problem.now pins.now routes.now request.now) }
+{
+    let mut text = String::new(alloc);
+    text.push_str(lead)?;
+    put_word(&mut text, Word::AloneFits)?;
+    put_vehicles(alloc, &mut text, lead, problem, pins, routes, request)?;
+    put_fleet(&mut text, lead, problem, routes)?;
+    Ok(text)
+}
+
+// Appends what comes of the request with each vehicle that is used.
+fn put_vehicles(
+    alloc: Global,
+    text: &mut String,
+    lead: &str,
+    problem: &Problem,
+    pins: &[Route],
+    routes: &[Route],
+    request: &Request,
+) -> Result<(), OutOfMemory>
+    requires { All (MayTake problem.now request.now) routes.now }
+    ensures { OnOk result (string_bytes text.new ≡ string_bytes text.old
+        ++ vehicles_from lead.now problem.now pins.now request.now 1 routes.now) }
+{
+    for (place, route) in routes.iter().enumerate() {
+        let kept = pinned(pins, place);
+        let best = used_trial(alloc, problem, request, kept, route.as_slice())?;
+        put_trial(text, lead, place as u64 + 1, &best)?;
+    }
+    Ok(())
+}
+
+// How many stops are pinned of the vehicle at this place of the fleet.
+fn pinned(pins: &[Route], place: usize) -> usize
+    ensures { result ≡ length (of_vehicle pins.now (place + 1)) }
+{
+    match pins.get(place) {
+        Some(pin) => pin.as_slice().len(),
+        None => 0,
+    }
+}
+
+// The best trial with a vehicle, if it is used.
+fn used_trial(
+    alloc: Global,
+    problem: &Problem,
+    request: &Request,
+    kept: usize,
+    route: &[u32],
+) -> Result<Option<Trial>, OutOfMemory>
+    requires { MayTake problem.now request.now route.now }
+    ensures { IfOk result (λ best. best ≡ used_trial problem.now request.now kept route.now) }
+{
+    if route.is_empty() {
+        return Ok(None);
+    }
+    best_trial(alloc, problem, route, request, kept)
+}

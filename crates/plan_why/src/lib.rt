@@ -1,0 +1,40 @@
+//! Why a request is where it is in a plan, or in no route: what a dispatcher asks of an order that was left out.
+//!
+//! Entry functions: `why`, called by `command_text` for the line `why R`; `reason`, of one of several requests that are in no route, called
+//! by `plan_timetable` and by `planner_cli` behind what `solve` leaves out.
+//!
+//! Source: this project's own. The limits are the auditor's rules 6 to 8 with `route_sched`'s loads and starts, the places those of
+//! `move_ops`' insertions.
+//!
+//! How it works: a request that no vehicle can serve alone is told by the first limit that such a vehicle exceeds, loads before times.
+//! Else it is put into each route that is used, at each place behind the pin, whatever limits that exceeds. What is told of a vehicle is
+//! the trial whose first limit is exceeded by least; among such the one with the shortest way, and then the one at the earliest places.
+//! A trial that exceeds no limit comes before all others: there the request fits.
+//!
+//! Modules, in reading order:
+//! - `words`: the words between the figures
+//! - `leads`: what stands before each line, where lines of several requests stand together
+//! - `missed`: the first limit that a route exceeds
+//! - `trials`: a request at each place of a route
+//! - `sentences`: the lines
+//! - `answers`: the whole answer
+//! - `laws`: what the best trial means, and what is told of a request alone
+//!
+//! Said by `specs/Why.antt`, `Trials.antt`, `Missed.antt`, `Leads.antt`, `Words.antt` and `Laws.antt`. Proved:
+//! - `why`: the bytes are those of `why_named`, or want of memory
+//! - `reason`: the same of an unplanned request in any routes whose stops are live and stand once in each (`reason_text`)
+//! - `no_trial_is_better`: the trial that is told of a vehicle misses least
+//! - `what_is_alone_is_judged_by_the_rules`: no limit is told of a request alone exactly where its route is feasible by the auditor
+#![tactic(auto)]
+
+mod answers;
+mod laws;
+mod leads;
+mod missed;
+mod sentences;
+mod trials;
+mod words;
+
+pub use answers::{reason, why};
+pub use laws::{no_trial_is_better, what_is_alone_is_judged_by_the_rules};
+pub use leads::Lead;

@@ -1,0 +1,149 @@
+//! The first limit that a route exceeds.
+ghost use Rattle.std.specs.Prelude.{◌≡◌, IfOk};
+ghost use Rattle.plan_types.specs.declared.requests.Kind.TheVariants.{LiLim};
+ghost use Rattle.route_sched.specs.Route.{AreLiveOnce};
+ghost use Rattle.plan_why.specs.Missed.{excess, excess_of, is_heavy, is_late, lateness_at, lateness_in, miss_in, miss_of, overload_at, overload_in, time_limit};
+
+use plan_explain::{Row, rows_of};
+use plan_types::{Kind, OutOfMemory, Problem};
+use std::alloc::Global;
+
+/// What a route may exceed.
+#[derive(Clone, Copy, Debug, PartialEq, Eq)]
+pub(crate) enum Limit {
+    /// What a vehicle can carry.
+    Capacity,
+    /// The latest start of service at a stop.
+    Start,
+    /// The latest return to the depot.
+    Return,
+}
+
+/// A limit that is exceeded.
+#[derive(Clone, Copy, Debug, PartialEq, Eq)]
+pub(crate) struct Miss {
+    pub limit: Limit,
+    /// Where; 0 is the depot.
+    pub stop: u32,
+    /// What is above the limit: a load or a time.
+    pub figure: u64,
+    /// The most that it may be.
+    pub most: u64,
+}
+
+impl Miss {
+    /// By how much the limit is exceeded.
+    pub(crate) fn excess(&self) -> u64
+        ensures { result ≡ excess self.now }
+    {
+        self.figure.saturating_sub(self.most)
+    }
+}
+
+/// By how much the first limit is exceeded, where one is.
+pub(crate) fn excess_of(miss: &Option<Miss>) -> u64
+    ensures { result ≡ excess_of miss.now }
+{
+    match miss {
+        Some(miss) => miss.excess(),
+        None => 0,
+    }
+}
+
+/// The first limit that a route exceeds: loads come before times.
+pub(crate) fn miss_of(
+    alloc: Global,
+    problem: &Problem,
+    route: &[u32],
+) -> Result<Option<Miss>, OutOfMemory>
+    requires { AreLiveOnce problem.now route.now }
+    ensures { IfOk result (λ miss. miss ≡ miss_of problem.now route.now) }
+{
+    let rows = rows_of(alloc, problem, route)?;
+    Ok(miss_in(problem, rows.as_slice()))
+}
+
+fn miss_in(problem: &Problem, rows: &[Row]) -> Option<Miss>
+    ensures { result ≡ miss_in problem.now rows.now }
+{
+    match overload_in(problem.capacity, rows) {
+        Some(miss) => Some(miss),
+        None => lateness_in(problem.kind, rows),
+    }
+}
+
+fn overload_in(capacity: u32, rows: &[Row]) -> Option<Miss>
+    ensures { result ≡ overload_in capacity rows.now }
+{
+    for row in rows {
+        if is_heavy(capacity, row) {
+            return Some(overload_at(capacity, row));
+        }
+    }
+    None
+}
+
+fn is_heavy(capacity: u32, row: &Row) -> bool
+    ensures { result ≡ is_heavy capacity row.now }
+{
+    row.stop != 0 && row.load > i64::from(capacity)
+}
+
+fn overload_at(capacity: u32, row: &Row) -> Miss
+    ensures { result ≡ overload_at capacity row.now }
+{
+    Miss {
+        limit: Limit::Capacity,
+        stop: row.stop,
+        figure: row.load.unsigned_abs(),
+        most: u64::from(capacity),
+    }
+}
+
+// A problem of kind `Vrp` asks for no times.
+fn lateness_in(kind: Kind, rows: &[Row]) -> Option<Miss>
+    ensures { result ≡ lateness_in kind rows.now }
+{
+    match kind {
+        Kind::LiLim => first_lateness(rows),
+        Kind::Vrp => None,
+    }
+}
+
+fn first_lateness(rows: &[Row]) -> Option<Miss>
+    ensures { result ≡ lateness_in LiLim rows.now }
+{
+    for row in rows {
+        if is_late(row) {
+            return Some(lateness_at(row));
+        }
+    }
+    None
+}
+
+fn is_late(row: &Row) -> bool
+    ensures { result ≡ is_late row.now }
+{
+    row.start > u64::from(row.latest)
+}
+
+fn lateness_at(row: &Row) -> Miss
+    ensures { result ≡ lateness_at row.now }
+{
+    Miss {
+        limit: time_limit(row.stop),
+        stop: row.stop,
+        figure: row.start,
+        most: u64::from(row.latest),
+    }
+}
+
+fn time_limit(stop: u32) -> Limit
+    ensures { result ≡ time_limit stop }
+{
+    if stop == 0 {
+        Limit::Return
+    } else {
+        Limit::Start
+    }
+}

@@ -1,0 +1,87 @@
+//! The words between the figures.
+ghost use Rattle.std.specs.Prelude.{◌≡◌, ◌++◌, OnOk, decimal, string_bytes};
+ghost use Rattle.plan_why.specs.Words.{named, word};
+
+use plan_types::OutOfMemory;
+
+/// What stands before or behind a number.
+#[derive(Clone, Copy, Debug, PartialEq, Eq)]
+pub(crate) enum Word {
+    AloneStop,
+    AloneBack,
+    AloneFits,
+    Needs,
+    VehicleTakes,
+    StartsAt,
+    Latest,
+    Vehicle,
+    Stop,
+    WouldStart,
+    Back,
+    Late,
+    Behind,
+    WouldCarry,
+    TooMuch,
+    FitsAtPlace,
+    FitsAtPlaces,
+    And,
+    AtPlace,
+    Fleet,
+    Of,
+    VehiclesUsed,
+    Why,
+    Colon,
+    WhyTab,
+    Tab,
+}
+
+impl Word {
+    #[tactic(auto, unfolding(crate::specs::Words::word))]
+    fn text(self) -> &'static str
+        ensures { result.now ≡ word self }
+    {
+        match self {
+            Word::AloneStop => "alone: stop ",
+            Word::AloneBack => "alone: back at ",
+            Word::AloneFits => "alone: a vehicle can serve it\n",
+            Word::Needs => " needs ",
+            Word::VehicleTakes => ", a vehicle takes ",
+            Word::StartsAt => " starts at ",
+            Word::Latest => ", latest ",
+            Word::Vehicle => "vehicle ",
+            Word::Stop => ": stop ",
+            Word::WouldStart => " would start ",
+            Word::Back => ": would be back ",
+            Word::Late => " late",
+            Word::Behind => ": behind stop ",
+            Word::WouldCarry => " it would carry ",
+            Word::TooMuch => " too much",
+            Word::FitsAtPlace => ": fits at place ",
+            Word::FitsAtPlaces => ": fits at places ",
+            Word::And => " and ",
+            Word::AtPlace => " at place ",
+            Word::Fleet => "fleet: ",
+            Word::Of => " of ",
+            Word::VehiclesUsed => " vehicles are used",
+            Word::Why => "why ",
+            Word::Colon => ": ",
+            Word::WhyTab => "why\t",
+            Word::Tab => "\t",
+        }
+    }
+}
+
+/// Appends words.
+pub(crate) fn put_word(text: &mut String, what: Word) -> Result<(), OutOfMemory>
+    ensures { OnOk result (string_bytes text.new ≡ string_bytes text.old ++ word what) }
+{
+    text.push_str(what.text())
+}
+
+/// Appends words and the number behind them.
+pub(crate) fn put_named(text: &mut String, what: Word, n: u64) -> Result<(), OutOfMemory>
+    ensures { OnOk result (string_bytes text.new ≡ string_bytes text.old ++ named what n) }
+{
+    put_word(text, what)?;
+    write!(text, "{n}")
+}

@@ -1,0 +1,29 @@
+-- What is told of a list of instances.
+use Rattle.std.proofs.Common.{◌≡◌, ◌∙◌, ℕ, List, [], ◌∷◌, Option, Some, None, Result, refl, ap}
+use Rattle.std.specs.declared.io.ErrorKind.{ErrorKind}
+use Rattle.std.specs.Io.KnownBytes.{Appends}
+use Rattle.plan_types.specs.declared.requests.Kind.{Kind}
+use Rattle.command_text.specs.Answers.{line}
+use Rattle.planner_cli.specs.Reads.{FileRead, FileWrite}
+use Rattle.planner_cli.specs.Solving.{unplanned_line}
+use Rattle.planner_cli.specs.SolvedList.{FilesDone, IsAuditOf, IsToldPlan, TellsPlaced, with_read}
+use Rattle.planner_cli.specs.declared.answer.AuditAnswer.{AuditAnswer}
+
+-- a file was read by this path
+pub read_by : (p path : List ℕ) (given : Result (List ℕ) ErrorKind) (was now : List FileRead) → p ≡ path → now ≡ (p, given) ∷ was → now ≡ (path, given) ∷ was
+read_by p path given was now same e = e ∙ ap (λ (x : List ℕ). (x, given) ∷ was) same
+
+abbrev pub the_done : List FileRead → List FileWrite → FilesDone
+the_done reads writes = record { reads = reads; writes = writes }
+
+pub done_as : (was now : List FileRead) (made : List FileWrite) (read : FileRead) → now ≡ read ∷ was
+    → the_done now made ≡ with_read read (the_done was made)
+done_as was now made read e = ap (λ (reads : List FileRead). the_done reads made) e
+
+-- What is told of a plan is told of its text, by whether it leaves requests out.
+pub placed_plan : (k : Kind) (x text names : List ℕ) (audited : Option AuditAnswer) (before after : Option (List ℕ)) (status : ℕ) → IsAuditOf k x text names audited → TellsPlaced audited names before after status
+    → (told : List ℕ) × IsToldPlan k x text names told status × Appends before after told
+placed_plan k x text [] (Some answer) before after status is told = (line answer.line, (answer, is, refl, told.0), told.1)
+placed_plan k x text [] None before after status is told = absurd is
+placed_plan k x text (name ∷ names) (Some answer) before after status is told = absurd is
+placed_plan k x text (name ∷ names) None before after status is told = (unplanned_line (name ∷ names), (refl, told.0), told.1)

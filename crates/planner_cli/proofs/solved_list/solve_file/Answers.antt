@@ -1,0 +1,50 @@
+-- What the read gave, and what is told of it.
+use Rattle.std.proofs.Common.{[], ◌∷◌, Ok, Err, inl, inr, refl, subst}
+use Rattle.std.specs.IoError.{error_kind}
+use Rattle.std.proofs.lemmas.Result.{IfOk-weaker}
+use Rattle.command_line.specs.Asked.{tasks_of}
+use Rattle.planner_cli.specs.SolvedList.{Finds, IsPlaced}
+use Rattle.planner_cli.specs.Telling.{TellsUnread, unread_line}
+use Rattle.planner_cli.proofs.solved_list.solve_file.Goals as goal
+
+pub returns-in-Err-clause-reads : goal.returns-in-Err-clause-reads
+returns-in-Err-clause-reads g c = ((c.args.instance.now, Err (error_kind c.in-Err.error)) ∷ [], c.in-Err.ensures)
+
+pub returns-in-Err-clause-makes : goal.returns-in-Err-clause-makes
+returns-in-Err-clause-makes g c = ([], refl)
+
+pub returns-in-Err-clause-told : goal.returns-in-Err-clause-told
+returns-in-Err-clause-told g c =
+    let instance = c.args.instance.now in
+    let error = error_kind c.in-Err.error in
+    let before = g.W.Write.contents c.args.output.now in
+    let after = g.W.Write.contents c.tell_unread.new.output in
+    IfOk-weaker c.tell_unread.result _ _
+    (λ status told.
+    let so = subst (λ kind. TellsUnread instance kind before after status) c.kind.ensures told in
+    (unread_line instance error, inr (inl (record { error = error; noted = c.in-Err.ensures; same = refl; line = refl; status_is = so.0 })), so.1))
+    c.tell_unread.ensures
+
+pub returns-clause-reads : goal.returns-clause-reads
+returns-clause-reads g c = ((c.args.instance.now, Ok c.in-Ok.text.items) ∷ [], c.in-Ok.ensures)
+
+pub returns-clause-told : goal.returns-clause-told
+returns-clause-told g c =
+    let tasks = tasks_of c.args.tasks in
+    let x = c.in-Ok.text.items in
+    let found = c.find-found.result in
+    let made = g.N.WriteFiles.writes c.args.new_files.now in
+    let left = g.N.WriteFiles.writes c.place.new.new_files in
+    let finds = subst (λ t. Finds tasks t found) c.deref.ensures.value c.find-found.ensures in
+    IfOk-weaker c.place.result _ _
+    (λ status told. (
+      told.0,
+      inr (inr (record {
+        x = x;
+        noted = c.in-Ok.ensures;
+        found = found;
+        finds = finds;
+        placed = subst (λ t. IsPlaced tasks.kind t c.args.path.now found made left told.0 status) c.deref-2.ensures.value told.1;
+      })),
+      told.2,
+    )) c.place.ensures.told

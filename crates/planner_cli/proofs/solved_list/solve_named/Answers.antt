@@ -1,0 +1,33 @@
+-- The two paths of the line with what is told of them, or that it names none.
+use Rattle.std.proofs.Common.{◌++◌, ◌∷◌, [], codes, inl, inr, refl, rules, subst}
+use Rattle.std.specs.Io.KnownBytes.{Appends}
+use Rattle.std.proofs.KnownBytes.{Appends-trans}
+use Rattle.std.proofs.lemmas.Result.{IfOk-weaker}
+use Rattle.command_text.specs.Answers.{line}
+use Rattle.planner_cli.specs.Listed.{pair_text}
+use Rattle.planner_cli.proofs.ListLemmas.{tabs}
+use Rattle.planner_cli.proofs.solved_list.solve_named.Goals as goal
+
+pub returns-in-None-clause-told : goal.returns-in-None-clause-told
+returns-in-None-clause-told g c = IfOk-weaker c.tell_bad_line.result _ _ (λ status told. (line (codes "bad line"), inr (c.in-None.ensures, refl, refl, told.0), told.1)) c.tell_bad_line.ensures
+
+pub returns-in-None-clause-reads : goal.returns-in-None-clause-reads
+returns-in-None-clause-reads g c = ([], refl)
+
+pub returns-in-None-clause-makes : goal.returns-in-None-clause-makes
+returns-in-None-clause-makes g c = ([], refl)
+
+pub returns-clause-told : goal.returns-clause-told
+returns-clause-told g c =
+    let instance = c.in-Some.pair.0.now in
+    let path = c.in-Some.pair.1.now in
+    let before = g.W.Write.contents c.args.output.now in
+    let mid = g.W.Write.contents c.write.new.self in
+    let after = g.W.Write.contents c.solve_into.new.output in
+    let wrote : Appends before mid (instance ++ 9 ∷ (path ++ 9 ∷ [])) = search rules in
+    IfOk-weaker c.solve_into.result _ _
+    (λ status told. (
+      pair_text instance path told.0,
+      inl (record { instance = instance; path = path; pair = c.in-Some.ensures; told = told.0; does = told.1; text_is = refl }),
+      subst (Appends before after) (tabs instance path told.0) (Appends-trans before mid after (instance ++ 9 ∷ (path ++ 9 ∷ [])) told.0 wrote told.2),
+    )) c.solve_into.ensures.told

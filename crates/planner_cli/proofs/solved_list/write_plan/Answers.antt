@@ -1,0 +1,40 @@
+-- The plan is written and told, or it is told why it is not written.
+use Rattle.std.proofs.Common.{◌≡◌, [], ◌∷◌, Ok, Err, inl, inr, refl, subst}
+use Rattle.std.specs.IoError.{error_kind}
+use Rattle.std.proofs.lemmas.Result.{IfOk-weaker}
+use Rattle.planner_cli.specs.SolvedList.{TellsPlaced}
+use Rattle.planner_cli.specs.Telling.{TellsUnwritten, unwritten_line}
+use Rattle.planner_cli.proofs.SolvedListLemmas.{placed_plan}
+use Rattle.planner_cli.proofs.solved_list.write_plan.Goals as goal
+
+pub returns-in-Ok-clause-makes : goal.returns-in-Ok-clause-makes
+returns-in-Ok-clause-makes g c = ((c.args.path.now, Ok c.deref.result.now) ∷ [], c.in-Ok.ensures)
+
+pub returns-in-Ok-clause-told : goal.returns-in-Ok-clause-told
+returns-in-Ok-clause-told g c =
+    let solved = c.args.solved.now in
+    let before = g.W.Write.contents c.args.output.now in
+    let after = g.W.Write.contents c.tell_placed.new.output in
+    let made = g.N.WriteFiles.writes c.args.new_files.now in
+    let left = g.N.WriteFiles.writes c.write_new.new.self in
+    IfOk-weaker c.tell_placed.result _ _
+    (λ status told k x is.
+    let so = placed_plan k x solved.text.items solved.unplanned.items c.args.audited.now before after status is
+    (subst (λ names. TellsPlaced c.args.audited.now names before after status) c.deref-in-Ok.ensures.value told) in
+    (so.0, inl (record { noted = subst (λ text. left ≡ (c.args.path.now, Ok text) ∷ made) c.deref.ensures.value c.in-Ok.ensures; plan = so.1 }), so.2))
+    c.tell_placed.ensures.told
+
+pub returns-in-Err-clause-makes : goal.returns-in-Err-clause-makes
+returns-in-Err-clause-makes g c = ((c.args.path.now, Err (error_kind c.in-Err.error)) ∷ [], c.in-Err.ensures)
+
+pub returns-in-Err-clause-told : goal.returns-in-Err-clause-told
+returns-in-Err-clause-told g c =
+    let path = c.args.path.now in
+    let error = error_kind c.in-Err.error in
+    let before = g.W.Write.contents c.args.output.now in
+    let after = g.W.Write.contents c.tell_unwritten.new.output in
+    IfOk-weaker c.tell_unwritten.result _ _
+    (λ status told k x is.
+    let so = subst (λ kind. TellsUnwritten path kind before after status) c.kind.ensures told in
+    (unwritten_line path error, inr (inl (record { error = error; noted = c.in-Err.ensures; line = refl; status_is = so.0 })), so.1))
+    c.tell_unwritten.ensures.told

@@ -1,0 +1,293 @@
+//! The solving of a list of instances, each into a file of its own.
+//!
+//! Where something stands under the path of a solution, it is told before the instance is read, so that no steps are made for
+//! nothing. A plan is audited before it is written, so that what is written can be told.
+ghost use Rattle.std.specs.Prelude.{◌≤◌, IfOk};
+ghost use Rattle.command_line.specs.Asked.{tasks_of};
+ghost use Rattle.planner_cli.specs.Listed.{TellsLine, TellsLines, list_path};
+ghost use Rattle.planner_cli.specs.Reads.{IsGrown, IsReadFirst};
+ghost use Rattle.planner_cli.specs.SolvedList.{Finds, HasStatus, IsAuditOf, IsSolvedLine, Places, PlacesAudited, SolvesList, TellsOfTask, TellsPlaced, files_done};
+
+use crate::answer::AuditAnswer;
+use crate::audit::audit_text;
+use crate::files::{ReadFiles, WriteFiles};
+use crate::listed::{greater, list_path, pair_of, tell_bad_line};
+use crate::solved::{tell_fault, tell_unplanned};
+use crate::status::{BROKEN, DONE};
+use crate::telling::{tell_unread, tell_unwritten, write_line};
+use command_line::Tasks;
+use plan_solve::{SolveFault, Solved, solve};
+use plan_types::{Kind, OutOfMemory};
+use std::alloc::Global;
+use std::io;
+use std::io::Write;
+use text_lines::Lines;
+
+/// Reads a list, and solves the instance that each of its lines names into the new file that it names. Gives the greatest
+/// status.
+pub(crate) fn solves_read<F: ReadFiles, N: WriteFiles, W: Write>(
+    alloc: Global,
+    tasks: Tasks,
+    files: &mut F,
+    new_files: &mut N,
+    output: &mut W,
+) -> io::Result<u8>
+    ensures status { IfOk result (λ status. status ≤ 4) }
+    ensures reads { IsReadFirst (list_path tasks.entry.list.now)
+        (F.reads files.old) (F.reads files.new) }
+    ensures makes { IsGrown (N.writes new_files.old) (N.writes new_files.new) }
+    ensures told { IfOk result (SolvesList (tasks_of tasks.entry)
+        (files_done F.reads N.writes files.old new_files.old)
+        (files_done F.reads N.writes files.new new_files.new)
+        (W.contents output.old) (W.contents output.new)) }
+{
+    let path = list_path(tasks.list);
+    match files.read(path) {
+        Ok(text) => solve_lines(alloc, tasks, Lines::new(&text), files, new_files, output),
+        Err(error) => tell_unread(output, path, error.kind()),
+    }
+}
+
+// Solves the instance that each line names, and tells what came of it before it goes on.
+fn solve_lines<F: ReadFiles, N: WriteFiles, W: Write>(
+    alloc: Global,
+    tasks: Tasks,
+    lines: Lines<'_>,
+    files: &mut F,
+    new_files: &mut N,
+    output: &mut W,
+) -> io::Result<u8>
+    ensures status { IfOk result (λ status. status ≤ 4) }
+    ensures reads { IsGrown (F.reads files.old) (F.reads files.new) }
+    ensures makes { IsGrown (N.writes new_files.old) (N.writes new_files.new) }
+    ensures told { IfOk result (TellsLines (IsSolvedLine (tasks_of tasks.entry)) lines.entry
+        (files_done F.reads N.writes files.old new_files.old)
+        (files_done F.reads N.writes files.new new_files.new)
+        (W.contents output.old) (W.contents output.new)) }
+{
+    let mut greatest = DONE;
+    for line in lines {
+        let status = solve_line(alloc, tasks, line, files, new_files, output)?;
+        greatest = greater(greatest, status);
+    }
+    Ok(greatest)
+}
+
+// Tells what came of the instance that the line names, and flushes it.
+fn solve_line<F: ReadFiles, N: WriteFiles, W: Write>(
+    alloc: Global,
+    tasks: Tasks,
+    line: &[u8],
+    files: &mut F,
+    new_files: &mut N,
+    output: &mut W,
+) -> io::Result<u8>
+    ensures status { IfOk result (λ status. status ≤ 4) }
+    ensures reads { IsGrown (F.reads files.old) (F.reads files.new) }
+    ensures makes { IsGrown (N.writes new_files.old) (N.writes new_files.new) }
+    ensures told { IfOk result (TellsLine (IsSolvedLine (tasks_of tasks.entry)) line.now
+        (files_done F.reads N.writes files.old new_files.old)
+        (files_done F.reads N.writes files.new new_files.new)
+        (W.contents output.old) (W.contents output.new)) }
+{
+    let status = solve_named(alloc, tasks, line, files, new_files, output)?;
+    output.flush()?;
+    Ok(status)
+}
+
+// Tells what came of the instance that the line names.
+fn solve_named<F: ReadFiles, N: WriteFiles, W: Write>(
+    alloc: Global,
+    tasks: Tasks,
+    line: &[u8],
+    files: &mut F,
+    new_files: &mut N,
+    output: &mut W,
+) -> io::Result<u8>
+    ensures status { IfOk result (λ status. status ≤ 4) }
+    ensures reads { IsGrown (F.reads files.old) (F.reads files.new) }
+    ensures makes { IsGrown (N.writes new_files.old) (N.writes new_files.new) }
+    ensures told { IfOk result (TellsLine (IsSolvedLine (tasks_of tasks.entry)) line.now
+        (files_done F.reads N.writes files.old new_files.old)
+        (files_done F.reads N.writes files.new new_files.new)
+        (W.contents output.old) (W.contents output.new)) }
+{
+    let (instance, path) = match pair_of(line) {
+        Some(pair) => pair,
+        None => return tell_bad_line(output),
+    };
+    write!(output, "{instance}\t{path}\t")?;
+    solve_into(alloc, tasks, instance, path, files, new_files, output)
+}
+
+// Solves the instance into a new file under the path.
+fn solve_into<F: ReadFiles, N: WriteFiles, W: Write>(
+    alloc: Global,
+    tasks: Tasks,
+    instance: &str,
+    path: &str,
+    files: &mut F,
+    new_files: &mut N,
+    output: &mut W,
+) -> io::Result<u8>
+    ensures status { IfOk result (λ status. status ≤ 4) }
+    ensures reads { IsGrown (F.reads files.old) (F.reads files.new) }
+    ensures makes { IsGrown (N.writes new_files.old) (N.writes new_files.new) }
+    ensures told { IfOk result (TellsOfTask (tasks_of tasks.entry) instance.now path.now
+        (files_done F.reads N.writes files.old new_files.old)
+        (files_done F.reads N.writes files.new new_files.new)
+        (W.contents output.old) (W.contents output.new)) }
+{
+    match new_files.look(path) {
+        Ok(()) => solve_file(alloc, tasks, instance, path, files, new_files, output),
+        Err(error) => tell_unwritten(output, path, error.kind()),
+    }
+}
+
+// Reads the instance, solves it, and places what is found under the path.
+fn solve_file<F: ReadFiles, N: WriteFiles, W: Write>(
+    alloc: Global,
+    tasks: Tasks,
+    instance: &str,
+    path: &str,
+    files: &mut F,
+    new_files: &mut N,
+    output: &mut W,
+) -> io::Result<u8>
+    ensures status { IfOk result (λ status. status ≤ 4) }
+    ensures reads { IsGrown (F.reads files.old) (F.reads files.new) }
+    ensures makes { IsGrown (N.writes new_files.old) (N.writes new_files.new) }
+    ensures told { IfOk result (TellsOfTask (tasks_of tasks.entry) instance.now path.now
+        (files_done F.reads N.writes files.old new_files.old)
+        (files_done F.reads N.writes files.new new_files.new)
+        (W.contents output.old) (W.contents output.new)) }
+{
+    let text = match files.read(instance) {
+        Ok(text) => text,
+        Err(error) => return tell_unread(output, instance, error.kind()),
+    };
+    let found = find(alloc, tasks, &text);
+    place(alloc, tasks.kind, &text, path, &found, new_files, output)
+}
+
+// Solves the instance's text. How far it is is told nowhere.
+fn find(alloc: Global, tasks: Tasks, text: &[u8]) -> Result<Solved, SolveFault>
+    ensures { Finds (tasks_of tasks.entry) text.now result }
+{
+    let mut progress = io::sink();
+    solve(
+        alloc,
+        tasks.kind,
+        text,
+        tasks.seed,
+        tasks.steps,
+        None,
+        &mut progress,
+    )
+}
+
+// Writes the plan that was found, and tells it; or tells why none is written.
+fn place<N: WriteFiles, W: Write>(
+    alloc: Global,
+    kind: Kind,
+    instance: &[u8],
+    path: &str,
+    found: &Result<Solved, SolveFault>,
+    new_files: &mut N,
+    output: &mut W,
+) -> io::Result<u8>
+    ensures status { IfOk result (λ status. status ≤ 4) }
+    ensures makes { IsGrown (N.writes new_files.old) (N.writes new_files.new) }
+    ensures told { IfOk result (Places kind instance.now path.now found.now
+        (N.writes new_files.old) (N.writes new_files.new)
+        (W.contents output.old) (W.contents output.new)) }
+{
+    match found {
+        Ok(solved) => place_plan(alloc, kind, instance, path, solved, new_files, output),
+        Err(fault) => tell_fault(*fault, output),
+    }
+}
+
+// Writes the plan, and tells its audit, or what it leaves out.
+fn place_plan<N: WriteFiles, W: Write>(
+    alloc: Global,
+    kind: Kind,
+    instance: &[u8],
+    path: &str,
+    solved: &Solved,
+    new_files: &mut N,
+    output: &mut W,
+) -> io::Result<u8>
+    ensures status { IfOk result (λ status. status ≤ 4) }
+    ensures makes { IsGrown (N.writes new_files.old) (N.writes new_files.new) }
+    ensures told { IfOk result (Places kind instance.now path.now (Ok solved.now)
+        (N.writes new_files.old) (N.writes new_files.new)
+        (W.contents output.old) (W.contents output.new)) }
+{
+    match audit_found(alloc, kind, instance, solved) {
+        Ok(audited) => write_plan(path, solved, &audited, new_files, output),
+        Err(_) => tell_fault(SolveFault::OutOfMemory, output),
+    }
+}
+
+// Writes the plan, of which this is the audit, and tells it.
+fn write_plan<N: WriteFiles, W: Write>(
+    path: &str,
+    solved: &Solved,
+    audited: &Option<AuditAnswer>,
+    new_files: &mut N,
+    output: &mut W,
+) -> io::Result<u8>
+    requires { HasStatus audited.now }
+    ensures status { IfOk result (λ status. status ≤ 4) }
+    ensures makes { IsGrown (N.writes new_files.old) (N.writes new_files.new) }
+    ensures told { IfOk result (PlacesAudited path.now solved.now audited.now
+        (N.writes new_files.old) (N.writes new_files.new)
+        (W.contents output.old) (W.contents output.new)) }
+{
+    match new_files.write_new(path, &solved.text) {
+        Ok(()) => tell_placed(audited, &solved.unplanned, output),
+        Err(error) => tell_unwritten(output, path, error.kind()),
+    }
+}
+
+// The audit of a plan that leaves no request out.
+fn audit_found(
+    alloc: Global,
+    kind: Kind,
+    instance: &[u8],
+    solved: &Solved,
+) -> Result<Option<AuditAnswer>, OutOfMemory>
+    ensures status { IfOk result HasStatus }
+    ensures audited { IfOk result (IsAuditOf kind instance.now
+        solved.now.text.items solved.now.unplanned.items) }
+{
+    if !solved.unplanned.is_empty() {
+        return Ok(None);
+    }
+    let answer = audit_text(alloc, kind, instance, &solved.text)?;
+    Ok(Some(answer))
+}
+
+// Tells the audit of a plan, or what it leaves out.
+fn tell_placed<W: Write>(
+    audited: &Option<AuditAnswer>,
+    names: &[u32],
+    output: &mut W,
+) -> io::Result<u8>
+    requires { HasStatus audited.now }
+    ensures status { IfOk result (λ status. status ≤ 4) }
+    ensures told { IfOk result (TellsPlaced audited.now names.now (W.contents output.old)
+        (W.contents output.new)) }
+{
+    match audited {
+        Some(answer) => {
+            write_line(output, answer.line.as_bytes())?;
+            Ok(answer.status)
+        }
+        None => {
+            tell_unplanned(output, names)?;
+            Ok(BROKEN)
+        }
+    }
+}

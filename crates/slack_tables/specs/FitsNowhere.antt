@@ -1,0 +1,12 @@
+-- What a quick look tells of a route: that a request has no place in it.
+use Rattle.std.specs.Prelude.{◌≡◌, ℕ, ℤ, Some, None}
+use Rattle.plan_types.specs.Instance.{Instance, IsInstance}
+use Rattle.plan_types.specs.declared.requests.Request.{Request}
+use Rattle.slack_tables.specs.Best.{IsBestAddition}
+use Rattle.slack_tables.specs.Course.{Course, route_of, IsCourseIn}
+use Rattle.slack_tables.specs.Insertion.{request_named}
+
+-- wherever the pin ends, the request fits nowhere for less than `below` into a route of this course, in each problem that has both
+abbrev pub FitsNowhere : Course → Request → ℤ → Type 0
+FitsNowhere c r below =
+    (p : Instance) (name kept : ℕ) → IsInstance p → IsCourseIn p c → request_named p name ≡ Some r → IsBestAddition p (route_of c) r kept below None
