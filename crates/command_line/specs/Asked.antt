@@ -1,5 +1,6 @@
 -- What the words of the command line ask for, those after the program's name.
-use Rattle.std.specs.Prelude.{◌≡◌, ◌==◌, ◌⊎◌, ◌^◌, ℕ, Bool, true, false, not, List, [], ◌∷◌, codes, Option, Some, None, Result, MatchResult, if◌then◌else◌, option_and_then, option_map}
+use Rattle.std.specs.Prelude.{◌≡◌, ◌==◌, ◌&&◌, ◌⊎◌, ◌^◌, ℕ, ℤ, pos, int_le, int_lt, Bool, true, false, not, List, [], ◌∷◌, codes, Option, Some, None, Result, MatchResult, if◌then◌else◌, option_and_then, option_map}
+use Rattle.std.specs.Int.RustNames.{unsigned_abs}
 use Rattle.std.specs.List.{list_all}
 use Rattle.std.specs.Str.{bytes_eq}
 use Rattle.clap.specs.Words.{Row, Text, first_of, kind_of}
@@ -8,8 +9,7 @@ use Rattle.clap.specs.declared.error.kind.ErrorKind.TheVariants.{DisplayHelp, Di
 use Rattle.clap.specs.declared.error.kind.ErrorKind.{ErrorKind}
 use Rattle.plan_types.specs.declared.requests.Kind.{Kind}
 use Rattle.plan_types.specs.declared.requests.Kind.TheVariants.{LiLim, Vrp}
-use Rattle.command_text.specs.Asking.{field_in}
-use Rattle.text_lines.specs.Numbers.{below, digits_of}
+use Rattle.text_lines.specs.Numbers.{below, digits_of, integer_of}
 use Rattle.command_line.specs.declared.words.Paths.{Paths}
 use Rattle.command_line.specs.declared.words.Invocation.{Invocation}
 use Rattle.command_line.specs.declared.words.Invocation.TheVariants.{Audit, Audits, BuiltIn, Draw, DrawStore, Explain, Format, Load, Run, Solve, Solves, StoreTimetable, Timetable, Upgrade}
@@ -100,10 +100,14 @@ kind_named word = if bytes_eq (codes "lilim") word then Some LiLim else (if byte
 abbrev pub steps_named : Text → Option ℕ
 steps_named word = below 1000000001 (digits_of word)
 
+-- a number, as a `u64` holds it
+abbrev pub as_u64 : ℤ → Option ℕ
+as_u64 z = if int_le (pos 0) z && int_lt z (pos (2 ^ 64)) then Some (unsigned_abs z) else None
+
 -- a seed, as a line of commands names one, with no minus
 abbrev pub seed_named : Text → Option ℕ
 seed_named [] = None
-seed_named (b ∷ bs) = if b == 45 then None else option_and_then (λ f. f.unsigned) (field_in (b ∷ bs))
+seed_named (b ∷ bs) = if b == 45 then None else option_and_then as_u64 (integer_of (b ∷ bs))
 
 -- the seed where none is named is 0
 abbrev pub seed_or_none : Option Text → Option ℕ

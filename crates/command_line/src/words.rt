@@ -4,8 +4,8 @@
 //! would have to speak of UTF-8 within each word. `--` alone counts as no words, as `clap` has it.
 ghost use Rattle.std.specs.Prelude.{◌≡◌, Some, IfOk, codes, drop, map, option_and_then, option_map};
 ghost use Rattle.clap.specs.Words.{App, Rule, app_of, first_of, found_of, kind_of, new_rule, rows_of, subcommand_rows_of, with_rule, with_subcommand};
-ghost use Rattle.command_text.specs.Asking.{field_in};
-ghost use Rattle.command_line.specs.Asked.{ArePositional, ReadsWords, asked_of, paths_in, paths_of, run_in, kind_named, list_in, load_in, load_of, deviation_or_none, draw_from, draw_in, route_or_none, seed_named, seed_or_none, steps_named, store_in, store_timetable_from, tabs_named, task_in, task_of, tasks_in, tasks_of, timetable_from, timetable_in, told_by, told_by_other, told_of, told_of_store, upgrade_in};
+ghost use Rattle.text_lines.specs.Numbers.{integer_of};
+ghost use Rattle.command_line.specs.Asked.{ArePositional, ReadsWords, as_u64, asked_of, paths_in, paths_of, run_in, kind_named, list_in, load_in, load_of, deviation_or_none, draw_from, draw_in, route_or_none, seed_named, seed_or_none, steps_named, store_in, store_timetable_from, tabs_named, task_in, task_of, tasks_in, tasks_of, timetable_from, timetable_in, told_by, told_by_other, told_of, told_of_store, upgrade_in};
 ghost use Rattle.command_line.specs.CommandLine.{IsKindNames, IsLeafCommand, IsModeNames, IsPlannerCommand, IsWord, audits_app, draw_app, load_app, mode_rule, paths_app, kind_rule, run_app, solve_app, solves_app, store_app, timetable_app, upgrade_app, word_rule};
 
 use crate::help::{
@@ -16,7 +16,6 @@ use crate::help::{
 };
 use clap::error::ErrorKind;
 use clap::{Arg, ArgMatches, Command, Error};
-use command_text::HELP;
 use plan_types::{Kind, OutOfMemory};
 use std::alloc::Global;
 use std::convert::AsStr;
@@ -142,17 +141,21 @@ static KIND_WORDS: [&str; 2] = ["lilim", "vrp"];
 
 static MODE_WORDS: [&str; 1] = ["strict"];
 
-/// Reads the words of the command line, the program's name first.
+/// Reads the words of the command line, the program's name first. `lines` is what help says of the lines that `run` reads.
 ///
 /// # Errors
 ///
 /// `clap`'s, whose text is what the user sees, on standard output where help was asked for; also for a number that is
 /// none or too great, and for want of memory.
-pub fn read_words<'a, S: AsStr>(alloc: Global, words: &'a [S]) -> Result<Invocation<'a>, Error>
+pub fn read_words<'a, S: AsStr>(
+    alloc: Global,
+    words: &'a [S],
+    lines: &'a str,
+) -> Result<Invocation<'a>, Error>
     ensures { let asked = drop 1 (map S.text words.entry.now) in
         ArePositional asked → ReadsWords asked result }
 {
-    let matches = planner_command(alloc)?.try_get_matches_from(words)?;
+    let matches = planner_command(alloc, lines)?.try_get_matches_from(words)?;
     match asked_words(&matches) {
         Some(invocation) => Ok(invocation),
         None => Err(bad_words(alloc, &matches)?),
@@ -183,7 +186,7 @@ fn bad_words(alloc: Global, matches: &ArgMatches<'_>) -> Result<Error, OutOfMemo
     }
 }
 
-fn planner_command<'a>(alloc: Global) -> Result<Command<'a>, OutOfMemory>
+fn planner_command<'a>(alloc: Global, lines: &'a str) -> Result<Command<'a>, OutOfMemory>
     ensures { IfOk result IsPlannerCommand }
 {
     let kinds = kind_names();
@@ -203,7 +206,7 @@ fn planner_command<'a>(alloc: Global) -> Result<Command<'a>, OutOfMemory>
     let format = store_command(alloc, "format", FORMAT_ABOUT, FORMAT_ANSWERS)?;
     let planner = with_command(planner, format)?;
     let planner = with_command(planner, load_command(alloc, kinds)?)?;
-    let planner = with_command(planner, run_command(alloc, mode_names())?)?;
+    let planner = with_command(planner, run_command(alloc, mode_names(), lines)?)?;
     with_command(planner, upgrade_command(alloc)?)
 }
 
@@ -234,10 +237,14 @@ fn store_command<'a>(
     with_word(command, word(alloc, "STORE", "The file of the store"))
 }
 
-fn run_command<'a>(alloc: Global, modes: &'a [&'a str]) -> Result<Command<'a>, OutOfMemory>
+fn run_command<'a>(
+    alloc: Global,
+    modes: &'a [&'a str],
+    lines: &'a str,
+) -> Result<Command<'a>, OutOfMemory>
     ensures { IfOk result (IsLeafCommand (run_app modes.entry)) }
 {
-    let command = Command::new(alloc, "run").about(RUN_ABOUT).after_help(HELP);
+    let command = Command::new(alloc, "run").about(RUN_ABOUT).after_help(lines);
     let command = with_word(command, word(alloc, "STORE", "The file of the store"))?;
     with_word(command, mode_word(alloc, modes))
 }
@@ -782,7 +789,7 @@ fn seed_named(word: &[u8]) -> Option<u64>
 }
 
 fn unsigned(word: &[u8]) -> Option<u64>
-    ensures { result ≡ option_and_then (λ f. f.unsigned) (field_in word.now) }
+    ensures { result ≡ option_and_then as_u64 (integer_of word.now) }
 {
     match Number::parse_integer(word) {
         Some(number) => number.to_u64(),

@@ -9,7 +9,7 @@ use Rattle.instance_read.specs.Lilim.{problem_of}
 use Rattle.instance_read.specs.declared.faults.ReadFault.{ReadFault}
 use Rattle.instance_read.specs.declared.faults.ReadFaultKind.{ReadFaultKind}
 use Rattle.instance_read.specs.declared.faults.ReadFaultKind.TheVariants.{BadNumber, Range, FieldCount, TaskOrder, PairMismatch, EmptyWindow, TooManyStops, MissingKey, Unsupported, DepotNotFirst, NodeRepeated, Truncated, OutOfMemory}
-use Rattle.command_text.specs.Readings.{InstanceFault, IsFound, IsUnlessMemory, SpellsInstance}
+use Rattle.instance_read.specs.Readings.{InstanceFault, IsFound, IsUnlessMemory, SpellsInstance}
 
 problem_once : (kind : Kind) (text : List ℕ) (p q : Instance) → SpellsInstance kind text p → SpellsInstance kind text q → p ≡ q
 problem_once Vrp text p q a b = a.1 ∙ sym b.1

@@ -15,7 +15,7 @@ use Rattle.command_text.specs.Answering.{Fate, Done, NoMemory, Spent, Failed, Se
 use Rattle.command_text.specs.Cutting.{Piece, is_short}
 use Rattle.command_text.specs.Laws.{StatesFollow}
 use Rattle.command_text.specs.Questions.{question_refusal, question_text}
-use Rattle.command_text.specs.Readings.{Reading}
+use Rattle.instance_read.specs.Readings.{Reading}
 use Rattle.command_text.specs.Showing.{print_text, show_text}
 use Rattle.command_text.specs.declared.answers.Answer.TheVariants as answer
 use Rattle.command_text.specs.declared.asked.Asked.{Asked}

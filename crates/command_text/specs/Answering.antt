@@ -15,7 +15,7 @@ use Rattle.command_core.specs.declared.refusals.Refusal.TheVariants.{NoInstance,
 use Rattle.command_text.specs.Answers.{answer_text, at_text, help_text, line, next_text}
 use Rattle.command_text.specs.Cutting.{Piece, is_short, pieces_of}
 use Rattle.command_text.specs.Questions.{question_refusal, question_text}
-use Rattle.command_text.specs.Readings.{Reading}
+use Rattle.instance_read.specs.Readings.{Reading}
 use Rattle.command_text.specs.Showing.{print_text, show_text}
 use Rattle.command_text.specs.Staging.{commands_in_stage, stage_commands}
 use Rattle.command_text.specs.declared.answers.Answer.{Answer}

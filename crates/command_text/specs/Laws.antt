@@ -9,7 +9,7 @@ use Rattle.command_core.specs.declared.states.State.TheVariants.{Loaded}
 use Rattle.command_text.specs.Answering.{Fate, Serving, begun, commands_of, made_or, served, steps_to_make}
 use Rattle.command_text.specs.Asking.{asked}
 use Rattle.command_text.specs.Cutting.{Piece, announced, ends, pieces_of}
-use Rattle.command_text.specs.Readings.{Reading}
+use Rattle.instance_read.specs.Readings.{Reading}
 use Rattle.command_text.specs.Staging.{stage_commands}
 use Rattle.command_text.specs.declared.asked.Asked.{Asked}
 use Rattle.command_text.specs.declared.steps.Goal.{Goal}

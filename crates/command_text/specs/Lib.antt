@@ -5,10 +5,10 @@ pub mod Asking
 pub mod Cutting
 pub mod Laws
 pub mod Questions
-pub mod Readings
 pub mod Scanning
 pub mod Showing
 pub mod Staging
+pub use Rattle.instance_read.specs.Readings
 -- of private functions alone
 pub mod Lines
 pub mod Numbers

@@ -1,7 +1,7 @@
 //! The text of an instance, which follows a `load` line.
 ghost use Rattle.std.specs.Prelude.{◌≡◌, IfErr, IfOk};
 ghost use Rattle.instance_read.specs.Faults.{TellsFirstFault};
-ghost use Rattle.command_text.specs.Readings.{InstanceFault, IsReading, IsUnlessMemory, Reading, SpellsInstance};
+ghost use Rattle.instance_read.specs.Readings.{InstanceFault, IsReading, IsUnlessMemory, Reading, SpellsInstance};
 
 use instance_read::{ReadFault, read_lilim, read_vrp};
 use plan_types::{Kind, Problem};

@@ -2,7 +2,7 @@
 ghost use Rattle.std.specs.Prelude.{◌≡◌, []};
 ghost use Rattle.command_text.specs.Cutting.{pieces_of};
 ghost use Rattle.command_text.specs.Laws.{PiecesEnd, PiecesFollow, StagedLinesMayBeCut, StagesMayBeCut, StatesFollow};
-ghost use Rattle.command_text.specs.Readings.{ReadingsAgree, SomeReadingIs};
+ghost use Rattle.instance_read.specs.Readings.{ReadingsAgree, SomeReadingIs};
 
 use instance_read::each_text_is_read;
 

@@ -10,6 +10,7 @@ pub mod Vrp
 pub mod VrpKeys
 pub mod VrpLaws
 pub mod Readable
+pub mod Readings
 -- of private functions alone
 pub mod RowViews
 pub mod FieldValues

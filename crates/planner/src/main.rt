@@ -9,15 +9,14 @@
 //! printed would overwrite it; so each such number is taken first.
 #![tactic(auto)]
 
-use planner_cli::{HostFiles, HostNewFiles, Streams, Watched, run_words, status};
+use planner_cli::{HostFiles, HostNewFiles, Streams, Watched, command_words, run_words, status};
 use sector_disk::Unknown;
-use std::env::Env;
 use std::fs::File;
 use std::io::ErrorKind;
 use std::os::fd::{AsRawFd, RawFd};
 use std::process::ExitCode;
 use std::rt::Files;
-use std::{env, io};
+use std::io;
 
 /// The number of standard error: the standard streams have those from 0 to this.
 const LAST_STANDARD: RawFd = 2;
@@ -28,7 +27,7 @@ fn main(rt: HostRuntime) -> ExitCode {
         Ok(stand_ins) => stand_ins,
         Err(error) => return ExitCode::from(unopened_status(error.kind())),
     };
-    let status = match words_of(&rt) {
+    let status = match command_words(&rt) {
         Ok(words) => status_of(&rt, words.as_slice()),
         Err(status) => status,
     };
@@ -74,17 +73,5 @@ fn unopened_status(kind: ErrorKind) -> u8 {
     match kind {
         ErrorKind::OutOfMemory => status::OUT_OF_MEMORY,
         _ => status::FILE,
-    }
-}
-
-// The words of the command line, the program's name first, or the status that tells why there are none.
-fn words_of<R: Env + Eprint + AllocGlobal>(rt: &R) -> Result<Vec<String>, u8> {
-    match env::args(rt) {
-        Ok(words) => words.collect(rt.alloc()).map_err(|_| status::OUT_OF_MEMORY),
-        Err(error) if error.kind() == ErrorKind::OutOfMemory => Err(status::OUT_OF_MEMORY),
-        Err(_) => {
-            let _ = eprintln!(rt; "error: a word is not UTF-8 text");
-            Err(status::USAGE)
-        }
     }
 }

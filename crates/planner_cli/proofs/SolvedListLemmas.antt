@@ -4,10 +4,10 @@ use Rattle.std.specs.declared.io.ErrorKind.{ErrorKind}
 use Rattle.std.specs.Io.KnownBytes.{Appends}
 use Rattle.plan_types.specs.declared.requests.Kind.{Kind}
 use Rattle.command_text.specs.Answers.{line}
-use Rattle.planner_cli.specs.Reads.{FileRead, FileWrite}
+use Rattle.auditor_cli.specs.Reads.{FileRead, FileWrite}
 use Rattle.planner_cli.specs.Solving.{unplanned_line}
 use Rattle.planner_cli.specs.SolvedList.{FilesDone, IsAuditOf, IsToldPlan, TellsPlaced, with_read}
-use Rattle.planner_cli.specs.declared.answer.AuditAnswer.{AuditAnswer}
+use Rattle.auditor_cli.specs.declared.answer.AuditAnswer.{AuditAnswer}
 
 -- a file was read by this path
 pub read_by : (p path : List ℕ) (given : Result (List ℕ) ErrorKind) (was now : List FileRead) → p ≡ path → now ≡ (p, given) ∷ was → now ≡ (path, given) ∷ was

@@ -12,14 +12,15 @@ use Rattle.route_sched.specs.Cost.{cost_of}
 use Rattle.command_core.specs.Job.{JobValue}
 use Rattle.command_core.specs.declared.states.State.{State}
 use Rattle.command_core.specs.declared.states.State.TheVariants.{Empty, Loaded}
-use Rattle.planner_cli.specs.Examined.{IsExamined, answer_of}
-use Rattle.planner_cli.specs.Files.{AreBothRead, IsUnread}
-use Rattle.planner_cli.specs.Reads.{FileRead}
+use Rattle.auditor_cli.specs.Examined.{IsExamined, answer_of}
+use Rattle.auditor_cli.specs.Files.{AreBothRead, IsUnread}
+use Rattle.auditor_cli.specs.Reads.{FileRead}
 use Rattle.command_text.specs.Answers.{line}
 use Rattle.planner_cli.specs.Running.{OpensDevice, TellsFault}
-use Rattle.planner_cli.specs.Telling.{TellsUnread, open_line, open_status}
-use Rattle.planner_cli.specs.declared.audit.Examined.{Examined}
-use Rattle.planner_cli.specs.declared.audit.Examined.TheVariants.{BadInstance, BadSolution, Judged}
+use Rattle.planner_cli.specs.Telling.{open_line, open_status}
+use Rattle.auditor_cli.specs.Telling.{TellsUnread}
+use Rattle.auditor_cli.specs.declared.audit.Examined.{Examined}
+use Rattle.auditor_cli.specs.declared.audit.Examined.TheVariants.{BadInstance, BadSolution, Judged}
 use Rattle.planner_cli.specs.declared.drawn.Drawing.{Drawing}
 use Rattle.planner_cli.specs.declared.drawn.Drawing.TheVariants.{NoSuchRoute, Picture, Refused}
 use Rattle.sector_disk.specs.declared.file_device.FileFault.{FileFault}

@@ -16,10 +16,11 @@ use Rattle.command_core.specs.declared.states.State.TheVariants.{Empty, Loaded}
 use Rattle.command_line.specs.Asked.{LoadAsked}
 use Rattle.command_text.specs.Answers.{line}
 use Rattle.command_text.specs.Readings.{InstanceFault, SpellsInstance}
-use Rattle.planner_cli.specs.Reads.{FileRead}
+use Rattle.auditor_cli.specs.Reads.{FileRead}
 use Rattle.planner_cli.specs.Formatting.{IsFormatted}
 use Rattle.planner_cli.specs.Running.{OpensDevice, TellsFault}
-use Rattle.planner_cli.specs.Telling.{TellsAnswered, TellsInstanceFault, TellsUnread, format_line, format_status, open_line, open_status}
+use Rattle.planner_cli.specs.Telling.{TellsAnswered, TellsInstanceFault, format_line, format_status, open_line, open_status}
+use Rattle.auditor_cli.specs.Telling.{TellsUnread}
 use Rattle.recover.specs.Applying.{IsApplied}
 use Rattle.recover.specs.Sessions.{SessionValue}
 use Rattle.recover.specs.StandsFor.{StandsFor}

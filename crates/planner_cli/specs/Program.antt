@@ -6,19 +6,19 @@ use Rattle.command_line.specs.Asked.{Asked, IsUsageStatus, asks_help, audit, aud
 use Rattle.plan_types.specs.declared.requests.Kind.TheVariants.{LiLim}
 use Rattle.command_serving.specs.Held.{held, reads_of}
 use Rattle.command_serving.specs.Streams.{Given, Stream}
-use Rattle.planner_cli.specs.Behind.{TellsBehind}
+use Rattle.auditor_cli.specs.Behind.{TellsBehind}
 use Rattle.planner_cli.specs.Drawn.{DrawsStore, TellsDrawn}
-use Rattle.planner_cli.specs.Explained.{TellsExplained}
-use Rattle.planner_cli.specs.Files.{AreReadInTurn, TellsFiles}
+use Rattle.auditor_cli.specs.Explained.{TellsExplained}
+use Rattle.auditor_cli.specs.Files.{AreReadInTurn, TellsFiles}
 use Rattle.planner_cli.specs.Formatting.{FormatsStore}
-use Rattle.planner_cli.specs.Listed.{TellsList, list_path}
+use Rattle.auditor_cli.specs.Listed.{TellsList, list_path}
 use Rattle.planner_cli.specs.Loading.{TellsLoad}
-use Rattle.planner_cli.specs.Reads.{FileRead, FileWrite, IsGrown, IsRead, IsReadFirst}
+use Rattle.auditor_cli.specs.Reads.{FileRead, FileWrite, IsGrown, IsRead, IsReadFirst}
 use Rattle.planner_cli.specs.Running.{RunsStore}
 use Rattle.planner_cli.specs.SolvedList.{FilesDone, SolvesList}
 use Rattle.planner_cli.specs.Solving.{TellsTask}
 use Rattle.planner_cli.specs.Statuses.{CanEndWith}
-use Rattle.planner_cli.specs.Telling.{TellsAudit, example_instance, example_solution}
+use Rattle.auditor_cli.specs.Telling.{TellsAudit, example_instance, example_solution}
 use Rattle.planner_cli.specs.Timetabled.{TellsTimetable, TimetablesStore, form_of}
 use Rattle.planner_cli.specs.Upgrading.{UpgradesStore}
 use Rattle.planner_cli.specs.declared.program.Streams.{Streams}

@@ -10,12 +10,12 @@ use Rattle.plan_solve.specs.declared.faults.SolveFault.TheVariants as fault
 use Rattle.plan_solve.specs.declared.solving.Solved.{Solved}
 use Rattle.command_line.specs.Asked.{TasksAsked}
 use Rattle.command_text.specs.Answers.{line}
-use Rattle.planner_cli.specs.Answer.{IsAnswer}
-use Rattle.planner_cli.specs.Listed.{IsBadLine, IsPair, TellsListBy, pair_text}
-use Rattle.planner_cli.specs.Reads.{FileRead, FileWrite}
+use Rattle.auditor_cli.specs.Answer.{IsAnswer}
+use Rattle.auditor_cli.specs.Listed.{IsBadLine, IsPair, TellsListBy, pair_text}
+use Rattle.auditor_cli.specs.Reads.{FileRead, FileWrite}
 use Rattle.planner_cli.specs.Solving.{fault_line, fault_status, unplanned_line}
-use Rattle.planner_cli.specs.Telling.{unread_line, unread_status, unwritten_line, unwritten_status}
-use Rattle.planner_cli.specs.declared.answer.AuditAnswer.{AuditAnswer}
+use Rattle.auditor_cli.specs.Telling.{unread_line, unread_status, unwritten_line, unwritten_status}
+use Rattle.auditor_cli.specs.declared.answer.AuditAnswer.{AuditAnswer}
 
 -- the files that were read, and those that were to be made
 pub record FilesDone : Type 0 where

@@ -12,11 +12,11 @@ use Rattle.plan_solve.specs.declared.faults.SolveFault.{SolveFault}
 use Rattle.plan_solve.specs.declared.faults.SolveFault.TheVariants as fault
 use Rattle.plan_solve.specs.declared.solving.Solved.{Solved}
 use Rattle.sol_text.specs.Written.{customers_text}
-use Rattle.planner_cli.specs.AnswerText.{fault_text}
+use Rattle.auditor_cli.specs.AnswerText.{fault_text}
 use Rattle.command_line.specs.Asked.{TaskAsked}
-use Rattle.planner_cli.specs.Reads.{FileRead}
+use Rattle.auditor_cli.specs.Reads.{FileRead}
 use Rattle.command_text.specs.Answers.{line}
-use Rattle.planner_cli.specs.Telling.{TellsUnread}
+use Rattle.auditor_cli.specs.Telling.{TellsUnread}
 
 -- why there is no plan
 abbrev pub fault_line : SolveFault → List ℕ

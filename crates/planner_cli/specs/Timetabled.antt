@@ -15,16 +15,16 @@ use Rattle.command_core.specs.Job.{JobValue}
 use Rattle.command_core.specs.declared.states.State.{State}
 use Rattle.command_core.specs.declared.states.State.TheVariants.{Empty, Loaded}
 use Rattle.command_text.specs.Answers.{line}
-use Rattle.planner_cli.specs.Answer.{IsAnswer, verdict_answer}
-use Rattle.planner_cli.specs.Examined.{IsExamined, answer_of}
-use Rattle.planner_cli.specs.Explained.{TellsExplanation, TellsNotRead}
-use Rattle.planner_cli.specs.Files.{AreBothRead}
-use Rattle.planner_cli.specs.Reads.{FileRead}
+use Rattle.auditor_cli.specs.Answer.{IsAnswer, verdict_answer}
+use Rattle.auditor_cli.specs.Examined.{IsExamined, answer_of}
+use Rattle.auditor_cli.specs.Explained.{TellsExplanation, TellsNotRead}
+use Rattle.auditor_cli.specs.Files.{AreBothRead}
+use Rattle.auditor_cli.specs.Reads.{FileRead}
 use Rattle.planner_cli.specs.Running.{OpensDevice, TellsFault}
 use Rattle.planner_cli.specs.Telling.{open_line, open_status}
-use Rattle.planner_cli.specs.declared.audit.Examined.{Examined}
-use Rattle.planner_cli.specs.declared.audit.Examined.TheVariants.{BadInstance, BadSolution, Judged}
-use Rattle.planner_cli.specs.declared.explained.Explanation.{Explanation}
+use Rattle.auditor_cli.specs.declared.audit.Examined.{Examined}
+use Rattle.auditor_cli.specs.declared.audit.Examined.TheVariants.{BadInstance, BadSolution, Judged}
+use Rattle.auditor_cli.specs.declared.explained.Explanation.{Explanation}
 use Rattle.sector_disk.specs.declared.file_device.FileFault.{FileFault}
 use Rattle.sector_disk.specs.declared.sectors.Sectors as sectors
 

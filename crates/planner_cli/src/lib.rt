@@ -67,31 +67,19 @@
 //!   written; what is under a path no contract says
 #![tactic(auto)]
 
-mod answer;
-mod audit;
-mod audited;
-mod behind;
-mod compared;
 mod drawn;
-mod explained;
-mod file_record;
-mod files;
 mod laws;
-mod listed;
 mod loaded;
 mod opened;
 mod program;
 mod solved;
 mod solved_list;
-pub mod status;
 mod stores;
 mod telling;
 mod timetabled;
 
-pub use answer::{AuditAnswer, Line};
-pub use audit::audit_text;
+pub use auditor_cli::{AuditAnswer, HostFiles, HostNewFiles, Line, ReadFiles, WriteFiles, audit_text, command_words, status};
 pub use command_line::{Invocation, Loading, Paths, Task, Tasks, read_words};
 pub use command_serving::{Failed, ServeFault, Sink, Source, Watched, serve};
-pub use files::{HostFiles, HostNewFiles, ReadFiles, WriteFiles};
 pub use laws::stopped_runs_recover;
 pub use program::{Streams, run_words};

@@ -3,7 +3,6 @@
 //! `run_words` takes what reads files and what makes them, the streams, and values of `T: Start` and `U: Start`, all of which `main`
 //! makes: what the files of a store, and of one that a load or an upgrade makes, are as they are opened.
 ghost use Rattle.std.specs.Prelude.{◌≡◌, ◌≢◌, ◌≤◌, IfOk, drop, map};
-ghost use Rattle.clap.specs.Words.{kind_of};
 ghost use Rattle.command_line.specs.Asked.{ArePositional, Asked, asked_by, asked_of, usage_status_of};
 ghost use Rattle.plan_types.specs.declared.requests.Kind.TheVariants.{LiLim};
 ghost use Rattle.command_serving.specs.Held.{given_by, held};
@@ -11,26 +10,23 @@ ghost use Rattle.sector_disk.specs.FileDevice.{IsUnused};
 ghost use Rattle.planner_cli.specs.Program.{AreErrorsKept, AreMadeFor, AreReadFor, Does, EndsWith, IsInputKept, TellsUsage, seen};
 ghost use Rattle.planner_cli.specs.Running.{RunsStore};
 ghost use Rattle.planner_cli.specs.Statuses.{CanEndWith};
-ghost use Rattle.planner_cli.specs.Telling.{TellsAudit, example_instance, example_solution};
+ghost use Rattle.auditor_cli.specs.Telling.{TellsAudit, example_instance, example_solution};
 
-use crate::audit::audit_text;
-use crate::audited::audit_noted;
+use auditor_cli::audit_noted;
 use crate::drawn::{draw_read, draw_store};
-use crate::explained::explain_read;
-use crate::files::{ReadFiles, WriteFiles};
-use crate::listed::audits_read;
+use auditor_cli::explain_read;
+use auditor_cli::{ReadFiles, WriteFiles};
+use auditor_cli::audits_read;
 use crate::loaded::load_read;
 use crate::solved::solve_read;
 use crate::solved_list::solves_read;
-use crate::status::{DONE, OUT_OF_MEMORY, USAGE};
+use auditor_cli::status::{DONE, OUT_OF_MEMORY, USAGE};
 use crate::stores::{format_store, run_store, upgrade_store};
-use crate::telling::{status_of, tell_audit};
+use auditor_cli::{audit_example, status_of, tell_usage};
 use crate::timetabled::{form_of, timetable_read, timetable_store};
-use clap::Error;
-use clap::error::ErrorKind;
 use command_line::{Invocation, read_words};
 use command_serving::Watched;
-use plan_types::Kind;
+use command_text::HELP;
 use sector_disk::{FileCalls, FileDevice, HostFile, Sectors, Start};
 use std::alloc::Global;
 use std::convert::AsStr;
@@ -38,12 +34,6 @@ use std::fs::File;
 use std::io;
 use std::io::{Read, Write};
 use std::rt::Files;
-
-/// An instance with one pickup and its delivery, in Li and Lim's format.
-const EXAMPLE_INSTANCE: &str =
-    "2 10 1\n0 0 0 0 0 100 0 0 0\n1 3 4 4 0 50 2 0 2\n2 6 8 -4 0 60 2 1 0\n";
-/// A solution of it that passes.
-const EXAMPLE_SOLUTION: &str = "Route #1: 1 2\nCost 20\n";
 
 /// What the program reads commands from, what it prints answers to, and what it prints all else to.
 #[derive(Drop)]
@@ -91,7 +81,7 @@ where
         (seen F.reads N.writes I.remaining W.contents E.contents files.new new_files.new result.1)
         result.0 }
 {
-    match read_words(rt.alloc(), words) {
+    match read_words(rt.alloc(), words, HELP) {
         Ok(invocation) => {
             let (told, streams) = do_asked(
                 rt,
@@ -239,35 +229,3 @@ where
     (told, streams)
 }
 
-// The audit of the two texts that are built in.
-fn audit_example<W: Write>(alloc: Global, output: &mut W) -> io::Result<u8>
-    ensures status { IfOk result (λ status. status ≤ 4) }
-    ensures told { IfOk result (TellsAudit LiLim example_instance example_solution
-        (W.contents output.old) (W.contents output.new)) }
-{
-    let instance = EXAMPLE_INSTANCE.as_bytes();
-    let solution = EXAMPLE_SOLUTION.as_bytes();
-    let answer = audit_text(alloc, Kind::LiLim, instance, solution);
-    tell_audit(output, &answer)
-}
-
-// Tells help and the version, where they were asked for, on the output, and a fault of the words on the errors, and gives the
-// status. Of want of memory nothing is told.
-fn tell_usage<W: Write, E: Write>(error: &Error, output: &mut W, errors: &mut E) -> io::Result<u8>
-    ensures status { IfOk result (λ status. status ≡ usage_status_of (kind_of error.now)) }
-    ensures memory { kind_of error.now ≡ ErrorKind.OutOfMemory → result ≡ Ok 4 }
-    ensures output { usage_status_of (kind_of error.now) ≢ 0 → output.new ≡ output.old }
-    ensures errors { usage_status_of (kind_of error.now) ≢ 64 → errors.new ≡ errors.old }
-{
-    match error.kind() {
-        ErrorKind::DisplayHelp | ErrorKind::DisplayVersion => {
-            write!(output, "{error}")?;
-            Ok(DONE)
-        }
-        ErrorKind::OutOfMemory => Ok(OUT_OF_MEMORY),
-        _ => {
-            write!(errors, "{error}")?;
-            Ok(USAGE)
-        }
-    }
-}

@@ -1,108 +1,17 @@
-//! What the program prints, and the status that goes with it.
+//! What the program prints of stores and their files, and the status that goes with it.
 ghost use Rattle.std.specs.Prelude.{◌≡◌, ◌≢◌, ◌≤◌, ◌++◌, ◌∷◌, [], IfOk, MatchResult, OnOk, codes};
 ghost use Rattle.std.specs.Io.KnownBytes.{Appends};
 ghost use Rattle.planner_cli.specs.Foretold.{repeating_line};
-ghost use Rattle.planner_cli.specs.Telling.{TellsAnswer, TellsAnswered, TellsInstanceFault, TellsUnread, TellsUnwritten, denial_line, denial_status, format_line, format_status, is_device_fault, is_memory, is_there, new_line, open_line, open_status, store_line, store_status, unmade_line, upgrade_line, upgrade_status, wants_memory};
+ghost use Rattle.planner_cli.specs.Telling.{TellsAnswered, TellsInstanceFault, denial_line, denial_status, format_line, format_status, is_device_fault, new_line, open_line, open_status, store_line, store_status, unmade_line, upgrade_line, upgrade_status, wants_memory};
 
-use crate::answer::AuditAnswer;
-use crate::status::{DONE, FILE, OUT_OF_MEMORY, REFUSED};
+use auditor_cli::write_line;
+use auditor_cli::status::{DONE, FILE, OUT_OF_MEMORY, REFUSED};
 use checkpoint::{FormatFault, StoreFault};
 use instance_read::{ReadFault, ReadFaultKind};
-use plan_types::OutOfMemory;
 use recover::{Denial, UpgradeFault};
 use sector_disk::FileFault;
 use std::io;
-use std::io::{ErrorKind, Write};
-
-/// Writes a line and its end.
-pub(crate) fn write_line<W: Write>(output: &mut W, line: &[u8]) -> io::Result<()>
-    ensures { OnOk result (Appends (W.contents output.old) (W.contents output.new)
-        (line.now ++ 10 ∷ [])) }
-{
-    output.write_all(line)?;
-    output.write_all(b"\n")
-}
-
-/// The status of what was told: `FILE` where it could not be written.
-pub(crate) fn status_of(told: io::Result<u8>) -> u8
-    ensures { MatchResult told (λ status. result ≡ status) (λ _. result ≡ 3) }
-{
-    told.unwrap_or(FILE)
-}
-
-/// Tells a file that can't be read.
-pub(crate) fn tell_unread<W: Write>(output: &mut W, path: &str, kind: ErrorKind) -> io::Result<u8>
-    ensures { IfOk result (TellsUnread path.now kind (W.contents output.old)
-        (W.contents output.new)) }
-{
-    if is_want_of_memory(kind) {
-        write_line(output, b"out of memory")?;
-        return Ok(OUT_OF_MEMORY);
-    }
-    writeln!(output, "cannot read {path}")?;
-    Ok(FILE)
-}
-
-// Whether it tells want of memory.
-fn is_want_of_memory(kind: ErrorKind) -> bool
-    ensures { result ≡ is_memory kind }
-{
-    match kind {
-        ErrorKind::OutOfMemory => true,
-        _ => false,
-    }
-}
-
-/// Tells a file that can't be made.
-pub(crate) fn tell_unwritten<W: Write>(
-    output: &mut W,
-    path: &str,
-    kind: ErrorKind,
-) -> io::Result<u8>
-    ensures status { IfOk result (λ status. status ≤ 4) }
-    ensures told { IfOk result (TellsUnwritten path.now kind (W.contents output.old)
-        (W.contents output.new)) }
-{
-    if is_there(kind) {
-        write_line(output, b"there already")?;
-        return Ok(FILE);
-    }
-    if is_want_of_memory(kind) {
-        write_line(output, b"out of memory")?;
-        return Ok(OUT_OF_MEMORY);
-    }
-    writeln!(output, "cannot write {path}")?;
-    Ok(FILE)
-}
-
-// Whether it tells that something stands under the path.
-fn is_there(kind: ErrorKind) -> bool
-    ensures { result ≡ is_there kind }
-{
-    match kind {
-        ErrorKind::AlreadyExists => true,
-        _ => false,
-    }
-}
-
-/// Tells the answer of an audit.
-pub(crate) fn tell_audit<W: Write>(
-    output: &mut W,
-    answer: &Result<AuditAnswer, OutOfMemory>,
-) -> io::Result<u8>
-    ensures { IfOk result (TellsAnswer answer.now (W.contents output.old) (W.contents output.new)) }
-{
-    match answer {
-        Ok(answer) => {
-            write_line(output, answer.line.as_bytes())?;
-            Ok(answer.status)
-        }
-        Err(_) => {
-            write_line(output, b"out of memory")?;
-            Ok(OUT_OF_MEMORY)
-        }
-    }
-}
+use std::io::Write;
 
 /// Tells a store's file that can't be opened or made.
 pub(crate) fn tell_file_fault<W: Write>(

@@ -2,7 +2,7 @@
 use Rattle.std.proofs.Common.{inr, subst}
 use Rattle.std.specs.IoError.{error_kind}
 use Rattle.std.proofs.lemmas.Result.{IfOk-weaker}
-use Rattle.planner_cli.specs.Telling.{TellsUnread}
+use Rattle.auditor_cli.specs.Telling.{TellsUnread}
 use Rattle.planner_cli.proofs.loaded.load_read.Goals as goal
 
 pub returns-in-Err-clause-loads : goal.returns-in-Err-clause-loads

@@ -5,7 +5,7 @@ use Rattle.std.specs.Prelude.{MatchResult}
 use Rattle.std.proofs.KnownBytes.{Appends-nil}
 use Rattle.std.proofs.lemmas.Result.{IfOk-weaker}
 use Rattle.plan_solve.specs.Solved.{Fails, IsSolved}
-use Rattle.planner_cli.specs.Telling.{TellsUnread}
+use Rattle.auditor_cli.specs.Telling.{TellsUnread}
 use Rattle.planner_cli.proofs.solved.solve_read.Goals as goal
 
 pub returns-in-Err-clause-told : goal.returns-in-Err-clause-told

@@ -4,7 +4,7 @@ use Rattle.std.specs.IoError.{error_kind}
 use Rattle.std.proofs.lemmas.Result.{IfOk-weaker}
 use Rattle.command_line.specs.Asked.{tasks_of}
 use Rattle.planner_cli.specs.SolvedList.{Finds, IsPlaced}
-use Rattle.planner_cli.specs.Telling.{TellsUnread, unread_line}
+use Rattle.auditor_cli.specs.Telling.{TellsUnread, unread_line}
 use Rattle.planner_cli.proofs.solved_list.solve_file.Goals as goal
 
 pub returns-in-Err-clause-reads : goal.returns-in-Err-clause-reads

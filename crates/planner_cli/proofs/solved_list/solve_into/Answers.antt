@@ -3,9 +3,9 @@ use Rattle.std.proofs.Common.{[], ◌∷◌, Err, inl, refl, subst}
 use Rattle.std.specs.IoError.{error_kind}
 use Rattle.std.proofs.lemmas.Result.{IfOk-weaker}
 use Rattle.command_line.specs.Asked.{tasks_of}
-use Rattle.planner_cli.specs.Reads.{IsGrown}
+use Rattle.auditor_cli.specs.Reads.{IsGrown}
 use Rattle.planner_cli.specs.SolvedList.{TellsOfTask, files_done}
-use Rattle.planner_cli.specs.Telling.{TellsUnwritten, unwritten_line}
+use Rattle.auditor_cli.specs.Telling.{TellsUnwritten, unwritten_line}
 use Rattle.planner_cli.proofs.SolvedListLemmas.{the_done}
 use Rattle.planner_cli.proofs.solved_list.solve_into.Goals as goal
 

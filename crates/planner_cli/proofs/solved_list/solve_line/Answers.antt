@@ -1,5 +1,5 @@
 -- A flush leaves what is written.
-use Rattle.planner_cli.proofs.ListLemmas.{flushed}
+use Rattle.auditor_cli.proofs.ListLemmas.{flushed}
 use Rattle.planner_cli.proofs.solved_list.solve_line.Goals as goal
 
 pub returns-clause-told : goal.returns-clause-told

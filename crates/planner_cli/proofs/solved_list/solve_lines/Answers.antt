@@ -2,7 +2,7 @@
 use Rattle.std.proofs.Common.{◌≡◌, ◌∷◌, [], refl, rules, arith}
 use Rattle.command_line.specs.Asked.{tasks_of}
 use Rattle.planner_cli.specs.SolvedList.{IsSolvedLine, files_done}
-use Rattle.planner_cli.proofs.ListLemmas.{all_told, grown_twice, left_as, line_told, nothing_told, status_as}
+use Rattle.auditor_cli.proofs.ListLemmas.{all_told, grown_twice, left_as, line_told, nothing_told, status_as}
 use Rattle.planner_cli.proofs.solved_list.solve_lines.Goals as goal
 
 pub loop-line-init : goal.loop-line-init

@@ -1,9 +1,9 @@
 -- What is told of the lines so far.
 use Rattle.std.proofs.Common.{◌≤◌}
 use Rattle.command_line.specs.Asked.{tasks_of}
-use Rattle.planner_cli.specs.Reads.{IsGrown}
+use Rattle.auditor_cli.specs.Reads.{IsGrown}
 use Rattle.planner_cli.specs.SolvedList.{IsSolvedLine, files_done}
-use Rattle.planner_cli.proofs.ListLemmas.{IsSoFar}
+use Rattle.auditor_cli.proofs.ListLemmas.{IsSoFar}
 use Rattle.planner_cli.proofs.solved_list.solve_lines.Given as goal
 
 abbrev pub invariant-loop-line : goal.invariant-loop-line

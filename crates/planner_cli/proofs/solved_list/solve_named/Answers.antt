@@ -4,8 +4,8 @@ use Rattle.std.specs.Io.KnownBytes.{Appends}
 use Rattle.std.proofs.KnownBytes.{Appends-trans}
 use Rattle.std.proofs.lemmas.Result.{IfOk-weaker}
 use Rattle.command_text.specs.Answers.{line}
-use Rattle.planner_cli.specs.Listed.{pair_text}
-use Rattle.planner_cli.proofs.ListLemmas.{tabs}
+use Rattle.auditor_cli.specs.Listed.{pair_text}
+use Rattle.auditor_cli.proofs.ListLemmas.{tabs}
 use Rattle.planner_cli.proofs.solved_list.solve_named.Goals as goal
 
 pub returns-in-None-clause-told : goal.returns-in-None-clause-told

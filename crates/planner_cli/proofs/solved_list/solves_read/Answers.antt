@@ -4,11 +4,11 @@ use Rattle.std.specs.IoError.{error_kind}
 use Rattle.std.proofs.lemmas.Result.{IfOk-weaker}
 use Rattle.text_lines.specs.Lines.{lines_of}
 use Rattle.command_line.specs.Asked.{tasks_of}
-use Rattle.planner_cli.specs.Listed.{list_path}
-use Rattle.planner_cli.specs.Reads.{IsGrown}
+use Rattle.auditor_cli.specs.Listed.{list_path}
+use Rattle.auditor_cli.specs.Reads.{IsGrown}
 use Rattle.planner_cli.specs.SolvedList.{IsSolvedLine}
-use Rattle.planner_cli.specs.Telling.{TellsUnread}
-use Rattle.planner_cli.proofs.ListLemmas.{lines_as, read_as}
+use Rattle.auditor_cli.specs.Telling.{TellsUnread}
+use Rattle.auditor_cli.proofs.ListLemmas.{lines_as, read_as}
 use Rattle.planner_cli.proofs.SolvedListLemmas.{done_as, read_by, the_done}
 use Rattle.planner_cli.proofs.solved_list.solves_read.Goals as goal
 

@@ -3,7 +3,7 @@ use Rattle.std.proofs.Common.{◌≡◌, [], ◌∷◌, Ok, Err, inl, inr, refl,
 use Rattle.std.specs.IoError.{error_kind}
 use Rattle.std.proofs.lemmas.Result.{IfOk-weaker}
 use Rattle.planner_cli.specs.SolvedList.{TellsPlaced}
-use Rattle.planner_cli.specs.Telling.{TellsUnwritten, unwritten_line}
+use Rattle.auditor_cli.specs.Telling.{TellsUnwritten, unwritten_line}
 use Rattle.planner_cli.proofs.SolvedListLemmas.{placed_plan}
 use Rattle.planner_cli.proofs.solved_list.write_plan.Goals as goal
 

@@ -2,7 +2,7 @@
 use Rattle.std.proofs.Common.{subst, inl, inr}
 use Rattle.std.proofs.lemmas.Result.{IfOk-weaker}
 use Rattle.std.specs.Prelude.{IfOk}
-use Rattle.planner_cli.specs.Answer.{IsAnswer}
+use Rattle.auditor_cli.specs.Answer.{IsAnswer}
 use Rattle.planner_cli.specs.Timetabled.{IsTimetable}
 use Rattle.planner_cli.proofs.timetabled.timetable_read.Goals as goal
 

@@ -1,0 +1,77 @@
+-- What is told of a list, line by line.
+use Rattle.std.proofs.Common.{◌≡◌, ◌∙◌, inl, inr, ℕ, List, [], ◌∷◌, ◌++◌, Option, Some, None, Ok, Err, refl, sym, ap, subst, arith, append_assoc, append-nil}
+use Rattle.std.specs.Prelude.{max}
+use Rattle.std.specs.Io.KnownBytes.{Appends, Keeps}
+use Rattle.std.proofs.KnownBytes.{Appends-nil, Appends-trans}
+use Rattle.auditor_cli.specs.Files.{AreReadInTurn, IsUnread}
+use Rattle.auditor_cli.specs.Listed.{AreTold, TellsLine, TellsLines, pair_text}
+use Rattle.auditor_cli.specs.Reads.{FileEntry, FileRead, IsGrown}
+
+pub flushed : (a b c : Option (List ℕ)) (text : List ℕ) → Appends a b text → Keeps b c → Appends a c text
+flushed None b c text written kept = tt
+flushed (Some x) None c text written kept = absurd written
+flushed (Some x) (Some y) None text written kept = absurd kept
+flushed (Some x) (Some y) (Some z) text written kept = kept ∙ written
+
+-- two paths with tabs behind them, and what follows
+pub tabs : (i s a : List ℕ) → (i ++ 9 ∷ (s ++ 9 ∷ [])) ++ a ≡ pair_text i s a
+tabs i s a = append_assoc i (9 ∷ (s ++ 9 ∷ [])) a ∙ ap (λ (x : List ℕ). i ++ 9 ∷ x) (append_assoc s (9 ∷ []) a)
+
+pub grown_twice : (was next now : List FileEntry) → IsGrown was next → IsGrown next now → IsGrown was now
+grown_twice was next now a b = (b.0 ++ a.0, b.1 ∙ ap (λ (x : List FileEntry). b.0 ++ x) a.1 ∙ sym (append_assoc b.0 a.0 was))
+
+pub not_grown : (was now : List FileEntry) → now ≡ was → IsGrown was now
+not_grown was now same = ([], same)
+
+pub grown_by : (was now : List FileEntry) (entry : FileEntry) → now ≡ entry ∷ was → IsGrown was now
+grown_by was now entry noted = (entry ∷ [], noted)
+
+pub read_in_turn : (instance solution : List ℕ) (was now : List FileRead) → AreReadInTurn instance solution was now → IsGrown was now
+read_in_turn instance solution was now (inl both) = ((solution, Ok both.1) ∷ (instance, Ok both.0) ∷ [], both.2)
+read_in_turn instance solution was now (inr unread) = first_unread unread.2
+  where
+    first_unread : IsUnread instance solution unread.0 unread.1 was now → IsGrown was now
+    first_unread (inl one) = ((instance, Err unread.1) ∷ [], one.1)
+    first_unread (inr two) = ((solution, Err unread.1) ∷ (instance, Ok two.1.0) ∷ [], two.1.1)
+
+module _ {S : Type 0} (IsToldOf : List ℕ → S → S → List ℕ → ℕ → Type 0) where
+  module _ (all : List (List ℕ)) (was : S) (before : Option (List ℕ)) where
+    -- So much was told, and whatever is told of the lines that are left makes what is told of all.
+    pub record IsSoFar (next : S) (now : Option (List ℕ)) (left : List (List ℕ)) (n : ℕ) : Type 0 where
+      pub text : List ℕ
+      pub written : Appends before now text
+      pub whole : (last : S) (rest : List ℕ) (m : ℕ) → AreTold IsToldOf left next last rest m → AreTold IsToldOf all was last (text ++ rest) (max n m)
+
+    told_as : (ls : List (List ℕ)) (next last : S) (text other : List ℕ) (n m : ℕ) → text ≡ other → n ≡ m → AreTold IsToldOf ls next last text n → AreTold IsToldOf ls next last other m
+    told_as ls next last text other n m same_text same_status told =
+        subst (λ t. AreTold IsToldOf ls next last t m) same_text (subst (λ s. AreTold IsToldOf ls next last text s) same_status told)
+
+    pub nothing_told : IsSoFar was before all 0
+    nothing_told = record { text = []; written = Appends-nil before; whole = λ last rest m told. told_as all was last rest rest m (max 0 m) refl (omega arith) told }
+
+    pub line_told : (next later : S) (now after : Option (List ℕ)) (l : List ℕ) (ls : List (List ℕ)) (n s : ℕ) → IsSoFar next now (l ∷ ls) n → TellsLine IsToldOf l next later now after s
+        → IsSoFar later after ls (max n s)
+    line_told next later now after l ls n s h line = record {
+      text = h.text ++ line.0;
+      written = Appends-trans before now after h.text line.0 h.written line.2;
+      whole = λ last rest m told.
+          told_as all was last (h.text ++ (line.0 ++ rest)) ((h.text ++ line.0) ++ rest) (max n (max s m)) (max (max n s) m) (sym (append_assoc h.text line.0 rest)) (omega arith)
+          (h.whole last (line.0 ++ rest) (max s m) (later, line.0, s, rest, m, line.1, told, refl, refl));
+    }
+
+    pub all_told : (next : S) (now : Option (List ℕ)) (n : ℕ) → IsSoFar next now [] n → TellsLines IsToldOf all was next before now n
+    all_told next now n h = (h.text, told_as all was next (h.text ++ []) h.text (max n 0) n (append-nil h.text) (omega arith) (h.whole next [] 0 (refl, refl, refl)), h.written)
+
+    pub left_as : (next : S) (now : Option (List ℕ)) (left other : List (List ℕ)) (n : ℕ) → left ≡ other → IsSoFar next now left n → IsSoFar next now other n
+    left_as next now left other n same h = subst (λ ls. IsSoFar next now ls n) same h
+
+    pub status_as : (next : S) (now : Option (List ℕ)) (left : List (List ℕ)) (n m : ℕ) → n ≡ m → IsSoFar next now left n → IsSoFar next now left m
+    status_as next now left n m same h = subst (λ k'. IsSoFar next now left k') same h
+
+  pub lines_as : (ls other : List (List ℕ)) (was now : S) (before after : Option (List ℕ)) (n : ℕ) → ls ≡ other → TellsLines IsToldOf ls was now before after n
+      → TellsLines IsToldOf other was now before after n
+  lines_as ls other was now before after n same h = subst (λ x. TellsLines IsToldOf x was now before after n) same h
+
+  pub read_as : (ls : List (List ℕ)) (was other now : S) (before after : Option (List ℕ)) (n : ℕ) → was ≡ other → TellsLines IsToldOf ls was now before after n
+      → TellsLines IsToldOf ls other now before after n
+  read_as ls was other now before after n same h = subst (λ x. TellsLines IsToldOf ls x now before after n) same h

@@ -1,0 +1,79 @@
+-- A text spells one value at most, and none where it has a fault.
+use Rattle.std.proofs.Common.{◌≡◌, ◌≤◌, ◌∙◌, ℕ, List, ◌∷◌, sym, ap, subst, inl, inr, arith, refl}
+use Rattle.plan_audit.specs.Laws.{AreAllPlanned, IsSoundPlan, SolutionsPassWhereSound}
+use Rattle.plan_audit.specs.Verdict.{IsVerdict, printed}
+use Rattle.plan_audit.specs.declared.rules.Verdict.{Verdict}
+use Rattle.plan_audit.specs.declared.rules.Verdict.TheVariants.{Broken, Pass}
+use Rattle.plan_types.specs.declared.plans.Cost.{Cost}
+use Rattle.route_sched.specs.Cost.{cost_of, total_length, used_count}
+use Rattle.plan_types.specs.Instance.{Instance, IsInstance}
+use Rattle.plan_types.specs.declared.requests.Kind.{Kind}
+use Rattle.plan_types.specs.declared.requests.Kind.TheVariants.{LiLim, Vrp}
+use Rattle.instance_read.specs.Faults.{HasNone}
+use Rattle.instance_read.specs.Lilim.{problem_of}
+use Rattle.sol_text.specs.Faults.{Spells}
+use Rattle.sol_text.specs.declared.read.Solution.{Solution}
+use Rattle.instance_read.specs.Readings.{InstanceFault, SpellsInstance}
+use Rattle.auditor_cli.specs.Answer.{IsAnswer, JudgesSpelled, SaysSound, TellsVerdict, verdict_answer}
+use Rattle.auditor_cli.specs.declared.answer.AuditAnswer.{AuditAnswer}
+
+problem_once : (kind : Kind) (text : List ℕ) (p q : Instance) → SpellsInstance kind text p → SpellsInstance kind text q → p ≡ q
+problem_once Vrp text p q a b = a.1 ∙ sym b.1
+problem_once LiLim text p q a b =
+    let rows : a.1 ∷ a.2 ∷ a.3 ≡ b.1 ∷ b.2 ∷ b.3 = sym a.4 ∙ b.4 in
+    let header : a.1 ≡ b.1 = cc in
+    let depot : a.2 ≡ b.2 = cc in
+    let customers : a.3 ≡ b.3 = cc in
+    a.5 ∙ (ap (λ h. problem_of h a.2 a.3) header ∙ (ap (λ d. problem_of b.1 d a.3) depot ∙ ap (λ c. problem_of b.1 b.2 c) customers)) ∙ sym b.5
+
+solution_once : (text : List ℕ) (s t : Solution) → Spells text s → Spells text t → s ≡ t
+solution_once text s t a b = a.1 ∙ sym b.1
+
+no_fault : (kind : Kind) (text : List ℕ) (p : Instance) → SpellsInstance kind text p → HasNone (InstanceFault kind text)
+no_fault LiLim text p spelled = spelled.0
+no_fault Vrp text p spelled = spelled.0
+
+pub judges_spelled : (kind : Kind) (instance solution : List ℕ) (answer : AuditAnswer) → IsAnswer kind instance solution answer → JudgesSpelled kind instance solution answer
+judges_spelled kind instance solution answer (inl refuses) p s a b = absurd (no_fault kind instance p a refuses.first.0 refuses.fault.line refuses.fault.kind refuses.first.1)
+judges_spelled kind instance solution answer (inr (inl refuses)) p s a b = absurd (b.0 refuses.fault.line refuses.fault.kind refuses.first.0)
+judges_spelled kind instance solution answer (inr (inr judges)) p s a b =
+    subst (λ (q : Instance). TellsVerdict q s answer) (problem_once kind instance judges.problem p judges.problem_spelled a)
+    (subst (λ (t : Solution). TellsVerdict judges.problem t answer) (solution_once solution judges.plan s judges.plan_spelled b) judges.verdict)
+
+-- ---- status 0
+
+abbrev IsVerdictOf : Instance → Solution → Verdict → Type 0
+IsVerdictOf p s v = IsVerdict p (printed s.routes s.cost) v
+
+pass_is_0 : (cost : Cost) → (verdict_answer (Pass cost)).status ≡ 0
+pass_is_0 cost = refl
+
+says_by : (law : SolutionsPassWhereSound) (kind : Kind) (instance solution : List ℕ) (answer : AuditAnswer) (p : Instance) (s : Solution) (v : Verdict) → SpellsInstance kind instance p → Spells solution s → IsInstance p
+    → IsVerdictOf p s v → answer ≡ verdict_answer v → SaysSound kind instance solution answer
+says_by law kind instance solution answer p s (Pass cost) a b kept is told =
+    let sound = (law p s.routes s.cost (Pass cost) kept is).0 (ap (λ c. Pass c) is.1) in (
+      λ _. record { problem = p; problem_spelled = a; plan = s; plan_spelled = b; sound = sound.0; complete = sound.1; fleet = sound.2; distance = sound.3 },
+      λ _. ap (λ (x : AuditAnswer). x.status) told,
+    )
+says_by law kind instance solution answer p s (Broken rule route place stop) a b kept is told = (
+  λ zero. let one : answer.status ≡ 1 = ap (λ (x : AuditAnswer). x.status) told in absurd (omega (arith, zero, one)),
+  λ sound.
+      let same_problem : sound.problem ≡ p = problem_once kind instance sound.problem p sound.problem_spelled a in
+      let same_plan : sound.plan ≡ s = solution_once solution sound.plan s sound.plan_spelled b in
+      let facts : IsSoundPlan p s.routes × AreAllPlanned p s.routes × (used_count s.routes ≤ p.fleet) × (s.cost ≡ total_length p s.routes) =
+      rw (← same_problem, ← same_plan) (sound.sound, sound.complete, sound.fleet, sound.distance) in
+      let passes : Broken rule route place stop ≡ Pass (cost_of p s.routes) = (law p s.routes s.cost (Broken rule route place stop) kept is).1 facts in
+      absurd cc,
+)
+
+pub says_sound : (law : SolutionsPassWhereSound) (kind : Kind) (instance solution : List ℕ) (answer : AuditAnswer) → IsAnswer kind instance solution answer → SaysSound kind instance solution answer
+says_sound law kind instance solution answer (inl refuses) = (
+  λ zero. let two : answer.status ≡ 2 = ap (λ (x : AuditAnswer). x.status) refuses.told in absurd (omega (arith, zero, two)),
+  λ sound. absurd (no_fault kind instance sound.problem sound.problem_spelled refuses.first.0 refuses.fault.line refuses.fault.kind refuses.first.1),
+)
+says_sound law kind instance solution answer (inr (inl refuses)) = (
+  λ zero. let two : answer.status ≡ 2 = ap (λ (x : AuditAnswer). x.status) refuses.told in absurd (omega (arith, zero, two)),
+  λ sound. absurd (sound.plan_spelled.0 refuses.fault.line refuses.fault.kind refuses.first.0),
+)
+says_sound law kind instance solution answer (inr (inr judges)) =
+    says_by law kind instance solution answer judges.problem judges.plan judges.verdict.verdict judges.problem_spelled judges.plan_spelled judges.problem_kept judges.verdict.is_verdict judges.verdict.told

@@ -1,0 +1,41 @@
+-- What each read gave, and what is told of it.
+use Rattle.std.proofs.Common.{subst, inl, inr}
+use Rattle.std.proofs.KnownBytes.{Appends-nil}
+use Rattle.std.proofs.lemmas.Result.{IfOk-weaker}
+use Rattle.std.specs.Io.KnownBytes.{Appends}
+use Rattle.std.specs.Prelude.{IfOk}
+use Rattle.auditor_cli.specs.Answer.{IsAnswer}
+use Rattle.auditor_cli.specs.Behind.{behind_line}
+use Rattle.auditor_cli.specs.Explained.{IsExplanation}
+use Rattle.auditor_cli.proofs.explained.explain_read.Goals as goal
+
+pub returns-in-Err-clause-told : goal.returns-in-Err-clause-told
+returns-in-Err-clause-told g c =
+    let unread = c.in-Err.unread in
+    IfOk-weaker c.tell_unread.result _ _
+    (λ status told. (
+      inr (record { path = unread.path.now; error = unread.kind; unread = c.in-Err.ensures; told = told }),
+      inr (unread.path.now, unread.kind, c.in-Err.ensures, Appends-nil (g.E.Write.contents c.args.errors.now)),
+    )) c.tell_unread.ensures
+
+pub returns-clause-told : goal.returns-clause-told
+returns-clause-told g c =
+    let kind = c.args.paths.kind in
+    let both = c.in-Ok.both in
+    let explained = c.explain.result in
+    let answers = subst (λ x. IfOk explained (λ e. IsAnswer kind x both.1.items e.answer)) c.deref.ensures.value
+    (subst (λ y. IfOk explained (λ e. IsAnswer kind c.deref.result.now y e.answer)) c.deref-2.ensures.value c.explain.ensures.answer) in
+    let explains = subst (λ x. IfOk explained (IsExplanation kind x both.1.items)) c.deref.ensures.value
+    (subst (λ y. IfOk explained (IsExplanation kind c.deref.result.now y)) c.deref-2.ensures.value c.explain.ensures.explains) in
+    let behind = subst (λ y. Appends (g.E.Write.contents c.args.errors.now) (g.E.Write.contents c.tell_behind.new.errors) (behind_line c.args.paths.solution.now y)) c.deref-3.ensures.value c.in_ok-tell_behind.ensures in (
+      inl (record {
+        x = both.0.items;
+        y = both.1.items;
+        read = c.in-Ok.ensures;
+        explained = explained;
+        answers = answers;
+        explains = explains;
+        told = c.in_ok-status.ensures;
+      }),
+      inl (both.0.items, both.1.items, c.in-Ok.ensures, behind),
+    )

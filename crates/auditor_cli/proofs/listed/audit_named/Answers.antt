@@ -1,0 +1,30 @@
+-- The pair of the line with what is told of it, or that it names none.
+use Rattle.std.proofs.Common.{◌++◌, ◌∷◌, [], inl, inr, refl, rules, subst}
+use Rattle.std.specs.Io.KnownBytes.{Appends}
+use Rattle.std.proofs.KnownBytes.{Appends-trans}
+use Rattle.std.proofs.lemmas.Result.{IfOk-weaker}
+use Rattle.auditor_cli.specs.Listed.{pair_text}
+use Rattle.auditor_cli.proofs.ListLemmas.{read_in_turn, tabs}
+use Rattle.auditor_cli.proofs.listed.audit_named.Goals as goal
+
+pub returns-in-None-clause-told : goal.returns-in-None-clause-told
+returns-in-None-clause-told g c = IfOk-weaker c.compare_named.result _ _ (λ status told. (told.0, inr (c.in-None.ensures, told.1), told.2)) c.compare_named.ensures.told
+
+pub returns-clause-told : goal.returns-clause-told
+returns-clause-told g c =
+    let instance = c.in-Some.pair.0.now in
+    let solution = c.in-Some.pair.1.now in
+    let before = g.W.Write.contents c.args.output.now in
+    let mid = g.W.Write.contents c.write.new.self in
+    let after = g.W.Write.contents c.audit_read.new.output in
+    let wrote : Appends before mid (instance ++ 9 ∷ (solution ++ 9 ∷ [])) = search rules in
+    IfOk-weaker c.audit_read.result _ _
+    (λ status told. (
+      pair_text instance solution told.0,
+      inl (record { instance = instance; solution = solution; pair = c.in-Some.ensures; answer = told.0; told = told.1; text_is = refl }),
+      subst (Appends before after) (tabs instance solution told.0) (Appends-trans before mid after (instance ++ 9 ∷ (solution ++ 9 ∷ [])) told.0 wrote told.2),
+    )) c.audit_read.ensures.told
+
+pub returns-clause-reads : goal.returns-clause-reads
+returns-clause-reads g c =
+    read_in_turn c.in-Some.pair.0.now c.in-Some.pair.1.now (g.F.ReadFiles.reads c.args.files.now) (g.F.ReadFiles.reads c.audit_read.new.files) c.audit_read.ensures.reads

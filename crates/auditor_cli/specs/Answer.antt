@@ -1,0 +1,86 @@
+-- What the program answers to an audit of two texts: a line and a status.
+use Rattle.std.specs.Prelude.{◌≡◌, ◌≤◌, ◌⊎◌, ◌↔◌, ℕ, List, codes}
+use Rattle.plan_audit.specs.Laws.{AreAllPlanned, IsSoundPlan}
+use Rattle.route_sched.specs.Cost.{total_length, used_count}
+use Rattle.plan_types.specs.Instance.{Instance, IsInstance}
+use Rattle.plan_types.specs.declared.requests.Kind.{Kind}
+use Rattle.instance_read.specs.Faults.{IsFirstFault}
+use Rattle.instance_read.specs.Names as instance_names
+use Rattle.instance_read.specs.declared.faults.ReadFault.{ReadFault}
+use Rattle.sol_text.specs.Faults as sol_faults
+use Rattle.sol_text.specs.Names as solution_names
+use Rattle.sol_text.specs.declared.faults.SolFault.{SolFault}
+use Rattle.sol_text.specs.declared.read.Solution.{Solution}
+use Rattle.plan_audit.specs.Verdict.{IsVerdict, printed}
+use Rattle.plan_audit.specs.declared.rules.Verdict.{Verdict}
+use Rattle.plan_audit.specs.declared.rules.Verdict.TheVariants.{Broken, Pass}
+use Rattle.instance_read.specs.Readings.{InstanceFault, SpellsInstance}
+use Rattle.auditor_cli.specs.AnswerText.{broken_text, fault_text, pass_text}
+use Rattle.auditor_cli.specs.declared.answer.AuditAnswer.{AuditAnswer}
+
+-- the answer for a text that is refused
+abbrev pub refused_answer : List ℕ → List ℕ → ℕ → AuditAnswer
+refused_answer text name line = record { line = fault_text text name line; status = 2 }
+
+-- the answer for a verdict
+abbrev pub verdict_answer : Verdict → AuditAnswer
+verdict_answer (Pass cost) = record { line = pass_text cost; status = 0 }
+verdict_answer (Broken rule route place stop) = record { line = broken_text rule route place stop; status = 1 }
+
+-- the instance spells no problem: its first fault is told
+pub record RefusesInstance (kind : Kind) (instance : List ℕ) (answer : AuditAnswer) : Type 0 where
+  pub fault : ReadFault
+  pub first : IsFirstFault (InstanceFault kind instance) fault
+  pub told : answer ≡ refused_answer (codes "instance") (instance_names.kind_name fault.kind) fault.line
+
+-- the instance spells a problem, and the solution's text is refused
+pub record RefusesSolution (kind : Kind) (instance solution : List ℕ) (answer : AuditAnswer) : Type 0 where
+  pub problem : Instance
+  pub spelled : SpellsInstance kind instance problem
+  pub fault : SolFault
+  pub first : sol_faults.IsFirstFault solution fault
+  pub told : answer ≡ refused_answer (codes "solution") (solution_names.kind_name fault.kind) fault.line
+
+-- the verdict on a solution
+abbrev pub IsSolutionVerdict : Instance → Solution → Verdict → Type 0
+IsSolutionVerdict problem plan verdict = IsVerdict problem (printed plan.routes plan.cost) verdict
+
+-- the answer is that of a verdict on these values
+pub record TellsVerdict (problem : Instance) (plan : Solution) (answer : AuditAnswer) : Type 0 where
+  pub verdict : Verdict
+  pub is_verdict : IsSolutionVerdict problem plan verdict
+  pub told : answer ≡ verdict_answer verdict
+
+-- both texts spell a value, and the answer is that of the verdict on the two values
+pub record Judges (kind : Kind) (instance solution : List ℕ) (answer : AuditAnswer) : Type 0 where
+  pub problem : Instance
+  pub problem_spelled : SpellsInstance kind instance problem
+  pub problem_kept : IsInstance problem
+  pub plan : Solution
+  pub plan_spelled : sol_faults.Spells solution plan
+  pub verdict : TellsVerdict problem plan answer
+
+-- the answer to the audit of a solution's text against the text of an instance of this kind
+abbrev pub IsAnswer : Kind → List ℕ → List ℕ → AuditAnswer → Type 0
+IsAnswer kind instance solution answer = RefusesInstance kind instance answer ⊎ (RefusesSolution kind instance solution answer ⊎ Judges kind instance solution answer)
+
+-- whatever two values the texts spell, the answer is that of a verdict on these
+abbrev pub JudgesSpelled : Kind → List ℕ → List ℕ → AuditAnswer → Type 0
+JudgesSpelled kind instance solution answer =
+    (problem : Instance) (plan : Solution) → SpellsInstance kind instance problem → sol_faults.Spells solution plan → TellsVerdict problem plan answer
+
+-- both texts spell values, and the solution is sound, serves each request, uses no more vehicles than there are, and prints the
+-- distance that it drives
+pub record AreSound (kind : Kind) (instance solution : List ℕ) : Type 0 where
+  pub problem : Instance
+  pub problem_spelled : SpellsInstance kind instance problem
+  pub plan : Solution
+  pub plan_spelled : sol_faults.Spells solution plan
+  pub sound : IsSoundPlan problem plan.routes
+  pub complete : AreAllPlanned problem plan.routes
+  pub fleet : used_count plan.routes ≤ problem.fleet
+  pub distance : plan.cost ≡ total_length problem plan.routes
+
+-- status 0 says just that
+abbrev pub SaysSound : Kind → List ℕ → List ℕ → AuditAnswer → Type 0
+SaysSound kind instance solution answer = (answer.status ≡ 0) ↔ AreSound kind instance solution

@@ -1,0 +1,29 @@
+-- What is told of the audit of a solution beside a best-known cost of its instance.
+use Rattle.std.specs.Prelude.{◌≡◌, ℕ, List, ◌++◌}
+use Rattle.best_known.specs.BestKnown.{BestCost, comparison_text}
+use Rattle.plan_types.specs.declared.requests.Kind.{Kind}
+use Rattle.plan_audit.specs.declared.rules.Verdict.{Verdict}
+use Rattle.plan_audit.specs.declared.rules.Verdict.TheVariants.{Broken, Pass}
+use Rattle.auditor_cli.specs.Answer.{verdict_answer}
+use Rattle.auditor_cli.specs.AnswerText.{pass_text}
+use Rattle.auditor_cli.specs.Examined.{IsExamined, answer_of}
+use Rattle.auditor_cli.specs.declared.answer.AuditAnswer.{AuditAnswer}
+use Rattle.auditor_cli.specs.declared.audit.Examined.{Examined}
+use Rattle.auditor_cli.specs.declared.audit.Examined.TheVariants.{BadInstance, BadSolution, Judged}
+
+-- the answer for a verdict: behind a pass stands how its cost compares
+abbrev pub compared_verdict : BestCost → Verdict → AuditAnswer
+compared_verdict best (Pass cost) = record { line = pass_text cost ++ comparison_text best cost; status = 0 }
+compared_verdict best (Broken rule route place stop) = verdict_answer (Broken rule route place stop)
+
+-- the answer for what two texts are
+abbrev pub compared_answer : BestCost → Examined → AuditAnswer
+compared_answer best (BadInstance fault) = answer_of (BadInstance fault)
+compared_answer best (BadSolution fault) = answer_of (BadSolution fault)
+compared_answer best (Judged problem plan verdict) = compared_verdict best verdict
+
+-- the answer for an instance's text of this kind and a solution's text
+pub record IsComparedAnswer (kind : Kind) (best : BestCost) (instance solution : List ℕ) (answer : AuditAnswer) : Type 0 where
+  pub examined : Examined
+  pub is_examined : IsExamined kind instance solution examined
+  pub answers : answer ≡ compared_answer best examined

@@ -1,0 +1,47 @@
+-- What an instance's text and a solution's text are, and what is told of them.
+use Rattle.std.specs.Prelude.{ℕ, List, codes}
+use Rattle.plan_types.specs.Instance.{Instance, IsInstance}
+use Rattle.plan_types.specs.declared.requests.Kind.{Kind}
+use Rattle.plan_audit.specs.declared.rules.Verdict.{Verdict}
+use Rattle.instance_read.specs.Faults.{IsFirstFault}
+use Rattle.instance_read.specs.Names as instance_names
+use Rattle.sol_text.specs.Faults as sol_faults
+use Rattle.sol_text.specs.Names as solution_names
+use Rattle.sol_text.specs.declared.faults.SolFault.{SolFault}
+use Rattle.sol_text.specs.declared.read.Solution.{Solution}
+use Rattle.instance_read.specs.Readings.{InstanceFault, SpellsInstance}
+use Rattle.auditor_cli.specs.Answer.{IsSolutionVerdict, refused_answer, verdict_answer}
+use Rattle.auditor_cli.specs.declared.answer.AuditAnswer.{AuditAnswer}
+use Rattle.auditor_cli.specs.declared.audit.Examined.{Examined}
+use Rattle.auditor_cli.specs.declared.audit.Examined.TheVariants.{BadInstance, BadSolution, Judged}
+
+-- the instance spells a problem, and this is the first fault of the solution's text
+pub record IsBadSolution (kind : Kind) (instance solution : List ℕ) (fault : SolFault) : Type 0 where
+  pub problem : Instance
+  pub spelled : SpellsInstance kind instance problem
+  pub first : sol_faults.IsFirstFault solution fault
+
+-- both spell a value, and this is the verdict on the two
+pub record IsJudged (kind : Kind) (instance solution : List ℕ) (problem : Instance) (plan : Solution) (verdict : Verdict) : Type 0 where
+  pub problem_spelled : SpellsInstance kind instance problem
+  pub problem_kept : IsInstance problem
+  pub plan_spelled : sol_faults.Spells solution plan
+  pub is_verdict : IsSolutionVerdict problem plan verdict
+
+-- what two texts are
+abbrev pub IsExamined : Kind → List ℕ → List ℕ → Examined → Type 0
+IsExamined kind instance solution (BadInstance fault) = IsFirstFault (InstanceFault kind instance) fault
+IsExamined kind instance solution (BadSolution fault) = IsBadSolution kind instance solution fault
+IsExamined kind instance solution (Judged problem plan verdict) = IsJudged kind instance solution problem plan verdict
+
+-- what is told of them
+abbrev pub answer_of : Examined → AuditAnswer
+answer_of (BadInstance fault) = refused_answer (codes "instance") (instance_names.kind_name fault.kind) fault.line
+answer_of (BadSolution fault) = refused_answer (codes "solution") (solution_names.kind_name fault.kind) fault.line
+answer_of (Judged problem plan verdict) = verdict_answer verdict
+
+-- where both texts spell a value, the verdict is that on the two
+abbrev pub HasVerdict : Examined → Type 0
+HasVerdict (BadInstance fault) = Unit {0}
+HasVerdict (BadSolution fault) = Unit {0}
+HasVerdict (Judged problem plan verdict) = IsSolutionVerdict problem plan verdict

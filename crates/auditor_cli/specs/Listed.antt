@@ -1,0 +1,136 @@
+-- What is told of a list of pairs of files, line by line. `was` is what is known before, and `now` behind it.
+use Rattle.std.specs.Prelude.{◌≡◌, ◌⊎◌, ℕ, ◌==◌, ◌&&◌, ◌||◌, not, Bool, if◌then◌else◌, List, [], ◌∷◌, ◌++◌, length, take, drop, codes, Option, Some, None, Ok, Err, max, option_and_then, option_map}
+use Rattle.std.specs.Io.KnownBytes.{Appends}
+use Rattle.std.specs.List.{position_or_len}
+use Rattle.std.specs.Str.{IsUtf8, bytes_eq}
+use Rattle.std.specs.declared.io.ErrorKind.{ErrorKind}
+use Rattle.plan_types.specs.declared.requests.Kind.{Kind}
+use Rattle.text_lines.specs.Lines.{lines_of}
+use Rattle.best_known.specs.BestKnown.{BestCost, best_in}
+use Rattle.auditor_cli.specs.Compared.{IsComparedAnswer}
+use Rattle.auditor_cli.specs.Files.{IsToldOfFiles, IsToldOfFilesBy}
+use Rattle.auditor_cli.specs.Reads.{FileRead}
+use Rattle.text_lines.specs.Lines.{ended}
+use Rattle.auditor_cli.specs.Telling.{TellsUnread}
+
+-- `-` is standard input
+abbrev pub list_path : List ℕ → List ℕ
+list_path list = if bytes_eq list (codes "-") then codes "/dev/stdin" else list
+
+abbrev pub is_tab : ℕ → Bool
+is_tab b = b == 9
+
+-- a path has a byte, and no tab
+abbrev pub is_path : List ℕ → Bool
+is_path path = not (length path == 0) && (position_or_len is_tab path == length path)
+
+abbrev pub parted : List ℕ → List ℕ → Option (List ℕ × List ℕ)
+parted instance [] = None
+parted instance (tab ∷ solution) = if is_path instance && is_path solution then Some (instance, solution) else None
+
+-- two paths, with a tab between them
+abbrev pub parts_of : List ℕ → Option (List ℕ × List ℕ)
+parts_of text = let n = position_or_len is_tab text in parted (take n text) (drop n text)
+
+-- the line names these two
+abbrev pub IsPair : List ℕ → List ℕ → List ℕ → Type 0
+IsPair text instance solution = (parts_of text ≡ Some (instance, solution)) × IsUtf8 instance × IsUtf8 solution
+
+abbrev pub NamesNone : List ℕ → Type 0
+NamesNone text = (instance solution : List ℕ) → IsPair text instance solution → ⊥
+
+-- the line names no pair, and nothing is done for it
+abbrev pub IsBadLine : {S : Type 0} → List ℕ → S → S → List ℕ → ℕ → Type 0
+IsBadLine l was now text status = NamesNone l × (now ≡ was) × (text ≡ ended (codes "bad line")) × (status ≡ 2)
+
+-- the two paths of a line and an answer, with tabs between them
+abbrev pub pair_text : List ℕ → List ℕ → List ℕ → List ℕ
+pair_text one other answer = one ++ 9 ∷ (other ++ 9 ∷ answer)
+
+-- ---- a list, whatever is done by its lines: `IsToldOf` says what is known before and behind a line, what is told of it and its status, and
+-- `noted` what is known once a file was read
+
+module _ {S : Type 0} (IsToldOf : List ℕ → S → S → List ℕ → ℕ → Type 0) where
+  -- all lines, one after another; the status is the greatest
+  abbrev pub AreTold : List (List ℕ) → S → S → List ℕ → ℕ → Type 0
+  AreTold [] was now text status = (now ≡ was) × (text ≡ []) × (status ≡ 0)
+  AreTold (l ∷ ls) was now text status =
+      (next : S) × (first : List ℕ) × (n : ℕ) × (rest : List ℕ) × (m : ℕ) × IsToldOf l was next first n × AreTold ls next now rest m × (text ≡ first ++ rest) × (status ≡ max n m)
+
+  abbrev pub TellsLine : List ℕ → S → S → Option (List ℕ) → Option (List ℕ) → ℕ → Type 0
+  TellsLine l was now before after status = (text : List ℕ) × IsToldOf l was now text status × Appends before after text
+
+  abbrev pub TellsLines : List (List ℕ) → S → S → Option (List ℕ) → Option (List ℕ) → ℕ → Type 0
+  TellsLines ls was now before after status = (text : List ℕ) × AreTold ls was now text status × Appends before after text
+
+  module _ (noted : FileRead → S → S) where
+    -- the list was read, and this is its text
+    abbrev pub TellsTextOf : List ℕ → S → S → Option (List ℕ) → Option (List ℕ) → ℕ → Type 0
+    TellsTextOf path was now before after status = (x : List ℕ) × TellsLines (lines_of x) (noted (path, Ok x) was) now before after status
+
+    -- or it can't be read
+    abbrev pub TellsNoList : List ℕ → S → S → Option (List ℕ) → Option (List ℕ) → ℕ → Type 0
+    TellsNoList path was now before after status = (error : ErrorKind) × (now ≡ noted (path, Err error) was) × TellsUnread path error before after status
+
+    abbrev pub TellsListBy : List ℕ → S → S → Option (List ℕ) → Option (List ℕ) → ℕ → Type 0
+    TellsListBy list was now before after status = TellsTextOf (list_path list) was now before after status ⊎ TellsNoList (list_path list) was now before after status
+
+-- ---- the list of `audits`
+
+-- the two paths of a line, and what `audit` tells of them alone, with tabs between them
+pub record IsToldOfPair (k : Kind) (l : List ℕ) (was now : List FileRead) (text : List ℕ) (status : ℕ) : Type 0 where
+  pub instance : List ℕ
+  pub solution : List ℕ
+  pub pair : IsPair l instance solution
+  pub answer : List ℕ
+  pub told : IsToldOfFiles k instance solution was now answer status
+  pub text_is : text ≡ pair_text instance solution answer
+
+-- what stands before and behind the first tab of a text, if it has one
+abbrev pub cut_at : List ℕ → List ℕ → Option (List ℕ × List ℕ)
+cut_at front [] = None
+cut_at front (tab ∷ rest) = Some (front, rest)
+
+abbrev pub cut : List ℕ → Option (List ℕ × List ℕ)
+cut text = let n = position_or_len is_tab text in cut_at (take n text) (drop n text)
+
+-- two paths, neither of them empty, and a best-known cost of an instance of this kind
+abbrev pub compared : Kind → List ℕ → List ℕ → List ℕ → Option (List ℕ × List ℕ × BestCost)
+compared k instance solution column =
+    if (length instance == 0) || (length solution == 0) then None else option_map (λ best. (instance, solution, best)) (best_in k column)
+
+-- those of a line with tabs between them
+abbrev pub compared_parts : Kind → List ℕ → Option (List ℕ × List ℕ × BestCost)
+compared_parts k text = option_and_then (λ p. option_and_then (λ q. compared k p.0 q.0 q.1) (cut p.1)) (cut text)
+
+-- the line names these three
+abbrev pub IsComparedPair : Kind → List ℕ → List ℕ → List ℕ → BestCost → Type 0
+IsComparedPair k text instance solution best = (compared_parts k text ≡ Some (instance, solution, best)) × IsUtf8 instance × IsUtf8 solution
+
+abbrev pub ComparesNone : Kind → List ℕ → Type 0
+ComparesNone k text = (instance solution : List ℕ) (best : BestCost) → IsComparedPair k text instance solution best → ⊥
+
+-- its two paths, and what is told of them beside the best-known cost
+pub record IsToldOfCompared (k : Kind) (l : List ℕ) (was now : List FileRead) (text : List ℕ) (status : ℕ) : Type 0 where
+  pub instance : List ℕ
+  pub solution : List ℕ
+  pub best : BestCost
+  pub columns : IsComparedPair k l instance solution best
+  pub answer : List ℕ
+  pub told : IsToldOfFilesBy (IsComparedAnswer k best) instance solution was now answer status
+  pub text_is : text ≡ pair_text instance solution answer
+
+-- a line that does not name two paths alone: with a best-known cost behind them, or nothing is done for it
+abbrev pub IsComparedLine : Kind → List ℕ → List FileRead → List FileRead → List ℕ → ℕ → Type 0
+IsComparedLine k l was now text status =
+    IsToldOfCompared k l was now text status ⊎ (ComparesNone k l × (now ≡ was) × (text ≡ ended (codes "bad line")) × (status ≡ 2))
+
+-- a line of the list
+abbrev pub IsAudited : Kind → List ℕ → List FileRead → List FileRead → List ℕ → ℕ → Type 0
+IsAudited k l was now text status = IsToldOfPair k l was now text status ⊎ (NamesNone l × IsComparedLine k l was now text status)
+
+abbrev pub and_read : FileRead → List FileRead → List FileRead
+and_read read was = read ∷ was
+
+abbrev pub TellsList : Kind → List ℕ → List FileRead → List FileRead → Option (List ℕ) → Option (List ℕ) → ℕ → Type 0
+TellsList k list was now before after status = TellsListBy (IsAudited k) and_read list was now before after status

@@ -1,0 +1,10 @@
+-- What is noted of a file that was read or made.
+use Rattle.std.specs.Prelude.{ℕ, List, Result, Ok, Err}
+use Rattle.std.specs.declared.io.ErrorKind.{ErrorKind}
+use Rattle.auditor_cli.specs.declared.file_record.Outcome.{Outcome}
+use Rattle.auditor_cli.specs.declared.file_record.Outcome.TheVariants.{Done, Failed}
+
+-- the bytes that were read or written, or the kind of error
+abbrev pub given : Outcome → List ℕ → Result (List ℕ) ErrorKind
+given Done text = Ok text
+given (Failed kind) text = Err kind

@@ -1,0 +1,109 @@
+//! The lines that answer an audit.
+//!
+//! Lines are written by `format!`, where the text of a solution is printed number by number without taking memory
+//! for each.
+ghost use Rattle.std.specs.Prelude.{◌≡◌, ◌++◌, ℕ, List, IfOk};
+ghost use Rattle.auditor_cli.specs.AnswerText.{broken_text, fault_text, pass_text};
+
+use plan_types::{Cost, OutOfMemory};
+use std::alloc::Global;
+use std::marker::Model;
+
+/// A line of text, without its line end.
+#[derive(Debug, Drop)]
+pub struct Line {
+    bytes: Vec<u8>,
+}
+
+impl Model for Line {
+    ghost Value = { List ℕ };
+
+    ghost view = { λ l. l.bytes.items };
+}
+
+impl From<String> for Line {
+    ghost use Rattle.std.specs.Prelude.{◌≡◌, string_bytes};
+
+    ghost from_gives = { λ text line. line ≡ string_bytes text };
+
+    /// Takes no memory.
+    fn from(text: String) -> Line {
+        Line {
+            bytes: text.into_bytes(),
+        }
+    }
+}
+
+impl Line {
+    /// The bytes of the line.
+    pub fn as_bytes(&self) -> &[u8]
+        ensures { result.now ≡ self.now }
+    {
+        self.bytes.as_slice()
+    }
+
+    /// The line with a further text behind it.
+    pub fn with(self, text: &str) -> Result<Line, OutOfMemory>
+        ensures { IfOk result (λ line. line ≡ self ++ text.now) }
+    {
+        let mut bytes = self.into_vec();
+        bytes.extend_from_slice(text.as_bytes())?;
+        Ok(Line { bytes })
+    }
+
+    /// Gives the bytes back, without taking memory.
+    pub fn into_vec(self) -> Vec<u8>
+        ensures { result.items ≡ self }
+    {
+        let Line { bytes } = self;
+        bytes
+    }
+}
+
+/// What the program prints for an audit, and the status that it ends with.
+#[derive(Debug, Drop)]
+pub struct AuditAnswer {
+    pub line: Line,
+    /// 0 for a solution that passes, 1 for a broken rule, 2 for a text that is refused.
+    pub status: u8,
+}
+
+/// The line for a solution that breaks no rule: `pass UNPLANNED VEHICLES DISTANCE`.
+pub fn pass_line(alloc: Global, cost: Cost) -> Result<Line, OutOfMemory>
+    ensures { IfOk result (λ line. line ≡ pass_text cost) }
+{
+    let Cost {
+        unplanned,
+        vehicles,
+        distance,
+    } = cost;
+    let text = format!(in alloc; "pass {unplanned} {vehicles} {distance}")?;
+    Ok(Line::from(text))
+}
+
+/// The line for a broken rule: `broken RULE route R place P stop S`. Routes and places count from 1.
+pub fn broken_line(
+    alloc: Global,
+    rule: u32,
+    route: u64,
+    place: u64,
+    stop: u32,
+) -> Result<Line, OutOfMemory>
+    ensures { IfOk result (λ line. line ≡ broken_text rule route place stop) }
+{
+    let text = format!(in alloc; "broken {rule} route {route} place {place} stop {stop}")?;
+    Ok(Line::from(text))
+}
+
+/// The line for a text that is refused: `TEXT NAME LINE`, with the name of its fault. Lines count from 1.
+pub fn fault_line(
+    alloc: Global,
+    text: &str,
+    name: &str,
+    line: u64,
+) -> Result<Line, OutOfMemory>
+    ensures { IfOk result (λ answer. answer ≡ fault_text text.now name.now line) }
+{
+    let answer = format!(in alloc; "{text} {name} {line}")?;
+    Ok(Line::from(answer))
+}

@@ -1,0 +1,158 @@
+//! The audit of two texts.
+ghost use Rattle.std.specs.Prelude.{◌≡◌, ◌≢◌, ◌≤◌, IfErr, IfOk};
+ghost use Rattle.instance_read.specs.Faults.{TellsFirstFault};
+ghost use Rattle.instance_read.specs.Readings.{InstanceFault, SpellsInstance};
+ghost use Rattle.auditor_cli.specs.Answer.{IsAnswer, JudgesSpelled, SaysSound, refused_answer, verdict_answer};
+ghost use Rattle.auditor_cli.specs.Examined.{IsExamined, answer_of};
+ghost use Rattle.auditor_cli.specs.declared.audit.Examined.TheVariants.{BadInstance, BadSolution};
+
+use crate::answer::{AuditAnswer, broken_line, fault_line, pass_line};
+use crate::status::{BROKEN, DONE, REFUSED};
+use instance_read::{ReadFault, ReadFaultKind, read_lilim, read_vrp};
+use plan_audit::{Verdict, audit_solution, solutions_pass_where_they_are_sound};
+use plan_types::{Kind, OutOfMemory, Problem};
+use sol_text::{SolFault, SolFaultKind, Solution, read_sol};
+use std::alloc::{AllocError, Global};
+
+/// Audits a solution's text against an instance's text.
+///
+/// The line is `pass UNPLANNED VEHICLES DISTANCE` with status 0, `broken RULE route R place P stop S` with status 1 for
+/// the least broken rule, or `instance NAME LINE` or `solution NAME LINE` with status 2 for a text that is refused, the
+/// instance first. So the status is 0 just where both texts spell values and the solution is sound, serves each request,
+/// keeps the fleet, and prints the distance that it drives.
+///
+/// # Errors
+///
+/// `OutOfMemory`.
+pub fn audit_text(
+    alloc: Global,
+    kind: Kind,
+    instance: &[u8],
+    solution: &[u8],
+) -> Result<AuditAnswer, OutOfMemory>
+    ensures answer { IfOk result (IsAnswer kind instance.now solution.now) }
+    ensures verdict { IfOk result (JudgesSpelled kind instance.now solution.now) }
+    ensures status { IfOk result (λ answer. answer.status ≤ 2) }
+    ensures sound { IfOk result (SaysSound kind instance.now solution.now) }
+{
+    solutions_pass_where_they_are_sound();
+    audit_both(alloc, kind, instance, solution)
+}
+
+fn audit_both(
+    alloc: Global,
+    kind: Kind,
+    instance: &[u8],
+    solution: &[u8],
+) -> Result<AuditAnswer, OutOfMemory>
+    ensures answer { IfOk result (IsAnswer kind instance.now solution.now) }
+    ensures status { IfOk result (λ answer. answer.status ≤ 2) }
+{
+    let examined = examine(alloc, kind, instance, solution)?;
+    answer_of(alloc, &examined)
+}
+
+/// What an instance's text and a solution's text are.
+#[derive(Debug, Drop)]
+pub enum Examined {
+    /// The instance's text is refused.
+    BadInstance(ReadFault),
+    /// The solution's text is refused.
+    BadSolution(SolFault),
+    /// Both spell a value, on which this is the verdict.
+    Judged(Problem, Solution, Verdict),
+}
+
+/// Reads both texts, the instance first, and audits the solution.
+pub fn examine(
+    alloc: Global,
+    kind: Kind,
+    instance: &[u8],
+    solution: &[u8],
+) -> Result<Examined, OutOfMemory>
+    ensures { IfOk result (IsExamined kind instance.now solution.now) }
+{
+    let problem = match read_instance(alloc, kind, instance) {
+        Ok(problem) => problem,
+        Err(fault) => return bad_instance(fault),
+    };
+    let solution = match read_sol(alloc, solution) {
+        Ok(solution) => solution,
+        Err(fault) => return bad_solution(fault),
+    };
+    let verdict = audit_solution(alloc, &problem, &solution)?;
+    Ok(Examined::Judged(problem, solution, verdict))
+}
+
+/// Reads the text of an instance.
+pub fn read_instance(alloc: Global, kind: Kind, text: &[u8]) -> Result<Problem, ReadFault>
+    ensures value { IfOk result (SpellsInstance kind text.now) }
+    ensures fault { IfErr result (TellsFirstFault (InstanceFault kind text.now)) }
+{
+    match kind {
+        Kind::LiLim => read_lilim(alloc, text),
+        Kind::Vrp => read_vrp(alloc, text),
+    }
+}
+
+fn bad_instance(fault: ReadFault) -> Result<Examined, OutOfMemory>
+    ensures { IfOk result (λ examined. (fault.kind ≢ ReadFaultKind.OutOfMemory)
+        × (examined ≡ BadInstance fault)) }
+{
+    match fault.kind {
+        ReadFaultKind::OutOfMemory => Err(AllocError),
+        _ => Ok(Examined::BadInstance(fault)),
+    }
+}
+
+fn bad_solution(fault: SolFault) -> Result<Examined, OutOfMemory>
+    ensures { IfOk result (λ examined. (fault.kind ≢ SolFaultKind.OutOfMemory)
+        × (examined ≡ BadSolution fault)) }
+{
+    match fault.kind {
+        SolFaultKind::OutOfMemory => Err(AllocError),
+        _ => Ok(Examined::BadSolution(fault)),
+    }
+}
+
+/// What is told of them.
+pub fn answer_of(alloc: Global, examined: &Examined) -> Result<AuditAnswer, OutOfMemory>
+    ensures { IfOk result (λ answer. answer ≡ answer_of examined.now) }
+{
+    match examined {
+        Examined::BadInstance(fault) => refused(alloc, "instance", fault.name(), fault.line),
+        Examined::BadSolution(fault) => refused(alloc, "solution", fault.name(), fault.line),
+        Examined::Judged(_, _, verdict) => verdict_told(alloc, *verdict),
+    }
+}
+
+fn refused(alloc: Global, text: &str, name: &str, line: u64) -> Result<AuditAnswer, OutOfMemory>
+    ensures { IfOk result (λ answer. answer ≡ refused_answer text.now name.now line) }
+{
+    let line = fault_line(alloc, text, name, line)?;
+    Ok(AuditAnswer {
+        line,
+        status: REFUSED,
+    })
+}
+
+/// What is told of a verdict.
+pub fn verdict_told(alloc: Global, verdict: Verdict) -> Result<AuditAnswer, OutOfMemory>
+    ensures { IfOk result (λ answer. answer ≡ verdict_answer verdict) }
+{
+    match verdict {
+        Verdict::Pass(cost) => Ok(AuditAnswer {
+            line: pass_line(alloc, cost)?,
+            status: DONE,
+        }),
+        Verdict::Broken {
+            rule,
+            route,
+            place,
+            stop,
+        } => Ok(AuditAnswer {
+            line: broken_line(alloc, rule, route, place, stop)?,
+            status: BROKEN,
+        }),
+    }
+}

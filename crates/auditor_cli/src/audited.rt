@@ -1,0 +1,102 @@
+//! The audit of two files.
+ghost use Rattle.std.specs.Prelude.{◌≡◌, ◌≤◌, IfOk, MatchResult};
+ghost use Rattle.std.specs.IoError.{error_kind};
+ghost use Rattle.auditor_cli.specs.Behind.{TellsBehind};
+ghost use Rattle.auditor_cli.specs.Files.{AreBothRead, AreReadInTurn, IsUnread, TellsFiles};
+
+use crate::audit::audit_text;
+use crate::behind::tell_behind;
+use crate::files::ReadFiles;
+use crate::telling::{tell_audit, tell_unread};
+use command_line::Paths;
+use std::alloc::Global;
+use std::io;
+use std::io::{ErrorKind, Write};
+
+/// A file that can't be read.
+#[derive(Clone, Copy, Debug)]
+pub struct Unread<'a> {
+    pub path: &'a str,
+    pub kind: ErrorKind,
+}
+
+/// Reads the whole of both texts, the instance first.
+pub fn read_both<'a, F: ReadFiles>(
+    paths: Paths<'a>,
+    files: &mut F,
+) -> Result<(Vec<u8>, Vec<u8>), Unread<'a>>
+    ensures { let instance = paths.entry.instance.now in
+        let solution = paths.entry.solution.now in
+        MatchResult result
+        (λ both. AreBothRead instance solution both.0.items both.1.items
+        (F.reads files.old) (F.reads files.new))
+        (λ unread. IsUnread instance solution unread.path.now unread.kind
+        (F.reads files.old) (F.reads files.new)) }
+{
+    let instance = match files.read(paths.instance) {
+        Ok(text) => text,
+        Err(error) => return Err(not_read(paths.instance, &error)),
+    };
+    let solution = match files.read(paths.solution) {
+        Ok(text) => text,
+        Err(error) => return Err(not_read(paths.solution, &error)),
+    };
+    Ok((instance, solution))
+}
+
+fn not_read<'a>(path: &'a str, error: &io::Error) -> Unread<'a>
+    ensures { (result.path.now ≡ path.entry.now) × (result.kind ≡ error_kind error.now) }
+{
+    Unread {
+        path,
+        kind: error.kind(),
+    }
+}
+
+/// Tells the audit of two files as `audit_read` does, and on `errors` what stands behind the cost line of the solution.
+pub fn audit_noted<F: ReadFiles, W: Write, E: Write>(
+    alloc: Global,
+    paths: Paths,
+    files: &mut F,
+    output: &mut W,
+    errors: &mut E,
+) -> io::Result<u8>
+    ensures status { IfOk result (λ status. status ≤ 4) }
+    ensures reads { AreReadInTurn paths.entry.instance.now paths.entry.solution.now
+        (F.reads files.old) (F.reads files.new) }
+    ensures told { IfOk result (λ status. TellsFiles paths.entry.kind paths.entry.instance.now
+        paths.entry.solution.now (F.reads files.old) (F.reads files.new)
+        (W.contents output.old) (W.contents output.new) status
+        × TellsBehind paths.entry.instance.now paths.entry.solution.now
+        (F.reads files.old) (F.reads files.new)
+        (E.contents errors.old) (E.contents errors.new)) }
+{
+    let both = match read_both(paths, files) {
+        Ok(both) => both,
+        Err(unread) => return tell_unread(output, unread.path, unread.kind),
+    };
+    let status = tell_audit(output, &audit_text(alloc, paths.kind, &both.0, &both.1))?;
+    tell_behind(paths.solution, &both.1, errors)?;
+    Ok(status)
+}
+
+/// Reads the whole of both texts before it looks into either, and tells what comes of their audit.
+pub fn audit_read<F: ReadFiles, W: Write>(
+    alloc: Global,
+    paths: Paths,
+    files: &mut F,
+    output: &mut W,
+) -> io::Result<u8>
+    ensures status { IfOk result (λ status. status ≤ 4) }
+    ensures reads { AreReadInTurn paths.entry.instance.now paths.entry.solution.now
+        (F.reads files.old) (F.reads files.new) }
+    ensures told { IfOk result (TellsFiles paths.entry.kind paths.entry.instance.now
+        paths.entry.solution.now (F.reads files.old) (F.reads files.new)
+        (W.contents output.old) (W.contents output.new)) }
+{
+    let both = match read_both(paths, files) {
+        Ok(both) => both,
+        Err(unread) => return tell_unread(output, unread.path, unread.kind),
+    };
+    tell_audit(output, &audit_text(alloc, paths.kind, &both.0, &both.1))
+}

@@ -1,0 +1,114 @@
+//! The audit of two files, and what it rests on.
+ghost use Rattle.std.specs.Prelude.{◌≡◌, ◌≤◌, IfOk, string_bytes};
+ghost use Rattle.auditor_cli.specs.Answer.{IsAnswer};
+ghost use Rattle.auditor_cli.specs.Behind.{TellsBehind};
+ghost use Rattle.auditor_cli.specs.Examined.{HasVerdict};
+ghost use Rattle.auditor_cli.specs.Explained.{IsExplanation, RestsOn, TellsExplained, TellsExplanation};
+ghost use Rattle.auditor_cli.specs.Files.{AreReadInTurn};
+
+use crate::answer::AuditAnswer;
+use crate::audit::{Examined, answer_of, examine};
+use crate::audited::read_both;
+use crate::behind::tell_behind;
+use crate::files::ReadFiles;
+use crate::status::OUT_OF_MEMORY;
+use crate::telling::{tell_unread, write_line};
+use command_line::Paths;
+use plan_explain::{explain_instance_fault, explain_solution_fault, explain_verdict};
+use plan_types::{Kind, OutOfMemory};
+use std::alloc::Global;
+use std::io;
+use std::io::Write;
+
+/// The answer of an audit, and the lines that stand under it.
+#[derive(Debug, Drop)]
+pub struct Explanation {
+    pub answer: AuditAnswer,
+    pub text: String,
+}
+
+/// Reads both texts as `audit_read` does, and tells the audit's answer and what it rests on; on `errors` what stands behind the cost line
+/// of the solution.
+pub fn explain_read<F: ReadFiles, W: Write, E: Write>(
+    alloc: Global,
+    paths: Paths,
+    files: &mut F,
+    output: &mut W,
+    errors: &mut E,
+) -> io::Result<u8>
+    ensures status { IfOk result (λ status. status ≤ 4) }
+    ensures reads { AreReadInTurn paths.entry.instance.now paths.entry.solution.now
+        (F.reads files.old) (F.reads files.new) }
+    ensures told { IfOk result (λ status. TellsExplained paths.entry.kind paths.entry.instance.now
+        paths.entry.solution.now (F.reads files.old) (F.reads files.new)
+        (W.contents output.old) (W.contents output.new) status
+        × TellsBehind paths.entry.instance.now paths.entry.solution.now
+        (F.reads files.old) (F.reads files.new)
+        (E.contents errors.old) (E.contents errors.new)) }
+{
+    let both = match read_both(paths, files) {
+        Ok(both) => both,
+        Err(unread) => return tell_unread(output, unread.path, unread.kind),
+    };
+    let status = tell_explanation(output, &explain(alloc, paths.kind, &both.0, &both.1))?;
+    tell_behind(paths.solution, &both.1, errors)?;
+    Ok(status)
+}
+
+/// Tells an answer with its lines, or want of memory.
+pub fn tell_explanation<W: Write>(
+    output: &mut W,
+    explained: &Result<Explanation, OutOfMemory>,
+) -> io::Result<u8>
+    ensures { IfOk result (TellsExplanation explained.now
+        (W.contents output.old) (W.contents output.new)) }
+{
+    match explained {
+        Ok(explanation) => {
+            write_line(output, explanation.answer.line.as_bytes())?;
+            output.write_all(explanation.text.as_bytes())?;
+            Ok(explanation.answer.status)
+        }
+        Err(_) => {
+            write_line(output, b"out of memory")?;
+            Ok(OUT_OF_MEMORY)
+        }
+    }
+}
+
+// Audits a solution's text against an instance's text, and tells what the answer rests on.
+fn explain(
+    alloc: Global,
+    kind: Kind,
+    instance: &[u8],
+    solution: &[u8],
+) -> Result<Explanation, OutOfMemory>
+    ensures answer { IfOk result (λ explanation.
+        IsAnswer kind instance.now solution.now explanation.answer) }
+    ensures explains { IfOk result (IsExplanation kind instance.now solution.now) }
+    ensures status { IfOk result (λ explanation. explanation.answer.status ≤ 2) }
+{
+    let examined = examine(alloc, kind, instance, solution)?;
+    let answer = answer_of(alloc, &examined)?;
+    let text = rests_on(alloc, kind, instance, solution, &examined)?;
+    Ok(Explanation { answer, text })
+}
+
+// What the answer for two texts rests on.
+fn rests_on(
+    alloc: Global,
+    kind: Kind,
+    instance: &[u8],
+    solution: &[u8],
+    examined: &Examined,
+) -> Result<String, OutOfMemory>
+    requires { HasVerdict examined.now }
+    ensures { IfOk result (λ text. RestsOn kind instance.now solution.now examined.now
+        (string_bytes text)) }
+{
+    match examined {
+        Examined::BadInstance(fault) => explain_instance_fault(alloc, kind, instance, *fault),
+        Examined::BadSolution(fault) => explain_solution_fault(alloc, solution, *fault),
+        Examined::Judged(problem, plan, verdict) => explain_verdict(alloc, problem, plan, *verdict),
+    }
+}

@@ -1,0 +1,182 @@
+//! The files that the words name: those that are read, and those that are made.
+ghost use Rattle.std.specs.Prelude.{◌≡◌, List, [], ◌∷◌, MatchResult};
+ghost use Rattle.std.specs.IoError.{error_kind};
+ghost use Rattle.auditor_cli.specs.Reads.{FileRead, FileWrite};
+
+use crate::file_record::{FileRecord, Outcome};
+use std::fs::{File, OpenOptions};
+use std::io::{ErrorKind, Write};
+use std::path::Path;
+use std::rt::Files;
+use std::{fs, io};
+
+/// What reads files, each whole, by its path. It tells what it read and what that gave.
+pub trait ReadFiles {
+    /// What was read so far, the newest first.
+    ghost reads: { Self → List FileRead };
+
+    /// Reads the whole of a file.
+    fn read(&mut self, path: &str) -> io::Result<Vec<u8>>
+        ensures { MatchResult result
+            (λ text. reads self.new ≡ (path.now, Ok text.items) ∷ reads self.old)
+            (λ error. reads self.new ≡ (path.now, Err (error_kind error)) ∷ reads self.old) };
+}
+
+/// What makes new files, each whole, by its path. It tells what it wrote where, and where it wrote nothing.
+pub trait WriteFiles {
+    /// What was written so far or could not be, the newest first.
+    ghost writes: { Self → List FileWrite };
+
+    /// Fails where no new file can be made under the path, as far as that is known beforehand: for one, where something stands
+    /// there already.
+    fn look(&mut self, path: &str) -> io::Result<()>
+        ensures { MatchResult result
+            (λ _. writes self.new ≡ writes self.old)
+            (λ error. writes self.new ≡ (path.now, Err (error_kind error)) ∷ writes self.old) };
+
+    /// Writes the whole of a new file. What stands under the path already stays as it is, and is an error.
+    fn write_new(&mut self, path: &str, text: &[u8]) -> io::Result<()>
+        ensures { MatchResult result
+            (λ _. writes self.new ≡ (path.now, Ok text.now) ∷ writes self.old)
+            (λ error. writes self.new ≡ (path.now, Err (error_kind error)) ∷ writes self.old) };
+}
+
+/// The files of the system, and standard input for `-`. Why one can't be read is told on standard error, in the system's
+/// words.
+#[derive(Drop)]
+pub struct HostFiles<'a, R> {
+    rt: &'a R,
+    noted: FileRecord,
+}
+
+impl<'a, R> HostFiles<'a, R> {
+    /// None has been read yet.
+    pub fn new(rt: &'a R) -> HostFiles<'a, R>
+        ensures { result.noted.entries ≡ [] }
+    {
+        HostFiles {
+            rt,
+            noted: FileRecord::new(),
+        }
+    }
+}
+
+impl<'a, R: Files + Eprint + AllocGlobal> ReadFiles for HostFiles<'a, R> {
+    ghost reads = { λ f. f.noted.entries };
+
+    fn read(&mut self, path: &str) -> io::Result<Vec<u8>> {
+        let source = if path == "-" { "/dev/stdin" } else { path };
+        match fs::read(self.rt, source) {
+            Ok(text) => {
+                self.noted.note(path.as_bytes(), &Outcome::Done, &text);
+                Ok(text)
+            }
+            Err(error) => {
+                let _ = eprintln!(self.rt; "planner: {path}: {error}");
+                let kind = error.kind();
+                self.noted
+                    .note(path.as_bytes(), &Outcome::Failed(kind), &[]);
+                Err(error)
+            }
+        }
+    }
+}
+
+/// New files of the system, each on the disk before it is told as written. Why one can't be made is told on standard error, in
+/// the system's words, but where something stands there already.
+#[derive(Drop)]
+pub struct HostNewFiles<'a, R> {
+    rt: &'a R,
+    noted: FileRecord,
+}
+
+impl<'a, R> HostNewFiles<'a, R> {
+    /// None has been made yet.
+    pub fn new(rt: &'a R) -> HostNewFiles<'a, R>
+        ensures { result.noted.entries ≡ [] }
+    {
+        HostNewFiles {
+            rt,
+            noted: FileRecord::new(),
+        }
+    }
+}
+
+impl<'a, R: Eprint> HostNewFiles<'a, R> {
+    // Tells and notes why there is no new file.
+    fn fail(&mut self, path: &str, error: &io::Error)
+        ensures { self.new.noted.entries
+            ≡ (path.now, Err (error_kind error.now)) ∷ self.old.noted.entries }
+    {
+        let kind = error.kind();
+        if kind != ErrorKind::AlreadyExists {
+            let _ = eprintln!(self.rt; "planner: {path}: {error}");
+        }
+        self.noted
+            .note(path.as_bytes(), &Outcome::Failed(kind), &[]);
+    }
+}
+
+impl<'a, R: Files<File = File> + Eprint> WriteFiles for HostNewFiles<'a, R> {
+    ghost writes = { λ f. f.noted.entries };
+
+    fn look(&mut self, path: &str) -> io::Result<()> {
+        match look_under(self.rt, path) {
+            Ok(()) => Ok(()),
+            Err(error) => {
+                self.fail(path, &error);
+                Err(error)
+            }
+        }
+    }
+
+    fn write_new(&mut self, path: &str, text: &[u8]) -> io::Result<()> {
+        match write_under(self.rt, path, text) {
+            Ok(()) => {
+                self.noted.note(path.as_bytes(), &Outcome::Done, text);
+                Ok(())
+            }
+            Err(error) => {
+                self.fail(path, &error);
+                Err(error)
+            }
+        }
+    }
+}
+
+// Fails where something stands under the path, be it a link that leads nowhere, or where its folder is not there.
+fn look_under<R: Files>(rt: &R, path: &str) -> io::Result<()> {
+    match fs::symlink_metadata(rt, path) {
+        Ok(_) => Err(io::Error::from(ErrorKind::AlreadyExists)),
+        Err(error) if error.kind() == ErrorKind::NotFound => look_for_folder(rt, path),
+        Err(error) => Err(error),
+    }
+}
+
+fn look_for_folder<R: Files>(rt: &R, path: &str) -> io::Result<()> {
+    match Path::new(path).parent() {
+        Some(folder) if !folder.as_str().is_empty() => {
+            fs::metadata(rt, folder)?;
+            Ok(())
+        }
+        _ => Ok(()),
+    }
+}
+
+// Writes a new file and puts it on the disk. One that could not be written whole is removed.
+fn write_under<R: Files<File = File>>(rt: &R, path: &str, text: &[u8]) -> io::Result<()> {
+    let mut file = OpenOptions::new()
+        .write(true)
+        .create_new(true)
+        .open(rt, path)?;
+    let written = write_whole(&mut file, text);
+    if written.is_err() {
+        let _ = fs::remove_file(rt, path);
+    }
+    written
+}
+
+fn write_whole(file: &mut File, text: &[u8]) -> io::Result<()> {
+    file.write_all(text)?;
+    file.sync_all()
+}

@@ -1,0 +1,279 @@
+//! The audits of a list of pairs of files.
+ghost use Rattle.std.specs.Prelude.{◌≡◌, ◌≤◌, IfOk, MatchOption, codes, length, max, option_map};
+ghost use Rattle.std.specs.List.{position_or_len};
+ghost use Rattle.std.specs.Io.KnownBytes.{Appends};
+ghost use Rattle.text_lines.specs.Lines.{ended};
+ghost use Rattle.auditor_cli.specs.Listed.{ComparesNone, IsAudited, IsComparedLine, IsComparedPair, IsPair, NamesNone, TellsLine, TellsLines, TellsList, compared_parts, cut, is_path, is_tab, list_path, parts_of};
+ghost use Rattle.auditor_cli.specs.Reads.{IsGrown, IsReadFirst};
+
+use crate::audited::audit_read;
+use crate::compared::compare_read;
+use crate::files::ReadFiles;
+use crate::status::{DONE, REFUSED};
+use crate::telling::{tell_unread, write_line};
+use best_known::BestKnown;
+use command_line::Paths;
+use plan_types::Kind;
+use std::alloc::Global;
+use std::io::Write;
+use std::{io, str};
+use text_lines::Lines;
+
+// An instance and a solution, by their paths, and a best-known cost of the instance.
+#[derive(Debug, Drop)]
+struct ComparedPair<'a> {
+    instance: &'a str,
+    solution: &'a str,
+    best: BestKnown,
+}
+
+/// Reads a list, and audits the pair that each of its lines names, as `audit_read` does. Gives the greatest status.
+pub fn audits_read<F: ReadFiles, W: Write>(
+    alloc: Global,
+    kind: Kind,
+    list: &str,
+    files: &mut F,
+    output: &mut W,
+) -> io::Result<u8>
+    ensures status { IfOk result (λ status. status ≤ 4) }
+    ensures reads { IsReadFirst (list_path list.now) (F.reads files.old) (F.reads files.new) }
+    ensures told { IfOk result (TellsList kind list.now (F.reads files.old) (F.reads files.new)
+        (W.contents output.old) (W.contents output.new)) }
+{
+    let path = list_path(list);
+    match files.read(path) {
+        Ok(text) => audit_lines(alloc, kind, Lines::new(&text), files, output),
+        Err(error) => tell_unread(output, path, error.kind()),
+    }
+}
+
+/// The path by which the list is read.
+pub fn list_path(list: &str) -> &str
+    ensures { result.now ≡ list_path list.now }
+{
+    if list == "-" { "/dev/stdin" } else { list }
+}
+
+// Audits the pair that each line names, and tells it before it goes on.
+fn audit_lines<F: ReadFiles, W: Write>(
+    alloc: Global,
+    kind: Kind,
+    lines: Lines<'_>,
+    files: &mut F,
+    output: &mut W,
+) -> io::Result<u8>
+    ensures status { IfOk result (λ status. status ≤ 4) }
+    ensures reads { IsGrown (F.reads files.old) (F.reads files.new) }
+    ensures told { IfOk result (TellsLines (IsAudited kind) lines.entry
+        (F.reads files.old) (F.reads files.new)
+        (W.contents output.old) (W.contents output.new)) }
+{
+    let mut greatest = DONE;
+    for line in lines {
+        let status = audit_line(alloc, kind, line, files, output)?;
+        greatest = greater(greatest, status);
+    }
+    Ok(greatest)
+}
+
+/// The greater status.
+pub fn greater(one: u8, other: u8) -> u8
+    requires { (one ≤ 4) × (other ≤ 4) }
+    ensures value { max one other ≡ result }
+    ensures bound { result ≤ 4 }
+{
+    if one < other { other } else { one }
+}
+
+// Tells the audit of the pair that the line names, and flushes it.
+fn audit_line<F: ReadFiles, W: Write>(
+    alloc: Global,
+    kind: Kind,
+    line: &[u8],
+    files: &mut F,
+    output: &mut W,
+) -> io::Result<u8>
+    ensures status { IfOk result (λ status. status ≤ 4) }
+    ensures reads { IsGrown (F.reads files.old) (F.reads files.new) }
+    ensures told { IfOk result (TellsLine (IsAudited kind) line.now
+        (F.reads files.old) (F.reads files.new)
+        (W.contents output.old) (W.contents output.new)) }
+{
+    let status = audit_named(alloc, kind, line, files, output)?;
+    output.flush()?;
+    Ok(status)
+}
+
+// Tells the audit of the pair that the line names.
+fn audit_named<F: ReadFiles, W: Write>(
+    alloc: Global,
+    kind: Kind,
+    line: &[u8],
+    files: &mut F,
+    output: &mut W,
+) -> io::Result<u8>
+    ensures status { IfOk result (λ status. status ≤ 4) }
+    ensures reads { IsGrown (F.reads files.old) (F.reads files.new) }
+    ensures told { IfOk result (TellsLine (IsAudited kind) line.now
+        (F.reads files.old) (F.reads files.new)
+        (W.contents output.old) (W.contents output.new)) }
+{
+    let (instance, solution) = match pair_of(line) {
+        Some(pair) => pair,
+        None => return compare_named(alloc, kind, line, files, output),
+    };
+    write!(output, "{instance}\t{solution}\t")?;
+    let paths = Paths {
+        kind,
+        instance,
+        solution,
+    };
+    audit_read(alloc, paths, files, output)
+}
+
+// Tells the audit of the pair that the line names beside the best-known cost that it names.
+fn compare_named<F: ReadFiles, W: Write>(
+    alloc: Global,
+    kind: Kind,
+    line: &[u8],
+    files: &mut F,
+    output: &mut W,
+) -> io::Result<u8>
+    ensures status { IfOk result (λ status. status ≤ 4) }
+    ensures reads { IsGrown (F.reads files.old) (F.reads files.new) }
+    ensures told { IfOk result (TellsLine (IsComparedLine kind) line.now
+        (F.reads files.old) (F.reads files.new)
+        (W.contents output.old) (W.contents output.new)) }
+{
+    let ComparedPair {
+        instance,
+        solution,
+        best,
+    } = match compared_of(kind, line) {
+        Some(compared) => compared,
+        None => return tell_bad_line(output),
+    };
+    write!(output, "{instance}\t{solution}\t")?;
+    let paths = Paths {
+        kind,
+        instance,
+        solution,
+    };
+    compare_read(alloc, paths, &best, files, output)
+}
+
+/// Tells a line that names no pair.
+pub fn tell_bad_line<W: Write>(output: &mut W) -> io::Result<u8>
+    ensures { IfOk result (λ status. (status ≡ 2)
+        × Appends (W.contents output.old) (W.contents output.new) (ended (codes "bad line"))) }
+{
+    write_line(output, b"bad line")?;
+    Ok(REFUSED)
+}
+
+/// The paths of an instance and a solution with a tab between them.
+pub fn pair_of(line: &[u8]) -> Option<(&str, &str)>
+    ensures { MatchOption result (NamesNone line.now) (λ p. IsPair line.now p.0.now p.1.now) }
+{
+    let (instance, solution) = match parts_of(line) {
+        Some(parts) => parts,
+        None => return None,
+    };
+    let Ok(instance) = str::from_utf8(instance) else {
+        return None;
+    };
+    let Ok(solution) = str::from_utf8(solution) else {
+        return None;
+    };
+    Some((instance, solution))
+}
+
+// What stands before and behind the one tab of a line, if neither is empty.
+fn parts_of(line: &[u8]) -> Option<(&[u8], &[u8])>
+    ensures { option_map (λ p. (p.0.now, p.1.now)) result ≡ parts_of line.now }
+{
+    let (instance, rest) = line.split_at(tab_at(line));
+    match rest {
+        [] => None,
+        [_, solution @ ..] => {
+            if is_path(instance) && is_path(solution) {
+                return Some((instance, solution));
+            }
+            None
+        }
+    }
+}
+
+fn is_path(path: &[u8]) -> bool
+    ensures { result ≡ is_path path.now }
+{
+    !path.is_empty() && tab_at(path) == path.len()
+}
+
+// The paths of an instance and a solution, and a best-known cost, with tabs between them.
+fn compared_of(kind: Kind, line: &[u8]) -> Option<ComparedPair<'_>>
+    ensures { MatchOption result (ComparesNone kind line.now)
+        (λ c. IsComparedPair kind line.now c.instance.now c.solution.now c.best) }
+{
+    let (instance, solution, best) = match compared_parts(kind, line) {
+        Some(parts) => parts,
+        None => return None,
+    };
+    let Ok(instance) = str::from_utf8(instance) else {
+        return None;
+    };
+    let Ok(solution) = str::from_utf8(solution) else {
+        return None;
+    };
+    Some(ComparedPair {
+        instance,
+        solution,
+        best,
+    })
+}
+
+// The columns of a line with two tabs, if neither path is empty and the last one is a best-known cost.
+fn compared_parts(kind: Kind, line: &[u8]) -> Option<(&[u8], &[u8], BestKnown)>
+    ensures { option_map (λ p. (p.0.now, p.1.now, p.2)) result ≡ compared_parts kind line.now }
+{
+    let Some((instance, rest)) = cut(line) else {
+        return None;
+    };
+    let Some((solution, column)) = cut(rest) else {
+        return None;
+    };
+    if instance.is_empty() || solution.is_empty() {
+        return None;
+    }
+    let Some(best) = BestKnown::read(kind, column) else {
+        return None;
+    };
+    Some((instance, solution, best))
+}
+
+// What stands before and behind the first tab.
+fn cut(text: &[u8]) -> Option<(&[u8], &[u8])>
+    ensures { option_map (λ p. (p.0.now, p.1.now)) result ≡ cut text.now }
+{
+    let (front, rest) = text.split_at(tab_at(text));
+    match rest {
+        [] => None,
+        [_, behind @ ..] => Some((front, behind)),
+    }
+}
+
+fn is_tab(byte: u8) -> bool
+    ensures { result ≡ is_tab byte }
+{
+    byte == b'\t'
+}
+
+// How many bytes stand before the first tab, or all of them.
+fn tab_at(line: &[u8]) -> usize
+    ensures value { result ≡ position_or_len is_tab line.now }
+    ensures bound { result ≤ length line.now }
+{
+    line.iter()
+        .position(|byte| is_tab(*byte))
+        .unwrap_or(line.len())
+}
