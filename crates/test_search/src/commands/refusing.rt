@@ -25,6 +25,17 @@ fn refusal(alloc: Global, state: &State, step: Step) -> Option<Refusal> {
     if told == same { Some(told) } else { None }
 }
 
+/// Commands whose counts are refused too, but behind this.
+const BEFORE_A_LOAD: [Step; 2] = [Step::Search(0), Step::Anneal(0)];
+
+#[test]
+fn of_what_is_not_loaded(rt: HostRuntime) {
+    for step in BEFORE_A_LOAD {
+        let told = refusal(rt.alloc(), &State::Empty, step);
+        assert!(rt; told == Some(Refusal::NoInstance));
+    }
+}
+
 // The refusal of a command on two pairs with a plan.
 fn refusal_of(alloc: Global, step: Step) -> Result<Option<Refusal>, Fail> {
     let state = after(alloc, loaded(alloc, Given::Pairs)?, &[Step::Build])?;
