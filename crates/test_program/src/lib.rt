@@ -1,25 +1,15 @@
-//! Tests alone: worked examples over the public functions of `anneal_stages`, `best_known`, `command_text`,
-//! `command_serving`, `plan_solve` and `planner_cli`, which have no tests of their own.
+//! Tests alone: worked examples over the public functions of `best_known`, `command_text` and `command_serving`,
+//! which have no tests of their own, where the program can't be asked from outside.
 //!
-//! Values come from outside; one audit has 40,000 customers. Proved is nothing beyond that no step fails. The words
-//! of the program itself are run by `run_words`.
+//! Values come from outside. Proved is nothing beyond that no step fails. What the program answers to words, files and
+//! lines is asked of the built program by `tests/program.py`, and by `run_words`.
 //!
-//! In reading order: `words`, `commands`, `questions`, `strict`, `audits`, `gaps`, `stages`, `solving`.
+//! In reading order: `lines`, `strict`, `gaps`.
 #![tactic(auto)]
 
 #[cfg(test)]
-mod audits;
-#[cfg(test)]
-mod commands;
-#[cfg(test)]
 mod gaps;
 #[cfg(test)]
-mod questions;
-#[cfg(test)]
-mod solving;
-#[cfg(test)]
-mod stages;
+mod lines;
 #[cfg(test)]
 mod strict;
-#[cfg(test)]
-mod words;

@@ -67,12 +67,46 @@ fn opposite(alloc: Global, kind: Kind) -> Result<Problem, Fail> {
     Ok(problem)
 }
 
-// The last two numbers but one, as a pair.
-fn last_numbers(alloc: Global) -> Result<Problem, Fail> {
-    let depot = stop_at(0, (0, 0), 0, 100);
-    let mut problem = Problem::new(alloc, Kind::LiLim, depot, 10, 1)?;
-    let pickup = stop_at(39_998, (1, 1), 1, 50);
-    problem.put(Request::Pair(pickup, stop_at(39_999, (1, 1), -1, 50)))?;
+/// Six pairs, the pickup first: place, goods and window.
+const PAIRS: [(i32, i32, i32, u32, u32); 12] = [
+    (10, 10, 4, 0, 100),
+    (20, 12, -4, 10, 200),
+    (-10, 12, 6, 20, 90),
+    (-22, 8, -6, 30, 220),
+    (8, -15, 3, 0, 80),
+    (14, -22, -3, 40, 180),
+    (-9, -14, 7, 10, 120),
+    (-20, -19, -7, 20, 200),
+    (2, 25, 5, 0, 150),
+    (-5, 31, -5, 30, 260),
+    (28, 2, 2, 40, 140),
+    (31, -6, -2, 50, 300),
+];
+
+// The stop of this index among the pairs; it takes a time of 5.
+fn paired(index: usize) -> Stop {
+    match PAIRS.get(index) {
+        Some((x, y, demand, earliest, latest)) => Stop {
+            number: (index as u32).saturating_add(1),
+            x: *x,
+            y: *y,
+            demand: *demand,
+            earliest: *earliest,
+            latest: *latest,
+            service: 5,
+        },
+        None => stop_at(0, (0, 0), 0, 0),
+    }
+}
+
+// The six pairs, with a fleet of so many.
+fn six_pairs(alloc: Global, fleet: u32) -> Result<Problem, Fail> {
+    let depot = stop_at(0, (0, 0), 0, 400);
+    let mut problem = Problem::new(alloc, Kind::LiLim, depot, 10, fleet)?;
+    for pair in 0..6 {
+        let request = Request::Pair(paired(2 * pair), paired(2 * pair + 1));
+        problem.put(request)?;
+    }
     Ok(problem)
 }
 
@@ -84,7 +118,8 @@ pub(crate) enum Given {
     Pairs,
     ThreePairs,
     Opposite(Kind),
-    LastNumbers,
+    /// Six pairs, with a fleet of so many.
+    SixPairs(u32),
 }
 
 /// Four customers, with a fleet of four.
@@ -113,7 +148,7 @@ pub(crate) fn problem_of(alloc: Global, given: Given) -> Result<Problem, Fail> {
         Given::Pairs => pairs(alloc),
         Given::ThreePairs => three_pairs(alloc),
         Given::Opposite(kind) => opposite(alloc, kind),
-        Given::LastNumbers => last_numbers(alloc),
+        Given::SixPairs(fleet) => six_pairs(alloc, fleet),
     }
 }
 

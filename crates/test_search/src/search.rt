@@ -1,10 +1,7 @@
 //! The words of the search's steps, and what steps find.
-ghost use Rattle.std.specs.Prelude.{◌≡◌, ◌<◌, ◌^◌, true};
-ghost use Rattle.plan_audit.specs.Passes.{passes};
-
-use crate::builders::{FOUR, Given, is_passing, pins_of, plan_of, problem_of, stops_of};
-use plan_types::{OutOfMemory, Pins, Plan, Problem};
-use seeded_search::{Found, pick, search_step, search_steps, words};
+use crate::builders::{FOUR, Given, is_passing, pins_of, plan_of, problem_of};
+use crate::walks::{Example, Walk, both, first_broken, found};
+use seeded_search::{pick, search_step, words};
 use std::alloc::Global;
 use std::test::Fail;
 
@@ -83,75 +80,24 @@ fn picks(rt: HostRuntime) {
     assert_eq!(rt; pick(0, u32::MAX), 0);
 }
 
-// The routes of the incumbent, and then those of the working plan, each ended by a 0.
-fn both(alloc: Global, found: &Found) -> Result<Vec<u32>, Fail> {
-    let mut stops = stops_of(alloc, &found.plan.routes)?;
-    stops.extend_from_slice(&stops_of(alloc, &found.work.routes)?)?;
-    Ok(stops)
-}
-
-// What so many steps from this one on find by seed 0, if there may be so many.
-fn steps_from(
-    alloc: Global,
-    problem: &Problem,
-    pins: &Pins,
-    plan: &Plan,
-    deviation: u32,
-    steps: (u64, u64),
-) -> Result<Option<Found>, OutOfMemory>
-    requires { passes problem.now pins.now.routes plan.now.routes ≡ true }
-{
-    let (step, count) = steps;
-    if step < 1 << 60 && count <= (1 << 60) - step {
-        let found = search_steps(alloc, problem, pins, plan, plan, deviation, 0, step, count)?;
-        return Ok(Some(found));
+// Whether the first step finds the better plan, as incumbent and working plan.
+fn is_bettered(alloc: Global) -> Result<bool, Fail> {
+    let problem = problem_of(alloc, FOUR)?;
+    let plan = plan_of(alloc, &[1, 0, 2, 3, 0, 4, 0, 0])?;
+    let pins = pins_of(alloc, &[])?;
+    if !is_passing(alloc, &problem, &pins, &plan)? {
+        return Ok(false);
     }
-    Ok(None)
-}
-
-// What steps find from one plan as incumbent and working plan; nothing where it doesn't pass.
-fn found(
-    alloc: Global,
-    problem: &Problem,
-    pins: &[u32],
-    plan: &[u32],
-    deviation: u32,
-    steps: (u64, u64),
-) -> Result<Vec<u32>, Fail> {
-    let pins = pins_of(alloc, pins)?;
-    let plan = plan_of(alloc, plan)?;
-    if !is_passing(alloc, problem, &pins, &plan)? {
-        return Ok(Vec::new(alloc));
-    }
-    match steps_from(alloc, problem, &pins, &plan, deviation, steps)? {
-        Some(found) => both(alloc, &found),
-        None => Ok(Vec::new(alloc)),
-    }
+    let found = search_step(alloc, &problem, &pins, &plan, &plan, 0, 0, 0)?;
+    let better = [1, 0, 0, 4, 2, 3, 0, 0, 1, 0, 0, 4, 2, 3, 0, 0];
+    Ok(both(alloc, &found)?.as_slice() == better.as_slice())
 }
 
 #[test]
 fn one_step(rt: HostRuntime) -> Result<(), Fail> {
-    let alloc = rt.alloc();
-    let problem = problem_of(alloc, FOUR)?;
-    let plan = plan_of(alloc, &[1, 0, 2, 3, 0, 4, 0, 0])?;
-    let pins = pins_of(alloc, &[])?;
-    assert!(rt; is_passing(alloc, &problem, &pins, &plan)?);
-    let found = search_step(alloc, &problem, &pins, &plan, &plan, 0, 0, 0)?;
-    let better = [1, 0, 0, 4, 2, 3, 0, 0, 1, 0, 0, 4, 2, 3, 0, 0];
-    assert_eq!(rt; both(alloc, &found)?.as_slice(), better.as_slice());
+    assert!(rt; is_bettered(rt.alloc())?);
     Ok(())
 }
-
-/// A problem, pins, a plan, a deviation, a first step, how many steps, and the routes found: those of the incumbent, and then those of
-/// the working plan.
-type Example = (
-    Given,
-    &'static [u32],
-    &'static [u32],
-    u32,
-    (u64, u64),
-    &'static [u32],
-);
 
 const THREE: Given = Given::Customers(1_000, 3, &[(0, 10, 1), (1, 1, 1), (-1, -1, 1)]);
 
@@ -165,8 +111,7 @@ const EXAMPLES: [Example; 6] = [
         FOUR,
         &[],
         &[1, 0, 0, 4, 2, 3, 0, 0],
-        0,
-        (0, 1),
+        Walk::Search(0, (0, 1)),
         &[1, 0, 0, 4, 2, 3, 0, 0, 1, 0, 0, 4, 2, 3, 0, 0],
     ),
     // A worse plan is walked on from within the deviation.
@@ -174,16 +119,14 @@ const EXAMPLES: [Example; 6] = [
         THREE,
         &[],
         &[1, 0, 2, 0, 3, 0],
-        0,
-        (0, 1),
+        Walk::Search(0, (0, 1)),
         &[1, 0, 2, 0, 3, 0, 1, 0, 2, 0, 3, 0],
     ),
     (
         THREE,
         &[],
         &[1, 0, 2, 0, 3, 0],
-        1,
-        (0, 1),
+        Walk::Search(1, (0, 1)),
         &[1, 0, 2, 0, 3, 0, 1, 0, 0, 3, 2, 0],
     ),
     // Without a request that can be moved the ends alone are exchanged, and behind pins of whole routes there are none.
@@ -191,23 +134,17 @@ const EXAMPLES: [Example; 6] = [
         BY_TWO,
         &[1, 3, 0, 2, 0],
         &[1, 3, 0, 2, 0],
-        100,
-        (0, 20),
+        Walk::Search(100, (0, 20)),
         &[1, 3, 0, 2, 0, 1, 3, 0, 2, 0],
     ),
     // A list without requests gives no candidate, though one waits to be planned.
-    (ONE, &[], &[0], 0, (0, 20), &[0, 0]),
-    (ONE, &[], &[1, 0], 0, (0, 20), &[1, 0, 1, 0]),
+    (ONE, &[], &[0], Walk::Search(0, (0, 20)), &[0, 0]),
+    (ONE, &[], &[1, 0], Walk::Search(0, (0, 20)), &[1, 0, 1, 0]),
 ];
 
 #[test]
 fn steps(rt: HostRuntime) -> Result<(), Fail> {
-    let alloc = rt.alloc();
-    for (given, pins, plan, deviation, steps, expected) in EXAMPLES {
-        let problem = problem_of(alloc, given)?;
-        let stops = found(alloc, &problem, pins, plan, deviation, steps)?;
-        assert_eq!(rt; stops.as_slice(), expected);
-    }
+    assert_eq!(rt; first_broken(rt.alloc(), &EXAMPLES)?, None);
     Ok(())
 }
 
@@ -215,19 +152,20 @@ fn steps(rt: HostRuntime) -> Result<(), Fail> {
 fn goes_on(alloc: Global, first: u64) -> Result<bool, Fail> {
     let problem = problem_of(alloc, FOUR)?;
     let plan = [1, 0, 0, 4, 2, 3, 0, 0];
-    let begun = found(alloc, &problem, &[], &plan, 0, (first, 1))?;
+    let begun = found(alloc, &problem, &[], &plan, Walk::Search(0, (first, 1)))?;
     let (Some(best), Some(work)) = (begun.get(..8), begun.get(8..)) else {
         return Ok(false);
     };
-    let ended = found(alloc, &problem, &[], best, 0, (first.saturating_add(1), 1))?;
-    Ok(best == work && ended == found(alloc, &problem, &[], &plan, 0, (first, 2))?)
+    let next = Walk::Search(0, (first.saturating_add(1), 1));
+    let ended = found(alloc, &problem, &[], best, next)?;
+    let at_once = found(alloc, &problem, &[], &plan, Walk::Search(0, (first, 2)))?;
+    Ok(best == work && ended == at_once)
 }
 
 #[test]
 fn steps_go_on_where_others_end(rt: HostRuntime) -> Result<(), Fail> {
-    let alloc = rt.alloc();
-    assert!(rt; goes_on(alloc, 0)?);
-    assert!(rt; goes_on(alloc, (1 << 32) - 1)?);
-    assert!(rt; goes_on(alloc, (1 << 60) - 2)?);
+    assert!(rt; goes_on(rt.alloc(), 0)?);
+    assert!(rt; goes_on(rt.alloc(), (1 << 32) - 1)?);
+    assert!(rt; goes_on(rt.alloc(), (1 << 60) - 2)?);
     Ok(())
 }

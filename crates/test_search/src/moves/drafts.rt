@@ -135,14 +135,18 @@ fn told(
     Ok(stops)
 }
 
+// Whether the example's edit is told.
+fn is_edited(alloc: Global, example: &Example) -> Result<bool, Fail> {
+    let (given, plan, made, is_taken, expected) = *example;
+    let problem = problem_of(alloc, given)?;
+    let plan = plan_of(alloc, plan)?;
+    Ok(told(alloc, &problem, &plan, made, is_taken)?.as_slice() == expected)
+}
+
 #[test]
 fn drafts_edited(rt: HostRuntime) -> Result<(), Fail> {
-    let alloc = rt.alloc();
-    for (given, plan, made, is_taken, expected) in EXAMPLES {
-        let problem = problem_of(alloc, given)?;
-        let plan = plan_of(alloc, plan)?;
-        let told = told(alloc, &problem, &plan, made, is_taken)?;
-        assert_eq!(rt; told.as_slice(), expected);
+    for example in &EXAMPLES {
+        assert!(rt; is_edited(rt.alloc(), example)?);
     }
     Ok(())
 }

@@ -137,15 +137,17 @@ const EXAMPLES: [Example; 5] = [
     (Given::Pairs, &[1, 2, 0], &[1, 2, 0], &[]),
 ];
 
+// Whether the example's tables are built anew.
+fn is_built_anew(alloc: Global, example: &Example) -> Result<bool, Fail> {
+    let (given, before, after, vehicles) = *example;
+    let problem = problem_of(alloc, given)?;
+    is_refreshed(alloc, &problem, before, after, vehicles)
+}
+
 #[test]
 fn tables_built_anew(rt: HostRuntime) -> Result<(), Fail> {
-    let alloc = rt.alloc();
-    for (given, before, after, vehicles) in EXAMPLES {
-        let problem = problem_of(alloc, given)?;
-        assert!(rt;
-            is_refreshed(alloc, &problem, before, after, vehicles)?,
-            "{after:?}"
-        );
+    for example in &EXAMPLES {
+        assert!(rt; is_built_anew(rt.alloc(), example)?);
     }
     Ok(())
 }

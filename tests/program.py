@@ -1,0 +1,689 @@
+#!/usr/bin/env python3
+"""Asks the built program small things, whose answers are worked by hand or come from another program.
+
+1. audit: rule by rule, texts that are refused, and one route of 40,000 customers.
+2. Words: what they ask for, which numbers are taken, and how other words are refused.
+3. Lines of run: which are read, over an empty store and over a loaded one; lines that are too long, and `load` in them.
+4. Sessions: pins, routes and next numbers as they are shown; timetables, and why a request is where it is; refusals.
+5. Steps: their pieces, how far `reach` goes, and the stages of annealing, made by hand, and cut and said again.
+6. solve: plans, what is left out, and tries of a smaller fleet.
+
+Wants the program that rt ci leaves.
+"""
+import os
+import shutil
+import subprocess
+import sys
+import tempfile
+
+TOP = os.path.dirname(os.path.dirname(os.path.abspath(__file__)))
+PROGRAM = os.path.join(TOP, "crates", "planner", "out", "planner")
+STORE_BYTES = 4_326_400
+
+# One pickup and its delivery, at (3, 4) and (6, 8), from a depot at (0, 0): a way of 5 + 5 + 10. In turn the delivery's latest start,
+# the depot's latest return, the capacity and the delivery's partner are others.
+ONE_PAIR = "2 10 1\n0 0 0 0 0 100 0 0 0\n1 3 4 4 0 50 2 0 2\n2 6 8 -4 0 60 2 1 0\n"
+LATEST_11 = ONE_PAIR.replace("0 60 2 1 0", "0 11 2 1 0")
+LATEST_12 = ONE_PAIR.replace("0 60 2 1 0", "0 12 2 1 0")
+RETURN_23 = ONE_PAIR.replace("0 100 0 0 0", "0 23 0 0 0")
+RETURN_24 = ONE_PAIR.replace("0 100 0 0 0", "0 24 0 0 0")
+CAPACITY_3 = ONE_PAIR.replace("2 10 1", "2 3 1")
+OTHER_PICKUP = ONE_PAIR.replace("0 60 2 1 0", "0 60 2 3 0")
+BOTH = "Route #1: 1 2\nCost 20\n"
+
+# The same for one vehicle and for two, with a pair farther away: the first stops of both are too late behind the other.
+LATE_PAIR = "1 10 1\n0 0 0 0 0 100 0 0 0\n1 3 4 4 0 6 2 0 2\n2 6 8 -4 0 60 2 1 0\n3 -6 8 4 0 10 2 0 4\n4 -9 12 -4 0 20 2 3 0\n"
+LATE_PAIR_FOR_TWO = LATE_PAIR.replace("1 10 1", "2 10 1", 1)
+
+# Two pairs on two places. Stop 3 lies 3 from the depot and is due at 2, so it can be served behind stop 1 alone.
+TWO_PAIRS = "1 10 1\n0 0 0 0 0 100 0 0 0\n1 1 1 1 0 50 0 0 2\n2 1 1 -1 0 50 0 1 0\n3 2 2 1 0 2 0 0 4\n4 2 2 -1 0 50 0 3 0\n"
+
+# A pair at one place.
+ONE_PLACE = "1 10 1\n0 0 0 0 0 100 0 0 0\n1 1 1 1 0 50 0 0 2\n2 1 1 -1 0 50 0 1 0\n"
+
+# Two pairs that one vehicle can't serve both: stop 3 has to be reached by 12, and 14 lie between it and stop 1. Then a vehicle
+# that takes 10, and a day that ends at 30, where both pairs take until 34.
+APART = "1 20 1\n0 0 0 0 0 100 0 0 0\n1 10 0 5 0 10 0 0 2\n2 10 0 -5 0 50 0 1 0\n3 0 10 6 0 12 0 0 4\n4 0 10 -6 0 50 0 3 0\n"
+SMALL_VEHICLE = APART.replace("1 20 1", "1 10 1", 1)
+SHORT_DAY = "1 20 1\n0 0 0 0 0 30 0 0 0\n1 10 0 5 0 90 0 0 2\n2 10 0 -5 0 90 0 1 0\n3 0 10 6 0 90 0 0 4\n4 0 10 -6 0 90 0 3 0\n"
+
+# A pair that no vehicle can serve: too heavy, then too far, then too far from the depot.
+TOO_HEAVY = "1 10 1\n0 0 0 0 0 100 0 0 0\n1 10 0 11 0 50 0 0 2\n2 10 0 -11 0 50 0 1 0\n"
+TOO_FAR = "1 10 1\n0 0 0 0 0 100 0 0 0\n1 10 0 1 0 8 0 0 2\n2 10 0 -1 0 50 0 1 0\n"
+TOO_LONG = "1 10 1\n0 0 0 0 0 15 0 0 0\n1 10 0 1 0 50 0 0 2\n2 10 0 -1 0 50 0 1 0\n"
+
+# A pair of the last numbers but one.
+LAST_NUMBERS = "1 10 1\n0 0 0 0 0 100 0 0 0\n39998 1 1 1 0 50 0 0 39999\n39999 1 1 -1 0 50 0 39998 0\n"
+
+# Four pairs: the plan that is built has three vehicles, and two are enough.
+FOUR_PAIRS = (
+    "4 4 1\n0 0 0 0 0 60 0 0 0\n1 -2 -5 1 7 26 1 0 2\n2 5 0 -1 16 35 1 1 0\n3 -6 0 3 2 7 1 0 4\n4 2 -2 -3 16 21 1 3 0\n"
+    "5 -1 -2 1 17 24 1 0 6\n6 6 -4 -1 25 32 1 5 0\n7 -6 4 1 30 42 1 0 8\n8 6 -2 -1 36 48 1 7 0\n"
+)
+
+
+def vrp(capacity, places, demands):
+    """A .vrp text, the depot first."""
+    lines = ["NAME : some", "TYPE : CVRP", f"DIMENSION : {len(places)}", "EDGE_WEIGHT_TYPE : EUC_2D", f"CAPACITY : {capacity}", "NODE_COORD_SECTION"]
+    lines += [f"{at} {x} {y}" for at, (x, y) in enumerate(places, 1)]
+    lines += ["DEMAND_SECTION"] + [f"{at} {demand}" for at, demand in enumerate(demands, 1)]
+    return "\n".join(lines + ["DEPOT_SECTION", "1", "-1", "EOF", ""])
+
+
+# Three customers, two of whom fit into one vehicle; one of them half a unit off; a limit of distance.
+THREE_CUSTOMERS = vrp(10, [(0, 0), (3, 4), (6, 8), (0, 5)], [0, 6, 4, 5])
+HALF_A_UNIT = THREE_CUSTOMERS.replace("2 3 4", "2 30.5 4")
+A_LIMIT = "NAME : t3\nTYPE : CVRP\nDIMENSION : 4\nEDGE_WEIGHT_TYPE : EUC_2D\nCAPACITY : 10\nDISTANCE : 200\n"
+
+# Six customers around a depot, for vehicles of 4.
+SIX = vrp(4, [(0, 0), (3, 4), (6, 8), (-3, 4), (-6, 8), (0, 5), (9, 1)], [0, 2, 2, 1, 1, 3, 2])
+
+AUDITS = [
+    ("lilim", ONE_PAIR, BOTH, "pass 0 1 20", 0),
+    ("lilim", ONE_PAIR, "Route #1: 2 1\nCost 20\n", "broken 5 route 1 place 1 stop 2", 1),
+    ("lilim", LATEST_11, BOTH, "broken 7 route 1 place 2 stop 2", 1),
+    ("lilim", LATEST_12, BOTH, "pass 0 1 20", 0),
+    ("lilim", RETURN_23, BOTH, "broken 8 route 1 place 3 stop 0", 1),
+    ("lilim", RETURN_24, BOTH, "pass 0 1 20", 0),
+    ("lilim", CAPACITY_3, BOTH, "broken 6 route 1 place 1 stop 1", 1),
+    ("lilim", ONE_PAIR, "Route #1: 1\nCost 10\n", "broken 3 route 1 place 1 stop 2", 1),
+    ("lilim", ONE_PAIR, "Cost 0\n", "broken 3 route 0 place 0 stop 1", 1),
+    ("lilim", ONE_PAIR, "Route #1: 1\nRoute #2: 2\nCost 30\n", "broken 4 route 1 place 1 stop 1", 1),
+    ("lilim", ONE_PAIR, "Route #1: 1 2 1\nCost 20\n", "broken 2 route 1 place 3 stop 1", 1),
+    ("lilim", LATEST_11, "Route #1: 1 2\nRoute #2: 9\nCost 20\n", "broken 1 route 2 place 1 stop 9", 1),
+    ("lilim", "", BOTH, "instance Truncated 1", 2),
+    ("lilim", OTHER_PICKUP, BOTH, "instance PairMismatch 3", 2),
+    ("lilim", ONE_PAIR, "Route #1: 1\nRoute #2: 2\n", "solution NoCost 3", 2),
+    ("lilim", "", "", "instance Truncated 1", 2),
+    ("vrp", THREE_CUSTOMERS, "Route 1 : 2 1\nroute #2:3\nRoute #3:\nCOST 30\n", "pass 0 0 30", 0),
+    ("vrp", THREE_CUSTOMERS, "Route #1: 1 2 3\nCost 0\n", "broken 6 route 1 place 3 stop 3", 1),
+    ("vrp", THREE_CUSTOMERS, "Route #1: 1 2 3\nRoute #2: 4\n", "solution NoCost 3", 2),
+    ("vrp", HALF_A_UNIT, "", "instance BadNumber 8", 2),
+    ("vrp", A_LIMIT, "", "instance Unsupported 6", 2),
+    ("vrp", "DIMENSION : 40002\n", "", "instance TooManyStops 1", 2),
+    ("vrp", "", "", "instance MissingKey 1", 2),
+]
+
+# Words that ask for something, over files that are there: standard input, status, and how standard output begins (all of it where
+# it is empty).
+A_VRP = ("vrp", "a b.vrp", "c.sol")
+TAKEN = [
+    ([], "", 0, "pass 0 1 20\n"),
+    (["audit", *A_VRP], "", 0, "pass 0 0 30\n"),
+    (["audits", "vrp", "-"], "a b.vrp\tc.sol\n", 0, "a b.vrp\tc.sol\tpass 0 0 30\n"),
+    (["format", "a b.store"], "", 0, "ok\n"),
+    (["run", "a b.store"], "next\nnext\n", 0, "opened 0\nno NoInstance\nno NoInstance\n"),
+    (["run", "a b.store", "strict"], "next\nnext\n", 1, "opened 0\nno NoInstance\n"),
+    (["load", "lilim", "vrp", "a b.vrp", "7"], "", 0, "ok\n"),
+    (["run", "lilim", "strict"], "next\n", 0, "opened 0\nnext 4\nok\n"),
+    (["draw", *A_VRP, "4294967295"], "", 2, ""),
+    (["timetable", "lilim"], "", 0, "pass 3 0 0\n"),
+    (["timetable", *A_VRP, "tabs"], "", 0, "pass 0 0 30\nvehicle\t1\t2\t20\t10\n"),
+    (["draw", "lilim"], "", 0, "<svg "),
+    (["solve", "lilim", "no.txt", "1000000000", "7"], "", 3, ""),
+    (["solve", "vrp", "no.vrp", "5", "7", "1000000000"], "", 3, ""),
+    (["solves", "lilim", "-", "1000000000"], "no.txt\tno.sol\n", 3, "no.txt\tno.sol\tcannot read no.txt\n"),
+    (["solves", "vrp", "-", "0", "18446744073709551615"], "a b.vrp\td.sol\n", 0, "a b.vrp\td.sol\tpass 0 0 30\n"),
+]
+
+# Words that ask for nothing, and how the first line of standard error begins, behind `error: `.
+NOT_GIVEN = "the following required arguments were not provided:"
+BAD_STEPS = "STEPS and DEVIATION are 0 to 1000000000 and SEED 0 to 18446744073709551615, in digits alone"
+BAD_TASKS = "STEPS is 0 to 1000000000 and SEED 0 to 18446744073709551615, in digits alone"
+BAD_DRAWING = "the words are STORE or KIND INSTANCE SOLUTION [ROUTE], KIND is lilim or vrp, and ROUTE a number, in digits alone"
+BAD_TIMETABLE = "the words are STORE [tabs] or KIND INSTANCE SOLUTION [tabs], and KIND is lilim or vrp"
+REFUSED = [
+    (["audit", "lilim", "a"], NOT_GIVEN),
+    (["audit", "lilim", "a", "b", "c"], "unexpected argument 'c' found"),
+    (["audit", "cvrp", "a", "b"], "invalid value 'cvrp' for '<KIND>'"),
+    (["audit", "Vrp", "a", "b"], "invalid value 'Vrp' for '<KIND>'"),
+    (["solve", "lilim", "a"], NOT_GIVEN),
+    (["solve", "lilim", "a", "1000000001"], BAD_STEPS),
+    (["solve", "lilim", "a", "1", "18446744073709551616"], BAD_STEPS),
+    (["solve", "vrp", "a", "1", "2", "1000000001"], BAD_STEPS),
+    (["solve", "vrp", "a", "1", "2", "3", "4"], "unexpected argument '4' found"),
+    (["solves", "lilim", "a.list"], NOT_GIVEN),
+    (["solves", "lilim", "a.list", "1000000001"], BAD_TASKS),
+    (["solves", "vrp", "a.list", "1", "2", "3"], "unexpected argument '3' found"),
+    (["draw"], NOT_GIVEN),
+    (["draw", "lilim", "a"], BAD_DRAWING),
+    (["draw", "Vrp", "a", "b"], BAD_DRAWING),
+    (["draw", "vrp", "a", "b", "4294967296"], BAD_DRAWING),
+    (["draw", "vrp", "a", "b", "first"], BAD_DRAWING),
+    (["draw", "vrp", "a", "b", "1", "2"], "unexpected argument '2' found"),
+    (["check"], "unrecognized subcommand 'check'"),
+    (["--kind", "vrp"], "unexpected argument '--kind' found"),
+    (["run", "a", "b"], "invalid value 'b' for '[strict]'"),
+    (["run", "a", "strict", "b"], "unexpected argument 'b' found"),
+    (["load", "a", "vrp"], NOT_GIVEN),
+    (["format"], NOT_GIVEN),
+    (["upgrade", "a"], NOT_GIVEN),
+    (["timetable", "a", "b"], BAD_TIMETABLE),
+    (["timetable", "Vrp", "a", "b"], BAD_TIMETABLE),
+    (["timetable", "vrp", "a", "b", "tabs", "c"], "unexpected argument 'c' found"),
+]
+NO_SOLUTION = f"error: {NOT_GIVEN}\n  <SOLUTION>\n\nUsage: planner audit <KIND> <INSTANCE> <SOLUTION>\n\nFor more information, try '--help'.\n"
+
+# Lines over an empty store, and what is answered.
+NO_INSTANCE = "no NoInstance\n"
+BAD_LINE = "no BadLine\n"
+RANGE = "no Range\n"
+NO_REQUEST = "no NoSuchRequest\n"
+NO_PLACE = "no NoSuchPlace\n"
+READ_LINES = [
+    ("", ""),
+    (" \t ", ""),
+    ("\r", BAD_LINE),
+    ("build", NO_INSTANCE),
+    ("\tbuild\t ", NO_INSTANCE),
+    ("build\r", BAD_LINE),
+    ("Build", BAD_LINE),
+    ("build 1", BAD_LINE),
+    ("jump", BAD_LINE),
+    ("checkpoint", NO_INSTANCE),
+    ("print", NO_INSTANCE),
+    ("show now", BAD_LINE),
+    ("show", NO_INSTANCE),
+    ("timetable", NO_INSTANCE),
+    ("timetable 3", NO_INSTANCE),
+    ("timetable -1", NO_INSTANCE),
+    ("timetable 1 2", BAD_LINE),
+    ("why 7", NO_INSTANCE),
+    ("why", BAD_LINE),
+    ("next", NO_INSTANCE),
+    ("next 1", BAD_LINE),
+    ("help me", BAD_LINE),
+    ("search 1", NO_INSTANCE),
+    ("search 1000000000", NO_INSTANCE),
+    ("search 0", NO_INSTANCE),
+    ("search +1", BAD_LINE),
+    ("search 1.0", BAD_LINE),
+    ("search", BAD_LINE),
+    ("search 000000000000000000007", BAD_LINE),
+    ("search 18446744073709551616", NO_INSTANCE),
+    ("anneal 1", NO_INSTANCE),
+    ("anneal 0", NO_INSTANCE),
+    ("anneal", BAD_LINE),
+    ("anneal 0 1 2", BAD_LINE),
+    ("reach 1", NO_INSTANCE),
+    ("deviation 4294967295", NO_INSTANCE),
+    ("deviation 4294967296", NO_INSTANCE),
+    ("withdraw 1", NO_INSTANCE),
+    ("pin\t3  4", NO_INSTANCE),
+    ("pin 1 0", NO_INSTANCE),
+    ("unpin 1", NO_INSTANCE),
+    ("add 1 0 0 0 9 0 1 1 0 9 0", NO_INSTANCE),
+    ("add 1 0 0 0 9 0 1 1 0 9", BAD_LINE),
+    ("add 1 0 0 0 9 0 1 1 0 9 0 0", BAD_LINE),
+    ("add1 1 0 0 9 8 0", NO_INSTANCE),
+    (" " * 1024, ""),
+    (" " * 1025, BAD_LINE),
+]
+
+# Lines behind which the next one is done, or is not, and what is answered to them.
+LOADS = [
+    ("load lilim 18446744073709551615 16777216", False, "no Truncated\n"),
+    ("load vrp 0 16777217", False, RANGE),
+    ("load LILIM 0 66", False, BAD_LINE),
+    (f"load lilim 0 {len(OTHER_PICKUP)}\n{OTHER_PICKUP}", True, "no PairMismatch 3\n"),
+    (" " * 1025 + "load", False, BAD_LINE),
+    (" " * 1025 + "load\r", False, BAD_LINE),
+    (" " * 1025 + "load\r\r", True, BAD_LINE),
+    (" " * 1025 + "load\r ", True, BAD_LINE),
+    (" " * 1025 + "loads", True, BAD_LINE),
+    (" " * 1025 + "load\tx", False, BAD_LINE),
+]
+
+FIRST_ROUTE = (
+    "\nvehicle 1: stops 2, distance 20, load 10\n place  stop  kind      partner  arrival     load\n"
+    "     1     2  single          -       10        4 pin\n     2     1  single          -       15       10 pin\n"
+    "     3     0  return          -       20       10\n"
+)
+SECOND_ROUTE = (
+    "\nvehicle 2: stops 1, distance 10, load 5\n place  stop  kind      partner  arrival     load\n"
+    "     1     3  single          -        5        5 pin\n     2     0  return          -       10        5\n"
+)
+FULL_OR_AT = (
+    "\nunplanned 4\nwhy 4: alone: a vehicle can serve it\nwhy 4: vehicle 1: behind stop 1 it would carry 5 too much\n"
+    "why 4: vehicle 2: fits at place %d\nwhy 4: fleet: 2 of 3 vehicles are used\n"
+)
+PAIRS_ROUTE = "vehicle 1: 1 3 4 2\ncost 0 1 4\n"
+BY_TWO = "vehicle 1: 2 1\nvehicle 2: 3\ncost 0 0 30\n"
+
+# An instance, and lines with what is told before `ok`, or all that is told of a refusal.
+SESSIONS = [
+    ("pairs before a plan", "lilim", TWO_PAIRS, [
+        ("show", "requests 2 next 5\nsteps 0 place 0\nunplanned 1\nunplanned 3\ncost 2 0 0\n"),
+        ("timetable", "\nunplanned 1\nwhy 1: alone: a vehicle can serve it\nwhy 1: fleet: 0 of 1 vehicles are used\n"
+            "unplanned 3\nwhy 3: alone: stop 3 starts at 3, latest 2\n"),
+        ("timetable 1", ""),
+        ("timetable 0", RANGE),
+        ("timetable 2", RANGE),
+        ("why 1", "alone: a vehicle can serve it\nfleet: 0 of 1 vehicles are used\n"),
+        ("why 2", NO_REQUEST),
+        ("why 3", "alone: stop 3 starts at 3, latest 2\n"),
+        ("deviation 1000000001", RANGE),
+        ("add1 1 0 0 9 8 0", RANGE),
+    ]),
+    ("pairs without the first", "lilim", TWO_PAIRS, [
+        ("withdraw 1", ""),
+        ("why 3", "alone: stop 3 starts at 3, latest 2\n"),
+    ]),
+    ("pairs, withdrawn by one", "lilim", TWO_PAIRS, [
+        ("build", ""),
+        ("show", "requests 2 next 5\nsteps 0 place 0\n" + PAIRS_ROUTE),
+        ("timetable 1", "\nvehicle 1: stops 4, distance 4, load 2, start 1, return 4, waiting 0\n"
+            " place  stop  kind      partner  arrival    start  waiting   latest     load\n"
+            "     1     1  pickup          2        1        1        0        1        1\n"
+            "     2     3  pickup          4        2        2        0        2        2\n"
+            "     3     4  delivery        3        2        2        0       49        1\n"
+            "     4     2  delivery        1        3        3        0       50        0 pin\n"
+            "     5     0  return          -        4        4        0      100        0\n"),
+        ("why 3", "vehicle 1: stop 3 at place 2 starts at 2\nvehicle 1: stop 4 at place 3 starts at 2\n"),
+        ("why 1", "vehicle 1: stop 1 at place 1 starts at 1\nvehicle 1: stop 2 at place 4 starts at 3\n"),
+        ("pin 1 4", ""),
+        ("show", "requests 2 next 5\nsteps 0 place 0\npin 1: 1 3 4 2\n" + PAIRS_ROUTE),
+        ("withdraw 3", "no Pinned\n"),
+        ("unpin 1", ""),
+        ("show", "requests 2 next 5\nsteps 0 place 0\n" + PAIRS_ROUTE),
+        ("pin 1 4", ""),
+        ("pin 1 0", ""),
+        ("show", "requests 2 next 5\nsteps 0 place 0\n" + PAIRS_ROUTE),
+        # The direct way to stop 3 takes 3, and its latest time is 2.
+        ("withdraw 1", ""),
+        ("show", "requests 1 next 5\nsteps 0 place 0\nunplanned 3\ncost 1 0 0\n"),
+        ("timetable", "\nunplanned 3\nwhy 3: alone: stop 3 starts at 3, latest 2\n"),
+        ("print", "no Unplanned\n"),
+        # The numbers of requests that are gone are not given again.
+        ("withdraw 3", ""),
+        ("add1 1 0 0 0 9 0", ""),
+        ("build", ""),
+        ("show", "requests 1 next 6\nsteps 0 place 0\nvehicle 1: 5\ncost 0 1 0\n"),
+    ]),
+    ("pairs, withdrawn by the second", "lilim", TWO_PAIRS, [
+        ("build", ""),
+        ("pin 1 1", "no NotARoute\n"),
+        ("pin 1 3", "no NotARoute\n"),
+        ("pin 1 5", NO_PLACE),
+        ("pin 2 0", NO_PLACE),
+        ("pin 0 0", NO_PLACE),
+        ("unpin 0", NO_PLACE),
+        ("unpin 2", NO_PLACE),
+        ("withdraw 2", NO_REQUEST),
+        ("withdraw 3", ""),
+        ("show", "requests 1 next 5\nsteps 0 place 0\nvehicle 1: 1 2\ncost 0 1 2\n"),
+    ]),
+    ("next numbers", "lilim", TWO_PAIRS, [
+        ("next", "next 5\n"),
+        ("add 1 1 1 0 9 0 1 1 0 9 0", ""),
+        ("next", "next 7\n"),
+        ("add1 1 1 1 0 9 0", ""),
+        ("next", "next 8\n"),
+        ("withdraw 7", ""),
+        ("next", "next 8\n"),
+    ]),
+    ("the last numbers", "lilim", LAST_NUMBERS, [
+        ("add 1 0 0 0 9 0 0 0 0 9 0", "no NumbersSpent\n"),
+        ("add1 1 0 0 0 9 0", ""),
+        ("next", "next 40001\n"),
+        ("add1 1 0 0 0 9 0", "no NumbersSpent\n"),
+        ("add1 1 0 0 9 8 0", RANGE),
+    ]),
+    ("a pair that would be late", "lilim", APART, [
+        ("build", ""),
+        ("why 3", "alone: a vehicle can serve it\nvehicle 1: stop 3 would start 12 late\nfleet: 1 of 1 vehicles are used\n"),
+        ("add 1 10 0 0 50 0 10 0 0 50 0", ""),
+        ("why 5", "alone: a vehicle can serve it\nvehicle 1: fits at places 1 and 2\nfleet: 1 of 1 vehicles are used\n"),
+        ("pin 1 2", ""),
+        ("why 5", "alone: a vehicle can serve it\nvehicle 1: fits at places 3 and 4\nfleet: 1 of 1 vehicles are used\n"),
+    ]),
+    ("a pair that would be too much", "lilim", SMALL_VEHICLE, [
+        ("build", ""),
+        ("why 3", "alone: a vehicle can serve it\nvehicle 1: behind stop 1 it would carry 1 too much\nfleet: 1 of 1 vehicles are used\n"),
+    ]),
+    ("a pair by which the return would be late", "lilim", SHORT_DAY, [
+        ("build", ""),
+        ("why 3", "alone: a vehicle can serve it\nvehicle 1: would be back 4 late\nfleet: 1 of 1 vehicles are used\n"),
+    ]),
+    ("too heavy alone", "lilim", TOO_HEAVY, [("why 1", "alone: stop 1 needs 11, a vehicle takes 10\n")]),
+    ("too far alone", "lilim", TOO_FAR, [("why 1", "alone: stop 1 starts at 10, latest 8\n")]),
+    ("too long alone", "lilim", TOO_LONG, [("why 1", "alone: back at 20, latest 15\n")]),
+    # Loads of 10 and 5 stand in two routes, and the new customer beside stop 3 has 5. A pin leaves the place behind it alone.
+    ("singles", "vrp", THREE_CUSTOMERS, [
+        ("why 1", "alone: a vehicle can serve it\nfleet: 0 of 3 vehicles are used\n"),
+        ("build", ""),
+        ("why 3", "vehicle 2: stop 3 at place 1\n"),
+        ("timetable 2", SECOND_ROUTE),
+        ("add1 5 0 5 0 9 0", ""),
+        ("timetable", FIRST_ROUTE + SECOND_ROUTE + FULL_OR_AT % 1),
+        ("why 4", "alone: a vehicle can serve it\nvehicle 1: behind stop 1 it would carry 5 too much\nvehicle 2: fits at place 1\n"
+            "fleet: 2 of 3 vehicles are used\n"),
+        ("pin 2 1", ""),
+        ("timetable", FIRST_ROUTE + SECOND_ROUTE + FULL_OR_AT % 2),
+        ("unpin 2", ""),
+        ("build", ""),
+        ("why 4", "vehicle 2: stop 4 at place 1\n"),
+    ]),
+    ("a search", "vrp", THREE_CUSTOMERS, [
+        ("build", ""),
+        ("show", "requests 3 next 4\nsteps 0 place 0\n" + BY_TWO),
+        ("search 1", "at 1 0 0 30\n"),
+        ("checkpoint", ""),
+        ("show", "requests 3 next 4\nsteps 1 place 16\n" + BY_TWO),
+        ("deviation 7", ""),
+        ("show", "requests 3 next 4\nsteps 1 place 16\n" + BY_TWO + "deviation 7\nwork 0 0 30\n"),
+        ("print", "Route #1: 2 1\nRoute #2: 3\nCost 30\n"),
+    ]),
+    # By another program, which says each annealing step by the letter: the first one leads to the routes 3 2 and 1, of 22 and 10.
+    ("annealing", "vrp", THREE_CUSTOMERS, [
+        ("build", ""),
+        ("deviation 100", ""),
+        ("anneal 1", "at 1 0 0 30\n"),
+        ("show", "requests 3 next 4\nsteps 1 place 16\n" + BY_TWO + "deviation 100\nwork 0 0 32\n"),
+        ("checkpoint", ""),
+        ("anneal 1", "at 2 0 0 30\n"),
+        ("show", "requests 3 next 4\nsteps 2 place 32\nvehicle 1: 1 2\nvehicle 2: 3\ncost 0 0 30\ndeviation 100\nwork 0 0 30\n"),
+    ]),
+    ("longer annealing", "vrp", THREE_CUSTOMERS, [
+        ("build", ""),
+        ("deviation 100", ""),
+        ("anneal 1000", "at 1000 0 0 30\n"),
+        ("show", "requests 3 next 4\nsteps 1000 place 16000\n" + BY_TWO + "deviation 100\nwork 0 0 30\n"),
+    ]),
+    ("an order behind a plan", "vrp", THREE_CUSTOMERS, [
+        ("build", ""),
+        ("add 1 0 0 0 9 0 0 0 0 9 0", ""),
+        ("deviation 5", ""),
+        ("show", "requests 4 next 6\nsteps 0 place 0\nvehicle 1: 2 1\nvehicle 2: 3\nunplanned 4\ncost 1 0 30\ndeviation 5\nwork 1 0 30\n"),
+    ]),
+    ("numbers at their limits", "lilim", TWO_PAIRS, [
+        ("timetable -1", RANGE),
+        ("timetable 3", RANGE),
+        ("why 7", NO_REQUEST),
+        ("why 4294967296", NO_REQUEST),
+        ("search 1000000001", RANGE),
+        ("search 0", RANGE),
+        ("search -0", RANGE),
+        ("search -1", RANGE),
+        ("search -00000000000000000007", RANGE),
+        ("search 18446744073709551616", RANGE),
+        ("search 00000000000000000007", "at 7 2 0 0\n"),
+        ("anneal 1000000001", RANGE),
+        ("anneal 0", RANGE),
+        ("anneal 1", "at 8 2 0 0\n"),
+        ("anneal 7 7", ""),
+        ("anneal 8 7", RANGE),
+        ("anneal 0 1152921504606846976", RANGE),
+        ("anneal 0 1152921504606846977", RANGE),
+        ("reach -0", ""),
+        ("reach 1152921504606846976", RANGE),
+        ("reach 1152921504606846977", RANGE),
+        ("reach 9", "at 9 2 0 0\n"),
+        ("deviation 4294967296", RANGE),
+        ("deviation 1000000001", RANGE),
+        ("deviation 1000000000", ""),
+        ("withdraw -1", NO_REQUEST),
+        ("withdraw 4294967296", NO_REQUEST),
+        ("pin 1 -1", NO_PLACE),
+        ("pin\t3  4", NO_PLACE),
+        ("pin 1 0", ""),
+        ("unpin 99999999999999999999", NO_PLACE),
+        ("unpin -0", NO_PLACE),
+        ("add 1 2147483648 0 0 9 0 1 1 0 9 0", RANGE),
+        ("add1 1 -2147483648 0 9 8 0", RANGE),
+        ("add1 -1 0 0 9 8 0", RANGE),
+        ("\tbuild\t ", ""),
+    ]),
+    # Steps come in pieces of 256, and of 16,384 where they anneal.
+    ("pieces", "vrp", THREE_CUSTOMERS, [
+        ("search 200", "at 200 3 0 0\n"),
+        ("reach 10", ""),
+        ("reach 456", "at 456 3 0 0\n"),
+        ("search 300", "at 712 3 0 0\nat 756 3 0 0\n"),
+        ("search 44", "at 800 3 0 0\n"),
+        ("anneal 16385", "at 17184 3 0 0\nat 17185 3 0 0\n"),
+        ("anneal 1", "at 17186 3 0 0\n"),
+        ("reach 1000017187", RANGE),
+        ("anneal 17187 17200", RANGE),
+        ("anneal 0 1000017187", RANGE),
+        ("anneal 0 17186", ""),
+    ]),
+]
+
+def fifty_pairs():
+    """Fifty pairs that lie around by a rule, for as many vehicles."""
+    lines = ["50 1 1", "0 20 20 0 0 400 0 0 0"]
+    for pair in range(50):
+        number, earliest = 2 * pair + 1, 20 + pair * 27 % 20
+        lines.append(f"{number} {pair * 23 % 41} {pair * 35 % 41} 1 {earliest} {earliest + 10} 0 0 {number + 1}")
+        lines.append(f"{number + 1} {pair * 16 % 41} {pair * 36 % 41} -1 {earliest} {earliest + 70} 0 {number} 0")
+    return "\n".join(lines) + "\n"
+
+
+# The deviation of each stage in hundredths of the mean leg, and what the plan of the six customers costs before the first of seven
+# steps and behind each: the costs are those of another program, which goes through tries and stages by the letter.
+HUNDREDTHS = [150, 122, 99, 81, 66, 54, 44, 35, 29, 24, 19, 16, 13, 10, 8, 7, 6, 5, 4, 3]
+STAGED_COSTS = [66, 65, 65, 65, 65, 65, 63, 63]
+
+# An instance, steps, a deviation or none, how standard error and standard output begin, and the last line: by the same program.
+SOLUTIONS = [
+    ("lilim", ONE_PAIR, 3, None, "at 0 0 1 20\nat 1 0 1 20\nat 2 0 1 20\nat 3 0 1 20\n", BOTH, "Cost 20"),
+    ("lilim", LATE_PAIR, 1, None, "at 0 1 1 20\nat 1 1 1 20\nunplanned 1: 3\n", "Route #1: 1 2\n", "Route #1: 1 2"),
+    ("vrp", SIX, 7, None, "at 0 0 0 66\nat 1 0 0 65\nat 2 0 0 65\nat 3 0 0 65\nat 4 0 0 65\nat 5 0 0 65\nat 6 0 0 63\nat 7 0 0 63\n", "Route", "Cost 63"),
+    ("vrp", SIX, 30, None, "at 0 0 0 66\n", "Route", "Cost 62"),
+    ("vrp", SIX, 2, 3, "at 0 0 0 66\nat 1 0 0 ", "Route", None),
+    ("lilim", FOUR_PAIRS, 40, None, "at 0 0 3 68\nat 20 0 2 65\nat 22 0 2 65\n", "Route", "Cost 65"),
+    # The search goes on from the plan before a try that fails.
+    ("lilim", FOUR_PAIRS, 7, None, "at 0 0 3 68\nat 3 0 3 68\nat 4 0 3 68\nat 5 0 2 70\nat 6 0 2 70\nat 7 0 2 65\n", "Route", "Cost 65"),
+    ("lilim", LATE_PAIR_FOR_TWO, 5, None, "at 0 0 2 50\nat 2 0 2 50\nat 3 0 2 50\nat 4 0 2 50\nat 5 0 2 50\n", "Route #1: ", "Cost 50"),
+    # Two vehicles fewer are tried at once.
+    ("lilim", fifty_pairs(), 200, None, "at 0 0 40 2340\nat 17 0 38 2276\nat 29 0 38 2276\nat 100 0 38 2276\nat 110 0 38 2276\n", "Route", "Cost 2257"),
+]
+
+
+def fail(text):
+    print("program: " + text)
+    sys.exit(1)
+
+
+def expect(what, got, wanted):
+    if got != wanted:
+        fail(f"{what}: {got!r}; wanted {wanted!r}")
+
+
+class Folder:
+    """Where the program runs, with a file of each name that is written."""
+
+    def __init__(self, path):
+        self.path = path
+        self.planner("format", "empty.store")
+
+    def file(self, name):
+        return os.path.join(self.path, name)
+
+    def write(self, name, text):
+        with open(self.file(name), "w", encoding="ascii") as file:
+            file.write(text)
+        return name
+
+    def planner(self, *words, lines=""):
+        """Status, standard output and standard error."""
+        got = subprocess.run([PROGRAM, *words], cwd=self.path, input=lines.encode(), capture_output=True)
+        return got.returncode, got.stdout.decode(), got.stderr.decode()
+
+    def new_store(self):
+        shutil.copyfile(self.file("empty.store"), self.file("day.store"))
+
+    def run(self, lines):
+        """What is answered to the lines behind `opened ..`."""
+        status, text, _ = self.planner("run", "day.store", lines=lines)
+        first, _, rest = text.partition("\n")
+        if status != 0 or not first.startswith("opened "):
+            fail(f"run: status {status}, {first!r}")
+        return rest
+
+
+def check_audits(folder):
+    for kind, instance, solution, line, status in AUDITS:
+        words = ["audit", kind, folder.write("instance", instance), folder.write("solution", solution)]
+        expect(f"the audit of {solution!r}", folder.planner(*words), (status, line + "\n", ""))
+
+
+def check_largest_audit(folder):
+    """40,000 customers at the depot, all in one route."""
+    instance = folder.write("instance", vrp(0, 40_001 * [(0, 0)], 40_001 * [0]))
+    solution = folder.write("solution", "Route #1: " + " ".join(map(str, range(1, 40_001))) + "\nCost 0\n")
+    expect("the audit of 40,000 customers", folder.planner("audit", "vrp", instance, solution), (0, "pass 0 0 0\n", ""))
+
+
+def check_words(folder):
+    folder.write("a b.vrp", THREE_CUSTOMERS)
+    folder.write("c.sol", "Route #1: 2 1\nRoute #2: 3\nCost 30\n")
+    for words, lines, status, output in TAKEN:
+        got = folder.planner(*words, lines=lines)
+        expect(f"status of {words}", got[0], status)
+        expect(f"output of {words}", got[1][: len(output)] if output else got[1], output)
+    expect("bytes of a store", os.path.getsize(folder.file("a b.store")), STORE_BYTES)
+
+
+def check_refused_words(folder):
+    for words, reason in REFUSED:
+        status, output, errors = folder.planner(*words)
+        expect(f"{words}", (status, output, errors.split("\n")[0]), (64, "", "error: " + reason))
+    expect("the whole of what is told", folder.planner("audit", "lilim", "a"), (64, "", NO_SOLUTION))
+    expect("--version", folder.planner("--version"), (0, "planner 0.1.0\n", ""))
+    for words in ["help"], ["audit", "--help"]:
+        status, output, errors = folder.planner(*words)
+        expect(f"{words}", (status, "Usage: planner" in output, errors), (0, True, ""))
+
+
+def check_same_search(folder):
+    """What solve finds by a seed and a deviation is what a store finds by them."""
+    for seed in 7, 2**64 - 1:
+        folder.new_store()
+        text = folder.run(f"load vrp {seed} {len(SIX)}\n{SIX}deviation 1000000000\nbuild\nsearch 5\nprint\n")
+        solved = folder.planner("solve", "vrp", folder.write("six.vrp", SIX), "5", str(seed), "1000000000")
+        expect(f"solve by seed {seed}", solved[1] + "ok\n", text[text.index("Route #1"):])
+
+
+def check_lines(folder):
+    for line, answer in READ_LINES:
+        for end in ["\r\n"] + ["\n"] * (not line.endswith("\r")):
+            folder.new_store()
+            expect(f"the line {line[:80]!r}", folder.run(line + end + "next\n"), answer + NO_INSTANCE)
+    folder.new_store()
+    text = folder.run(" help\n")
+    expect("help", (text.split("\n")[0], text[-4:]), ("Each line asks for one thing:", "\nok\n"))
+
+
+def check_loads(folder):
+    for line, goes_on, answer in LOADS:
+        folder.new_store()
+        expect(f"the line {line[:80]!r}", folder.run(line + "\nnext\n"), answer + NO_INSTANCE * goes_on)
+
+
+def load_line(kind, instance, seed=0):
+    return f"load {kind} {seed} {len(instance)}\n{instance}"
+
+
+def check_sessions(folder):
+    for name, kind, instance, steps in SESSIONS:
+        folder.new_store()
+        text = folder.run(load_line(kind, instance) + "".join(line + "\n" for line, _ in steps))
+        expect(f"{name}: load", text[:3], "ok\n")
+        text = text[3:]
+        for line, told in steps:
+            wanted = told if told.startswith("no ") else told + "ok\n"
+            expect(f"{name}: {line}", text[: len(wanted)], wanted)
+            text = text[len(wanted) :]
+        expect(f"{name}: behind all lines", text, "")
+
+
+def check_strict(folder):
+    """A strict run ends behind a refusal, and does no later line."""
+    folder.new_store()
+    strict = ["run", "day.store", "strict"]
+    lines = load_line("lilim", ONE_PLACE) + "build\nnext\nwithdraw 2\nwithdraw 1\n"
+    told = "opened 0\nok\nok\nnext 3\nok\nno NoSuchRequest\n"
+    expect("strict, a refusal", folder.planner(*strict, lines=lines), (1, told, ""))
+    told = "opened 0\nrequests 1 next 3\nsteps 0 place 0\nvehicle 1: 1 2\ncost 0 1 2\nok\nok\n"
+    expect("strict, behind it", folder.planner(*strict, lines="show\nwithdraw 1\n"), (0, told, ""))
+    folder.new_store()
+    status, text, _ = folder.planner(*strict, lines="help\nnext\nhelp\n")
+    begin, end = "opened 0\nEach line asks for one thing:\n", "\nok\nno NoInstance\n"
+    expect("strict, without an instance", (status, text[: len(begin)], text[-len(end) :]), (1, begin, end))
+
+
+def check_farthest(folder):
+    """As many steps as a line may make are begun."""
+    folder.new_store()
+    folder.run(load_line("vrp", THREE_CUSTOMERS) + "search 200\n")
+    for words, wanted in [
+        (["run", "day.store"], b"opened 200\nat 456 3 0 0\n"),
+        (["solve", "vrp", folder.write("three", THREE_CUSTOMERS), "1000000000"], b"at 0 0 0 30\n"),
+    ]:
+        with subprocess.Popen([PROGRAM, *words], cwd=folder.path, stdin=subprocess.PIPE, stdout=subprocess.PIPE, stderr=subprocess.PIPE) as process:
+            process.stdin.write(b"reach 1000000200\n")
+            process.stdin.flush()
+            told = process.stdout if words[0] == "run" else process.stderr
+            expect(f"the begin of {words}", b"".join(told.readline() for _ in wanted.splitlines()), wanted)
+            process.kill()
+
+
+def stages_by_hand(steps, costs):
+    """The lines of `anneal 0 STEPS` over the six customers, each step with the deviation of its stage: hundredths of a mean leg."""
+    lines = []
+    for step in range(steps):
+        stage = max(k for k in range(20) if steps * k // 20 <= step)
+        lines += [f"deviation {costs[step] * HUNDREDTHS[stage] // (6 * 100)}\n", "anneal 1\n"]
+    return lines
+
+
+def check_stages(folder):
+    """Seven steps have a stage each. Cut behind any command and said again, the line leads to the same state."""
+    begin = load_line("vrp", SIX, seed=1) + "build\n"
+    lines = stages_by_hand(7, STAGED_COSTS)
+    told = [f"at {step} 0 0 {cost}\n" for step, cost in enumerate(STAGED_COSTS)]
+    shown = None
+    for count in range(len(lines) + 1):
+        folder.new_store()
+        folder.run(begin + "".join(lines[:count]))
+        text, _, rest = folder.run("anneal 0 7\nshow\n").partition("ok\n")
+        # A step is made behind each deviation.
+        expect(f"stages behind {count} commands", text, "".join(told[count // 2 + 1 :]))
+        shown = shown or rest
+        expect(f"shown behind stages that were cut behind {count} commands", rest, shown)
+
+
+def check_solutions(folder):
+    for kind, instance, steps, deviation, told, text, last in SOLUTIONS:
+        words = ["solve", kind, folder.write("instance", instance), str(steps), "1"] + [str(deviation)] * (deviation is not None)
+        status, output, errors = folder.planner(*words)
+        expect(f"status of {words}", status, int("unplanned" in told))
+        expect(f"what {words} tells", errors[: len(told)], told)
+        expect(f"what {words} prints", output[: len(text)], text)
+        if last is not None:
+            expect(f"the last line of {words}", output.splitlines()[-1], last)
+
+
+def main():
+    if not os.path.exists(PROGRAM):
+        sys.exit(f"program: {PROGRAM} is not built: run rt ci, or ./planner once")
+    with tempfile.TemporaryDirectory() as path:
+        folder = Folder(path)
+        check_audits(folder)
+        check_largest_audit(folder)
+        check_words(folder)
+        check_refused_words(folder)
+        check_lines(folder)
+        check_loads(folder)
+        check_sessions(folder)
+        check_strict(folder)
+        check_same_search(folder)
+        check_farthest(folder)
+        check_stages(folder)
+        check_solutions(folder)
+    print("program: audits, words, lines, sessions, stages and solutions are answered as they are by hand")
+
+
+main()
