@@ -1,9 +1,8 @@
 //! Texts and problems that more than one of the examples has.
 
-use instance_read::{read_lilim, read_vrp};
+use instance_read::{ReadFault, read_lilim, read_vrp};
 use plan_types::{Kind, Problem};
 use std::alloc::Global;
-use std::test::Fail;
 
 /// One pickup and its delivery: the vehicle serves them at 5 and at 12, and is back at 24.
 pub const ONE_PAIR: &[u8] =
@@ -31,10 +30,10 @@ DEPOT_SECTION
 EOF
 ";
 
-/// The problem of a text in the format of this kind.
-pub fn read_problem(alloc: Global, kind: Kind, text: &[u8]) -> Result<Problem, Fail> {
+/// What a text in the format of this kind is read as.
+pub fn read_instance(alloc: Global, kind: Kind, text: &[u8]) -> Result<Problem, ReadFault> {
     match kind {
-        Kind::LiLim => Ok(read_lilim(alloc, text)?),
-        Kind::Vrp => Ok(read_vrp(alloc, text)?),
+        Kind::LiLim => read_lilim(alloc, text),
+        Kind::Vrp => read_vrp(alloc, text),
     }
 }

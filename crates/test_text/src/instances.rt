@@ -1,7 +1,7 @@
 //! Instances as texts, of both formats.
 
-use crate::builders::{ONE_PAIR, THREE_CUSTOMERS, read_problem};
-use instance_read::{ReadFault, ReadFaultKind, read_lilim, read_vrp};
+use crate::builders::{ONE_PAIR, THREE_CUSTOMERS, read_instance};
+use instance_read::{ReadFault, ReadFaultKind, read_vrp};
 use plan_types::{Kind, Problem, limits};
 use std::alloc::{AllocError, Global};
 use std::test::Fail;
@@ -33,91 +33,113 @@ NODE_COORD_SECTION : x\r
 3\t6\t8\r
 \t4 -0 5";
 
-/// The kind, the fleet, the capacity, the number after the last, how many requests there are, and the depot's demand.
-type Figures = (Kind, u32, u32, u32, usize, i32);
+/// The fleet, the capacity, the number after the last, and how many requests there are.
+type Figures = [usize; 4];
 
-/// The place and the demand of a stop, the end of its window, and the number that names its request.
-type Spot = (i32, i32, i32, u32, Option<u32>);
+/// A number, and of the stop there the place, the demand, the end of its window, and the number that names its request.
+type Spot = (u32, [i64; 5]);
 
 fn figures_of(problem: &Problem) -> Figures {
-    (
-        problem.kind,
-        problem.fleet,
-        problem.capacity,
-        problem.next_number,
+    [
+        problem.fleet as usize,
+        problem.capacity as usize,
+        problem.next_number as usize,
         problem.requests.len(),
-        problem.depot.demand,
-    )
+    ]
 }
 
-fn spot_of(problem: &Problem, number: u32) -> Option<Spot> {
-    match problem.stop(number) {
-        Some(stop) => {
-            let name = problem.name_of(number);
-            Some((stop.x, stop.y, stop.demand, stop.latest, name))
+fn spot_of(problem: &Problem, number: u32) -> Option<[i64; 5]> {
+    let stop = problem.stop(number)?;
+    let name = problem.name_of(number)?;
+    Some([
+        i64::from(stop.x),
+        i64::from(stop.y),
+        i64::from(stop.demand),
+        i64::from(stop.latest),
+        i64::from(name),
+    ])
+}
+
+fn has_spots(problem: &Problem, spots: &[Spot]) -> bool {
+    for (number, spot) in spots {
+        if spot_of(problem, *number) != Some(*spot) {
+            return false;
         }
-        None => None,
+    }
+    true
+}
+
+// Whether a text is read as a problem with these figures and stops, whose depot has no demand and no service.
+fn is_read_as(alloc: Global, kind: Kind, text: &[u8], figures: Figures, spots: &[Spot]) -> bool {
+    match read_instance(alloc, kind, text) {
+        Ok(problem) => {
+            problem.kind == kind
+                && problem.depot.demand == 0
+                && problem.depot.service == 0
+                && figures_of(&problem) == figures
+                && has_spots(&problem, spots)
+        }
+        Err(_) => false,
     }
 }
 
-// What a text is read as: its figures and two of its stops.
-fn reading(
-    alloc: Global,
-    kind: Kind,
-    text: &[u8],
-    stops: (u32, u32),
-) -> Result<(Figures, Option<Spot>, Option<Spot>), Fail> {
-    let problem = read_problem(alloc, kind, text)?;
-    let one = spot_of(&problem, stops.0);
-    let other = spot_of(&problem, stops.1);
-    Ok((figures_of(&problem), one, other))
-}
+/// The stops of the three customers.
+const CUSTOMERS: [Spot; 3] = [
+    (1, [3, 4, 6, 100_000_000, 1]),
+    (2, [6, 8, 4, 100_000_000, 2]),
+    (3, [0, 5, 5, 100_000_000, 3]),
+];
+
+/// Texts, and what they are read as. The depot of the rewritten pairs has a demand and a service, which are not read.
+const READ: [(Kind, &[u8], Figures, &[Spot]); 5] = [
+    (
+        Kind::LiLim,
+        ONE_PAIR,
+        [2, 10, 3, 1],
+        &[(1, [3, 4, 4, 50, 1]), (2, [6, 8, -4, 60, 1])],
+    ),
+    (
+        Kind::LiLim,
+        REWRITTEN_PAIRS,
+        [1, 10, 5, 2],
+        &[(1, [1, 1, 1, 50, 1]), (2, [1, 1, -1, 50, 1])],
+    ),
+    (
+        Kind::LiLim,
+        b"2 10 1\n0 0 0 0 0 100 0 0 0\n",
+        [2, 10, 1, 0],
+        &[],
+    ),
+    (Kind::Vrp, THREE_CUSTOMERS, [3, 10, 4, 3], &CUSTOMERS),
+    (Kind::Vrp, REWRITTEN_CUSTOMERS, [3, 10, 4, 3], &CUSTOMERS),
+];
 
 #[test]
-fn reads_pairs(rt: HostRuntime) -> Result<(), Fail> {
-    let texts: [(&[u8], Figures, Option<Spot>, Option<Spot>); 3] = [
-        (
-            ONE_PAIR,
-            (Kind::LiLim, 2, 10, 3, 1, 0),
-            Some((3, 4, 4, 50, Some(1))),
-            Some((6, 8, -4, 60, Some(1))),
-        ),
-        (
-            REWRITTEN_PAIRS,
-            (Kind::LiLim, 1, 10, 5, 2, 0),
-            Some((1, 1, 1, 50, Some(1))),
-            Some((1, 1, -1, 50, Some(1))),
-        ),
-        (
-            b"2 10 1\n0 0 0 0 0 100 0 0 0\n",
-            (Kind::LiLim, 2, 10, 1, 0, 0),
-            None,
-            None,
-        ),
-    ];
-    for (text, figures, one, other) in texts {
-        let told = reading(rt.alloc(), Kind::LiLim, text, (1, 2))?;
-        assert_eq!(rt; told, (figures, one, other));
+fn reads_instances(rt: HostRuntime) {
+    for (row, (kind, text, figures, spots)) in READ.iter().enumerate() {
+        assert!(rt;
+            is_read_as(rt.alloc(), *kind, text, *figures, spots),
+            "row {row}"
+        );
     }
-    Ok(())
 }
 
-#[test]
-fn reads_no_service_at_the_depot(rt: HostRuntime) -> Result<(), Fail> {
-    let problem = read_lilim(rt.alloc(), REWRITTEN_PAIRS)?;
-    assert_eq!(rt; problem.depot.service, 0);
-    Ok(())
-}
-
-#[test]
-fn reads_customers(rt: HostRuntime) -> Result<(), Fail> {
-    for text in [THREE_CUSTOMERS, REWRITTEN_CUSTOMERS] {
-        let told = reading(rt.alloc(), Kind::Vrp, text, (2, 3))?;
-        let second = Some((6, 8, 4, 100_000_000, Some(2)));
-        let third = Some((0, 5, 5, 100_000_000, Some(3)));
-        assert_eq!(rt; told, ((Kind::Vrp, 3, 10, 4, 3, 0), second, third));
+// Whether a text is refused, at this line and for this.
+fn is_refused(alloc: Global, kind: Kind, text: &[u8], line: u64, fault: ReadFaultKind) -> bool {
+    match read_instance(alloc, kind, text) {
+        Ok(_) => false,
+        Err(found) => found.line == line && found.kind == fault,
     }
-    Ok(())
+}
+
+// The first text that is not refused so.
+fn first_other(alloc: Global, kind: Kind, rows: &[(&[u8], u64, ReadFaultKind)]) -> Option<usize> {
+    for (row, (text, line, fault)) in rows.iter().enumerate() {
+        if !is_refused(alloc, kind, text, *line, *fault) {
+            return Some(row);
+        }
+    }
+    None
 }
 
 /// Li-Lim texts, and the line and the kind of the first fault of each.
@@ -184,10 +206,8 @@ const PAIR_FAULTS: [(&[u8], u64, ReadFaultKind); 22] = [
 
 #[test]
 fn tells_the_first_fault_of_pairs(rt: HostRuntime) {
-    for (text, line, kind) in PAIR_FAULTS {
-        let fault = read_lilim(rt.alloc(), text).err();
-        assert_eq!(rt; fault, Some(ReadFault { line, kind }));
-    }
+    let row = first_other(rt.alloc(), Kind::LiLim, &PAIR_FAULTS);
+    assert!(rt; row.is_none(), "row {row:?}");
 }
 
 #[test]
@@ -196,7 +216,7 @@ fn names_faults(rt: HostRuntime) {
         line: 1,
         kind: ReadFaultKind::Truncated,
     };
-    assert_eq!(rt; fault.name(), "Truncated");
+    assert!(rt; fault.name() == "Truncated");
 }
 
 /// `.vrp` texts with a fault outside the sections.
@@ -248,10 +268,8 @@ const KEY_FAULTS: [(&[u8], u64, ReadFaultKind); 23] = [
 
 #[test]
 fn tells_the_first_fault_of_a_key(rt: HostRuntime) {
-    for (text, line, kind) in KEY_FAULTS {
-        let fault = read_vrp(rt.alloc(), text).err();
-        assert_eq!(rt; fault, Some(ReadFault { line, kind }));
-    }
+    let row = first_other(rt.alloc(), Kind::Vrp, &KEY_FAULTS);
+    assert!(rt; row.is_none(), "row {row:?}");
 }
 
 /// `.vrp` texts with a fault in a section.
@@ -288,49 +306,42 @@ const SECTION_FAULTS: [(&[u8], u64, ReadFaultKind); 8] = [
 
 #[test]
 fn tells_the_first_fault_of_a_section(rt: HostRuntime) {
-    for (text, line, kind) in SECTION_FAULTS {
-        let fault = read_vrp(rt.alloc(), text).err();
-        assert_eq!(rt; fault, Some(ReadFault { line, kind }));
-    }
+    let row = first_other(rt.alloc(), Kind::Vrp, &SECTION_FAULTS);
+    assert!(rt; row.is_none(), "row {row:?}");
 }
 
+// Behind the list of depots, with and without its line end, and with a part of EOF.
 #[test]
-fn reads_every_prefix(rt: HostRuntime) -> Result<(), Fail> {
-    let mut ends = Vec::new(rt.alloc());
+fn reads_every_prefix(rt: HostRuntime) {
     for end in 0..THREE_CUSTOMERS.len() {
-        if read_vrp(rt.alloc(), &THREE_CUSTOMERS[..end]).is_ok() {
-            ends.push(end)?;
-        }
+        let is_read = read_vrp(rt.alloc(), &THREE_CUSTOMERS[..end]).is_ok();
+        assert!(rt;
+            is_read == (168 <= end && end <= 172),
+            "the first {end} bytes"
+        );
     }
-    // Behind the list of depots, with and without its line end, and with a part of EOF.
-    assert_eq!(rt; ends.as_slice(), [168, 169, 170, 171, 172].as_slice());
-    Ok(())
 }
 
 #[test]
 fn tells_a_cut_section(rt: HostRuntime) {
     let nine_lines = &THREE_CUSTOMERS[..113];
-    let fault = read_vrp(rt.alloc(), nine_lines).err();
-    let want = ReadFault {
-        line: 10,
-        kind: ReadFaultKind::Truncated,
-    };
-    assert_eq!(rt; fault, Some(want));
+    let truncated = ReadFaultKind::Truncated;
+    assert!(rt; is_refused(rt.alloc(), Kind::Vrp, nine_lines, 10, truncated));
 }
 
-#[test]
-fn tells_the_line_of_a_long_number(rt: HostRuntime) -> Result<(), Fail> {
-    let mut text = Vec::new(rt.alloc());
+fn long_number(alloc: Global) -> Result<Vec<u8>, AllocError> {
+    let mut text = Vec::new(alloc);
     text.extend_from_slice(b"\nCAPACITY : ")?;
     for _ in 0..1_000_000 {
         text.push(b'9')?;
     }
-    let fault = read_vrp(rt.alloc(), &text).err();
-    let want = ReadFault {
-        line: 2,
-        kind: ReadFaultKind::Range,
-    };
-    assert_eq!(rt; fault, Some(want));
+    Ok(text)
+}
+
+#[test]
+fn tells_the_line_of_a_long_number(rt: HostRuntime) -> Result<(), Fail> {
+    let text = long_number(rt.alloc())?;
+    assert!(rt; is_refused(rt.alloc(), Kind::Vrp, &text, 2, ReadFaultKind::Range));
     Ok(())
 }
 
@@ -383,24 +394,30 @@ fn vrp_of_most_customers(alloc: Global) -> Result<Vec<u8>, AllocError> {
     Ok(text)
 }
 
+/// The last pair of the most.
+const LAST_PAIR: [Spot; 2] = [
+    (39_999, [19_999, -19_999, 7, 100_000_000, 39_999]),
+    (40_000, [0, 19_999, -7, 100_000_000, 39_999]),
+];
+
 #[test]
 fn reads_the_most_tasks(rt: HostRuntime) -> Result<(), Fail> {
     let text = lilim_of_most_pairs(rt.alloc())?;
-    let told = reading(rt.alloc(), Kind::LiLim, &text, (39_999, 40_000))?;
-    let figures = (Kind::LiLim, 40_000, 1_000_000, 40_001, 20_000, 0);
-    let pickup = Some((19_999, -19_999, 7, 100_000_000, Some(39_999)));
-    let delivery = Some((0, 19_999, -7, 100_000_000, Some(39_999)));
-    assert_eq!(rt; told, (figures, pickup, delivery));
+    let figures = [40_000, 1_000_000, 40_001, 20_000];
+    assert!(rt; is_read_as(rt.alloc(), Kind::LiLim, &text, figures, &LAST_PAIR));
     Ok(())
 }
+
+/// The first and the last of the most customers.
+const FIRST_AND_LAST: [Spot; 2] = [
+    (1, [2, -2, 2, 100_000_000, 1]),
+    (40_000, [40_001, -40_001, 40_001, 100_000_000, 40_000]),
+];
 
 #[test]
 fn reads_the_most_customers(rt: HostRuntime) -> Result<(), Fail> {
     let text = vrp_of_most_customers(rt.alloc())?;
-    let told = reading(rt.alloc(), Kind::Vrp, &text, (1, 40_000))?;
-    let figures = (Kind::Vrp, 40_000, 1_000_000, 40_001, 40_000, 0);
-    let first = Some((2, -2, 2, 100_000_000, Some(1)));
-    let last = Some((40_001, -40_001, 40_001, 100_000_000, Some(40_000)));
-    assert_eq!(rt; told, (figures, first, last));
+    let figures = [40_000, 1_000_000, 40_001, 40_000];
+    assert!(rt; is_read_as(rt.alloc(), Kind::Vrp, &text, figures, &FIRST_AND_LAST));
     Ok(())
 }

@@ -32,65 +32,65 @@ fn one_pair(alloc: Global) -> Result<Problem, Fail> {
     Ok(problem)
 }
 
-// The picture of a plan of one route.
-fn drawn(alloc: Global, stops: &[u32], verdict: Verdict) -> Result<String, Fail> {
-    let problem = one_pair(alloc)?;
-    let mut route = Route::new(alloc);
-    route.extend_from_slice(stops)?;
-    let svg = draw(alloc, &problem, &[route], verdict)?;
-    Ok(String::from_utf8(svg)?)
-}
-
-// The picture of the route with this number of such a plan, empty where there is none.
-fn drawn_route(
-    alloc: Global,
-    stops: &[u32],
-    verdict: Verdict,
-    number: u64,
-) -> Result<String, Fail> {
-    let problem = one_pair(alloc)?;
-    let mut route = Route::new(alloc);
-    route.extend_from_slice(stops)?;
-    match draw_route(alloc, &problem, &[route], verdict, number)? {
-        Some(svg) => Ok(String::from_utf8(svg)?),
-        None => Ok(String::new(alloc)),
-    }
-}
-
-// The first line that the text has not.
-fn missing<'a>(text: &str, lines: &[&'a str]) -> Option<&'a str> {
+// Whether each of the lines stands in the text.
+fn has_all(text: &str, lines: &[&str]) -> bool {
     for line in lines {
         if !text.contains(*line) {
-            return Some(*line);
+            return false;
         }
     }
-    None
+    true
 }
+
+// Whether the picture of a plan of one route has these lines.
+fn draws(alloc: Global, stops: &[u32], verdict: Verdict, lines: &[&str]) -> Result<bool, Fail> {
+    let problem = one_pair(alloc)?;
+    let route = Route::from(Vec::from_slice(alloc, stops)?);
+    let text = String::from_utf8(draw(alloc, &problem, &[route], verdict)?)?;
+    Ok(has_all(text.as_str(), lines))
+}
+
+// The picture of the route with this number of the plan [1, 2], empty where there is none.
+fn drawn_route(alloc: Global, verdict: Verdict, number: u64) -> Result<String, Fail> {
+    let problem = one_pair(alloc)?;
+    let route = Route::from(Vec::from_slice(alloc, &[1, 2])?);
+    let svg = draw_route(alloc, &problem, &[route], verdict, number)?;
+    Ok(String::from_utf8(svg.unwrap_or(Vec::new(alloc)))?)
+}
+
+/// The vehicle arrives at 5, leaves at 7, arrives at 12, which is 1 too late, leaves at 14 and is back at 24.
+const PAIR_LINES: [&str; 10] = [
+    ">unplanned 0, vehicles 1, distance 20</text>\n<svg",
+    "viewBox='0 0 3240 4240' font-size='10'>\n",
+    "<g class='pairs'>\n<polyline points=' 1620,2120 3120,120'/>\n</g>\n",
+    "<g stroke='hsl(137,75%,34%)'>\n<polyline class='depot' points=' 120,4120 1020,2920 1620,2120'/>\n<polyline points=' 1620,2120 2520,920 3120,120'/>\n<polyline class='depot' points=' 3120,120 1320,2520 120,4120'/>\n</g>\n",
+    "<use href='#depot' x='120' y='4120'><title>0</title></use>\n<use href='#pickup' x='1620' y='2120'><title>1</title></use>\n<use href='#delivery' x='3120' y='120'><title>2</title></use>\n<g text-anchor='middle'>\n",
+    "<rect rx='1em' x='3085' y='25' width='70' height='60' fill='hsl(137,75%,34%)'/>\n<text class='badge' x='3120' y='73'>1</text>\n<text class='number' x='1620' y='2085'>1</text>\n<text class='number' x='3163' y='135'>2</text>\n</g>\n</svg>\n",
+    "<text y='13'><tspan x='70'>1</tspan><tspan x='130'>2</tspan><tspan x='200'>4</tspan><tspan x='290'>20</tspan></text><g class='heading'>",
+    "<text y='1106' x='404'>10</text>\n<rect fill='#ddd' y='1112' width='1' x='488' height='30'/>\n<text y='1106' x='488'>20</text>\n",
+    "<rect class='drive' y='10' height='7' x='7' width='5'/>\n<rect class='serve' y='10' height='7' x='12' width='2'/>\n<rect class='window' y='18' height='2' x='0' width='11'/>\n<rect class='late' y='18' height='2' x='11' width='1'/>\n",
+    "<text class='at' y='8' x='420'>2</text>\n<text class='time' y='28' x='420'>12</text>\n<text class='at' y='8' x='521'>0</text>\n<text class='time' y='28' x='521'>24</text>\n</g>\n</g>\n</svg>\n",
+];
 
 #[test]
 fn draws_a_pair(rt: HostRuntime) -> Result<(), Fail> {
-    let cost = Cost {
+    let verdict = Verdict::Pass(Cost {
         unplanned: 0,
         vehicles: 1,
         distance: 20,
-    };
-    let text = drawn(rt.alloc(), &[1, 2], Verdict::Pass(cost))?;
-    // The vehicle arrives at 5, leaves at 7, arrives at 12, which is 1 too late, leaves at 14 and is back at 24.
-    let lines = [
-        ">unplanned 0, vehicles 1, distance 20</text>\n<svg",
-        "viewBox='0 0 3240 4240' font-size='10'>\n",
-        "<g class='pairs'>\n<polyline points=' 1620,2120 3120,120'/>\n</g>\n",
-        "<g stroke='hsl(137,75%,34%)'>\n<polyline class='depot' points=' 120,4120 1020,2920 1620,2120'/>\n<polyline points=' 1620,2120 2520,920 3120,120'/>\n<polyline class='depot' points=' 3120,120 1320,2520 120,4120'/>\n</g>\n",
-        "<use href='#depot' x='120' y='4120'><title>0</title></use>\n<use href='#pickup' x='1620' y='2120'><title>1</title></use>\n<use href='#delivery' x='3120' y='120'><title>2</title></use>\n<g text-anchor='middle'>\n",
-        "<rect rx='1em' x='3085' y='25' width='70' height='60' fill='hsl(137,75%,34%)'/>\n<text class='badge' x='3120' y='73'>1</text>\n<text class='number' x='1620' y='2085'>1</text>\n<text class='number' x='3163' y='135'>2</text>\n</g>\n</svg>\n",
-        "<text y='13'><tspan x='70'>1</tspan><tspan x='130'>2</tspan><tspan x='200'>4</tspan><tspan x='290'>20</tspan></text><g class='heading'>",
-        "<text y='1106' x='404'>10</text>\n<rect fill='#ddd' y='1112' width='1' x='488' height='30'/>\n<text y='1106' x='488'>20</text>\n",
-        "<rect class='drive' y='10' height='7' x='7' width='5'/>\n<rect class='serve' y='10' height='7' x='12' width='2'/>\n<rect class='window' y='18' height='2' x='0' width='11'/>\n<rect class='late' y='18' height='2' x='11' width='1'/>\n",
-        "<text class='at' y='8' x='420'>2</text>\n<text class='time' y='28' x='420'>12</text>\n<text class='at' y='8' x='521'>0</text>\n<text class='time' y='28' x='521'>24</text>\n</g>\n</g>\n</svg>\n",
-    ];
-    assert_eq!(rt; missing(text.as_str(), &lines), None);
+    });
+    assert!(rt; draws(rt.alloc(), &[1, 2], verdict, &PAIR_LINES)?);
     Ok(())
 }
+
+/// Stop 7 is unknown, stop 1 stands twice, and stop 2 nowhere.
+const BROKEN_LINES: [&str; 5] = [
+    ">broken rule 2, visited twice, route 1, place 3, stop 1</text>\n",
+    ">unserved stops, ringed: 1</text>\n",
+    "<g class='broken' stroke='hsl(137,75%,34%)'>\n<polyline class='depot' points=' 120,4120 1020,2920 1620,2120'/>\n<polyline class='depot' points=' 1620,2120 720,3320 120,4120'/>\n</g>\n",
+    "<use href='#unserved' x='3120' y='120'><title>2</title></use>\n<use href='#broken' x='1620' y='2120'><title>1</title></use>\n",
+    "<text y='13' class='broken'><tspan x='70'>1</tspan><tspan x='130'>1</tspan>",
+];
 
 #[test]
 fn draws_what_is_broken(rt: HostRuntime) -> Result<(), Fail> {
@@ -100,18 +100,13 @@ fn draws_what_is_broken(rt: HostRuntime) -> Result<(), Fail> {
         place: 3,
         stop: 1,
     };
-    // Stop 7 is unknown, stop 1 stands twice, and stop 2 nowhere.
-    let text = drawn(rt.alloc(), &[1, 7, 1], verdict)?;
-    let lines = [
-        ">broken rule 2, visited twice, route 1, place 3, stop 1</text>\n",
-        ">unserved stops, ringed: 1</text>\n",
-        "<g class='broken' stroke='hsl(137,75%,34%)'>\n<polyline class='depot' points=' 120,4120 1020,2920 1620,2120'/>\n<polyline class='depot' points=' 1620,2120 720,3320 120,4120'/>\n</g>\n",
-        "<use href='#unserved' x='3120' y='120'><title>2</title></use>\n<use href='#broken' x='1620' y='2120'><title>1</title></use>\n",
-        "<text y='13' class='broken'><tspan x='70'>1</tspan><tspan x='130'>1</tspan>",
-    ];
-    assert_eq!(rt; missing(text.as_str(), &lines), None);
+    assert!(rt; draws(rt.alloc(), &[1, 7, 1], verdict, &BROKEN_LINES)?);
     Ok(())
 }
+
+/// The heading of route 1 alone.
+const TITLE: &str =
+    ">route 1 of 1, of the plan: broken rule 7, late service, route 1, place 2, stop 2, starts at 12, latest 11</text>\n";
 
 #[test]
 fn draws_one_route(rt: HostRuntime) -> Result<(), Fail> {
@@ -121,13 +116,8 @@ fn draws_one_route(rt: HostRuntime) -> Result<(), Fail> {
         place: 2,
         stop: 2,
     };
-    let title =
-        ">route 1 of 1, of the plan: broken rule 7, late service, route 1, place 2, stop 2, starts at 12, latest 11</text>\n";
-    let text = drawn_route(rt.alloc(), &[1, 2], verdict, 1)?;
-    assert_eq!(rt; missing(text.as_str(), &[title]), None);
-    let before = drawn_route(rt.alloc(), &[1, 2], verdict, 0)?;
-    assert_eq!(rt; before.len(), 0);
-    let beyond = drawn_route(rt.alloc(), &[1, 2], verdict, 2)?;
-    assert_eq!(rt; beyond.len(), 0);
+    assert!(rt; drawn_route(rt.alloc(), verdict, 0)?.is_empty());
+    assert!(rt; has_all(drawn_route(rt.alloc(), verdict, 1)?.as_str(), &[TITLE]));
+    assert!(rt; drawn_route(rt.alloc(), verdict, 2)?.is_empty());
     Ok(())
 }
