@@ -4,9 +4,9 @@
 Makes Li-Lim instances of 100 to 40,000 tasks and `.vrp` instances of 100 to 40,000 customers, each with a solution
 that passes, and runs `planner audit` on them. An audit with an empty solution, which is refused, reads the instance
 alone; its megabytes a second stand beside those of `wc -l` on the same file. The start of each process is measured by
-a run that has next to nothing to do, and is taken off. Where `run_benchmarks` is built (by `rt run` in its folder), the
-reader's own rate is printed too: of the fastest of many readings in one process, which keeps the memory of one for the
-next, so that neither the file nor the system's pages count.
+a run that has next to nothing to do, and is taken off. Rates by themselves are those of many audits in one process
+(`audits`), which keeps the memory of one for the next, so that the system's pages don't count: of reading the instance, and
+what the solution takes beyond that.
 
     bench/audit_speed.py [lilim|vrp] [SIZE..]
 """
@@ -22,7 +22,6 @@ import time
 
 TOP = pathlib.Path(__file__).resolve().parent.parent
 PROGRAM = TOP / "crates" / "planner" / "out" / "planner"
-READER = TOP / "crates" / "run_benchmarks" / "out" / "run_benchmarks"
 # The C library's words for memory that is kept where it is given back.
 KEEPS_MEMORY = {"MALLOC_TRIM_THRESHOLD_": "1000000000", "MALLOC_MMAP_THRESHOLD_": "1000000000"}
 RUNS = 40
@@ -96,13 +95,15 @@ def rate(size, seconds):
     return f"{size / seconds / 1e6:.0f} MB/s" if seconds > 5e-4 else "too short to say"
 
 
-def rate_by_itself(kind, path, size):
-    """Megabytes a second of the reader alone, if its benchmark is built."""
-    if not READER.exists():
-        return ""
-    words = [READER, "read", kind, path, str(RUNS)]
-    done = subprocess.run(words, stdout=subprocess.PIPE, text=True, check=True, env={**os.environ, **KEEPS_MEMORY})
-    return f", by itself {size / int(done.stdout.split()[0]) * 1e3:.0f} MB/s"
+def seconds_by_itself(kind, instance, solution):
+    """What an audit takes in a process that has made one."""
+    line = f"{instance}\t{solution}\n"
+    seconds = []
+    for count in (1, RUNS + 1):
+        begin = time.perf_counter()
+        subprocess.run([PROGRAM, "audits", kind, "-"], input=count * line, text=True, stdout=subprocess.DEVNULL, check=False, env={**os.environ, **KEEPS_MEMORY})
+        seconds.append(time.perf_counter() - begin)
+    return max(seconds[1] - seconds[0], 1e-9) / RUNS
 
 
 def measure(kind, make, sizes):
@@ -123,8 +124,11 @@ def measure(kind, make, sizes):
             read = max(least_seconds(words + [folder / "empty"], 2, "solution NoCost 1\n") - start, 1e-9)
             wc = max(least_seconds(["wc", "-l", folder / "instance"], 0, None) - start_wc, 1e-9)
             line = f"{size:>6} stops, {len(text) / 1e6:.3f} MB: read in {read:.6f} s, {rate(len(text), read)}"
-            line += rate_by_itself(kind, folder / "instance", len(text))
+            read_by_itself = seconds_by_itself(kind, folder / "instance", folder / "empty")
+            line += f", by itself {len(text) / read_by_itself / 1e6:.0f} MB/s"
             line += f" (wc -l {wc:.6f} s, {rate(len(text), wc)}), audited in {audit:.6f} s, {audit / size * 1e9:.0f} ns a stop"
+            audit_by_itself = seconds_by_itself(kind, folder / "instance", folder / "solution") - read_by_itself
+            line += f", the solution by itself {audit_by_itself / size * 1e9:.0f} ns a stop"
             if before is not None and before[1] > 1e-4:
                 line += f", {audit / before[1]:.1f} times the time for {size / before[0]:.1f} times the stops"
             print(line)

@@ -2,7 +2,8 @@
 """What a sync of a device over a file costs: one sector is written and synced 2,000 times.
 
 Measures fsync (`sync_all`) beside fdatasync (`sync_data`) on a file of 8,450 sectors, by turns of 100, so that both meet the
-same load. Where `run_benchmarks` is built (by `rt run` in its folder), a `FileDevice` does the same.
+same load. Then the program that `./planner` builds answers 2,000 lines over a store: each is one record, written and synced, but where 256
+records stand, two writes and two syncs.
 
     bench/device_sync.py [FOLDER]
 """
@@ -16,7 +17,8 @@ import tempfile
 import time
 
 TOP = pathlib.Path(__file__).resolve().parent.parent
-PROGRAM = TOP / "crates" / "run_benchmarks" / "out" / "run_benchmarks"
+PROGRAM = TOP / "crates" / "planner" / "out" / "planner"
+INSTANCE = TOP / "examples" / "one-pair.txt"
 SECTOR = 512
 SECTORS = 8450
 SYNCS = 2000
@@ -38,8 +40,7 @@ def report(name, turns):
     print(f"{name}: {per_second:.0f} syncs a second, {median:.0f} in the median turn of {TURN}")
 
 
-def main():
-    folder = sys.argv[1] if len(sys.argv) > 1 else "."
+def measure_calls(folder):
     with tempfile.NamedTemporaryFile(dir=folder, suffix=".disk") as temporary:
         file = temporary.fileno()
         os.pwrite(file, bytes(SECTOR * SECTORS), 0)
@@ -50,12 +51,34 @@ def main():
                 turns.append(turn(file, sync, begin))
         for sync, turns in times.items():
             report(sync.__name__, turns)
-        if PROGRAM.exists():
-            start = time.perf_counter()
-            subprocess.run([PROGRAM, "device", temporary.name, str(SECTORS), str(SYNCS)], check=True)
-            print(f"FileDevice: {SYNCS / (time.perf_counter() - start):.0f} syncs a second")
-        else:
-            print("FileDevice: not measured, since run_benchmarks is not built")
+
+
+def answered(store, lines):
+    """Seconds in which the program opens the store and answers so many lines, each by `ok`."""
+    text = b"".join(b"deviation %d\n" % (i % 2) for i in range(lines))
+    start = time.perf_counter()
+    got = subprocess.run([PROGRAM, "run", store], input=text, check=True, capture_output=True)
+    seconds = time.perf_counter() - start
+    if got.stdout.count(b"ok\n") != lines:
+        sys.exit(f"device_sync: {got.stdout[:200]!r}")
+    return seconds
+
+
+def measure_program(folder):
+    if not PROGRAM.exists():
+        print("the program: not measured, since it is not built")
+        return
+    with tempfile.TemporaryDirectory(dir=folder) as name:
+        store = pathlib.Path(name) / "sync.store"
+        subprocess.run([PROGRAM, "load", store, "lilim", INSTANCE], check=True, capture_output=True)
+        opening = answered(store, 0)
+        print(f"the program: {SYNCS / (answered(store, SYNCS) - opening):.0f} commands a second")
+
+
+def main():
+    folder = sys.argv[1] if len(sys.argv) > 1 else "."
+    measure_calls(folder)
+    measure_program(folder)
 
 
 if __name__ == "__main__":

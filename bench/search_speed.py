@@ -3,9 +3,9 @@
 
 OTHER is a program with two commands: `gen KIND STOPS SEED` writes an instance of KIND, lilim or vrp, to standard output, and
 `search KIND INSTANCE STEPS SEED DEVIATION` builds a plan of a file by best insertion, makes so many steps, and ends with a line such as
-`steps 1000 seconds 0.01 rate 100000 cost 0 6 1217`. Its final cost has to be ours, to the number. `run_benchmarks` is built by `rt run` in
-its folder. The two run in turn, as often as RUNS says. Times are the medians, and the ratio is the median of those of two runs that follow
-one another, since the clock of a machine may change from second to second.
+`steps 1000 seconds 0.01 rate 100000 cost 0 6 1217`. Its final cost has to be ours, to the number. Ours is what `solve` tells of a search, in the program that
+`./planner` builds: the time between its lines of no steps and of all of them. The two run in turn, as often as RUNS says. Times are the medians, and the
+ratio is the median of those of two runs that follow one another, since the clock of a machine may change from second to second.
 
     bench/search_speed.py OTHER [STOPS..]
 """
@@ -16,9 +16,10 @@ import statistics
 import subprocess
 import sys
 import tempfile
+import time
 
 TOP = pathlib.Path(__file__).resolve().parent.parent
-PROGRAM = TOP / "crates" / "run_benchmarks" / "out" / "run_benchmarks"
+PROGRAM = TOP / "crates" / "planner" / "out" / "planner"
 RUNS = 11
 SIZES = [100, 400, 1000, 4000]
 SEED = 5
@@ -30,11 +31,18 @@ def output(*words):
     return subprocess.run([str(word) for word in words], check=True, capture_output=True, text=True).stdout
 
 
-def ours(kind, path, steps, deviation):
+def ours(kind, path, steps, deviation, seed=SEED):
     """Nanoseconds a step, and the final cost."""
-    text = output(PROGRAM, "search", kind, path, steps, SEED, deviation)
-    nanos = int(re.search(r"steps, (\d+) ns each", text).group(1))
-    return nanos, re.search(r"incumbent: cost (.*)", text).group(1)
+    words = [str(word) for word in (PROGRAM, "solve", kind, path, steps, seed, deviation)]
+    told = []
+    with subprocess.Popen(words, stdout=subprocess.DEVNULL, stderr=subprocess.PIPE, text=True) as process:
+        for line in process.stderr:
+            if line.startswith("at "):
+                told.append((time.perf_counter_ns(), line.split(maxsplit=2)))
+    (begin, (_, first, _)), (end, (_, last, cost)) = told[0], told[-1]
+    if (int(first), int(last)) != (0, steps):
+        sys.exit(f"{words}: told from step {first} to {last}")
+    return (end - begin) // steps, cost.strip()
 
 
 def theirs(other, kind, path, steps, deviation):

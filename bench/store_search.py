@@ -3,23 +3,20 @@
 
 OTHER is a program that writes an instance: `gen KIND STOPS SEED`. Through the store each 256 steps are a command that is synced before its line is
 told. The time of opening, loading and building is taken off: it is measured by a session without the search. In memory the same steps are
-made by `run_benchmarks`, which is built by `rt run` in its folder, and the program by `./planner`.
+made by `solve`. The program is built by `./planner`.
 
     bench/store_search.py OTHER [STEPS]
 """
 
 import pathlib
-import re
 import subprocess
 import sys
 import tempfile
 import time
 
-TOP = pathlib.Path(__file__).resolve().parent.parent
-PROGRAM = TOP / "crates" / "planner" / "out" / "planner"
-IN_MEMORY = TOP / "crates" / "run_benchmarks" / "out" / "run_benchmarks"
+from search_speed import PROGRAM, SEED, TOP, ours
+
 SIZES = [400, 1000, 4000]
-SEED = 5
 STEPS = 100_000
 
 
@@ -46,8 +43,7 @@ def report(folder, name, instance, steps):
     whole, text = session(folder, instance, b"build\nsearch %d\n" % steps)
     last = text.strip().split("\n")[-2]
     again, repeated = opened(folder)
-    output = subprocess.run([IN_MEMORY, "search", "lilim", instance, str(steps), str(SEED), "0"], check=True, capture_output=True, text=True).stdout
-    nanos = int(re.search(r"steps, (\d+) ns each", output).group(1))
+    nanos, _ = ours("lilim", instance, steps, 0)
     stored = steps / max(whole - without, 1e-9)
     print(
         f"{name}: {stored:,.0f} steps a second through the store, {1e9 / nanos:,.0f} in memory; "

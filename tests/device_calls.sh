@@ -1,11 +1,12 @@
 #!/bin/sh
-# Checks which calls of the system a device over a file makes, and in which order: `create` takes the file's lock, writes
-# zeros where it gets longer, and syncs the file and its folder; each write is one write at its offset, and each sync is the
-# file's own. Wants strace, and `run_benchmarks` built (by `rt run` in its folder).
+# Checks which calls of the system a store in a file makes, and in which order: `format` takes the file's lock, writes
+# zeros where it gets longer, and syncs the file and its folder; each write of the store is at its offset, and each sync is
+# the file's own. Writes of which one goes on where the other ended count as one. Wants strace, and the program that
+# rt ci leaves.
 set -u
 
 top=$(CDPATH='' cd -- "$(dirname -- "$0")/.." && pwd -P) || exit 1
-program=$top/crates/run_benchmarks/out/run_benchmarks
+program=$top/crates/planner/out/planner
 if ! command -v strace >/dev/null; then
     echo "skipped: device_calls, since strace is not there"
     exit 0
@@ -20,50 +21,84 @@ if [ ! -x "$program" ]; then
 fi
 folder=$(mktemp -d) || exit 1
 trap 'rm -rf -- "$folder"' EXIT
+store=$folder/new.store
 
-strace -o "$folder/calls" -e trace=open,openat,flock,ftruncate,fsync,fdatasync,pwrite64,pread64,write,read \
-    "$program" device "$folder/new.disk" 4 3 || exit 1
+# The calls of the program with these words on the store and its folder, one a line, by what was opened for them.
+calls_of() {
+    strace -o "$folder/calls" -e trace=open,openat,flock,ftruncate,fsync,fdatasync,pwrite64,pread64,write,read \
+        "$program" "$@" >"$folder/answers" || exit 1
+    awk -v folder="$folder" '
+        function tell_writes() {
+            if (written) print "pwrite64 " written " at " first " file"
+            written = 0
+        }
+        /^open/ {
+            name = index($0, "\"" folder "/new.store\"") ? "file" : index($0, "\"" folder "\"") ? "folder" : ""
+            if (name == "") next
+            tell_writes()
+            kind[$NF] = name
+            print "open " name
+            next
+        }
+        {
+            call = substr($0, 1, index($0, "(") - 1)
+            rest = substr($0, index($0, "(") + 1)
+            split(rest, words, /[,)]/)
+            if (!(words[1] in kind)) next
+            if (call ~ /^p/) {
+                match($0, /, [0-9]+, [0-9]+\) += /)
+                split(substr($0, RSTART + 2), numbers, /[,)] */)
+                if (call == "pwrite64") {
+                    if (written && numbers[2] != first + written) tell_writes()
+                    if (!written) first = numbers[2]
+                    written += numbers[1]
+                    next
+                }
+                call = call " " numbers[1] " at " numbers[2]
+            } else if (call == "ftruncate") call = call substr(words[2], 1)
+            tell_writes()
+            print call " " kind[words[1]]
+        }
+        END { tell_writes() }' "$folder/calls"
+}
 
-# Names the files for their descriptors, and leaves out what was opened before the device.
-awk -v folder="$folder" '
-    /^open/ {
-        name = index($0, "\"" folder "/new.disk\"") ? "file" : index($0, "\"" folder "\"") ? "folder" : ""
-        if (name == "") next
-        kind[$NF] = name
-        print "open " name
-        next
-    }
-    {
-        call = substr($0, 1, index($0, "(") - 1)
-        rest = substr($0, index($0, "(") + 1)
-        split(rest, words, /[,)]/)
-        if (!(words[1] in kind)) next
-        if (call ~ /^p/) {
-            match($0, /, [0-9]+, [0-9]+\) += /)
-            split(substr($0, RSTART + 2), numbers, /[,)] */)
-            call = call " " numbers[1] " at " numbers[2]
-        } else if (call == "ftruncate") call = call substr(words[2], 1)
-        print call " " kind[words[1]]
-    }' "$folder/calls" >"$folder/got"
-
+# What the table of the store in docs/FORMATS.md makes of `format`, and of a load and a build over the store that it leaves.
 cat >"$folder/wanted" <<'END'
 open file
 flock file
-pwrite64 2048 at 0 file
+pwrite64 4326400 at 0 file
 fsync file
 open folder
 fsync folder
-pwrite64 512 at 0 file
+pwrite64 132096 at 0 file
+fdatasync file
+pwrite64 512 at 2229248 file
 fdatasync file
 pwrite64 512 at 512 file
 fdatasync file
+open file
+flock file
+fdatasync file
+pread64 132096 at 0 file
+pread64 512 at 2229248 file
+pwrite64 512 at 132096 file
+fdatasync file
+pwrite64 512 at 0 file
+fdatasync file
 pwrite64 512 at 1024 file
 fdatasync file
-pread64 512 at 1024 file
 END
+
+instance=$top/examples/one-pair.txt
+calls_of format "$store" >"$folder/got"
+{
+    echo "load lilim 0 $(wc -c <"$instance")"
+    cat "$instance"
+    echo build
+} | calls_of run "$store" >>"$folder/got"
 
 if ! diff "$folder/wanted" "$folder/got"; then
     echo "device_calls: the calls (>) are not those that are wanted (<)"
     exit 1
 fi
-echo "device_calls: the calls of the system are those of the device, in their order"
+echo "device_calls: the calls of the system are those of the store, in their order"

@@ -1,11 +1,20 @@
 //! Runs the program for each line of `words.txt`, whose words are parted by `|`, and prints after each answer its
-//! status. Standard input is what the word `run` reads; among the lines is a session by its text.
+//! status. Standard input is what the word `run` reads; among the lines is a session by its text. Then it serves an
+//! input over stores in memory, with readers, writers and devices that fail.
 //!
 //! The gate runs it and compares what it prints with `stdout`. The examples of the repository stand again in
 //! `data`, since the gate refuses links; `tests/words.sh` compares them. Proved is nothing beyond that no step
 //! fails.
+//!
+//! Modules: `pieces` (an input in pieces), `ends` (readers and writers that fail), `stores` (sessions over stores in
+//! memory).
 #![tactic(auto)]
 
+mod ends;
+mod pieces;
+mod stores;
+
+use pieces::print_pieces;
 use planner_cli::{HostFiles, HostNewFiles, Streams, Watched, run_words};
 use sector_disk::Unknown;
 use std::alloc::{AllocError, Global};
@@ -16,11 +25,16 @@ const LISTS: &str = "words.txt";
 const SEPARATOR: char = '|';
 
 fn main(rt: HostRuntime) -> io::Result<()> {
-    let lists = fs::read_to_string(&rt, LISTS)?;
+    print_answers(&rt)?;
+    print_pieces(&rt)
+}
+
+fn print_answers(rt: &HostRuntime) -> io::Result<()> {
+    let lists = fs::read_to_string(rt, LISTS)?;
     for list in lists.as_str().lines() {
         println!(rt; "> {list}")?;
         let words = words_of(rt.alloc(), list)?;
-        let status = status_of(&rt, words.as_slice());
+        let status = status_of(rt, words.as_slice());
         println!(rt; "= {status}")?;
     }
     Ok(())

@@ -1,20 +1,12 @@
 //! Serves one input over stores in memory: in pieces of several sizes, with a reader and a writer that fail at each
 //! call in turn, and with a device that fails once, at each of its calls in turn.
-//!
-//! The gate runs it and compares what it prints with `stdout`. Proved is nothing beyond that no step fails.
-//!
-//! Modules: `ends` (readers and writers that fail), `stores` (sessions over stores in memory).
-#![tactic(auto)]
 
-mod ends;
-mod stores;
-
-use ends::{Limited, Pieces};
+use crate::ends::{Limited, Pieces};
+use crate::stores::{Served, new_store, serve_input, served_by_a_faulty_device};
 use planner_cli::ServeFault;
 use std::alloc::{AllocError, Global};
 use std::io;
 use std::io::Write;
-use stores::{Served, new_store, serve_input, served_by_a_faulty_device};
 
 const LOAD: &str =
     "load vrp 0 173\nNAME : t3\nTYPE : CVRP\nDIMENSION : 4\nEDGE_WEIGHT_TYPE : EUC_2D\nCAPACITY : 10\nNODE_COORD_SECTION\n1 0 0\n2 3 4\n3 6 8\n4 0 5\nDEMAND_SECTION\n1 0\n2 6\n3 4\n4 5\nDEPOT_SECTION\n1\n-1\nEOF\n";
@@ -41,9 +33,10 @@ const REFUSED: &str = "show\nsearch 1\n";
 /// What is answered to a load, a build and these where the device fails within the build.
 const FAULT_IN_BUILD: &[u8] = b"ok\nfault device\nno Broken\nno Broken\nno Broken\n";
 
-fn main(rt: HostRuntime) -> io::Result<()> {
+/// Prints what is answered, and how many of the failing runs end otherwise than they should.
+pub(crate) fn print_pieces(rt: &HostRuntime) -> io::Result<()> {
     let alloc = rt.alloc();
-    let mut output = io::writer(&rt);
+    let mut output = io::writer(rt);
     let whole = input(alloc, PARTS.len())?;
     let Some(all) = served(alloc, &whole, Pieces::whole(), Limited::whole(alloc)) else {
         return writeln!(output, "no store");
