@@ -23,6 +23,8 @@ answer() {
     shift
     "$@" >"$name.output" 2>"$name.errors" </dev/null
     echo "$?" >"$name.status"
+    # The usage names the program.
+    sed -i 's/^Usage: auditor/Usage: planner/' "$name.output" "$name.errors"
 }
 
 cp -R -- "$top/crates/run_words/data" "$folder/data"
