@@ -1,12 +1,16 @@
 //! Verdicts on plans and on printed solutions, and the faults of single routes.
+ghost use Rattle.std.specs.Prelude.{All};
+ghost use Rattle.route_sched.specs.Route.{AreLiveOnce};
+
 use crate::builders::{
-    depot_alone, is_live_once, most_pairs, one_pair, one_route, routes_of, single, two_pairs,
+    depot_until, is_live_once, most_pairs, most_routes, one_pair, one_route, problem_of, routes_of,
+    single, two_pairs,
 };
 use crate::slow::{Asked, slow_audit, total_length};
 use crate::words::{Case, Words, some_case};
 use plan_audit::{Verdict, audit, audit_solution, route_fault};
-use plan_types::limits::{MAX_FLEET, MAX_STOP_NUMBER};
-use plan_types::{Cost, Kind, Pins, Plan, Problem, Route, Routes};
+use plan_types::limits::MAX_STOP_NUMBER;
+use plan_types::{Kind, Pins, Plan, Problem, Route, Routes};
 use route_sched::{loads, starts};
 use sol_text::Solution;
 use std::alloc::Global;
@@ -14,198 +18,181 @@ use std::test::Fail;
 
 // Three customers without windows.
 fn three_customers(alloc: Global) -> Result<Problem, Fail> {
-    let mut problem = depot_alone(alloc, Kind::Vrp, 10, 3, 100_000_000)?;
-    problem.put(single(1, (3, 4), 6, 100_000_000))?;
-    problem.put(single(2, (6, 8), 4, 100_000_000))?;
-    problem.put(single(3, (0, 5), 5, 100_000_000))?;
-    Ok(problem)
+    let requests = [
+        single(1, (3, 4), 6, 100_000_000),
+        single(2, (6, 8), 4, 100_000_000),
+        single(3, (0, 5), 5, 100_000_000),
+    ];
+    problem_of(alloc, Kind::Vrp, depot_until(100_000_000), 10, 3, &requests)
 }
 
-fn pass(unplanned: u64, vehicles: u64, distance: u64) -> Verdict {
-    Verdict::Pass(Cost {
-        unplanned,
-        vehicles,
-        distance,
-    })
-}
-
-fn broken(rule: u32, route: u64, place: u64, stop: u32) -> Verdict {
-    Verdict::Broken {
-        rule,
-        route,
-        place,
-        stop,
+// What a verdict tells: the rule, the route, the place and the stop; of a plan that passes 0, the unplanned requests, the vehicles
+// and the distance.
+fn told(verdict: Verdict) -> [u64; 4] {
+    match verdict {
+        Verdict::Pass(cost) => [0, cost.unplanned, cost.vehicles, cost.distance],
+        Verdict::Broken {
+            rule,
+            route,
+            place,
+            stop,
+        } => [u64::from(rule), route, place, u64::from(stop)],
     }
 }
 
-// The verdict on two printed routes.
+// What is told of two printed routes.
 fn printed(
     alloc: Global,
-    problem: &Problem,
+    problem: Problem,
     first: &[u32],
     second: &[u32],
     cost: u64,
-) -> Result<Verdict, Fail> {
+) -> Result<[u64; 4], Fail> {
     let routes = routes_of(alloc, first, second)?;
-    Ok(audit_solution(alloc, problem, &Solution { routes, cost })?)
+    let solution = Solution { routes, cost };
+    Ok(told(audit_solution(alloc, &problem, &solution)?))
 }
 
-// The verdict on two printed routes for one pair.
-fn pair_printed(alloc: Global, first: &[u32], second: &[u32], cost: u64) -> Result<Verdict, Fail> {
-    let problem = one_pair(alloc, Kind::LiLim, 10, 60, 100)?;
-    printed(alloc, &problem, first, second, cost)
-}
+/// Two printed routes for one pair, the printed cost, and what is told.
+const PAIR_PRINTED: [(&[u32], &[u32], u64, [u64; 4]); 8] = [
+    (&[1, 2], &[], 20, [0, 0, 1, 20]),
+    (&[1, 2], &[9], 20, [1, 2, 1, 9]),
+    (&[1, 2, 1], &[], 20, [2, 1, 3, 1]),
+    (&[1], &[], 10, [3, 1, 1, 2]),
+    (&[], &[], 0, [3, 0, 0, 1]),
+    (&[1], &[2], 30, [4, 1, 1, 1]),
+    (&[2, 1], &[], 20, [5, 1, 1, 2]),
+    (&[1, 2], &[], 21, [11, 0, 0, 0]),
+];
 
 #[test]
 fn audits_one_pair(rt: HostRuntime) -> Result<(), Fail> {
-    for (first, second, cost, want) in [
-        ([1, 2, 0], 0, 20, pass(0, 1, 20)),
-        ([1, 2, 0], 9, 20, broken(1, 2, 1, 9)),
-        ([1, 2, 1], 0, 20, broken(2, 1, 3, 1)),
-        ([1, 0, 0], 0, 10, broken(3, 1, 1, 2)),
-        ([0, 0, 0], 0, 0, broken(3, 0, 0, 1)),
-        ([1, 0, 0], 2, 30, broken(4, 1, 1, 1)),
-        ([2, 1, 0], 0, 20, broken(5, 1, 1, 2)),
-        ([1, 2, 0], 0, 21, broken(11, 0, 0, 0)),
-    ] {
-        let told = pair_printed(rt.alloc(), &first, &[second], cost)?;
-        assert_eq!(rt; told, want, "{first:?}, {second}");
+    for (first, second, cost, want) in &PAIR_PRINTED {
+        let problem = one_pair(rt.alloc(), Kind::LiLim, 10, 60, 100)?;
+        let got = printed(rt.alloc(), problem, first, second, *cost)?;
+        assert!(rt; got == *want, "{first:?}, {second:?}");
     }
     Ok(())
 }
 
-// The verdict on the route of a pair, printed beside another stop.
-fn pair_within(
-    alloc: Global,
-    kind: Kind,
-    capacity: u32,
-    latest: u32,
-    back: u32,
-    other: u32,
-) -> Result<Verdict, Fail> {
-    let problem = one_pair(alloc, kind, capacity, latest, back)?;
-    printed(alloc, &problem, &[1, 2], &[other], 20)
-}
+/// The capacity, the delivery's latest start, the latest return, what else is printed, and what is told.
+const PAIR_LIMITS: [(u32, u32, u32, &[u32], [u64; 4]); 6] = [
+    (3, 60, 100, &[], [6, 1, 1, 1]),
+    (10, 11, 100, &[], [7, 1, 2, 2]),
+    (10, 11, 100, &[9], [1, 2, 1, 9]),
+    (10, 12, 100, &[], [0, 0, 1, 20]),
+    (10, 60, 23, &[], [8, 1, 3, 0]),
+    (10, 60, 24, &[], [0, 0, 1, 20]),
+];
 
 #[test]
 fn asks_capacity_and_windows(rt: HostRuntime) -> Result<(), Fail> {
-    for (capacity, latest, back, other, want) in [
-        (3, 60, 100, 0, broken(6, 1, 1, 1)),
-        (10, 11, 100, 0, broken(7, 1, 2, 2)),
-        (10, 11, 100, 9, broken(1, 2, 1, 9)),
-        (10, 12, 100, 0, pass(0, 1, 20)),
-        (10, 60, 23, 0, broken(8, 1, 3, 0)),
-        (10, 60, 24, 0, pass(0, 1, 20)),
-    ] {
-        let told = pair_within(rt.alloc(), Kind::LiLim, capacity, latest, back, other)?;
-        assert_eq!(rt; told, want, "{capacity}, {latest}, {back}");
+    for (capacity, latest, back, other, want) in &PAIR_LIMITS {
+        let problem = one_pair(rt.alloc(), Kind::LiLim, *capacity, *latest, *back)?;
+        let got = printed(rt.alloc(), problem, &[1, 2], other, 20)?;
+        assert!(rt; got == *want, "{capacity}, {latest}, {back}");
     }
     Ok(())
 }
 
 #[test]
 fn asks_no_windows_in_vrp(rt: HostRuntime) -> Result<(), Fail> {
-    let told = pair_within(rt.alloc(), Kind::Vrp, 10, 11, 23, 0)?;
-    assert_eq!(rt; told, pass(0, 0, 20));
+    let problem = one_pair(rt.alloc(), Kind::Vrp, 10, 11, 23)?;
+    assert!(rt; printed(rt.alloc(), problem, &[1, 2], &[], 20)? == [0, 0, 0, 20]);
     Ok(())
 }
 
-// The verdict on two printed routes of two pairs, with a fleet of one.
-fn pairs_printed(alloc: Global, first: &[u32], second: &[u32], cost: u64) -> Result<Verdict, Fail> {
-    let problem = two_pairs(alloc, Kind::LiLim, 50)?;
-    printed(alloc, &problem, first, second, cost)
-}
+/// Two printed routes for two pairs and one vehicle, the printed cost, and what is told.
+const VEHICLES: [(&[u32], &[u32], u64, [u64; 4]); 2] = [
+    (&[1, 2], &[3, 4], 8, [9, 2, 0, 0]),
+    (&[], &[1, 3, 4, 2], 4, [0, 0, 1, 4]),
+];
 
 #[test]
 fn counts_the_vehicles(rt: HostRuntime) -> Result<(), Fail> {
-    for (first, second, cost, want) in [
-        ([1, 2].as_slice(), [3, 4].as_slice(), 8, broken(9, 2, 0, 0)),
-        ([].as_slice(), [1, 3, 4, 2].as_slice(), 4, pass(0, 1, 4)),
-    ] {
-        assert_eq!(rt; pairs_printed(rt.alloc(), first, second, cost)?, want);
+    for (first, second, cost, want) in &VEHICLES {
+        let problem = two_pairs(rt.alloc(), Kind::LiLim, 50)?;
+        assert!(rt; printed(rt.alloc(), problem, first, second, *cost)? == *want);
     }
     Ok(())
-}
-
-// The verdict on two printed routes of customers.
-fn customers_printed(
-    alloc: Global,
-    first: &[u32],
-    second: &[u32],
-    cost: u64,
-) -> Result<Verdict, Fail> {
-    let problem = three_customers(alloc)?;
-    printed(alloc, &problem, first, second, cost)
 }
 
 #[test]
-fn audits_customers(rt: HostRuntime) -> Result<(), Fail> {
-    for (first, second, cost, want) in [
-        ([2, 1].as_slice(), [3].as_slice(), 30, pass(0, 0, 30)),
-        ([1, 2, 3].as_slice(), [].as_slice(), 0, broken(6, 1, 3, 3)),
-    ] {
-        assert_eq!(rt; customers_printed(rt.alloc(), first, second, cost)?, want);
-    }
+fn asks_the_load_of_customers(rt: HostRuntime) -> Result<(), Fail> {
+    let problem = three_customers(rt.alloc())?;
+    assert!(rt; printed(rt.alloc(), problem, &[2, 1], &[3], 30)? == [0, 0, 0, 30]);
+    let problem = three_customers(rt.alloc())?;
+    assert!(rt; printed(rt.alloc(), problem, &[1, 2, 3], &[], 0)? == [6, 1, 3, 3]);
     Ok(())
 }
 
-// The verdict on a plan for one pair, whose second vehicle has a pin.
-fn planned(alloc: Global, routes: Routes, pin: &[u32]) -> Result<Verdict, Fail> {
+// What is told of a plan for one pair, whose second vehicle has a pin.
+fn planned(alloc: Global, routes: Routes, pin: &[u32]) -> Result<[u64; 4], Fail> {
     let problem = one_pair(alloc, Kind::LiLim, 10, 60, 100)?;
     let pins = Pins {
         routes: routes_of(alloc, &[], pin)?,
     };
-    Ok(audit(alloc, &problem, &pins, &Plan { routes })?)
+    Ok(told(audit(alloc, &problem, &pins, &Plan { routes })?))
 }
 
-// The same of a plan whose second vehicle stays at the depot.
-fn first_planned(alloc: Global, first: &[u32], pin: &[u32]) -> Result<Verdict, Fail> {
-    planned(alloc, routes_of(alloc, first, &[])?, pin)
-}
+/// The first vehicle's route, the second one's pin, and what is told. The second vehicle stays at the depot.
+const PLANNED: [(&[u32], &[u32], [u64; 4]); 3] = [
+    (&[1, 2], &[], [0, 0, 1, 20]),
+    (&[], &[], [0, 1, 0, 0]),
+    (&[1, 2], &[1, 2], [10, 2, 1, 1]),
+];
 
 #[test]
 fn audits_a_plan(rt: HostRuntime) -> Result<(), Fail> {
-    for (first, pin, want) in [
-        ([1, 2].as_slice(), [].as_slice(), pass(0, 1, 20)),
-        ([].as_slice(), [].as_slice(), pass(1, 0, 0)),
-        ([1, 2].as_slice(), [1, 2].as_slice(), broken(10, 2, 1, 1)),
-    ] {
-        assert_eq!(rt; first_planned(rt.alloc(), first, pin)?, want);
+    for (first, pin, want) in &PLANNED {
+        let routes = routes_of(rt.alloc(), first, &[])?;
+        assert!(rt; planned(rt.alloc(), routes, pin)? == *want);
     }
     Ok(())
 }
 
 #[test]
 fn asks_a_route_for_each_vehicle(rt: HostRuntime) -> Result<(), Fail> {
-    let one = planned(rt.alloc(), one_route(rt.alloc(), &[1, 2])?.routes, &[])?;
-    assert_eq!(rt; one, broken(9, 0, 0, 0));
+    let plan = one_route(rt.alloc(), &[1, 2])?;
+    assert!(rt; planned(rt.alloc(), plan.routes, &[])? == [9, 0, 0, 0]);
     Ok(())
+}
+
+// The fault of the first of these routes, 0 for none.
+fn first_fault(problem: &Problem, routes: &[Route]) -> u32
+    requires { All (AreLiveOnce problem.now) routes.now }
+{
+    for route in routes {
+        return route_fault(problem, route.as_slice()).unwrap_or(0);
+    }
+    0
 }
 
 // The fault of these stops as the only route, 0 for none and 1 where they are not live and distinct.
 fn fault_alone(alloc: Global, problem: &Problem, stops: &[u32]) -> Result<u32, Fail> {
     let plan = one_route(alloc, stops)?;
     if is_live_once(alloc, problem, &plan)? {
-        for route in plan.routes.as_slice() {
-            return Ok(route_fault(problem, route.as_slice()).unwrap_or(0));
-        }
+        return Ok(first_fault(problem, plan.routes.as_slice()));
     }
     Ok(1)
 }
 
+/// Routes over two pairs, of which the second pickup is due at 2, and the fault of each.
+const ROUTE_FAULTS: [(&[u32], u32); 6] = [
+    (&[], 0),
+    (&[1], 3),
+    (&[1, 3, 4], 3),
+    (&[1, 3, 4, 2], 0),
+    (&[3, 4], 7),
+    (&[4, 3], 5),
+];
+
 #[test]
 fn tells_the_fault_of_a_route(rt: HostRuntime) -> Result<(), Fail> {
     let problem = two_pairs(rt.alloc(), Kind::LiLim, 2)?;
-    for (stops, want) in [
-        ([0, 0, 0, 0], 0),
-        ([1, 0, 0, 0], 3),
-        ([1, 3, 4, 0], 3),
-        ([1, 3, 4, 2], 0),
-        ([3, 4, 0, 0], 7),
-        ([4, 3, 0, 0], 5),
-    ] {
-        let told = fault_alone(rt.alloc(), &problem, &stops)?;
-        assert_eq!(rt; told, want, "{stops:?}");
+    for (stops, want) in &ROUTE_FAULTS {
+        let fault = fault_alone(rt.alloc(), &problem, stops)?;
+        assert!(rt; fault == *want, "{stops:?}");
     }
     Ok(())
 }
@@ -222,42 +209,22 @@ fn pair_fault(
     fault_alone(alloc, &problem, &[1, 2])
 }
 
+/// The capacity, the delivery's latest start, the latest return, and the fault of the pair's route.
+const PAIR_FAULTS: [(u32, u32, u32, u32); 4] = [
+    (3, 11, 23, 6),
+    (10, 11, 23, 7),
+    (10, 12, 23, 8),
+    (10, 12, 24, 0),
+];
+
 #[test]
 fn tells_the_fault_of_one_pair(rt: HostRuntime) -> Result<(), Fail> {
-    for (capacity, latest, back, want) in [
-        (3, 11, 23, 6),
-        (10, 11, 23, 7),
-        (10, 12, 23, 8),
-        (10, 12, 24, 0),
-    ] {
-        let told = pair_fault(rt.alloc(), Kind::LiLim, capacity, latest, back)?;
-        assert_eq!(rt; told, want, "{want}");
+    for (capacity, latest, back, want) in &PAIR_FAULTS {
+        let fault = pair_fault(rt.alloc(), Kind::LiLim, *capacity, *latest, *back)?;
+        assert!(rt; fault == *want, "{want}");
     }
+    assert!(rt; pair_fault(rt.alloc(), Kind::Vrp, 10, 11, 23)? == 0);
     Ok(())
-}
-
-#[test]
-fn tells_no_late_stop_in_vrp(rt: HostRuntime) -> Result<(), Fail> {
-    assert_eq!(rt; pair_fault(rt.alloc(), Kind::Vrp, 10, 11, 23)?, 0);
-    Ok(())
-}
-
-// The verdict on the plan of a case, and that of the slow auditor.
-fn planned_twice(alloc: Global, case: &Case) -> Result<(Verdict, Verdict), Fail> {
-    let told = audit(alloc, &case.problem, &case.pins, &case.plan)?;
-    let routes = case.plan.routes.as_slice();
-    let pins = Asked::Pins(case.pins.routes.as_slice());
-    Ok((told, slow_audit(alloc, &case.problem, routes, pins)?))
-}
-
-// The same of the routes of a case as they are printed.
-fn printed_twice(alloc: Global, case: &Case) -> Result<(Verdict, Verdict), Fail> {
-    let routes = case.plan.routes.as_slice();
-    let cost = total_length(&case.problem, routes).saturating_add(case.more);
-    let slow = slow_audit(alloc, &case.problem, routes, Asked::Cost(cost))?;
-    let routes = case.plan.routes.copy()?;
-    let told = audit_solution(alloc, &case.problem, &Solution { routes, cost })?;
-    Ok((told, slow))
 }
 
 // How often each rule was told, 0 for pass.
@@ -271,11 +238,29 @@ fn count(seen: &mut [u32], verdict: Verdict) {
     }
 }
 
-// The two verdicts on the next plan, and those on the next printed solution.
-fn next_verdicts(alloc: Global, words: &mut Words) -> Result<[(Verdict, Verdict); 2], Fail> {
+// Whether the slow auditor tells the same of the plan of a case.
+fn plans_agree(alloc: Global, case: &Case, seen: &mut [u32]) -> Result<bool, Fail> {
+    let verdict = audit(alloc, &case.problem, &case.pins, &case.plan)?;
+    count(seen, verdict);
+    let pins = Asked::Pins(case.pins.routes.as_slice());
+    Ok(told(verdict) == told(slow_audit(case, case.plan.routes.as_slice(), pins)))
+}
+
+// Whether it does so of the routes of a case as they are printed.
+fn prints_agree(alloc: Global, case: &Case, seen: &mut [u32]) -> Result<bool, Fail> {
+    let length = total_length(&case.problem, &case.tasks, case.plan.routes.as_slice());
+    let cost = length.saturating_add(case.more);
+    let routes = case.plan.routes.copy()?;
+    let verdict = audit_solution(alloc, &case.problem, &Solution { routes, cost })?;
+    count(seen, verdict);
+    let slow = slow_audit(case, case.plan.routes.as_slice(), Asked::Cost(cost));
+    Ok(told(verdict) == told(slow))
+}
+
+// Whether both do in the next case.
+fn verdicts_agree(alloc: Global, words: &mut Words, seen: &mut [u32]) -> Result<bool, Fail> {
     let case = some_case(alloc, words)?;
-    let planned = planned_twice(alloc, &case)?;
-    Ok([planned, printed_twice(alloc, &case)?])
+    Ok(plans_agree(alloc, &case, seen)? && prints_agree(alloc, &case, seen)?)
 }
 
 #[test]
@@ -283,33 +268,30 @@ fn tells_what_the_slow_auditor_tells(rt: HostRuntime) -> Result<(), Fail> {
     let mut words = Words::new();
     let mut seen = [0u32; 12];
     for round in 0..600 {
-        for (told, slow) in next_verdicts(rt.alloc(), &mut words)? {
-            assert_eq!(rt; told, slow, "case {round}");
-            count(&mut seen, told);
-        }
+        let agree = verdicts_agree(rt.alloc(), &mut words, &mut seen)?;
+        assert!(rt; agree, "case {round}");
     }
     assert!(rt; !seen.contains(&0), "never told: {seen:?}");
     Ok(())
 }
 
 // What `route_fault` has to tell of a route, by the slow auditor; 1 where its stops are not live and distinct.
-fn slow_fault(alloc: Global, problem: &Problem, route: &[u32]) -> Result<u32, Fail> {
-    let alone = one_route(alloc, route)?;
-    let verdict = slow_audit(alloc, problem, alone.routes.as_slice(), Asked::Pins(&[]))?;
-    Ok(match verdict {
+fn slow_fault(case: &Case, alone: &[Route]) -> u32 {
+    match slow_audit(case, alone, Asked::Pins(&[])) {
         Verdict::Broken { rule: 2, .. } => 1,
         Verdict::Broken { rule, .. } if rule <= 8 => rule,
         _ => 0,
-    })
+    }
 }
 
-// Whether both tell the same of each route of the next case.
-fn next_faults_agree(alloc: Global, words: &mut Words) -> Result<bool, Fail> {
-    let case = some_case(alloc, words)?;
-    for route in case.plan.routes.as_slice() {
-        let told = fault_alone(alloc, &case.problem, route.as_slice())?;
-        if told != slow_fault(alloc, &case.problem, route.as_slice())? {
-            return Ok(false);
+// Whether both tell the same of each route of a case.
+fn route_faults_agree(alloc: Global, case: &Case) -> Result<bool, Fail> {
+    for alone in case.plan.routes.as_slice().chunks(1) {
+        for route in alone {
+            let fault = fault_alone(alloc, &case.problem, route.as_slice())?;
+            if fault != slow_fault(case, alone) {
+                return Ok(false);
+            }
         }
     }
     Ok(true)
@@ -319,84 +301,72 @@ fn next_faults_agree(alloc: Global, words: &mut Words) -> Result<bool, Fail> {
 fn tells_the_fault_that_the_slow_auditor_tells(rt: HostRuntime) -> Result<(), Fail> {
     let mut words = Words::new();
     for round in 0..300 {
-        assert!(rt; next_faults_agree(rt.alloc(), &mut words)?, "case {round}");
+        let case = some_case(rt.alloc(), &mut words)?;
+        assert!(rt; route_faults_agree(rt.alloc(), &case)?, "case {round}");
     }
     Ok(())
 }
 
-// The most pairs in routes of so many pairs, and idle vehicles.
-fn most_routes(alloc: Global, pairs: u32) -> Result<Routes, Fail> {
-    let mut routes = Routes::with_capacity(alloc, MAX_FLEET as usize)?;
-    let mut route = Route::new(alloc);
-    let mut left = pairs;
-    for pair in 0..MAX_STOP_NUMBER / 2 {
-        route.extend_from_slice([2 * pair + 1, 2 * pair + 2].as_slice())?;
-        left = left.saturating_sub(1);
-        if left == 0 {
-            routes.push(route)?;
-            route = Route::new(alloc);
-            left = pairs;
-        }
+// How many starts and loads these routes have.
+fn places_in(alloc: Global, problem: &Problem, routes: &[Route]) -> Result<[usize; 2], Fail>
+    requires { All (AreLiveOnce problem.now) routes.now }
+{
+    let mut places = [0usize; 2];
+    for route in routes {
+        let starts = starts(alloc, problem, route.as_slice())?.len();
+        let loads = loads(alloc, problem, route.as_slice())?.len();
+        places = [
+            places[0].saturating_add(starts),
+            places[1].saturating_add(loads),
+        ];
     }
-    for _ in routes.as_slice().len()..MAX_FLEET as usize {
-        routes.push(Route::new(alloc))?;
-    }
-    Ok(routes)
+    Ok(places)
 }
 
-// How many starts and how many loads the schedules of a plan have, none where its stops are not live and distinct.
-fn scheduled_places(alloc: Global, problem: &Problem, plan: &Plan) -> Result<(usize, usize), Fail> {
-    let mut count = (0usize, 0usize);
-    if is_live_once(alloc, problem, plan)? {
-        for route in plan.routes.as_slice() {
-            let starts = starts(alloc, problem, route.as_slice())?;
-            let loads = loads(alloc, problem, route.as_slice())?;
-            count.0 = count.0.saturating_add(starts.len());
-            count.1 = count.1.saturating_add(loads.len());
-        }
-    }
-    Ok(count)
-}
-
-// The verdict on the most pairs in routes of so many pairs, as a plan and as they are printed.
-fn audited(alloc: Global, pairs: u32) -> Result<(Verdict, Verdict), Fail> {
-    let problem = most_pairs(alloc)?;
-    let pins = Pins {
-        routes: Routes::new(alloc),
-    };
-    let routes = most_routes(alloc, pairs)?;
-    let plan = Plan {
-        routes: routes.copy()?,
-    };
-    let planned = audit(alloc, &problem, &pins, &plan)?;
-    let printed = audit_solution(alloc, &problem, &Solution { routes, cost: 0 })?;
-    Ok((planned, printed))
-}
-
-#[test]
-fn audits_the_largest_plans(rt: HostRuntime) -> Result<(), Fail> {
-    for (pairs, vehicles) in [(MAX_STOP_NUMBER / 2, 1), (1, 20_000)] {
-        let want = pass(0, vehicles, 0);
-        assert_eq!(rt; audited(rt.alloc(), pairs)?, (want, want));
-    }
-    Ok(())
-}
-
-// How many starts and how many loads the most pairs have in routes of so many pairs.
-fn scheduled(alloc: Global, pairs: u32) -> Result<(usize, usize), Fail> {
+// How many the most pairs have in routes of so many stops; none where they are not live and distinct.
+fn scheduled(alloc: Global, length: u32) -> Result<[usize; 2], Fail> {
     let problem = most_pairs(alloc)?;
     let plan = Plan {
-        routes: most_routes(alloc, pairs)?,
+        routes: most_routes(alloc, length)?,
     };
-    scheduled_places(alloc, &problem, &plan)
+    if is_live_once(alloc, &problem, &plan)? {
+        return places_in(alloc, &problem, plan.routes.as_slice());
+    }
+    Ok([0, 0])
 }
 
 #[test]
 fn schedules_the_largest_plans(rt: HostRuntime) -> Result<(), Fail> {
-    assert_eq!(rt;
-        scheduled(rt.alloc(), MAX_STOP_NUMBER / 2)?,
-        (80_000, 40_000)
-    );
-    assert_eq!(rt; scheduled(rt.alloc(), 1)?, (80_000, 40_000));
+    for length in [MAX_STOP_NUMBER, 2] {
+        assert!(rt; scheduled(rt.alloc(), length)? == [80_000, 40_000]);
+    }
+    Ok(())
+}
+
+// What is told of the most pairs in routes of so many stops as they are printed.
+fn largest_printed(alloc: Global, length: u32) -> Result<[u64; 4], Fail> {
+    let problem = most_pairs(alloc)?;
+    let routes = most_routes(alloc, length)?;
+    let solution = Solution { routes, cost: 0 };
+    Ok(told(audit_solution(alloc, &problem, &solution)?))
+}
+
+// The same as a plan.
+fn largest_planned(alloc: Global, length: u32) -> Result<[u64; 4], Fail> {
+    let problem = most_pairs(alloc)?;
+    let routes = most_routes(alloc, length)?;
+    let pins = Pins {
+        routes: Routes::new(alloc),
+    };
+    Ok(told(audit(alloc, &problem, &pins, &Plan { routes })?))
+}
+
+#[test]
+fn audits_the_largest_plans(rt: HostRuntime) -> Result<(), Fail> {
+    for (length, vehicles) in [(MAX_STOP_NUMBER, 1), (2, 20_000)] {
+        let want = [0, 0, vehicles, 0];
+        assert!(rt; largest_printed(rt.alloc(), length)? == want);
+        assert!(rt; largest_planned(rt.alloc(), length)? == want);
+    }
     Ok(())
 }

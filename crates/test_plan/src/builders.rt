@@ -40,16 +40,25 @@ pub(crate) fn pair_at(number: u32, place: (i32, i32), latest: u32) -> Request {
     Request::Pair(pickup, stop_at(number.saturating_add(1), place, -1, 50, 0))
 }
 
-/// A problem without requests: the depot at (0, 0), where each vehicle has to be back at the latest then.
-pub(crate) fn depot_alone(
+/// The depot at (0, 0), where each vehicle has to be back at the latest then.
+pub(crate) fn depot_until(back: u32) -> Stop {
+    stop_at(0, (0, 0), 0, back, 0)
+}
+
+/// A problem of these requests.
+pub(crate) fn problem_of(
     alloc: Global,
     kind: Kind,
+    depot: Stop,
     capacity: u32,
     fleet: u32,
-    back: u32,
+    requests: &[Request],
 ) -> Result<Problem, Fail> {
-    let depot = stop_at(0, (0, 0), 0, back, 0);
-    Ok(Problem::new(alloc, kind, depot, capacity, fleet)?)
+    let mut problem = Problem::new(alloc, kind, depot, capacity, fleet)?;
+    for request in requests {
+        problem.put(*request)?;
+    }
+    Ok(problem)
 }
 
 /// One pickup and its delivery, with a fleet of two.
@@ -72,36 +81,49 @@ pub(crate) fn one_pair(
 
 /// Two pairs on two places, with a fleet of one. The second pickup may have to be served soon.
 pub(crate) fn two_pairs(alloc: Global, kind: Kind, latest: u32) -> Result<Problem, Fail> {
-    let mut problem = depot_alone(alloc, kind, 10, 1, 100)?;
-    problem.put(pair_at(1, (1, 1), 50))?;
-    problem.put(pair_at(3, (2, 2), latest))?;
-    Ok(problem)
+    let requests = [pair_at(1, (1, 1), 50), pair_at(3, (2, 2), latest)];
+    problem_of(alloc, kind, depot_until(100), 10, 1, &requests)
 }
 
 /// As many pairs as a problem can have, all at the depot, and as many vehicles.
 pub(crate) fn most_pairs(alloc: Global) -> Result<Problem, Fail> {
-    let mut problem = depot_alone(alloc, Kind::LiLim, 1, MAX_FLEET, 100)?;
+    let mut problem = Problem::new(alloc, Kind::LiLim, depot_until(100), 1, MAX_FLEET)?;
     for pair in 0..MAX_STOP_NUMBER / 2 {
         problem.put(pair_at(2 * pair + 1, (0, 0), 100))?;
     }
     Ok(problem)
 }
 
-/// A route of these stops, where 0 stands for none.
-pub(crate) fn route_of(alloc: Global, stops: &[u32]) -> Result<Route, Fail> {
-    let mut route = Vec::new(alloc);
-    for stop in stops {
-        if *stop > 0 {
-            route.push(*stop)?;
-        }
+/// A route of the stops from the first number to the last.
+pub(crate) fn route_between(alloc: Global, first: u32, last: u32) -> Result<Route, Fail> {
+    let mut route = Route::new(alloc);
+    for number in first..=last {
+        route.push(number)?;
     }
-    Ok(Route::from(route))
+    Ok(route)
+}
+
+/// All stops in routes of so many, by number, and idle vehicles behind them.
+pub(crate) fn most_routes(alloc: Global, length: u32) -> Result<Routes, Fail> {
+    let mut routes = Routes::with_capacity(alloc, MAX_FLEET as usize)?;
+    for vehicle in 0..MAX_FLEET {
+        let before = vehicle.saturating_mul(length);
+        let last = before.saturating_add(length).min(MAX_STOP_NUMBER);
+        routes.push(route_between(alloc, before.saturating_add(1), last)?)?;
+    }
+    Ok(routes)
+}
+
+pub(crate) fn route_of(alloc: Global, stops: &[u32]) -> Result<Route, Fail> {
+    Ok(Route::from(Vec::from_slice(alloc, stops)?))
 }
 
 pub(crate) fn routes_of(alloc: Global, first: &[u32], second: &[u32]) -> Result<Routes, Fail> {
-    let first = route_of(alloc, first)?;
-    let second = route_of(alloc, second)?;
-    Ok(Routes::from(vec![in alloc; first, second]?))
+    let mut routes = Routes::new(alloc);
+    for stops in [first, second] {
+        routes.push(route_of(alloc, stops)?)?;
+    }
+    Ok(routes)
 }
 
 pub(crate) fn one_route(alloc: Global, stops: &[u32]) -> Result<Plan, Fail> {

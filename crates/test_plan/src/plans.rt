@@ -1,6 +1,6 @@
 //! Routes, plans, pins and costs.
-use crate::builders::{one_route, route_of, routes_of};
-use plan_types::limits::{MAX_FLEET, MAX_STOP_NUMBER};
+use crate::builders::{most_routes, one_route, route_between, route_of, routes_of};
+use plan_types::limits::MAX_STOP_NUMBER;
 use plan_types::{Cost, Pins, Plan, Route, Routes};
 use std::alloc::Global;
 use std::test::Fail;
@@ -9,8 +9,8 @@ use std::test::Fail;
 fn copies_a_plan(rt: HostRuntime) -> Result<(), Fail> {
     let plan = one_route(rt.alloc(), &[2, 1])?;
     let routes = plan.copy()?.routes.into_vec();
-    assert_eq!(rt; routes.len(), 1);
-    assert_eq!(rt; routes[0].as_slice(), [2, 1].as_slice());
+    assert!(rt; routes.len() == 1);
+    assert!(rt; routes[0].as_slice() == [2, 1].as_slice());
     Ok(())
 }
 
@@ -19,47 +19,41 @@ fn copies_pins(rt: HostRuntime) -> Result<(), Fail> {
     let pins = Pins {
         routes: routes_of(rt.alloc(), &[3], &[])?,
     };
-    assert_eq!(rt; pins.copy()?.routes.as_slice().len(), 2);
+    assert!(rt; pins.copy()?.routes.as_slice().len() == 2);
     Ok(())
 }
 
 #[test]
 fn builds_a_route(rt: HostRuntime) -> Result<(), Fail> {
     let mut route = Route::with_capacity(rt.alloc(), 3)?;
-    route.push(2)?;
     route.extend_from_slice(&[1, 3])?;
-    assert_eq!(rt; route.as_slice(), [2, 1, 3].as_slice());
+    assert!(rt; route.as_slice() == [1, 3].as_slice());
     Ok(())
 }
 
 #[test]
-fn puts_stops_in(rt: HostRuntime) -> Result<(), Fail> {
-    let mut route = Route::new(rt.alloc());
-    route.push(4)?;
+fn puts_a_stop_in(rt: HostRuntime) -> Result<(), Fail> {
+    let mut route = route_of(rt.alloc(), &[4])?;
     route.insert(0, 5)?;
-    assert_eq!(rt; route.as_slice(), [5, 4].as_slice());
+    assert!(rt; route.as_slice() == [5, 4].as_slice());
     Ok(())
+}
+
+// Puts 6 in place of the second stop and takes the first one out, which it tells.
+fn edit_stops(route: &mut Route) -> u32 {
+    if route.as_slice().len() < 2 {
+        return 0;
+    }
+    route.set(1, 6);
+    route.remove(0)
 }
 
 #[test]
 fn edits_stops_in_place(rt: HostRuntime) -> Result<(), Fail> {
     let mut route = route_of(rt.alloc(), &[5, 4])?;
-    if route.as_slice().len() == 2 {
-        route.set(1, 6);
-    }
-    if !route.as_slice().is_empty() {
-        assert_eq!(rt; route.remove(0), 5);
-    }
-    assert_eq!(rt; route.as_slice(), [6].as_slice());
+    assert!(rt; edit_stops(&mut route) == 5);
+    assert!(rt; route.as_slice() == [6].as_slice());
     Ok(())
-}
-
-// The routes of two vehicles, the first of which stays at the depot.
-fn second_alone(alloc: Global) -> Result<Routes, Fail> {
-    let mut routes = Routes::with_capacity(alloc, 2)?;
-    routes.push(Route::new(alloc))?;
-    routes.push(route_of(alloc, &[2, 1])?)?;
-    Ok(routes)
 }
 
 // Whether these are two routes with these stops.
@@ -70,79 +64,83 @@ fn are_two(routes: &Routes, first: &[u32], second: &[u32]) -> bool {
     }
 }
 
+// The routes of two vehicles, the first of which stays at the depot.
+fn second_alone(alloc: Global) -> Result<Routes, Fail> {
+    let mut routes = Routes::with_capacity(alloc, 2)?;
+    for stops in [[].as_slice(), [2, 1].as_slice()] {
+        routes.push(route_of(alloc, stops)?)?;
+    }
+    Ok(routes)
+}
+
 #[test]
 fn builds_routes(rt: HostRuntime) -> Result<(), Fail> {
-    let routes = second_alone(rt.alloc())?;
-    assert!(rt; are_two(&routes, &[], &[2, 1]));
+    assert!(rt; are_two(&second_alone(rt.alloc())?, &[], &[2, 1]));
     assert!(rt; Routes::new(rt.alloc()).as_slice().is_empty());
     Ok(())
 }
 
-// The routes with this one in place of the first, and a stop more in front of it.
-fn with_first(mut routes: Routes, route: Route, stop: u32) -> Result<Routes, Fail> {
+// Puts the route in place of the first one, and a stop more in front of it.
+fn set_first(routes: &mut Routes, route: Route, stop: u32) -> Result<(), Fail> {
     if !routes.as_slice().is_empty() {
         routes.set(0, route);
         routes.route_mut(0).insert(0, stop)?;
     }
-    Ok(routes)
+    Ok(())
 }
 
 #[test]
 fn edits_routes(rt: HostRuntime) -> Result<(), Fail> {
-    let routes = with_first(second_alone(rt.alloc())?, route_of(rt.alloc(), &[4])?, 6)?;
+    let mut routes = routes_of(rt.alloc(), &[], &[2, 1])?;
+    set_first(&mut routes, route_of(rt.alloc(), &[4])?, 6)?;
     assert!(rt; are_two(&routes, &[6, 4], &[2, 1]));
     Ok(())
 }
 
+// Takes the first route out, in whose place the vehicle stays at the depot. Whether it had these stops.
+fn takes_first(alloc: Global, routes: &mut Routes, stops: &[u32]) -> bool {
+    if routes.as_slice().is_empty() {
+        return false;
+    }
+    routes.replace(0, Route::new(alloc)).as_slice() == stops
+}
+
 #[test]
 fn takes_a_route_out(rt: HostRuntime) -> Result<(), Fail> {
-    let mut routes = Routes::new(rt.alloc());
-    routes.push(route_of(rt.alloc(), &[2, 1])?)?;
-    let old = routes.replace(0, Route::new(rt.alloc()));
-    assert_eq!(rt; old.as_slice(), [2, 1].as_slice());
-    assert_eq!(rt; routes.as_slice().len(), 1);
+    let mut routes = routes_of(rt.alloc(), &[2, 1], &[3])?;
+    assert!(rt; takes_first(rt.alloc(), &mut routes, &[2, 1]));
+    assert!(rt; are_two(&routes, &[], &[3]));
     Ok(())
-}
-
-// A route of as many stops as there are.
-fn whole_route(alloc: Global) -> Result<Route, Fail> {
-    let mut route = Route::with_capacity(alloc, MAX_STOP_NUMBER as usize)?;
-    for number in 1..=MAX_STOP_NUMBER {
-        route.push(number)?;
-    }
-    Ok(route)
-}
-
-// As many routes as there are, each of the stop with its number.
-fn single_routes(alloc: Global) -> Result<Routes, Fail> {
-    let mut routes = Routes::with_capacity(alloc, MAX_FLEET as usize)?;
-    for number in 1..=MAX_FLEET {
-        let mut route = Route::new(alloc);
-        route.push(number)?;
-        routes.push(route)?;
-    }
-    Ok(routes)
 }
 
 #[test]
 fn copies_the_largest_route(rt: HostRuntime) -> Result<(), Fail> {
-    let route = whole_route(rt.alloc())?;
+    let route = route_between(rt.alloc(), 1, MAX_STOP_NUMBER)?;
     let copy = route.copy()?;
-    assert_eq!(rt; copy.as_slice(), route.as_slice());
+    assert!(rt; copy.as_slice() == route.as_slice());
     Ok(())
+}
+
+// Whether each route has one stop, of its number.
+fn are_singles(routes: &[Route]) -> bool {
+    let mut number = 0u32;
+    for route in routes {
+        number = number.saturating_add(1);
+        if route.as_slice() != [number].as_slice() {
+            return false;
+        }
+    }
+    true
 }
 
 #[test]
 fn copies_the_largest_plan(rt: HostRuntime) -> Result<(), Fail> {
     let plan = Plan {
-        routes: single_routes(rt.alloc())?,
+        routes: most_routes(rt.alloc(), 1)?,
     };
     let routes = plan.copy()?.routes.into_vec();
-    assert_eq!(rt; routes.len(), 40_000);
-    for (index, route) in routes.iter().enumerate() {
-        let number = index as u32 + 1;
-        assert_eq!(rt; route.as_slice(), [number].as_slice());
-    }
+    assert!(rt; routes.len() == 40_000);
+    assert!(rt; are_singles(&routes));
     Ok(())
 }
 

@@ -1,5 +1,5 @@
 //! Problems: what stands in them, what is put in and taken out.
-use crate::builders::{depot_alone, most_pairs, pair_at, single, two_pairs};
+use crate::builders::{depot_until, most_pairs, pair_at, problem_of, single, two_pairs};
 use plan_types::limits::MAX_STOP_NUMBER;
 use plan_types::{Kind, Problem, PutFault};
 use std::alloc::Global;
@@ -7,10 +7,8 @@ use std::test::Fail;
 
 // A pair with the numbers 3 and 4, and then a stop with the number 1.
 fn pair_and_single(alloc: Global) -> Result<Problem, Fail> {
-    let mut problem = depot_alone(alloc, Kind::LiLim, 10, 2, 100)?;
-    problem.put(pair_at(3, (3, 4), 100))?;
-    problem.put(single(1, (1, 1), 2, 100))?;
-    Ok(problem)
+    let requests = [pair_at(3, (3, 4), 100), single(1, (1, 1), 2, 100)];
+    problem_of(alloc, Kind::LiLim, depot_until(100), 10, 2, &requests)
 }
 
 // The name, the partner and the pickup at a number, 0 for none.
@@ -20,17 +18,20 @@ fn found(problem: &Problem, number: u32) -> [u32; 3] {
     [name, partner, problem.pickup_of(number).unwrap_or(0)]
 }
 
+/// A number, and the name, the partner and the pickup there.
+const FOUND: [(u32, [u32; 3]); 5] = [
+    (1, [1, 0, 0]),
+    (2, [0, 0, 0]),
+    (3, [3, 4, 0]),
+    (4, [3, 3, 3]),
+    (5, [0, 0, 0]),
+];
+
 #[test]
 fn finds_requests_by_number(rt: HostRuntime) -> Result<(), Fail> {
     let problem = pair_and_single(rt.alloc())?;
-    for (number, want) in [
-        (1, [1, 0, 0]),
-        (2, [0, 0, 0]),
-        (3, [3, 4, 0]),
-        (4, [3, 3, 3]),
-        (5, [0, 0, 0]),
-    ] {
-        assert_eq!(rt; found(&problem, number), want, "at {number}");
+    for (number, want) in &FOUND {
+        assert!(rt; found(&problem, *number) == *want, "at {number}");
     }
     Ok(())
 }
@@ -40,17 +41,20 @@ fn demand(problem: &Problem, number: u32) -> Option<i32> {
     Some(problem.stop(number)?.demand)
 }
 
+/// A number, and the demand there.
+const DEMANDS: [(u32, Option<i32>); 5] = [
+    (1, Some(2)),
+    (2, None),
+    (3, Some(1)),
+    (4, Some(-1)),
+    (5, None),
+];
+
 #[test]
 fn finds_stops_by_number(rt: HostRuntime) -> Result<(), Fail> {
     let problem = pair_and_single(rt.alloc())?;
-    for (number, want) in [
-        (1, Some(2)),
-        (2, None),
-        (3, Some(1)),
-        (4, Some(-1)),
-        (5, None),
-    ] {
-        assert_eq!(rt; demand(&problem, number), want, "at {number}");
+    for (number, want) in &DEMANDS {
+        assert!(rt; demand(&problem, *number) == *want, "at {number}");
     }
     Ok(())
 }
@@ -64,8 +68,8 @@ fn first_name(problem: &Problem) -> Option<u32> {
 #[test]
 fn keeps_requests_by_name(rt: HostRuntime) -> Result<(), Fail> {
     let problem = pair_and_single(rt.alloc())?;
-    assert_eq!(rt; first_name(&problem), Some(1));
-    assert_eq!(rt; problem.next_number, 5);
+    assert!(rt; first_name(&problem) == Some(1));
+    assert!(rt; problem.next_number == 5);
     Ok(())
 }
 
@@ -73,28 +77,27 @@ fn keeps_requests_by_name(rt: HostRuntime) -> Result<(), Fail> {
 fn refuses_requests(rt: HostRuntime) -> Result<(), Fail> {
     let mut problem = pair_and_single(rt.alloc())?;
     let taken = problem.put(single(4, (0, 0), 1, 100));
-    assert_eq!(rt; taken, Err(PutFault::Taken));
+    assert!(rt; taken == Err(PutFault::Taken));
     let range = problem.put(single(40_001, (0, 0), 1, 100));
-    assert_eq!(rt; range, Err(PutFault::Range));
+    assert!(rt; range == Err(PutFault::Range));
     Ok(())
 }
 
 #[test]
 fn copies_a_problem(rt: HostRuntime) -> Result<(), Fail> {
     let copy = pair_and_single(rt.alloc())?.copy()?;
-    assert_eq!(rt; copy.requests.len(), 2);
-    assert_eq!(rt; found(&copy, 3), [3, 4, 0]);
-    assert_eq!(rt; demand(&copy, 3), Some(1));
+    assert!(rt; copy.requests.len() == 2);
+    assert!(rt; found(&copy, 3) == [3, 4, 0]);
+    assert!(rt; demand(&copy, 3) == Some(1));
     Ok(())
 }
 
 #[test]
 fn takes_out_a_request_by_its_name(rt: HostRuntime) -> Result<(), Fail> {
     let mut problem = two_pairs(rt.alloc(), Kind::LiLim, 50)?;
-    let pair = pair_at(3, (2, 2), 50);
-    for (name, want) in [(4, None), (3, Some(pair)), (3, None)] {
-        assert_eq!(rt; problem.take(name), want, "request {name}");
-    }
+    assert!(rt; problem.take(4).is_none());
+    assert!(rt; problem.take(3) == Some(pair_at(3, (2, 2), 50)));
+    assert!(rt; problem.take(3).is_none());
     Ok(())
 }
 
@@ -105,18 +108,21 @@ fn first_pair(alloc: Global) -> Result<Problem, Fail> {
     Ok(problem)
 }
 
+/// A number of the first of two pairs, and what is there, where the second was taken out.
+const LEFT: [(u32, [u32; 3]); 4] = [
+    (1, [1, 2, 0]),
+    (2, [1, 1, 1]),
+    (3, [0, 0, 0]),
+    (4, [0, 0, 0]),
+];
+
 #[test]
 fn takes_out_no_other_request(rt: HostRuntime) -> Result<(), Fail> {
     let problem = first_pair(rt.alloc())?;
-    for (number, want) in [
-        (1, [1, 2, 0]),
-        (2, [1, 1, 1]),
-        (3, [0, 0, 0]),
-        (4, [0, 0, 0]),
-    ] {
-        assert_eq!(rt; found(&problem, number), want, "at {number}");
+    for (number, want) in &LEFT {
+        assert!(rt; found(&problem, *number) == *want, "at {number}");
     }
-    assert_eq!(rt; problem.next_number, 5);
+    assert!(rt; problem.next_number == 5);
     Ok(())
 }
 
@@ -124,7 +130,7 @@ fn takes_out_no_other_request(rt: HostRuntime) -> Result<(), Fail> {
 fn takes_a_number_that_is_free_again(rt: HostRuntime) -> Result<(), Fail> {
     let mut problem = first_pair(rt.alloc())?;
     problem.put(single(4, (0, 0), 1, 100))?;
-    assert_eq!(rt; found(&problem, 4), [4, 0, 0]);
+    assert!(rt; found(&problem, 4) == [4, 0, 0]);
     Ok(())
 }
 
@@ -147,8 +153,8 @@ fn stand_in_pairs(problem: &Problem) -> bool {
 fn keeps_as_many_stops_as_there_are_numbers(rt: HostRuntime) -> Result<(), Fail> {
     let problem = most_pairs(rt.alloc())?.copy()?;
     assert!(rt; stand_in_pairs(&problem));
-    assert_eq!(rt; problem.requests.len(), 20_000);
-    assert_eq!(rt; problem.next_number, 40_001);
+    assert!(rt; problem.requests.len() == 20_000);
+    assert!(rt; problem.next_number == 40_001);
     Ok(())
 }
 
@@ -169,6 +175,6 @@ fn takes_requests_out_of_the_largest_problem(rt: HostRuntime) -> Result<(), Fail
     for name in [1, 20_001, 39_999] {
         assert!(rt; problem.take(name).is_some(), "{name} is there");
     }
-    assert_eq!(rt; stop_count(&problem), 39_994);
+    assert!(rt; stop_count(&problem) == 39_994);
     Ok(())
 }

@@ -1,9 +1,8 @@
 //! A plain and slow auditor, to be run beside the real one: it asks every rule of every route and place, as the
 //! rules are written, and keeps the least of what is broken.
+use crate::words::{Case, Task};
 use plan_audit::Verdict;
-use plan_types::{Cost, Kind, Problem, Request, Route, Stop};
-use std::alloc::Global;
-use std::test::Fail;
+use plan_types::{Cost, Kind, Problem, Route, Stop};
 
 /// What is audited beside the routes.
 #[derive(Clone, Copy)]
@@ -14,8 +13,8 @@ pub(crate) enum Asked<'a> {
     Cost(u64),
 }
 
-/// A broken rule, in the order in which they are compared.
-#[derive(Clone, Copy, Debug, PartialEq, Eq, PartialOrd, Ord)]
+/// A broken rule.
+#[derive(Clone, Copy)]
 struct Broken {
     rule: u32,
     route: u64,
@@ -23,53 +22,68 @@ struct Broken {
     stop: u32,
 }
 
+impl Broken {
+    // Whether this one is told rather than the other.
+    fn precedes(&self, other: &Broken) -> bool {
+        if self.rule != other.rule {
+            return self.rule < other.rule;
+        }
+        if self.route != other.route {
+            return self.route < other.route;
+        }
+        if self.place != other.place {
+            return self.place < other.place;
+        }
+        self.stop < other.stop
+    }
+}
+
 /// A place of the routes; routes and places count from 0.
-#[derive(Clone, Copy, Debug, PartialEq, Eq)]
+#[derive(Clone, Copy)]
 struct Seat {
     route: usize,
     place: usize,
 }
 
 /// The verdict by the definition.
-pub(crate) fn slow_audit(
-    alloc: Global,
-    problem: &Problem,
-    routes: &[Route],
-    asked: Asked,
-) -> Result<Verdict, Fail> {
+pub(crate) fn slow_audit(case: &Case, routes: &[Route], asked: Asked) -> Verdict {
     let mut slow = Slow {
-        alloc,
-        problem,
+        problem: &case.problem,
+        tasks: &case.tasks,
         routes,
         least: None,
     };
     for (number, route) in routes.iter().enumerate() {
-        slow.ask_route(number, route.as_slice())?;
+        slow.ask_route(number, route.as_slice());
     }
     match asked {
         Asked::Pins(pins) => slow.ask_plan(pins),
-        Asked::Cost(cost) => slow.ask_solution(cost)?,
+        Asked::Cost(cost) => slow.ask_solution(cost),
     }
-    match slow.least {
-        Some(broken) => Ok(Verdict::Broken {
-            rule: broken.rule,
-            route: broken.route,
-            place: broken.place,
-            stop: broken.stop,
-        }),
-        None => Ok(Verdict::Pass(slow.cost()?)),
-    }
+    slow.verdict()
 }
 
 #[derive(Drop)]
 struct Slow<'a> {
-    alloc: Global,
     problem: &'a Problem,
+    tasks: &'a [Task],
     routes: &'a [Route],
     least: Option<Broken>,
 }
 
 impl Slow<'_> {
+    fn verdict(&self) -> Verdict {
+        match self.least {
+            Some(broken) => Verdict::Broken {
+                rule: broken.rule,
+                route: broken.route,
+                place: broken.place,
+                stop: broken.stop,
+            },
+            None => Verdict::Pass(self.cost()),
+        }
+    }
+
     // Keeps the lesser one.
     fn tell(&mut self, rule: u32, route: usize, place: usize, stop: u32) {
         let broken = Broken {
@@ -79,75 +93,74 @@ impl Slow<'_> {
             stop,
         };
         let least = self.least.unwrap_or(broken);
-        self.least = Some(if least <= broken { least } else { broken });
+        self.least = Some(if broken.precedes(&least) {
+            broken
+        } else {
+            least
+        });
     }
 
-    // Every place where a stop stands.
-    fn seats(&self, stop: u32) -> Result<Vec<Seat>, Fail> {
-        let mut seats = Vec::new(self.alloc);
-        for (route, stops) in self.routes.iter().enumerate() {
-            for (place, other) in stops.as_slice().iter().enumerate() {
-                if *other == stop {
-                    seats.push(Seat { route, place })?;
-                }
+    // Whether the stop stands in one of the routes from this number to before that one.
+    fn is_in(&self, from: usize, to: usize, stop: u32) -> bool {
+        for (number, route) in self.routes.iter().enumerate() {
+            if from <= number && number < to && route.as_slice().contains(&stop) {
+                return true;
             }
         }
-        Ok(seats)
+        false
     }
 
     // The rules on one route, told of the places counted from 1.
-    fn ask_route(&mut self, route: usize, stops: &[u32]) -> Result<(), Fail> {
-        let problem = self.problem;
+    fn ask_route(&mut self, number: usize, stops: &[u32]) {
         for (place, stop) in stops.iter().enumerate() {
-            self.ask_seat(Seat { route, place }, *stop)?;
-            self.ask_visit(Seat { route, place }, *stop, stops);
+            let seat = Seat {
+                route: number,
+                place,
+            };
+            self.ask_seat(seat, *stop, stops);
+            self.ask_visit(seat, *stop, stops);
         }
+        if !stops.is_empty() {
+            self.ask_use(number, stops);
+        }
+    }
+
+    // The rules on a route that is used.
+    fn ask_use(&mut self, number: usize, stops: &[u32]) {
+        let problem = self.problem;
         let back = stops.len().saturating_add(1);
-        let late = start(problem, stops, back) > u64::from(problem.depot.latest);
-        if problem.kind == Kind::LiLim && !stops.is_empty() && late {
-            self.tell(8, route.saturating_add(1), back, 0);
+        let late = start(problem, self.tasks, stops, back) > u64::from(problem.depot.latest);
+        if problem.kind == Kind::LiLim && late {
+            self.tell(8, number.saturating_add(1), back, 0);
         }
-        let used = used_among(self.routes, route.saturating_add(1));
-        if !stops.is_empty() && used == u64::from(problem.fleet).saturating_add(1) {
-            self.tell(9, route.saturating_add(1), 0, 0);
+        let used = used_among(self.routes, number.saturating_add(1));
+        if used == u64::from(problem.fleet).saturating_add(1) {
+            self.tell(9, number.saturating_add(1), 0, 0);
         }
-        Ok(())
     }
 
     // The rules on where stops stand, at one place.
-    fn ask_seat(&mut self, seat: Seat, stop: u32) -> Result<(), Fail> {
+    fn ask_seat(&mut self, seat: Seat, stop: u32, stops: &[u32]) {
         let route = seat.route.saturating_add(1);
         let place = seat.place.saturating_add(1);
-        let request = request_of(self.problem, stop);
-        if request.is_none() {
+        if self.is_in(0, seat.route, stop) || stands_before(stops, seat.place, stop) {
+            self.tell(2, route, place, stop);
+        }
+        let Some(task) = task_of(self.tasks, stop) else {
             self.tell(1, route, place, stop);
-        }
-        for other in &self.seats(stop)? {
-            if other.route < seat.route || (other.route == seat.route && other.place < seat.place) {
-                self.tell(2, route, place, stop);
-            }
-        }
-        let Some(Request::Pair(pickup, delivery)) = request else {
-            return Ok(());
+            return;
         };
-        let is_pickup = pickup.number == stop;
-        let partner = if is_pickup {
-            delivery.number
-        } else {
-            pickup.number
-        };
-        let seats = self.seats(partner)?;
-        if seats.is_empty() {
-            self.tell(3, route, place, partner);
+        if task.partner == stop {
+            return;
         }
-        for other in &seats {
-            if other.route != seat.route {
-                self.tell(4, route, place, stop);
-            } else if !is_pickup && other.place > seat.place {
-                self.tell(5, route, place, stop);
-            }
+        if self.is_in(0, seat.route, task.partner) || self.is_in(route, usize::MAX, task.partner) {
+            self.tell(4, route, place, stop);
+        } else if !stops.contains(&task.partner) {
+            self.tell(3, route, place, task.partner);
         }
-        Ok(())
+        if task.name != stop && stands_behind(stops, seat.place, task.partner) {
+            self.tell(5, route, place, stop);
+        }
     }
 
     // The rules on loads and times, at one place.
@@ -155,11 +168,12 @@ impl Slow<'_> {
         let problem = self.problem;
         let route = seat.route.saturating_add(1);
         let place = seat.place.saturating_add(1);
-        if load(problem, stops, place) > i64::from(problem.capacity) {
+        if load(self.tasks, stops, place) > i64::from(problem.capacity) {
             self.tell(6, route, place, stop);
         }
-        let latest = place_of(problem, stops, place).latest;
-        if problem.kind == Kind::LiLim && start(problem, stops, place) > u64::from(latest) {
+        let latest = place_of(problem, self.tasks, stops, place).latest;
+        let begun = start(problem, self.tasks, stops, place);
+        if problem.kind == Kind::LiLim && begun > u64::from(latest) {
             self.tell(7, route, place, stop);
         }
     }
@@ -182,53 +196,60 @@ impl Slow<'_> {
     }
 
     // The rules on a printed solution alone.
-    fn ask_solution(&mut self, cost: u64) -> Result<(), Fail> {
-        let problem = self.problem;
-        for index in 0..problem.requests.len() {
-            if let Some(name) = self.unserved_at(index)? {
-                self.tell(3, 0, 0, name);
+    fn ask_solution(&mut self, cost: u64) {
+        for task in self.tasks {
+            if self.is_unserved(task) {
+                self.tell(3, 0, 0, task.name);
             }
         }
-        if cost != self.cost()?.distance {
+        if cost != self.cost().distance {
             self.tell(11, 0, 0, 0);
         }
-        Ok(())
     }
 
-    // The name of the request at this index, where it has no stop in any route.
-    fn unserved_at(&self, index: usize) -> Result<Option<u32>, Fail> {
-        let problem = self.problem;
-        let Some((name, request)) = problem.requests.get_index(index) else {
-            return Ok(None);
-        };
-        let seats = match request {
-            Request::Single(stop) => self.seats(stop.number)?.len(),
-            Request::Pair(pickup, delivery) => {
-                let delivered = self.seats(delivery.number)?.len();
-                self.seats(pickup.number)?.len().saturating_add(delivered)
-            }
-        };
-        Ok(if seats == 0 { Some(*name) } else { None })
+    // Whether this is the first stop of a request that has none in any route.
+    fn is_unserved(&self, task: &Task) -> bool {
+        task.name == task.stop.number
+            && !self.is_in(0, usize::MAX, task.name)
+            && !self.is_in(0, usize::MAX, task.partner)
     }
 
-    fn cost(&self) -> Result<Cost, Fail> {
-        let problem = self.problem;
+    fn cost(&self) -> Cost {
         let mut unplanned = 0u64;
-        for index in 0..problem.requests.len() {
-            if self.unserved_at(index)?.is_some() {
+        for task in self.tasks {
+            if self.is_unserved(task) {
                 unplanned = unplanned.saturating_add(1);
             }
         }
+        let problem = self.problem;
         let vehicles = match problem.kind {
             Kind::LiLim => used_among(self.routes, self.routes.len()),
             Kind::Vrp => 0,
         };
-        Ok(Cost {
+        Cost {
             unplanned,
             vehicles,
-            distance: total_length(problem, self.routes),
-        })
+            distance: total_length(problem, self.tasks, self.routes),
+        }
     }
+}
+
+fn stands_before(stops: &[u32], place: usize, stop: u32) -> bool {
+    for other in stops.iter().take(place) {
+        if *other == stop {
+            return true;
+        }
+    }
+    false
+}
+
+fn stands_behind(stops: &[u32], place: usize, stop: u32) -> bool {
+    for (at, other) in stops.iter().enumerate() {
+        if place < at && *other == stop {
+            return true;
+        }
+    }
+    false
 }
 
 // How many of the first so many routes are used.
@@ -245,102 +266,99 @@ fn used_among(routes: &[Route], number: usize) -> u64 {
 // The first place at which a route is not as its pin, with the pin's stop.
 fn first_off(route: &[u32], pin: &[u32]) -> Option<(usize, u32)> {
     for (place, stop) in pin.iter().enumerate() {
-        if route.get(place) != Some(stop) {
+        let Some(other) = route.get(place) else {
+            return Some((place, *stop));
+        };
+        if *other != *stop {
             return Some((place, *stop));
         }
     }
     None
 }
 
-// The request that has the stop.
-fn request_of(problem: &Problem, stop: u32) -> Option<Request> {
-    for index in 0..problem.requests.len() {
-        let (_, request) = problem.requests.get_index(index)?;
-        let has_it = match request {
-            Request::Single(single) => single.number == stop,
-            Request::Pair(pickup, delivery) => pickup.number == stop || delivery.number == stop,
-        };
-        if has_it {
-            return Some(*request);
+fn task_of(tasks: &[Task], stop: u32) -> Option<Task> {
+    for task in tasks {
+        if task.stop.number == stop {
+            return Some(*task);
         }
     }
     None
 }
 
 // The stop at a place; the depot stands at place 0, and behind the last stop.
-fn place_of(problem: &Problem, route: &[u32], place: usize) -> Stop {
-    if place == 0 {
-        return problem.depot;
-    }
-    let Some(number) = route.get(place - 1) else {
+fn place_of(problem: &Problem, tasks: &[Task], route: &[u32], place: usize) -> Stop {
+    let Some(number) = route.get(place.wrapping_sub(1)) else {
         return problem.depot;
     };
-    match request_of(problem, *number) {
-        Some(Request::Single(stop)) => stop,
-        Some(Request::Pair(pickup, _)) if pickup.number == *number => pickup,
-        Some(Request::Pair(_, delivery)) => delivery,
+    match task_of(tasks, *number) {
+        Some(task) => task.stop,
         None => problem.depot,
     }
 }
 
 // When service starts at a place: the greatest, over all places up to it, of the earliest time there and the time from there.
-fn start(problem: &Problem, route: &[u32], place: usize) -> u64 {
+fn start(problem: &Problem, tasks: &[Task], route: &[u32], place: usize) -> u64 {
     let mut greatest = 0;
     for from in 0..place.saturating_add(1) {
-        let earliest = u64::from(place_of(problem, route, from).earliest);
-        let time = earliest.saturating_add(time_between(problem, route, from, place));
+        let earliest = u64::from(place_of(problem, tasks, route, from).earliest);
+        let time = earliest.saturating_add(time_between(problem, tasks, route, from, place));
         greatest = time.max(greatest);
     }
     greatest
 }
 
 // The services and ways between two places, if nobody waits.
-fn time_between(problem: &Problem, route: &[u32], from: usize, to: usize) -> u64 {
+fn time_between(problem: &Problem, tasks: &[Task], route: &[u32], from: usize, to: usize) -> u64 {
     let mut time = 0u64;
     for place in from..to {
-        let service = place_of(problem, route, place).service;
+        let service = u64::from(place_of(problem, tasks, route, place).service);
         time = time
-            .saturating_add(u64::from(service))
-            .saturating_add(leg(problem, route, place));
+            .saturating_add(service)
+            .saturating_add(leg(problem, tasks, route, place));
     }
     time
 }
 
-// The sum of the demands up to a place.
-fn load(problem: &Problem, route: &[u32], to: usize) -> i64 {
+// The sum of the demands of the first so many stops.
+fn load(tasks: &[Task], route: &[u32], count: usize) -> i64 {
     let mut load = 0i64;
-    for place in 1..to.saturating_add(1) {
-        load = load.saturating_add(i64::from(place_of(problem, route, place).demand));
+    for number in route.iter().take(count) {
+        if let Some(task) = task_of(tasks, *number) {
+            load = load.saturating_add(i64::from(task.stop.demand));
+        }
     }
     load
 }
 
 /// The sum of the routes' lengths.
-pub(crate) fn total_length(problem: &Problem, routes: &[Route]) -> u64 {
+pub(crate) fn total_length(problem: &Problem, tasks: &[Task], routes: &[Route]) -> u64 {
     let mut sum = 0u64;
     for route in routes {
-        sum = sum.saturating_add(length(problem, route.as_slice()));
+        sum = sum.saturating_add(length(problem, tasks, route.as_slice()));
     }
     sum
 }
 
 // The sum of the ways between neighboring places.
-fn length(problem: &Problem, route: &[u32]) -> u64 {
+fn length(problem: &Problem, tasks: &[Task], route: &[u32]) -> u64 {
     let mut sum = 0u64;
     for place in 0..route.len().saturating_add(1) {
-        sum = sum.saturating_add(leg(problem, route, place));
+        sum = sum.saturating_add(leg(problem, tasks, route, place));
     }
     sum
 }
 
 // The way from a place to the next one: the least d with s <= d (d + 1), by trying each.
-fn leg(problem: &Problem, route: &[u32], place: usize) -> u64 {
-    let from = place_of(problem, route, place);
-    let to = place_of(problem, route, place.saturating_add(1));
+fn leg(problem: &Problem, tasks: &[Task], route: &[u32], place: usize) -> u64 {
+    let from = place_of(problem, tasks, route, place);
+    let to = place_of(problem, tasks, route, place.saturating_add(1));
     let dx = u64::from(from.x.abs_diff(to.x));
     let dy = u64::from(from.y.abs_diff(to.y));
     let square = dx.saturating_mul(dx).saturating_add(dy.saturating_mul(dy));
-    (0..10_000)
-        .find(|d: &u64| square <= d.saturating_mul(d.saturating_add(1)))
-        .unwrap_or(0)
+    for d in 0..10_000u64 {
+        if square <= d.saturating_mul(d.saturating_add(1)) {
+            return d;
+        }
+    }
+    0
 }

@@ -1,5 +1,5 @@
 //! Insertion tables: what a request adds to a route, and its best places.
-ghost use Rattle.std.specs.Prelude.{◌≡◌, ℕ, ◌<◌, ◌≤◌, ◌≤ℤ◌, pos, IfOk, IfSome, IsTrue, length, slice_index_or};
+ghost use Rattle.std.specs.Prelude.{◌≡◌, ℕ, ◌<◌, ◌≤◌, ◌≤ℤ◌, pos, All, IfOk, IfSome, IsTrue, length, slice_index_or};
 ghost use Rattle.plan_types.specs.declared.requests.Kind.TheVariants.{LiLim};
 ghost use Rattle.route_sched.specs.Route.{AreLiveOnce};
 ghost use Rattle.route_sched.specs.Visiting.{visits_from};
@@ -7,7 +7,9 @@ ghost use Rattle.route_sched.specs.declared.visits.Visit.{Visit};
 ghost use Rattle.slack_tables.specs.Course.{IsCourseIn};
 ghost use Rattle.slack_tables.specs.Insertion.{KeepsLimits};
 
-use crate::builders::{depot_alone, is_live_once, one_route, single, stop_at, two_pairs};
+use crate::builders::{
+    depot_until, is_live_once, one_route, problem_of, route_between, single, stop_at, two_pairs,
+};
 use plan_types::{Kind, OutOfMemory, Problem, Request, Route};
 use route_sched::{Visit, Visits};
 use slack_tables::{Addition, RouteTable};
@@ -60,49 +62,42 @@ fn keeps_limits(alloc: Global, problem: &Problem, route: &[u32]) -> Result<bool,
     Ok(all_keep(problem.kind, problem.capacity, visits.as_slice()))
 }
 
-// The route of these stops, if they are live, stand once and keep the limits.
-fn fitting_route(alloc: Global, problem: &Problem, stops: &[u32]) -> Result<Option<Route>, Fail>
-    ensures once { IfOk result (λ found. IfSome found (λ route. AreLiveOnce problem.now route)) }
-    ensures limits { IfOk result (λ found. IfSome found (λ route. KeepsLimits problem.now route)) }
+// The first of these routes, which has to keep the limits.
+fn first_fitting(alloc: Global, problem: &Problem, routes: &[Route]) -> Result<Route, Fail>
+    requires { All (AreLiveOnce problem.now) routes.now }
+    ensures once { IfOk result (λ route. AreLiveOnce problem.now route) }
+    ensures limits { IfOk result (λ route. KeepsLimits problem.now route) }
+{
+    for route in routes {
+        if keeps_limits(alloc, problem, route.as_slice())? {
+            return Ok(route.copy()?);
+        }
+    }
+    Err(Fail::from("the route does not fit"))
+}
+
+// The route of these stops, which have to be live, to stand once and to keep the limits.
+fn fitting_route(alloc: Global, problem: &Problem, stops: &[u32]) -> Result<Route, Fail>
+    ensures once { IfOk result (λ route. AreLiveOnce problem.now route) }
+    ensures limits { IfOk result (λ route. KeepsLimits problem.now route) }
 {
     let plan = one_route(alloc, stops)?;
     if is_live_once(alloc, problem, &plan)? {
-        for route in plan.routes.as_slice() {
-            if keeps_limits(alloc, problem, route.as_slice())? {
-                return Ok(Some(route.copy()?));
-            }
-        }
+        return first_fitting(alloc, problem, plan.routes.as_slice());
     }
-    Ok(None)
+    Err(Fail::from("a stop is unknown or stands twice"))
 }
 
 // The table of a route that fits.
-fn table_of(alloc: Global, problem: &Problem, stops: &[u32]) -> Result<Option<RouteTable>, Fail>
-    ensures { IfOk result (λ found. IfSome found (λ table. IsCourseIn problem.now table)) }
+fn table_of(alloc: Global, problem: &Problem, stops: &[u32]) -> Result<RouteTable, Fail>
+    ensures { IfOk result (λ table. IsCourseIn problem.now table) }
 {
-    let Some(route) = fitting_route(alloc, problem, stops)? else {
-        return Ok(None);
-    };
+    let route = fitting_route(alloc, problem, stops)?;
     let table = RouteTable::build(alloc, problem, route.as_slice())?;
-    Ok(Some(table))
+    Ok(table)
 }
 
-// What `try_insert` answers, `None` where it is not asked.
-fn answer(
-    alloc: Global,
-    problem: &Problem,
-    route: &[u32],
-    name: u32,
-    places: (u64, u64),
-) -> Result<Option<Option<i64>>, Fail> {
-    let (i, j) = places;
-    let Some(table) = table_of(alloc, problem, route)? else {
-        return Ok(None);
-    };
-    Ok(asked(problem, &table, name, i, j))
-}
-
-// The same of a table, where these are places.
+// What `try_insert` answers, where these are places.
 fn asked(problem: &Problem, table: &RouteTable, name: u32, i: u64, j: u64) -> Option<Option<i64>>
     requires { IsCourseIn problem.now table.now }
 {
@@ -122,25 +117,7 @@ fn asked(problem: &Problem, table: &RouteTable, name: u32, i: u64, j: u64) -> Op
     Some(table.try_insert(problem, name, i, j))
 }
 
-// What `best_places` answers, `None` where it is not asked.
-fn best_of(
-    alloc: Global,
-    problem: &Problem,
-    route: &[u32],
-    name: u32,
-    bounds: (u64, i64),
-) -> Result<Option<Option<Addition>>, Fail> {
-    let (kept, below) = bounds;
-    let Some(table) = table_of(alloc, problem, route)? else {
-        return Ok(None);
-    };
-    if kept > table.stop_count() as u64 {
-        return Ok(None);
-    }
-    Ok(best_in(problem, &table, name, kept, below))
-}
-
-// The same of a table.
+// What `best_places` answers, where there is such a request.
 fn best_in(
     problem: &Problem,
     table: &RouteTable,
@@ -154,171 +131,168 @@ fn best_in(
     Some(table.best_places(request, kept, below))
 }
 
-fn addition(distance: i64, pickup: u64, delivery: u64) -> Addition {
-    Addition {
-        distance,
-        pickup,
-        delivery,
-    }
+/// The problems of the examples.
+#[derive(Clone, Copy)]
+enum Posed {
+    /// The direct way to stop 3 takes 3, and its latest time is 2.
+    TwoPairs,
+    /// Without windows the way to stop 3 may be as long as it likes.
+    TwoPairsInVrp,
+    StopOnTheWay,
+    LongLine,
+    HeavyPairs,
 }
 
-// The direct way to stop 3 takes 3, and its latest time is 2.
-#[test]
-fn puts_a_pair_in(rt: HostRuntime) -> Result<(), Fail> {
-    let problem = two_pairs(rt.alloc(), Kind::LiLim, 2)?;
-    for (places, want) in [
-        ((2, 3), Some(2)),
-        ((3, 4), Some(3)),
-        ((2, 4), Some(5)),
-        ((1, 2), None),
-        ((1, 4), None),
-    ] {
-        let added = answer(rt.alloc(), &problem, &[1, 2], 3, places)?;
-        assert_eq!(rt; added, Some(want), "{places:?}");
+fn pose(alloc: Global, which: Posed) -> Result<Problem, Fail> {
+    match which {
+        Posed::TwoPairs => two_pairs(alloc, Kind::LiLim, 2),
+        Posed::TwoPairsInVrp => two_pairs(alloc, Kind::Vrp, 2),
+        Posed::StopOnTheWay => stop_on_the_way(alloc),
+        Posed::LongLine => long_line(alloc),
+        Posed::HeavyPairs => heavy_pairs(alloc),
     }
-    Ok(())
-}
-
-// Without windows the way to stop 3 may be as long as it likes.
-#[test]
-fn asks_no_windows_in_vrp(rt: HostRuntime) -> Result<(), Fail> {
-    let problem = two_pairs(rt.alloc(), Kind::Vrp, 2)?;
-    for (route, want) in [([1, 2].as_slice(), 3), ([].as_slice(), 6)] {
-        let added = answer(rt.alloc(), &problem, route, 3, (1, 2))?;
-        assert_eq!(rt; added, Some(Some(want)));
-    }
-    Ok(())
 }
 
 // Stop 2 lies on the way to stop 1, and the rounded way over it is shorter than the direct one.
 fn stop_on_the_way(alloc: Global) -> Result<Problem, Fail> {
-    let mut problem = depot_alone(alloc, Kind::Vrp, 10, 1, 100)?;
-    problem.put(single(1, (2, 2), 1, 100))?;
-    problem.put(single(2, (1, 1), 1, 100))?;
-    Ok(problem)
+    let requests = [single(1, (2, 2), 1, 100), single(2, (1, 1), 1, 100)];
+    problem_of(alloc, Kind::Vrp, depot_until(100), 10, 1, &requests)
 }
 
+// Stops 1, 2 and 3 on a line, ten apart; in the pair 4 and 5 the delivery lies between 2 and 3. Of four customers more one has as
+// much as the vehicle has room for, and one lies far off the line, as does a pair.
+fn long_line(alloc: Global) -> Result<Problem, Fail> {
+    let near = stop_at(4, (5, 0), 1, 100, 0);
+    let far = stop_at(10, (20, 1000), 1, 100, 0);
+    let requests = [
+        single(1, (10, 0), 1, 100),
+        single(2, (20, 0), 1, 100),
+        single(3, (30, 0), 1, 100),
+        Request::Pair(near, stop_at(5, (25, 0), -1, 100, 0)),
+        single(6, (5, 0), 1, 100),
+        single(7, (12, 0), 1, 100),
+        single(8, (12, 0), 8, 100),
+        single(9, (20, 1000), 1, 100),
+        Request::Pair(far, stop_at(11, (20, 990), -1, 100, 0)),
+    ];
+    problem_of(alloc, Kind::Vrp, depot_until(100), 10, 1, &requests)
+}
+
+// Two pairs on a line; with both on board the vehicle would carry too much.
+fn heavy_pairs(alloc: Global) -> Result<Problem, Fail> {
+    let first = stop_at(1, (10, 0), 6, 100, 0);
+    let second = stop_at(3, (12, 0), 6, 100, 0);
+    let requests = [
+        Request::Pair(first, stop_at(2, (20, 0), -6, 100, 0)),
+        Request::Pair(second, stop_at(4, (18, 0), -6, 100, 0)),
+    ];
+    problem_of(alloc, Kind::LiLim, depot_until(100), 10, 1, &requests)
+}
+
+// What `try_insert` answers.
+fn answer(
+    alloc: Global,
+    problem: &Problem,
+    route: &[u32],
+    name: u32,
+    places: (u64, u64),
+) -> Result<Option<i64>, Fail> {
+    let table = table_of(alloc, problem, route)?;
+    Ok(asked(problem, &table, name, places.0, places.1).ok_or("these are no places")?)
+}
+
+/// A request that is put into a route at these places, and the distance that it adds; `None` where it does not fit.
+const ADDED: [(Posed, &[u32], u32, (u64, u64), Option<i64>); 8] = [
+    (Posed::TwoPairs, &[1, 2], 3, (2, 3), Some(2)),
+    (Posed::TwoPairs, &[1, 2], 3, (3, 4), Some(3)),
+    (Posed::TwoPairs, &[1, 2], 3, (2, 4), Some(5)),
+    (Posed::TwoPairs, &[1, 2], 3, (1, 2), None),
+    (Posed::TwoPairs, &[1, 2], 3, (1, 4), None),
+    (Posed::TwoPairsInVrp, &[1, 2], 3, (1, 2), Some(3)),
+    (Posed::TwoPairsInVrp, &[], 3, (1, 2), Some(6)),
+    (Posed::StopOnTheWay, &[1], 2, (1, 1), Some(-1)),
+];
+
 #[test]
-fn shortens_a_route(rt: HostRuntime) -> Result<(), Fail> {
-    let problem = stop_on_the_way(rt.alloc())?;
-    let added = answer(rt.alloc(), &problem, &[1], 2, (1, 1))?;
-    assert_eq!(rt; added, Some(Some(-1)));
+fn puts_requests_in(rt: HostRuntime) -> Result<(), Fail> {
+    for (row, (which, route, name, places, want)) in ADDED.iter().enumerate() {
+        let problem = pose(rt.alloc(), *which)?;
+        let added = answer(rt.alloc(), &problem, route, *name, *places)?;
+        assert!(rt; added == *want, "row {row}");
+    }
     Ok(())
 }
 
+// The distance and the places that `best_places` answers for a request behind so many stops and below this distance; of none 0.
+fn best_of(
+    alloc: Global,
+    problem: &Problem,
+    route: &[u32],
+    name: u32,
+    kept: u64,
+    below: i64,
+) -> Result<(i64, [u64; 2]), Fail> {
+    let table = table_of(alloc, problem, route)?;
+    if kept > table.stop_count() as u64 {
+        return Err(Fail::from("the route has not so many stops"));
+    }
+    match best_in(problem, &table, name, kept, below).ok_or("no such request")? {
+        Some(best) => Ok((best.distance, [best.pickup, best.delivery])),
+        None => Ok((0, [0, 0])),
+    }
+}
+
+/// A request that is put behind so many stops of a route for less than this distance, what it adds, and its places, 0 where it
+/// fits nowhere. On the line it fits on the way out and on the way back: of both the earlier one behind what is kept counts.
+const BEST_PLACES: [(Posed, &[u32], u32, u64, i64, i64, [u64; 2]); 17] = [
+    (Posed::TwoPairs, &[1, 2], 3, 0, 1000, 2, [2, 3]),
+    (Posed::TwoPairs, &[1, 2], 3, 0, 3, 2, [2, 3]),
+    (Posed::TwoPairs, &[1, 2], 3, 0, 2, 0, [0, 0]),
+    (Posed::TwoPairs, &[1, 2], 3, 1, 1000, 2, [2, 3]),
+    (Posed::TwoPairs, &[1, 2], 3, 2, 1000, 3, [3, 4]),
+    (Posed::TwoPairs, &[], 1, 0, 1000, 2, [1, 2]),
+    (Posed::StopOnTheWay, &[1], 2, 0, 0, -1, [1, 1]),
+    (Posed::StopOnTheWay, &[1], 2, 0, -1, 0, [0, 0]),
+    (Posed::LongLine, &[1, 2, 3], 4, 0, 100, 0, [1, 4]),
+    (Posed::LongLine, &[1, 2, 3], 6, 0, 100, 0, [1, 1]),
+    (Posed::LongLine, &[1, 2, 3], 6, 1, 100, 0, [4, 4]),
+    (Posed::LongLine, &[1, 2, 3], 6, 3, 100, 0, [4, 4]),
+    (Posed::LongLine, &[1, 2, 3], 7, 0, 100, 0, [2, 2]),
+    (Posed::LongLine, &[1, 2, 3], 7, 1, 100, 0, [2, 2]),
+    (Posed::LongLine, &[1, 2, 3], 7, 2, 100, 0, [4, 4]),
+    (Posed::LongLine, &[1, 2, 3], 8, 0, 100, 0, [0, 0]),
+    (Posed::HeavyPairs, &[1, 2], 3, 0, 100, 12, [3, 4]),
+];
+
 #[test]
-fn finds_places_that_shorten_a_route(rt: HostRuntime) -> Result<(), Fail> {
-    let problem = stop_on_the_way(rt.alloc())?;
-    for (below, want) in [(0, Some(addition(-1, 1, 1))), (-1, None)] {
-        let best = best_of(rt.alloc(), &problem, &[1], 2, (0, below))?;
-        assert_eq!(rt; best, Some(want), "below {below}");
+fn finds_the_best_places(rt: HostRuntime) -> Result<(), Fail> {
+    for (row, (which, route, name, kept, below, distance, places)) in BEST_PLACES
+        .iter()
+        .enumerate()
+    {
+        let problem = pose(rt.alloc(), *which)?;
+        let best = best_of(rt.alloc(), &problem, route, *name, *kept, *below)?;
+        assert!(rt; best.0 == *distance && best.1 == *places, "row {row}");
     }
     Ok(())
 }
 
 // As many customers as a problem can have, all at one place.
 fn most_customers(alloc: Global) -> Result<Problem, Fail> {
-    let mut problem = depot_alone(alloc, Kind::Vrp, 10, 1, 100)?;
+    let mut problem = Problem::new(alloc, Kind::Vrp, depot_until(100), 10, 1)?;
     for number in 1..=40_000 {
         problem.put(single(number, (3, 4), 0, 100))?;
     }
     Ok(problem)
 }
 
-// The numbers from 1 to this one.
-fn numbers_to(alloc: Global, last: u32) -> Result<Vec<u32>, Fail> {
-    let mut numbers = Vec::new(alloc);
-    for number in 1..=last {
-        numbers.push(number)?;
-    }
-    Ok(numbers)
-}
-
 #[test]
 fn takes_the_largest_route(rt: HostRuntime) -> Result<(), Fail> {
     let problem = most_customers(rt.alloc())?;
-    let route = numbers_to(rt.alloc(), 39_999)?;
+    let route = route_between(rt.alloc(), 1, 39_999)?;
     let places = (20_000, 20_000);
     let added = answer(rt.alloc(), &problem, route.as_slice(), 40_000, places)?;
-    assert_eq!(rt; added, Some(Some(0)));
-    Ok(())
-}
-
-// To the customers and back, by a table that was made for no stop.
-#[test]
-fn becomes_the_largest_table(rt: HostRuntime) -> Result<(), Fail> {
-    let problem = most_customers(rt.alloc())?;
-    let route = numbers_to(rt.alloc(), 40_000)?;
-    let want = Some((40_000, 10));
-    assert_eq!(rt; rebuilt(rt.alloc(), &problem, &[], route.as_slice())?, want);
-    assert_eq!(rt; remade(rt.alloc(), &problem, &[], route.as_slice())?, want);
-    Ok(())
-}
-
-#[test]
-fn finds_the_best_places_of_a_pair(rt: HostRuntime) -> Result<(), Fail> {
-    let problem = two_pairs(rt.alloc(), Kind::LiLim, 2)?;
-    for (bounds, want) in [
-        ((0, 1000), Some(addition(2, 2, 3))),
-        ((0, 3), Some(addition(2, 2, 3))),
-        ((0, 2), None),
-        ((1, 1000), Some(addition(2, 2, 3))),
-        ((2, 1000), Some(addition(3, 3, 4))),
-    ] {
-        let best = best_of(rt.alloc(), &problem, &[1, 2], 3, bounds)?;
-        assert_eq!(rt; best, Some(want), "{bounds:?}");
-    }
-    Ok(())
-}
-
-#[test]
-fn finds_the_places_in_an_empty_route(rt: HostRuntime) -> Result<(), Fail> {
-    let problem = two_pairs(rt.alloc(), Kind::LiLim, 2)?;
-    let best = best_of(rt.alloc(), &problem, &[], 1, (0, 1000))?;
-    assert_eq!(rt; best, Some(Some(addition(2, 1, 2))));
-    Ok(())
-}
-
-// Stops 1, 2 and 3 on a line, ten apart; in the pair 4 and 5 the delivery lies between 2 and 3.
-fn line(alloc: Global) -> Result<Problem, Fail> {
-    let mut problem = depot_alone(alloc, Kind::Vrp, 10, 1, 100)?;
-    for (number, x) in [(1, 10), (2, 20), (3, 30)] {
-        problem.put(single(number, (x, 0), 1, 100))?;
-    }
-    let pickup = stop_at(4, (5, 0), 1, 100, 0);
-    problem.put(Request::Pair(pickup, stop_at(5, (25, 0), -1, 100, 0)))?;
-    Ok(problem)
-}
-
-// Four customers more, one of them with as much as the vehicle has room for, and one far off the line, as is a pair.
-fn long_line(alloc: Global) -> Result<Problem, Fail> {
-    let mut problem = line(alloc)?;
-    problem.put(single(6, (5, 0), 1, 100))?;
-    problem.put(single(7, (12, 0), 1, 100))?;
-    problem.put(single(8, (12, 0), 8, 100))?;
-    problem.put(single(9, (20, 1000), 1, 100))?;
-    let pickup = stop_at(10, (20, 1000), 1, 100, 0);
-    problem.put(Request::Pair(pickup, stop_at(11, (20, 990), -1, 100, 0)))?;
-    Ok(problem)
-}
-
-// On the way out and on the way back: of both the earlier one behind what is kept.
-#[test]
-fn finds_the_best_place_of_a_single(rt: HostRuntime) -> Result<(), Fail> {
-    let problem = long_line(rt.alloc())?;
-    for (name, kept, want) in [
-        (4, 0, Some(addition(0, 1, 4))),
-        (6, 0, Some(addition(0, 1, 1))),
-        (6, 1, Some(addition(0, 4, 4))),
-        (6, 3, Some(addition(0, 4, 4))),
-        (7, 0, Some(addition(0, 2, 2))),
-        (7, 1, Some(addition(0, 2, 2))),
-        (7, 2, Some(addition(0, 4, 4))),
-        (8, 0, None),
-    ] {
-        let best = best_of(rt.alloc(), &problem, &[1, 2, 3], name, (kept, 100))?;
-        assert_eq!(rt; best, Some(want), "the best place of {name} behind {kept}");
-    }
+    assert!(rt; added == Some(0));
     Ok(())
 }
 
@@ -328,43 +302,26 @@ fn ruled_out(problem: &Problem, table: &RouteTable, name: u32, below: i64) -> Op
     Some(table.rules_out(request, below))
 }
 
-// The way over stop 9 adds 1,970 at least, and so does that over stops 10 and 11; stop 8 brings too much wherever it stands.
+/// A request, a distance, and whether the route over the line rules it out below that. The way over stop 9 adds 1,970 at least, and
+/// so does that over stops 10 and 11; stop 8 brings too much wherever it stands.
+const RULED_OUT: [(u32, i64, bool); 7] = [
+    (9, 1_000, true),
+    (9, 1_971, false),
+    (8, i64::MAX, true),
+    (7, 1, false),
+    (4, 1, false),
+    (10, 1_000, true),
+    (10, 1_971, false),
+];
+
 #[test]
 fn rules_requests_out(rt: HostRuntime) -> Result<(), Fail> {
     let problem = long_line(rt.alloc())?;
-    let Some(table) = table_of(rt.alloc(), &problem, &[1, 2, 3])? else {
-        return Err(Fail::from("the route does not fit"));
-    };
-    for (name, below, want) in [
-        (9, 1_000, true),
-        (9, 1_971, false),
-        (8, i64::MAX, true),
-        (7, 1, false),
-        (4, 1, false),
-        (10, 1_000, true),
-        (10, 1_971, false),
-    ] {
-        let told = ruled_out(&problem, &table, name, below);
-        assert_eq!(rt; told, Some(want), "{name} below {below}");
+    let table = table_of(rt.alloc(), &problem, &[1, 2, 3])?;
+    for (name, below, want) in &RULED_OUT {
+        let out = ruled_out(&problem, &table, *name, *below);
+        assert!(rt; out == Some(*want), "{name} below {below}");
     }
-    Ok(())
-}
-
-// Two pairs on a line; with both on board the vehicle would carry too much.
-fn heavy_pairs(alloc: Global) -> Result<Problem, Fail> {
-    let mut problem = depot_alone(alloc, Kind::LiLim, 10, 1, 100)?;
-    let pickup = stop_at(1, (10, 0), 6, 100, 0);
-    problem.put(Request::Pair(pickup, stop_at(2, (20, 0), -6, 100, 0)))?;
-    let pickup = stop_at(3, (12, 0), 6, 100, 0);
-    problem.put(Request::Pair(pickup, stop_at(4, (18, 0), -6, 100, 0)))?;
-    Ok(problem)
-}
-
-#[test]
-fn carries_one_pair_after_the_other(rt: HostRuntime) -> Result<(), Fail> {
-    let problem = heavy_pairs(rt.alloc())?;
-    let best = best_of(rt.alloc(), &problem, &[1, 2], 3, (0, 100))?;
-    assert_eq!(rt; best, Some(Some(addition(12, 3, 4))));
     Ok(())
 }
 
@@ -374,18 +331,12 @@ fn rebuilt(
     problem: &Problem,
     first: &[u32],
     second: &[u32],
-) -> Result<Option<(usize, u64)>, Fail> {
-    let Some(mut table) = table_of(alloc, problem, first)? else {
-        return Ok(None);
-    };
-    let Some(near) = table_of(alloc, problem, first)? else {
-        return Ok(None);
-    };
-    let Some(route) = fitting_route(alloc, problem, second)? else {
-        return Ok(None);
-    };
+) -> Result<[u64; 2], Fail> {
+    let mut table = table_of(alloc, problem, first)?;
+    let near = table_of(alloc, problem, first)?;
+    let route = fitting_route(alloc, problem, second)?;
     table.rebuild(problem, &near, route.as_slice())?;
-    Ok(Some((table.stop_count(), table.distance())))
+    Ok([table.stop_count() as u64, table.distance()])
 }
 
 // The same by a table that is made of the first one's memory, where the second route keeps the limits.
@@ -394,68 +345,90 @@ fn remade(
     problem: &Problem,
     first: &[u32],
     second: &[u32],
-) -> Result<Option<(usize, u64)>, Fail> {
-    let Some(table) = table_of(alloc, problem, first)? else {
-        return Ok(None);
-    };
-    let Some(near) = table_of(alloc, problem, first)? else {
-        return Ok(None);
-    };
-    let Some(route) = fitting_route(alloc, problem, second)? else {
-        return Ok(None);
-    };
-    match table.remade(problem, &near, route.as_slice())? {
-        Some(table) => Ok(Some((table.stop_count(), table.distance()))),
-        None => Ok(None),
-    }
+) -> Result<[u64; 2], Fail> {
+    let table = table_of(alloc, problem, first)?;
+    let near = table_of(alloc, problem, first)?;
+    let route = fitting_route(alloc, problem, second)?;
+    let made = table.remade(problem, &near, route.as_slice())?;
+    let table = made.ok_or("the second route does not fit")?;
+    Ok([table.stop_count() as u64, table.distance()])
 }
 
-// A longer route, then a shorter one and none.
+// Whether a table that was made for the first route and then for the second one tells so many stops and this length.
+fn takes(
+    alloc: Global,
+    problem: &Problem,
+    first: &[u32],
+    second: &[u32],
+    want: [u64; 2],
+) -> Result<bool, Fail> {
+    let rebuilt = rebuilt(alloc, problem, first, second)?;
+    Ok(rebuilt == want && remade(alloc, problem, first, second)? == want)
+}
+
+/// A longer route, then a shorter one and none.
+const OTHER_ROUTES: [(&[u32], &[u32], [u64; 2]); 3] = [
+    (&[1, 2], &[1, 2, 3, 4], [4, 5]),
+    (&[1, 2, 3, 4], &[3, 4], [2, 6]),
+    (&[1, 2], &[], [0, 0]),
+];
+
 #[test]
 fn takes_another_route(rt: HostRuntime) -> Result<(), Fail> {
     let problem = two_pairs(rt.alloc(), Kind::Vrp, 2)?;
-    for (first, second, want) in [
-        ([1, 2].as_slice(), [1, 2, 3, 4].as_slice(), (4, 5)),
-        ([1, 2, 3, 4].as_slice(), [3, 4].as_slice(), (2, 6)),
-        ([1, 2].as_slice(), [].as_slice(), (0, 0)),
-    ] {
-        assert_eq!(rt; rebuilt(rt.alloc(), &problem, first, second)?, Some(want));
-        assert_eq!(rt; remade(rt.alloc(), &problem, first, second)?, Some(want));
+    for (first, second, want) in &OTHER_ROUTES {
+        assert!(rt;
+            takes(rt.alloc(), &problem, first, second, *want)?,
+            "{second:?}"
+        );
     }
     Ok(())
 }
 
-// Start, load and latest start at a place; `None` where it is not asked.
+// To the customers and back, by a table that was made for no stop.
+#[test]
+fn becomes_the_largest_table(rt: HostRuntime) -> Result<(), Fail> {
+    let problem = most_customers(rt.alloc())?;
+    let route = route_between(rt.alloc(), 1, 40_000)?;
+    assert!(rt; takes(rt.alloc(), &problem, &[], route.as_slice(), [40_000, 10])?);
+    Ok(())
+}
+
+// Start, load and latest start at a place.
 fn known_at(
     alloc: Global,
     problem: &Problem,
     route: &[u32],
     place: usize,
-) -> Result<Option<(u64, i64, Option<u64>)>, Fail> {
-    let Some(table) = table_of(alloc, problem, route)? else {
-        return Ok(None);
-    };
+) -> Result<(u64, i64, Option<u64>), Fail> {
+    let table = table_of(alloc, problem, route)?;
     if place > table.stop_count() + 1 {
-        return Ok(None);
+        return Err(Fail::from("the route has no such place"));
     }
-    Ok(Some((
+    Ok((
         table.start(place),
         table.load(place),
         table.latest_start(place),
-    )))
+    ))
 }
+
+/// A place of the route of the first pair, its start, load and latest start.
+const KNOWN: [(usize, u64, i64, Option<u64>); 4] = [
+    (0, 0, 0, Some(49)),
+    (1, 1, 1, Some(50)),
+    (2, 1, 0, Some(99)),
+    (3, 2, 0, None),
+];
 
 #[test]
 fn tells_what_is_known_of_a_place(rt: HostRuntime) -> Result<(), Fail> {
     let problem = two_pairs(rt.alloc(), Kind::LiLim, 2)?;
-    for (place, want) in [
-        (0, (0, 0, Some(49))),
-        (1, (1, 1, Some(50))),
-        (2, (1, 0, Some(99))),
-        (3, (2, 0, None)),
-    ] {
-        let known = known_at(rt.alloc(), &problem, &[1, 2], place)?;
-        assert_eq!(rt; known, Some(want), "at {place}");
+    for (place, start, load, latest) in &KNOWN {
+        let known = known_at(rt.alloc(), &problem, &[1, 2], *place)?;
+        assert!(rt;
+            known.0 == *start && known.1 == *load && known.2 == *latest,
+            "at {place}"
+        );
     }
     Ok(())
 }

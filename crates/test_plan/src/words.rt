@@ -1,4 +1,5 @@
 //! Small problems with plans, made by a fixed sequence of words.
+use crate::builders::problem_of;
 use plan_types::{Kind, Pins, Plan, Problem, Request, Route, Routes, Stop};
 use std::alloc::Global;
 use std::test::Fail;
@@ -44,10 +45,19 @@ impl Words {
     }
 }
 
-/// A problem, a plan with its pins, and what is printed beside its distance.
+/// A stop, the other stop of its pair, of a single one itself, and the number that names its request.
+#[derive(Clone, Copy)]
+pub(crate) struct Task {
+    pub stop: Stop,
+    pub partner: u32,
+    pub name: u32,
+}
+
+/// A problem with its stops, a plan with its pins, and what is printed beside its distance.
 #[derive(Drop)]
 pub(crate) struct Case {
     pub problem: Problem,
+    pub tasks: [Task; 5],
     pub plan: Plan,
     pub pins: Pins,
     pub more: u64,
@@ -55,119 +65,161 @@ pub(crate) struct Case {
 
 /// The next case.
 pub(crate) fn some_case(alloc: Global, words: &mut Words) -> Result<Case, Fail> {
-    let problem = some_problem(alloc, words)?;
-    let number = match words.pick(12) {
-        0 => problem.fleet.saturating_add(1),
-        _ => problem.fleet,
-    };
-    let mut lists = some_lists(alloc, words, number)?;
-    disturb(words, &mut lists);
-    let pins = some_pins(alloc, words, &lists)?;
+    let tasks = some_tasks(words);
+    let problem = some_problem(alloc, words, &tasks)?;
+    // Now and then there is a vehicle too many.
+    let more = u32::from(words.pick(12) == 0);
+    let vehicles = problem.fleet.saturating_add(more);
+    let lists = some_lists(words, vehicles);
     let plan = Plan {
-        routes: routes_from(alloc, lists)?,
+        routes: routes_from(alloc, &lists, vehicles)?,
     };
-    let more = match words.pick(4) {
-        0 => 1,
-        _ => 0,
+    let pins = Pins {
+        routes: routes_from(alloc, &some_pins(words, &lists), vehicles)?,
     };
     Ok(Case {
         problem,
+        tasks,
         plan,
         pins,
-        more,
+        more: u64::from(words.pick(4) == 0),
     })
 }
 
 // Two pairs and a single stop.
-fn some_problem(alloc: Global, words: &mut Words) -> Result<Problem, Fail> {
+fn some_tasks(words: &mut Words) -> [Task; 5] {
+    let one = words.signed(7);
+    let other = words.signed(7);
+    let single = words.signed(7);
+    [
+        some_task(words, 1, 2, 1, one),
+        some_task(words, 2, 1, 1, 0i32.saturating_sub(one)),
+        some_task(words, 3, 4, 3, other),
+        some_task(words, 4, 3, 3, 0i32.saturating_sub(other)),
+        some_task(words, 5, 5, 5, single),
+    ]
+}
+
+fn some_task(words: &mut Words, number: u32, partner: u32, name: u32, demand: i32) -> Task {
+    Task {
+        stop: words.stop(number, demand),
+        partner,
+        name,
+    }
+}
+
+fn some_problem(alloc: Global, words: &mut Words, tasks: &[Task; 5]) -> Result<Problem, Fail> {
     let kind = match words.pick(4) {
         0 => Kind::Vrp,
         _ => Kind::LiLim,
     };
     let depot = Stop {
         earliest: 0,
-        latest: words.pick(100).saturating_add(80),
+        latest: words.pick(100).saturating_add(50),
         service: 0,
         ..words.stop(0, 0)
     };
-    let capacity = words.pick(8).saturating_add(6);
+    let capacity = words.pick(8).saturating_add(5);
     let fleet = words.pick(3).saturating_add(1);
-    let mut problem = Problem::new(alloc, kind, depot, capacity, fleet)?;
-    for number in [1, 3] {
-        let demand = words.signed(7);
-        let pickup = words.stop(number, demand);
-        let delivery = words.stop(number + 1, 0i32.saturating_sub(demand));
-        problem.put(Request::Pair(pickup, delivery))?;
-    }
-    let demand = words.signed(7);
-    problem.put(Request::Single(words.stop(5, demand)))?;
-    Ok(problem)
+    let requests = [
+        Request::Pair(tasks[0].stop, tasks[1].stop),
+        Request::Pair(tasks[2].stop, tasks[3].stop),
+        Request::Single(tasks[4].stop),
+    ];
+    problem_of(alloc, kind, depot, capacity, fleet, &requests)
 }
 
-// Each request in some list, or in none; now and then the delivery in another one.
-fn some_lists(alloc: Global, words: &mut Words, number: u32) -> Result<Vec<Vec<u32>>, Fail> {
-    let mut lists = Vec::new(alloc);
-    for _ in 0..number {
-        lists.push(Vec::new(alloc))?;
+/// The stops of a route in order, with gaps.
+type Stops = [Option<u32>; 6];
+
+// The routes of so many vehicles, which are four at most.
+fn some_lists(words: &mut Words, vehicles: u32) -> [Stops; 4] {
+    let homes = some_homes(words, vehicles);
+    [
+        disturbed(words, served_by(&homes, 0)),
+        disturbed(words, served_by(&homes, 1)),
+        disturbed(words, served_by(&homes, 2)),
+        disturbed(words, served_by(&homes, 3)),
+    ]
+}
+
+fn some_pins(words: &mut Words, lists: &[Stops; 4]) -> [Stops; 4] {
+    [
+        some_pin(words, &lists[0]),
+        some_pin(words, &lists[1]),
+        some_pin(words, &lists[2]),
+        some_pin(words, &lists[3]),
+    ]
+}
+
+fn routes_from(alloc: Global, lists: &[Stops; 4], vehicles: u32) -> Result<Routes, Fail> {
+    let mut routes = Routes::new(alloc);
+    for stops in lists.iter().take(vehicles as usize) {
+        routes.push(route_from(alloc, stops)?)?;
     }
-    for name in [1, 3, 5] {
+    Ok(routes)
+}
+
+// The vehicle of each stop, of some none; now and then that of the delivery is another one.
+fn some_homes(words: &mut Words, vehicles: u32) -> [Option<u32>; 5] {
+    let mut homes = [None; 5];
+    for first in [0, 2, 4] {
         if words.pick(8) == 0 {
             continue;
         }
-        let home = words.pick(number) as usize;
-        let other = match words.pick(8) {
-            0 => words.pick(number) as usize,
-            _ => home,
-        };
-        if let Some(list) = lists.get_mut(home) {
-            list.push(name)?;
-        }
-        match lists.get_mut(other) {
-            Some(list) if name < 5 => list.push(name + 1)?,
-            _ => {}
+        let home = words.pick(vehicles);
+        homes[first] = Some(home);
+        if first < 4 {
+            homes[first + 1] = Some(match words.pick(8) {
+                0 => words.pick(vehicles),
+                _ => home,
+            });
         }
     }
-    Ok(lists)
+    homes
 }
 
-// Puts another number, or the next stop, in place of a stop of some lists.
-fn disturb(words: &mut Words, lists: &mut [Vec<u32>]) {
-    for list in lists.iter_mut() {
-        let place = words.pick(4) as usize;
-        let number = words.pick(24);
-        if number < 8 {
-            if let Some(stop) = list.get_mut(place) {
-                *stop = number;
-            }
-        } else if number < 12 && place + 1 < list.len() {
-            list.swap(place, place + 1);
+fn served_by(homes: &[Option<u32>; 5], vehicle: u32) -> Stops {
+    let mut stops = [None; 6];
+    for (index, home) in homes.iter().enumerate() {
+        if *home == Some(vehicle) {
+            stops[index] = Some(index as u32 + 1);
         }
     }
+    stops
 }
 
-// The first stops of each list, now and then another stop.
-fn some_pins(alloc: Global, words: &mut Words, lists: &[Vec<u32>]) -> Result<Pins, Fail> {
-    let mut pins = Vec::new(alloc);
-    for list in lists {
-        let len = words.pick(3) as usize;
-        let mut pin = Vec::new(alloc);
-        for stop in list.iter().take(len) {
-            pin.push(*stop)?;
-        }
-        if words.pick(6) == 0 {
-            pin.push(words.pick(6))?;
-        }
-        pins.push(pin)?;
+// The route with another number, or the next stop, in place of a stop, now and then.
+fn disturbed(words: &mut Words, mut stops: Stops) -> Stops {
+    let place = words.pick(5) as usize;
+    let number = words.pick(96);
+    if number < 8 && place < 5 {
+        stops[place] = Some(number);
+    } else if number < 12 && place < 5 {
+        stops.swap(place, place + 1);
     }
-    Ok(Pins {
-        routes: routes_from(alloc, pins)?,
-    })
+    stops
 }
 
-fn routes_from(alloc: Global, lists: Vec<Vec<u32>>) -> Result<Routes, Fail> {
-    let mut routes = Vec::new(alloc);
-    for list in lists {
-        routes.push(Route::from(list))?;
+// The first stops of a route, now and then with another stop.
+fn some_pin(words: &mut Words, stops: &Stops) -> Stops {
+    let length = words.pick(6) as usize;
+    let mut pin = *stops;
+    for stop in pin.iter_mut().skip(length) {
+        *stop = None;
     }
-    Ok(Routes::from(routes))
+    if words.pick(6) == 0 {
+        pin[5] = Some(words.pick(6));
+    }
+    pin
+}
+
+fn route_from(alloc: Global, stops: &Stops) -> Result<Route, Fail> {
+    let mut route = Route::new(alloc);
+    for stop in stops {
+        if let Some(number) = stop {
+            route.push(*number)?;
+        }
+    }
+    Ok(route)
 }
