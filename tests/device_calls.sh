@@ -62,7 +62,8 @@ calls_of() {
         END { tell_writes() }' "$folder/calls"
 }
 
-# What the table of the store in docs/FORMATS.md makes of `format`, and of a load and a build over the store that it leaves.
+# What the table of the store in docs/FORMATS.md makes of `format`, and of a load and a build over the store that it leaves. Before that
+# store is opened it is read once more: the steps that are to be repeated are told first.
 cat >"$folder/wanted" <<'END'
 open file
 flock file
@@ -78,6 +79,8 @@ pwrite64 512 at 512 file
 fdatasync file
 open file
 flock file
+pread64 132096 at 0 file
+pread64 512 at 2229248 file
 fdatasync file
 pread64 132096 at 0 file
 pread64 512 at 2229248 file

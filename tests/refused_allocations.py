@@ -1,13 +1,12 @@
 #!/usr/bin/env python3
 """What a session and an upgrade answer where one allocation is refused.
 
-Runs the five commands of `run_stops`, and its upgrade of a store of version 1, again and again, first with the first
-allocation of the whole program refused, then with the second one, and so on until none is refused. Each run has to end as
-promised: the first call that answers otherwise than with ample memory answers OutOfMemory and leaves all as it was, or
-DeviceFault where a write or a sync found no memory; an upgrade is done once more then.
-The program compares the states itself and says so; where its own memory was refused it ends with status 1.
+Runs five commands over a store, and an upgrade of a store of version 1, by the built program again and again, first with the first
+allocation of the whole program refused, then with the second one, and so on. Each run has to end as promised: a command that is refused
+memory answers `no OutOfMemory` and leaves all as it was, and is carried out when it is asked once more; a program that ends for want of
+memory has status 4 and leaves what was acknowledged, or one command more; an upgrade is done once more then.
 
-Wants a C compiler, for the few lines that refuse an allocation, and `run_stops` built (by `rt run` in its folder).
+Wants a C compiler, for the few lines that refuse an allocation, and the program that rt ci leaves.
 """
 
 import collections
@@ -18,13 +17,20 @@ import subprocess
 import sys
 import tempfile
 
-PROGRAM = pathlib.Path(__file__).resolve().parent.parent / "crates/run_stops/out/run_stops"
+sys.dont_write_bytecode = True
+from device_faults import INSTANCE  # noqa: E402
+from upgrade import old_store  # noqa: E402
 
-# By the program's word, what some refused allocation has to lead to.
-MET = {
-    "memory": {"refused before the first command", "OutOfMemory", "DeviceFault"},
-    "upgrade": {"OutOfMemory", "DeviceFault"},
-}
+PROGRAM = pathlib.Path(__file__).resolve().parent.parent / "crates/planner/out/planner"
+COMMANDS = [
+    b"load vrp 7 %d\n" % len(INSTANCE) + INSTANCE,
+    b"build\n",
+    b"search 3\n",
+    b"add1 1 5 5 0 1000 0\n",
+    b"checkpoint\n",
+]
+# How a run ends in which the refused allocation did no harm.
+UNHARMED = "as with ample memory"
 
 # Stands before the C library's functions. Refuses the allocation whose number is in REFUSED, and says in the end how many there were.
 SHIM = r"""
@@ -51,25 +57,134 @@ int posix_memalign(void **p, size_t n, size_t m) { REAL("posix_memalign", placed
 """
 
 
-def run_refused(shim, word, number):
-    """Status and output of the program with this word whose allocation of this number is refused, 0 for none, and how many it made."""
-    environment = {**os.environ, "LD_PRELOAD": str(shim), "REFUSED": str(number)}
-    done = subprocess.run([PROGRAM, word], capture_output=True, text=True, env=environment, timeout=60, check=False)
-    return done.returncode, done.stdout.strip(), int(done.stderr.split()[-1])
+def fail(text):
+    sys.exit("refused_allocations: " + text)
 
 
-def refuse_each(shim, word):
-    """Refuses each allocation of the program with this word in turn. Status 1 is told where one was the program's own."""
-    status, answer, allocations = run_refused(shim, word, 0)
-    if (status, answer) != (0, "nothing was refused") or allocations == 0:
-        sys.exit(f"refused_allocations: {word}: {answer}, status {status}, {allocations} allocations")
-    answers = collections.Counter(run_refused(shim, word, number)[:2] for number in range(1, allocations + 1))
-    promised = {(0, answer) for answer in MET[word] | {"nothing was refused"}} | {(1, "")}
-    wrong = {answer: count for answer, count in answers.items() if answer not in promised}
-    missing = MET[word] - {answer for status, answer in answers if status == 0}
-    if wrong or missing:
-        sys.exit(f"refused_allocations: {word}: {wrong}, and none is {missing}")
-    print(f"refused_allocations: {word}: {allocations} allocations refused in turn, each as promised: {dict(answers)}")
+def refusing(shim, number):
+    """The environment in which the allocation of this number is refused, 0 for none."""
+    return {**os.environ, "LD_PRELOAD": str(shim), "REFUSED": str(number)}
+
+
+class Session:
+    """A run over a store, a line at a time."""
+
+    def __init__(self, store, environment=None):
+        self.process = subprocess.Popen([PROGRAM, "run", store], stdin=subprocess.PIPE, stdout=subprocess.PIPE, stderr=subprocess.PIPE, env=environment)
+        self.opened = self.process.stdout.readline()
+
+    def answer(self, line):
+        """What is answered to a line; what stands before the end of the output where the program ends."""
+        try:
+            self.process.stdin.write(line)
+            self.process.stdin.flush()
+        except BrokenPipeError:
+            return b""
+        text = b""
+        for told in self.process.stdout:
+            text += told
+            if told == b"ok\n" or told.startswith((b"no ", b"fault ")):
+                break
+        return text
+
+    def close(self):
+        """Its status, and the last line of its errors."""
+        errors = self.process.communicate()[1]
+        return self.process.returncode, errors.splitlines()[-1]
+
+
+def shown(store):
+    """The state that opening gives with ample memory."""
+    session = Session(store)
+    text = session.answer(b"show\n")
+    session.process.communicate()
+    return text
+
+
+class Wanted:
+    """What the commands are answered with ample memory, and what is shown before them and after each."""
+
+    def __init__(self, store):
+        session = Session(store)
+        self.shown = [session.answer(b"show\n")]
+        self.answers = []
+        for command in COMMANDS:
+            self.answers.append(session.answer(command))
+            self.shown.append(session.answer(b"show\n"))
+        session.process.communicate()
+
+
+def end_of_session(store, wanted, environment):
+    """How the commands ended with a refused allocation, and how many there were. The command that is refused is asked for once more."""
+    session, done, end = Session(store, environment), 0, UNHARMED
+    while done < len(COMMANDS):
+        answer = session.answer(COMMANDS[done])
+        if answer == b"no OutOfMemory\n" and end == UNHARMED:
+            end = "no OutOfMemory"
+            if session.answer(b"show\n") != wanted.shown[done]:
+                fail(f"command {done} was refused memory and changed the state")
+        elif answer == wanted.answers[done]:
+            done += 1
+        else:
+            break
+    status, made = session.close()
+    if done < len(COMMANDS):
+        if status != 4:
+            fail(f"command {done}: {answer!r}, status {status}")
+        end = "status 4"
+    if shown(store) not in wanted.shown[done : done + 1 + (done < len(COMMANDS))]:
+        fail(f"{done} commands were acknowledged, then {shown(store)!r}")
+    return end, int(made)
+
+
+def end_of_upgrade(old, new, wanted, environment):
+    """The same of an upgrade."""
+    got = subprocess.run([PROGRAM, "upgrade", old, new], capture_output=True, env=environment)
+    end = {0: UNHARMED, 4: "status 4"}.get(got.returncode)
+    if end is None:
+        fail(f"upgrade: {got}")
+    if end != UNHARMED:
+        subprocess.run([PROGRAM, "upgrade", old, new], check=True, capture_output=True)
+    if wanted is not None and shown(new) != wanted:
+        fail(f"upgrade: {end}, and then {shown(new)!r}")
+    return end, int(got.stderr.splitlines()[-1])
+
+
+def refuse_each(name, ended, met):
+    """Refuses each allocation in turn, none first. Some have to end in each of these ways."""
+    end, allocations = ended(0)
+    if end != UNHARMED or allocations == 0:
+        fail(f"{name}: {end}, {allocations} allocations")
+    ends = collections.Counter(ended(number)[0] for number in range(1, allocations + 1))
+    if met - set(ends):
+        fail(f"{name}: none is {met - set(ends)}")
+    print(f"refused_allocations: {name}: {allocations} allocations refused in turn, each as promised: {dict(ends)}")
+
+
+def refuse_in_sessions(folder, shim):
+    empty, store = folder / "empty.store", folder / "day.store"
+    subprocess.run([PROGRAM, "format", empty], check=True, capture_output=True)
+    shutil.copyfile(empty, store)
+    wanted = Wanted(store)
+
+    def ended(number):
+        shutil.copyfile(empty, store)
+        return end_of_session(store, wanted, refusing(shim, number))
+
+    refuse_each("a session", ended, {"no OutOfMemory", "status 4"})
+
+
+def refuse_in_upgrades(folder, shim):
+    old, new = folder / "old.store", folder / "new.store"
+    old.write_bytes(old_store())
+    end_of_upgrade(old, new, None, refusing(shim, 0))
+    wanted = shown(new)
+
+    def ended(number):
+        new.unlink(missing_ok=True)
+        return end_of_upgrade(old, new, wanted, refusing(shim, number))
+
+    refuse_each("an upgrade", ended, {"status 4"})
 
 
 def main():
@@ -78,13 +193,14 @@ def main():
         print("skipped: refused_allocations, since cc is not there")
         return
     if not PROGRAM.exists():
-        sys.exit(f"refused_allocations: {PROGRAM} is not built: run rt ci, or rt run in its folder")
-    with tempfile.TemporaryDirectory() as folder:
-        source, shim = pathlib.Path(folder) / "shim.c", pathlib.Path(folder) / "shim.so"
+        fail(f"{PROGRAM} is not built: run rt ci, or ./planner once")
+    with tempfile.TemporaryDirectory() as name:
+        folder = pathlib.Path(name)
+        source, shim = folder / "shim.c", folder / "shim.so"
         source.write_text(SHIM, encoding="ascii")
         subprocess.run([compiler, "-O1", "-shared", "-fPIC", "-o", shim, source], check=True)
-        for word in MET:
-            refuse_each(shim, word)
+        refuse_in_sessions(folder, shim)
+        refuse_in_upgrades(folder, shim)
 
 
 if __name__ == "__main__":

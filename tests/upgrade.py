@@ -149,4 +149,5 @@ def main():
     print("upgrade: stores of version 1 are taken over, and what can't be is told and left alone")
 
 
-main()
+if __name__ == "__main__":
+    main()

@@ -2,17 +2,27 @@
 
 use command_core::{Command, Spot, State, apply};
 use instance_read::{read_lilim, read_vrp};
-use state_codec::{decode_state, encode_state};
+use state_codec::encode_state;
 use std::alloc::Global;
 use std::io;
 
-/// One customer, 1 at (3, 4) with demand 6, a capacity of 10 and one vehicle, just loaded.
-pub(crate) const LOADED: [u8; 95] = [
-    1, 2, 0, 0, 0, 0, 0, 0, 0, 0, 0, 0, 0, 0, 0, 0, 0, 0, 0, 0, 0, 10, 0, 0, 0, 1, 0, 0, 0, 2, 0,
-    0, 0, 0, 0, 0, 0, 0, 0, 0, 0, 0, 5, 245, 225, 0, 0, 0, 0, 0, 0, 0, 0, 1, 1, 0, 0, 0, 1, 0, 0,
-    0, 3, 0, 0, 0, 4, 0, 0, 0, 6, 0, 0, 0, 0, 5, 245, 225, 0, 0, 0, 0, 0, 0, 0, 0, 0, 0, 0, 0, 0,
-    0, 0, 0, 0,
-];
+/// One customer with demand 6, and one vehicle.
+const ONE: &[u8] = b"NAME : t1
+TYPE : CVRP
+DIMENSION : 2
+EDGE_WEIGHT_TYPE : EUC_2D
+CAPACITY : 10
+NODE_COORD_SECTION
+1 0 0
+2 3 4
+DEMAND_SECTION
+1 0
+2 6
+DEPOT_SECTION
+1
+-1
+EOF
+";
 
 const THREE: &[u8] = b"NAME : t3
 TYPE : CVRP
@@ -35,26 +45,53 @@ DEPOT_SECTION
 EOF
 ";
 
+/// What is run.
+#[derive(Clone, Copy)]
+pub(crate) enum Example {
+    /// A load, a build, a search, one more customer, and a checkpoint: 14 calls of the device.
+    Five,
+    /// A load whose snapshot takes three sectors.
+    WideLoad,
+    /// The same over another load.
+    SecondLoad,
+}
+
 /// What is answered for what can't be: a state that is refused, a store that can't be made or opened.
 pub(crate) fn failed() -> io::Error {
     io::ErrorKind::InvalidData.into()
 }
 
-/// The command that loads that customer.
-pub(crate) fn load_one(alloc: Global) -> io::Result<Command> {
-    load_of_state(alloc, &LOADED)
-}
-
-// The command that leads to this state.
-fn load_of_state(alloc: Global, bytes: &[u8]) -> io::Result<Command> {
-    match decode_state(alloc, bytes) {
-        Ok(State::Loaded(job)) => Ok(Command::Load(job.problem.copy()?, 0)),
-        _ => Err(failed()),
+/// The commands of an example.
+pub(crate) fn commands_of(alloc: Global, example: Example) -> io::Result<Vec<Command>> {
+    match example {
+        Example::Five => five_commands(alloc),
+        Example::WideLoad => one_command(alloc, load_pairs(alloc)?),
+        Example::SecondLoad => two_commands(alloc, load_one(alloc)?, load_pairs(alloc)?),
     }
 }
 
-/// A load, a build, a search, one more customer, and a checkpoint: 14 calls of the device.
-pub(crate) fn five_commands(alloc: Global) -> io::Result<Vec<Command>> {
+fn one_command(alloc: Global, command: Command) -> io::Result<Vec<Command>> {
+    let mut commands = Vec::new(alloc);
+    commands.push(command)?;
+    Ok(commands)
+}
+
+fn two_commands(alloc: Global, first: Command, second: Command) -> io::Result<Vec<Command>> {
+    let mut commands = one_command(alloc, first)?;
+    commands.push(second)?;
+    Ok(commands)
+}
+
+fn five_commands(alloc: Global) -> io::Result<Vec<Command>> {
+    let mut commands = two_commands(alloc, load_one(alloc)?, Command::Build)?;
+    for command in [Command::Search(3), added(), Command::Checkpoint] {
+        commands.push(command)?;
+    }
+    Ok(commands)
+}
+
+// One more customer.
+fn added() -> Command {
     let spot = Spot {
         x: 1,
         y: 1,
@@ -62,33 +99,12 @@ pub(crate) fn five_commands(alloc: Global) -> io::Result<Vec<Command>> {
         latest: 9,
         service: 0,
     };
-    let mut commands = Vec::new(alloc);
-    commands.push(load_one(alloc)?)?;
-    commands.push(Command::Build)?;
-    commands.push(Command::Search(3))?;
-    commands.push(Command::Add1 { demand: 1, spot })?;
-    commands.push(Command::Checkpoint)?;
-    Ok(commands)
+    Command::Add1 { demand: 1, spot }
 }
 
-/// The command that loads 20 pairs for two vehicles: a state of 54 + 20 * 57 + 2 * 8 + 2 * 4 = 1,218 bytes, so three sectors.
-pub(crate) fn load_pairs(alloc: Global) -> io::Result<Command> {
-    let mut text = b"2 10 1\n0 0 0 0 0 1000 0 0 0\n".to_vec(alloc)?;
-    for name in 0..20u32 {
-        let (pickup, delivery) = (2 * name + 1, 2 * name + 2);
-        let tasks = format!(in alloc;
-            "{pickup} {pickup} 0 1 0 1000 0 0 {delivery}\n{delivery} {delivery} 0 -1 0 1000 0 {pickup} 0\n"
-        )?;
-        text.extend_from_slice(tasks.as_bytes())?;
-    }
-    load_lilim(alloc, &text)
-}
-
-fn load_lilim(alloc: Global, text: &[u8]) -> io::Result<Command> {
-    match read_lilim(alloc, text) {
-        Ok(problem) => Ok(Command::Load(problem, 0)),
-        Err(_) => Err(failed()),
-    }
+/// The command that loads one customer, whose least distance is 10.
+pub(crate) fn load_one(alloc: Global) -> io::Result<Command> {
+    load_vrp(alloc, ONE)
 }
 
 /// The command that loads three customers, whose least distance is 30.
@@ -101,6 +117,27 @@ fn load_vrp(alloc: Global, text: &[u8]) -> io::Result<Command> {
         Ok(problem) => Ok(Command::Load(problem, 0)),
         Err(_) => Err(failed()),
     }
+}
+
+// The command that loads 20 pairs for two vehicles: a state of 54 + 20 * 57 + 2 * 8 + 2 * 4 = 1,218 bytes, so three sectors.
+fn load_pairs(alloc: Global) -> io::Result<Command> {
+    let text = text_of_pairs(alloc)?;
+    match read_lilim(alloc, &text) {
+        Ok(problem) => Ok(Command::Load(problem, 0)),
+        Err(_) => Err(failed()),
+    }
+}
+
+fn text_of_pairs(alloc: Global) -> io::Result<Vec<u8>> {
+    let mut text = b"2 10 1\n0 0 0 0 0 1000 0 0 0\n".to_vec(alloc)?;
+    for name in 0..20u32 {
+        let (pickup, delivery) = (2 * name + 1, 2 * name + 2);
+        let tasks = format!(in alloc;
+            "{pickup} {pickup} 0 1 0 1000 0 0 {delivery}\n{delivery} {delivery} 0 -1 0 1000 0 {pickup} 0\n"
+        )?;
+        text.extend_from_slice(tasks.as_bytes())?;
+    }
+    Ok(text)
 }
 
 /// The states before these commands and after each, as bytes.

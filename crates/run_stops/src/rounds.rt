@@ -2,6 +2,7 @@
 
 use crate::examples::{applied, failed, load_three};
 use crate::stops::{SECTORS, fresh, open};
+use crate::tables::{count, print_row};
 use command_core::{Command, Spot, State, check};
 use recover::{Denial, Halt, Round, Run, Session, run_round, run_rounds};
 use sector_disk::MemDevice;
@@ -151,6 +152,18 @@ enum Outcome {
     Other,
 }
 
+impl Outcome {
+    /// Where a row counts it.
+    fn place(self) -> usize {
+        match self {
+            Outcome::Whole => 0,
+            Outcome::Without => 1,
+            Outcome::With => 2,
+            Outcome::Other => 3,
+        }
+    }
+}
+
 fn is_left(alloc: Global, state: &State, left: &Left) -> io::Result<bool> {
     Ok(encode_state(alloc, state)?.as_slice() == left.state.as_slice())
 }
@@ -201,49 +214,21 @@ fn broken_off(alloc: Global, state: &State, command: &Command, left: &Left) -> i
     Ok(Outcome::Other)
 }
 
-/// How often each outcome was met.
-#[derive(Default, Drop)]
-struct Outcomes {
-    whole: u32,
-    without: u32,
-    with: u32,
-    other: u32,
-}
-
-impl Outcomes {
-    fn add(&mut self, outcome: Outcome) {
-        let count = match outcome {
-            Outcome::Whole => &mut self.whole,
-            Outcome::Without => &mut self.without,
-            Outcome::With => &mut self.with,
-            Outcome::Other => &mut self.other,
-        };
-        *count = count.saturating_add(1);
-    }
-
-    fn print<R: Print>(&self, rt: &R) -> io::Result<()> {
-        println!(rt;
-            "{} {} {} {}",
-            self.whole > 0,
-            self.without > 0,
-            self.with > 0,
-            self.other > 0
-        )
-    }
-}
-
 // How many rounds a list has, 1..=8.
 fn len_of(list: u64) -> u64 {
     u64::from(Random::of_round(list, 63).below(8)).saturating_add(1)
 }
 
-// Carries out the rounds of a list one by one, adds their outcomes, and gives the state that is left.
-fn add_list(alloc: Global, list: u64, outcomes: &mut Outcomes) -> io::Result<Vec<u8>> {
+// Carries out the rounds of a list one by one, counts their outcomes, and gives the state that is left.
+fn add_list(alloc: Global, list: u64, counts: &mut [u64]) -> io::Result<Vec<u8>> {
     let mut device = fresh(alloc)?;
     let mut state = encode_state(alloc, &State::Empty)?;
     for place in 0..len_of(list) {
         let (left, next) = left_by(alloc, device, round_of(alloc, list, place)?)?;
-        outcomes.add(outcome_of(alloc, list, place, &state, &left)?);
+        count(
+            counts,
+            outcome_of(alloc, list, place, &state, &left)?.place(),
+        );
         state = left.state;
         device = next;
     }
@@ -262,18 +247,26 @@ fn left_by_all(alloc: Global, list: u64) -> io::Result<Vec<u8>> {
     }
 }
 
-/// Prints whether each round of 200 lists left what the fold allows, and all of them together what they left one by one.
+/// Prints whether each round of 200 lists left what the fold allows, and how many lists left at once what they left one by one.
 pub(crate) fn print_rounds<R: Print>(rt: &R, alloc: Global) -> io::Result<()> {
     println!(rt;
-        "{LISTS} lists of up to 8 rounds: whether rounds were met that no stop broke off, that lost the command then, that kept it, others"
+        "{LISTS} lists of up to 8 rounds: whether rounds were met that no stop broke off, that lost the command then, that kept it, others; lists that left the same at once"
     )?;
-    let mut outcomes = Outcomes::default();
-    let mut same: u64 = 0;
+    print_row(rt, LISTS, &row_of_lists(alloc)?)
+}
+
+fn row_of_lists(alloc: Global) -> io::Result<[u64; 5]> {
+    let mut counts = [0; 5];
     for list in 0..LISTS {
-        if add_list(alloc, list, &mut outcomes)? == left_by_all(alloc, list)? {
-            same = same.saturating_add(1);
+        if add_list(alloc, list, &mut counts)? == left_by_all(alloc, list)? {
+            count(&mut counts, 4);
         }
     }
-    outcomes.print(rt)?;
-    println!(rt; "the same state at once: {same}")
+    let [whole, without, with, other, same] = counts;
+    Ok([met(whole), met(without), met(with), met(other), same])
+}
+
+// 1 where it was met.
+fn met(count: u64) -> u64 {
+    count.min(1)
 }

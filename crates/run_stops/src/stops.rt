@@ -1,6 +1,7 @@
 //! Runs that are stopped, and what opening their device gives.
 
-use crate::examples::failed;
+use crate::examples::{Example, commands_of, failed, states_of};
+use crate::tables::print_row;
 use checkpoint::format;
 use command_core::Command;
 use recover::{Denial, Opened, Reply, Session};
@@ -12,6 +13,79 @@ use std::io;
 /// The sectors of a store.
 pub(crate) const SECTORS: u64 = 8450;
 
+/// A table of stops: those of an example by finished calls, with each choice of the sectors that it writes.
+#[derive(Clone, Copy)]
+struct Table {
+    title: &'static str,
+    example: Example,
+    first: u64,
+    last: u64,
+    written: &'static [usize],
+    /// Two for each of these sectors, multiplied.
+    choices: u32,
+}
+
+const TABLES: [Table; 3] = [
+    Table {
+        title: "five commands stopped, by calls: acknowledged; how often their state, one more, another; with steps repeated",
+        example: Example::Five,
+        first: 0,
+        last: 14,
+        // Both headers, three records, and the first sector of each half.
+        written: &[0, 1, 2, 3, 4, 258, 4354],
+        choices: 128,
+    },
+    Table {
+        title: "a load of three sectors stopped, by calls",
+        example: Example::WideLoad,
+        first: 0,
+        last: 4,
+        written: &[0, 258, 259, 260],
+        choices: 16,
+    },
+    Table {
+        title: "the same load over a state stopped, by calls",
+        example: Example::SecondLoad,
+        first: 4,
+        last: 8,
+        written: &[1, 4354, 4355, 4356],
+        choices: 16,
+    },
+];
+
+/// Prints the tables.
+pub(crate) fn print_stops<R: Print>(rt: &R, alloc: Global) -> io::Result<()> {
+    for table in &TABLES {
+        println!(rt; "{}", table.title)?;
+        print_table(rt, alloc, table)?;
+    }
+    Ok(())
+}
+
+fn print_table<R: Print>(rt: &R, alloc: Global, table: &Table) -> io::Result<()> {
+    for calls in table.first..=table.last {
+        print_row(rt, calls, &row_of(alloc, table, calls)?)?;
+    }
+    Ok(())
+}
+
+// What the stops after so many calls come to.
+fn row_of(alloc: Global, table: &Table, calls: u64) -> io::Result<[u64; 5]> {
+    let states = states_of_example(alloc, table.example)?;
+    let mut tally = Tally::default();
+    for choice in 0..table.choices {
+        let choices = choices_of(alloc, table.written, choice)?;
+        let ended = stopped(alloc, table.example, calls, &choices)?;
+        tally.add(&ended, &states);
+    }
+    Ok(tally.row())
+}
+
+/// The states before the commands of an example and after each.
+pub(crate) fn states_of_example(alloc: Global, example: Example) -> io::Result<Vec<Vec<u8>>> {
+    states_of(alloc, &commands_of(alloc, example)?)
+}
+
 /// A device with a new store.
 pub(crate) fn fresh(alloc: Global) -> io::Result<MemDevice> {
     let mut device = MemDevice::new(alloc, SECTORS)?;
@@ -21,6 +95,7 @@ pub(crate) fn fresh(alloc: Global) -> io::Result<MemDevice> {
     }
 }
 
+/// The device, opened.
 pub(crate) fn open(alloc: Global, device: MemDevice) -> io::Result<Opened<MemDevice>> {
     match Session::open(alloc, device) {
         Ok(opened) => Ok(opened),
@@ -28,13 +103,11 @@ pub(crate) fn open(alloc: Global, device: MemDevice) -> io::Result<Opened<MemDev
     }
 }
 
-/// What the session answers to a command.
-pub(crate) fn answer(
-    alloc: Global,
-    session: &mut Session<MemDevice>,
-    command: Command,
-) -> Result<(), Denial> {
-    session.apply(alloc, command).answer
+/// The state that opening gives, as bytes, and the device behind it.
+pub(crate) fn opened_state(alloc: Global, device: MemDevice) -> io::Result<(Vec<u8>, MemDevice)> {
+    let session = open(alloc, device)?.session;
+    let bytes = encode_state(alloc, session.state())?;
+    Ok((bytes, session.close()))
 }
 
 /// Which contents a stop leaves: of each of these sectors the first or the second, as the digits of `choice` have it, and of all others
@@ -55,9 +128,9 @@ pub(crate) fn choices_of(alloc: Global, sectors: &[usize], choice: u32) -> io::R
 #[derive(Drop)]
 pub(crate) struct Ended {
     /// How many commands were answered Ok, DeviceFault, and Broken.
-    pub acknowledged: usize,
-    pub faults: usize,
-    pub refused: usize,
+    pub acknowledged: u64,
+    pub faults: u64,
+    pub refused: u64,
     /// The state that opening gave, as bytes.
     pub bytes: Vec<u8>,
     /// How many search steps it repeated.
@@ -87,92 +160,80 @@ impl Ended {
             replayed: opened.replayed,
         })
     }
-
-    /// Prints how the run with a failing call ended, and how many commands the state has.
-    pub(crate) fn print<R: Print>(&self, rt: &R, call: u64, place: usize) -> io::Result<()> {
-        println!(rt;
-            "{call}: {} {} {}; {place}",
-            self.acknowledged, self.faults, self.refused
-        )
-    }
 }
 
 // How many commands were answered so.
-fn count_of(replies: &[Reply], answer: Result<(), Denial>) -> usize {
+fn count_of(replies: &[Reply], answer: Result<(), Denial>) -> u64 {
     replies
         .iter()
         .filter(|reply| reply.answer == answer)
-        .count()
+        .count() as u64
 }
 
 /// Which of these states has these bytes, the first one; their number, where none has.
-pub(crate) fn place_of(states: &[Vec<u8>], bytes: &[u8]) -> usize {
+pub(crate) fn place_of(states: &[Vec<u8>], bytes: &[u8]) -> u64 {
     states
         .iter()
         .position(|state| state.as_slice() == bytes)
-        .unwrap_or(states.len())
+        .unwrap_or(states.len()) as u64
 }
 
-/// Whether the state of this number has these bytes.
-pub(crate) fn is_state(states: &[Vec<u8>], number: usize, bytes: &[u8]) -> bool {
-    match states.get(number) {
+// Whether the state of this number has these bytes.
+fn is_state(states: &[Vec<u8>], number: u64, bytes: &[u8]) -> bool {
+    match states.get(number as usize) {
         Some(state) => state.as_slice() == bytes,
         None => false,
     }
 }
 
-/// Runs commands over a new store whose device fails once so many calls have finished behind its opening, and stops it then.
-pub(crate) fn stopped(
-    alloc: Global,
-    commands: Vec<Command>,
-    fuse: u64,
-    choices: &[u32],
-) -> io::Result<Ended> {
+// Runs an example over a new store whose device fails once so many calls have finished behind its opening, and stops it then.
+fn stopped(alloc: Global, example: Example, calls: u64, choices: &[u32]) -> io::Result<Ended> {
     let mut device = fresh(alloc)?;
-    if fuse == 0 {
+    if calls == 0 {
         // With no call left the reads of opening would fail as well. They and the sync before them are three calls.
         device.fail_once(3);
     } else {
-        device.fuse(fuse.saturating_add(1));
+        device.fuse(calls.saturating_add(1));
     }
-    Ended::of(alloc, open(alloc, device)?.session, commands, choices)
+    let session = open(alloc, device)?.session;
+    Ended::of(alloc, session, commands_of(alloc, example)?, choices)
 }
 
 /// How the choices of a stop opened.
-#[derive(Default, Drop)]
-pub(crate) struct Tally {
-    pub acknowledged: usize,
+#[derive(Default, Clone, Copy)]
+struct Tally {
+    acknowledged: u64,
     /// With the state of the acknowledged commands, of one more, and with another one.
-    pub same: u32,
-    pub one_more: u32,
-    pub other: u32,
+    same: u64,
+    one_more: u64,
+    other: u64,
     /// How many of them repeated search steps.
-    pub replayed: u32,
+    replayed: u64,
 }
 
 impl Tally {
-    pub(crate) fn add(&mut self, ended: &Ended, states: &[Vec<u8>]) {
+    fn add(&mut self, ended: &Ended, states: &[Vec<u8>]) {
         self.acknowledged = ended.acknowledged;
-        self.count(ended, states);
+        let count = if is_state(states, ended.acknowledged, &ended.bytes) {
+            &mut self.same
+        } else if is_state(states, ended.acknowledged.saturating_add(1), &ended.bytes) {
+            &mut self.one_more
+        } else {
+            &mut self.other
+        };
+        *count = count.saturating_add(1);
         if ended.replayed > 0 {
             self.replayed = self.replayed.saturating_add(1);
         }
     }
 
-    fn count(&mut self, ended: &Ended, states: &[Vec<u8>]) {
-        if is_state(states, ended.acknowledged, &ended.bytes) {
-            self.same = self.same.saturating_add(1);
-        } else if is_state(states, ended.acknowledged.saturating_add(1), &ended.bytes) {
-            self.one_more = self.one_more.saturating_add(1);
-        } else {
-            self.other = self.other.saturating_add(1);
-        }
-    }
-
-    pub(crate) fn print<R: Print>(&self, rt: &R, fuse: u64) -> io::Result<()> {
-        println!(rt;
-            "{fuse}: {}; {} {} {}; {}",
-            self.acknowledged, self.same, self.one_more, self.other, self.replayed
-        )
+    fn row(self) -> [u64; 5] {
+        [
+            self.acknowledged,
+            self.same,
+            self.one_more,
+            self.other,
+            self.replayed,
+        ]
     }
 }

@@ -1,10 +1,9 @@
-//! A store of version 1 that is taken over: stopped at each call, with each call failing once, and with memory refused.
+//! A store of version 1 that is taken over: stopped at each call, and with each call failing once.
 
 use crate::examples::{failed, load_one, load_three, states_of};
-use crate::images::put;
-use crate::memory::Refused;
-use crate::stops::{SECTORS, answer, choices_of, fresh, open};
-use checkpoint::{FormatFault, StoreFault};
+use crate::stops::{SECTORS, choices_of, fresh, open};
+use crate::tables::{count, print_row};
+use checkpoint::StoreFault;
 use command_core::Command;
 use recover::{Session, UpgradeFault, upgrade};
 use sector_disk::{MemDevice, Sectors};
@@ -12,32 +11,72 @@ use state_codec::encode_state;
 use std::alloc::Global;
 use std::io;
 
-/// The header of sequence 1, with 75 bytes of snapshot.
-const HEADER: [u8; 28] = [
-    b'P', b'D', b'R', b'S', b'T', b'O', b'R', b'E', 0, 0, 0, 1, 0, 0, 0, 0, 0, 0, 0, 1, 0, 0, 0, 0,
-    0, 0, 0, 75,
+/// Fronts of the old store's sectors.
+const OLD_STORE: [(u64, &[u8]); 4] = [
+    // The header of sequence 1, with 75 bytes of snapshot.
+    (
+        1,
+        &[
+            b'P', b'D', b'R', b'S', b'T', b'O', b'R', b'E', 0, 0, 0, 1, 0, 0, 0, 0, 0, 0, 0, 1, 0,
+            0, 0, 0, 0, 0, 0, 75,
+        ],
+    ),
+    // One customer, 1 at (3, 4) with demand 6, a capacity of 10 and one vehicle, just loaded.
+    (
+        530,
+        &[
+            1, 2, 0, 0, 0, 0, 0, 0, 0, 0, 0, 0, 0, 0, 0, 0, 0, 0, 0, 0, 0, 10, 0, 1, 0, 2, 0, 0, 0,
+            0, 0, 0, 0, 0, 0, 0, 0, 0, 5, 245, 225, 0, 0, 1, 1, 0, 1, 0, 0, 0, 3, 0, 0, 0, 4, 0, 0,
+            0, 6, 0, 0, 0, 0, 5, 245, 225, 0, 0, 0, 0, 0, 0, 0, 0, 0,
+        ],
+    ),
+    // Record 0: Build.
+    (2, &[0, 0, 0, 0, 0, 0, 0, 1, 0, 0, 0, 0, 6]),
+    // Record 1: Search of 256 steps.
+    (3, &[0, 0, 0, 0, 0, 0, 0, 1, 0, 0, 0, 1, 7, 1, 0]),
 ];
 
-/// One customer, as in `LOADED`, in version 1.
-const SNAPSHOT: [u8; 75] = [
-    1, 2, 0, 0, 0, 0, 0, 0, 0, 0, 0, 0, 0, 0, 0, 0, 0, 0, 0, 0, 0, 10, 0, 1, 0, 2, 0, 0, 0, 0, 0,
-    0, 0, 0, 0, 0, 0, 0, 5, 245, 225, 0, 0, 1, 1, 0, 1, 0, 0, 0, 3, 0, 0, 0, 4, 0, 0, 0, 6, 0, 0,
-    0, 0, 5, 245, 225, 0, 0, 0, 0, 0, 0, 0, 0, 0,
-];
+/// The sectors of the new device that an upgrade writes and that are not zeros before it or behind it.
+const WRITTEN: [usize; 4] = [0, 1, 2, 4354];
 
-/// Record 0: Build.
-const BUILD: [u8; 13] = [0, 0, 0, 0, 0, 0, 0, 1, 0, 0, 0, 0, 6];
+/// Prints what stops and failing calls leave of an upgrade.
+pub(crate) fn print_upgrades<R: Print>(rt: &R, alloc: Global) -> io::Result<()> {
+    let state = its_state(alloc)?;
+    println!(rt;
+        "an upgrade stopped, by calls of the new device: how often the state, NotFormatted, another; the old one's state"
+    )?;
+    for calls in 0..=6 {
+        print_row(rt, calls, &row_of_stops(alloc, calls, &state)?)?;
+    }
+    println!(rt; "an upgrade, by the call of the old device that fails once, and once more")?;
+    for call in 0..4 {
+        print_failed(rt, call, &failed_call_of_old(alloc, call, &state)?)?;
+    }
+    println!(rt; "by the call of the new device")?;
+    for call in 0..7 {
+        print_failed(rt, call, &failed_call_of_new(alloc, call, &state)?)?;
+    }
+    Ok(())
+}
 
-/// Record 1: Search of 256 steps.
-const SEARCH: [u8; 15] = [0, 0, 0, 0, 0, 0, 0, 1, 0, 0, 0, 1, 7, 1, 0];
+// Writes a sector that begins with these bytes.
+fn put(device: &mut MemDevice, sector: u64, front: &[u8]) -> io::Result<()> {
+    let mut bytes = [0; 512];
+    for (to, from) in bytes.iter_mut().zip(front) {
+        *to = *from;
+    }
+    if sector >= device.len() || device.write(sector, &bytes).is_err() {
+        return Err(failed());
+    }
+    Ok(())
+}
 
-// A device with that store, none of which is synced.
+// A device with the old store, none of which is synced.
 fn old_store(alloc: Global) -> io::Result<MemDevice> {
     let mut device = MemDevice::new(alloc, 802)?;
-    put(&mut device, 1, &HEADER)?;
-    put(&mut device, 530, &SNAPSHOT)?;
-    put(&mut device, 2, &BUILD)?;
-    put(&mut device, 3, &SEARCH)?;
+    for (sector, front) in &OLD_STORE {
+        put(&mut device, *sector, front)?;
+    }
     Ok(device)
 }
 
@@ -56,8 +95,8 @@ fn its_state(alloc: Global) -> io::Result<Vec<u8>> {
 // A device with another store of the version that is written: a snapshot of sequence 2 and a record.
 fn other_store(alloc: Global) -> io::Result<MemDevice> {
     let mut session = open(alloc, fresh(alloc)?)?.session;
-    let _ = answer(alloc, &mut session, load_three(alloc)?);
-    let _ = answer(alloc, &mut session, Command::Build);
+    let _ = session.apply(alloc, load_three(alloc)?);
+    let _ = session.apply(alloc, Command::Build);
     Ok(session.close())
 }
 
@@ -68,6 +107,17 @@ enum Outcome {
     State,
     NotFormatted,
     Other,
+}
+
+impl Outcome {
+    /// Where a row counts it.
+    fn place(self) -> usize {
+        match self {
+            Outcome::State => 0,
+            Outcome::NotFormatted => 1,
+            Outcome::Other => 2,
+        }
+    }
 }
 
 // What opening it gives, where this is the state.
@@ -94,114 +144,68 @@ fn has_state(alloc: Global, device: MemDevice, state: &[u8]) -> io::Result<bool>
 // Whether the old device stands for this state: it is taken over once more.
 fn stands_for(alloc: Global, mut old: MemDevice, state: &[u8]) -> io::Result<bool> {
     let mut new = MemDevice::new(alloc, SECTORS)?;
-    match upgrade(alloc, &mut old, &mut new) {
-        Ok(_) => has_state(alloc, new, state),
-        Err(_) => Ok(false),
+    match tried(alloc, &mut old, &mut new) {
+        None => has_state(alloc, new, state),
+        Some(_) => Ok(false),
     }
 }
 
-/// How the choices of a stop opened.
-#[derive(Default, Drop)]
-struct Outcomes {
-    state: u32,
-    not_formatted: u32,
-    other: u32,
-    /// How often the old device stands for the state.
-    old: u32,
+// Why it is not upgraded.
+fn tried(alloc: Global, old: &mut MemDevice, new: &mut MemDevice) -> Option<UpgradeFault> {
+    upgrade(alloc, old, new).err()
 }
 
-impl Outcomes {
-    fn add(&mut self, outcome: Outcome, stands: bool) {
-        match outcome {
-            Outcome::State => self.state = self.state.saturating_add(1),
-            Outcome::NotFormatted => self.not_formatted = self.not_formatted.saturating_add(1),
-            Outcome::Other => self.other = self.other.saturating_add(1),
-        }
-        if stands {
-            self.old = self.old.saturating_add(1);
-        }
-    }
-}
-
-/// Prints what stops, failing calls and a missing sync leave of an upgrade.
-pub(crate) fn print_upgrades<R: Print>(rt: &R, alloc: Global) -> io::Result<()> {
-    let state = its_state(alloc)?;
-    every_stop(rt, alloc, &state)?;
-    every_failed_call(rt, alloc, &state)
-}
-
-/// The sectors of the new device that an upgrade writes and that are not zeros before it or behind it.
-const WRITTEN: [usize; 4] = [0, 1, 2, 4354];
-
-// An upgrade over another store, stopped after each call of the new device with each choice of the sectors that it writes.
-fn every_stop<R: Print>(rt: &R, alloc: Global, state: &[u8]) -> io::Result<()> {
-    println!(rt;
-        "an upgrade stopped, by calls of the new device: how often the state, NotFormatted, another; the old one's state"
-    )?;
-    for fuse in 0..=6 {
-        let outcomes = outcomes_of_stops(alloc, fuse, state)?;
-        println!(rt;
-            "{fuse}: {} {} {}; {}",
-            outcomes.state, outcomes.not_formatted, outcomes.other, outcomes.old
-        )?;
-    }
-    Ok(())
-}
-
-fn outcomes_of_stops(alloc: Global, fuse: u64, state: &[u8]) -> io::Result<Outcomes> {
-    let mut outcomes = Outcomes::default();
+// An upgrade over another store, stopped after so many calls of the new device with each choice of the sectors that it writes.
+fn row_of_stops(alloc: Global, calls: u64, state: &[u8]) -> io::Result<[u64; 4]> {
+    let mut row = [0; 4];
     for choice in 0..16 {
         let choices = choices_of(alloc, &WRITTEN, choice)?;
-        let (old, new) = stopped(alloc, fuse, &choices)?;
-        outcomes.add(
-            outcome_of(alloc, new, state)?,
-            stands_for(alloc, old, state)?,
-        );
+        let (old, new) = stopped(alloc, calls, &choices)?;
+        count(&mut row, outcome_of(alloc, new, state)?.place());
+        if stands_for(alloc, old, state)? {
+            count(&mut row, 3);
+        }
     }
-    Ok(outcomes)
+    Ok(row)
 }
 
 // Both devices behind an upgrade that stopped with these choices once so many calls of the new one had finished.
-fn stopped(alloc: Global, fuse: u64, choices: &[u32]) -> io::Result<(MemDevice, MemDevice)> {
+fn stopped(alloc: Global, calls: u64, choices: &[u32]) -> io::Result<(MemDevice, MemDevice)> {
     let mut old = old_store(alloc)?;
     let mut new = other_store(alloc)?;
-    new.fuse(fuse);
-    let _ = upgrade(alloc, &mut old, &mut new);
+    new.fuse(calls);
+    let _ = tried(alloc, &mut old, &mut new);
     old.crash(choices);
     new.crash(choices);
     Ok((old, new))
 }
 
-// Each call failing once, reads counted: a sync and two reads of the old device, and six calls of the new one.
-fn every_failed_call<R: Print>(rt: &R, alloc: Global, state: &[u8]) -> io::Result<()> {
-    println!(rt; "an upgrade, by the call of the old device that fails once, and once more")?;
-    for call in 0..4 {
-        let mut old = old_store(alloc)?;
-        old.fail_once(call);
-        tried_twice(rt, alloc, call, old, MemDevice::new(alloc, SECTORS)?, state)?;
-    }
-    println!(rt; "by the call of the new device")?;
-    for call in 0..7 {
-        let mut new = other_store(alloc)?;
-        new.fail_once(call);
-        tried_twice(rt, alloc, call, old_store(alloc)?, new, state)?;
-    }
-    Ok(())
+/// What an upgrade answers whose device fails once, and once more, and whether the new device has the state then.
+type Tries = (&'static str, &'static str, bool);
+
+// Reads are counted: a sync and two reads of the old device.
+fn failed_call_of_old(alloc: Global, call: u64, state: &[u8]) -> io::Result<Tries> {
+    let mut old = old_store(alloc)?;
+    old.fail_once(call);
+    tried_twice(alloc, old, MemDevice::new(alloc, SECTORS)?, state)
 }
 
-// What an upgrade answers, and whether it is done once more, so that the new device has the state.
-fn tried_twice<R: Print>(
-    rt: &R,
+// Six calls of the new device.
+fn failed_call_of_new(alloc: Global, call: u64, state: &[u8]) -> io::Result<Tries> {
+    let mut new = other_store(alloc)?;
+    new.fail_once(call);
+    tried_twice(alloc, old_store(alloc)?, new, state)
+}
+
+fn tried_twice(
     alloc: Global,
-    call: u64,
     mut old: MemDevice,
     mut new: MemDevice,
     state: &[u8],
-) -> io::Result<()> {
-    let first = answered(upgrade(alloc, &mut old, &mut new).err());
-    let second = answered(upgrade(alloc, &mut old, &mut new).err());
-    let done = has_state(alloc, new, state)?;
-    println!(rt; "{call}: {first}, {second}, the state {done}")
+) -> io::Result<Tries> {
+    let first = answered(tried(alloc, &mut old, &mut new));
+    let second = answered(tried(alloc, &mut old, &mut new));
+    Ok((first, second, has_state(alloc, new, state)?))
 }
 
 fn answered(fault: Option<UpgradeFault>) -> &'static str {
@@ -211,35 +215,6 @@ fn answered(fault: Option<UpgradeFault>) -> &'static str {
     }
 }
 
-/// Takes a store over, once more where memory was refused. An error is want of memory in this program itself.
-pub(crate) fn upgrade_once(alloc: Global) -> io::Result<Refused> {
-    let state = its_state(alloc)?;
-    let mut old = old_store(alloc)?;
-    let mut new = MemDevice::new(alloc, SECTORS)?;
-    let refused = match upgrade(alloc, &mut old, &mut new) {
-        Ok(_) => Refused::Nowhere,
-        Err(fault) if upgrade(alloc, &mut old, &mut new).is_ok() => refused_by(fault),
-        Err(_) => Refused::Otherwise,
-    };
-    if opens_with(alloc, new, &state)? {
-        Ok(refused)
-    } else {
-        Ok(Refused::Otherwise)
-    }
-}
-
-fn refused_by(fault: UpgradeFault) -> Refused {
-    match fault {
-        UpgradeFault::Old(StoreFault::OutOfMemory) | UpgradeFault::New(FormatFault::OutOfMemory) =>
-            { Refused::Command }
-        UpgradeFault::Old(StoreFault::DeviceFault) | UpgradeFault::New(FormatFault::DeviceFault) =>
-            { Refused::Device }
-        _ => Refused::Otherwise,
-    }
-}
-
-// Whether opening the device gives this state, with no step repeated. Want of memory in that is this program's own.
-fn opens_with(alloc: Global, device: MemDevice, state: &[u8]) -> io::Result<bool> {
-    let opened = open(alloc, device)?;
-    Ok(opened.replayed == 0 && encode_state(alloc, opened.session.state())?.as_slice() == state)
+fn print_failed<R: Print>(rt: &R, call: u64, tries: &Tries) -> io::Result<()> {
+    println!(rt; "{call}: {}, {}, the state {}", tries.0, tries.1, tries.2)
 }

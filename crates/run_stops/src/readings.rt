@@ -1,0 +1,222 @@
+//! Stopped stores that are read twice, by `load_latest` and by a plain program that goes through the image as the format's table
+//! has it. The two have to agree on each image, and each row counts what the images hold.
+
+ghost use Rattle.std.specs.Prelude.{◌≡◌, ◌+◌, ◌<◌, ◌≤◌, ◌^◌, IfOk, OnOk};
+ghost use Rattle.state_codec.specs.declared.version.Version.TheVariants.{Two};
+ghost use Rattle.state_codec.specs.Limits.{IsRecorded};
+
+use crate::examples::{Example, applied, commands_of, failed};
+use crate::images::held;
+use crate::stops::{SECTORS, choices_of};
+use crate::tables::{count, print_row};
+use checkpoint::{
+    Loaded, Place, StoreFault, commit_record, commit_snapshot, format, format_with, load_latest,
+};
+use command_core::{Command, State};
+use sector_disk::{MemDevice, Sectors};
+use std::alloc::Global;
+use std::io;
+
+/// Where a store stands: its sequence, and how many records are used; `(0, 0)` where it holds nothing.
+type Held = (u64, u32);
+
+/// What the images of the small run may hold.
+const PLACES: [Held; 6] = [(0, 0), (1, 0), (1, 1), (1, 2), (2, 0), (2, 1)];
+
+/// Prints how often both readers find what.
+pub(crate) fn print_readings<R: Print>(rt: &R, alloc: Global) -> io::Result<()> {
+    println!(rt;
+        "the small run stopped, by finished calls: images that hold nothing, 1/0, 1/1, 1/2, 2/0, 2/1"
+    )?;
+    for calls in 0..17 {
+        print_row(rt, calls, &row_of_small_runs(alloc, calls)?)?;
+    }
+    let state = wide_state(alloc)?;
+    println!(rt; "a format over a store stopped, by finished calls: images with nothing, others")?;
+    for calls in 0..6 {
+        print_row(rt, calls, &row_of_formats(alloc, &state, calls)?)?;
+    }
+    println!(rt;
+        "a snapshot stopped with every second sector kept, by finished calls: its sequence"
+    )?;
+    for calls in 0..4 {
+        print_row(rt, calls, &[stopped_snapshot(alloc, &state, calls)?.0])?;
+    }
+    Ok(())
+}
+
+// The state of 20 pairs.
+fn wide_state(alloc: Global) -> io::Result<State> {
+    match commands_of(alloc, Example::WideLoad)?.as_slice() {
+        [load] => applied(alloc, &State::Empty, load),
+        _ => Err(failed()),
+    }
+}
+
+// The small run stopped when so many calls have finished, for each choice of the sectors that it writes.
+fn row_of_small_runs(alloc: Global, calls: u64) -> io::Result<[u64; 6]> {
+    let mut row = [0; 6];
+    for choice in 0..32 {
+        count(&mut row, place_of(stopped_small_run(alloc, calls, choice)?));
+    }
+    Ok(row)
+}
+
+// Which of the places it is; their number, where it is none.
+fn place_of(held: Held) -> usize {
+    PLACES
+        .iter()
+        .position(|place| place.0 == held.0 && place.1 == held.1)
+        .unwrap_or(PLACES.len())
+}
+
+fn stopped_small_run(alloc: Global, calls: u64, choice: u32) -> io::Result<Held> {
+    let mut device = MemDevice::new(alloc, SECTORS)?;
+    device.fuse(calls);
+    let is_finished = small_run(alloc, &mut device).is_ok();
+    if is_finished != (calls == 16) {
+        return Err(failed());
+    }
+    device.crash(&choices_of(alloc, &[0, 1, 2, 3, 4], choice)?);
+    agreed(alloc, device)
+}
+
+// A format over a store with a record, stopped when so many calls have finished, for each choice of the headers and of the first record.
+fn row_of_formats(alloc: Global, state: &State, calls: u64) -> io::Result<[u64; 2]> {
+    let mut row = [0; 2];
+    for choice in 0..8 {
+        let (sequence, _) = stopped_format(alloc, state, calls, choice)?;
+        count(&mut row, usize::from(sequence > 0));
+    }
+    Ok(row)
+}
+
+fn stopped_format(alloc: Global, state: &State, calls: u64, choice: u32) -> io::Result<Held> {
+    let mut device = recorded_store(alloc, state)?;
+    device.fuse(calls);
+    if format(alloc, &mut device).is_ok() {
+        return Err(failed());
+    }
+    device.crash(&choices_of(alloc, &[0, 1, 2], choice)?);
+    agreed(alloc, device)
+}
+
+// A store of this state, and a record.
+fn recorded_store(alloc: Global, state: &State) -> io::Result<MemDevice> {
+    let mut device = MemDevice::new(alloc, SECTORS)?;
+    let Ok(place) = format_with(alloc, &mut device, state) else {
+        return Err(failed());
+    };
+    if commit_record(&mut device, place, &Command::Build).is_err() {
+        return Err(failed());
+    }
+    Ok(device)
+}
+
+// A snapshot over a store of the same state, stopped when so many calls have finished. Every second sector is kept.
+fn stopped_snapshot(alloc: Global, state: &State, calls: u64) -> io::Result<Held> {
+    let mut device = MemDevice::new(alloc, SECTORS)?;
+    let Ok(place) = format_with(alloc, &mut device, state) else {
+        return Err(failed());
+    };
+    device.fuse(calls);
+    if commit_snapshot(alloc, &mut device, place, state).is_ok() {
+        return Err(failed());
+    }
+    device.crash(&every_second(alloc)?);
+    agreed(alloc, device)
+}
+
+fn every_second(alloc: Global) -> io::Result<Vec<u32>> {
+    let mut choices = vec![in alloc; 0; SECTORS as usize]?;
+    for choice in choices.iter_mut().step_by(2) {
+        *choice = 1;
+    }
+    Ok(choices)
+}
+
+// Where the store stands by both readings, which say the same.
+fn agreed(alloc: Global, mut device: MemDevice) -> io::Result<Held> {
+    let image = image_of(alloc, &mut device)?;
+    let fast = load_latest(alloc, &mut device);
+    if !are_told_alike(alloc, &held(alloc, &image), &fast)? {
+        return Err(failed());
+    }
+    held_of(fast)
+}
+
+// The bytes that reads give.
+fn image_of(alloc: Global, device: &mut MemDevice) -> io::Result<Vec<u8>> {
+    let mut image = vec![in alloc; 0; 512 * SECTORS as usize]?;
+    if device.len() != SECTORS || device.read(0, &mut image).is_err() {
+        return Err(failed());
+    }
+    Ok(image)
+}
+
+fn are_told_alike(
+    alloc: Global,
+    slow: &Result<Loaded, StoreFault>,
+    fast: &Result<Loaded, StoreFault>,
+) -> io::Result<bool> {
+    let slow = format!(in alloc; "{slow:?}")?;
+    let fast = format!(in alloc; "{fast:?}")?;
+    Ok(slow.as_str() == fast.as_str())
+}
+
+fn held_of(loaded: Result<Loaded, StoreFault>) -> io::Result<Held> {
+    match loaded {
+        Ok(loaded) => Ok((loaded.place.sequence, loaded.place.used)),
+        Err(StoreFault::NotFormatted) => Ok((0, 0)),
+        Err(_) => Err(failed()),
+    }
+}
+
+// A format, two records, a snapshot of the empty state and one more record: 16 device calls.
+fn small_run<D: Sectors>(alloc: Global, device: &mut D) -> Result<Place, StoreFault> {
+    let place = formatted(alloc, device)?;
+    let place = recorded(device, place, &Command::Search(3))?;
+    let place = recorded(device, place, &Command::Pin(1, 2))?;
+    let place = saved(alloc, device, place)?;
+    recorded(device, place, &Command::Build)
+}
+
+// The place of a new store.
+fn formatted<D: Sectors>(alloc: Global, device: &mut D) -> Result<Place, StoreFault>
+    ensures place { IfOk result (λ place. place ≡ record { sequence = 1; used = 0 }) }
+    ensures room { OnOk result (8450 ≤ D.len device.new) }
+{
+    let Ok(place) = format(alloc, device) else {
+        return Err(StoreFault::DeviceFault);
+    };
+    Ok(place)
+}
+
+// The place behind one more record.
+fn recorded<D: Sectors>(
+    device: &mut D,
+    place: Place,
+    command: &Command,
+) -> Result<Place, StoreFault>
+    requires room { 8450 ≤ D.len device.old }
+    requires free { place.used < 256 }
+    requires first { 1 ≤ place.sequence }
+    requires last { place.sequence ≤ 2 ^ 60 }
+    requires recorded { IsRecorded Two command.now }
+    ensures place { IfOk result (λ next. next
+        ≡ record { sequence = place.sequence; used = place.used + 1 }) }
+    ensures room { OnOk result (8450 ≤ D.len device.new) }
+{
+    commit_record(device, place, command)
+}
+
+// The place behind a snapshot of the empty state.
+fn saved<D: Sectors>(alloc: Global, device: &mut D, place: Place) -> Result<Place, StoreFault>
+    requires room { 8450 ≤ D.len device.old }
+    requires first { 1 ≤ place.sequence }
+    requires last { place.sequence < 2 ^ 60 }
+    ensures place { IfOk result (λ next. next ≡ record { sequence = place.sequence + 1; used = 0 }) }
+    ensures room { OnOk result (8450 ≤ D.len device.new) }
+{
+    commit_snapshot(alloc, device, place, &State::Empty)
+}
