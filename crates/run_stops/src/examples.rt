@@ -142,14 +142,18 @@ fn text_of_pairs(alloc: Global) -> io::Result<Vec<u8>> {
 
 /// The states before these commands and after each, as bytes.
 pub(crate) fn states_of(alloc: Global, commands: &[Command]) -> io::Result<Vec<Vec<u8>>> {
-    let mut state = State::Empty;
     let mut states = Vec::new(alloc);
-    states.push(encode_state(alloc, &state)?)?;
+    let mut state = noted(alloc, State::Empty, &mut states)?;
     for command in commands {
-        state = applied(alloc, &state, command)?;
-        states.push(encode_state(alloc, &state)?)?;
+        state = noted(alloc, applied(alloc, &state, command)?, &mut states)?;
     }
     Ok(states)
+}
+
+// The state, whose bytes are the last ones now.
+fn noted(alloc: Global, state: State, states: &mut Vec<Vec<u8>>) -> io::Result<State> {
+    states.push(encode_state(alloc, &state)?)?;
+    Ok(state)
 }
 
 /// The state after a command that is accepted.
