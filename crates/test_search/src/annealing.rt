@@ -326,22 +326,22 @@ fn step_by_step(
 }
 
 // Whether two steps from this one on find what one does and then the next.
-fn goes_on(alloc: Global, step: u64) -> Result<bool, Fail> {
-    let problem = problem_of(alloc, CUSTOMERS)?;
+fn goes_on(alloc: Global, problem: &Problem, step: u64) -> Result<bool, Fail> {
     let pins = pins_of(alloc, &[])?;
     let plan = plan_of(alloc, BUILT)?;
-    if step >= (1 << 60) - 1 || !is_passing(alloc, &problem, &pins, &plan)? {
+    if step >= (1 << 60) - 1 || !is_passing(alloc, problem, &pins, &plan)? {
         return Ok(false);
     }
-    let one_by_one = step_by_step(alloc, &problem, &pins, &plan, step)?;
-    let at_once = found(alloc, &problem, &[], BUILT, Walk::Anneal(40, 1, (step, 2)))?;
+    let one_by_one = step_by_step(alloc, problem, &pins, &plan, step)?;
+    let at_once = found(alloc, problem, &[], BUILT, Walk::Anneal(40, 1, (step, 2)))?;
     Ok(both(alloc, &one_by_one)? == at_once)
 }
 
 #[test]
 fn steps_go_on_where_others_end(rt: HostRuntime) -> Result<(), Fail> {
-    assert!(rt; goes_on(rt.alloc(), 0)?);
-    assert!(rt; goes_on(rt.alloc(), (1 << 32) - 1)?);
-    assert!(rt; goes_on(rt.alloc(), (1 << 60) - 2)?);
+    let problem = problem_of(rt.alloc(), CUSTOMERS)?;
+    assert!(rt; goes_on(rt.alloc(), &problem, 0)?);
+    assert!(rt; goes_on(rt.alloc(), &problem, (1 << 32) - 1)?);
+    assert!(rt; goes_on(rt.alloc(), &problem, (1 << 60) - 2)?);
     Ok(())
 }
