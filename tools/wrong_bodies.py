@@ -5,7 +5,7 @@ The gate tries those in must-fail/, which say most, since it has to end within i
 wrong-bodies/ of their crate, and are tried here over the libraries as they are proved, in a tree of its own. The status is 1 where
 the prover lets one through.
 
-tools/wrong_bodies.py --look only looks whether each can still be applied, which takes a second: `./test` does so.
+tools/wrong_bodies.py --look only looks whether each of both can still be applied, which takes a second: `./test` does so.
 """
 import os
 import pathlib
@@ -41,7 +41,7 @@ def fault_of(edit):
 
 def look():
     """Tells each edit that can't be applied, and gives the status."""
-    edits = sorted(CRATES.glob("*/wrong-bodies/*.edit"))
+    edits = [edit for folder in ("must-fail", "wrong-bodies") for edit in sorted(CRATES.glob(f"*/{folder}/*.edit"))]
     faults = [f"{edit.relative_to(TOP)}: {fault}" for edit in edits if (fault := fault_of(edit))]
     print("\n".join(faults) if faults else f"wrong bodies: each of {len(edits)} can be applied")
     return 1 if faults else 0

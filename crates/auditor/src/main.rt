@@ -6,8 +6,8 @@
 #![tactic(auto)]
 
 use auditor_cli::{HostFiles, audit_words, command_words};
-use std::process::ExitCode;
 use std::io;
+use std::process::ExitCode;
 
 fn main(rt: HostRuntime) -> ExitCode {
     let status = match command_words(&rt) {

@@ -96,12 +96,7 @@ pub fn broken_line(
 }
 
 /// The line for a text that is refused: `TEXT NAME LINE`, with the name of its fault. Lines count from 1.
-pub fn fault_line(
-    alloc: Global,
-    text: &str,
-    name: &str,
-    line: u64,
-) -> Result<Line, OutOfMemory>
+pub fn fault_line(alloc: Global, text: &str, name: &str, line: u64) -> Result<Line, OutOfMemory>
     ensures { IfOk result (λ answer. answer ≡ fault_text text.now name.now line) }
 {
     let answer = format!(in alloc; "{text} {name} {line}")?;

@@ -49,11 +49,7 @@ fn is_want_of_memory(kind: ErrorKind) -> bool
 }
 
 /// Tells a file that can't be made.
-pub fn tell_unwritten<W: Write>(
-    output: &mut W,
-    path: &str,
-    kind: ErrorKind,
-) -> io::Result<u8>
+pub fn tell_unwritten<W: Write>(output: &mut W, path: &str, kind: ErrorKind) -> io::Result<u8>
     ensures status { IfOk result (λ status. status ≤ 4) }
     ensures told { IfOk result (TellsUnwritten path.now kind (W.contents output.old)
         (W.contents output.new)) }

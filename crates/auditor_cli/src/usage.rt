@@ -12,7 +12,11 @@ use std::{env, io};
 
 /// Tells help and the version, where they were asked for, on the output, and a fault of the words on the errors, and gives the
 /// status. Of want of memory nothing is told.
-pub fn tell_usage<W: Write, E: Write>(error: &Error, output: &mut W, errors: &mut E) -> io::Result<u8>
+pub fn tell_usage<W: Write, E: Write>(
+    error: &Error,
+    output: &mut W,
+    errors: &mut E,
+) -> io::Result<u8>
     ensures status { IfOk result (λ status. status ≡ usage_status_of (kind_of error.now)) }
     ensures memory { kind_of error.now ≡ ErrorKind.OutOfMemory → result ≡ Ok 4 }
     ensures output { usage_status_of (kind_of error.now) ≢ 0 → output.new ≡ output.old }

@@ -244,7 +244,9 @@ fn run_command<'a>(
 ) -> Result<Command<'a>, OutOfMemory>
     ensures { IfOk result (IsLeafCommand (run_app modes.entry)) }
 {
-    let command = Command::new(alloc, "run").about(RUN_ABOUT).after_help(lines);
+    let command = Command::new(alloc, "run")
+        .about(RUN_ABOUT)
+        .after_help(lines);
     let command = with_word(command, word(alloc, "STORE", "The file of the store"))?;
     with_word(command, mode_word(alloc, modes))
 }

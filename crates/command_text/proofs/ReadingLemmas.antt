@@ -5,7 +5,8 @@ use Rattle.plan_types.specs.declared.requests.Kind.{Kind}
 use Rattle.plan_types.specs.declared.requests.Kind.TheVariants.{LiLim, Vrp}
 use Rattle.instance_read.specs.Readable.{IsOneWay, SpellsOrFails, TextsAreRead, TextsAreReadOneWay}
 use Rattle.instance_read.specs.declared.faults.ReadFault.{ReadFault}
-use Rattle.instance_read.specs.Readings.{InstanceFault, IsFound, ReadingsAgree, SomeReadingIs, SpellsInstance}
+use Rattle.instance_read.specs.Readings.{InstanceFault, IsFound, SpellsInstance}
+use Rattle.command_text.specs.Laws.{ReadingsAgree, SomeReadingIs}
 
 abbrev Reads : Kind → List ℕ → Type 0
 Reads kind text = SpellsOrFails (SpellsInstance kind text) (InstanceFault kind text)

@@ -2,6 +2,7 @@
 use Rattle.std.specs.Prelude.{◌≡◌, ℕ, ◌<◌, ◌≤◌, ◌^◌, List, [], ◌∷◌, ◌++◌, take, drop, length, if◌then◌else◌}
 use Rattle.std.specs.Str.Lines.{strip_carriage_return}
 use Rattle.text_lines.specs.Lines.{HasNoFeed}
+use Rattle.plan_types.specs.declared.requests.Kind.{Kind}
 use Rattle.command_core.specs.Job.{JobValue}
 use Rattle.command_core.specs.Runs.{after}
 use Rattle.command_core.specs.declared.states.State.{State}
@@ -9,7 +10,7 @@ use Rattle.command_core.specs.declared.states.State.TheVariants.{Loaded}
 use Rattle.command_text.specs.Answering.{Fate, Serving, begun, commands_of, made_or, served, steps_to_make}
 use Rattle.command_text.specs.Asking.{asked}
 use Rattle.command_text.specs.Cutting.{Piece, announced, ends, pieces_of}
-use Rattle.instance_read.specs.Readings.{Reading}
+use Rattle.instance_read.specs.Readings.{IsReading, Reading}
 use Rattle.command_text.specs.Staging.{stage_commands}
 use Rattle.command_text.specs.declared.asked.Asked.{Asked}
 use Rattle.command_text.specs.declared.steps.Goal.{Goal}
@@ -49,3 +50,11 @@ left_behind goal state fates = (made_or (begun state fates) (steps_to_make state
 abbrev pub StagedLinesMayBeCut : Type 0
 StagedLinesMayBeCut = (from to : ℕ) (state : State) (fates : List Fate) → to ≤ 2 ^ 60
     → left_behind (goal.Stages from to) (left_behind (goal.Stages from to) state fates) [] ≡ left_behind (goal.Stages from to) state []
+
+-- there is a function that tells of each text what it spells
+abbrev pub SomeReadingIs : Type 0
+SomeReadingIs = (reading : Reading) × IsReading reading
+
+-- and no other
+abbrev pub ReadingsAgree : Type 0
+ReadingsAgree = (reading other : Reading) → IsReading reading → IsReading other → (kind : Kind) (text : List ℕ) → reading kind text ≡ other kind text

@@ -1,8 +1,7 @@
 //! How an input is cut and answered, each law for every input, and that what texts are read as is a function.
 ghost use Rattle.std.specs.Prelude.{◌≡◌, []};
 ghost use Rattle.command_text.specs.Cutting.{pieces_of};
-ghost use Rattle.command_text.specs.Laws.{PiecesEnd, PiecesFollow, StagedLinesMayBeCut, StagesMayBeCut, StatesFollow};
-ghost use Rattle.instance_read.specs.Readings.{ReadingsAgree, SomeReadingIs};
+ghost use Rattle.command_text.specs.Laws.{PiecesEnd, PiecesFollow, ReadingsAgree, SomeReadingIs, StagedLinesMayBeCut, StagesMayBeCut, StatesFollow};
 
 use instance_read::each_text_is_read;
 

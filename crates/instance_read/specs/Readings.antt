@@ -31,14 +31,6 @@ Reading = Kind → List ℕ → Result Instance ReadFault
 abbrev pub IsReading : Reading → Type 0
 IsReading reading = (kind : Kind) (text : List ℕ) → IsFound kind text (reading kind text)
 
--- law: there is one
-abbrev pub SomeReadingIs : Type 0
-SomeReadingIs = (reading : Reading) × IsReading reading
-
--- law: and no other
-abbrev pub ReadingsAgree : Type 0
-ReadingsAgree = (reading other : Reading) → IsReading reading → IsReading other → (kind : Kind) (text : List ℕ) → reading kind text ≡ other kind text
-
 -- what was read, unless memory ran out
 abbrev pub IsUnlessMemory : Result Instance ReadFault → Result Instance ReadFault → Type 0
 IsUnlessMemory result found = (result ≡ found) ⊎ (result ≡ Err no_memory)

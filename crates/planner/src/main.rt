@@ -12,11 +12,11 @@
 use planner_cli::{HostFiles, HostNewFiles, Streams, Watched, command_words, run_words, status};
 use sector_disk::Unknown;
 use std::fs::File;
+use std::io;
 use std::io::ErrorKind;
 use std::os::fd::{AsRawFd, RawFd};
 use std::process::ExitCode;
 use std::rt::Files;
-use std::io;
 
 /// The number of standard error: the standard streams have those from 0 to this.
 const LAST_STANDARD: RawFd = 2;

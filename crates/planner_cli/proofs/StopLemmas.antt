@@ -6,12 +6,10 @@ use Rattle.std.proofs.lemmas.List.Sums.{sum_by-cons}
 use Rattle.checkpoint.specs.declared.places.Place.{Place}
 use Rattle.command_core.specs.declared.commands.Command.{Command}
 use Rattle.command_core.specs.declared.states.State.{State}
-use Rattle.std.specs.List.{AllByRecursion}
 use Rattle.command_serving.specs.Acts.{Act, commands_of, kept_of, replies_of}
 use Rattle.command_serving.specs.Serving.{IsAppliedOn}
 use Rattle.command_serving.specs.Stopped.{IsRunOfInput, ServedHeadline, ServingsAreRuns, asked_by}
-use Rattle.command_serving.specs.Streams.{Event}
-use Rattle.command_serving.specs.Timely.{AnswersComeAfter, TellsAcknowledged, calls_at, put_by}
+use Rattle.command_serving.specs.Timely.{AnswersComeAfter, TellsAcknowledged, put_by}
 use Rattle.command_serving.proofs.ActLemmas.{honest_before}
 use Rattle.command_serving.proofs.StoppedLemmas.{recovered_of, weaker}
 use Rattle.command_text.specs.Cutting.{pieces_of}

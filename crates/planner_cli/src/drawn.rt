@@ -4,14 +4,12 @@ ghost use Rattle.sector_disk.specs.FileDevice.{IsUnused};
 ghost use Rattle.planner_cli.specs.Drawn.{DrawsDevice, DrawsState, DrawsStore, IsDrawing, IsDrawingOf, IsPictureOf, IsPlanDrawn, TellsDrawing, TellsDrawn, TellsResult, busy_after, busy_front};
 ghost use Rattle.auditor_cli.specs.Files.{AreReadInTurn};
 
-use auditor_cli::AuditAnswer;
-use auditor_cli::{Examined, answer_of, examine};
-use auditor_cli::read_both;
-use auditor_cli::ReadFiles;
 use crate::opened::open_session;
-use auditor_cli::status::{DONE, OUT_OF_MEMORY, REFUSED};
 use crate::telling::{tell_cause, tell_file_fault, tell_store_fault};
-use auditor_cli::{tell_unread, write_line};
+use auditor_cli::status::{DONE, OUT_OF_MEMORY, REFUSED};
+use auditor_cli::{
+    AuditAnswer, Examined, ReadFiles, answer_of, examine, read_both, tell_unread, write_line,
+};
 use command_core::{Job, State};
 use command_line::Paths;
 use plan_audit::{Verdict, passes_are_local, plans_are_local};

@@ -78,7 +78,10 @@ mod stores;
 mod telling;
 mod timetabled;
 
-pub use auditor_cli::{AuditAnswer, HostFiles, HostNewFiles, Line, ReadFiles, WriteFiles, audit_text, command_words, status};
+pub use auditor_cli::{
+    AuditAnswer, HostFiles, HostNewFiles, Line, ReadFiles, WriteFiles, audit_text, command_words,
+    status,
+};
 pub use command_line::{Invocation, Loading, Paths, Task, Tasks, read_words};
 pub use command_serving::{Failed, ServeFault, Sink, Source, Watched, serve};
 pub use laws::stopped_runs_recover;

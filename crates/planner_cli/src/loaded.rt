@@ -8,13 +8,13 @@ ghost use Rattle.sector_disk.specs.FileDevice.{IsUnused};
 ghost use Rattle.planner_cli.specs.Loading.{BeginsDevice, BeginsFormatted, BeginsMade, BeginsNew, BeginsSession, BeginsStore, TellsHeld, TellsLoad, holds_instance};
 ghost use Rattle.auditor_cli.specs.Reads.{IsRead};
 
-use auditor_cli::read_instance;
-use auditor_cli::ReadFiles;
 use crate::opened::open_session;
-use auditor_cli::status::REFUSED;
 use crate::stores::STORE_SECTORS;
-use crate::telling::{tell_answer, tell_cause, tell_file_fault, tell_format, tell_instance_fault, tell_store_fault};
-use auditor_cli::{tell_unread, write_line};
+use crate::telling::{
+    tell_answer, tell_cause, tell_file_fault, tell_format, tell_instance_fault, tell_store_fault,
+};
+use auditor_cli::status::REFUSED;
+use auditor_cli::{ReadFiles, read_instance, tell_unread, write_line};
 use checkpoint::{StoreFault, format};
 use command_core::{Command, State};
 use command_line::Loading;

@@ -12,18 +12,17 @@ ghost use Rattle.planner_cli.specs.Running.{RunsStore};
 ghost use Rattle.planner_cli.specs.Statuses.{CanEndWith};
 ghost use Rattle.auditor_cli.specs.Telling.{TellsAudit, example_instance, example_solution};
 
-use auditor_cli::audit_noted;
 use crate::drawn::{draw_read, draw_store};
-use auditor_cli::explain_read;
-use auditor_cli::{ReadFiles, WriteFiles};
-use auditor_cli::audits_read;
 use crate::loaded::load_read;
 use crate::solved::solve_read;
 use crate::solved_list::solves_read;
-use auditor_cli::status::{DONE, OUT_OF_MEMORY, USAGE};
 use crate::stores::{format_store, run_store, upgrade_store};
-use auditor_cli::{audit_example, status_of, tell_usage};
 use crate::timetabled::{form_of, timetable_read, timetable_store};
+use auditor_cli::status::{DONE, OUT_OF_MEMORY, USAGE};
+use auditor_cli::{
+    ReadFiles, WriteFiles, audit_example, audit_noted, audits_read, explain_read, status_of,
+    tell_usage,
+};
 use command_line::{Invocation, read_words};
 use command_serving::Watched;
 use command_text::HELP;
@@ -228,4 +227,3 @@ where
     };
     (told, streams)
 }
-

@@ -8,9 +8,8 @@ ghost use Rattle.plan_why.specs.declared.leads.Lead.TheVariants.{Named};
 ghost use Rattle.planner_cli.specs.Solving.{IsToldFault, TellsPlan, TellsReasons, TellsSolved, TellsTask, unplanned_line};
 ghost use Rattle.auditor_cli.specs.Reads.{IsRead};
 
-use auditor_cli::ReadFiles;
 use auditor_cli::status::{BROKEN, DONE, OUT_OF_MEMORY, REFUSED};
-use auditor_cli::{tell_unread, write_line};
+use auditor_cli::{ReadFiles, tell_unread, write_line};
 use command_core::Job;
 use command_line::Task;
 use plan_audit::{passes_are_local, plans_are_local};

@@ -8,13 +8,12 @@ ghost use Rattle.auditor_cli.specs.Listed.{TellsLine, TellsLines, list_path};
 ghost use Rattle.auditor_cli.specs.Reads.{IsGrown, IsReadFirst};
 ghost use Rattle.planner_cli.specs.SolvedList.{Finds, HasStatus, IsAuditOf, IsSolvedLine, Places, PlacesAudited, SolvesList, TellsOfTask, TellsPlaced, files_done};
 
-use auditor_cli::AuditAnswer;
-use auditor_cli::audit_text;
-use auditor_cli::{ReadFiles, WriteFiles};
-use auditor_cli::{greater, list_path, pair_of, tell_bad_line};
 use crate::solved::{tell_fault, tell_unplanned};
 use auditor_cli::status::{BROKEN, DONE};
-use auditor_cli::{tell_unread, tell_unwritten, write_line};
+use auditor_cli::{
+    AuditAnswer, ReadFiles, WriteFiles, audit_text, greater, list_path, pair_of, tell_bad_line,
+    tell_unread, tell_unwritten, write_line,
+};
 use command_line::Tasks;
 use plan_solve::{SolveFault, Solved, solve};
 use plan_types::{Kind, OutOfMemory};

@@ -14,9 +14,11 @@ ghost use Rattle.planner_cli.specs.Upgrading.{TellsSame, UpgradesOnto, UpgradesS
 ghost use Rattle.planner_cli.specs.Running.{IsEnded, RunsDevice, RunsSession, RunsStore, TellsEnded, TellsServed, opened_line, stop_unless};
 
 use crate::opened::open_session;
+use crate::telling::{
+    tell_cause, tell_file_fault, tell_format, tell_new_fault, tell_store_fault, tell_upgrade,
+};
 use auditor_cli::status::{BROKEN, DONE, FILE, USAGE};
-use crate::telling::{tell_cause, tell_file_fault, tell_format, tell_new_fault, tell_store_fault, tell_upgrade};
-use auditor_cli::{write_line};
+use auditor_cli::write_line;
 use checkpoint::format;
 use command_serving::{ServeFault, Stopped, Strict, Watched, serve};
 use recover::{Opened, Session, upgrade};

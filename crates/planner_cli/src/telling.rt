@@ -4,8 +4,8 @@ ghost use Rattle.std.specs.Io.KnownBytes.{Appends};
 ghost use Rattle.planner_cli.specs.Foretold.{repeating_line};
 ghost use Rattle.planner_cli.specs.Telling.{TellsAnswered, TellsInstanceFault, denial_line, denial_status, format_line, format_status, is_device_fault, new_line, open_line, open_status, store_line, store_status, unmade_line, upgrade_line, upgrade_status, wants_memory};
 
-use auditor_cli::write_line;
 use auditor_cli::status::{DONE, FILE, OUT_OF_MEMORY, REFUSED};
+use auditor_cli::write_line;
 use checkpoint::{FormatFault, StoreFault};
 use instance_read::{ReadFault, ReadFaultKind};
 use recover::{Denial, UpgradeFault};

@@ -10,15 +10,13 @@ ghost use Rattle.auditor_cli.specs.Examined.{HasVerdict};
 ghost use Rattle.auditor_cli.specs.Files.{AreReadInTurn};
 ghost use Rattle.planner_cli.specs.Timetabled.{IsPlanTold, IsTimetable, IsTimetableOf, TellsState, TellsTimetable, TimetablesDevice, TimetablesStore, form_of, plan_text, solution_text};
 
-use auditor_cli::{AuditAnswer, pass_line};
-use auditor_cli::{Examined, answer_of, examine};
-use auditor_cli::read_both;
-use auditor_cli::{Explanation, tell_explanation};
-use auditor_cli::ReadFiles;
 use crate::opened::open_session;
-use auditor_cli::status::{DONE, REFUSED};
 use crate::telling::{tell_cause, tell_file_fault, tell_store_fault};
-use auditor_cli::{tell_unread, write_line};
+use auditor_cli::status::{DONE, REFUSED};
+use auditor_cli::{
+    AuditAnswer, Examined, Explanation, ReadFiles, answer_of, examine, pass_line, read_both,
+    tell_explanation, tell_unread, write_line,
+};
 use command_core::{Job, State, unplanned_names};
 use command_line::Paths;
 use plan_audit::{Verdict, passes_are_local, plans_are_local};

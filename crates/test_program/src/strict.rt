@@ -119,15 +119,10 @@ fn served_by_a_faulty_device(alloc: Global) -> Result<Served, Fail> {
     Err("a session".into())
 }
 
-fn is_ended_by_the_device(alloc: Global) -> Result<bool, Fail> {
-    let served = served_by_a_faulty_device(alloc)?;
-    let is_told = served.text.as_slice() == b"fault device\n".as_slice();
-    let is_fault = served.fault == Some(ServeFault::WriteFault);
-    Ok(is_told && is_fault && served.stopped == DEVICE_FAULT)
-}
-
 #[test]
 fn ends_behind_a_failed_device(rt: HostRuntime) -> Result<(), Fail> {
-    assert!(rt; is_ended_by_the_device(rt.alloc())?);
+    let served = served_by_a_faulty_device(rt.alloc())?;
+    assert!(rt; served.text.as_slice() == b"fault device\n".as_slice());
+    assert!(rt; served.fault == Some(ServeFault::WriteFault) && served.stopped == DEVICE_FAULT);
     Ok(())
 }
