@@ -1,6 +1,6 @@
 //! Best-known costs of instances, and how the cost of a plan compares with one.
 //!
-//! Entry functions: `BestKnown::read` and `BestKnown::comparison`, called by `planner_cli` for the third column of a list of
+//! Entry functions: `BestKnown::read` and `BestKnown::comparison`, called by `auditor_cli` for the third column of a list of
 //! audits.
 //!
 //! Source: this project's own. A gap is the difference of two distances in percent of the best-known one, as is usual in routing.

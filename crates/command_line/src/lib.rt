@@ -1,7 +1,7 @@
 //! The words of the command line: what they ask for, and what help says of them.
 //!
-//! Entry function: `read_words`, called by `planner_cli`. It stands below that crate, the end of the longest chain, and
-//! waits for no store.
+//! Entry function: `read_words`, called by `planner_cli` and `auditor_cli`. It stands below all that searches and stores, and waits for
+//! none of it.
 //!
 //! Source: this project's own; the parser is `clap`.
 //!

@@ -1,7 +1,7 @@
 //! Instance texts: Li and Lim's pickup and delivery instances, and the `.vrp` files of CVRPLIB.
 //!
 //! Entry functions: `read_lilim` and `read_vrp`. Each gives the `Problem` that a text spells, or the first of its
-//! faults. Called by `command_text` (the line `load`), `plan_solve` and `planner_cli`.
+//! faults. Called by `command_text` (the line `load`), `plan_solve` and `auditor_cli`.
 //!
 //! Sources: Li and Lim's benchmark instances of PDPTW; TSPLIB95's keys and sections, as CVRPLIB's instances use them
 //! (TYPE CVRP, EDGE_WEIGHT_TYPE EUC_2D). Faults, their order and the limits (`plan_types::limits`) are this project's.
@@ -27,7 +27,7 @@
 //! - `vrp`: the reader of `.vrp` texts
 //! - `laws`: what lines of a `.vrp` text are, in other words, and that each text is read
 //!
-//! Said by `specs/Lilim.antt`, `Pairs.antt`, `Vrp.antt`, `VrpLines.antt` and `Faults.antt`. Proved:
+//! Said by `specs/Lilim.antt`, `Pairs.antt`, `Vrp.antt`, `VrpLines.antt` and `Faults.antt`, for both formats by `Readings.antt`. Proved:
 //! - `read_lilim`, `read_vrp`: `value`, the problem is the one that the text spells (`SpellsLilim`, `SpellsVrp`);
 //!   `fault`, else the least fault by class, line and kind, or want of memory (`TellsFirstFault`)
 //! - `sections_have_a_line_for_each_node`: a section of nodes has as many lines as the first DIMENSION line says

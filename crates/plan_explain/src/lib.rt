@@ -1,7 +1,7 @@
 //! What a person needs to mend a solution, behind the line of its audit: figures in place of numbers of rules.
 //!
 //! Entry functions: `explain_verdict` for a verdict, `explain_instance_fault` and `explain_solution_fault` for a
-//! text that is refused; called by `planner_cli` (the word `explain`), which prints the audit's line first, with
+//! text that is refused; called by `auditor_cli` (the word `explain`), which prints the audit's line first, with
 //! its status. `rows_of`, `wait` and `summary_of` give the figures of a route; `plan_timetable` tells them too.
 //!
 //! Source: this project's own. Each figure is `route_sched`'s start, load, length or cost.

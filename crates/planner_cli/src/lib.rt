@@ -1,24 +1,17 @@
-//! What the program prints, and does with its words. It hands on what `command_line` and `command_serving` give.
+//! What the program prints, and does with its words. It hands on what `auditor_cli`, `command_line` and `command_serving` give.
 //!
-//! Entry functions: `run_words`, called by `planner` and by the crate of that name, does what the words ask for;
-//! `audit_text` audits two texts in memory.
+//! Entry function: `run_words`, called by `planner` and by the crate of that name, does what the words ask for. `audit_text`, which
+//! audits two texts in memory, is that of `auditor_cli`.
 //!
 //! Source: this project's own; status 64 is `EX_USAGE` of BSD's `sysexits.h`.
 //!
-//! How it works: each word of the program has one private function over whatever reads and makes files, reader and writer
-//! (`audit_read`, `audits_read`, `explain_read`, `timetable_read`, `draw_read`, `solve_read`, `solves_read`, `load_read`,
+//! How it works: each word of the program has one function over whatever reads and makes files, reader and writer: those of the words of
+//! an audit are `auditor_cli`'s, the others private here (`timetable_read`, `draw_read`, `solve_read`, `solves_read`, `load_read`,
 //! `format_store`, `run_store`, `timetable_store`, `draw_store`, `upgrade_store`).
 //! `run_words` hands them the paths, and what reads and makes files and the streams, which `main` makes.
 //!
 //! Modules, in reading order:
-//! - `status`: the statuses that the program ends with
-//! - `answer`: the lines that answer an audit
-//! - `audit`: the audit of two texts
-//! - `telling`: lines for files and stores that can't be read, made or opened
-//! - `file_record`, `files`: what reads files and what makes them, and the lists of those that were read and made
-//! - `behind`: what stands behind the cost line of a solution
-//! - `audited`, `compared`, `listed`: the words `audit` and `audits`, also beside a best-known cost
-//! - `explained`: the word `explain`
+//! - `telling`: lines for stores that can't be opened or made, and for what commands answer
 //! - `opened`: the opening of a store
 //! - `drawn`, `timetabled`: the words `draw` and `timetable`
 //! - `solved`, `solved_list`: the words `solve` and `solves`
@@ -27,21 +20,15 @@
 //! - `loaded`: the word `load`
 //! - `program`: `run_words`
 //!
-//! Said by `specs/Answer.antt`, `Program.antt` and `Reads.antt`, and word by word by `Files.antt`, `Behind.antt`, `Listed.antt`, `Compared.antt`,
-//! `Explained.antt`, `Drawn.antt`, `Solving.antt`, `SolvedList.antt`, `Formatting.antt`, `Foretold.antt`, `Loading.antt`,
-//! `Running.antt`, `Timetabled.antt` and `Upgrading.antt`, which statuses by `Statuses.antt`. Proved:
-//! - `audit_text`: line and status are those of the first fault or of the verdict on what the texts spell; the
-//!   status is 0 exactly where both spell a value and the solution keeps the rules, serves every request, keeps the
-//!   fleet and prints the distance that it drives (`SaysSound`)
+//! Said by `specs/Program.antt`, and word by word by `Drawn.antt`, `Solving.antt`, `SolvedList.antt`, `Formatting.antt`, `Foretold.antt`,
+//! `Loading.antt`, `Running.antt`, `Timetabled.antt` and `Upgrading.antt`, which statuses by `Statuses.antt`; of the words of an audit
+//! by the files of `auditor_cli`. Proved:
 //! - `run_words`, of words without hyphen that ask for something (`EndsWith`): which files were read, each once and in which
 //!   order (`AreReadFor`); that none but `solves` makes a file beside a store (`AreMadeFor`); what was written to the output and
 //!   to the errors, and the status that goes with it, from what these files gave (`Does`), but for an answer that could not be
 //!   printed; that the input is read by `run` alone. Of words that ask for nothing (`TellsUsage`): no file is read or made, help
 //!   goes to the output alone, a mistake to the errors alone
-//! - `audits_read` (`TellsList`): of each line what `audit` tells of that pair alone, behind a pass also how its cost compares with
-//!   the best-known one that the line names; or `bad line`; the greatest status
-//! - `explain_read` (`TellsExplained`), `draw_read` (`TellsDrawn`), `solve_read` (`TellsTask`): the audit's line
-//!   and what it rests on; the picture; the text of a solution, or why there is none
+//! - `draw_read` (`TellsDrawn`), `solve_read` (`TellsTask`): the picture; the text of a solution, or why there is none
 //! - `solves_read` (`SolvesList`): of each line what was written where, which is what `solve` prints, or why nothing was; the
 //!   audit of what was written, or what it leaves out; the greatest status
 //! - `draw_store` (`DrawsStore`): the picture of the plan in the store that opening the device gives, which is left as opening
@@ -63,8 +50,6 @@
 //!   formatted only where opening told that it holds no store
 //! - `upgrade_store` (`UpgradesStore`): `same store` where the words are the same; a device over the old file, then one of
 //!   8,450 sectors over the new one, and what `upgrade` of `recover` made of both
-//! - `HostFiles` notes each file of the system with what reading it gave, `HostNewFiles` each that was to be made with what was
-//!   written; what is under a path no contract says
 #![tactic(auto)]
 
 mod drawn;

@@ -1,7 +1,7 @@
 //! Solutions as texts: the `.sol` files of CVRPLIB, for both kinds of problem.
 //!
 //! Entry functions: `read_sol` gives what a text spells (a `Solution`, which `plan_audit` takes) and is called by
-//! `planner_cli`; `write_sol` gives the text of a plan and is called by `command_text` (the line `print`).
+//! `auditor_cli`; `write_sol` gives the text of a plan and is called by `command_text` (the line `print`).
 //!
 //! Source: the `.sol` files of CVRPLIB. What is a blank line, a number and a fault is this project's own.
 //!
