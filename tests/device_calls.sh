@@ -1,8 +1,8 @@
 #!/bin/sh
 # Checks which calls of the system a store in a file makes, and in which order: `format` takes the file's lock, writes
 # zeros where it gets longer, and syncs the file and its folder; each write of the store is at its offset, and each sync is
-# the file's own. Writes of which one goes on where the other ended count as one. Wants strace, and the program that
-# rt ci leaves.
+# the file's own. The zeros are written in pieces, and count as one write; behind the first sync each write of the store is
+# one of the system. Wants strace, and the program that rt ci leaves.
 set -u
 
 top=$(CDPATH='' cd -- "$(dirname -- "$0")/.." && pwd -P) || exit 1
@@ -49,13 +49,14 @@ calls_of() {
                 match($0, /, [0-9]+, [0-9]+\) += /)
                 split(substr($0, RSTART + 2), numbers, /[,)] */)
                 if (call == "pwrite64") {
-                    if (written && numbers[2] != first + written) tell_writes()
+                    if (written && (synced || numbers[2] != first + written)) tell_writes()
                     if (!written) first = numbers[2]
                     written += numbers[1]
                     next
                 }
                 call = call " " numbers[1] " at " numbers[2]
             } else if (call == "ftruncate") call = call substr(words[2], 1)
+            if (call ~ /sync$/) synced = 1
             tell_writes()
             print call " " kind[words[1]]
         }

@@ -4,7 +4,8 @@
 1. The state of one customer, whole, cut after each of its bytes, with a byte more, and with other routes; other headers; a record
    where none is due.
 2. States of up to 40,000 stops, the largest state of all among them: opened, and written again to the same bytes.
-3. A full journal: how many steps opening repeats, and that none is repeated once a snapshot stands behind it.
+3. Plans by hand, and the states that steps and a build make of them; the last steps and the last sequence.
+4. A full journal: how many steps opening repeats, and that none is repeated once a snapshot stands behind it.
 
 Wants the program that rt ci leaves.
 """
@@ -39,11 +40,11 @@ def header(version, sequence, length):
     return b"PDRSTORE" + struct.pack(">IQQ", version, sequence, length)
 
 
-def image(snapshot, sector=0, version=2, length=None, stray=0):
-    """A store of sequence 2 with this snapshot. The record of index 5 begins with the sequence `stray`, and none stands before it."""
+def image(snapshot, sector=0, version=2, length=None, stray=0, sequence=2):
+    """A store of an even sequence with this snapshot. The record of index 5 begins with the sequence `stray`, and none stands before it."""
     store = bytearray(SECTOR * SECTORS)
     length = len(snapshot) if length is None else length
-    pieces = {sector * SECTOR: header(version, 2, length), 7 * SECTOR: struct.pack(">Q", stray), HALVES[0]: snapshot}
+    pieces = {sector * SECTOR: header(version, sequence, length), 7 * SECTOR: struct.pack(">Q", stray), HALVES[0]: snapshot}
     for place, piece in pieces.items():
         store[place : place + len(piece)] = piece
     return store
@@ -78,9 +79,9 @@ class Opener:
             fail(f"{name}: the state is written otherwise than it was read")
 
 
-def one_customer(demand=6, routes=(0, 0, 0)):
+def one_customer(demand=6, routes=(0, 0, 0), deviation=0):
     """Customer 1 at (3, 4), capacity 10, one vehicle. Behind the requests stand the pin's length, the route and the working route."""
-    head = struct.pack(">BBQQ", 1, 2, 0, 0) + numbers(10, 1, 2) + numbers(0, 0, 0, LATEST) + numbers(0, 1)
+    head = struct.pack(">BBQQ", 1, 2, 0, 0) + numbers(10, 1, 2) + numbers(0, 0, 0, LATEST) + numbers(deviation, 1)
     return head + b"\x01" + numbers(1, 3, 4, demand, 0, LATEST, 0) + numbers(*routes)
 
 
@@ -97,6 +98,11 @@ def check_snapshots(opener):
     opener.expect_state("route [1]", image(planned), planned)
     opener.expect("demand above the capacity", image(one_customer(11, (0, 1, 1, 1, 1))), codec)
     opener.expect("route [1 1]", image(one_customer(routes=(0, 2, 1, 1, 2, 1, 1))), codec)
+    opener.expect("route [7]", image(one_customer(routes=(0, 1, 7, 1, 7))), codec)
+    opener.expect("working route [1 1]", image(one_customer(routes=(0, 0, 2, 1, 1))), codec)
+    farthest = one_customer(deviation=1_000_000_000)
+    opener.expect_state("the greatest deviation", image(farthest), farthest)
+    opener.expect("a deviation above it", image(one_customer(deviation=1_000_000_001)), codec)
     opener.expect("a pin above the route", image(one_customer(routes=(1, 0, 0))), codec)
     opener.expect("no instance", image(b"\0"), (0, "opened 0\nno NoInstance\n"), b"show\n")
     for first in (1, 2):
@@ -116,6 +122,15 @@ def check_headers(opener):
     for name, changes, fault in refusals:
         opener.expect(name, image(state, **changes), (2, f"store {fault}\n"))
     opener.expect_state("record 5 of sequence 1", image(state, stray=1), state)
+    opener.expect_state("bytes behind the snapshot", image(state + b"\xff" * 900, length=95), state)
+    # A second header: of another version it does not count, and of two that are valid the greater sequence does.
+    beside = image(state)
+    beside[SECTOR : SECTOR + 28] = header(9, 3, 1)
+    opener.expect_state("version 9 beside", beside, state)
+    beside[SECTOR : SECTOR + 28] = header(2, 3, 1)
+    opener.expect("sequence 3 beside", beside, (0, "opened 0\nno NoInstance\n"), b"show\n")
+    beside[SECTOR : SECTOR + 28] = header(2, 1, 1)
+    opener.expect("sequence 1 beside", beside, (0, "opened 0\nrequests 1 next 2\nsteps 0 place 0\nunplanned 1\ncost 1 0 0\nok\n"), b"show\n")
 
 
 def stop(number, demand):
@@ -144,6 +159,131 @@ def check_large_states(opener):
         opener.expect_state(f"{shape[0]} stops, {shape[1]} a vehicle", image(state), state)
 
 
+def served(customers, routes, work=None, steps=0, deviation=0, pinned=0, gone=0):
+    """Vehicles of 10 serve these customers, of whom each has its place and demand, by these routes. The working plan may be another one.
+
+    So many stops of the first vehicle are pinned, and so many customers behind the others are gone."""
+    state = struct.pack(">BBQQ", 1, 2, 0, steps) + numbers(10, len(routes), len(customers) + gone + 1)
+    state += numbers(0, 0, 0, LATEST, deviation, len(customers))
+    for number, (x, y, demand) in enumerate(customers, 1):
+        state += struct.pack(">BIiiiIII", 1, number, x, y, demand, 0, LATEST, 0)
+    routes, work = ([numbers(len(it), *it) for it in plan] for plan in (routes, work or routes))
+    return state + numbers(pinned) + numbers(0).join(routes) + b"".join(work)
+
+
+# Ways of 10, 10, 6 and 5 from the depot; of 8 between 2 and 3, of 5 between 2 and 4, of 12 between 1 and 3.
+FOUR = [(0, 10, 1), (6, 8, 1), (6, 0, 1), (3, 4, 1)]
+# Ways of 10, 1 and 1 from the depot; of 3 between 2 and 3.
+THREE = [(0, 10, 1), (1, 1, 1), (-1, -1, 1)]
+BY_TWO = [(3, 4, 6), (6, 8, 4), (0, 5, 5)]
+LAST_STEP = 2**60
+# Customers, routes, steps made, lines with what is answered, and the state then. The words of step 0 by seed 0 are those of RFC 8439, A.1,
+# vector 1: they exchange the ends of the second and the third route, before the first stop of the one and behind the first of the other.
+PLANS = [
+    ("the first step", FOUR, [[1], [2, 3], [4], []], 0, [
+        ("search 1", "at 1 0 0 44\nok\n"),
+        ("show", "requests 4 next 5\nsteps 1 place 16\nvehicle 1: 1\nvehicle 3: 4 2 3\ncost 0 0 44\nok\n"),
+    ], served(FOUR, [[1], [], [4, 2, 3], []], steps=1)),
+    # With two routes the words pick the second one twice.
+    ("the first step from there", FOUR, [[1], [], [4, 2, 3], []], 0, [
+        ("search 1", "at 1 0 0 44\nok\n"),
+        ("show", "requests 4 next 5\nsteps 1 place 16\nvehicle 1: 1\nvehicle 3: 4 2 3\ncost 0 0 44\nok\n"),
+    ], served(FOUR, [[1], [], [4, 2, 3], []], steps=1)),
+    # Before stop 2 the way is 4 longer, before stop 1 it would be 8.
+    ("a build", FOUR, [[1], [2], [4], []], 0, [
+        ("show", "requests 4 next 5\nsteps 0 place 0\nvehicle 1: 1\nvehicle 2: 2\nvehicle 3: 4\nunplanned 3\ncost 1 0 50\nok\n"),
+        ("build", "ok\n"),
+        ("show", "requests 4 next 5\nsteps 0 place 0\nvehicle 1: 1\nvehicle 2: 3 2\nvehicle 3: 4\ncost 0 0 54\nok\n"),
+    ], served(FOUR, [[1], [3, 2], [4], []])),
+    # The step leads to the routes 1 and 3 2, which are longer by 1.
+    ("a step without a deviation", THREE, [[1], [2], [3]], 0, [
+        ("search 1", "at 1 0 0 24\nok\n"),
+        ("show", "requests 3 next 4\nsteps 1 place 16\nvehicle 1: 1\nvehicle 2: 2\nvehicle 3: 3\ncost 0 0 24\nok\n"),
+    ], served(THREE, [[1], [2], [3]], steps=1)),
+    ("a step with a deviation", THREE, [[1], [2], [3]], 0, [
+        ("deviation 1", "ok\n"),
+        ("search 1", "at 1 0 0 24\nok\n"),
+        ("show", "requests 3 next 4\nsteps 1 place 16\nvehicle 1: 1\nvehicle 2: 2\nvehicle 3: 3\ncost 0 0 24\ndeviation 1\nwork 0 0 25\nok\n"),
+    ], served(THREE, [[1], [2], [3]], [[1], [], [3, 2]], steps=1, deviation=1)),
+    # By another program, which says each annealing step by the letter.
+    ("an annealing step", BY_TWO, [[2, 1], [3], []], 0, [
+        ("deviation 100", "ok\n"),
+        ("anneal 1", "at 1 0 0 30\nok\n"),
+    ], served(BY_TWO, [[2, 1], [3], []], [[3, 2], [1], []], steps=1, deviation=100)),
+    ("two annealing steps", BY_TWO, [[2, 1], [3], []], 0, [
+        ("deviation 100", "ok\n"),
+        ("anneal 2", "at 2 0 0 30\nok\n"),
+    ], served(BY_TWO, [[1, 2], [3], []], steps=2, deviation=100)),
+    ("a thousand annealing steps", BY_TWO, [[2, 1], [3], []], 0, [
+        ("deviation 100", "ok\n"),
+        ("anneal 1000", "at 1000 0 0 30\nok\n"),
+    ], served(BY_TWO, [[2, 1], [3], []], steps=1000, deviation=100)),
+    ("the last steps", [(3, 4, 6)], [[1]], LAST_STEP - 1, [
+        ("search 2", "no StepsSpent\n"),
+        ("anneal 2", "no StepsSpent\n"),
+        ("search 1", f"at {LAST_STEP} 0 0 10\nok\n"),
+        ("search 1", "no StepsSpent\n"),
+        ("search 0", "no Range\n"),
+        (f"reach {LAST_STEP}", "ok\n"),
+        ("show", f"requests 1 next 2\nsteps {LAST_STEP} place {16 * LAST_STEP}\nvehicle 1: 1\ncost 0 0 10\nok\n"),
+    ], served([(3, 4, 6)], [[1]], steps=LAST_STEP)),
+]
+# Commands behind that annealing step, of which each makes the working plan the plan that it leaves.
+AHEAD = [("deviation 100", "ok\n"), ("anneal 1", "at 1 0 0 30\nok\n")]
+LEFT = [[2, 1], [3], []]
+PLANS += [
+    (f"{line.split()[0]} behind an annealing step", BY_TWO, LEFT, 0, AHEAD + [(line, "ok\n")], state)
+    for line, state in [
+        ("build", served(BY_TWO, LEFT, steps=1, deviation=100)),
+        ("deviation 7", served(BY_TWO, LEFT, steps=1, deviation=7)),
+        ("pin 1 1", served(BY_TWO, LEFT, steps=1, deviation=100, pinned=1)),
+        ("unpin 1", served(BY_TWO, LEFT, steps=1, deviation=100)),
+        ("withdraw 3", served(BY_TWO[:2], [[2, 1], [], []], steps=1, deviation=100, gone=1)),
+        (f"add1 5 0 5 0 {LATEST} 0", served(BY_TWO + [(0, 5, 5)], LEFT, steps=1, deviation=100)),
+        (f"load vrp 0 {len(INSTANCE)}\n{INSTANCE.decode()}", served(BY_TWO, [[], [], []])),
+    ]
+]
+
+
+def latest_snapshot(path):
+    """The bytes that the header of the greater sequence stands for."""
+    with open(path, "rb") as file:
+        store = file.read()
+    sequence, length = max(struct.unpack_from(">QQ", store, place + 12) for place in (0, SECTOR))
+    return store[HALVES[sequence % 2] :][:length]
+
+
+def check_plans(opener):
+    for name, customers, routes, steps, lines, state in PLANS:
+        told = "opened 0\n" + "".join(answer for _, answer in lines)
+        store = image(served(customers, routes, steps=steps))
+        opener.expect(name, store, (0, told), "".join(line + "\n" for line, _ in lines).encode())
+        opener.run(b"checkpoint\n")
+        if latest_snapshot(opener.path) != state:
+            fail(f"{name}: another state")
+
+
+def check_last_sequence(opener):
+    """No snapshot follows the last sequence: nothing is written for one. Records go on."""
+    store = image(one_customer(), sequence=2**60)
+    opener.expect("the last sequence", store, (0, "opened 0\nno Spent\nno Spent\n"), b"checkpoint\nanneal 1\n")
+    with open(opener.path, "rb") as file:
+        if file.read() != store:
+            fail("a snapshot that is refused is written")
+    opener.expect("a record of the last sequence", store, (0, "opened 0\nok\n"), b"build\n")
+    if opener.run(b"print\n") != (0, "opened 0\nRoute #1: 1\nCost 10\nok\n"):
+        fail("the record of the last sequence is lost")
+
+
+def expect_sequences(opener, name, wanted):
+    """Those that the two headers and the first record have."""
+    with open(opener.path, "rb") as file:
+        store = file.read(3 * SECTOR)
+    found = tuple(struct.unpack_from(">Q", store, place)[0] for place in (12, SECTOR + 12, 2 * SECTOR))
+    if found != wanted:
+        fail(f"{name}: the sequences are {found}, wanted {wanted}")
+
+
 def check_full_journal(opener):
     subprocess.run([PROGRAM, "format", opener.path], check=True, capture_output=True)
     load = b"load vrp 0 %d\n" % len(INSTANCE) + INSTANCE
@@ -155,6 +295,17 @@ def check_full_journal(opener):
         fail(f"a full journal: status {status}, {told!r}")
     if opener.run(b"") != (0, "opened 0\n"):
         fail("a step behind a full journal makes no snapshot")
+    expect_sequences(opener, "a step behind a full journal", (4, 3, 3))
+    # A command that changes nothing, behind 256 of them, and a checkpoint alone: each is a snapshot under the next sequence.
+    opener.run(256 * b"unpin 1\n")
+    expect_sequences(opener, "a full journal once more", (4, 3, 4))
+    shown = opener.run(b"show\n")
+    for line, sequences in ((b"unpin 1\n", (4, 5, 4)), (b"checkpoint\n", (6, 5, 4))):
+        if opener.run(line) != (0, "opened 0\nok\n"):
+            fail(f"{line!r} behind a full journal is refused")
+        expect_sequences(opener, f"{line!r} behind a full journal", sequences)
+        if opener.run(b"show\n") != shown:
+            fail(f"{line!r} behind a full journal changes the state")
 
 
 def main():
@@ -166,6 +317,8 @@ def main():
         check_snapshots(opener)
         check_headers(opener)
         check_large_states(opener)
+        check_plans(opener)
+        check_last_sequence(opener)
         check_full_journal(opener)
     print("openings: stores written by hand open with their state, or are told as what they are")
 

@@ -29,6 +29,8 @@ RETURN_23 = ONE_PAIR.replace("0 100 0 0 0", "0 23 0 0 0")
 RETURN_24 = ONE_PAIR.replace("0 100 0 0 0", "0 24 0 0 0")
 CAPACITY_3 = ONE_PAIR.replace("2 10 1", "2 3 1")
 OTHER_PICKUP = ONE_PAIR.replace("0 60 2 1 0", "0 60 2 3 0")
+FAR_DELIVERY = ONE_PAIR.replace("0 50 2 0 2", "0 50 2 0 40001")
+DEPOT_ALONE = "2 10 1\n0 0 0 0 0 100 0 0 0\n"
 BOTH = "Route #1: 1 2\nCost 20\n"
 
 # The same for one vehicle and for two, with a pair farther away: the first stops of both are too late behind the other.
@@ -37,6 +39,9 @@ LATE_PAIR_FOR_TWO = LATE_PAIR.replace("1 10 1", "2 10 1", 1)
 
 # Two pairs on two places. Stop 3 lies 3 from the depot and is due at 2, so it can be served behind stop 1 alone.
 TWO_PAIRS = "1 10 1\n0 0 0 0 0 100 0 0 0\n1 1 1 1 0 50 0 0 2\n2 1 1 -1 0 50 0 1 0\n3 2 2 1 0 2 0 0 4\n4 2 2 -1 0 50 0 3 0\n"
+
+# The same without a hurry, which one vehicle can serve, but not in two routes.
+NO_HURRY = TWO_PAIRS.replace("0 2 0 0 4", "0 50 0 0 4")
 
 # A pair at one place.
 ONE_PLACE = "1 10 1\n0 0 0 0 0 100 0 0 0\n1 1 1 1 0 50 0 0 2\n2 1 1 -1 0 50 0 1 0\n"
@@ -70,13 +75,26 @@ def vrp(capacity, places, demands):
     return "\n".join(lines + ["DEPOT_SECTION", "1", "-1", "EOF", ""])
 
 
-# Three customers, two of whom fit into one vehicle; one of them half a unit off; a limit of distance.
+def respelled(text):
+    """The same in other words: tabs, letter case, points, line ends, no EOF."""
+    lines = text.replace("TYPE : CVRP", "type : cvrp", 1).replace("2 3 4", "2 3.0 4.").replace("EOF\n", "").splitlines()
+    return "".join((line.replace(" : ", " :\t") if ":" in line else line.replace(" ", "\t")) + "\r\n" for line in lines)
+
+
+# Three customers, two of whom fit into one vehicle; in other words; behind lines that are no keys; cut behind the second of four nodes;
+# with a list of depots that does not end; one customer half a unit off; a limit of distance.
 THREE_CUSTOMERS = vrp(10, [(0, 0), (3, 4), (6, 8), (0, 5)], [0, 6, 4, 5])
+NO_KEYS = "DIMENSION 9\nEOF x\nTYPE TSP\n" + THREE_CUSTOMERS
+NINE_LINES = "".join(THREE_CUSTOMERS.splitlines(keepends=True)[:9])
+ENDLESS_DEPOTS = THREE_CUSTOMERS.replace("-1\nEOF", "EOF")
 HALF_A_UNIT = THREE_CUSTOMERS.replace("2 3 4", "2 30.5 4")
 A_LIMIT = "NAME : t3\nTYPE : CVRP\nDIMENSION : 4\nEDGE_WEIGHT_TYPE : EUC_2D\nCAPACITY : 10\nDISTANCE : 200\n"
 
 # Six customers around a depot, for vehicles of 4.
 SIX = vrp(4, [(0, 0), (3, 4), (6, 8), (-3, 4), (-6, 8), (0, 5), (9, 1)], [0, 2, 2, 1, 1, 3, 2])
+
+# Four customers: ways of 10, 10, 6 and 5 from the depot, of 12 between 1 and 3, of 8 between 2 and 3, of 5 between 2 and 4.
+FOUR = vrp(1_000, [(0, 0), (0, 10), (6, 8), (6, 0), (3, 4)], [0, 1, 1, 1, 1])
 
 AUDITS = [
     ("lilim", ONE_PAIR, BOTH, "pass 0 1 20", 0),
@@ -91,6 +109,9 @@ AUDITS = [
     ("lilim", ONE_PAIR, "Route #1: 1\nRoute #2: 2\nCost 30\n", "broken 4 route 1 place 1 stop 1", 1),
     ("lilim", ONE_PAIR, "Route #1: 1 2 1\nCost 20\n", "broken 2 route 1 place 3 stop 1", 1),
     ("lilim", LATEST_11, "Route #1: 1 2\nRoute #2: 9\nCost 20\n", "broken 1 route 2 place 1 stop 9", 1),
+    ("lilim", NO_HURRY, "Route #1: 1 2\nRoute #2: 3 4\nCost 8\n", "broken 9 route 2 place 0 stop 0", 1),
+    ("lilim", ONE_PAIR, "Route #1: 1 2\nCost 21\n", "broken 11 route 0 place 0 stop 0", 1),
+    ("lilim", FAR_DELIVERY, BOTH, "instance Range 3", 2),
     ("lilim", "", BOTH, "instance Truncated 1", 2),
     ("lilim", OTHER_PICKUP, BOTH, "instance PairMismatch 3", 2),
     ("lilim", ONE_PAIR, "Route #1: 1\nRoute #2: 2\n", "solution NoCost 3", 2),
@@ -98,10 +119,25 @@ AUDITS = [
     ("vrp", THREE_CUSTOMERS, "Route 1 : 2 1\nroute #2:3\nRoute #3:\nCOST 30\n", "pass 0 0 30", 0),
     ("vrp", THREE_CUSTOMERS, "Route #1: 1 2 3\nCost 0\n", "broken 6 route 1 place 3 stop 3", 1),
     ("vrp", THREE_CUSTOMERS, "Route #1: 1 2 3\nRoute #2: 4\n", "solution NoCost 3", 2),
+    ("vrp", respelled(THREE_CUSTOMERS), "Route #1: 2 1\nRoute #2: 3\nCost 30\n", "pass 0 0 30", 0),
+    ("vrp", NO_KEYS, "Route #1: 2 1\nRoute #2: 3\nCost 30\n", "pass 0 0 30", 0),
+    ("vrp", FOUR, "Route #1: 1\nRoute #2: 2 3\nRoute #3: 4\nCost 54\n", "pass 0 0 54", 0),
+    ("vrp", FOUR, "Route #1: 1\nRoute #2: 3 2\nRoute #3: 4\nCost 54\n", "pass 0 0 54", 0),
+    ("vrp", FOUR, "Route #1: 3 1\nRoute #2: 2\nRoute #3: 4\nCost 58\n", "pass 0 0 58", 0),
+    ("vrp", FOUR, "Route #1: 1\nRoute #2: 4 2 3\nCost 44\n", "pass 0 0 44", 0),
+    ("vrp", NINE_LINES, "", "instance Truncated 10", 2),
+    ("vrp", ENDLESS_DEPOTS, "", "instance BadNumber 18", 2),
     ("vrp", HALF_A_UNIT, "", "instance BadNumber 8", 2),
     ("vrp", A_LIMIT, "", "instance Unsupported 6", 2),
     ("vrp", "DIMENSION : 40002\n", "", "instance TooManyStops 1", 2),
     ("vrp", "", "", "instance MissingKey 1", 2),
+    ("lilim", "2 10\n", "", "instance FieldCount 1", 2),
+    ("lilim", "2 10 1\n3 0 0 0 0 100 0 0 0\n", "", "instance TaskOrder 2", 2),
+    ("lilim", "2 10 1\n0 0 0 0 9 8 0 0 0\n", "", "instance EmptyWindow 2", 2),
+    ("vrp", "CAPACITY : 1\nCAPACITY : 2\n", "", "instance NodeRepeated 2", 2),
+    ("vrp", "DEPOT_SECTION\n2\n", "", "instance DepotNotFirst 2", 2),
+    ("lilim", ONE_PAIR, "Route #1: 1 x\nCost 20\n", "solution BadNumber 1", 2),
+    ("lilim", ONE_PAIR, "Rout #1: 1\n", "solution BadLine 1", 2),
 ]
 
 # Words that ask for something, over files that are there: standard input, status, and how standard output begins (all of it where
@@ -113,6 +149,7 @@ TAKEN = [
     (["audits", "vrp", "-"], "a b.vrp\tc.sol\n", 0, "a b.vrp\tc.sol\tpass 0 0 30\n"),
     (["format", "a b.store"], "", 0, "ok\n"),
     (["run", "a b.store"], "next\nnext\n", 0, "opened 0\nno NoInstance\nno NoInstance\n"),
+    (["run", "a b.store"], "search 1\n", 0, "opened 0\nno NoInstance\n"),
     (["run", "a b.store", "strict"], "next\nnext\n", 1, "opened 0\nno NoInstance\n"),
     (["load", "lilim", "vrp", "a b.vrp", "7"], "", 0, "ok\n"),
     (["run", "lilim", "strict"], "next\n", 0, "opened 0\nnext 4\nok\n"),
@@ -224,6 +261,10 @@ READ_LINES = [
 LOADS = [
     ("load lilim 18446744073709551615 16777216", False, "no Truncated\n"),
     ("load vrp 0 16777217", False, RANGE),
+    ("load lilim 18446744073709551616 66", False, RANGE),
+    ("load lilim -1 66", False, RANGE),
+    ("load lilim x 66", False, BAD_LINE),
+    ("load lilim 0 0", True, "no Truncated 1\n"),
     ("load LILIM 0 66", False, BAD_LINE),
     (f"load lilim 0 {len(OTHER_PICKUP)}\n{OTHER_PICKUP}", True, "no PairMismatch 3\n"),
     (" " * 1025 + "load", False, BAD_LINE),
@@ -354,6 +395,11 @@ SESSIONS = [
         ("build", ""),
         ("why 3", "vehicle 2: stop 3 at place 1\n"),
         ("timetable 2", SECOND_ROUTE),
+        ("timetable 3", ""),
+        ("timetable 4", RANGE),
+        ("pin\t3  0", ""),
+        ("pin\t3  1", NO_PLACE),
+        ("pin 4 0", NO_PLACE),
         ("add1 5 0 5 0 9 0", ""),
         ("timetable", FIRST_ROUTE + SECOND_ROUTE + FULL_OR_AT % 1),
         ("why 4", "alone: a vehicle can serve it\nvehicle 1: behind stop 1 it would carry 5 too much\nvehicle 2: fits at place 1\n"
@@ -395,6 +441,15 @@ SESSIONS = [
         ("add 1 0 0 0 9 0 0 0 0 9 0", ""),
         ("deviation 5", ""),
         ("show", "requests 4 next 6\nsteps 0 place 0\nvehicle 1: 2 1\nvehicle 2: 3\nunplanned 4\ncost 1 0 30\ndeviation 5\nwork 1 0 30\n"),
+        ("build", ""),
+        ("show", "requests 4 next 6\nsteps 0 place 0\nvehicle 1: 4 5 2 1\nvehicle 2: 3\ncost 0 0 30\ndeviation 5\nwork 0 0 30\n"),
+    ]),
+    ("the depot alone", "lilim", DEPOT_ALONE, [("show", "requests 0 next 1\nsteps 0 place 0\ncost 0 0 0\n")]),
+    ("an order that is too heavy", "lilim", ONE_PLACE, [
+        ("add1 11 0 0 0 9 0", ""),
+        ("build", ""),
+        ("show", "requests 2 next 4\nsteps 0 place 0\nvehicle 1: 1 2\nunplanned 3\ncost 1 1 2\n"),
+        ("why 3", "alone: stop 3 needs 11, a vehicle takes 10\n"),
     ]),
     ("numbers at their limits", "lilim", TWO_PAIRS, [
         ("timetable -1", RANGE),
@@ -558,12 +613,21 @@ def check_refused_words(folder):
 
 
 def check_same_search(folder):
-    """What solve finds by a seed and a deviation is what a store finds by them."""
+    """What solve finds by a seed and a deviation is what a store finds by them, and what it finds by a seed alone solves writes."""
     for seed in 7, 2**64 - 1:
         folder.new_store()
         text = folder.run(f"load vrp {seed} {len(SIX)}\n{SIX}deviation 1000000000\nbuild\nsearch 5\nprint\n")
         solved = folder.planner("solve", "vrp", folder.write("six.vrp", SIX), "5", str(seed), "1000000000")
         expect(f"solve by seed {seed}", solved[1] + "ok\n", text[text.index("Route #1"):])
+    texts = {}
+    for words in [], ["0"], ["7"], [str(2**64 - 1)]:
+        name = "_".join(["six", *words]) + ".sol"
+        folder.planner("solves", "vrp", "-", "5", *words, lines=f"six.vrp\t{name}\n")
+        with open(folder.file(name), encoding="ascii") as file:
+            texts[name] = file.read()
+        expect(f"solves by seed {words}", texts[name], folder.planner("solve", "vrp", "six.vrp", "5", *words)[1])
+    expect("solves without a seed", texts["six.sol"], texts["six_0.sol"])
+    expect("whether seeds find other plans", len(set(texts.values())) > 1, True)
 
 
 def check_lines(folder):
@@ -597,6 +661,13 @@ def check_sessions(folder):
             expect(f"{name}: {line}", text[: len(wanted)], wanted)
             text = text[len(wanted) :]
         expect(f"{name}: behind all lines", text, "")
+
+
+def check_reopened(folder):
+    """What a run has loaded is there in the next one."""
+    folder.new_store()
+    expect("a load", folder.run(load_line("lilim", ONE_PAIR)), "ok\n")
+    expect("the next run", folder.run("show\n"), "requests 1 next 3\nsteps 0 place 0\nunplanned 1\ncost 1 0 0\nok\n")
 
 
 def check_strict(folder):
@@ -678,6 +749,7 @@ def main():
         check_lines(folder)
         check_loads(folder)
         check_sessions(folder)
+        check_reopened(folder)
         check_strict(folder)
         check_same_search(folder)
         check_farthest(folder)

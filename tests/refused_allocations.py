@@ -1,10 +1,11 @@
 #!/usr/bin/env python3
-"""What a session and an upgrade answer where one allocation is refused.
+"""What a session, an upgrade and a format answer where one allocation is refused.
 
-Runs five commands over a store, and an upgrade of a store of version 1, by the built program again and again, first with the first
-allocation of the whole program refused, then with the second one, and so on. Each run has to end as promised: a command that is refused
-memory answers `no OutOfMemory` and leaves all as it was, and is carried out when it is asked once more; a program that ends for want of
-memory has status 4 and leaves what was acknowledged, or one command more; an upgrade is done once more then.
+Runs five commands over a store, an upgrade of a store of version 1, and a format over a store with an instance, by the built program again
+and again, first with the first allocation of the whole program refused, then with the second one, and so on. Each run has to end as
+promised: a command that is refused memory answers `no OutOfMemory` and leaves all as it was, and is carried out when it is asked once more;
+a program that ends for want of memory has status 4 and leaves what was acknowledged, or one command more; an upgrade is done once more
+then, and so is a format, which has left the store as it was.
 
 Wants a C compiler, for the few lines that refuse an allocation, and the program that rt ci leaves.
 """
@@ -150,6 +151,21 @@ def end_of_upgrade(old, new, wanted, environment):
     return end, int(got.stderr.splitlines()[-1])
 
 
+def end_of_format(store, wanted, environment):
+    """The same of a format, by what is shown before and behind it."""
+    got = subprocess.run([PROGRAM, "format", store], capture_output=True, env=environment)
+    end = {(0, b"ok\n"): UNHARMED, (4, b"store OutOfMemory\n"): "OutOfMemory", (4, b""): "status 4"}.get((got.returncode, got.stdout))
+    if end is None:
+        fail(f"format: {got}")
+    if end != UNHARMED:
+        if shown(store) != wanted[0]:
+            fail(f"format: {end}, and then {shown(store)!r}")
+        subprocess.run([PROGRAM, "format", store], check=True, capture_output=True)
+    if shown(store) != wanted[1]:
+        fail(f"format: done, and then {shown(store)!r}")
+    return end, int(got.stderr.splitlines()[-1])
+
+
 def refuse_each(name, ended, met):
     """Refuses each allocation in turn, none first. Some have to end in each of these ways."""
     end, allocations = ended(0)
@@ -187,6 +203,22 @@ def refuse_in_upgrades(folder, shim):
     refuse_each("an upgrade", ended, {"status 4"})
 
 
+def refuse_in_formats(folder, shim):
+    loaded, store = folder / "loaded.store", folder / "formatted.store"
+    subprocess.run([PROGRAM, "format", loaded], check=True, capture_output=True)
+    empty = shown(loaded)
+    session = Session(loaded)
+    session.answer(COMMANDS[0])
+    session.process.communicate()
+    wanted = shown(loaded), empty
+
+    def ended(number):
+        shutil.copyfile(loaded, store)
+        return end_of_format(store, wanted, refusing(shim, number))
+
+    refuse_each("a format", ended, {"OutOfMemory", "status 4"})
+
+
 def main():
     compiler = shutil.which("cc")
     if not compiler:
@@ -201,6 +233,7 @@ def main():
         subprocess.run([compiler, "-O1", "-shared", "-fPIC", "-o", shim, source], check=True)
         refuse_in_sessions(folder, shim)
         refuse_in_upgrades(folder, shim)
+        refuse_in_formats(folder, shim)
 
 
 if __name__ == "__main__":
