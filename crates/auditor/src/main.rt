@@ -1,5 +1,5 @@
 //! The program `auditor`: audits and explains solutions of pickup and delivery and capacitated routing. It is what `planner` does of
-//! the words `audit`, `audits` and `explain`, and is proved in a fifth of the time.
+//! the words `audit`, `audits` and `explain`, and waits for no proof of search and store.
 //!
 //! All that it does is `auditor_cli::audit_words`. `main` hands on the words, the files and the standard streams. A word that is not
 //! UTF-8 ends with 64.
