@@ -1,0 +1,83 @@
+#!/usr/bin/env python3
+"""How many instructions a step takes, which a busy machine doesn't disturb, and whether another program of the same steps ends at the same cost.
+
+Both are counted by callgrind, once with few steps and once with more: the difference is that of the steps alone. Ours is `planner run` with a new store,
+in which the instance is loaded and a plan built, and then `search` or `anneal` makes the steps, of whose commands it has all. OTHER is a program with the
+commands `gen KIND STOPS SEED`, `search KIND INSTANCE STEPS SEED DEVIATION` and `anneal ..`, as in `bench/search_speed.py`. The program is built by `./planner`;
+another one can be named, so that two builds are compared.
+
+    bench/step_counts.py OTHER [--program PATH] [search|anneal] [STOPS..]
+"""
+
+import pathlib
+import re
+import subprocess
+import sys
+import tempfile
+
+from search_speed import PROGRAM, SEED, output
+
+SIZES = [100, 400, 1000]
+DEVIATION = 30
+FEW, MANY = 2_000, 6_000
+
+
+def instructions(folder, words, text=b""):
+    """How many instructions a program takes, and what it prints."""
+    command = ["valgrind", "--tool=callgrind", f"--callgrind-out-file={folder}/callgrind.out", *map(str, words)]
+    got = subprocess.run(command, input=text, check=True, capture_output=True)
+    return int(re.search(rb"Collected : (\d+)", got.stderr)[1]), got.stdout.decode()
+
+
+def ours(program, folder, kind, instance, steps, word):
+    """Instructions of a session of so many steps on a new store, and the cost behind them."""
+    store = folder / "count.store"
+    store.unlink(missing_ok=True)
+    subprocess.run([program, "load", store, kind, instance, str(SEED)], check=True, capture_output=True)
+    lines = f"build\ndeviation {DEVIATION}\n{word} {steps}\nshow\n".encode()
+    count, printed = instructions(folder, [program, "run", store], lines)
+    return count, re.search(r"^cost (.*)$", printed, re.MULTILINE)[1]
+
+
+def theirs(other, folder, kind, instance, steps, word):
+    """The same of the other program."""
+    count, printed = instructions(folder, [other, word, kind, instance, steps, SEED, DEVIATION])
+    return count, re.findall(r"cost (\d+ \d+ \d+)", printed)[-1]
+
+
+def per_step(count):
+    """Instructions a step, and the cost behind the longer run, of what counts a run of so many steps."""
+    (few, _), (many, cost) = count(FEW), count(MANY)
+    return (many - few) // (MANY - FEW), cost
+
+
+def compare(other, program, folder, kind, stops, word):
+    """Counts both, prints a line, and says whether they end at the same cost."""
+    instance = folder / f"{kind}-{stops}"
+    instance.write_text(output(other, "gen", kind, stops, SEED))
+    mine, cost = per_step(lambda steps: ours(program, folder, kind, instance, steps, word))
+    its, other_cost = per_step(lambda steps: theirs(other, folder, kind, instance, steps, word))
+    verdict = "the same cost" if cost == other_cost else f"costs {cost} and {other_cost}"
+    print(f"{word} {kind} {stops}: {mine}, OTHER {its}, ratio {its / mine:.2f}, {verdict}", flush=True)
+    return cost == other_cost
+
+
+def main():
+    """Counts each kind at each size, and fails where a final cost differs."""
+    words = sys.argv[1:]
+    if not words:
+        sys.exit(__doc__)
+    other, words = pathlib.Path(words[0]).resolve(), words[1:]
+    program = PROGRAM
+    if words[:1] == ["--program"]:
+        program, words = pathlib.Path(words[1]).resolve(), words[2:]
+    steps = [word for word in words if not word.isdigit()] or ["search", "anneal"]
+    sizes = [int(word) for word in words if word.isdigit()] or SIZES
+    with tempfile.TemporaryDirectory() as name:
+        folder = pathlib.Path(name)
+        same = [compare(other, program, folder, kind, stops, word) for word in steps for kind in ("lilim", "vrp") for stops in sizes]
+    sys.exit(not all(same))
+
+
+if __name__ == "__main__":
+    main()
