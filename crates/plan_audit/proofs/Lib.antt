@@ -1,5 +1,6 @@
 pub mod AgreeLemmas
 pub mod AloneLemmas
+pub mod DriveLemmas
 pub mod FirstLemmas
 pub mod FleetLemmas
 pub mod LawProofs

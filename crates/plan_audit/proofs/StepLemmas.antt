@@ -59,14 +59,14 @@ module _ (p : Instance) (routes : List (List ℕ)) where
   pub below_from : StopsAreBelowNext → IsInstance p → NoneUnknown → All (λ route. All (λ n. n < p.next_number) route) routes
   below_from stops_below valid a = known_below p routes (known a) stops_below valid
 
-  pub live_where : NoneUnknown → NoneRepeated → All (AreLiveOnce p) routes
-  live_where a b = live_routes p routes (known a) (once b)
+  pub plan_where : NoneUnknown → NoneRepeated → IsPlan p routes
+  plan_where a b = is_plan p routes (known a) (once b)
 
 -- a rule on the routes is one on the subject
 least_of : (s : Subject) (routes : List (List ℕ)) → routes_of s ≡ routes → (B : List (List ℕ) → ℕ → ℕ → ℕ → Type 0) (r i n : ℕ) → IsLeastOf (B routes) r i n → IsLeastOf (B (routes_of s)) r i n
 least_of s routes is B r i n one = subst (λ (l : List (List ℕ)). IsLeastOf (B l) r i n) (sym is) one
 
-none_of : (s : Subject) (routes : List (List ℕ)) → routes_of s ≡ routes → (B : List (List ℕ) → ℕ → ℕ → ℕ → Type 0) → ((r i n : ℕ) → B routes r i n → ⊥) → (r i n : ℕ) → B (routes_of s) r i n → ⊥
+pub none_of : (s : Subject) (routes : List (List ℕ)) → routes_of s ≡ routes → (B : List (List ℕ) → ℕ → ℕ → ℕ → Type 0) → ((r i n : ℕ) → B routes r i n → ⊥) → (r i n : ℕ) → B (routes_of s) r i n → ⊥
 none_of s routes is B none r i n b = none r i n (subst (λ (l : List (List ℕ)). B l r i n) is b)
 
 -- what they tell of a subject with these routes, of which u is the first request that must be served and is not

@@ -1,7 +1,9 @@
 -- The least broken rule, rule after rule.
-use Rattle.std.proofs.Common.{◌≡◌, ℕ, suc, ◌+◌, ◌<◌, ◌≤◌, Option, Some, None, MatchOption, refl, sym, ap, subst, ◌∙◌, inl, inr, arith, add-one, cond, eqb}
+use Rattle.std.proofs.Common.{◌≡◌, ℕ, suc, ◌+◌, ◌<◌, ◌≤◌, Option, Some, None, Result, Ok, Err, refl, sym, ap, subst, ◌∙◌, inl, inr, arith, add-one, cond, eqb}
 use Rattle.std.proofs.lemmas.Bool.{cases_lt}
+use Rattle.std.specs.Prelude.{MatchResult}
 use Rattle.plan_types.specs.Instance.{Instance, IsInstance}
+use Rattle.plan_types.specs.declared.plans.Cost.{Cost}
 use Rattle.plan_audit.specs.Rules.{IsNotAfter, IsMissing}
 use Rattle.plan_audit.specs.Finding.{unserved_of}
 use Rattle.plan_audit.specs.Verdict.{Subject, planned, printed, routes_of, rule_number, Breaks, KeepsRules, IsLeastBroken, IsBrokenOver, IsVerdictOver}
@@ -123,10 +125,11 @@ module _ (p : Instance) (s : Subject) where
   broken_verdict low high (Pass cost) b = absurd b
   broken_verdict low high (Broken rule r i n) b = b
 
-  -- what the first rules tell, and where they are kept the others
-  pub told_after : (low mid high : ℕ) (o : Option Verdict) → low ≤ mid + 1 → KeepsRules low mid p s → MatchOption o (KeepsRules (mid + 1) high p s) (IsBrokenOver (mid + 1) high p s) → MatchOption o (KeepsRules low high p s) (IsBrokenOver low high p s)
-  told_after low mid high None le kept h = keeps_both low mid high kept h
-  told_after low mid high (Some v) le kept h = broken_after low mid high v le kept h
+  -- what the other rules tell, where the first are kept
+  pub judged_after : (low mid high : ℕ) (o : Result Cost Verdict) → low ≤ mid + 1 → KeepsRules low mid p s → MatchResult o (λ cost. IsVerdictOver (mid + 1) high p s (Pass cost)) (IsBrokenOver (mid + 1) high p s)
+      → MatchResult o (λ cost. IsVerdictOver low high p s (Pass cost)) (IsBrokenOver low high p s)
+  judged_after low mid high (Ok cost) le kept h = (keeps_both low mid high kept h.0, h.1)
+  judged_after low mid high (Err v) le kept h = broken_after low mid high v le kept h
 
 -- what a place counted from 0 tells
 pub told_at : (low high : ℕ) (p : Instance) (s : Subject) (k : Rule) (r i n : ℕ) → IsLeastBroken low high p s k (suc r) (suc i) n → IsBrokenOver low high p s (Broken (rule_number k) (r + 1) (i + 1) n)

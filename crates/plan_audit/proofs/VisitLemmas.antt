@@ -41,7 +41,7 @@ told_later test k ns lt told =
 pub visit_fails : (p : Instance) (test : Visit → Bool) (route : List ℕ) (k : ℕ) (v : Visit) (b : Bool) → v ≡ visit_after p route k → b ≡ test v → visit_told p test route k (get_or route k 0) ≡ cond b (Some (get_or route k 0)) None
 visit_fails p test route k v b is answer = ap (λ c. cond c (Some (get_or route k 0)) None) (sym (answer ∙ ap test is))
 
-nth-range : {X : Type 0} (f : ℕ → X) (a n k : ℕ) → k < n → slice_get (map f (range_with_len a n)) k ≡ Some (f (a + k))
+pub nth-range : {X : Type 0} (f : ℕ → X) (a n k : ℕ) → k < n → slice_get (map f (range_with_len a n)) k ≡ Some (f (a + k))
 nth-range f a zero k lt = absurd (omega arith)
 nth-range f a (suc n) zero lt = ap (λ i. Some (f i)) (let e : a ≡ a + 0 = omega arith in e)
 nth-range f a (suc n) (suc k) lt = nth-range f (a + 1) n k (omega arith) ∙ ap (λ i. Some (f i)) (let e : a + 1 + k ≡ a + suc k = omega arith in e)

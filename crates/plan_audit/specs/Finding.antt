@@ -1,11 +1,14 @@
 -- How the auditor looks for the first place that breaks a rule. Here routes and places count from 0, as in the code.
-use Rattle.std.specs.Prelude.{ℕ, ◌+◌, ◌-◌, nat_lt, ◌==◌, ◌&&◌, ◌||◌, not, List, [], ◌∷◌, Option, Some, None, is_some, if◌then◌else◌, Bool, int_lt, pos, length, false, slice_get, unwrap_or}
+use Rattle.std.specs.Prelude.{◌≡◌, ℕ, ◌+◌, ◌-◌, nat_lt, ◌==◌, ◌&&◌, ◌||◌, not, List, [], ◌∷◌, Option, Some, None, is_some, if◌then◌else◌, Bool, int_lt, pos, length, false, slice_get, unwrap_or}
 use Rattle.route_sched.specs.Schedule.{start}
-use Rattle.route_sched.specs.Visiting.{visit_after}
+use Rattle.route_sched.specs.Visiting.{visit_after, visits_from}
 use Rattle.route_sched.specs.declared.visits.Visit.{Visit}
 use Rattle.std.specs.Option.{option_map, option_or, option_and_then}
+use Rattle.std.specs.List.{AllByRecursion}
 use Rattle.plan_types.specs.Instance.{Instance, stop_at, partner_at, pickup_at}
 use Rattle.plan_types.specs.declared.requests.Request.{Request}
+use Rattle.plan_types.specs.declared.requests.Kind.{Kind}
+use Rattle.plan_types.specs.declared.requests.Kind.TheVariants.{LiLim, Vrp}
 use Rattle.route_sched.specs.Cost.{is_planned}
 use Rattle.plan_audit.specs.Verdict.{Subject, planned, printed}
 use Rattle.plan_audit.specs.declared.faults.Told.{Told}
@@ -70,6 +73,19 @@ is_overloaded p v = int_lt (pos p.capacity) v.load
 -- service starts after the latest time
 abbrev pub is_late : Visit → Bool
 is_late v = nat_lt v.stop.latest v.start
+
+-- it starts too late in a problem with time windows
+abbrev pub breaks_window : Kind → Visit → Bool
+breaks_window LiLim v = is_late v
+breaks_window Vrp v = false
+
+-- a visit breaks a rule on loads or times, where the return is judged as a stop is
+abbrev pub breaks_limits : Instance → Visit → Bool
+breaks_limits p v = is_overloaded p v || breaks_window p.kind v
+
+-- no visit of a route does
+unfoldable pub KeepsLimits : Instance → List ℕ → Type 0
+KeepsLimits p route = AllByRecursion (λ v. breaks_limits p v ≡ false) (visits_from p route 0)
 
 -- the name of a request that is not planned
 abbrev pub unserved_in : List (List ℕ) → ℕ × Request → Option ℕ

@@ -1,8 +1,9 @@
 //! The audit itself: rule after rule, until one is broken.
-ghost use Rattle.std.specs.Prelude.{◌≡◌, All, IfNone, IfOk, MatchOption};
-ghost use Rattle.route_sched.specs.Route.{AreLiveOnce};
+ghost use Rattle.std.specs.Prelude.{◌≡◌, All, IfNone, IfOk, MatchOption, MatchResult};
+ghost use Rattle.route_sched.specs.Route.{AreLiveOnce, IsPlan};
 ghost use Rattle.plan_types.specs.Instance.{IsInstance};
-ghost use Rattle.plan_audit.specs.Verdict.{Subject, planned, printed, routes_of, KeepsRules, IsBrokenOver, IsVerdict};
+ghost use Rattle.plan_audit.specs.Verdict.{Subject, planned, printed, routes_of, KeepsRules, IsBrokenOver, IsVerdictOver, IsVerdict};
+ghost use Rattle.plan_audit.specs.declared.rules.Verdict.TheVariants.{Pass};
 ghost use Rattle.plan_audit.specs.Finding.{unserved_of};
 
 use crate::fleet::first_beyond;
@@ -10,8 +11,8 @@ use crate::pins::first_off_pin;
 use crate::rules::{Rule, Verdict};
 use crate::scan::Scan;
 use crate::seats::seats;
-use crate::timing::{first_late, first_late_return, first_overload};
-use plan_types::{Kind, OutOfMemory, Pins, Plan, Problem, Route, numbers_are_below_the_next};
+use crate::timing::{first_late, first_late_return, first_overload, kept_cost};
+use plan_types::{Cost, Kind, OutOfMemory, Pins, Plan, Problem, Route, numbers_are_below_the_next};
 use route_sched::routes_cost;
 use sol_text::Solution;
 use std::alloc::Global;
@@ -35,16 +36,17 @@ pub fn audit(
         routes,
         seats: seats.as_slice(),
     };
-    if let Some(broken) = broken_stop(&scan, None) {
-        return Ok(broken);
-    }
+    let cost = match judge_stops(&scan, None) {
+        Ok(cost) => cost,
+        Err(broken) => return Ok(broken),
+    };
     if routes.len() != problem.fleet as usize {
         return Ok(Rule::Fleet.broken_by(0));
     }
     if let Some(fault) = first_off_pin(routes, pins.routes.as_slice()) {
         return Ok(Rule::Pin.broken_at(fault));
     }
-    Ok(Verdict::Pass(routes_cost(problem, routes, scan.unplanned())))
+    Ok(Verdict::Pass(cost))
 }
 
 /// Audits a printed solution: the least broken rule, by rule, route, place and stop, or pass with the cost; or want of
@@ -63,31 +65,49 @@ pub fn audit_solution(
         routes,
         seats: seats.as_slice(),
     };
-    if let Some(broken) = broken_stop(&scan, scan.first_unserved()) {
-        return Ok(broken);
-    }
+    let cost = match judge_stops(&scan, scan.first_unserved()) {
+        Ok(cost) => cost,
+        Err(broken) => return Ok(broken),
+    };
     if let Some(route) = first_beyond(problem.fleet, routes) {
         return Ok(Rule::Fleet.broken_from(route));
     }
-    let cost = routes_cost(problem, routes, scan.unplanned());
     if cost.distance != solution.cost {
         return Ok(Rule::PrintedCost.broken_by(0));
     }
     Ok(Verdict::Pass(cost))
 }
 
-// The least broken one of the rules on stops. A request that must be served and is not is passed in.
-fn broken_stop(scan: &Scan, unserved: Option<u32>) -> Option<Verdict>
+// What the routes cost where the rules on stops are kept, else the least broken one of these. A request that must be
+// served and is not is passed in.
+fn judge_stops(scan: &Scan, unserved: Option<u32>) -> Result<Cost, Verdict>
     requires { IsInstance scan.now.problem.now }
-    ensures least { (s : Subject) → routes_of s ≡ scan.now.routes.now
+    ensures judged { (s : Subject) → routes_of s ≡ scan.now.routes.now
         → unserved ≡ unserved_of scan.now.problem.now s
-        → MatchOption result (KeepsRules 1 8 scan.now.problem.now s)
+        → MatchResult result (λ cost. IsVerdictOver 1 8 scan.now.problem.now s (Pass cost))
         (IsBrokenOver 1 8 scan.now.problem.now s) }
 {
     if let Some(broken) = misplaced(scan, unserved) {
-        return Some(broken);
+        return Err(broken);
     }
-    mistimed(scan.problem, scan.routes)
+    judge_drives(scan)
+}
+
+// The same of the rules on loads and times.
+fn judge_drives(scan: &Scan) -> Result<Cost, Verdict>
+    requires { IsPlan scan.now.problem.now scan.now.routes.now }
+    ensures judged { (s : Subject) → routes_of s ≡ scan.now.routes.now
+        → MatchResult result (λ cost. IsVerdictOver 6 8 scan.now.problem.now s (Pass cost))
+        (IsBrokenOver 6 8 scan.now.problem.now s) }
+{
+    let unplanned = scan.unplanned();
+    if let Some(cost) = kept_cost(scan.problem, scan.routes, unplanned) {
+        return Ok(cost);
+    }
+    match mistimed(scan.problem, scan.routes) {
+        Some(broken) => Err(broken),
+        None => Ok(routes_cost(scan.problem, scan.routes, unplanned)),
+    }
 }
 
 // The least broken one of the rules on where stops stand.
@@ -97,7 +117,7 @@ fn misplaced(scan: &Scan, unserved: Option<u32>) -> Option<Verdict>
         → unserved ≡ unserved_of scan.now.problem.now s
         → MatchOption result (KeepsRules 1 5 scan.now.problem.now s)
         (IsBrokenOver 1 5 scan.now.problem.now s) }
-    ensures live { IfNone result (All (AreLiveOnce scan.now.problem.now) scan.now.routes.now) }
+    ensures plan { IfNone result (IsPlan scan.now.problem.now scan.now.routes.now) }
 {
     if let Some(fault) = scan.first_unknown() {
         return Some(Rule::UnknownStop.broken_at(fault));

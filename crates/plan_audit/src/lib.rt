@@ -11,7 +11,7 @@
 //! - `faults`: the search for the first place that fails a test.
 //! - `seats`: where each stop stands first, by its number.
 //! - `scan`, with `pairs`: rules 1 to 5, on where stops stand.
-//! - `timing`: rules 6 to 8, on loads and times.
+//! - `timing`: rules 6 to 8, on loads and times, and what routes cost that keep them.
 //! - `fleet`, `pins`: rule 9 of a printed solution, rule 10.
 //! - `alone`: a list of stops as the only route.
 //! - `laws`: what a verdict means, without code.
@@ -23,10 +23,11 @@
 //! Source: feasibility of PDPTW as Li and Lim have it, and of CVRP as CVRPLIB does; pins and the order of the
 //! rules are this project's own.
 //!
-//! How it works: one pass notes the first seat of each stop, by number. A rule on stops is then a pass over
-//! the plan with one look for each partner, a rule on loads or times a drive along each route, so an audit is
-//! linear. A rule is asked only where all before it are kept. `route_fault` takes no memory and looks through
-//! the list for each partner: that is quadratic.
+//! How it works: one pass notes the first seat of each stop, by number. A rule on where stops stand is then a
+//! pass over the plan with one look for each partner. The rules on loads and times, and the distance, take one
+//! drive along each route where these are kept, since each way takes a root; else a drive for each rule. So
+//! an audit is linear. A rule is asked only where all before it are kept. `route_fault` takes no memory and
+//! looks through the list for each partner: that is quadratic.
 //!
 //! A plan may leave requests out and has no printed cost, a printed solution has no pins, and a problem of
 //! kind `Vrp` has no times: rules on these are not asked.

@@ -1,13 +1,73 @@
 //! The rules that speak of loads and times, 6 to 8. Each drives along a route without memory.
+//!
+//! Routes that keep all three are driven once: `kept_cost` judges each visit and sums the ways. Where it gives
+//! nothing, rule after rule is asked, so that the least broken one is told.
 ghost use Rattle.std.specs.Prelude.{◌≡◌, ℕ, ◌^◌, ◌<◌, ◌↔◌, ◌+◌, Bool, IsTrue, IfSome, All, length, int_lt, pos};
+ghost use Rattle.route_sched.specs.Cost.{cost_of, unplanned_count};
 ghost use Rattle.route_sched.specs.Route.{AreLiveOnce};
-ghost use Rattle.route_sched.specs.Schedule.{start};
+ghost use Rattle.route_sched.specs.Schedule.{start, route_length};
 ghost use Rattle.route_sched.specs.declared.visits.Visit.{Visit};
-ghost use Rattle.plan_audit.specs.Finding.{first_place, first_route, told_by, return_told, visit_told, is_overloaded, is_late};
+ghost use Rattle.plan_audit.specs.Finding.{first_place, first_route, told_by, return_told, visit_told, is_overloaded, is_late, breaks_window, breaks_limits, KeepsLimits};
+ghost use Rattle.plan_audit.specs.Verdict.{Subject, routes_of, KeepsRules};
 
 use crate::faults::{Fault, Told, first_fault};
-use plan_types::{Problem, Route};
-use route_sched::{Visit, Visits};
+use plan_types::{Cost, Kind, Problem, Route};
+use route_sched::{Visit, Visits, vehicle_count};
+
+/// What routes cost that keep the rules on loads and times, for a caller that has counted the unplanned requests. Each
+/// route is driven once. `None` says nothing.
+pub(crate) fn kept_cost(problem: &Problem, routes: &[Route], unplanned: u64) -> Option<Cost>
+    requires live { All (AreLiveOnce problem.now) routes.now }
+    requires counted { unplanned ≡ unplanned_count problem.now routes.now }
+    ensures kept { IfSome result (λ _. (s : Subject) → routes_of s ≡ routes.now
+        → KeepsRules 6 8 problem.now s) }
+    ensures cost { IfSome result (λ cost. cost ≡ cost_of problem.now routes.now) }
+{
+    let mut distance: u64 = 0;
+    for route in routes {
+        // A sum that did not fit would give `None` as well, so nothing need be known of how long the ways are.
+        distance = distance.checked_add(kept_length(problem, route.as_slice())?)?;
+    }
+    Some(Cost {
+        unplanned,
+        vehicles: vehicle_count(problem.kind, routes),
+        distance,
+    })
+}
+
+// How far a vehicle drives that keeps the rules on loads and times. The return is judged as a stop is, which asks no
+// less than the rules do.
+fn kept_length(problem: &Problem, route: &[u32]) -> Option<u64>
+    requires { AreLiveOnce problem.now route.now }
+    ensures kept { IfSome result (λ _. KeepsLimits problem.now route.now) }
+    ensures length { IfSome result (λ length. length ≡ route_length problem.now route.now) }
+{
+    let mut length: u64 = 0;
+    for visit in Visits::new(problem, route) {
+        if breaks_limits(problem, &visit) {
+            return None;
+        }
+        length = length.checked_add(u64::from(visit.leg))?;
+    }
+    Some(length)
+}
+
+// Whether a rule on loads or times is broken at a visit.
+fn breaks_limits(problem: &Problem, visit: &Visit) -> bool
+    ensures { result ≡ breaks_limits problem.now visit.now }
+{
+    carries_more(visit, problem.capacity) || breaks_window(problem.kind, visit)
+}
+
+// Whether service starts too late in a problem with time windows.
+fn breaks_window(kind: Kind, visit: &Visit) -> bool
+    ensures { result ≡ breaks_window kind visit.now }
+{
+    match kind {
+        Kind::LiLim => starts_late(visit),
+        Kind::Vrp => false,
+    }
+}
 
 /// The first stop of the plan after which a vehicle carries more than it can.
 pub(crate) fn first_overload(problem: &Problem, routes: &[Route]) -> Option<Fault>
@@ -80,9 +140,13 @@ pub(crate) fn late_stop(problem: &Problem, route: &[u32]) -> Option<Told>
     ensures told { result ≡ first_place (visit_told problem.now is_late route.now) 0 route.now }
     ensures fits { IfSome result (λ t. t.place + 1 < 2 ^ 64) }
 {
-    first_visit(problem, route, |visit| {
-        visit.start > u64::from(visit.stop.latest)
-    })
+    first_visit(problem, route, |visit| starts_late(&visit))
+}
+
+fn starts_late(visit: &Visit) -> bool
+    ensures { result ≡ is_late visit.now }
+{
+    visit.start > u64::from(visit.stop.latest)
 }
 
 // The first stop whose visit fails the test.

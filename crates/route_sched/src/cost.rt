@@ -84,7 +84,8 @@ fn is_in(route: &Route, number: u32) -> bool
     route.as_slice().contains(&number)
 }
 
-fn vehicle_count(kind: Kind, routes: &[Route]) -> u64
+/// How many vehicles count: those of the nonempty routes, none in a problem of kind `Vrp`.
+pub fn vehicle_count(kind: Kind, routes: &[Route]) -> u64
     ensures { result ≡ vehicle_count kind routes.now }
 {
     match kind {

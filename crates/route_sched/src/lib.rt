@@ -2,8 +2,8 @@
 //!
 //! Called by the auditor (`plan_audit`), the moves and the search, and by all that prints figures of a plan.
 //! `starts`, `loads` and `route_distance` tell of one route, `Visits` walks along it without memory,
-//! `plan_cost` and `routes_cost` price a plan. The tables of routes (`slack_tables`) are proved against these
-//! definitions.
+//! `plan_cost` and `routes_cost` price a plan, `vehicle_count` says how many vehicles count in it. The tables
+//! of routes (`slack_tables`) are proved against these definitions.
 //!
 //! Modules, in reading order:
 //! - `places`: the stop at each place of a route; the depot stands before the first and behind the last.
@@ -30,7 +30,7 @@
 //!
 //! Proved:
 //! - `starts`, `loads` and `route_distance` are `starts_of`, `loads_of` and `route_length`; `plan_cost` and
-//!   `routes_cost` are `cost_of`;
+//!   `routes_cost` are `cost_of`, `vehicle_count` is the definition of the same name;
 //! - `Visits` gives `visits_from` each place on, and its size hints are exact;
 //! - `schedules_agree`: problems with the same depot and the same stops for a route's numbers give the route
 //!   the same starts, loads and length.
@@ -42,7 +42,7 @@ mod places;
 mod schedule;
 mod visits;
 
-pub use cost::{plan_cost, routes_cost};
+pub use cost::{plan_cost, routes_cost, vehicle_count};
 pub use laws::schedules_agree;
 pub use schedule::{loads, route_distance, starts};
 pub use visits::{Visit, Visits};

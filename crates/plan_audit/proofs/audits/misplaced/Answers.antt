@@ -1,5 +1,5 @@
 use Rattle.std.proofs.Common.{sym}
-use Rattle.plan_audit.proofs.StepLemmas.{below_from, live_where, unknown_step, repeated_step, unserved_step, missing_step, split_step, delivered_step, placed_step}
+use Rattle.plan_audit.proofs.StepLemmas.{below_from, plan_where, unknown_step, repeated_step, unserved_step, missing_step, split_step, delivered_step, placed_step}
 use Rattle.plan_audit.proofs.audits.misplaced.Goals as goal
 
 pub returns-in-Some-clause-least : goal.returns-in-Some-clause-least
@@ -23,8 +23,8 @@ returns-in-Some-first_split-clause-least c = λ s is asked. split_step c.args.sc
 pub returns-in_err-fault-clause-least : goal.returns-in_err-fault-clause-least
 returns-in_err-fault-clause-least c = λ s is asked. rw c.from_residual.ensures (placed_step c.args.scan.now.problem.now c.args.scan.now.routes.now c.requires s is c.args.unserved asked (sym c.in_default.ensures.told) (sym c.in_default-first_repeated.ensures.told) c.in_default-unserved.is (sym c.in_default-first_missing.ensures.told) (sym c.in_default-first_split.ensures.told) (sym c.in_err-fault.ensures.told))
 
-pub returns-in_err-fault-clause-live : goal.returns-in_err-fault-clause-live
-returns-in_err-fault-clause-live c = rw c.from_residual.ensures (live_where c.args.scan.now.problem.now c.args.scan.now.routes.now (sym c.in_default.ensures.told) (sym c.in_default-first_repeated.ensures.told))
+pub returns-in_err-fault-clause-plan : goal.returns-in_err-fault-clause-plan
+returns-in_err-fault-clause-plan c = rw c.from_residual.ensures (plan_where c.args.scan.now.problem.now c.args.scan.now.routes.now (sym c.in_default.ensures.told) (sym c.in_default-first_repeated.ensures.told))
 
 pub returns-clause-least : goal.returns-clause-least
 returns-clause-least c = λ s is asked. delivered_step c.args.scan.now.problem.now c.args.scan.now.routes.now c.requires s is c.args.unserved asked (sym c.in_default.ensures.told) (sym c.in_default-first_repeated.ensures.told) c.in_default-unserved.is (sym c.in_default-first_missing.ensures.told) (sym c.in_default-first_split.ensures.told) c.in_ok-fault.fault _ c.broken_at-2.ensures (sym c.in_ok-fault.ensures.told)

@@ -1,0 +1,16 @@
+use Rattle.std.proofs.Common.{◌≡◌, ◌+◌, false}
+use Rattle.std.specs.List.{AllByRecursion}
+use Rattle.route_sched.specs.Schedule.{route_length}
+use Rattle.route_sched.specs.Visiting.{visits_from}
+use Rattle.plan_audit.specs.Finding.{breaks_limits, KeepsLimits}
+use Rattle.plan_audit.proofs.DriveLemmas.{legs}
+use Rattle.plan_audit.proofs.timing.kept_length.Given as goal
+
+-- the way so far and that of the visits that are left are the whole way; where those keep the limits, all do
+abbrev pub invariant-loop-visit : goal.invariant-loop-visit
+invariant-loop-visit l =
+    let left = visits_from l.visit-iterator.problem l.visit-iterator.route l.visit-iterator.place in
+    record {
+      way : l.length + legs left ≡ route_length l.problem l.route;
+      kept : AllByRecursion (λ v. breaks_limits l.problem v ≡ false) left → KeepsLimits l.problem l.route;
+    }
