@@ -200,6 +200,7 @@ pub(crate) fn best_of(
     costs_compare_part_by_part();
     costs_are_in_order();
     let mut best = None;
+    let mut below = i64::MAX;
     let mut has_idle = false;
     for k in 0..end {
         let table = &tables[k];
@@ -210,15 +211,43 @@ pub(crate) fn best_of(
             }
             has_idle = true;
         }
-        look_at(problem, request, table, pins, vehicle, &mut best);
+        below = look_at(problem, request, table, pins, vehicle, below, &mut best);
     }
     best
 }
 
-// Lets the best insertion so far become a better one at this vehicle, if there is one. It is written in its place, since to copy it takes
-// longer than to look at a vehicle that is too far away; the pin is looked up of the others alone.
+// Lets the best insertion so far become a better one at this vehicle, if there is one. What an insertion at a used vehicle must add less
+// than is handed on as one number, since most vehicles are only asked whether that rules them out.
 #[inline(always)]
 fn look_at(
+    problem: &Problem,
+    request: &Request,
+    table: &Tour,
+    pins: &[Route],
+    vehicle: u64,
+    below: i64,
+    best: &mut Option<Found>,
+) -> i64
+    requires problem { IsInstance problem.now }
+    requires course { IsCourseIn problem.now table.now }
+    requires request { request_named problem.now (request_name request.now) ≡ Some request.now }
+    requires valid { IsRequest request.now }
+    requires pin { length (of_vehicle pins.now vehicle) ≤ length table.now.stops }
+    requires below { bound_of false best.old ≡ Some below }
+    ensures better { IsBetter problem.now (route_of table.now) request.now
+        (length (of_vehicle pins.now vehicle)) vehicle best.old best.new }
+    ensures below { bound_of false best.new ≡ Some result }
+{
+    if table.stop_count() != 0 && table.table().rules_out(request, below) {
+        return below;
+    }
+    look_closer(problem, request, table, pins, vehicle, best);
+    bound_of_used(best)
+}
+
+// The same, at each place of a vehicle that isn't ruled out. It is written in its place, and the pin is looked up of such vehicles alone.
+#[inline(never)]
+fn look_closer(
     problem: &Problem,
     request: &Request,
     table: &Tour,
@@ -238,9 +267,6 @@ fn look_at(
     let Some(below) = bound(opens, best) else {
         return;
     };
-    if table.table().rules_out(request, below) {
-        return;
-    }
     let kept = of_vehicle(pins, vehicle).len() as u64;
     if let Some(addition) = table.table().best_places(request, kept, below) {
         *best = Some(Found {
@@ -279,4 +305,12 @@ fn bound(opens: bool, best: &Option<Found>) -> Option<i64>
             Some(best.addition.distance)
         }
     }
+}
+
+// The same where it opens no vehicle.
+#[inline(always)]
+fn bound_of_used(best: &Option<Found>) -> i64
+    ensures { bound_of false best.now ≡ Some result }
+{
+    bound(false, best).unwrap()
 }
