@@ -11,6 +11,7 @@ ghost use Rattle.std.specs.Option.{option_map};
 ghost use Rattle.plan_types.specs.Instance.{IsInstance};
 ghost use Rattle.plan_types.specs.Request.{request_name, IsRequest};
 ghost use Rattle.slack_tables.specs.Course.{route_of, IsCourseIn};
+ghost use Rattle.slack_tables.specs.RequestFloors.{AreWays};
 ghost use Rattle.move_ops.specs.Insertion.{request_named, of_vehicle, best_insertion};
 ghost use Rattle.plan_audit.specs.Passes.{passes};
 ghost use Rattle.move_ops.specs.Refreshing.{fresh_of};
@@ -26,7 +27,7 @@ use plan_types::{
     Kind, OutOfMemory, Pins, Plan, Problem, Request, Route, costs_are_in_order,
     costs_compare_part_by_part, requests_are_found_by_stop, requests_stand_by_name,
 };
-use slack_tables::Addition;
+use slack_tables::{Addition, RequestWays};
 use std::alloc::Global;
 use std::marker::Model;
 
@@ -199,6 +200,7 @@ pub(crate) fn best_of(
     tests_say_feasible();
     costs_compare_part_by_part();
     costs_are_in_order();
+    let ways = RequestWays::of(&problem.depot, request);
     let mut best = None;
     let mut below = i64::MAX;
     let mut has_idle = false;
@@ -211,7 +213,9 @@ pub(crate) fn best_of(
             }
             has_idle = true;
         }
-        below = look_at(problem, request, table, pins, vehicle, below, &mut best);
+        below = look_at(
+            problem, request, &ways, table, pins, vehicle, below, &mut best,
+        );
     }
     best
 }
@@ -222,6 +226,7 @@ pub(crate) fn best_of(
 fn look_at(
     problem: &Problem,
     request: &Request,
+    ways: &RequestWays,
     table: &Tour,
     pins: &[Route],
     vehicle: u64,
@@ -232,16 +237,17 @@ fn look_at(
     requires course { IsCourseIn problem.now table.now }
     requires request { request_named problem.now (request_name request.now) ≡ Some request.now }
     requires valid { IsRequest request.now }
+    requires ways { AreWays problem.now.depot request.now ways.now }
     requires pin { length (of_vehicle pins.now vehicle) ≤ length table.now.stops }
     requires below { bound_of false best.old ≡ Some below }
     ensures better { IsBetter problem.now (route_of table.now) request.now
         (length (of_vehicle pins.now vehicle)) vehicle best.old best.new }
     ensures below { bound_of false best.new ≡ Some result }
 {
-    if table.stop_count() != 0 && table.table().rules_out(request, below) {
+    if table.stop_count() != 0 && table.table().rules_out_by(request, ways, below) {
         return below;
     }
-    look_closer(problem, request, table, pins, vehicle, best);
+    look_closer(problem, request, ways, table, pins, vehicle, best);
     bound_of_used(best)
 }
 
@@ -250,6 +256,7 @@ fn look_at(
 fn look_closer(
     problem: &Problem,
     request: &Request,
+    ways: &RequestWays,
     table: &Tour,
     pins: &[Route],
     vehicle: u64,
@@ -259,6 +266,7 @@ fn look_closer(
     requires course { IsCourseIn problem.now table.now }
     requires request { request_named problem.now (request_name request.now) ≡ Some request.now }
     requires valid { IsRequest request.now }
+    requires ways { AreWays problem.now.depot request.now ways.now }
     requires pin { length (of_vehicle pins.now vehicle) ≤ length table.now.stops }
     ensures { IsBetter problem.now (route_of table.now) request.now
         (length (of_vehicle pins.now vehicle)) vehicle best.old best.new }
@@ -268,7 +276,7 @@ fn look_closer(
         return;
     };
     let kept = of_vehicle(pins, vehicle).len() as u64;
-    if let Some(addition) = table.table().best_places(request, kept, below) {
+    if let Some(addition) = table.table().best_places_by(request, ways, kept, below) {
         *best = Some(Found {
             vehicle,
             opens,

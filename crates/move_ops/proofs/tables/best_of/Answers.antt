@@ -34,6 +34,12 @@ loop-k-preserved-then-has_idle c =
 pub look_at-below-requires-clause-course : goal.look_at-below-requires-clause-course
 look_at-below-requires-clause-course c = course_at c.args.tables.now c.loop-k.k c.index-tables-k.result c.index-tables-k.is (omega arith) c.args.problem.now c.requires.asked.tables
 
+pub of-ways-requires : goal.of-ways-requires
+of-ways-requires c =
+    request_valid c.requests_are_found_by_stop.ensures c.requests_stand_by_name.ensures c.passes_are_local.ensures c.tests_say_feasible.ensures c.costs_compare_part_by_part.ensures.below_tells
+    c.costs_compare_part_by_part.ensures.at_most_tells c.costs_are_in_order.ensures.total c.costs_are_in_order.ensures.transitive c.costs_are_in_order.ensures.below_then_at_most
+    c.costs_are_in_order.ensures.at_most_then_below c.costs_are_in_order.ensures.below_is_at_most c.args.problem.now c.args.pins.now c.args.tables.now c.args.request.now c.requires.asked
+
 pub look_at-below-requires-clause-valid : goal.look_at-below-requires-clause-valid
 look_at-below-requires-clause-valid c =
     request_valid c.requests_are_found_by_stop.ensures c.requests_stand_by_name.ensures c.passes_are_local.ensures c.tests_say_feasible.ensures c.costs_compare_part_by_part.ensures.below_tells

@@ -3,7 +3,8 @@ use mir.Val.{SFits}
 use Rattle.std.proofs.lemmas.Bool.Decides.{eqb_tells}
 use Rattle.std.proofs.lemmas.Int.{to_z-of_z}
 use Rattle.std.proofs.lemmas.List.{length-map}
-use Rattle.slack_tables.specs.Course.{route_of}
+use Rattle.slack_tables.specs.Course.{Course, route_of}
+use Rattle.slack_tables.specs.RequestFloors.{AreFloors}
 use Rattle.slack_tables.specs.FitsNowhere.{FitsNowhere}
 use Rattle.plan_types.specs.Request.{request_name}
 use Rattle.move_ops.specs.Choosing.{opens, bound_of, IsBetterBelow}
@@ -11,15 +12,15 @@ use Rattle.move_ops.specs.Insertion.{of_vehicle}
 use Rattle.move_ops.proofs.Choosing.{used_opens}
 use Rattle.move_ops.proofs.tables.look_at.Goals as goal
 
-pub returns-then-rules_out : goal.returns-then-rules_out
-returns-then-rules_out c =
+pub returns-then-rules_out_by : goal.returns-then-rules_out_by
+returns-then-rules_out_by c =
     let p = c.args.problem.now in
     let r = c.args.request.now in
     let route = route_of c.args.table.now in
     let kept = length (of_vehicle c.args.pins.now c.args.vehicle) in
     let below : SFits w64 c.args.below = record { sfits = c.ranges.below.sfits } in
     let stays = to_z-of_z w64 c.args.below below in
-    let out : FitsNowhere c.args.table.now r c.args.below = subst (λ q. FitsNowhere q r c.args.below) c.table.ensures (subst (FitsNowhere c.table.result.now r) stays (c.rules_out.ensures c.if-rules_out.true)) in
+    let out : FitsNowhere c.args.table.now r c.args.below = subst (λ q. FitsNowhere q r c.args.below) c.table.ensures (subst (FitsNowhere c.table.result.now r) stays (c.rules_out_by.ensures c.if-rules_out_by.true)) in
     let long = length-map c.args.table.now.stops (λ s. s.number) in
     let count = c.stop_count.ensures.count in
     let some : eqb (length route) 0 ≡ false = elim (eqb_tells (length route) 0) [
@@ -33,3 +34,8 @@ returns-then-rules_out c =
           (None, out p (request_name r) kept c.requires.problem c.requires.course c.requires.request, refl));
       below = c.requires.below ∙ ap Some (sym stays);
     }
+
+pub rules_out_by-requires : goal.rules_out_by-requires
+rules_out_by-requires c =
+    subst (λ (q : Course). AreFloors q.depot c.args.request.now c.args.ways.now) (sym c.table.ensures)
+    (subst (λ d. AreFloors d c.args.request.now c.args.ways.now) (ap (λ (q : Course). q.depot) c.requires.course) c.requires.ways.floors)
