@@ -2,7 +2,9 @@
 use Rattle.std.proofs.Common.{◌≡◌, ℕ, zero, suc, ◌+◌, ◌-◌, ◌<◌, ◌≤◌, ℤ, pos, ◌+ℤ◌, ◌-ℤ◌, ◌<ℤ◌, ◌≤ℤ◌, eqb, ltb, leb, cond, ◌&&◌, Bool, true, false, not, List, [], ◌∷◌, length, length-append, take, drop, get_or, slice_get, Option, Some, None, refl, sym, ap, subst, ◌∙◌, inl, inr, arith, nat_eq}
 use Rattle.std.specs.List.{AllByRecursion, Contains, insert}
 use Rattle.std.specs.Map.{lookup}
-use Rattle.std.specs.Prelude.{MatchOption, unwrap_or}
+use Rattle.std.specs.Prelude.{◌==◌, IsSome, MatchOption, unwrap_or}
+use Rattle.plan_types.specs.declared.requests.Kind.{Kind}
+use Rattle.plan_types.specs.declared.requests.Kind.TheVariants.{LiLim, Vrp}
 use Rattle.std.specs.Option.{option_map, option_map_or, option_or}
 use Rattle.std.proofs.lemmas.Bool.{cases_lt, and_from, and_parts, eq-eqb, eqb-true, ltb-true, lt-ltb, leb-true, le-leb}
 use Rattle.std.proofs.lemmas.Bool.Decides.{eqb_tells}
@@ -26,7 +28,7 @@ use Rattle.slack_tables.specs.Insertion.{KeepsLimits, ArePlaces, inserted}
 use Rattle.slack_tables.specs.declared.scan.Addition.{Addition}
 use Rattle.move_ops.specs.Insertion.{Insertion, of_vehicle, are_places, is_place_of, insertions_of, insertions, best_insertion, cost_with, is_no_worse}
 use Rattle.move_ops.specs.Laws.{IsBest, BestInsertionsAreLeast, BestInsertionsAreUnique}
-use Rattle.move_ops.specs.Choosing.{opens, place_found, found_at, IsBestAmong, IsBestUpTo, HasIdle, IsBetterBelow, IsBetter}
+use Rattle.move_ops.specs.Choosing.{opens, bound_of, place_found, found_at, IsBestAmong, IsBestUpTo, HasIdle, IsBetterBelow, IsBetter}
 use Rattle.move_ops.specs.declared.tables.Found.{Found}
 use Rattle.move_ops.proofs.Times.{none_some, some_same, times}
 use Rattle.move_ops.proofs.Inserting.{numbers_of, nowhere, passes_where_feasible}
@@ -169,6 +171,19 @@ module _ (local : PassesAreLocal) (p : Instance) (pins routes : List (List ℕ))
       by : (o : Option (List ℕ)) → item_at pins v ≡ o → length (unwrap_or o []) ≤ length (of_vehicle routes v)
       by None at = omega arith
       by (Some pin) at = of_pin pin at (length pin) refl
+
+-- a route with stops opens no vehicle, and a bound that opens none is always there
+pub used_opens : (kind : Kind) (route : List ℕ) → (length route == 0) ≡ false → opens kind route ≡ false
+used_opens LiLim route some = some
+used_opens Vrp route some = refl
+
+pub bound_used : (best : Option Found) → IsSome (bound_of false best)
+bound_used None = refl
+bound_used (Some f) = by f.opens f.addition.distance
+  where
+    by : (b : Bool) (x : ℤ) → IsSome (cond (b && not false) (Some (pos 9223372036854775807)) (cond (false && not b) None (Some x)))
+    by true x = refl
+    by false x = refl
 
 no_stops : (xs ys : List ℕ) → length xs ≡ 0 → length ys ≡ 0 → xs ≡ ys
 no_stops [] [] none also = refl

@@ -19,6 +19,7 @@ pub mod Installing
 pub mod Keeping
 pub mod Leaving
 pub mod LimitRules
+pub mod NamedFound
 pub mod Logging
 pub mod Places
 pub mod Placing

@@ -17,7 +17,7 @@
 //!   counts once; one that is placed is one less.
 //!
 //! Problem and pins are given in each call and tied to the draft by `IsDraftOf`, so the type borrows nothing.
-ghost use Rattle.std.specs.Prelude.{◌≡◌, ◌≤◌, ◌<◌, ◌-◌, ◌==◌, not, true, false, ℕ, List, Some, IfOk, MatchOption, length, slice_get, slice_set, slice_index_or};
+ghost use Rattle.std.specs.Prelude.{◌≡◌, ◌≤◌, ◌<◌, ◌-◌, ◌==◌, not, true, false, ℕ, List, Some, IfOk, MatchOption, IsTrue, length, slice_get, slice_set, slice_index_or};
 ghost use Rattle.slack_tables.specs.Course.{Course};
 ghost use Rattle.plan_types.specs.Instance.{Instance};
 ghost use Rattle.plan_audit.specs.Passes.{passes};
@@ -258,6 +258,14 @@ impl Draft {
         ensures { result ≡ cost_of problem.now (draft_of self.now) }
     {
         self.cost
+    }
+
+    /// Whether the draft is known to be the base, without a look at either: so it is where nothing was changed since. One that was
+    /// changed and changed back isn't known to be.
+    pub fn is_base(&self) -> bool
+        ensures { IsTrue result → draft_of self.now ≡ base_of self.now }
+    {
+        !self.is_changed()
     }
 
     // Whether the draft was changed since it was the base.

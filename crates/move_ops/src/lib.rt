@@ -12,7 +12,7 @@
 //!   and `installing`, which they share.
 //! - `lists`, `insert`, `removal`, `swap`: routes and pins by vehicle, and the stops of new routes.
 //! - `pairing`, `tour`, `tours`, `changes`: a route with its table, and what is asked of a new one.
-//! - `seats`: where to look for a stop.
+//! - `seats`, `naming`: where to look for a stop, and the request of a name.
 //! - `tables`: the best insertion, by a table for each vehicle.
 //! - `laws`: what the best insertion is, without code.
 //!
@@ -46,6 +46,7 @@ mod draft;
 mod insert;
 mod laws;
 mod lists;
+mod naming;
 mod pairing;
 mod plan_moves;
 mod removal;

@@ -11,6 +11,7 @@ ghost use Rattle.std.specs.Option.{option_map};
 ghost use Rattle.plan_types.specs.Instance.{IsInstance};
 ghost use Rattle.plan_types.specs.Request.{request_name, IsRequest};
 ghost use Rattle.slack_tables.specs.Course.{route_of, IsCourseIn};
+ghost use Rattle.slack_tables.specs.RequestFloors.{AreWays};
 ghost use Rattle.move_ops.specs.Insertion.{request_named, of_vehicle, best_insertion};
 ghost use Rattle.plan_audit.specs.Passes.{passes};
 ghost use Rattle.move_ops.specs.Refreshing.{fresh_of};
@@ -26,7 +27,7 @@ use plan_types::{
     Kind, OutOfMemory, Pins, Plan, Problem, Request, Route, costs_are_in_order,
     costs_compare_part_by_part, requests_are_found_by_stop, requests_stand_by_name,
 };
-use slack_tables::Addition;
+use slack_tables::{Addition, RequestWays};
 use std::alloc::Global;
 use std::marker::Model;
 
@@ -199,7 +200,9 @@ pub(crate) fn best_of(
     tests_say_feasible();
     costs_compare_part_by_part();
     costs_are_in_order();
+    let ways = RequestWays::of(&problem.depot, request);
     let mut best = None;
+    let mut below = i64::MAX;
     let mut has_idle = false;
     for k in 0..end {
         let table = &tables[k];
@@ -210,17 +213,50 @@ pub(crate) fn best_of(
             }
             has_idle = true;
         }
-        look_at(problem, request, table, pins, vehicle, &mut best);
+        below = look_at(
+            problem, request, &ways, table, pins, vehicle, below, &mut best,
+        );
     }
     best
 }
 
-// Lets the best insertion so far become a better one at this vehicle, if there is one. It is written in its place, since to copy it takes
-// longer than to look at a vehicle that is too far away; the pin is looked up of the others alone.
+// Lets the best insertion so far become a better one at this vehicle, if there is one. What an insertion at a used vehicle must add less
+// than is handed on as one number, since most vehicles are only asked whether that rules them out.
 #[inline(always)]
 fn look_at(
     problem: &Problem,
     request: &Request,
+    ways: &RequestWays,
+    table: &Tour,
+    pins: &[Route],
+    vehicle: u64,
+    below: i64,
+    best: &mut Option<Found>,
+) -> i64
+    requires problem { IsInstance problem.now }
+    requires course { IsCourseIn problem.now table.now }
+    requires request { request_named problem.now (request_name request.now) ≡ Some request.now }
+    requires valid { IsRequest request.now }
+    requires ways { AreWays problem.now.depot request.now ways.now }
+    requires pin { length (of_vehicle pins.now vehicle) ≤ length table.now.stops }
+    requires below { bound_of false best.old ≡ Some below }
+    ensures better { IsBetter problem.now (route_of table.now) request.now
+        (length (of_vehicle pins.now vehicle)) vehicle best.old best.new }
+    ensures below { bound_of false best.new ≡ Some result }
+{
+    if table.stop_count() != 0 && table.table().rules_out_by(request, ways, below) {
+        return below;
+    }
+    look_closer(problem, request, ways, table, pins, vehicle, best);
+    bound_of_used(best)
+}
+
+// The same, at each place of a vehicle that isn't ruled out. It is written in its place, and the pin is looked up of such vehicles alone.
+#[inline(never)]
+fn look_closer(
+    problem: &Problem,
+    request: &Request,
+    ways: &RequestWays,
     table: &Tour,
     pins: &[Route],
     vehicle: u64,
@@ -230,6 +266,7 @@ fn look_at(
     requires course { IsCourseIn problem.now table.now }
     requires request { request_named problem.now (request_name request.now) ≡ Some request.now }
     requires valid { IsRequest request.now }
+    requires ways { AreWays problem.now.depot request.now ways.now }
     requires pin { length (of_vehicle pins.now vehicle) ≤ length table.now.stops }
     ensures { IsBetter problem.now (route_of table.now) request.now
         (length (of_vehicle pins.now vehicle)) vehicle best.old best.new }
@@ -238,11 +275,8 @@ fn look_at(
     let Some(below) = bound(opens, best) else {
         return;
     };
-    if table.table().rules_out(request, below) {
-        return;
-    }
     let kept = of_vehicle(pins, vehicle).len() as u64;
-    if let Some(addition) = table.table().best_places(request, kept, below) {
+    if let Some(addition) = table.table().best_places_by(request, ways, kept, below) {
         *best = Some(Found {
             vehicle,
             opens,
@@ -279,4 +313,12 @@ fn bound(opens: bool, best: &Option<Found>) -> Option<i64>
             Some(best.addition.distance)
         }
     }
+}
+
+// The same where it opens no vehicle.
+#[inline(always)]
+fn bound_of_used(best: &Option<Found>) -> i64
+    ensures { bound_of false best.now ≡ Some result }
+{
+    bound(false, best).unwrap()
 }

@@ -4,6 +4,7 @@ pub mod Course
 pub mod FitsNowhere
 pub mod Insertion
 pub mod Latest
+pub mod RequestFloors
 -- what private functions do
 pub mod Along
 pub mod Closed

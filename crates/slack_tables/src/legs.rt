@@ -19,6 +19,9 @@ use plan_types::Stop;
 /// Of so many places the least detours are kept, since that takes no memory from the allocator.
 pub(crate) const ROOM: usize = 128;
 
+/// Of fewer places in less memory, which is cleared in less time.
+pub(crate) const SHORT: usize = 32;
+
 // No detour is as long.
 const FAR: i64 = 1 << 60;
 

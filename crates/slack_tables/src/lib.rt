@@ -2,8 +2,8 @@
 //! it gets.
 //!
 //! `RouteTable::build` makes the table of a route, `try_insert` prices one pair of places, `best_places`
-//! finds the best of all places. The moves (`move_ops`) keep a table for each vehicle, and ask `rules_out` and
-//! then `best_places` for each request that they put in.
+//! finds the best of all places. The moves (`move_ops`) keep a table for each vehicle, and ask `rules_out_by` and
+//! then `best_places_by` for each request that they put in, whose `RequestWays` they compute once.
 //!
 //! Modules, in reading order:
 //! - `table`: the table, and the passes that fill it.
@@ -12,11 +12,11 @@
 //! - `insertion`: what one insertion adds (`try_insert`).
 //! - `scan`: the best of all insertions (`best_places`), with `closed`, `legs` and `ride`, which leave out
 //!   places by times, by prices from below, and drive along known ways.
-//! - `span`: bounds by which a whole scan is left out.
+//! - `request`, `span`: the ways of a request that no route has a part in, and bounds by which a whole scan is left out.
 //! - `front`, `ways`: what is taken from a table of a route that differs little.
 //!
-//! Specs: `Course` (what the schedule of a route depends on), `Latest`, `Insertion`, `Best` and `FitsNowhere` say
-//! what public functions answer; the others follow the modules.
+//! Specs: `Course` (what the schedule of a route depends on), `Latest`, `Insertion`, `RequestFloors`, `Best` and
+//! `FitsNowhere` say what public functions take and answer; the others follow the modules.
 //!
 //! Source: the forward time slack of routing with time windows (Savelsbergh), in whole numbers and with
 //! rounded distances, which break the triangle inequality.
@@ -40,7 +40,8 @@
 //! - `best_places`: of all places behind the pin where the new route keeps the limits and gets longer by less
 //!   than a bound, the first by distance, pickup place and delivery place; none exactly where there is none;
 //!   without memory. `best_places_are_one`: there is one such answer;
-//! - `rules_out`: true only where `best_places` finds none below that bound, wherever the pin ends.
+//! - `rules_out`: true only where `best_places` finds none below that bound, wherever the pin ends;
+//! - `rules_out_by` and `best_places_by`: the same, by ways that `RequestWays::of` gives.
 #![tactic(auto)]
 
 mod closed;
@@ -48,6 +49,7 @@ mod front;
 mod insertion;
 mod legs;
 mod progress;
+mod request;
 mod ride;
 mod scan;
 mod slack;
@@ -55,5 +57,6 @@ mod span;
 mod table;
 mod ways;
 
+pub use request::RequestWays;
 pub use scan::{Addition, best_places_are_one};
 pub use table::RouteTable;

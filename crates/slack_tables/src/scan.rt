@@ -26,11 +26,10 @@ ghost use Rattle.slack_tables.specs.Ride.{IsSmallRide, IsNearRide};
 ghost use Rattle.slack_tables.specs.Scan.{AddsSingle, AddsPair, AddsDelivery, AreDear, IsNearUnderway, served_single, picked_up, gone_on, none_below, offered, accepted};
 
 use crate::closed::{first_open, is_closed, is_past};
-use crate::legs::{ROOM, fill_least, is_hopeless, least_leg_at, leg_at, small_row};
+use crate::legs::{ROOM, SHORT, fill_least, is_hopeless, least_leg_at, leg_at, small_row};
 use crate::progress::{Limits, Progress, Row, difference, is_in_time};
 use crate::ride::{Detour, Ride, price, ride_of, ride_on, serve_below};
 use crate::span::Span;
-use nint_dist::dist;
 use plan_types::Stop;
 
 /// Where a request is put into a route, and by how much the route gets longer.
@@ -93,22 +92,25 @@ impl Best {
     }
 }
 
-/// Whether a route's span tells that a single fits nowhere into the route for less than `below`.
+/// Whether a route's span tells that a single fits nowhere into the route for less than `below`, where the depot is no nearer to it than
+/// `home`.
 #[inline(always)]
 pub(crate) fn rules_out_single(
     limits: Limits,
     span: &Span,
-    depot: &Stop,
     stop: &Stop,
+    home: u64,
     below: i64,
 ) -> bool
     requires small { IsSmallSpan span.now }
-    ensures { result ≡ true → RulesOut limits span.now depot.now stop.now below }
+    requires home { home ≤ 2 ^ 33 }
+    ensures { result ≡ true → (depot : Stop) → home ≤ distance depot stop.now
+        → RulesOut limits span.now depot stop.now below }
 {
     if span.is_full(limits, stop) {
         return true;
     }
-    span.is_far_single(depot, stop, below)
+    span.is_far_single(stop, home, below)
 }
 
 /// The best place of a single behind the first `kept` stops.
@@ -172,12 +174,13 @@ fn single_at(
     serve_below(below, limits, &ride, service, detour, stop, tail)
 }
 
-/// The best places of a pair, its pickup behind the first `kept` stops.
+/// The best places of a pair, its pickup behind the first `kept` stops and so far from its delivery.
 pub(crate) fn best_pair(
     limits: Limits,
     places: &[Row],
     pickup: &Stop,
     delivery: &Stop,
+    across: u64,
     kept: usize,
     below: i64,
 ) -> Option<Addition>
@@ -188,6 +191,8 @@ pub(crate) fn best_pair(
     requires few { length places.now ≤ 40003 }
     requires pickup { IsVisit pickup.now }
     requires delivery { IsVisit delivery.now }
+    requires across { across ≡ distance pickup.now delivery.now }
+    requires across_small { across ≤ 2 ^ 32 }
     requires kept { kept + 2 ≤ length places.now }
     ensures { (d : Row) → IsFirstOf
         (AddsPair limits places.now pickup.now delivery.now kept below d) result }
@@ -200,14 +205,40 @@ pub(crate) fn best_pair(
         limits,
         pickup: *pickup,
         delivery: *delivery,
-        across: u64::from(dist(pickup, delivery)),
+        across,
     };
     if places.len() > ROOM {
         return best_from(&trip, places, &[], first, below);
     }
-    let mut least = [0; ROOM];
-    fill_least(&mut least[..places.len()], places, delivery, first);
-    best_from(&trip, places, &least[..places.len()], first, below)
+    if places.len() > SHORT {
+        return best_with_room(&trip, places, &mut [0; ROOM], first, below);
+    }
+    best_with_room(&trip, places, &mut [0; SHORT], first, below)
+}
+
+// The same with room for the least detours from each place on.
+fn best_with_room(
+    trip: &Trip,
+    places: &[Row],
+    room: &mut [i64],
+    first: usize,
+    below: i64,
+) -> Option<Addition>
+    requires trip { IsTrip trip.now }
+    requires places { All IsSmallRow places.now }
+    requires ways { AreLinked places.now }
+    requires rising { AreRising places.now }
+    requires tight { AreTight trip.now.limits.kind places.now }
+    requires few { length places.now ≤ 40003 }
+    requires from_one { 1 ≤ first }
+    requires within { first < length places.now }
+    requires room { length places.now ≤ length room.old }
+    ensures { (d : Row) → IsFirstOf (AddsPair trip.now.limits places.now trip.now.pickup
+        trip.now.delivery (first - 1) below d) result }
+{
+    let least = &mut room[..places.len()];
+    fill_least(least, places, &trip.delivery, first);
+    best_from(trip, places, least, first, below)
 }
 
 // A pair, the way from its pickup to its delivery, and what a vehicle must keep.

@@ -17,10 +17,12 @@ ghost use Rattle.plan_types.specs.declared.requests.Stop.{Stop};
 ghost use Rattle.nint_dist.specs.Distance.{distance};
 ghost use Rattle.slack_tables.specs.declared.progress.Row.{Row};
 ghost use Rattle.slack_tables.specs.Driven.{IsSmallRow};
-ghost use Rattle.slack_tables.specs.Span.{IsInside, IsSmallSpan, IsSpanTo, AreEnds, IsSpan, IsNearest, IsFloor, IsFloorOfPair, IsFarSingle, IsFarPair, edge_of};
+ghost use Rattle.slack_tables.specs.RequestFloors.{AreFloorsOfPair, AreSmallWays};
+ghost use Rattle.slack_tables.specs.Span.{IsInside, IsSmallSpan, IsSpanTo, AreEnds, IsSpan, IsFloor, IsFloorOfPair, IsFarSingle, IsFarPair, edge_of};
 
 use crate::legs::small_row;
 use crate::progress::{Limits, Row, difference};
+use crate::request::RequestWays;
 use nint_dist::distances_are_nearest_roots;
 use plan_types::Stop;
 
@@ -152,40 +154,49 @@ impl Span {
         self.load + i64::from(stop.demand) > i64::from(limits.capacity)
     }
 
-    /// Whether a single adds `below` or more wherever it is put in.
-    pub(crate) fn is_far_single(&self, depot: &Stop, stop: &Stop, below: i64) -> bool
+    /// Whether a single adds `below` or more wherever it is put in, where the depot is no nearer to it than `home`.
+    pub(crate) fn is_far_single(&self, stop: &Stop, home: u64, below: i64) -> bool
         requires small { IsSmallSpan self.now }
-        ensures { IsTrue result → IsFarSingle self.now depot.now stop.now below }
+        requires home { home ≤ 2 ^ 33 }
+        ensures { IsTrue result → (depot : Stop) → home ≤ distance depot stop.now
+            → IsFarSingle self.now depot stop.now below }
     {
         let inside = self.least_inside(stop);
         if self.inner(inside) < below {
             return false;
         }
-        let near = self.nearest(depot, stop, inside);
-        self.floor(&near) >= below
+        self.floor(&Nearest { inside, home }) >= below
     }
 
-    /// Whether a pair adds `below` or more wherever it is put in.
+    /// Whether a pair adds `below` or more wherever it is put in, by its ways from below.
     pub(crate) fn is_far_pair(
         &self,
-        depot: &Stop,
         pickup: &Stop,
         delivery: &Stop,
+        ways: &RequestWays,
         below: i64,
     ) -> bool
         requires small { IsSmallSpan self.now }
-        ensures { IsTrue result → IsFarPair self.now depot.now pickup.now delivery.now below }
+        requires ways { AreSmallWays ways.now }
+        ensures { IsTrue result → (depot : Stop)
+            → AreFloorsOfPair depot pickup.now delivery.now ways.now
+            → IsFarPair self.now depot pickup.now delivery.now below }
     {
         let pickup_inside = self.least_inside(pickup);
         let delivery_inside = self.least_inside(delivery);
         if self.inner(pickup_inside) + self.inner(delivery_inside) < below {
             return false;
         }
-        let to_pickup = self.nearest(depot, pickup, pickup_inside);
-        let to_delivery = self.nearest(depot, delivery, delivery_inside);
-        let across = least_between(pickup, delivery);
+        let to_pickup = Nearest {
+            inside: pickup_inside,
+            home: ways.home,
+        };
+        let to_delivery = Nearest {
+            inside: delivery_inside,
+            home: ways.last_home,
+        };
         self.floor(&to_pickup) + self.floor(&to_delivery) >= below
-            && self.floor_of_pair(&to_pickup, &to_delivery, across) >= below
+            && self.floor_of_pair(&to_pickup, &to_delivery, ways.across) >= below
     }
 
     // What a stop adds at least between two stops of the route.
@@ -224,17 +235,6 @@ impl Span {
         let ends = (pickup.home + delivery.inside).min(pickup.inside + delivery.home);
         let outer = difference(ends + across, 0) - self.tips;
         inner.min(outer)
-    }
-
-    fn nearest(&self, depot: &Stop, stop: &Stop, inside: u64) -> Nearest
-        requires below { (s : Stop) → IsInside self.now s → inside ≤ distance s stop.now }
-        requires bound { inside ≤ 2 ^ 33 }
-        ensures { IsNearest self.now depot.now stop.now result }
-    {
-        Nearest {
-            inside,
-            home: least_between(depot, stop),
-        }
     }
 
     // No way from the stop to one inside is shorter.

@@ -22,6 +22,7 @@ ghost use Rattle.slack_tables.specs.Legs.{AreLinked};
 use crate::front::{behind_front, copy_front, same_front};
 use crate::insertion::{pair_added, single_added};
 use crate::progress::{Limits, Progress, Row, driven_on, keeps};
+use crate::request::RequestWays;
 use crate::scan::{Addition, best_pair, best_single, rules_out_single};
 use crate::slack::fill_slack;
 use crate::span::Span;
@@ -65,6 +66,7 @@ impl RouteTable {
     ghost use Rattle.slack_tables.specs.Insertion.{inserted, ArePlaces, KeepsLimits, IsAdded};
     ghost use Rattle.slack_tables.specs.Best.{IsBestAddition};
     ghost use Rattle.slack_tables.specs.FitsNowhere.{FitsNowhere};
+    ghost use Rattle.slack_tables.specs.RequestFloors.{AreFloors, AreWays};
 
     /// The table of a route of live, distinct stops that keeps the capacity and the windows.
     pub fn build(alloc: Global, problem: &Problem, route: &[u32]) -> Result<RouteTable, OutOfMemory>
@@ -240,13 +242,23 @@ impl RouteTable {
     pub fn rules_out(&self, request: &Request, below: i64) -> bool
         ensures { result ≡ true → FitsNowhere self.now request.now below }
     {
+        let ways = RequestWays::floors(&self.depot, request);
+        self.rules_out_by(request, &ways, below)
+    }
+
+    /// The same, for who asks many routes: by the ways that the request has in each of them.
+    #[inline(always)]
+    pub fn rules_out_by(&self, request: &Request, ways: &RequestWays, below: i64) -> bool
+        requires { AreFloors self.now.depot request.now ways.now }
+        ensures { result ≡ true → FitsNowhere self.now request.now below }
+    {
         requests_are_found_by_stop();
         match request {
             Request::Single(stop) => {
-                rules_out_single(self.limits, &self.span, &self.depot, stop, below)
+                rules_out_single(self.limits, &self.span, stop, ways.home, below)
             }
             Request::Pair(pickup, delivery) => {
-                self.span.is_far_pair(&self.depot, pickup, delivery, below)
+                self.span.is_far_pair(pickup, delivery, ways, below)
             }
         }
     }
@@ -264,6 +276,25 @@ impl RouteTable {
             → request_named p name ≡ Some request.now
             → IsBestAddition p (route_of self.now) request.now kept below result }
     {
+        let ways = RequestWays::of(&self.depot, request);
+        self.best_places_by(request, &ways, kept, below)
+    }
+
+    /// The same, for who asks many routes: by the ways that the request has in each of them.
+    pub fn best_places_by(
+        &self,
+        request: &Request,
+        ways: &RequestWays,
+        kept: u64,
+        below: i64,
+    ) -> Option<Addition>
+        requires request { IsRequest request.now }
+        requires ways { AreWays self.now.depot request.now ways.now }
+        requires kept { kept ≤ length self.now.stops }
+        ensures { (p : Instance) (name : ℕ) → IsInstance p → IsCourseIn p self.now
+            → request_named p name ≡ Some request.now
+            → IsBestAddition p (route_of self.now) request.now kept below result }
+    {
         requests_are_found_by_stop();
         let places = self.places.as_slice();
         match request {
@@ -275,6 +306,7 @@ impl RouteTable {
                 places,
                 pickup,
                 delivery,
+                ways.across,
                 kept as usize,
                 below,
             ),

@@ -21,6 +21,7 @@ use super::Draft;
 use crate::insert::{are_places, put_into};
 use crate::laws::best_insertions_are_least;
 use crate::lists::of_vehicle;
+use crate::naming::request_named;
 use crate::tables::best_of;
 use crate::tour::{Tour, tour_of};
 use plan_audit::{passes_are_local, tests_say_feasible};
@@ -41,11 +42,11 @@ impl Draft {
             ≡ placed problem.now pins.now.routes (draft_of self.old) name) }
         ensures err { OnErr result (self.new ≡ self.old) }
     {
-        let Some(request) = problem.requests.get(&name) else {
+        let Some(request) = request_named(problem, name) else {
             return Ok(());
         };
-        match self.best(problem, pins, request) {
-            Some(place) => self.put(problem, pins, request, place),
+        match self.best(problem, pins, &request) {
+            Some(place) => self.put(problem, pins, &request, place),
             None => Ok(()),
         }
     }
@@ -63,13 +64,13 @@ impl Draft {
             IsMade (put_in problem.now pins.now.routes (draft_of self.old) name place) made
             self.old self.new) }
     {
-        let Some(request) = problem.requests.get(&name) else {
+        let Some(request) = request_named(problem, name) else {
             return Ok(false);
         };
-        if !self.can_be_put(problem, pins, request, place)? {
+        if !self.can_be_put(problem, pins, &request, place)? {
             return Ok(false);
         }
-        self.put(problem, pins, request, place)?;
+        self.put(problem, pins, &request, place)?;
         Ok(true)
     }
 

@@ -15,6 +15,7 @@ ghost use Rattle.move_ops.specs.Drafts.{draft_of, base_of, IsDraftOf, IsMade};
 use super::Draft;
 use crate::changes::{Change, are_all_feasible};
 use crate::lists::of_vehicle;
+use crate::naming::request_named;
 use crate::swap::{counterparts, have_same_form};
 use crate::tour::tour_of;
 use plan_audit::{passes_are_local, plans_are_local, tests_say_feasible};
@@ -69,16 +70,16 @@ impl Draft {
         if a == b {
             return Ok(None);
         }
-        let Some(first) = problem.requests.get(&a) else {
+        let Some(first) = request_named(problem, a) else {
             return Ok(None);
         };
-        let Some(second) = problem.requests.get(&b) else {
+        let Some(second) = request_named(problem, b) else {
             return Ok(None);
         };
-        if !self.are_exchangeable(problem, pins, first, second) {
+        if !self.are_exchangeable(problem, pins, &first, &second) {
             return Ok(None);
         }
-        let changes = self.exchanges(first, second)?;
+        let changes = self.exchanges(&first, &second)?;
         if !are_all_feasible(problem, &self.tours, &changes) {
             return Ok(None);
         }

@@ -22,6 +22,7 @@ ghost use Rattle.move_ops.specs.Drafts.{draft_of, base_of, IsDraftOf, IsMade};
 
 use super::Draft;
 use crate::lists::is_in;
+use crate::naming::request_named;
 use crate::removal::keep_others;
 use crate::seats::unseat;
 use crate::tour::Tour;
@@ -82,9 +83,11 @@ impl Draft {
         ensures { self.new ≡ self.old }
     {
         requests_are_found_by_stop();
+        // That the problem keeps its limits is known where a field of it is read.
+        let _fleet = problem.fleet;
         for name in names {
-            if let Some(request) = problem.requests.get(name) {
-                self.clear_request(request);
+            if let Some(request) = request_named(problem, *name) {
+                self.clear_request(&request);
             }
         }
     }
@@ -204,8 +207,8 @@ impl Draft {
             vehicles.old.items vehicles.new.items) }
     {
         requests_stand_by_name();
-        match problem.requests.get(&name) {
-            Some(request) => self.note_request(request, vehicles),
+        match request_named(problem, name) {
+            Some(request) => self.note_request(&request, vehicles),
             None => Ok(()),
         }
     }
@@ -263,8 +266,8 @@ impl Draft {
         requires { IsDraftOf problem.now pins.now.routes self.now }
         ensures { result ≡ is_movable_name problem.now pins.now.routes (draft_of self.now) name }
     {
-        match problem.requests.get(&name) {
-            Some(request) => self.is_movable(problem, pins, request),
+        match request_named(problem, name) {
+            Some(request) => self.is_movable(problem, pins, &request),
             None => false,
         }
     }

@@ -1,4 +1,6 @@
-use Rattle.std.proofs.Common.{◌≡◌, ◌+◌, rules, true, false, refl, sym, ◌∙◌, arith, subst}
+use Rattle.std.proofs.Common.{◌≡◌, ◌+◌, rules, w64, true, false, Some, refl, sym, ap, ◌∙◌, arith, subst}
+use mir.Val.{SFits}
+use Rattle.std.proofs.lemmas.Int.{to_z-of_z}
 use Rattle.move_ops.specs.Insertion.{of_vehicle}
 use Rattle.move_ops.specs.Tables.{plan_of}
 use Rattle.move_ops.specs.Choosing.{IsBestUpTo}
@@ -12,6 +14,7 @@ loop-k-init c =
       best = none_yet c.requests_are_found_by_stop.ensures c.requests_stand_by_name.ensures c.passes_are_local.ensures c.tests_say_feasible.ensures c.costs_compare_part_by_part.ensures.below_tells
           c.costs_compare_part_by_part.ensures.at_most_tells c.costs_are_in_order.ensures.total c.costs_are_in_order.ensures.transitive c.costs_are_in_order.ensures.below_then_at_most
           c.costs_are_in_order.ensures.at_most_then_below c.costs_are_in_order.ensures.below_is_at_most c.args.problem.now c.args.pins.now c.args.tables.now c.args.request.now c.requires.asked 0 refl;
+      below = refl;
       idle = λ h. absurd (let k : false ≡ true = h in cc);
     }
 
@@ -24,20 +27,27 @@ loop-k-preserved-then-has_idle c =
           c.costs_compare_part_by_part.ensures.at_most_tells c.costs_are_in_order.ensures.total c.costs_are_in_order.ensures.transitive c.costs_are_in_order.ensures.below_then_at_most
           c.costs_are_in_order.ensures.at_most_then_below c.costs_are_in_order.ensures.below_is_at_most c.args.problem.now c.args.pins.now c.args.tables.now c.args.request.now c.requires.asked
           c.loop-k.k c.index-tables-k.result c.index-tables-k.is (omega arith) (omega arith) (c.loop-k.invariant.idle c.if-has_idle.true) c.loop-k.best c.loop-k.invariant.best;
+      below = c.loop-k.invariant.below;
       idle = λ h. idle_more (plan_of c.args.tables.now) c.loop-k.k (c.loop-k.invariant.idle h);
     }
 
-pub look_at-requires-clause-course : goal.look_at-requires-clause-course
-look_at-requires-clause-course c = course_at c.args.tables.now c.loop-k.k c.index-tables-k.result c.index-tables-k.is (omega arith) c.args.problem.now c.requires.asked.tables
+pub look_at-below-requires-clause-course : goal.look_at-below-requires-clause-course
+look_at-below-requires-clause-course c = course_at c.args.tables.now c.loop-k.k c.index-tables-k.result c.index-tables-k.is (omega arith) c.args.problem.now c.requires.asked.tables
 
-pub look_at-requires-clause-valid : goal.look_at-requires-clause-valid
-look_at-requires-clause-valid c =
+pub of-ways-requires : goal.of-ways-requires
+of-ways-requires c =
     request_valid c.requests_are_found_by_stop.ensures c.requests_stand_by_name.ensures c.passes_are_local.ensures c.tests_say_feasible.ensures c.costs_compare_part_by_part.ensures.below_tells
     c.costs_compare_part_by_part.ensures.at_most_tells c.costs_are_in_order.ensures.total c.costs_are_in_order.ensures.transitive c.costs_are_in_order.ensures.below_then_at_most
     c.costs_are_in_order.ensures.at_most_then_below c.costs_are_in_order.ensures.below_is_at_most c.args.problem.now c.args.pins.now c.args.tables.now c.args.request.now c.requires.asked
 
-pub look_at-requires-clause-pin : goal.look_at-requires-clause-pin
-look_at-requires-clause-pin c =
+pub look_at-below-requires-clause-valid : goal.look_at-below-requires-clause-valid
+look_at-below-requires-clause-valid c =
+    request_valid c.requests_are_found_by_stop.ensures c.requests_stand_by_name.ensures c.passes_are_local.ensures c.tests_say_feasible.ensures c.costs_compare_part_by_part.ensures.below_tells
+    c.costs_compare_part_by_part.ensures.at_most_tells c.costs_are_in_order.ensures.total c.costs_are_in_order.ensures.transitive c.costs_are_in_order.ensures.below_then_at_most
+    c.costs_are_in_order.ensures.at_most_then_below c.costs_are_in_order.ensures.below_is_at_most c.args.problem.now c.args.pins.now c.args.tables.now c.args.request.now c.requires.asked
+
+pub look_at-below-requires-clause-pin : goal.look_at-below-requires-clause-pin
+look_at-below-requires-clause-pin c =
     pin_fits c.requests_are_found_by_stop.ensures c.requests_stand_by_name.ensures c.passes_are_local.ensures c.tests_say_feasible.ensures c.costs_compare_part_by_part.ensures.below_tells
     c.costs_compare_part_by_part.ensures.at_most_tells c.costs_are_in_order.ensures.total c.costs_are_in_order.ensures.transitive c.costs_are_in_order.ensures.below_then_at_most
     c.costs_are_in_order.ensures.at_most_then_below c.costs_are_in_order.ensures.below_is_at_most c.args.problem.now c.args.pins.now c.args.tables.now c.args.request.now c.requires.asked
@@ -47,11 +57,13 @@ pub loop-k-preserved : goal.loop-k-preserved
 loop-k-preserved c =
     let few = c.stop_count.ensures.few in
     let count = c.stop_count.ensures.count in
+    let fits : SFits w64 c.look_at-below.result = search rules in
     record {
       best = one_more c.requests_are_found_by_stop.ensures c.requests_stand_by_name.ensures c.passes_are_local.ensures c.tests_say_feasible.ensures c.costs_compare_part_by_part.ensures.below_tells
           c.costs_compare_part_by_part.ensures.at_most_tells c.costs_are_in_order.ensures.total c.costs_are_in_order.ensures.transitive c.costs_are_in_order.ensures.below_then_at_most
           c.costs_are_in_order.ensures.at_most_then_below c.costs_are_in_order.ensures.below_is_at_most c.args.problem.now c.args.pins.now c.args.tables.now c.args.request.now c.requires.asked
-          c.loop-k.k c.index-tables-k.result c.index-tables-k.is (omega arith) (of_vehicle c.args.pins.now (c.loop-k.k + 1)) refl (omega arith) c.loop-k.best c.look_at.new.best c.loop-k.invariant.best c.look_at.ensures;
+          c.loop-k.k c.index-tables-k.result c.index-tables-k.is (omega arith) (of_vehicle c.args.pins.now (c.loop-k.k + 1)) refl (omega arith) c.loop-k.best c.look_at-below.new.best c.loop-k.invariant.best c.look_at-below.ensures.better;
+      below = c.look_at-below.ensures.below ∙ ap Some (sym (to_z-of_z w64 c.look_at-below.result fits));
       idle = λ h. elim c.if-stop_count-eq0.branch [
         | then-stop_count-eq0+else-has_idle w ↦ (let none = w.if-stop_count-eq0 in idle_here c.requests_are_found_by_stop.ensures c.requests_stand_by_name.ensures c.passes_are_local.ensures c.tests_say_feasible.ensures c.costs_compare_part_by_part.ensures.below_tells
             c.costs_compare_part_by_part.ensures.at_most_tells c.costs_are_in_order.ensures.total c.costs_are_in_order.ensures.transitive c.costs_are_in_order.ensures.below_then_at_most

@@ -1,21 +1,41 @@
-use Rattle.std.proofs.Common.{rules, w64, ◌≡◌, None, Some, length, refl, sym, subst}
+use Rattle.std.proofs.Common.{w64, ◌≡◌, eqb, false, None, Some, length, refl, sym, ap, subst, inl, inr, arith, ◌∙◌}
 use mir.Val.{SFits}
+use Rattle.std.proofs.lemmas.Bool.Decides.{eqb_tells}
 use Rattle.std.proofs.lemmas.Int.{to_z-of_z}
-use Rattle.slack_tables.specs.Course.{route_of}
+use Rattle.std.proofs.lemmas.List.{length-map}
+use Rattle.slack_tables.specs.Course.{Course, route_of}
+use Rattle.slack_tables.specs.RequestFloors.{AreFloors}
 use Rattle.slack_tables.specs.FitsNowhere.{FitsNowhere}
 use Rattle.plan_types.specs.Request.{request_name}
 use Rattle.move_ops.specs.Choosing.{opens, bound_of, IsBetterBelow}
 use Rattle.move_ops.specs.Insertion.{of_vehicle}
+use Rattle.move_ops.proofs.Choosing.{used_opens}
 use Rattle.move_ops.proofs.tables.look_at.Goals as goal
 
-pub returns-then-rules_out : goal.returns-then-rules_out
-returns-then-rules_out c =
+pub returns-then-rules_out_by : goal.returns-then-rules_out_by
+returns-then-rules_out_by c =
     let p = c.args.problem.now in
     let r = c.args.request.now in
     let route = route_of c.args.table.now in
     let kept = length (of_vehicle c.args.pins.now c.args.vehicle) in
-    let is : bound_of (opens p.kind route) c.args.best.now ≡ Some c.in-Some.below = search rules in
-    let fits : SFits w64 c.in-Some.below = search rules in
-    let out : FitsNowhere c.args.table.now r c.in-Some.below = subst (λ q. FitsNowhere q r c.in-Some.below) c.table.ensures (subst (FitsNowhere c.table.result.now r) (to_z-of_z w64 c.in-Some.below fits) (c.rules_out.ensures c.if-rules_out.true)) in
-    subst (IsBetterBelow p route r kept c.args.vehicle (opens p.kind route) c.args.best.now c.args.best.now) (sym is)
-    (None, out p (request_name r) kept c.requires.problem c.requires.course c.requires.request, refl)
+    let below : SFits w64 c.args.below = record { sfits = c.ranges.below.sfits } in
+    let stays = to_z-of_z w64 c.args.below below in
+    let out : FitsNowhere c.args.table.now r c.args.below = subst (λ q. FitsNowhere q r c.args.below) c.table.ensures (subst (FitsNowhere c.table.result.now r) stays (c.rules_out_by.ensures c.if-rules_out_by.true)) in
+    let long = length-map c.args.table.now.stops (λ s. s.number) in
+    let count = c.stop_count.ensures.count in
+    let some : eqb (length route) 0 ≡ false = elim (eqb_tells (length route) 0) [
+      | inl t ↦ absurd (c.if-stop_count-ne0.true (let none = t.1 in omega arith))
+      | inr t ↦ t.0
+    ] in
+    let closed : opens p.kind route ≡ false = used_opens p.kind route some in
+    record {
+      better = subst (λ o. IsBetterBelow p route r kept c.args.vehicle o c.args.best.now c.args.best.now (bound_of o c.args.best.now)) (sym closed)
+          (subst (IsBetterBelow p route r kept c.args.vehicle false c.args.best.now c.args.best.now) (sym c.requires.below)
+          (None, out p (request_name r) kept c.requires.problem c.requires.course c.requires.request, refl));
+      below = c.requires.below ∙ ap Some (sym stays);
+    }
+
+pub rules_out_by-requires : goal.rules_out_by-requires
+rules_out_by-requires c =
+    subst (λ (q : Course). AreFloors q.depot c.args.request.now c.args.ways.now) (sym c.table.ensures)
+    (subst (λ d. AreFloors d c.args.request.now c.args.ways.now) (ap (λ (q : Course). q.depot) c.requires.course) c.requires.ways.floors)

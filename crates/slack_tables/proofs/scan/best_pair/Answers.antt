@@ -16,8 +16,14 @@ returns-then-places-gt-ROOM c = λ d.
     open-only c.args.limits c.args.places.now c.args.pickup.now c.args.delivery.now c.args.kept c.first_open-first.result _ d _ c.first_open-first.ensures.behind c.first_open-first.ensures.closed
     (subst (λ x. IsFirstOf (AddsPair c.args.limits c.args.places.now c.args.pickup.now c.args.delivery.now (c.first_open-first.result - 1) x d) c.best_from.result) (to_z-of_z w64 c.args.below below) (c.best_from.ensures d)))
 
+pub returns-then-places-gt-SHORT : goal.returns-then-places-gt-SHORT
+returns-then-places-gt-SHORT c = λ d.
+    (let below : SFits w64 c.args.below = record { sfits = c.ranges.below.sfits } in
+    open-only c.args.limits c.args.places.now c.args.pickup.now c.args.delivery.now c.args.kept c.first_open-first.result _ d _ c.first_open-first.ensures.behind c.first_open-first.ensures.closed
+    (subst (λ x. IsFirstOf (AddsPair c.args.limits c.args.places.now c.args.pickup.now c.args.delivery.now (c.first_open-first.result - 1) x d) c.best_with_room.result) (to_z-of_z w64 c.args.below below) (c.best_with_room.ensures d)))
+
 pub returns : goal.returns
 returns c = λ d.
     (let below : SFits w64 c.args.below = record { sfits = c.ranges.below.sfits } in
     open-only c.args.limits c.args.places.now c.args.pickup.now c.args.delivery.now c.args.kept c.first_open-first.result _ d _ c.first_open-first.ensures.behind c.first_open-first.ensures.closed
-    (subst (λ x. IsFirstOf (AddsPair c.args.limits c.args.places.now c.args.pickup.now c.args.delivery.now (c.first_open-first.result - 1) x d) c.best_from-2.result) (to_z-of_z w64 c.args.below below) (c.best_from-2.ensures d)))
+    (subst (λ x. IsFirstOf (AddsPair c.args.limits c.args.places.now c.args.pickup.now c.args.delivery.now (c.first_open-first.result - 1) x d) c.best_with_room-2.result) (to_z-of_z w64 c.args.below below) (c.best_with_room-2.ensures d)))

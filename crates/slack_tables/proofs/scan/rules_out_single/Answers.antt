@@ -6,11 +6,11 @@ use Rattle.slack_tables.proofs.SpanLemmas.{full-single, far-single}
 use Rattle.slack_tables.proofs.scan.rules_out_single.Goals as goal
 
 pub returns-then-is_full : goal.returns-then-is_full
-returns-then-is_full c = λ _ places kept d is laden home.
+returns-then-is_full c = λ _ depot near places kept d is laden home.
     full-single c.args.limits places c.args.stop.now kept c.args.below d c.args.span.now is laden (c.is_full.ensures c.if-is_full.true)
 
 pub returns : goal.returns
-returns c = λ tells places kept d is laden home.
+returns c = λ tells depot near places kept d is laden home.
     (let below : SFits w64 c.args.below = record { sfits = c.ranges.below.sfits } in
-    far-single c.args.limits places c.args.depot.now c.args.stop.now kept c.args.below d c.args.span.now is home
-    (subst (λ x. IsFarSingle c.args.span.now c.args.depot.now c.args.stop.now x) (to_z-of_z w64 c.args.below below) (c.is_far_single.ensures tells)))
+    far-single c.args.limits places depot c.args.stop.now kept c.args.below d c.args.span.now is home
+    (subst (λ x. IsFarSingle c.args.span.now depot c.args.stop.now x) (to_z-of_z w64 c.args.below below) (c.is_far_single.ensures tells depot near)))

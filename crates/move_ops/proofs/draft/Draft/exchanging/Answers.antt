@@ -12,8 +12,8 @@ use Rattle.move_ops.proofs.draft.Draft.exchanging.Goals as goal
 pub are_all_feasible-requires-clause-once : goal.are_all_feasible-requires-clause-once
 are_all_feasible-requires-clause-once c =
     let p = c.args.problem.now in
-    let r = c.in-Some.first.now in
-    let s = c.in-Some-get.second.now in
+    let r = c.in-Some.first in
+    let s = c.in-Some-request_named.second in
     let first : lookup (nat_eq c.args.a) p.requests ≡ Some r = search rules in
     let second : lookup (nat_eq c.args.b) p.requests ≡ Some s = search rules in
     let can : are_exchangeable c.args.pins.now.routes (draft_of c.args.self.now) r s ≡ true = search rules in
@@ -25,8 +25,8 @@ are_all_feasible-requires-clause-within c =
     let p = c.args.problem.now in
     let d = c.args.self.now in
     let routes = draft_of d in
-    let r = c.in-Some.first.now in
-    let s = c.in-Some-get.second.now in
+    let r = c.in-Some.first in
+    let s = c.in-Some-request_named.second in
     let others : List (List ℕ) = map (map (counterpart r s)) routes in
     let are : AreChanges routes others c.in_ok-changes.changes.items = c.in_ok-changes.ensures in
     let tours : c.deref.result.now ≡ d.tours = c.deref.ensures.value ∙ ap (λ (x : Drafted). x.tours) c.self.view_is in
@@ -36,8 +36,8 @@ are_all_feasible-requires-clause-within c =
 pub returns-then-not-are_all_feasible-clause-routes : goal.returns-then-not-are_all_feasible-clause-routes
 returns-then-not-are_all_feasible-clause-routes c =
     let p = c.args.problem.now in
-    let r = c.in-Some.first.now in
-    let s = c.in-Some-get.second.now in
+    let r = c.in-Some.first in
+    let s = c.in-Some-request_named.second in
     let first : lookup (nat_eq c.args.a) p.requests ≡ Some r = search rules in
     let second : lookup (nat_eq c.args.b) p.requests ≡ Some s = search rules in
     let can : are_exchangeable c.args.pins.now.routes (draft_of c.args.self.now) r s ≡ true = search rules in
@@ -48,8 +48,8 @@ returns-then-not-are_all_feasible-clause-routes c =
 pub returns-clause-routes : goal.returns-clause-routes
 returns-clause-routes c =
     let p = c.args.problem.now in
-    let r = c.in-Some.first.now in
-    let s = c.in-Some-get.second.now in
+    let r = c.in-Some.first in
+    let s = c.in-Some-request_named.second in
     let first : lookup (nat_eq c.args.a) p.requests ≡ Some r = search rules in
     let second : lookup (nat_eq c.args.b) p.requests ≡ Some s = search rules in
     let can : are_exchangeable c.args.pins.now.routes (draft_of c.args.self.now) r s ≡ true = search rules in
@@ -62,8 +62,8 @@ returns-clause-routes c =
 pub returns-clause-change : goal.returns-clause-change
 returns-clause-change c =
     let p = c.args.problem.now in
-    let r = c.in-Some.first.now in
-    let s = c.in-Some-get.second.now in
+    let r = c.in-Some.first in
+    let s = c.in-Some-request_named.second in
     let first : lookup (nat_eq c.args.a) p.requests ≡ Some r = search rules in
     let second : lookup (nat_eq c.args.b) p.requests ≡ Some s = search rules in
     let can : are_exchangeable c.args.pins.now.routes (draft_of c.args.self.now) r s ≡ true = search rules in

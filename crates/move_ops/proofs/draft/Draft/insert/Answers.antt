@@ -7,15 +7,15 @@ use Rattle.move_ops.proofs.draft.Draft.insert.Goals as goal
 
 pub can_be_put-requires-clause-request : goal.can_be_put-requires-clause-request
 can_be_put-requires-clause-request c =
-    let found : lookup (nat_eq c.args.name) c.args.problem.now.requests ≡ Some c.in-Some.request.now = search rules in
-    named_request c.args.problem.now c.requires.valid c.args.name c.in-Some.request.now found
+    let found : lookup (nat_eq c.args.name) c.args.problem.now.requests ≡ Some c.in-Some.request = search rules in
+    named_request c.args.problem.now c.requires.valid c.args.name c.in-Some.request found
 
 pub returns-then-not-branch : goal.returns-then-not-branch
 returns-then-not-branch c =
     let p = c.args.problem.now in
     let pins = c.args.pins.now.routes in
     let routes = draft_of c.args.self.now in
-    let r = c.in-Some.request.now in
+    let r = c.in-Some.request in
     let found : lookup (nat_eq c.args.name) p.requests ≡ Some r = search rules in
     let cannot : c.in_ok-can_be_put.field-0 ≡ false = search rules in
     was_not_made (put_in p pins routes c.args.name c.args.place) c.args.self.now
@@ -26,7 +26,7 @@ returns c =
     let p = c.args.problem.now in
     let pins = c.args.pins.now.routes in
     let routes = draft_of c.args.self.now in
-    let r = c.in-Some.request.now in
+    let r = c.in-Some.request in
     let found : lookup (nat_eq c.args.name) p.requests ≡ Some r = search rules in
     let can : c.in_ok-can_be_put.field-0 ≡ true = search rules in
     let new = with_request_at routes r c.args.place in

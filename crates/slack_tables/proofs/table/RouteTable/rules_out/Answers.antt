@@ -1,38 +1,15 @@
-use Rattle.std.proofs.Common.{◌∙◌, None, Some, sym, ap, subst, w64}
+use Rattle.std.proofs.Common.{w64, subst}
 use mir.Val.{SFits}
 use Rattle.std.proofs.lemmas.Int.{to_z-of_z}
-use Rattle.slack_tables.specs.Best.{IsFirstOf, IsBestAddition}
-use Rattle.slack_tables.specs.Course.{Course, route_of}
-use Rattle.slack_tables.specs.Inside.{AreKnown, course_within}
-use Rattle.slack_tables.specs.Opened.{leaving, open_row}
-use Rattle.slack_tables.specs.Scan.{AddsSingle, AddsPair}
-use Rattle.slack_tables.specs.Span.{IsFarPair, RulesOut}
-use Rattle.slack_tables.proofs.BestLemmas.{single-best, pair-best, linked}
-use Rattle.slack_tables.proofs.InsertLemmas.{limits_of}
-use Rattle.slack_tables.proofs.SpanLemmas.{home, laden, far-pair}
+use Rattle.slack_tables.specs.Course.{Course}
+use Rattle.slack_tables.specs.FitsNowhere.{FitsNowhere}
+use Rattle.slack_tables.specs.RequestFloors.{AreFloors}
 use Rattle.slack_tables.proofs.table.RouteTable.rules_out.Goals as goal
 
-pub returns-in-Single : goal.returns-in-Single
-returns-in-Single c = λ tells p name kept valid is named.
-    (let table : AreKnown c.args.self.now c.self.inside.places.items = subst (λ q. AreKnown q c.self.inside.places.items) c.self.view_is c.self.invariant.0 in
-    let d = open_row (leaving c.in-Single.stop) in
-    let s = c.in-Single.stop in
-    let fits : SFits w64 c.args.below = record { sfits = c.ranges.below.sfits } in
-    let out = subst (λ x. RulesOut c.self.inside.limits c.self.inside.span c.self.inside.depot s x) (to_z-of_z w64 c.args.below fits) (c.rules_out_single.ensures tells) in
-    let none = out c.self.inside.places.items kept d c.self.invariant.1 (laden c.args.self.now c.self.inside.places.items table) (home (course_within c.self.inside) c.self.inside.places.items c.self.invariant.0) in
-    let first = subst (λ (q : Course). IsFirstOf (AddsSingle (limits_of q) c.self.inside.places.items s kept c.args.below d) None) c.self.view_is none in
-    subst (λ r. IsBestAddition p (route_of c.args.self.now) r kept c.args.below None) (sym c.in-Single.is)
-    (single-best p c.args.self.now c.self.inside.places.items table valid is c.requests_are_found_by_stop.ensures name kept c.args.below d s None (named ∙ ap (λ r. Some r) c.in-Single.is) first))
+pub rules_out_by-requires : goal.rules_out_by-requires
+rules_out_by-requires c = subst (λ (q : Course). AreFloors q.depot c.args.request.now c.floors-ways.result) c.self.view_is c.floors-ways.ensures
 
-pub returns-in-Pair : goal.returns-in-Pair
-returns-in-Pair c = λ tells p name kept valid is named.
-    (let table : AreKnown c.args.self.now c.self.inside.places.items = subst (λ q. AreKnown q c.self.inside.places.items) c.self.view_is c.self.invariant.0 in
-    let d = open_row (leaving c.in-Pair.pickup) in
-    let a = c.in-Pair.pickup in
-    let b = c.in-Pair.delivery in
-    let fits : SFits w64 c.args.below = record { sfits = c.ranges.below.sfits } in
-    let far = subst (λ x. IsFarPair c.self.inside.span c.self.inside.depot a b x) (to_z-of_z w64 c.args.below fits) (c.is_far_pair.ensures tells) in
-    let none = far-pair c.self.inside.limits c.self.inside.places.items c.self.inside.depot a b kept c.args.below d c.self.inside.span (linked c.args.self.now c.self.inside.places.items table) c.self.invariant.1 (home (course_within c.self.inside) c.self.inside.places.items c.self.invariant.0) far in
-    let first = subst (λ (q : Course). IsFirstOf (AddsPair (limits_of q) c.self.inside.places.items a b kept c.args.below d) None) c.self.view_is none in
-    subst (λ r. IsBestAddition p (route_of c.args.self.now) r kept c.args.below None) (sym c.in-Pair.is)
-    (pair-best p c.args.self.now c.self.inside.places.items table valid is c.requests_are_found_by_stop.ensures name kept c.args.below d a b None (named ∙ ap (λ r. Some r) c.in-Pair.is) first))
+pub returns : goal.returns
+returns c = λ out.
+    (let below : SFits w64 c.args.below = record { sfits = c.ranges.below.sfits } in
+    subst (FitsNowhere c.args.self.now c.args.request.now) (to_z-of_z w64 c.args.below below) (c.rules_out_by.ensures out))
