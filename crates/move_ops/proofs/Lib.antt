@@ -12,7 +12,6 @@ pub mod Drafting
 pub mod Exchanged
 pub mod Exchanging
 pub mod Fitting
-pub mod Fronts
 pub mod Gathering
 pub mod Inserting
 pub mod Installing

@@ -12,7 +12,7 @@
 //!   one, so few vehicles before the front are empty;
 //! - the seat of each stop: 0 says that no route has it, which is an invariant; any other number is where to
 //!   look first, and what is found there is tested, so it may be stale;
-//! - the cost: distances are carried from change to change by the tables of the routes that change, the
+//! - the cost: distances and used vehicles are carried from change to change by the routes that change, the
 //!   requests left out are counted on. A removal adds as many as there are names, where one that stands twice
 //!   counts once; one that is placed is one less.
 //!

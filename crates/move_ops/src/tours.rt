@@ -1,7 +1,7 @@
 //! The tours of a plan: built of its routes, asked for stops, and what they cost.
 ghost use Rattle.std.specs.Prelude.{◌≡◌, ◌≤◌, [], true, ℕ, IfOk, length};
 ghost use Rattle.plan_audit.specs.Passes.{passes};
-ghost use Rattle.route_sched.specs.Cost.{has_stop, used_count, vehicle_count};
+ghost use Rattle.route_sched.specs.Cost.{has_stop};
 ghost use Rattle.move_ops.specs.Changes.{IsVehicleWith};
 ghost use Rattle.move_ops.specs.Drafts.{AreIdleBehind};
 ghost use Rattle.move_ops.specs.Kept.{AreSeats};
@@ -11,7 +11,7 @@ use crate::lists::is_in;
 use crate::seats::seat;
 use crate::tour::Tour;
 use plan_audit::{passes_are_local, plans_are_local, tests_say_feasible};
-use plan_types::{Kind, OutOfMemory, Problem, Route, Routes};
+use plan_types::{OutOfMemory, Problem, Route, Routes};
 use std::alloc::Global;
 
 /// The tours of routes of a plan that passes.
@@ -100,22 +100,4 @@ pub(crate) fn front_of(tours: &[Tour], end: usize) -> usize
         front -= 1;
     }
     front
-}
-
-/// How many vehicles count in a plan, by its tours, of which those behind the front are empty.
-pub(crate) fn vehicle_count(kind: Kind, tours: &[Tour], front: usize) -> u64
-    requires within { front ≤ length tours.now }
-    requires idle { AreIdleBehind front (plan_of tours.now) }
-    ensures { result ≡ vehicle_count kind (plan_of tours.now) }
-{
-    match kind {
-        Kind::LiLim => used_count(&tours[..front]),
-        Kind::Vrp => 0,
-    }
-}
-
-fn used_count(tours: &[Tour]) -> u64
-    ensures { result ≡ used_count (plan_of tours.now) }
-{
-    tours.iter().filter(|tour| !tour.stops().is_empty()).count() as u64
 }

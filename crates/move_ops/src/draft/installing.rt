@@ -4,12 +4,12 @@ ghost use Rattle.std.specs.Prelude.{◌≡◌, ◌≤◌, ◌^◌, true, All, If
 ghost use Rattle.move_ops.specs.Pairing.{are_paired};
 ghost use Rattle.move_ops.specs.Refreshing.{AreWithin};
 ghost use Rattle.slack_tables.specs.Course.{course_of, route_of};
-ghost use Rattle.route_sched.specs.Cost.{total_length};
+ghost use Rattle.route_sched.specs.Cost.{total_length, vehicle_count};
 ghost use Rattle.route_sched.specs.Route.{AreLiveOnce};
 ghost use Rattle.route_sched.specs.Schedule.{route_length};
-ghost use Rattle.move_ops.specs.Insertion.{of_vehicle};
+ghost use Rattle.move_ops.specs.Insertion.{of_vehicle, with_route};
 ghost use Rattle.slack_tables.specs.Insertion.{KeepsLimits};
-ghost use Rattle.move_ops.specs.Changes.{changes_of, with_routes, AreCourses, AreToursOf, IsChange, IsTourIfFeasible};
+ghost use Rattle.move_ops.specs.Changes.{used, changes_of, with_routes, AreCourses, AreToursOf, IsChange, IsTourIfFeasible};
 ghost use Rattle.std.specs.Option.{option_map};
 ghost use Rattle.move_ops.specs.Tables.{AreTablesIn};
 ghost use Rattle.move_ops.specs.Drafts.{undone, draft_of, base_of, IsDraftOf, IsMade};
@@ -17,9 +17,8 @@ ghost use Rattle.move_ops.specs.Drafts.{undone, draft_of, base_of, IsDraftOf, Is
 use super::Draft;
 use crate::changes::Change;
 use crate::tour::{Tour, tour_of};
-use crate::tours::vehicle_count;
 use plan_audit::passes_are_local;
-use plan_types::{Cost, OutOfMemory, Pins, Problem, numbers_are_below_the_next};
+use plan_types::{Cost, Kind, OutOfMemory, Pins, Problem, numbers_are_below_the_next};
 
 impl Draft {
     /// Makes these changes, where there are some; answers whether it did.
@@ -69,36 +68,62 @@ impl Draft {
     {
         passes_are_local();
         numbers_are_below_the_next();
-        let distance = self.set_tours(problem, tours);
+        let (vehicles, distance) = self.set_tours(problem, tours);
         self.cost = Cost {
             unplanned,
-            vehicles: vehicle_count(problem.kind, &self.tours, self.front),
+            vehicles,
             distance,
         };
     }
 
-    // Answers how far all vehicles drive then.
-    fn set_tours(&mut self, problem: &Problem, tours: Vec<(u32, Tour)>) -> u64
+    // Answers how many vehicles count then, and how far all drive.
+    fn set_tours(&mut self, problem: &Problem, tours: Vec<(u32, Tour)>) -> (u64, u64)
         requires tables { AreTablesIn problem.now self.old.tours }
         requires within { AreWithin (length self.old.tours) tours.items }
         requires courses { AreCourses problem.now tours.items }
+        requires vehicles { self.old.cost.vehicles
+            ≡ vehicle_count problem.now.kind (draft_of self.old) }
         requires distance { self.old.cost.distance ≡ total_length problem.now (draft_of self.old) }
         requires small { total_length problem.now
             (with_routes (draft_of self.old) (changes_of tours.items)) ≤ 2 ^ 63 }
         ensures tables { AreTablesIn problem.now self.new.tours }
         ensures plan { draft_of self.new ≡ with_routes (draft_of self.old) (changes_of tours.items) }
         ensures base { undone self.new.tours self.new.log ≡ undone self.old.tours self.old.log }
-        ensures distance { result ≡ total_length problem.now (draft_of self.new) }
+        ensures vehicles { result.0 ≡ vehicle_count problem.now.kind (draft_of self.new) }
+        ensures distance { result.1 ≡ total_length problem.now (draft_of self.new) }
         ensures pinned { self.new.pinned ≡ self.old.pinned }
         ensures base_cost { self.new.base_cost ≡ self.old.base_cost }
     {
+        let mut vehicles = self.cost.vehicles;
         let mut driven = u128::from(self.cost.distance);
         for (vehicle, tour) in tours {
+            vehicles = self.vehicles_with(problem, u64::from(vehicle), &tour, vehicles);
             driven += u128::from(tour.table().distance());
             driven -= u128::from(self.distance_of(problem, vehicle));
             self.set_tour(vehicle, tour);
         }
-        driven as u64
+        (vehicles, driven as u64)
+    }
+
+    /// How many vehicles count with another tour for this vehicle, where so many do now.
+    pub(crate) fn vehicles_with(
+        &self,
+        problem: &Problem,
+        vehicle: u64,
+        tour: &Tour,
+        now: u64,
+    ) -> u64
+        requires from_one { 1 ≤ vehicle }
+        requires within { vehicle ≤ length self.now.tours }
+        requires now { now ≡ vehicle_count problem.now.kind (draft_of self.now) }
+        ensures { result ≡ vehicle_count problem.now.kind
+            (with_route (draft_of self.now) vehicle (route_of tour.now)) }
+    {
+        let old = &self.tours[(vehicle - 1) as usize];
+        match problem.kind {
+            Kind::LiLim => now - used(old) + used(tour),
+            Kind::Vrp => 0,
+        }
     }
 
     // The tours of changes, all of which keep the limits.
@@ -177,4 +202,11 @@ impl Draft {
             None => Tour::build(*self.tours.allocator(), problem, route),
         }
     }
+}
+
+// How many vehicles a tour uses, one or none.
+fn used(tour: &Tour) -> u64
+    ensures { result ≡ used (route_of tour.now) }
+{
+    u64::from(!tour.stops().is_empty())
 }

@@ -9,7 +9,7 @@ ghost use Rattle.std.specs.Prelude.{◌≡◌, ◌≤◌, ◌^◌, length, true,
 ghost use Rattle.route_sched.specs.Cost.{cost_of, total_length, unplanned_count};
 ghost use Rattle.slack_tables.specs.Course.{course_of, route_of};
 ghost use Rattle.move_ops.specs.Tables.{AreTablesIn};
-ghost use Rattle.move_ops.specs.Changes.{used, IsPut};
+ghost use Rattle.move_ops.specs.Changes.{IsPut};
 ghost use Rattle.plan_types.specs.Request.{request_name};
 ghost use Rattle.move_ops.specs.Insertion.{best_insertion, is_place_of, put_in, request_named, with_request_at, with_route};
 ghost use Rattle.route_sched.specs.Route.{AreLiveOnce};
@@ -26,7 +26,7 @@ use crate::tables::best_of;
 use crate::tour::{Tour, tour_of};
 use plan_audit::{passes_are_local, tests_say_feasible};
 use plan_types::{
-    Cost, Kind, OutOfMemory, Pins, Problem, Request, Route, numbers_are_below_the_next,
+    Cost, OutOfMemory, Pins, Problem, Request, Route, numbers_are_below_the_next,
     requests_are_found_by_stop, requests_stand_by_name,
 };
 use std::mem;
@@ -233,21 +233,10 @@ impl Draft {
             (with_route (draft_of self.now) vehicle (route_of tour.now)) }
     {
         let old = &self.tours[(vehicle - 1) as usize];
-        let vehicles = match problem.kind {
-            Kind::LiLim => self.cost.vehicles - used(old) + used(tour),
-            Kind::Vrp => 0,
-        };
         Cost {
             unplanned,
-            vehicles,
+            vehicles: self.vehicles_with(problem, vehicle, tour, self.cost.vehicles),
             distance: self.cost.distance - old.table().distance() + tour.table().distance(),
         }
     }
-}
-
-// How many vehicles a tour uses, one or none.
-fn used(tour: &Tour) -> u64
-    ensures { result ≡ used (route_of tour.now) }
-{
-    u64::from(!tour.stops().is_empty())
 }

@@ -6,9 +6,8 @@ use Rattle.move_ops.specs.declared.changes.Change.{Change}
 use Rattle.move_ops.proofs.Touring.{within_from}
 use Rattle.route_sched.specs.Cost.{cost_of, unplanned_count, vehicle_count, total_length}
 use Rattle.plan_types.specs.declared.plans.Cost.{Cost}
-use Rattle.plan_types.specs.declared.requests.Kind.{Kind}
 use Rattle.plan_audit.specs.Passes.{passes}
-use Rattle.slack_tables.specs.Course.{Course, route_of}
+use Rattle.slack_tables.specs.Course.{route_of}
 use Rattle.move_ops.specs.Changes.{changes_of, with_routes}
 use Rattle.move_ops.specs.Tables.{plan_of, AreTablesIn}
 use Rattle.move_ops.specs.Drafts.{undone, draft_of}
@@ -17,12 +16,12 @@ use Rattle.move_ops.proofs.Counting.{plan_small}
 use Rattle.move_ops.proofs.Drafting.{changed}
 use Rattle.move_ops.proofs.draft.Draft.install.Goals as goal
 
-pub set_tours-distance-requires-clause-small : goal.set_tours-distance-requires-clause-small
-set_tours-distance-requires-clause-small c =
+pub set_tours-vehicles-requires-clause-small : goal.set_tours-vehicles-requires-clause-small
+set_tours-vehicles-requires-clause-small c =
     plan_small c.numbers_are_below_the_next.ensures.stops c.passes_are_local.ensures c.args.problem.now c.requires.is.valid c.args.pins.now.routes (with_routes (draft_of c.args.self.now) (changes_of c.args.tours.items)) c.requires.change.passes
 
-pub set_tours-distance-requires-clause-within : goal.set_tours-distance-requires-clause-within
-set_tours-distance-requires-clause-within c =
+pub set_tours-vehicles-requires-clause-within : goal.set_tours-vehicles-requires-clause-within
+set_tours-vehicles-requires-clause-within c =
     let d = c.args.self.now in
     within_from (length d.tours) c.args.tours.items
     (subst (λ n. AllByRecursion (λ (x : Change). (1 ≤ x.vehicle) × (x.vehicle ≤ n)) (changes_of c.args.tours.items)) (length-map d.tours route_of)
@@ -35,12 +34,10 @@ returns-clause-is c =
     let plan : plan_of new.tours.items ≡ with_routes (draft_of c.args.self.now) (changes_of c.args.tours.items) = search rules in
     let tables : AreTablesIn p new.tours.items = search rules in
     let back : undone new.tours.items new.log.items ≡ undone c.args.self.now.tours c.args.self.now.log = search rules in
-    let cost : Cost = record { unplanned = c.args.unplanned; vehicles = c.vehicle_count.result; distance = c.set_tours-distance.result } in
-    let kind : c.problem.inside.kind ≡ p.kind = search rules in
+    let cost : Cost = record { unplanned = c.args.unplanned; vehicles = c.set_tours-vehicles.result.0; distance = c.set_tours-vehicles.result.1 } in
     let left : c.args.unplanned ≡ unplanned_count p (plan_of new.tours.items) = c.requires.change.unplanned ∙ ap (unplanned_count p) (sym plan) in
-    let used : c.vehicle_count.result ≡ vehicle_count p.kind (plan_of new.tours.items) =
-    c.vehicle_count.ensures ∙ (ap (λ (l : List Course). vehicle_count c.problem.inside.kind (plan_of l)) c.deref.ensures.value ∙ ap (λ (k : Kind). vehicle_count k (plan_of new.tours.items)) kind) in
-    let driven : c.set_tours-distance.result ≡ total_length p (plan_of new.tours.items) = search rules in
+    let used : c.set_tours-vehicles.result.0 ≡ vehicle_count p.kind (plan_of new.tours.items) = search rules in
+    let driven : c.set_tours-vehicles.result.1 ≡ total_length p (plan_of new.tours.items) = search rules in
     changed p c.args.pins.now.routes c.args.self.now (record { tours = new.tours.items; log = new.log.items; pinned = new.pinned.items; cost = cost; base_cost = new.base_cost })
     c.requires.is back (search rules) (search rules)
     (subst (λ (l : List (List ℕ)). passes p c.args.pins.now.routes l ≡ true) (sym plan) c.requires.change.passes)

@@ -5,9 +5,11 @@ use Rattle.move_ops.proofs.Pricing.{length_moved, length_within}
 use Rattle.slack_tables.specs.Course.{route_of, IsCourseIn}
 use Rattle.move_ops.specs.Changes.{changes_of, with_routes, AreCourses}
 use Rattle.move_ops.specs.Drafts.{draft_of}
+use Rattle.move_ops.specs.Insertion.{with_route}
 use Rattle.move_ops.specs.Refreshing.{AreWithin}
-use Rattle.move_ops.specs.Tables.{AreTablesIn}
-use Rattle.move_ops.proofs.Drafting.{tables_with}
+use Rattle.route_sched.specs.Cost.{vehicle_count}
+use Rattle.move_ops.specs.Tables.{plan_of, AreTablesIn}
+use Rattle.move_ops.proofs.Drafting.{tables_with, plan_with}
 use Rattle.move_ops.proofs.Touring.{routes_with}
 use Rattle.move_ops.proofs.draft.Draft.set_tours.Goals as goal
 
@@ -49,6 +51,8 @@ loop-vehicle-preserved c =
     let few = inv.few in
     let more = length-append c.loop-vehicle.yielded ((v, tour) ∷ []) in
     record {
+      vehicles = subst (λ n. c.vehicles_with-vehicles.result ≡ vehicle_count p.kind (with_route (draft_of old) n (route_of tour))) c.from.ensures c.vehicles_with-vehicles.ensures
+          ∙ ap (vehicle_count p.kind) (sym (ap plan_of made.tours ∙ plan_with old.tours (v - 1) tour));
       driven = omega arith;
       few = omega arith;
       tables = subst (AreTablesIn p) (sym made.tours) (tables_with p old.tours (v - 1) tour inv.tables is_course);

@@ -1,6 +1,6 @@
 use Rattle.std.proofs.Common.{◌≡◌, ◌≤◌, ◌+◌, ◌*◌, ◌^◌, length}
 use Rattle.std.specs.Vec.Iter.{into_iter_items}
-use Rattle.route_sched.specs.Cost.{total_length}
+use Rattle.route_sched.specs.Cost.{total_length, vehicle_count}
 use Rattle.move_ops.specs.Tables.{AreTablesIn}
 use Rattle.move_ops.specs.Changes.{changes_of, with_routes, AreCourses}
 use Rattle.move_ops.specs.Drafts.{undone, draft_of}
@@ -10,6 +10,7 @@ use Rattle.move_ops.proofs.draft.Draft.set_tours.Given as goal
 -- the tours left give what all give
 abbrev pub invariant-loop-vehicle : goal.invariant-loop-vehicle
 invariant-loop-vehicle l = record {
+  vehicles : l.vehicles ≡ vehicle_count l.problem.kind (draft_of l.self);
   driven : l.driven ≡ total_length l.problem (draft_of l.self);
   few : l.driven ≤ (length l.yielded + 1) * 2 ^ 64;
   tables : AreTablesIn l.problem l.self.tours;
