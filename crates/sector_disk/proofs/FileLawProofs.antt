@@ -4,13 +4,11 @@ use Rattle.std.specs.List.{flat_map}
 use Rattle.std.proofs.lemmas.List.{append-nil}
 use Rattle.std.proofs.lemmas.List.Concat.{flat_map-append}
 use Rattle.std.proofs.lemmas.Bool.{and_parts}
-use Rattle.sector_disk.specs.declared.answer.Answer.{Answer}
-use Rattle.sector_disk.specs.declared.answer.Answer.TheVariants.{ReadGave, ReadFailed, WriteFinished, WriteFailed, SyncFinished, SyncFailed}
 use Rattle.sector_disk.specs.Model.{Disk, Show, settled, run, IsImage, sectors_from}
 use Rattle.sector_disk.specs.ModelLaws.{run-append, seen-sectors_from, image_from_reached}
 use Rattle.sector_disk.specs.Memory.{Call, events_of, len_of}
 use Rattle.sector_disk.specs.MemoryLaws.{run_inside}
-use Rattle.sector_disk.specs.FileRecord.{Entry, events_after, events_in, Agrees, is_inside, all_inside, GoesOnReading, ReadsOn, calls_of, calls_in}
+use Rattle.sector_disk.specs.FileRecord.{Answer, ReadGave, ReadFailed, WriteFinished, WriteFailed, SyncFinished, SyncFailed, Entry, events_after, events_in, Agrees, is_inside, all_inside, GoesOnReading, ReadsOn, calls_of, calls_in}
 use Rattle.sector_disk.specs.FileLaws.{file_reads_possible}
 use Rattle.sector_disk.specs.Laws.{StaysHonest, IsAsInMemory}
 

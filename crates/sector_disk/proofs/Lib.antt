@@ -5,4 +5,6 @@ mod FileLawProofs
 mod Goes
 mod Keeps
 mod LawProofs
+mod Openings
 mod Steps
+mod ToldSteps

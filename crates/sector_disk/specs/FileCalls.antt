@@ -1,10 +1,9 @@
 -- What a file's call adds to its record.
 use Rattle.std.specs.Prelude.{ℕ, Bool, List, [], if◌then◌else◌}
-use Rattle.sector_disk.specs.declared.answer.Answer.TheVariants.{ReadGave, ReadFailed, WriteFinished, WriteFailed, SyncFinished, SyncFailed}
-use Rattle.sector_disk.specs.FileRecord.{Entry}
+use Rattle.sector_disk.specs.FileRecord.{ReadGave, ReadFailed, WriteFinished, WriteFailed, SyncFinished, SyncFailed, Entry}
 
 abbrev pub read_entry : Bool → ℕ → List ℕ → Entry
-read_entry ok first bytes = (if ok then ReadGave first else ReadFailed, bytes)
+read_entry ok first bytes = if ok then (ReadGave first, bytes) else (ReadFailed, [])
 
 abbrev pub write_entry : Bool → ℕ → List ℕ → Entry
 write_entry ok first bytes = (if ok then WriteFinished first else WriteFailed first, bytes)

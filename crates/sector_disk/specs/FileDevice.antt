@@ -2,10 +2,16 @@
 use Rattle.std.specs.Prelude.{◌≡◌, ℕ, List, []}
 use Rattle.sector_disk.specs.declared.file_device.FileDevice.{FileDevice}
 use Rattle.sector_disk.specs.declared.file_calls.FileCalls as calls
+use Rattle.sector_disk.specs.declared.file_calls.HostFile.{HostFile}
+use Rattle.sector_disk.specs.SystemCalls.{Noted}
 use Rattle.sector_disk.specs.declared.start.Start as starts
 use Rattle.sector_disk.specs.Model.{Disk}
 use Rattle.sector_disk.specs.History.{History}
 use Rattle.sector_disk.specs.FileRecord.{Entry, file_history}
+
+-- the calls by which the file was opened
+abbrev pub opening : HostFile → List Noted
+opening file = file.opening.calls
 
 module _ {S F : Type 0} {start : starts.Ghosts S} {g : calls.Ghosts F} where
   abbrev pub device_len : FileDevice S F start g → ℕ

@@ -1,13 +1,11 @@
 -- What holds of a file that has answered as the model.
 use Rattle.std.proofs.Common.{ℕ, ◌*◌, ◌/◌, List, [], ◌∷◌, length, sym, subst, IsTrue}
 use Rattle.std.proofs.lemmas.Bool.{and_parts}
-use Rattle.sector_disk.specs.declared.answer.Answer.{Answer}
-use Rattle.sector_disk.specs.declared.answer.Answer.TheVariants.{ReadGave, ReadFailed, WriteFinished, WriteFailed, SyncFinished, SyncFailed}
 use Rattle.sector_disk.specs.Model.{Disk, Show, run, IsImage, sectors_from}
 use Rattle.sector_disk.specs.ModelLaws.{run-append, settled_image}
 use Rattle.sector_disk.specs.Memory.{Wrote}
 use Rattle.sector_disk.specs.MemoryLaws.{sound_call}
-use Rattle.sector_disk.specs.FileRecord.{Entry, events_after, events_in, Agrees, AnswersAsModel, is_inside, all_inside}
+use Rattle.sector_disk.specs.FileRecord.{Answer, ReadGave, ReadFailed, WriteFinished, WriteFailed, SyncFinished, SyncFailed, Entry, events_after, events_in, Agrees, AnswersAsModel, is_inside, all_inside}
 
 sound_answer : (n : ℕ) (disk : Disk) (shown : List ℕ) (answer : Answer) (bytes : List ℕ) → IsImage n disk disk.seen → Agrees n disk shown answer bytes → IsTrue (is_inside (512 * n) answer bytes)
     → IsImage n (run disk (events_after shown answer bytes)) (run disk (events_after shown answer bytes)).seen

@@ -1,11 +1,18 @@
 -- The record of a file's calls and their answers, and what a device of the model would have answered.
 use Rattle.std.specs.Prelude.{◌≡◌, ℕ, ◌*◌, ◌/◌, Bool, true, List, [], ◌∷◌, ◌++◌, length, take, drop}
 use Rattle.std.specs.List.{list_all}
-use Rattle.sector_disk.specs.declared.answer.Answer.{Answer}
-use Rattle.sector_disk.specs.declared.answer.Answer.TheVariants.{ReadGave, ReadFailed, WriteFinished, WriteFailed, SyncFinished, SyncFailed}
 use Rattle.sector_disk.specs.Model.{Disk, Event, Sync, Show, run, IsImage, sectors_from}
 use Rattle.sector_disk.specs.History.{History}
 use Rattle.sector_disk.specs.Memory.{Call, Wrote, Tore, Synced, events_of, is_run}
+
+-- What a read from this sector on, a write or a sync came to.
+pub data Answer : Type 0 where
+  ReadGave : ℕ → Answer
+  ReadFailed : Answer
+  WriteFinished : ℕ → Answer
+  WriteFailed : ℕ → Answer
+  SyncFinished : Answer
+  SyncFailed : Answer
 
 -- an answer with the bytes that were read or written
 abbrev pub Entry : Type 0

@@ -6,8 +6,11 @@ pub mod Model
 pub mod History
 pub mod Memory
 pub mod MemDevice
+pub mod SystemCalls
+pub mod Opening
 pub mod FileRecord
 pub mod FileCalls
+pub mod Told
 pub mod FileDevice
 pub mod Laws
 -- of private functions and of proofs alone

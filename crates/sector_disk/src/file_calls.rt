@@ -1,17 +1,20 @@
-//! What is asked of a file: that it keeps a record of its calls and their answers, whatever these are.
+//! What is asked of a file: that it keeps a record of its reads, writes and syncs and of their answers, whatever these are. A
+//! file of the system keeps the calls of the system themselves, and what they come to is its record.
 //!
 //! A sync is the file's `sync_data` (fdatasync), which leaves out the file's times: its length never changes after `create`,
 //! which has `sync_all`. SQLite does the same by default.
-ghost use Rattle.std.specs.Prelude.{◌≡◌, ◌+◌, ◌*◌, ◌^◌, ◌<◌, List, [], ◌∷◌, length, is_ok, if◌then◌else◌};
+ghost use Rattle.std.specs.Prelude.{◌≡◌, ◌+◌, ◌*◌, ◌^◌, ◌<◌, List, [], ◌∷◌, length, is_ok, None};
 ghost use Rattle.sector_disk.specs.FileRecord.{Entry};
 ghost use Rattle.sector_disk.specs.FileCalls.{read_entry, write_entry, sync_entry};
+ghost use Rattle.sector_disk.specs.SystemCalls.{Noted};
+ghost use Rattle.sector_disk.specs.Told.{told_by};
 
-use crate::answer::Answer;
+use crate::moving::{read_whole, write_whole};
 use crate::record::Record;
 use crate::sectors::SECTOR_SIZE;
+use crate::system;
 use std::fs::File;
 use std::io;
-use std::os::unix::fs::FileExt;
 
 pub const SECTOR: u64 = SECTOR_SIZE as u64;
 
@@ -33,57 +36,40 @@ pub trait FileCalls {
         ensures { entries self.new ≡ sync_entry (is_ok result) ∷ entries self.old };
 }
 
-/// An open file of the system. Each method makes one call of it, and then notes it with its answer.
+/// An open file of the system, with the calls of its opening and those since.
 #[derive(Drop)]
 pub struct HostFile {
     file: File,
+    opening: Record,
     noted: Record,
+    ghost settled: { (told_by noted.calls).going ≡ None },
 }
 
 impl HostFile {
-    pub(crate) fn new(file: File) -> HostFile
-        ensures { result.noted.answers ≡ [] }
+    pub(crate) fn new(file: File, opening: Record) -> HostFile
+        ensures unused { result.noted.calls ≡ [] }
+        ensures opening { result.opening.calls ≡ opening.calls }
     {
         HostFile {
             file,
+            opening,
             noted: Record::new(),
         }
     }
 }
 
 impl FileCalls for HostFile {
-    ghost entries = { λ f. f.noted.answers };
+    ghost entries = { λ f. (told_by f.noted.calls).entries };
 
     fn read(&mut self, first: u64, into: &mut [u8]) -> io::Result<()> {
-        let done = self.file.read_exact_at(into, first * SECTOR);
-        let answer = if done.is_ok() {
-            Answer::ReadGave { first }
-        } else {
-            Answer::ReadFailed
-        };
-        self.noted.note(&answer, into);
-        done
+        read_whole(&self.file, into, first, &mut self.noted)
     }
 
     fn write(&mut self, first: u64, bytes: &[u8]) -> io::Result<()> {
-        let done = self.file.write_all_at(bytes, first * SECTOR);
-        let answer = if done.is_ok() {
-            Answer::WriteFinished { first }
-        } else {
-            Answer::WriteFailed { first }
-        };
-        self.noted.note(&answer, bytes);
-        done
+        write_whole(&self.file, bytes, first, &mut self.noted)
     }
 
     fn sync(&mut self) -> io::Result<()> {
-        let done = self.file.sync_data();
-        let answer = if done.is_ok() {
-            Answer::SyncFinished
-        } else {
-            Answer::SyncFailed
-        };
-        self.noted.note(&answer, &[]);
-        done
+        system::sync_data(&self.file, &mut self.noted)
     }
 }

@@ -9,15 +9,17 @@
 //! - `create` syncs the file's folder too, so that a new file outlasts a power cut; where the system has no sync for a
 //!   folder, it goes on. It does not claim that what it gives is settled.
 //! - What the system said of a failed call is kept for whoever tells it (`cause`); no clause speaks of it.
-ghost use Rattle.std.specs.Prelude.{◌≡◌, ◌+◌, ◌-◌, ◌*◌, ◌%◌, ◌^◌, ◌<◌, ◌≤◌, ◌↔◌, [], List, ℕ, length, take, drop, OnOk, OnErr, IfOk, IfErr, IsErr, IsErrAnd, IsErrOf, IsTrue, min, ◌≢◌};
+ghost use Rattle.std.specs.Prelude.{◌≡◌, ◌+◌, ◌-◌, ◌*◌, ◌%◌, ◌^◌, ◌<◌, ◌≤◌, ◌↔◌, [], List, ℕ, length, take, drop, OnOk, OnErr, IfOk, IfErr, IsErr, IsErrAnd, IsErrOf, IsTrue, min, ◌≢◌, MatchResult, Some};
 ghost use Rattle.sector_disk.specs.FileRecord.{all_inside};
+ghost use Rattle.sector_disk.specs.SystemCalls.{answered};
+ghost use Rattle.sector_disk.specs.Opening.{first_fault, taking_fault, IsTaken, IsMade};
 
 use crate::file_calls::{FileCalls, HostFile, SECTOR};
-use crate::opened_file::{OpenedFile, sync_folder};
+use crate::opened_file::{OpeningFault, make_file, take_file};
+use crate::record::Record;
 use crate::{DeviceFault, Sectors, Start};
 use std::fs::{File, Files};
 use std::io;
-use std::io::ErrorKind;
 use std::marker::PhantomData;
 use thiserror::Error;
 
@@ -38,36 +40,23 @@ pub enum FileFault {
 }
 
 /// A file that is not opened as a device, and what the system said, if it was asked.
-#[derive(Clone, Copy, Debug)]
+#[derive(Drop)]
 pub struct FileRefusal {
     pub fault: FileFault,
     pub cause: Option<io::Error>,
+    noted: Record,
 }
 
-impl From<FileFault> for FileRefusal {
-    ghost use Rattle.std.specs.Prelude.{◌≡◌};
-
-    ghost from_gives = { λ fault refusal. refusal.fault ≡ fault };
-
-    fn from(fault: FileFault) -> FileRefusal {
-        FileRefusal { fault, cause: None }
-    }
-}
-
-impl From<io::Error> for FileRefusal {
-    ghost use Rattle.std.specs.Prelude.{◌≢◌};
-    ghost use Rattle.sector_disk.specs.declared.file_device.FileFault.TheVariants.{BadLength};
-
-    ghost from_gives = { λ _ refusal. refusal.fault ≢ BadLength };
-
-    fn from(error: io::Error) -> FileRefusal {
-        let fault = match error.kind() {
-            ErrorKind::OutOfMemory => FileFault::OutOfMemory,
-            _ => FileFault::NoFile,
-        };
+impl FileRefusal {
+    // With the calls that were made.
+    fn new(refusal: OpeningFault, noted: Record) -> FileRefusal
+        ensures fault { result.fault ≡ refusal.fault }
+        ensures noted { result.noted.calls ≡ noted.calls }
+    {
         FileRefusal {
-            fault,
-            cause: Some(error),
+            fault: refusal.fault,
+            cause: refusal.cause,
+            noted,
         }
     }
 }
@@ -97,6 +86,7 @@ impl<S: Start, F: FileCalls> FileDevice<S, F> {
         requires offsets { 512 * sectors < 2 ^ 64 }
         ensures unused { IsUnused F.FileCalls.entries result }
         ensures len { device_len result ≡ sectors }
+        ensures file { result.file ≡ file }
     {
         FileDevice {
             file,
@@ -128,7 +118,7 @@ impl<S: Start, F: FileCalls> FileDevice<S, F> {
 }
 
 impl<S: Start> FileDevice<S> {
-    ghost use Rattle.sector_disk.specs.FileDevice.{device_len, IsUnused};
+    ghost use Rattle.sector_disk.specs.FileDevice.{device_len, IsUnused, opening};
 
     /// Takes the file at `path`, which it makes where there is none, and gives it this many sectors: what is cut off
     /// is lost, and what is new is zeros. The length and the name are on the disk then.
@@ -141,6 +131,7 @@ impl<S: Start> FileDevice<S> {
         ensures unused { IfOk result (IsUnused ⟦<HostFile as FileCalls>⟧.entries) }
         ensures len { IfOk result (λ device. device_len device ≡ sectors) }
         ensures too_long { IsErrOf result FileFault.BadLength ↔ (2 ^ 54 ≤ sectors) }
+        ensures made { IfOk result (λ device. IsMade (opening device.file) (512 * sectors)) }
     {
         match FileDevice::create_or_cause(rt, path, sectors, start) {
             Ok(device) => Ok(device),
@@ -161,14 +152,19 @@ impl<S: Start> FileDevice<S> {
             → IsErrAnd result (λ refusal. refusal.fault ≡ FileFault.BadLength) }
         ensures not_too_long { sectors < 2 ^ 54
             → IfErr result (λ refusal. refusal.fault ≢ FileFault.BadLength) }
+        ensures told { MatchResult result (λ device. IsMade (opening device.file) (512 * sectors))
+            (λ refusal. sectors < 2 ^ 54
+            → first_fault (answered refusal.noted.calls) ≡ Some refusal.fault) }
     {
+        let mut noted = Record::new();
         if sectors > MAX_SECTORS {
-            return Err(FileRefusal::from(FileFault::BadLength));
+            let refusal = OpeningFault::from(FileFault::BadLength);
+            return Err(FileRefusal::new(refusal, noted));
         }
-        let opened = OpenedFile::open_locked(rt, path, true)?;
-        opened.resize(sectors * SECTOR)?;
-        sync_folder(rt, path)?;
-        Ok(FileDevice::over(HostFile::new(opened.into_file()), sectors))
+        match make_file(rt, path, sectors * SECTOR, &mut noted) {
+            Ok(file) => Ok(FileDevice::over(HostFile::new(file, noted), sectors)),
+            Err(refusal) => Err(FileRefusal::new(refusal, noted)),
+        }
     }
 
     /// Opens the file at `path`.
@@ -178,6 +174,8 @@ impl<S: Start> FileDevice<S> {
         start: S,
     ) -> Result<FileDevice<S>, FileFault>
         ensures unused { IfOk result (IsUnused ⟦<HostFile as FileCalls>⟧.entries) }
+        ensures taken { IfOk result (λ device.
+            IsTaken (opening device.file) (512 * device_len device)) }
     {
         match FileDevice::at_or_cause(rt, path, start) {
             Ok(device) => Ok(device),
@@ -192,10 +190,15 @@ impl<S: Start> FileDevice<S> {
         _start: S,
     ) -> Result<FileDevice<S>, FileRefusal>
         ensures unused { IfOk result (IsUnused ⟦<HostFile as FileCalls>⟧.entries) }
+        ensures told { MatchResult result
+            (λ device. IsTaken (opening device.file) (512 * device_len device))
+            (λ refusal. taking_fault refusal.noted.calls ≡ Some refusal.fault) }
     {
-        let opened = OpenedFile::open_locked(rt, path, false)?;
-        let sectors = opened.sectors()?;
-        Ok(FileDevice::over(HostFile::new(opened.into_file()), sectors))
+        let mut noted = Record::new();
+        match take_file(rt, path, &mut noted) {
+            Ok((file, sectors)) => Ok(FileDevice::over(HostFile::new(file, noted), sectors)),
+            Err(refusal) => Err(FileRefusal::new(refusal, noted)),
+        }
     }
 }
 

@@ -9,14 +9,16 @@
 //! - `mem_device`: a device in memory, whose calls fail and whose sectors are lost as a test asks
 //! - `file_device`: a device over a plain file
 //! - `opened_file`: that file as it is opened: its lock first, then its length
-//! - `file_calls`, `answer`, `record`: that file's calls, each noted with its answer where only clauses read
+//! - `file_calls`, `moving`: that file's reads, writes and syncs, by calls of the system until all is moved
+//! - `system`, `system_call`, `record`: these calls, each noted with its answer where only clauses read
 //! - `start`: what is supposed of a file as it is opened
 //! - `laws`: what the model means
 //!
 //! The model is this project's own, and the usual one of a disk with a write cache: a sector is old or new after a stop,
 //! never a mixture within it, and a successful sync makes all earlier writes durable. `specs/Model.antt` and
 //! `specs/History.antt` say it, `specs/Sectors.antt` what a call's clauses name, `specs/Memory.antt` and
-//! `specs/FileRecord.antt` the two devices, `specs/Laws.antt` the laws.
+//! `specs/FileRecord.antt` the two devices, `specs/Laws.antt` the laws. `specs/Told.antt` says what calls of the system come to
+//! as reads, writes and syncs, `specs/Opening.antt` what they come to as a file is opened.
 //!
 //! Proved:
 //! - A `MemDevice` is always honest. What a stop may leave of it is exactly what the model allows: `crash` leaves such an
@@ -26,24 +28,27 @@
 //!   Such a file stays honest (`a_file_can_stay_honest`), and is as a device in memory (`a_file_is_as_a_device_in_memory`).
 //! - After a sync there is one image (`one_image_after_a_sync`), within a write each sector is old or new
 //!   (`old_or_new_within_a_write`).
+//! - A file's write is finished only where the bytes that its calls moved are all of them, in order; an interrupted call is made
+//!   again; a failed sync stays one whatever comes behind it (`FileCalls` for `HostFile`).
+//! - The lock of a file is taken before its length is looked at or set. What is answered of an opening is what its calls came
+//!   to: each fault, and the length that the device has (`told` of `at_or_cause` and `create_or_cause`).
 //!
-//! - The lock of a file is taken before its length is looked at or set: what does that wants an `OpenedFile` whose lock was
-//!   taken.
-//!
-//! Trusted, since no proof shows it: that `HostFile` makes each call that it notes, that `OpenedFile` asks for the lock and the
-//! system keeps it, that `create` syncs the file and its folder, that nobody writes the file without asking for its lock, and
-//! that what the next opening finds is an image that the model allows.
+//! Trusted, since no proof shows it: that each function of `system` makes the one call that it notes, that the system keeps a
+//! lock, that nobody writes the file without asking for its lock, and that what the next opening finds is an image that the
+//! model allows.
 #![tactic(auto)]
 
-mod answer;
 mod file_calls;
 mod file_device;
 mod laws;
 mod mem_device;
+mod moving;
 mod opened_file;
 mod record;
 mod sectors;
 mod start;
+mod system;
+mod system_call;
 
 pub use file_calls::{FileCalls, HostFile};
 pub use file_device::{FileDevice, FileFault, FileRefusal};

@@ -1,21 +1,71 @@
 //! A file from its opening to its first call as a device. The lock is taken first, and the length is looked at and set under
-//! it, since another process that has the file may be writing it.
+//! it, since another process that has the file may be writing it. Each step notes its calls, which say what its fault means.
 //!
 //! The lock is the system's advisory one on the whole file (`flock`). It is freed where the file is closed, so by the death of
 //! its process too, and keeps out those alone who ask for it.
-ghost use Rattle.std.specs.Prelude.{◌≡◌, ◌*◌, ◌/◌, ◌%◌, ◌^◌, ◌<◌, ◌≢◌, IfOk, IfErr, IsTrue, IsErrOf, Ok, false};
-ghost use Rattle.std.specs.Fs.{metadata_len, file_type, IsFile};
+ghost use Rattle.std.specs.Prelude.{◌≡◌, ◌*◌, ◌/◌, ◌%◌, ◌^◌, ◌<◌, ◌≤◌, ◌≢◌, IfOk, IfErr, IsTrue, IsErrOf, Ok, Some, None, false, List, [], ◌∷◌};
+ghost use Rattle.std.specs.IoError.{error_kind};
+ghost use Rattle.sector_disk.specs.SystemCalls.{answered};
+ghost use Rattle.sector_disk.specs.Opening.{fault_of, lock_fault, folder_fault, first_fault, len_after, taking_fault, is_file_synced, is_synced, fault_told, IsTaken, IsMade};
 
 use crate::file_calls::SECTOR;
-use crate::{FileFault, FileRefusal};
-use std::fs::{File, Files, Metadata, OpenOptions, TryLockError};
+use crate::moving::write_some;
+use crate::record::Record;
+use crate::system_call::SystemCall;
+use crate::{FileFault, system};
+use std::fs::{File, Files};
 use std::io;
 use std::io::ErrorKind;
-use std::os::unix::fs::FileExt;
 use std::path::Path;
 
 /// What is written where a file gets longer, at once.
 const ZEROS: [u8; 4096] = [0; 4096];
+
+/// Why an opening fails, and what the system said, if it was asked.
+#[derive(Clone, Copy)]
+pub struct OpeningFault {
+    pub fault: FileFault,
+    pub cause: Option<io::Error>,
+}
+
+impl From<FileFault> for OpeningFault {
+    ghost use Rattle.std.specs.Prelude.{◌≡◌};
+
+    ghost from_gives = { λ fault refusal. refusal.fault ≡ fault };
+
+    fn from(fault: FileFault) -> OpeningFault {
+        OpeningFault { fault, cause: None }
+    }
+}
+
+impl From<io::Error> for OpeningFault {
+    ghost use Rattle.std.specs.Prelude.{◌≡◌};
+    ghost use Rattle.std.specs.IoError.{error_kind};
+    ghost use Rattle.sector_disk.specs.Opening.{fault_of};
+
+    ghost from_gives = { λ error refusal. refusal.fault ≡ fault_of (error_kind error) };
+
+    fn from(error: io::Error) -> OpeningFault {
+        let fault = match error.kind() {
+            ErrorKind::OutOfMemory => FileFault::OutOfMemory,
+            _ => FileFault::NoFile,
+        };
+        OpeningFault {
+            fault,
+            cause: Some(error),
+        }
+    }
+}
+
+// A lock that is refused.
+fn lock_refusal(error: io::Error) -> OpeningFault
+    ensures { result.fault ≡ lock_fault (error_kind error) }
+{
+    match error.kind() {
+        ErrorKind::WouldBlock => OpeningFault::from(FileFault::InUse),
+        _ => OpeningFault::from(error),
+    }
+}
 
 /// An open file, and whether its lock was taken.
 #[derive(Drop)]
@@ -30,15 +80,15 @@ impl OpenedFile {
         rt: &R,
         path: &str,
         is_made: bool,
-    ) -> Result<OpenedFile, FileRefusal>
+        noted: &mut Record,
+    ) -> Result<OpenedFile, OpeningFault>
+        requires no_fault { first_fault (answered noted.old.calls) ≡ None }
         ensures unlocked { IfOk result (λ opened. opened.is_locked ≡ false) }
-        ensures refused { IfErr result (λ refusal. refusal.fault ≢ FileFault.BadLength) }
+        ensures asked { IfOk result (λ _.
+            noted.new.calls ≡ (SystemCall.Open None, []) ∷ noted.old.calls) }
+        ensures told { first_fault (answered noted.new.calls) ≡ fault_told result }
     {
-        let file = OpenOptions::new()
-            .read(true)
-            .write(true)
-            .create(is_made)
-            .open(rt, path)?;
+        let file = system::open(rt, path, is_made, noted)?;
         Ok(OpenedFile {
             file,
             is_locked: false,
@@ -46,14 +96,15 @@ impl OpenedFile {
     }
 
     // Takes the lock, which another process may have.
-    fn lock(&mut self) -> Result<(), FileRefusal>
+    fn lock(&mut self, noted: &mut Record) -> Result<(), OpeningFault>
+        requires no_fault { first_fault (answered noted.old.calls) ≡ None }
         ensures locked { IfOk result (λ _. IsTrue self.new.is_locked) }
-        ensures refused { IfErr result (λ refusal. refusal.fault ≢ FileFault.BadLength) }
+        ensures asked { IfOk result (λ _.
+            noted.new.calls ≡ (SystemCall.Lock None, []) ∷ noted.old.calls) }
+        ensures told { first_fault (answered noted.new.calls) ≡ fault_told result }
     {
-        match self.file.try_lock() {
-            Ok(()) => {}
-            Err(TryLockError::WouldBlock) => return Err(FileRefusal::from(FileFault::InUse)),
-            Err(TryLockError::Error(error)) => return Err(FileRefusal::from(error)),
+        if let Err(error) = system::lock(&self.file, noted) {
+            return Err(lock_refusal(error));
         }
         self.is_locked = true;
         Ok(())
@@ -64,36 +115,57 @@ impl OpenedFile {
         rt: &R,
         path: &str,
         is_made: bool,
-    ) -> Result<OpenedFile, FileRefusal>
+        noted: &mut Record,
+    ) -> Result<OpenedFile, OpeningFault>
+        requires no_fault { first_fault (answered noted.old.calls) ≡ None }
         ensures locked { IfOk result (λ opened. IsTrue opened.is_locked) }
-        ensures refused { IfErr result (λ refusal. refusal.fault ≢ FileFault.BadLength) }
+        ensures asked { IfOk result (λ _. noted.new.calls
+            ≡ (SystemCall.Lock None, []) ∷ (SystemCall.Open None, []) ∷ noted.old.calls) }
+        ensures told { first_fault (answered noted.new.calls) ≡ fault_told result }
     {
-        let mut opened = OpenedFile::open(rt, path, is_made)?;
-        opened.lock()?;
+        let mut opened = OpenedFile::open(rt, path, is_made, noted)?;
+        opened.lock(noted)?;
         Ok(opened)
     }
 
-    /// How many sectors the file has, if it is a plain file of whole sectors.
-    pub fn sectors(&self) -> Result<u64, FileRefusal>
+    // The length of the file, if it is a plain one.
+    fn measure(&self, noted: &mut Record) -> Result<u64, OpeningFault>
         requires locked { IsTrue self.now.is_locked }
-        ensures offsets { IfOk result (λ n. 512 * n < 2 ^ 64) }
+        requires no_fault { first_fault (answered noted.old.calls) ≡ None }
+        ensures told { first_fault (answered noted.new.calls) ≡ fault_told result }
+        ensures len { IfOk result (λ len. len_after (answered noted.new.calls) ≡ Some len) }
     {
-        let metadata = self.file.metadata()?;
-        Ok(sectors_in(&metadata)?)
+        let extent = system::measure(&self.file, noted)?;
+        if !extent.is_file {
+            return Err(OpeningFault::from(FileFault::NoFile));
+        }
+        Ok(extent.len)
+    }
+
+    /// How many sectors the file has, if it is a plain file of whole sectors.
+    pub fn sectors(&self, noted: &mut Record) -> Result<u64, OpeningFault>
+        requires locked { IsTrue self.now.is_locked }
+        requires no_fault { first_fault (answered noted.old.calls) ≡ None }
+        ensures offsets { IfOk result (λ n. 512 * n < 2 ^ 64) }
+        ensures taken { IfOk result (λ n. IsTaken noted.new.calls (512 * n)) }
+        ensures refused { IfErr result (λ refusal.
+            taking_fault noted.new.calls ≡ Some refusal.fault) }
+    {
+        let len = self.measure(noted)?;
+        Ok(sectors_of(len)?)
     }
 
     /// Gives a plain file this length, and puts it on the disk. What is cut off is lost. What is new is written as zeros, so
     /// that a disk which has no room for it says so now.
-    pub fn resize(&self, len: u64) -> Result<(), FileRefusal>
+    pub fn resize(&self, len: u64, noted: &mut Record) -> Result<(), OpeningFault>
         requires locked { IsTrue self.now.is_locked }
-        ensures refused { IfErr result (λ refusal. refusal.fault ≢ FileFault.BadLength) }
+        requires no_fault { first_fault (answered noted.old.calls) ≡ None }
+        ensures told { first_fault (answered noted.new.calls) ≡ fault_told result }
+        ensures len { IfOk result (λ _. len_after (answered noted.new.calls) ≡ Some len) }
+        ensures synced { IfOk result (λ _. IsTrue (is_file_synced (answered noted.new.calls))) }
     {
-        let metadata = self.file.metadata()?;
-        if !metadata.is_file() {
-            return Err(FileRefusal::from(FileFault::NoFile));
-        }
-        settle_len(&self.file, metadata.len(), len)?;
-        Ok(())
+        let old = self.measure(noted)?;
+        settle_len(&self.file, old, len, noted)
     }
 
     /// The file alone, whose lock stays.
@@ -106,30 +178,62 @@ impl OpenedFile {
 
 // Gives a file that is `old` bytes long another length, and syncs it. Where the disk has no room, the file gives back what it
 // took.
-fn settle_len(file: &File, old: u64, len: u64) -> io::Result<()> {
+fn settle_len(file: &File, old: u64, len: u64, noted: &mut Record) -> Result<(), OpeningFault>
+    requires no_fault { first_fault (answered noted.old.calls) ≡ None }
+    requires old { len_after (answered noted.old.calls) ≡ Some old }
+    ensures told { first_fault (answered noted.new.calls) ≡ fault_told result }
+    ensures len { IfOk result (λ _. len_after (answered noted.new.calls) ≡ Some len) }
+    ensures synced { IfOk result (λ _. IsTrue (is_file_synced (answered noted.new.calls))) }
+{
     if len <= old {
-        file.set_len(len)?;
-        return file.sync_all();
+        return shorten(file, len, noted);
     }
-    if let Err(error) = lengthen(file, old, len) {
-        let _ = file.set_len(old);
-        return Err(error);
+    if let Err(refusal) = lengthen(file, old, len, noted) {
+        let _ = system::set_len(file, old, noted);
+        return Err(refusal);
     }
     Ok(())
 }
 
-fn lengthen(file: &File, old: u64, len: u64) -> io::Result<()> {
-    write_zeros(file, old, len)?;
-    file.sync_all()
+// Gives a file this length, which is not above its own, and syncs it.
+fn shorten(file: &File, len: u64, noted: &mut Record) -> Result<(), OpeningFault>
+    requires no_fault { first_fault (answered noted.old.calls) ≡ None }
+    ensures told { first_fault (answered noted.new.calls) ≡ fault_told result }
+    ensures len { IfOk result (λ _. len_after (answered noted.new.calls) ≡ Some len) }
+    ensures synced { IfOk result (λ _. IsTrue (is_file_synced (answered noted.new.calls))) }
+{
+    system::set_len(file, len, noted)?;
+    system::sync_all(file, noted)?;
+    Ok(())
 }
 
-// Writes zeros from one offset to the other.
-fn write_zeros(file: &File, from: u64, to: u64) -> io::Result<()> {
+// Writes zeros behind a file that is `old` bytes long, up to another length, and syncs it.
+fn lengthen(file: &File, old: u64, len: u64, noted: &mut Record) -> Result<(), OpeningFault>
+    requires longer { old < len }
+    requires no_fault { first_fault (answered noted.old.calls) ≡ None }
+    requires old { len_after (answered noted.old.calls) ≡ Some old }
+    ensures told { first_fault (answered noted.new.calls) ≡ fault_told result }
+    ensures len { IfOk result (λ _. len_after (answered noted.new.calls) ≡ Some len) }
+    ensures synced { IfOk result (λ _. IsTrue (is_file_synced (answered noted.new.calls))) }
+{
+    write_zeros(file, old, len, noted)?;
+    system::sync_all(file, noted)?;
+    Ok(())
+}
+
+// Writes zeros from one offset, the file's length, to the other.
+fn write_zeros(file: &File, from: u64, to: u64, noted: &mut Record) -> Result<(), OpeningFault>
+    requires longer { from ≤ to }
+    requires no_fault { first_fault (answered noted.old.calls) ≡ None }
+    requires old { len_after (answered noted.old.calls) ≡ Some from }
+    ensures told { first_fault (answered noted.new.calls) ≡ fault_told result }
+    ensures len { IfOk result (λ _. len_after (answered noted.new.calls) ≡ Some to) }
+{
     let mut at = from;
     while at < to {
         let len = (to - at).min(ZEROS.len() as u64);
-        file.write_all_at(&ZEROS[..len as usize], at)?;
-        at += len;
+        let moved = write_some(file, &ZEROS[..len as usize], at, noted)?;
+        at += moved as u64;
     }
     Ok(())
 }
@@ -146,30 +250,68 @@ fn sectors_of(len: u64) -> Result<u64, FileFault>
     }
 }
 
-// How many sectors a file has, if it is a plain file of whole sectors.
-fn sectors_in(metadata: &Metadata) -> Result<u64, FileFault>
-    ensures sectors { IfOk result
-        (λ n. IsFile (file_type metadata.now) × (metadata_len metadata.now ≡ 512 * n)) }
-    ensures offsets { IfOk result (λ n. 512 * n < 2 ^ 64) }
-    ensures no_file { IsErrOf result FileFault.NoFile → IsFile (file_type metadata.now) → ⊥ }
-    ensures other_length { IsErrOf result FileFault.BadLength
-        → metadata_len metadata.now % 512 ≢ 0 }
+/// Opens a file as it is, and says how many sectors it has.
+pub fn take_file<R: Files<File = File>>(
+    rt: &R,
+    path: &str,
+    noted: &mut Record,
+) -> Result<(File, u64), OpeningFault>
+    requires no_fault { first_fault (answered noted.old.calls) ≡ None }
+    ensures offsets { IfOk result (λ taken. 512 * taken.1 < 2 ^ 64) }
+    ensures taken { IfOk result (λ taken. IsTaken noted.new.calls (512 * taken.1)) }
+    ensures refused { IfErr result (λ refusal. taking_fault noted.new.calls ≡ Some refusal.fault) }
 {
-    if !metadata.is_file() {
-        return Err(FileFault::NoFile);
-    }
-    sectors_of(metadata.len())
+    let opened = OpenedFile::open_locked(rt, path, false, noted)?;
+    let sectors = opened.sectors(noted)?;
+    Ok((opened.into_file(), sectors))
 }
 
-/// Puts a new file's name on the disk.
-pub fn sync_folder<R: Files<File = File>>(rt: &R, path: &str) -> io::Result<()> {
+/// Opens a file, which it makes where there is none, and gives it this length. The length and the name are on the disk then.
+pub fn make_file<R: Files<File = File>>(
+    rt: &R,
+    path: &str,
+    len: u64,
+    noted: &mut Record,
+) -> Result<File, OpeningFault>
+    requires no_fault { first_fault (answered noted.old.calls) ≡ None }
+    ensures made { IfOk result (λ _. IsMade noted.new.calls len) }
+    ensures told { first_fault (answered noted.new.calls) ≡ fault_told result }
+{
+    let opened = OpenedFile::open_locked(rt, path, true, noted)?;
+    opened.resize(len, noted)?;
+    sync_folder(rt, path, noted)?;
+    Ok(opened.into_file())
+}
+
+// Puts a new file's name on the disk.
+fn sync_folder<R: Files<File = File>>(
+    rt: &R,
+    path: &str,
+    noted: &mut Record,
+) -> Result<(), OpeningFault>
+    requires no_fault { first_fault (answered noted.old.calls) ≡ None }
+    requires synced { IsTrue (is_file_synced (answered noted.old.calls)) }
+    ensures told { first_fault (answered noted.new.calls) ≡ fault_told result }
+    ensures len { len_after (answered noted.new.calls) ≡ len_after (answered noted.old.calls) }
+    ensures synced { IfOk result (λ _. IsTrue (is_synced (answered noted.new.calls))) }
+{
     let folder = match Path::new(path).parent() {
         Some(parent) if !parent.as_str().is_empty() => parent.as_str(),
         _ => ".",
     };
-    match File::open(rt, folder)?.sync_all() {
-        // Some file systems have no sync of a folder.
-        Err(error) if error.kind() == ErrorKind::InvalidInput => Ok(()),
-        synced => synced,
+    let folder = system::open_folder(rt, folder, noted)?;
+    match system::sync_folder(&folder, noted) {
+        Ok(()) => Ok(()),
+        Err(error) => folder_answer(error),
+    }
+}
+
+// A folder that is not synced. Some file systems have no sync of a folder.
+fn folder_answer(error: io::Error) -> Result<(), OpeningFault>
+    ensures { fault_told result ≡ folder_fault (error_kind error) }
+{
+    match error.kind() {
+        ErrorKind::InvalidInput => Ok(()),
+        _ => Err(OpeningFault::from(error)),
     }
 }

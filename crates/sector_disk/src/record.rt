@@ -1,17 +1,17 @@
-//! A list of calls with their answers that only clauses read. It takes no memory, and its methods do nothing at run time.
+//! A list of calls of the system that only clauses read. It takes no memory, and its methods do nothing at run time.
 //! Since it has no bytes, these methods are proved by hand.
 ghost use Rattle.std.specs.Prelude.{◌≡◌, ℕ, List, [], ◌∷◌};
 ghost use Rattle.std.specs.Borrow.{ftrue};
-ghost use Rattle.sector_disk.specs.declared.answer.Answer.{Answer};
+ghost use Rattle.sector_disk.specs.declared.system_call.SystemCall.{SystemCall};
 
-use crate::answer::Answer;
+use crate::system_call::SystemCall;
 use std::marker::{Model, PhantomData};
 
-/// The answers of a file, the newest first, each with the bytes that were read or written.
+/// The calls made for a file, the newest first, each with the bytes that were read or written.
 #[derive(Drop)]
 pub struct Record {
     marker: PhantomData<u8>,
-    pub ghost answers: { List (Answer × List ℕ) },
+    pub ghost calls: { List (SystemCall × List ℕ) },
 }
 
 impl Model for Record {
@@ -20,14 +20,14 @@ impl Model for Record {
 
 impl Record {
     pub fn new() -> Record
-        ensures { result.answers ≡ [] }
+        ensures { result.calls ≡ [] }
     {
         Record {
             marker: PhantomData,
         }
     }
 
-    pub fn note(&mut self, _answer: &Answer, _bytes: &[u8])
-        ensures { self.new.answers ≡ (_answer.now, _bytes.now) ∷ self.old.answers }
+    pub fn note(&mut self, _call: &SystemCall, _bytes: &[u8])
+        ensures { self.new.calls ≡ (_call.now, _bytes.now) ∷ self.old.calls }
     {}
 }

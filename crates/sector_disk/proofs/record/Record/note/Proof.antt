@@ -26,8 +26,8 @@ use denote.Triple.Spec.{Meets, triple_of}
 use denote.Triple.Table.{entered}
 use denote.Triple.Walked.{says, Stays, stay_ref, walk_of, AllGo, Goes-ref, Walks, ends_at, walked, walk_Meets}
 use Rattle.sector_disk.specs.declared.record.Record.{Record}
-use Rattle.sector_disk.specs.declared.answer.Answer.{Answer}
-use Rattle.sector_disk.specs.contracts.answer.Answer as Told
+use Rattle.sector_disk.specs.declared.system_call.SystemCall.{SystemCall}
+use Rattle.sector_disk.specs.contracts.system_call.SystemCall as Told
 use Rattle.sector_disk.specs.contracts.record.Record as T
 use Rattle.sector_disk.specs.contracts.record.Record.note.Key.{name as #it}
 use Rattle.sector_disk.specs.contracts.record.Record.note as it
@@ -40,19 +40,19 @@ use denote.Triple.Walked.{stay_none_ref, stay_none_slice, Goes-none_ref, Goes-no
 use Rattle.std.proofs.Common.{◌<◌, ◌^◌, length}
 
 abbrev Arg : Type 0
-Arg = MutBor Record × (Bor Answer × (Bor (List ℕ) × Unit {0}))
+Arg = MutBor Record × (Bor SystemCall × (Bor (List ℕ) × Unit {0}))
 
 abbrev stayed : Stays (it.ended).signature.params (it.ended).kept
 stayed = (stay_ref (0 ∷ []) tt (plain (λ _. T.the_row)), (stay_none_ref (1 ∷ []) tt (plain (λ _. Told.the_row)) yes, (stay_none_slice (2 ∷ []) tt (plain (λ _. u8)) yes, tt)))
 
-module _ {M : Type 1} {𝓤 : Ura M} (𝓛 : Logic 𝓤) (at_mem : Memory → SProp 𝓤) (run : Routine → Fun 𝓤) (κ κ' κ'' : Lft) (q q' q'' : Share) (b o : ℕ) (γ : GName) (h : Record) (k : Bor Answer) (s : Bor (List ℕ)) where
+module _ {M : Type 1} {𝓤 : Ura M} (𝓛 : Logic 𝓤) (at_mem : Memory → SProp 𝓤) (run : Routine → Fun 𝓤) (κ κ' κ'' : Lft) (q q' q'' : Share) (b o : ℕ) (γ : GName) (h : Record) (k : Bor SystemCall) (s : Bor (List ℕ)) where
   open 𝓛 use {H}
 
   abbrev x : Arg
   x = (record { ref_ptr = (b, o); ghost_name = γ; now = h }, (k, (s, tt)))
 
   abbrev h' : Record
-  h' = record { marker = h.marker; answers = (k.now, s.now) ∷ h.answers }
+  h' = record { marker = h.marker; calls = (k.now, s.now) ∷ h.calls }
 
   abbrev at : List Val × (List Val × (List Val × Unit {0}))
   at = (vptr b o ∷ [], (vptr k.ref_ptr.0 k.ref_ptr.1 ∷ [], (slice_val s.ref_ptr (length s.now) ∷ [], tt)))

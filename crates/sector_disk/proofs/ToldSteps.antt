@@ -1,0 +1,141 @@
+-- How a call of the system goes on with a read or a write.
+use Rattle.std.proofs.Common.{◌≡◌, inl, inr, ◌⊎◌, ℕ, ◌+◌, ◌-◌, ◌*◌, ◌/◌, ◌<◌, ◌≤◌, Bool, true, false, cond, ◌&&◌, ◌==◌, List, [], ◌∷◌, ◌++◌, length, take, drop, refl, sym, ◌∙◌, ap, subst, arith, Option, Some, None, nat_le}
+use Rattle.std.proofs.lemmas.Bool.{le-leb, lt-leb, eq-eqb}
+use Rattle.std.proofs.lemmas.Bool.Decides.{leb_tells}
+use Rattle.std.proofs.lemmas.List.{append-nil, length-append, length-drop, length-take-le}
+use Rattle.std.proofs.Math.Seq.{take-append-add, drop-append-add}
+use Rattle.std.proofs.Math.ListN.{drop_of_length-le}
+use Rattle.std.proofs.Math.Nat.{mul-div_cancel}
+use borrow.Rule.Slice.PartMut.{put_mid}
+use Rattle.std.specs.declared.io.ErrorKind.{ErrorKind}
+use Rattle.sector_disk.specs.declared.system_call.SystemCall.{SystemCall}
+use Rattle.sector_disk.specs.declared.system_call.SystemCall.TheVariants.{ReadAt, ReadAtFailed, WriteAt, WriteAtFailed}
+use Rattle.sector_disk.specs.SystemCalls.{Noted, answered}
+use Rattle.sector_disk.specs.FileRecord.{Entry, ReadGave, WriteFinished, WriteFailed}
+use Rattle.sector_disk.specs.FileCalls.{read_entry, write_entry}
+use Rattle.sector_disk.specs.Told.{Way, Reads, Writes, Transfer, Told, finished, failed, is_same, goes_on, moved_on, stopped, by_going, after, told_in, told_by}
+
+-- a read or a write of which so many bytes have moved
+abbrev pub so_far : List Entry → Way → ℕ → List ℕ → ℕ → Told
+so_far entries way start bytes at = moved_on entries way start [] bytes at
+
+-- one that is done with
+abbrev pub done : List Entry → Entry → Told
+done entries entry = record { entries = entry ∷ entries; going = None }
+
+same_way : (way : Way) → is_same way way ≡ true
+same_way Reads = refl
+same_way Writes = refl
+
+first_of : {A : Type 0} (b : Bool) (x y : A) → b ≡ true → cond b x y ≡ x
+first_of b x y e = subst (λ (c : Bool). cond c x y ≡ x) (sym e) refl
+
+second_of : {A : Type 0} (b : Bool) (x y : A) → b ≡ false → cond b x y ≡ y
+second_of b x y e = subst (λ (c : Bool). cond c x y ≡ y) (sym e) refl
+
+all_true : (a b c : Bool) → a ≡ true → b ≡ true → c ≡ true → (a && b && c) ≡ true
+all_true a b c x y z =
+    subst (λ (t : Bool). (t && b && c) ≡ true) (sym x) (subst (λ (t : Bool). (true && t && c) ≡ true) (sym y) (subst (λ (t : Bool). (true && true && t) ≡ true) (sym z) refl))
+
+-- a read or a write that all its bytes were moved of
+pub whole : (entries : List Entry) (way : Way) (start : ℕ) (bytes : List ℕ) (at : ℕ) → length bytes ≤ at → so_far entries way start bytes at ≡ done entries (finished way start bytes)
+whole entries way start bytes at all = first_of (nat_le (length bytes) at) _ _ (le-leb (length bytes) at all)
+
+module _ (entries : List Entry) (way : Way) (start : ℕ) (bytes piece : List ℕ) (at n : ℕ) (more : at < length bytes) (rest : length piece ≡ length (drop at bytes)) where
+  abbrev going : Transfer
+  going = record { way = way; start = start; moved = take at bytes; left = drop at bytes }
+
+  abbrev open_still : Told
+  open_still = record { entries = entries; going = Some going }
+
+  is_open : so_far entries way start bytes at ≡ open_still
+  is_open = second_of (nat_le (length bytes) at) _ _ (lt-leb (length bytes) at more)
+
+  moved : length (take at bytes) ≡ at
+  moved = length-take-le at bytes (omega (arith, more))
+
+  asks : goes_on going way (start + at) (length piece) ≡ true
+  asks = all_true (is_same way way) (start + at == start + length (take at bytes)) (length piece == length (drop at bytes)) (same_way way) (eq-eqb (start + at) (start + length (take at bytes)) (ap (λ (k : ℕ). start + k) (sym moved))) (eq-eqb (length piece) (length (drop at bytes)) rest)
+
+  size : length (take at bytes ++ piece) ≡ at + length piece
+  size = length-append (take at bytes) piece ∙ ap (λ (k : ℕ). k + length piece) moved
+
+  joined : moved_on entries way start (take at bytes) piece n ≡ so_far entries way start (take at bytes ++ piece) (at + n)
+  joined = by_test (leb_tells (length piece) n)
+    where
+      by_test : ((nat_le (length piece) n ≡ true) × (length piece ≤ n)) ⊎ ((nat_le (length piece) n ≡ false) × (n < length piece)) → moved_on entries way start (take at bytes) piece n ≡ so_far entries way start (take at bytes ++ piece) (at + n)
+      by_test (inl (is, le)) =
+          first_of (nat_le (length piece) n) _ _ is
+          ∙ sym (whole entries way start (take at bytes ++ piece) (at + n) (omega (arith, le, size)))
+      by_test (inr (is, lt)) =
+          let front = ap (λ (k : ℕ). take (k + n) (take at bytes ++ piece)) (sym moved) ∙ take-append-add (take at bytes) piece n in
+          let back = ap (λ (k : ℕ). drop (k + n) (take at bytes ++ piece)) (sym moved) ∙ drop-append-add (take at bytes) piece n in
+          second_of (nat_le (length piece) n) _ _ is
+          ∙ ap (λ (xs : List ℕ). record { entries = entries; going = Some (record { way = way; start = start; moved = xs; left = drop n piece }) }) (sym front)
+          ∙ ap (λ (xs : List ℕ). record { entries = entries; going = Some (record { way = way; start = start; moved = take (at + n) (take at bytes ++ piece); left = xs }) }) (sym back)
+          ∙ sym (second_of (nat_le (length (take at bytes ++ piece)) (at + n)) _ _ (lt-leb (length (take at bytes ++ piece)) (at + n) (omega (arith, lt, size))))
+
+  abbrev step : (List Entry → Way → ℕ → List ℕ → List ℕ → ℕ → Told) → Told → ℕ → Told
+  step does told m = by_going does told.entries told.going way (start + at) piece m
+
+  -- a call for the rest that moved n bytes
+  pub goes : step moved_on (so_far entries way start bytes at) n ≡ so_far entries way start (take at bytes ++ piece) (at + n)
+  goes = ap (λ (told : Told). step moved_on told n) is_open ∙ first_of (goes_on going way (start + at) (length piece)) _ _ asks ∙ joined
+
+  -- a call for the rest that failed
+  pub stops : step stopped (so_far entries way start bytes at) 0 ≡ done entries (failed way start (take at bytes ++ piece))
+  stops = ap (λ (told : Told). step stopped told 0) is_open ∙ first_of (goes_on going way (start + at) (length piece)) _ _ asks
+
+abbrev pub moved_call : Way → ℕ → ℕ → SystemCall
+moved_call Reads offset n = ReadAt offset n
+moved_call Writes offset n = WriteAt offset n
+
+abbrev pub failed_call : Way → ℕ → ErrorKind → SystemCall
+failed_call Reads offset kind = ReadAtFailed offset kind
+failed_call Writes offset kind = WriteAtFailed offset kind
+
+after_moved : (way : Way) (told : Told) (offset n : ℕ) (bytes : List ℕ) → after told (moved_call way offset n) bytes ≡ by_going moved_on told.entries told.going way offset bytes n
+after_moved Reads told offset n bytes = refl
+after_moved Writes told offset n bytes = refl
+
+after_failed : (way : Way) (told : Told) (offset : ℕ) (kind : ErrorKind) (bytes : List ℕ) → after told (failed_call way offset kind) bytes ≡ by_going stopped told.entries told.going way offset bytes 0
+after_failed Reads told offset kind bytes = refl
+after_failed Writes told offset kind bytes = refl
+
+module _ (way : Way) (old new : List Noted) (start : ℕ) where
+  -- the first call of a read or a write
+  module _ (bytes : List ℕ) (none : (told_by old).going ≡ None) where
+    pub begins : (n : ℕ) → answered new ≡ (moved_call way start n, bytes) ∷ answered old → told_by new ≡ so_far (told_by old).entries way start bytes n
+    begins n more = ap told_in more ∙ after_moved way (told_by old) start n bytes ∙ ap (λ (g : Option Transfer). by_going moved_on (told_by old).entries g way start bytes n) none
+
+    pub fails : (kind : ErrorKind) → answered new ≡ (failed_call way start kind, bytes) ∷ answered old → told_by new ≡ done (told_by old).entries (failed way start bytes)
+    fails kind more = ap told_in more ∙ after_failed way (told_by old) start kind bytes ∙ ap (λ (g : Option Transfer). by_going stopped (told_by old).entries g way start bytes 0) none
+
+  -- a further one, for what is left
+  module _ (entries : List Entry) (bytes piece : List ℕ) (at : ℕ) (is : told_by old ≡ so_far entries way start bytes at) (more : at < length bytes) (rest : length piece ≡ length (drop at bytes)) where
+    pub goes_further : (n : ℕ) → answered new ≡ (moved_call way (start + at) n, piece) ∷ answered old → told_by new ≡ so_far entries way start (take at bytes ++ piece) (at + n)
+    goes_further n next =
+        ap told_in next ∙ after_moved way (told_by old) (start + at) n piece ∙ ap (λ (told : Told). by_going moved_on told.entries told.going way (start + at) piece n) is ∙ goes entries way start bytes piece at n more rest
+
+    pub fails_further : (kind : ErrorKind) → answered new ≡ (failed_call way (start + at) kind, piece) ∷ answered old → told_by new ≡ done entries (failed way start (take at bytes ++ piece))
+    fails_further kind next =
+        ap told_in next ∙ after_failed way (told_by old) (start + at) kind piece ∙ ap (λ (told : Told). by_going stopped told.entries told.going way (start + at) piece 0) is ∙ stops entries way start bytes piece at 0 more rest
+
+-- a run of sectors begins at its first
+first_is : (first : ℕ) → first * 512 / 512 ≡ first
+first_is first = mul-div_cancel first (omega arith)
+
+pub write_finishes : (first : ℕ) (bytes : List ℕ) → finished Writes (first * 512) bytes ≡ write_entry true first bytes
+write_finishes first bytes = ap (λ (k : ℕ). (WriteFinished k, bytes)) (first_is first)
+
+pub write_fails : (first : ℕ) (bytes : List ℕ) → failed Writes (first * 512) bytes ≡ write_entry false first bytes
+write_fails first bytes = ap (λ (k : ℕ). (WriteFailed k, bytes)) (first_is first)
+
+pub read_finishes : (first : ℕ) (bytes : List ℕ) → finished Reads (first * 512) bytes ≡ read_entry true first bytes
+read_finishes first bytes = ap (λ (k : ℕ). (ReadGave k, bytes)) (first_is first)
+
+-- a buffer behind a read into what is left of it
+pub put_rest : (at : ℕ) (xs ys : List ℕ) → put_mid at (length xs - at) xs ys ≡ take at xs ++ ys
+put_rest at xs ys =
+    ap (λ (l : List ℕ). take at xs ++ (ys ++ l)) (drop_of_length-le (drop at xs) (omega (arith, length-drop at xs)))
+    ∙ ap (λ (l : List ℕ). take at xs ++ l) (append-nil ys)

@@ -1,0 +1,114 @@
+-- What opening or making a file came to, by the calls that were made of the system.
+use Rattle.std.specs.Prelude.{◌≡◌, ℕ, ◌+◌, ◌%◌, max, Bool, true, false, ◌&&◌, List, [], ◌∷◌, drop, Option, Some, None, is_none, Result, Ok, Err, if◌then◌else◌, ◌==◌, IsTrue}
+use Rattle.std.specs.Option.{option_or, option_map}
+use Rattle.std.specs.declared.io.ErrorKind.{ErrorKind}
+use Rattle.std.specs.declared.io.ErrorKind.TheVariants as kind
+use Rattle.sector_disk.specs.declared.file_device.FileFault.{FileFault}
+use Rattle.sector_disk.specs.declared.file_device.FileFault.TheVariants as faults
+use Rattle.sector_disk.specs.declared.opened_file.OpeningFault.{OpeningFault}
+use Rattle.sector_disk.specs.declared.system_call.SystemCall.{SystemCall}
+use Rattle.sector_disk.specs.declared.system_call.SystemCall.TheVariants.{Open, Lock, Measure, MeasureFailed, SetLen, WriteAt, WriteAtFailed, SyncAll, OpenFolder, SyncFolder}
+use Rattle.sector_disk.specs.SystemCalls.{Noted, is_memory, answered}
+
+-- a failure of the system as a fault
+abbrev pub fault_of : ErrorKind → FileFault
+fault_of kind = if is_memory kind then faults.OutOfMemory else faults.NoFile
+
+abbrev pub is_in_use : ErrorKind → Bool
+is_in_use kind.WouldBlock = true
+is_in_use _ = false
+
+abbrev pub is_not_offered : ErrorKind → Bool
+is_not_offered kind.InvalidInput = true
+is_not_offered _ = false
+
+-- a lock that is refused: another has it, or as any other failure
+abbrev pub lock_fault : ErrorKind → FileFault
+lock_fault kind = if is_in_use kind then faults.InUse else fault_of kind
+
+-- a folder's sync: some file systems have none, and say that it was asked wrongly
+abbrev pub folder_fault : ErrorKind → Option FileFault
+folder_fault kind = if is_not_offered kind then None else Some (fault_of kind)
+
+abbrev pub folder_fault_in : Option ErrorKind → Option FileFault
+folder_fault_in None = None
+folder_fault_in (Some kind) = folder_fault kind
+
+-- the fault that a call comes to, none where it did what was asked
+abbrev pub fault_in : SystemCall → Option FileFault
+fault_in (Open failed) = option_map fault_of failed
+fault_in (Lock failed) = option_map lock_fault failed
+fault_in (Measure is_file len) = if is_file then None else Some faults.NoFile
+fault_in (MeasureFailed kind) = Some (fault_of kind)
+fault_in (SetLen len failed) = option_map fault_of failed
+fault_in (WriteAtFailed offset kind) = Some (fault_of kind)
+fault_in (SyncAll failed) = option_map fault_of failed
+fault_in (OpenFolder failed) = option_map fault_of failed
+fault_in (SyncFolder failed) = folder_fault_in failed
+fault_in _ = None
+
+-- the fault of the first call that came to one
+abbrev pub first_fault : List Noted → Option FileFault
+first_fault [] = None
+first_fault (call ∷ earlier) = option_or (first_fault earlier) (fault_in call.0)
+
+abbrev pub len_if : Option ErrorKind → ℕ → Option ℕ → Option ℕ
+len_if None len before = Some len
+len_if (Some kind) len before = before
+
+-- the file's length after a call, as far as it is known
+abbrev pub len_by : SystemCall → Option ℕ → Option ℕ
+len_by (Measure is_file len) before = Some len
+len_by (SetLen len failed) before = len_if failed len before
+len_by (WriteAt offset moved) before = option_map (max (offset + moved)) before
+len_by _ before = before
+
+abbrev pub len_after : List Noted → Option ℕ
+len_after [] = None
+len_after (call ∷ earlier) = len_by call.0 (len_after earlier)
+
+-- the length is no whole number of sectors
+abbrev pub len_fault : Option ℕ → Option FileFault
+len_fault None = None
+len_fault (Some len) = if len % 512 == 0 then None else Some faults.BadLength
+
+-- a file that is taken as it is: its calls' first fault, else that of its length
+abbrev pub taking_fault : List Noted → Option FileFault
+taking_fault calls = option_or (first_fault (answered calls)) (len_fault (len_after (answered calls)))
+
+abbrev pub is_file_sync : SystemCall → Bool
+is_file_sync (SyncAll failed) = is_none failed
+is_file_sync _ = false
+
+abbrev pub is_folder_sync : SystemCall → Bool
+is_folder_sync (SyncFolder failed) = true
+is_folder_sync _ = false
+
+abbrev pub is_folder_synced : List Noted → Bool
+is_folder_synced [] = false
+is_folder_synced (call ∷ earlier) = is_folder_sync call.0
+
+-- the newest call synced the file
+abbrev pub is_file_synced : List Noted → Bool
+is_file_synced [] = false
+is_file_synced (call ∷ earlier) = is_file_sync call.0
+
+-- the newest calls synced the file, then opened its folder and synced that
+abbrev pub is_synced : List Noted → Bool
+is_synced calls = is_file_synced (drop 2 calls) && is_folder_synced calls
+
+-- what a step of an opening told: its fault
+abbrev pub fault_told : {T : Type 0} → Result T OpeningFault → Option FileFault
+fault_told (Ok _) = None
+fault_told (Err refusal) = Some refusal.fault
+
+-- The file was opened, locked and measured, and has this length, which is one of whole sectors.
+pub record IsTaken (calls : List Noted) (len : ℕ) : Type 0 where
+  pub no_fault : taking_fault calls ≡ None
+  pub length : len_after (answered calls) ≡ Some len
+
+-- The file was given this length, and then it and its folder were synced.
+pub record IsMade (calls : List Noted) (len : ℕ) : Type 0 where
+  pub no_fault : first_fault (answered calls) ≡ None
+  pub length : len_after (answered calls) ≡ Some len
+  pub synced : IsTrue (is_synced (answered calls))

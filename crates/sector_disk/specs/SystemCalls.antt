@@ -1,0 +1,48 @@
+-- Calls of the system, each with its answer, as they are noted: the newest first.
+use Rattle.std.specs.Prelude.{ℕ, Bool, true, false, List, [], ◌∷◌, Option, Some, None, Result, Ok, Err, if◌then◌else◌}
+use Rattle.std.specs.declared.io.ErrorKind.{ErrorKind}
+use Rattle.std.specs.declared.io.ErrorKind.TheVariants as kind
+use Rattle.std.specs.declared.io.Error.{Error}
+use Rattle.std.specs.IoError.{error_kind}
+use Rattle.sector_disk.specs.declared.system.Extent.{Extent}
+use Rattle.sector_disk.specs.declared.system_call.SystemCall.{SystemCall}
+use Rattle.sector_disk.specs.declared.system_call.SystemCall.TheVariants.{Measure, MeasureFailed, ReadAt, ReadAtFailed, WriteAt, WriteAtFailed}
+
+-- a call with the bytes that were read or written
+abbrev pub Noted : Type 0
+Noted = SystemCall × List ℕ
+
+abbrev pub kind_in : {T : Type 0} → Result T Error → Option ErrorKind
+kind_in (Ok _) = None
+kind_in (Err error) = Some (error_kind error)
+
+abbrev pub measured : Result Extent Error → SystemCall
+measured (Ok extent) = Measure extent.is_file extent.len
+measured (Err error) = MeasureFailed (error_kind error)
+
+abbrev pub read_at_answer : ℕ → Result ℕ Error → SystemCall
+read_at_answer offset (Ok moved) = ReadAt offset moved
+read_at_answer offset (Err error) = ReadAtFailed offset (error_kind error)
+
+abbrev pub write_at_answer : ℕ → Result ℕ Error → SystemCall
+write_at_answer offset (Ok moved) = WriteAt offset moved
+write_at_answer offset (Err error) = WriteAtFailed offset (error_kind error)
+
+abbrev pub is_memory : ErrorKind → Bool
+is_memory kind.OutOfMemory = true
+is_memory _ = false
+
+abbrev pub is_interruption : ErrorKind → Bool
+is_interruption kind.Interrupted = true
+is_interruption _ = false
+
+-- a read or a write that a signal interrupted: it moved nothing, and is made again
+abbrev pub is_interrupted : SystemCall → Bool
+is_interrupted (ReadAtFailed offset kind) = is_interruption kind
+is_interrupted (WriteAtFailed offset kind) = is_interruption kind
+is_interrupted _ = false
+
+-- the calls without those that were interrupted
+abbrev pub answered : List Noted → List Noted
+answered [] = []
+answered (call ∷ earlier) = if is_interrupted call.0 then answered earlier else call ∷ answered earlier

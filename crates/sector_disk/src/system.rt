@@ -1,0 +1,201 @@
+//! The calls of the system that a device over a file makes: each function here makes one of them, and notes it with its answer.
+//! No contract says what a system does, so that each does make the call that it notes is trusted. Nothing else calls a `File`.
+ghost use Rattle.std.specs.Prelude.{◌≡◌, ◌≤◌, ◌<◌, length, List, [], ◌∷◌, IfOk};
+ghost use Rattle.std.specs.IoError.{error_kind};
+ghost use Rattle.sector_disk.specs.SystemCalls.{kind_in, measured, read_at_answer, write_at_answer};
+
+use crate::record::Record;
+use crate::system_call::SystemCall;
+use std::fs::{File, Files, OpenOptions};
+use std::io;
+use std::io::ErrorKind;
+use std::os::unix::fs::FileExt;
+
+/// What is asked of a file's metadata.
+#[derive(Clone, Copy)]
+pub struct Extent {
+    pub is_file: bool,
+    pub len: u64,
+}
+
+// What kind of failure it was, if it was one.
+fn kind_of<T>(answer: &io::Result<T>) -> Option<ErrorKind>
+    ensures { result ≡ kind_in answer.now }
+{
+    match answer {
+        Ok(_) => None,
+        Err(error) => Some(error.kind()),
+    }
+}
+
+/// Opens the file for reading and writing, and where there is none makes it if that is asked.
+pub fn open<R: Files<File = File>>(
+    rt: &R,
+    path: &str,
+    is_made: bool,
+    noted: &mut Record,
+) -> io::Result<File>
+    ensures { noted.new.calls ≡ (SystemCall.Open (kind_in result), []) ∷ noted.old.calls }
+{
+    let opened = OpenOptions::new()
+        .read(true)
+        .write(true)
+        .create(is_made)
+        .open(rt, path);
+    let failed = kind_of(&opened);
+    noted.note(&SystemCall::Open { failed }, &[]);
+    opened
+}
+
+/// Takes the file's lock; `WouldBlock` where another has it.
+pub fn lock(file: &File, noted: &mut Record) -> io::Result<()>
+    ensures { noted.new.calls ≡ (SystemCall.Lock (kind_in result), []) ∷ noted.old.calls }
+{
+    let locked = file.try_lock().map_err(io::Error::from);
+    let failed = kind_of(&locked);
+    noted.note(&SystemCall::Lock { failed }, &[]);
+    locked
+}
+
+/// Asks for the file's metadata.
+pub fn measure(file: &File, noted: &mut Record) -> io::Result<Extent>
+    ensures { noted.new.calls ≡ (measured result, []) ∷ noted.old.calls }
+{
+    match file.metadata() {
+        Ok(metadata) => {
+            let is_file = metadata.is_file();
+            let len = metadata.len();
+            noted.note(&SystemCall::Measure { is_file, len }, &[]);
+            Ok(Extent { is_file, len })
+        }
+        Err(error) => {
+            let kind = error.kind();
+            noted.note(&SystemCall::MeasureFailed { kind }, &[]);
+            Err(error)
+        }
+    }
+}
+
+/// Gives the file this length.
+pub fn set_len(file: &File, len: u64, noted: &mut Record) -> io::Result<()>
+    ensures { noted.new.calls ≡ (SystemCall.SetLen len (kind_in result), []) ∷ noted.old.calls }
+{
+    let set = file.set_len(len);
+    let failed = kind_of(&set);
+    noted.note(&SystemCall::SetLen { len, failed }, &[]);
+    set
+}
+
+/// Reads bytes from this offset on, which may be fewer than there is room for. None where there is room is `UnexpectedEof`.
+pub fn read_at(file: &File, into: &mut [u8], offset: u64, noted: &mut Record) -> io::Result<usize>
+    ensures noted { noted.new.calls
+        ≡ (read_at_answer offset result, into.new) ∷ noted.old.calls }
+    ensures some { 0 < length into.new → IfOk result (λ moved. 0 < moved) }
+    ensures inside { IfOk result (λ moved. moved ≤ length into.new) }
+{
+    match file.read_at(into, offset) {
+        Ok(0) if !into.is_empty() => {
+            let kind = ErrorKind::UnexpectedEof;
+            noted.note(&SystemCall::ReadAtFailed { offset, kind }, into);
+            Err(io::Error::from(kind))
+        }
+        Ok(count) => {
+            let moved = count as u64;
+            noted.note(&SystemCall::ReadAt { offset, moved }, into);
+            Ok(count)
+        }
+        Err(error) => {
+            let kind = error.kind();
+            noted.note(&SystemCall::ReadAtFailed { offset, kind }, into);
+            Err(error)
+        }
+    }
+}
+
+/// Writes these bytes from this offset on, or the first few of them. None of them is `WriteZero`.
+pub fn write_at(file: &File, bytes: &[u8], offset: u64, noted: &mut Record) -> io::Result<usize>
+    ensures noted { noted.new.calls
+        ≡ (write_at_answer offset result, bytes.now) ∷ noted.old.calls }
+    ensures some { 0 < length bytes.now → IfOk result (λ moved. 0 < moved) }
+    ensures inside { IfOk result (λ moved. moved ≤ length bytes.now) }
+{
+    match file.write_at(bytes, offset) {
+        Ok(0) if !bytes.is_empty() => {
+            let kind = ErrorKind::WriteZero;
+            noted.note(&SystemCall::WriteAtFailed { offset, kind }, bytes);
+            Err(io::Error::from(kind))
+        }
+        Ok(count) => {
+            let moved = count as u64;
+            noted.note(&SystemCall::WriteAt { offset, moved }, bytes);
+            Ok(count)
+        }
+        Err(error) => {
+            let kind = error.kind();
+            noted.note(&SystemCall::WriteAtFailed { offset, kind }, bytes);
+            Err(error)
+        }
+    }
+}
+
+/// A read that is not asked for: it can't be, or was interrupted too often. It is noted as one that failed so.
+pub fn refuse_read(into: &[u8], offset: u64, kind: ErrorKind, noted: &mut Record) -> io::Error
+    ensures noted { noted.new.calls ≡ (SystemCall.ReadAtFailed offset kind, into.now) ∷ noted.old.calls }
+    ensures kind { error_kind result ≡ kind }
+{
+    noted.note(&SystemCall::ReadAtFailed { offset, kind }, into);
+    io::Error::from(kind)
+}
+
+/// A write that is not asked for: it can't be, or was interrupted too often. It is noted as one that failed so.
+pub fn refuse_write(bytes: &[u8], offset: u64, kind: ErrorKind, noted: &mut Record) -> io::Error
+    ensures noted { noted.new.calls ≡ (SystemCall.WriteAtFailed offset kind, bytes.now) ∷ noted.old.calls }
+    ensures kind { error_kind result ≡ kind }
+{
+    noted.note(&SystemCall::WriteAtFailed { offset, kind }, bytes);
+    io::Error::from(kind)
+}
+
+/// Puts the file's bytes on the disk (fdatasync).
+pub fn sync_data(file: &File, noted: &mut Record) -> io::Result<()>
+    ensures { noted.new.calls ≡ (SystemCall.SyncData (kind_in result), []) ∷ noted.old.calls }
+{
+    let synced = file.sync_data();
+    let failed = kind_of(&synced);
+    noted.note(&SystemCall::SyncData { failed }, &[]);
+    synced
+}
+
+/// Puts the file's bytes and metadata on the disk (fsync).
+pub fn sync_all(file: &File, noted: &mut Record) -> io::Result<()>
+    ensures { noted.new.calls ≡ (SystemCall.SyncAll (kind_in result), []) ∷ noted.old.calls }
+{
+    let synced = file.sync_all();
+    let failed = kind_of(&synced);
+    noted.note(&SystemCall::SyncAll { failed }, &[]);
+    synced
+}
+
+/// Opens a folder.
+pub fn open_folder<R: Files<File = File>>(
+    rt: &R,
+    path: &str,
+    noted: &mut Record,
+) -> io::Result<File>
+    ensures { noted.new.calls ≡ (SystemCall.OpenFolder (kind_in result), []) ∷ noted.old.calls }
+{
+    let opened = File::open(rt, path);
+    let failed = kind_of(&opened);
+    noted.note(&SystemCall::OpenFolder { failed }, &[]);
+    opened
+}
+
+/// Puts a folder's names on the disk.
+pub fn sync_folder(folder: &File, noted: &mut Record) -> io::Result<()>
+    ensures { noted.new.calls ≡ (SystemCall.SyncFolder (kind_in result), []) ∷ noted.old.calls }
+{
+    let synced = folder.sync_all();
+    let failed = kind_of(&synced);
+    noted.note(&SystemCall::SyncFolder { failed }, &[]);
+    synced
+}
