@@ -7,7 +7,9 @@ A day's commands are run over a store while strace makes one call fail.
    acknowledged commands or with one more. A read that fails, or a file that ends there, is told when the store is opened.
 2. A call that a signal came between is made again: all is answered as without it.
 3. A write or a read of some bytes is followed by one of the rest.
-4. A file that can't be opened, locked or written with zeros is told with the system's words; no call is passed over.
+4. Each call by which a store is opened, made over what is there, loaded or upgraded, on its folder too: told with the system's words,
+   want of memory as such; what is there then is what the calls before have left. Of the zeros that are written the first and last.
+5. Writes of the answers and reads of the input that are interrupted, short or fail.
 
 Wants strace, and the program that rt ci leaves.
 """
@@ -18,9 +20,23 @@ import subprocess
 import sys
 import tempfile
 
+# No files beside the scripts.
+sys.dont_write_bytecode = True
+from upgrade import old_store
+
 TOP = os.path.dirname(os.path.dirname(os.path.abspath(__file__)))
 PROGRAM = os.path.join(TOP, "crates", "planner", "out", "planner")
-CALLS = "openat,flock,ftruncate,pread64,pwrite64,fsync,fdatasync"
+CALLS = "openat,flock,fstat,newfstatat,statx,ftruncate,pread64,pwrite64,fsync,fdatasync"
+STORE_BYTES = 4_326_400
+# What the system says of an error.
+WORDS = {
+    "EACCES": "Permission denied",
+    "EIO": "Input/output error",
+    "ENOLCK": "No locks available",
+    "ENOMEM": "Cannot allocate memory",
+    "ENOSPC": "No space left on device",
+    "EROFS": "Read-only file system",
+}
 INSTANCE = b"""NAME : t3
 TYPE : CVRP
 DIMENSION : 4
@@ -41,11 +57,12 @@ DEPOT_SECTION
 -1
 EOF
 """
-# Each command is one write of the store: a search has one piece.
+# Each command is one commit of the store: a search or an annealing has one piece.
 COMMANDS = [
     b"load vrp 7 %d\n" % len(INSTANCE) + INSTANCE,
     b"build\n",
     b"search 100\n",
+    b"anneal 100\n",
     b"add1 1 5 5 0 1000 0\n",
     b"checkpoint\n",
     b"deviation 3\n",
@@ -58,12 +75,12 @@ def fail(text):
     sys.exit(1)
 
 
-def traced(folder, words, lines, inject=None):
-    """Status, output, errors and the calls of the store's file, with this fault."""
+def traced(folder, words, lines, inject=None, paths=None):
+    """Status, output, errors and the calls on these paths, or on the last word, with this fault."""
     trace = os.path.join(folder, "calls")
     fault = ["-e", "inject=" + inject] if inject else []
-    # The last word is the store.
-    command = ["strace", "-o", trace, "-P", words[-1], "-e", "trace=" + CALLS, *fault, PROGRAM, *words]
+    traced_paths = [word for path in paths or [words[-1]] for word in ("-P", path)]
+    command = ["strace", "-o", trace, *traced_paths, "-e", "trace=" + CALLS, *fault, PROGRAM, *words]
     got = subprocess.run(command, input=lines, capture_output=True, timeout=60)
     with open(trace, errors="replace") as file:
         calls = [line for line in file if re.match(r"\w+\(", line)]
@@ -72,6 +89,29 @@ def traced(folder, words, lines, inject=None):
 
 def count_of(calls, name):
     return sum(line.startswith(name + "(") for line in calls)
+
+
+def numbered(calls):
+    """The name and the number of each call; of more than forty by one name the first and the last."""
+    counts = {name: count_of(calls, name) for name in sorted({line.partition("(")[0] for line in calls})}
+    for name, count in counts.items():
+        yield from ((name, number) for number in range(1, count + 1) if count <= 40 or number < 3 or number > count - 5)
+
+
+def contents(path):
+    with open(path, "rb") as file:
+        return file.read()
+
+
+def write(path, text):
+    with open(path, "wb") as file:
+        file.write(text)
+
+
+def opened_as(path):
+    """What opening the file tells, and what `next` is answered."""
+    got = subprocess.run([PROGRAM, "run", path], input=b"next\n", capture_output=True)
+    return got.stdout.decode()
 
 
 class Store:
@@ -107,11 +147,11 @@ class Store:
         return traced(self.folder, ["run", self.path], b"".join(COMMANDS), inject)
 
 
-def check_failed_call(store, name, number, error, words):
+def check_failed_call(store, name, number, error):
     """1. of a call of the run, the first of which has number 1."""
     what = f"{name} {number} with {error}"
     status, output, errors, _ = store.run(f"{name}:error={error}:when={number}")
-    if words not in errors:
+    if WORDS[error] not in errors:
         fail(f"{what}: {errors!r} on standard error")
     if output == "store DeviceFault\n":
         if (status, store.shown()) != (3, store.states[0]):
@@ -133,10 +173,10 @@ def check_failed_calls(store):
     met = {"opening": 0, "command": 0}
     for name in ("pwrite64", "fdatasync"):
         for number in range(1, count_of(store.calls, name) + 1):
-            for error, words in (("EIO", "Input/output error"), ("ENOSPC", "No space left on device")):
-                met[check_failed_call(store, name, number, error, words)] += 1
-    for number in range(1, count_of(store.calls, "pread64") + 1, 7):
-        met[check_failed_call(store, "pread64", number, "EIO", "Input/output error")] += 1
+            for error in ("EIO", "ENOSPC"):
+                met[check_failed_call(store, name, number, error)] += 1
+    for number in range(1, count_of(store.calls, "pread64") + 1):
+        met[check_failed_call(store, "pread64", number, "EIO")] += 1
     if 0 in met.values():
         fail(f"failed calls: {met}")
     print(f"device_faults: failed calls: {met}, each told, and no acknowledged command lost")
@@ -151,7 +191,7 @@ def check_file_that_ends(store):
 
 def check_interrupted_calls(store):
     for name in ("openat", "flock", "pread64", "pwrite64", "fdatasync"):
-        for number in {1, count_of(store.calls, name)}:
+        for number in range(1, count_of(store.calls, name) + 1):
             status, output, errors, calls = store.run(f"{name}:error=EINTR:when={number}")
             if (status, output, errors) != (0, store.output, ""):
                 fail(f"{name} {number} interrupted: status {status}, {output!r}, {errors!r}")
@@ -171,25 +211,242 @@ def check_short_calls(store):
     print("device_faults: behind a short call the rest is moved")
 
 
+def resized(before):
+    """What a file has that is cut or filled with zeros to the length of a store."""
+    return ((before or b"") + bytes(STORE_BYTES))[:STORE_BYTES]
+
+
+# What a format writes: the headers and records, and the snapshot of an odd sequence.
+FRONT, HALF = 258 * 512, 4_354 * 512
+
+
+class Making:
+    """A store that is made over what is there, in a folder of its own."""
+
+    def __init__(self, store):
+        self.empty = contents(store.empty)
+        self.folder = os.path.join(store.folder, "making")
+        self.path = os.path.join(self.folder, "new.store")
+        os.mkdir(self.folder)
+
+    def run(self, before, inject=None):
+        """Makes the store over these bytes, or where there is no file."""
+        if os.path.exists(self.path):
+            os.remove(self.path)
+        if before is not None:
+            write(self.path, before)
+        return traced(os.path.dirname(self.folder), ["format", self.path], b"", inject, [self.path, self.folder])
+
+    def made(self, before):
+        """What a format makes of these bytes: it writes its own sectors, and no further one."""
+        old, new = resized(before), self.empty
+        return new[:FRONT] + old[FRONT:HALF] + new[HALF : HALF + 512] + old[HALF + 512 :]
+
+    def left(self):
+        return contents(self.path) if os.path.exists(self.path) else None
+
+
+def is_of_device(calls, name, number):
+    """Whether the call is one of the store's own, and not of its file's opening: its last three writes, and their syncs."""
+    return name == "fdatasync" or name == "pwrite64" and number > count_of(calls, name) - 3
+
+
+def check_made(making, what, before, calls, name, number):
+    """What a format whose call failed has left."""
+    left = making.left()
+    if not is_of_device(calls, name, number):
+        # Nothing but the length was changed yet, and that only by what has succeeded.
+        is_resized = name == "fsync" and (count_of(calls, "ftruncate") or number == 2) or name == "openat" and number == 2
+        wanted = resized(before) if is_resized else before or b""
+        if (left or b"") != wanted:
+            fail(f"{what}: {len(left or b'')} bytes are there")
+    elif name == "pwrite64" and number == count_of(calls, name) - 2:
+        if left != resized(before):
+            fail(f"{what}: the file was changed before the first write")
+    else:
+        # Behind the last write all stands there, though it may not be durable.
+        wanted = "opened 0\nno NoInstance\n" if (name, number) == ("fdatasync", 3) else "store NotFormatted\n"
+        if opened_as(making.path) != wanted:
+            fail(f"{what}: the file opens with {opened_as(making.path)!r}")
+
+
+def check_format(making, before):
+    status, output, errors, calls = making.run(before)
+    if (status, output, errors, making.left()) != (0, "ok\n", "", making.made(before)):
+        fail(f"format over {before and len(before)} bytes: status {status}, {output!r}, {errors!r}")
+    for name, number in numbered(calls):
+        for error in ("EIO", "ENOMEM"):
+            what = f"format over {before and len(before)} bytes, {name} {number} with {error}"
+            status, output, errors, _ = making.run(before, f"{name}:error={error}:when={number}")
+            if is_of_device(calls, name, number):
+                wanted = 3, "store DeviceFault\n"
+            else:
+                wanted = (4, "store OutOfMemory\n") if error == "ENOMEM" else (3, f"cannot read {making.path}\n")
+            if (status, output) != wanted or WORDS[error] not in errors:
+                fail(f"{what}: status {status}, {output!r}, {errors!r}")
+            check_made(making, what, before, calls, name, number)
+    return calls
+
+
+def check_formats(store):
+    """4. of a store that is made where there is no file, over a shorter one, a longer one and a store."""
+    making = Making(store)
+    store.renew()
+    subprocess.run([PROGRAM, "run", store.path], input=b"".join(COMMANDS), capture_output=True)
+    day = contents(store.path)
+    for before in (None, b"a note", day + bytes(1024), day):
+        calls = check_format(making, before)
+        if bool(count_of(calls, "ftruncate")) != (len(before or b"") >= STORE_BYTES):
+            fail(f"format over {before and len(before)} bytes cuts it {count_of(calls, 'ftruncate')} times")
+    # A folder that the system can't sync.
+    status, output, errors, _ = making.run(None, "fsync:error=EINVAL:when=2")
+    if (status, output, errors, making.left()) != (0, "ok\n", "", making.made(None)):
+        fail(f"a folder without a sync: status {status}, {output!r}, {errors!r}")
+    print("device_faults: each call of a format is told, and leaves what it may")
+
+
 def check_opening(store):
-    """4. of a store that is opened and one that is made."""
-    new = os.path.join(store.folder, "new.store")
-    _, _, _, making = traced(store.folder, ["format", new], b"")
-    cases = [(["run", store.path], "openat", "EACCES"), (["run", store.path], "flock", "ENOLCK"), (["format", new], "openat", "EROFS"), (["format", new], "flock", "ENOLCK")]
-    cases += [(["format", new], name, "EIO") for name in ("fsync", "ftruncate") if count_of(making, name)]
-    cases += [(["format", new], "pwrite64", "ENOSPC")]
-    for words, name, error in cases:
-        store.renew()
-        if os.path.exists(new):
-            os.remove(new)
-        status, output, errors, _ = traced(store.folder, words, b"", f"{name}:error={error}:when=1")
-        told = {"EACCES": "Permission denied", "ENOLCK": "No locks available", "EROFS": "Read-only file system", "EIO": "Input/output error", "ENOSPC": "No space left on device"}[error]
-        if (status, output) != (3, f"cannot read {words[-1]}\n") or told not in errors:
-            fail(f"{words[0]}, {name} with {error}: status {status}, {output!r}, {errors!r}")
-    status, output, _, _ = traced(store.folder, ["run", store.path], b"", "flock:error=EAGAIN:when=1")
+    """4. of a store that is opened."""
+    cases = [(name, number, error) for name, number in numbered(store.calls) if name not in ("pread64", "pwrite64", "fdatasync")
+             for error in ("EACCES", "ENOLCK", "ENOMEM", "EROFS")]
+    for name, number, error in cases:
+        status, output, errors, _ = store.run(f"{name}:error={error}:when={number}")
+        wanted = (4, "store OutOfMemory\n") if error == "ENOMEM" else (3, f"cannot read {store.path}\n")
+        if (status, output) != wanted or WORDS[error] not in errors:
+            fail(f"run, {name} {number} with {error}: status {status}, {output!r}, {errors!r}")
+    status, output, _, _ = store.run("flock:error=EAGAIN:when=1")
     if (status, output) != (3, "store InUse\n"):
         fail(f"a lock that another has: status {status}, {output!r}")
-    print("device_faults: a file that can't be opened, locked or filled is told")
+    print(f"device_faults: {len(cases)} faults of a file that is opened are told")
+
+
+def check_load(store, before):
+    """4. of a store that is loaded, where there is none yet or over an empty one."""
+    instance = os.path.join(store.folder, "instance.vrp")
+    write(instance, INSTANCE)
+    path = os.path.join(store.folder, "making", "load.store")
+    words = ["load", path, "vrp", instance, "7"]
+
+    def run(inject=None):
+        if os.path.exists(path):
+            os.remove(path)
+        if before is not None:
+            write(path, before)
+        return traced(store.folder, words, b"", inject, [path, os.path.dirname(path)])
+
+    status, output, _, calls = run()
+    if (status, output) != (0, "ok\n"):
+        fail(f"load: status {status}, {output!r}")
+    loaded = contents(path)
+    told = {f"cannot read {path}\n": 0, "store DeviceFault\n": 0, "fault device\n": 0}
+    for name, number in numbered(calls):
+        what = f"load, {name} {number} of {count_of(calls, name)}"
+        status, output, errors, _ = run(f"{name}:error=EIO:when={number}")
+        if status != 3 or output not in told or WORDS["EIO"] not in errors:
+            fail(f"{what}: status {status}, {output!r}, {errors!r}")
+        told[output] += 1
+        if before is not None and (output == "fault device\n") != (name == "pwrite64" or name == "fdatasync" and number > 1):
+            fail(f"{what}: {output!r}")
+        left = contents(path) if os.path.exists(path) else b""
+        if (left == loaded) != ((name, number) == ("fdatasync", count_of(calls, "fdatasync"))):
+            fail(f"{what}: the instance is there, or it isn't")
+        if before is not None and left != loaded and opened_as(path) != "opened 0\nno NoInstance\n":
+            fail(f"{what}: the file opens with {opened_as(path)!r}")
+    if 0 in told.values():
+        fail(f"load: {told}")
+
+
+def check_upgrade(store):
+    """4. of an upgrade: the old store stays as it is, and each fault is told of the file whose call it was."""
+    old, new = os.path.join(store.folder, "old.store"), os.path.join(store.folder, "making", "upgraded.store")
+    write(old, old_store())
+
+    def run(paths, inject=None):
+        if os.path.exists(new):
+            os.remove(new)
+        return traced(store.folder, ["upgrade", old, new], b"", inject, paths)
+
+    for side, paths, path in (("store", [old], old), ("new", [new, os.path.dirname(new)], new)):
+        status, output, _, calls = run(paths)
+        if (status, output) != (0, "ok\n"):
+            fail(f"upgrade: status {status}, {output!r}")
+        for name, number in numbered(calls):
+            # Where the system can't say whether both are one file, they are taken for two.
+            if "stat" in name:
+                continue
+            for error in ("EIO", "ENOMEM"):
+                status, output, errors, _ = run(paths, f"{name}:error={error}:when={number}")
+                if name in ("pread64", "fdatasync") or name == "pwrite64" and is_of_device(calls, name, number):
+                    wanted = 3, f"{side} DeviceFault\n"
+                else:
+                    wanted = (4, f"{side} OutOfMemory\n") if error == "ENOMEM" else (3, f"cannot read {path}\n")
+                if (status, output) != wanted or WORDS[error] not in errors:
+                    fail(f"upgrade, {name} {number} of {path} with {error}: status {status}, {output!r}, {errors!r}")
+                if contents(old) != old_store():
+                    fail(f"upgrade, {name} {number} of {path} with {error}: the old store was changed")
+    print("device_faults: each call of a load and of an upgrade is told")
+
+
+class Streams:
+    """A run whose input and answers are files."""
+
+    def __init__(self, store):
+        self.store = store
+        self.input = os.path.join(store.folder, "lines")
+        self.output = os.path.join(store.folder, "answers")
+        write(self.input, b"".join(COMMANDS))
+
+    def run(self, path, call, inject=None):
+        """Status, the answers, and how many bytes each such call on the path moved."""
+        self.store.renew()
+        trace = os.path.join(self.store.folder, "calls")
+        fault = ["-e", "inject=" + inject] if inject else []
+        command = ["strace", "-o", trace, "-P", path, "-e", "trace=" + call, *fault, PROGRAM, "run", self.store.path]
+        with open(self.input, "rb") as lines, open(self.output, "wb") as answers:
+            status = subprocess.run(command, stdin=lines, stdout=answers, stderr=subprocess.DEVNULL, timeout=60).returncode
+        with open(trace, errors="replace") as file:
+            moved = [int(it) for it in re.findall(rf"^{call}\(.* = (-?\d+)", file.read(), re.MULTILINE)]
+        return status, contents(self.output).decode(), moved
+
+
+def check_answers(store):
+    """5. of the answers."""
+    streams = Streams(store)
+    status, answers, moved = streams.run(streams.output, "write")
+    if (status, answers, sum(moved)) != (0, store.output, len(store.output)):
+        fail(f"answers in a file: status {status}, {answers!r}")
+    for number in range(1, len(moved) + 1):
+        before, its = sum(moved[: number - 1]), moved[number - 1]
+        status, answers, again = streams.run(streams.output, "write", f"write:error=EINTR:when={number}")
+        if (status, answers, len(again)) != (0, store.output, len(moved) + 1):
+            fail(f"write {number} interrupted: status {status}, {answers!r}")
+        # It is said to have taken a byte, and has taken none.
+        status, answers, short = streams.run(streams.output, "write", f"write:retval=1:when={number}")
+        if (status, answers) != (0, store.output[:before] + store.output[before + 1 :]) or its > 1 and short[number] != its - 1:
+            fail(f"write {number} of a byte: status {status}, {answers!r}")
+        for fault in ("error=EIO", "retval=0")[: 2 if number in (1, len(moved)) else 1]:
+            status, answers, _ = streams.run(streams.output, "write", f"write:{fault}:when={number}")
+            if (status, answers) != (3, store.output[:before]):
+                fail(f"write {number} with {fault}: status {status}, {answers!r}")
+            acknowledged = answers.count("ok\n")
+            if store.shown() not in store.states[acknowledged : acknowledged + 2]:
+                fail(f"write {number} with {fault}: {acknowledged} acknowledged, and then {store.shown()!r}")
+    print(f"device_faults: {len(moved)} writes of answers are made again, gone on with, or told by the status")
+
+
+def check_input(store):
+    """5. of the input."""
+    streams = Streams(store)
+    _, _, moved = streams.run(streams.input, "read")
+    for number in range(1, len(moved) + 1):
+        status, answers, again = streams.run(streams.input, "read", f"read:error=EINTR:when={number}")
+        if (status, answers, len(again)) != (0, store.output, len(moved) + 1):
+            fail(f"read {number} interrupted: status {status}, {answers!r}")
+        status, answers, _ = streams.run(streams.input, "read", f"read:error=EIO:when={number}")
+        told, found, behind = answers.partition("cannot read input\n")
+        if (status, found, behind) != (3, "cannot read input\n", "") or not store.output.startswith(told):
+            fail(f"read {number} fails: status {status}, {answers!r}")
+    print("device_faults: an interrupted read of the input is made again, one that fails is told")
 
 
 def main():
@@ -205,6 +462,12 @@ def main():
         check_interrupted_calls(store)
         check_short_calls(store)
         check_opening(store)
+        check_formats(store)
+        check_load(store, None)
+        check_load(store, contents(store.empty))
+        check_upgrade(store)
+        check_answers(store)
+        check_input(store)
 
 
 if __name__ == "__main__":

@@ -3,8 +3,8 @@
 
 Each is XML with whole numbers alone outside its fixed shapes; each stop and the depot has one mark, each leg one line, in
 the direction in which it is driven, and each point stands where the coordinates in the instance say. Pairs are joined. No
-number covers a mark or another number. A plan that breaks a rule is drawn too: the broken stop has a ring, and so has each
-stop that no route has.
+number covers a mark or another number. A plan that breaks a rule is drawn too: the rule stands in words with its figures, the
+broken route is marked, the broken stop has a ring, and so has each stop that no route has.
 
     tests/picture.py
 """
@@ -20,6 +20,36 @@ TOP = pathlib.Path(__file__).resolve().parent.parent
 PROGRAM = TOP / "crates" / "planner" / "out" / "planner"
 EXAMPLES = TOP / "examples"
 SVG = "{http://www.w3.org/2000/svg}"
+
+# A pair at (3, 4) and (6, 8): its services start at 5 and 12, and the vehicle is back at 24. Two pairs and one vehicle. Three customers
+# of 6, 4 and 5.
+ONE_PAIR = "2 10 1\n0 0 0 0 0 100 0 0 0\n1 3 4 4 0 50 2 0 2\n2 6 8 -4 0 60 2 1 0\n"
+TWO_PAIRS = "1 10 1\n0 0 0 0 0 100 0 0 0\n1 1 1 1 0 50 0 0 2\n2 1 1 -1 0 50 0 1 0\n3 2 2 1 0 50 0 0 4\n4 2 2 -1 0 50 0 3 0\n"
+THREE_CUSTOMERS = (
+    "TYPE : CVRP\nDIMENSION : 4\nEDGE_WEIGHT_TYPE : EUC_2D\nCAPACITY : 10\nNODE_COORD_SECTION\n1 0 0\n2 3 4\n3 6 8\n4 0 5\n"
+    "DEMAND_SECTION\n1 0\n2 6\n3 4\n4 5\nDEPOT_SECTION\n1\n-1\nEOF\n"
+)
+
+# The kind, the instance, the solution, what is told over the map, the stop that is ringed, and the route that is marked.
+BROKEN = [
+    ("lilim", ONE_PAIR, "Route #1: 1 2 9\nCost 20\n", "broken rule 1, unknown stop, route 1, place 3, stop 9", None, 1),
+    ("lilim", ONE_PAIR, "Route #1: 1 2\nRoute #2: 1\nCost 20\n", "broken rule 2, visited twice, route 2, place 1, stop 1", 1, 2),
+    ("lilim", ONE_PAIR, "Route #1: 1 2 1\nCost 20\n", "broken rule 2, visited twice, route 1, place 3, stop 1", 1, 1),
+    ("lilim", ONE_PAIR, "Cost 0\n", "broken rule 3, missing stop, stop 1, the other of its pair is stop 2", 1, None),
+    ("lilim", ONE_PAIR, "Route #1: 1\nRoute #2: 2\nCost 30\n",
+        "broken rule 4, split pair, route 1, place 1, stop 1, the other of its pair is stop 2", 1, 1),
+    ("lilim", ONE_PAIR, "Route #1: 2 1\nCost 20\n",
+        "broken rule 5, early delivery, route 1, place 1, stop 2, the other of its pair is stop 1", 2, 1),
+    ("lilim", ONE_PAIR.replace("2 10 1", "2 3 1"), "Route #1: 1 2\nCost 20\n",
+        "broken rule 6, overload, route 1, place 1, stop 1, load 4, capacity 3", 1, 1),
+    ("vrp", THREE_CUSTOMERS, "Route #1: 1 2 3\nCost 22\n", "broken rule 6, overload, route 1, place 3, stop 3, load 15, capacity 10", 3, 1),
+    ("lilim", ONE_PAIR.replace("0 60 2 1 0", "0 11 2 1 0"), "Route #1: 1 2\nCost 20\n",
+        "broken rule 7, late service, route 1, place 2, stop 2, starts at 12, latest 11", 2, 1),
+    ("lilim", ONE_PAIR.replace("0 100 0 0 0", "0 23 0 0 0"), "Route #1: 1 2\nCost 20\n",
+        "broken rule 8, late return, route 1, place 3, back at 24, latest 23", None, 1),
+    ("lilim", TWO_PAIRS, "Route #1: 1 2\nRoute #2: 3 4\nCost 8\n", "broken rule 9, too many vehicles, route 2, used 2, fleet 1", None, 2),
+    ("lilim", ONE_PAIR, "Route #1: 1 2\nCost 21\n", "broken rule 11, wrong cost, driven 20", None, None),
+]
 
 
 def lilim_stops(text):
@@ -38,6 +68,11 @@ def vrp_stops(text):
 def routes(text):
     """The stops of each route of a solution."""
     return [list(map(int, line.split(":")[1].split())) for line in text.splitlines() if line.startswith("Route")]
+
+
+def drawn_of(route, stops):
+    """The stops of a route that the instance has, each where it stands first."""
+    return [stop for stop in dict.fromkeys(route) if stop in stops]
 
 
 def places(stops):
@@ -125,7 +160,7 @@ def check(kind, name, solution, stops, pairs, ring=None):
         sys.exit(f"picture: {solution}: a number that is not whole")
     svg = ElementTree.fromstring(text)
     unit, wanted = places(stops)
-    drawn = routes((EXAMPLES / solution).read_text(encoding="ascii"))
+    drawn = [drawn_of(route, stops) for route in routes((EXAMPLES / solution).read_text(encoding="ascii"))]
     marks = [(number, place) for number, place, shape in titled(svg) if shape not in ("#broken", "#unserved")]
     if len(marks) != len(stops) or dict(marks) != wanted:
         sys.exit(f"picture: {solution}: other marks")
@@ -148,6 +183,23 @@ def check(kind, name, solution, stops, pairs, ring=None):
     if kind == "vrp" and ("vehicles" in text or "pickup<" in text):
         sys.exit(f"picture: {solution}: words of vehicles or pickups")
     return text
+
+
+def check_broken(folder):
+    """Draws plans that break a rule each."""
+    instance, solution = folder / "instance", folder / "solution"
+    for kind, text, plan, told, ring, route in BROKEN:
+        instance.write_text(text, encoding="ascii")
+        solution.write_text(plan, encoding="ascii")
+        stops, pairs = (lilim_stops(text), lilim_pairs(text)) if kind == "lilim" else (vrp_stops(text), [])
+        svg = ElementTree.fromstring(check(kind, instance, solution, stops, pairs, ring))
+        heads = [line.text for line in svg.iter(SVG + "text") if (line.text or "").startswith("broken rule")]
+        if heads != [told]:
+            sys.exit(f"picture: {plan!r}: told {heads}")
+        legs_of_routes = next(group for group in svg.iter(SVG + "g") if group.get("class") == "legs")
+        marked = [number for number, group in enumerate(legs_of_routes, 1) if group.get("class") == "broken"]
+        if marked != ([] if route is None else [route]):
+            sys.exit(f"picture: {plan!r}: routes {marked} are marked")
 
 
 def check_alone(number, solution, stops):
@@ -182,6 +234,7 @@ def main():
         part = pathlib.Path(folder) / "eight.sol"
         part.write_text("\n".join(first + ["Cost 0", ""]), encoding="ascii")
         check("lilim", "lc101.txt", part, lilim_stops(text), lilim_pairs(text), ring=missing)
+        check_broken(pathlib.Path(folder))
     print("picture: marks, legs, pairs and numbers stand where the files say")
 
 

@@ -444,7 +444,25 @@ SESSIONS = [
         ("build", ""),
         ("show", "requests 4 next 6\nsteps 0 place 0\nvehicle 1: 4 5 2 1\nvehicle 2: 3\ncost 0 0 30\ndeviation 5\nwork 0 0 30\n"),
     ]),
-    ("the depot alone", "lilim", DEPOT_ALONE, [("show", "requests 0 next 1\nsteps 0 place 0\ncost 0 0 0\n")]),
+    ("the depot alone", "lilim", DEPOT_ALONE, [
+        ("show", "requests 0 next 1\nsteps 0 place 0\ncost 0 0 0\n"),
+        ("build", ""),
+        ("search 257", "at 256 0 0 0\nat 257 0 0 0\n"),
+        ("deviation 5", ""),
+        ("anneal 3", "at 260 0 0 0\n"),
+        ("show", "requests 0 next 1\nsteps 260 place 4160\ncost 0 0 0\ndeviation 5\nwork 0 0 0\n"),
+        ("timetable", ""),
+        ("print", "Cost 0\n"),
+        ("next", "next 1\n"),
+    ]),
+    # Twenty stages of one step, whose deviation is 0.
+    ("stages over the depot alone", "lilim", DEPOT_ALONE, [
+        ("deviation 5", ""),
+        ("show", "requests 0 next 1\nsteps 0 place 0\ncost 0 0 0\ndeviation 5\nwork 0 0 0\n"),
+        ("anneal 0 20", "".join(f"at {step} 0 0 0\n" for step in range(1, 21))),
+        ("show", "requests 0 next 1\nsteps 20 place 320\ncost 0 0 0\n"),
+        ("anneal 0 20", ""),
+    ]),
     ("an order that is too heavy", "lilim", ONE_PLACE, [
         ("add1 11 0 0 0 9 0", ""),
         ("build", ""),
@@ -523,6 +541,8 @@ STAGED_COSTS = [66, 65, 65, 65, 65, 65, 63, 63]
 # An instance, steps, a deviation or none, how standard error and standard output begin, and the last line: by the same program.
 SOLUTIONS = [
     ("lilim", ONE_PAIR, 3, None, "at 0 0 1 20\nat 1 0 1 20\nat 2 0 1 20\nat 3 0 1 20\n", BOTH, "Cost 20"),
+    ("lilim", DEPOT_ALONE, 20, None, "".join(f"at {step} 0 0 0\n" for step in range(21)), "Cost 0\n", "Cost 0"),
+    ("lilim", DEPOT_ALONE, 20, 5, "".join(f"at {step} 0 0 0\n" for step in range(21)), "Cost 0\n", "Cost 0"),
     ("lilim", LATE_PAIR, 1, None, "at 0 1 1 20\nat 1 1 1 20\nunplanned 1: 3\n", "Route #1: 1 2\n", "Route #1: 1 2"),
     ("vrp", SIX, 7, None, "at 0 0 0 66\nat 1 0 0 65\nat 2 0 0 65\nat 3 0 0 65\nat 4 0 0 65\nat 5 0 0 65\nat 6 0 0 63\nat 7 0 0 63\n", "Route", "Cost 63"),
     ("vrp", SIX, 30, None, "at 0 0 0 66\n", "Route", "Cost 62"),

@@ -5,8 +5,11 @@
    printed (each text is above 64 KB), and opened again, with the same texts.
 2. 5,000 lines in one run, each with a commit of its own; as many steps as those made at once lead to the same plan.
 3. A line of 70,000 bytes is refused, and the next one answered.
-4. One route with 2,000 stops: searched, and the plan passes the audit.
-5. A fleet that is too small: several requests are left out, by a store and by `solve`, which names them.
+4. One route with 2,000 stops: searched, and the plan passes the audit; in a store its first stops are pinned.
+5. A fleet that is too small: several requests are left out, by a store and by `solve`, which names them; with some hundred left out
+   a store anneals.
+6. Texts of a `load` whose lengths lie around each power of two, and the longest one. Searches and annealings of as many steps.
+7. A store with 40,000 requests of one stop and one with 20,000 pairs: loaded, written by `checkpoint`, shown, and opened again.
 
 Wants the program that rt ci leaves.
 """
@@ -121,15 +124,71 @@ def check_long_route(folder):
     if status != 0 or solution.count("Route") != 1:
         fail(f"one route: status {status}, {solution.count('Route')} routes, {errors[-80:]!r}")
     expect_pass(folder, instance, solution)
+    store = os.path.join(folder, "route.store")
+    planner("format", store)
+    pins = (255, 256, 257, 1_000, 1_999)
+    lines = "".join(f"pin 1 {pin}\nsearch 5\nanneal 5\n" for pin in pins)
+    answers = run(store, f"load vrp 5 {len(text)}\n{text}build\n{lines}print\n".encode())
+    steps = [line.split()[:3] for line in answers.split("\n") if line.startswith("at ")]
+    if answers.count("ok\n") != 3 + 3 * len(pins) or steps != [["at", str(5 * it), "0"] for it in range(1, 2 * len(pins) + 1)]:
+        fail(f"pins of a long route: {answers[:200]!r}")
+    expect_pass(folder, instance, plan_of(answers))
+
+
+def check_lengths(folder):
+    """Texts of many lengths, filled up with blanks: each is read whole."""
+    store = os.path.join(folder, "length.store")
+    planner("format", store)
+    text = vrp(3, 7, 2)
+    lengths = [2**power + more for power in range(9, 18) for more in (-1, 0, 1)] + [10_000, 100_000, 2**24]
+    lines = "".join(f"load vrp 3 {length}\n{text}{' ' * (length - len(text))}next\n" for length in lengths)
+    answers = run(store, lines.encode())
+    if answers != "ok\nnext 4\nok\n" * len(lengths):
+        fail(f"texts of many lengths: {answers[:80]!r}")
+
+
+def check_counts(folder):
+    """Lines of many numbers of steps: each ends with the last of its steps."""
+    store = os.path.join(folder, "count.store")
+    planner("format", store)
+    text = vrp(3, 7, 2)
+    counts = [2**power + more for power in (8, 10, 12, 14, 16) for more in (-1, 0, 1)] + [1_000, 1_001, 10_000, 100_000]
+    for word in ("search", "anneal"):
+        lines = "".join(f"{word} {count}\n" for count in counts)
+        answers = run(store, f"load vrp 3 {len(text)}\n{text}build\n{lines}".encode())
+        ends = [answer.rstrip("\n").split("\n")[-1].split()[1:3] for answer in answers.split("ok\n")[2:-1]]
+        if ends != [[str(sum(counts[: at + 1])), "0"] for at in range(len(counts))]:
+            fail(f"lines {word} of many counts end at {ends}")
+
+
+def check_largest(folder):
+    # Twenty thousand pairs on as many places.
+    pairs = ["20000 100 1", "0 0 0 0 0 1000000 0 0 0"]
+    for pickup in range(1, 40_000, 2):
+        pairs.append(f"{pickup} {pickup % 1000} {pickup // 1000} 1 0 1000000 0 0 {pickup + 1}")
+        pairs.append(f"{pickup + 1} {pickup % 997} {pickup // 997} -1 0 1000000 0 {pickup} 0")
+    for kind, text, count in ("vrp", vrp(40_000, 100, 200), 40_000), ("lilim", "\n".join(pairs) + "\n", 20_000):
+        store = os.path.join(folder, "largest.store")
+        planner("format", store)
+        answers = run(store, f"load {kind} 0 {len(text)}\n{text}checkpoint\nsearch 1\nanneal 1\nshow\n".encode())
+        _, found, shown = answers.partition(f"ok\nok\nat 1 {count} 0 0\nok\nat 2 {count} 0 0\nok\n")
+        if not found or shown.count("unplanned ") != count or not shown.endswith(f"\ncost {count} 0 0\nok\n"):
+            fail(f"{count} requests of {kind}: {answers[:80]!r}, {answers[-80:]!r}")
+        if run(store, b"show\n") != shown:
+            fail(f"{count} requests of {kind} are shown otherwise after opening again")
+
+
+def due_at_once(fleet, pairs):
+    """Pairs whose pickups are all due at once, ten apart."""
+    lines = [f"{fleet} 10 1", "0 0 0 0 0 1000 0 0 0"]
+    for pair in range(pairs):
+        lines.append(f"{2 * pair + 1} {10 * pair} 50 10 100 110 5 0 {2 * pair + 2}")
+        lines.append(f"{2 * pair + 2} {10 * pair} 90 -10 150 160 5 {2 * pair + 1} 0")
+    return "\n".join(lines) + "\n"
 
 
 def check_small_fleet(folder):
-    # Two vehicles for six pairs whose pickups are all due at once, ten apart.
-    lines = ["2 10 1", "0 0 0 0 0 1000 0 0 0"]
-    for pair in range(6):
-        lines.append(f"{2 * pair + 1} {10 * pair} 50 10 100 110 5 0 {2 * pair + 2}")
-        lines.append(f"{2 * pair + 2} {10 * pair} 90 -10 150 160 5 {2 * pair + 1} 0")
-    text = "\n".join(lines) + "\n"
+    text = due_at_once(2, 6)
     instance = write(folder, "fleet.txt", text)
     status, solution, errors = planner("solve", "lilim", instance, "100")
     lines = errors.rstrip("\n").split("\n")
@@ -146,12 +205,19 @@ def check_small_fleet(folder):
     answers = run(store, f"load lilim 1 {len(text)}\n{text}build\nsearch 100\nprint\n".encode())
     if not answers.startswith("ok\nok\nat 100 4 2 "):
         fail(f"a small fleet in a store: {answers!r}")
+    text = due_at_once(1, 400)
+    answers = run(store, f"load lilim 1 {len(text)}\n{text}build\nanneal 100\nsearch 100\n".encode())
+    if [line.split()[:4] for line in answers.split("\n") if line.startswith("at ")] != [["at", "100", "399", "1"], ["at", "200", "399", "1"]]:
+        fail(f"400 requests for one vehicle: {answers!r}")
 
 
 def main():
     with tempfile.TemporaryDirectory() as folder:
         check_long_line(folder)
+        check_lengths(folder)
+        check_counts(folder)
         check_small_fleet(folder)
+        check_largest(folder)
         check_many_commits(folder)
         check_long_route(folder)
         check_many_requests(folder)

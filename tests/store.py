@@ -9,7 +9,9 @@
 4. With strace: no `ok` or `at` line is written before the sync that it stands on has returned.
 5. Two programs at once on one store: the second is refused and changes nothing; after kill -9 the store opens again.
 6. A full disk, on a small tmpfs: it is told when the store is made; one that is full later is told behind `fault device`.
-7. Search steps that are repeated: how many stands on standard error before, by `run` and `load`, and nothing where none are.
+7. With strace: `anneal 0 1000` is killed at each of its syncs in turn. What was told is there, and the same line again leads to the
+   state of the line that nothing cut.
+8. Search steps that are repeated: how many stands on standard error before, by `run` and `load`, and nothing where none are.
    Standard streams that are closed: the store is not taken for one of them.
 
 Words: how often the program is stopped (200 where there are none). Wants the program that rt ci leaves.
@@ -27,8 +29,11 @@ import time
 TOP = os.path.dirname(os.path.dirname(os.path.abspath(__file__)))
 PROGRAM = os.path.join(TOP, "crates", "planner", "out", "planner")
 INSTANCE = os.path.join(TOP, "examples", "lc101.txt")
+SMALL_INSTANCE = os.path.join(TOP, "examples", "P-n16-k8.vrp")
 STORE_BYTES = 4_326_400
 STEPS = 20_000
+# Twenty stages of fifty steps.
+STAGES = b"anneal 0 1000\n"
 
 
 def fail(text):
@@ -277,6 +282,48 @@ def check_calls(folder):
     print("store: no answer is written before its sync has returned")
 
 
+def traced_stages(folder, begun, kill=None):
+    """A store that has begun so, what the line of stages told over it until it was killed, and how many syncs were made."""
+    store, calls = os.path.join(folder, "stages.store"), os.path.join(folder, "calls")
+    with open(store, "wb") as file:
+        file.write(begun)
+    inject = ["-e", f"inject=fdatasync:signal=KILL:when={kill}"] if kill else []
+    got = subprocess.run(
+        ["strace", "-o", calls, "-e", "trace=fdatasync", *inject, PROGRAM, "run", store], input=STAGES, capture_output=True
+    )
+    with open(calls) as file:
+        syncs = sum(line.startswith("fdatasync(") for line in file)
+    return store, got.stdout.decode(), syncs
+
+
+def check_stages(folder):
+    if shutil.which("strace") is None or subprocess.run(["strace", "-o", os.devnull, "true"], capture_output=True).returncode != 0:
+        print("skipped: store, stages that are cut, since strace is not there or may not trace")
+        return
+    store = os.path.join(folder, "begun.store")
+    got = subprocess.run([PROGRAM, "load", store, "vrp", SMALL_INSTANCE, "7"], capture_output=True)
+    if got.stdout != b"ok\n":
+        fail(f"stages: load: {got}")
+    run(store, b"build\n")
+    begun = contents(store)
+    store, told, syncs = traced_stages(folder, begun)
+    # Each of the twenty stages sets a deviation, a record of one sync, and anneals, a snapshot of two.
+    if told.count("\nat ") != 20 or not told.endswith("\nok\n") or syncs < 60:
+        fail(f"stages: {syncs} syncs, {told!r}")
+    shown = run(store, b"show\n")
+    for kill in range(1, syncs + 1):
+        store, cut, made = traced_stages(folder, begun, kill)
+        if made != kill or not told.startswith(cut) or cut == told:
+            fail(f"stages cut at sync {kill}: {made} syncs, {cut!r}")
+        known = [int(line.split()[1]) for line in cut.split("\n") if line.startswith("at ")]
+        steps = int(re.search(r"^steps (\d+) ", run(store, b"show\n"), re.M).group(1))
+        if steps < max(known, default=0):
+            fail(f"stages cut at sync {kill}: {known[-1]} steps were told, {steps} are there")
+        if not run(store, STAGES).endswith("ok\n") or run(store, b"show\n") != shown:
+            fail(f"stages cut at sync {kill} and said again lead to another state")
+    print(f"store: stages of annealing, cut at each of {syncs} syncs and said again, lead to one state")
+
+
 def refused(*words):
     """These words answer that the store is in use."""
     got = subprocess.run([PROGRAM, *words], input=b"build\n", capture_output=True)
@@ -377,6 +424,7 @@ def main():
         check_strict(folder)
         check_repeating(folder)
         check_calls(folder)
+        check_stages(folder)
         check_two_at_once(folder)
         check_full(folder)
         check_stops(folder, stops)

@@ -435,6 +435,24 @@ REFUSED_INSTANCES = [
         "lilim",
         b"2 10 1\n"
         b"0 0 0 0 0 100 0 0 0\n"
+        b"1 6 8 -4 0 60 2 2 0\n"
+        b"2 3 4 4 0 50 2 0 3\n"
+        b"3 6 8 -4 0 60 2 2 0\n",
+        "line 3: a task is no half of a pair: its pickup, task 2 on line 4, has 3 as its delivery\n"
+        "1 6 8 -4 0 60 2 2 0\n",
+    ),
+    (
+        "lilim",
+        b"2 10 1\n"
+        b"0 0 0 0 0 100 0 0 0\n"
+        b"1 6 8 -4 0 60 2 7 0\n",
+        "line 3: a task is no half of a pair: its pickup, task 7, is not there\n"
+        "1 6 8 -4 0 60 2 7 0\n",
+    ),
+    (
+        "lilim",
+        b"2 10 1\n"
+        b"0 0 0 0 0 100 0 0 0\n"
         b"1 3 4 4 0 50 2 0 2\n"
         b"2 6 8 -5 0 60 2 1 0\n",
         "line 3: a task is no half of a pair: its delivery, task 2 on line 4, has demand -5, this one 4: their sum is not 0\n"

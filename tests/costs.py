@@ -1,0 +1,186 @@
+#!/usr/bin/env python3
+"""Compares what the built program finds by many steps, to the number, with what another program of the same rules has found.
+
+1. `solve`: each line of progress, by stages and tries of smaller fleets and by a search with a deviation. Of a fleet, the tries find
+   plans of fewer vehicles than annealing alone: 10 and 23 where that ends with 11 and 24.
+2. More than 65,536 steps at once: a stage of 70,000, and an annealing of as many in a store, with both plans.
+3. As many steps through a store, by a line of stages and by one of a search, lead to the plans of `solve`.
+
+The instances are E-n51-k5 and those that are made here by a rule. Wants the program that rt ci leaves.
+"""
+import os
+import subprocess
+import sys
+import tempfile
+
+TOP = os.path.dirname(os.path.dirname(os.path.abspath(__file__)))
+PROGRAM = os.path.join(TOP, "crates", "planner", "out", "planner")
+STEPS = 100_000
+
+
+def vrp(capacity, places, demands):
+    """A .vrp text, the depot first."""
+    lines = ["TYPE : CVRP", f"DIMENSION : {len(places)}", "EDGE_WEIGHT_TYPE : EUC_2D", f"CAPACITY : {capacity}", "NODE_COORD_SECTION"]
+    lines += [f"{at} {x} {y}" for at, (x, y) in enumerate(places, 1)]
+    lines += ["DEMAND_SECTION"] + [f"{at} {demand}" for at, demand in enumerate(demands, 1)]
+    return "\n".join(lines + ["DEPOT_SECTION", "1", "-1", "EOF", ""])
+
+
+def customers(count):
+    """Customers that lie around a depot."""
+    places = [(500, 500)] + [(it * 379 % 1009, it * 617 % 1013) for it in range(1, count + 1)]
+    return vrp(60, places, [0] + [1 + it * 31 % 17 for it in range(1, count + 1)])
+
+
+def pairs(count):
+    """Pairs that lie around a depot, for as many vehicles."""
+    lines = [f"{count} 14 1", "0 50 50 0 0 600 0 0 0"]
+    for pair in range(count):
+        number, earliest = 2 * pair + 1, pair * 29 % 281
+        lines.append(f"{number} {pair * 23 % 101} {pair * 35 % 101} {1 + pair % 7} {earliest} {earliest + 90} 3 0 {number + 1}")
+        lines.append(f"{number + 1} {pair * 57 % 101} {pair * 72 % 101} {-1 - pair % 7} {earliest} {earliest + 230} 3 {number} 0")
+    return "\n".join(lines) + "\n"
+
+
+def fifty():
+    with open(os.path.join(TOP, "examples", "E-n51-k5.vrp"), encoding="ascii") as file:
+        return file.read()
+
+
+SIX = vrp(4, [(0, 0), (3, 4), (6, 8), (-3, 4), (-6, 8), (0, 5), (9, 1)], [0, 2, 2, 1, 1, 3, 2])
+
+# Of the other program: distances at no steps and behind each twentieth of them.
+FIFTY_1 = [918, 550, 527, 527] + 17 * [521]
+FIFTY_2 = [918, 553, 525] + 18 * [521]
+CUSTOMERS_1 = [30749, 16929, 15645, 15471, 14872, 14859, 14774, 14656, 14656] + 12 * [14642]
+CUSTOMERS_2 = [30749, 16539, 15581, 15416, 15140, 14948, 14684, 14669] + 13 * [14668]
+# Steps, vehicles and distance where it told them: the first search and the tries end where they have found their plans.
+EIGHTY_1 = "0 16 6205, 50000 10 4173, 55000 10 4112, 60000 10 4112, 65000 10 4095, 70000 10 4095, 75000 10 4086, 80000 10 4086, 85000 10 4086, 90000 10 4086, 95000 10 4062, 100000 10 4062"
+EIGHTY_2 = "0 16 6205, 7108 10 4284, 50000 10 4284, 55000 10 4159, 60000 10 4108, 65000 10 4107, 70000 10 4107, 75000 10 4107, 80000 10 4107, 85000 10 4107, 90000 10 4107, 95000 10 4086, 100000 10 4051"
+MANY_1 = "0 35 14017, 18884 23 9358, 50000 23 9358, 55000 23 9172, 60000 23 9120, 65000 23 9110, 70000 23 9110, 75000 23 9110, 80000 23 9110, 85000 23 9057, 90000 23 9057, 95000 23 9057, 100000 23 9057"
+MANY_2 = "0 35 14017, 6340 24 9909, 27588 23 9480, 50000 23 9480, 55000 23 9202, 60000 23 9175, 65000 23 9166, 70000 23 9162, 75000 23 9060, 80000 23 9047, 85000 23 9047, 90000 23 9036, 95000 23 9036, 100000 23 9036"
+
+
+def staged(distances, steps=STEPS):
+    return "".join(f"at {steps * at // 20} 0 0 {distance}\n" for at, distance in enumerate(distances))
+
+
+def tried(told):
+    return "".join("at {} 0 {} {}\n".format(*line.split()) for line in told.split(", "))
+
+
+# The kind, the instance, the steps, the seed, and what standard error has.
+SOLVED = [
+    ("vrp", fifty(), STEPS, 1, staged(FIFTY_1)),
+    ("vrp", fifty(), STEPS, 2, staged(FIFTY_2)),
+    ("vrp", customers(80), STEPS, 1, staged(CUSTOMERS_1)),
+    ("vrp", customers(80), STEPS, 2, staged(CUSTOMERS_2)),
+    ("lilim", pairs(80), STEPS, 1, tried(EIGHTY_1)),
+    ("lilim", pairs(80), STEPS, 2, tried(EIGHTY_2)),
+    # Two vehicles fewer are tried at first.
+    ("lilim", pairs(200), STEPS, 1, tried(MANY_1)),
+    ("lilim", pairs(200), STEPS, 2, tried(MANY_2)),
+    ("vrp", SIX, 1_400_000, 1, staged([66] + 20 * [62], 1_400_000)),
+]
+
+# The kind, the instance, the seed and the deviation of a search of as many steps, and its vehicles and distance by the other program.
+SEARCHED = [
+    ("vrp", fifty(), 1, 5, 0, 540),
+    ("vrp", fifty(), 2, 5, 0, 527),
+    ("vrp", customers(80), 1, 30, 0, 15064),
+    ("vrp", customers(80), 2, 30, 0, 14998),
+    ("lilim", pairs(80), 1, 20, 13, 3946),
+    ("lilim", pairs(80), 2, 20, 12, 3956),
+]
+
+
+# The routes of the other program's plan after 70,000 annealing steps of seed 0 with deviation 30, by vehicle.
+ANNEALED = [
+    "45 53 61 69 5 74 10 68",
+    "30 35 40 32 27 22",
+    "44 49 54 41 36 31 39",
+    "47 42 29 37 50 55",
+    "65 1 57 52",
+    "70 6 14 78 9 73",
+    "17 38 43 48 56 51 46 33 25",
+    "20 28 23 79 15 71 7",
+    "19 24 16 80 75",
+    "76 2 66 58 63",
+    "12 4",
+    "60 26 18 13 77 21 34",
+    "11 67 3 72 8 64 59 62",
+]
+ANNEALED_TOLD = "at 16384 0 0 14644\nat 32768 0 0 14644\nat 49152 0 0 14644\nat 65536 0 0 14621\nat 70000 0 0 14621\nok\n"
+
+
+def fail(text):
+    print("costs: " + text)
+    sys.exit(1)
+
+
+def expect(what, got, wanted):
+    if got != wanted:
+        fail(f"{what}: {got!r}; wanted {wanted!r}")
+
+
+def planner(*words, lines=""):
+    got = subprocess.run([PROGRAM, *map(str, words)], input=lines.encode(), capture_output=True)
+    return got.returncode, got.stdout.decode(), got.stderr.decode()
+
+
+def write(folder, text):
+    path = os.path.join(folder, "instance")
+    with open(path, "w", encoding="ascii") as file:
+        file.write(text)
+    return path
+
+
+def session(folder, kind, instance, seed, lines):
+    """What is answered over a new store to these lines, behind a load."""
+    store = os.path.join(folder, "costs.store")
+    planner("format", store)
+    status, text, _ = planner("run", store, lines=f"load {kind} {seed} {len(instance)}\n{instance}{lines}")
+    expect("the begin of a session", (status, text[:12]), (0, "opened 0\nok\n"))
+    return text[12:]
+
+
+def check_solved(folder):
+    for kind, instance, steps, seed, told in SOLVED:
+        what = f"solve {kind} by {steps} steps of seed {seed}"
+        status, plan, errors = planner("solve", kind, write(folder, instance), steps, seed)
+        expect(what, (status, errors), (0, told))
+        expect(f"{what}, its last line", plan.splitlines()[-1], "Cost " + told.split()[-1])
+        if kind == "vrp":
+            answers = session(folder, kind, instance, seed, f"build\nanneal 0 {steps}\nprint\n")
+            expect(f"{what}, and through a store", answers[answers.index("Route"):], plan + "ok\n")
+
+
+def check_searched(folder):
+    for kind, instance, seed, deviation, vehicles, distance in SEARCHED:
+        what = f"solve {kind} by a search of seed {seed}"
+        status, plan, errors = planner("solve", kind, write(folder, instance), STEPS, seed, deviation)
+        expect(what, (status, errors.splitlines()[-1]), (0, f"at {STEPS} 0 {vehicles} {distance}"))
+        expect(f"{what}, its last line", plan.splitlines()[-1], f"Cost {distance}")
+        answers = session(folder, kind, instance, seed, f"build\ndeviation {deviation}\nsearch {STEPS}\nprint\n")
+        expect(f"{what}, its lines through a store", answers.count("at "), -(-STEPS // 256))
+        expect(f"{what}, and through a store", answers[answers.index("Route"):], plan + "ok\n")
+
+
+def check_annealed(folder):
+    routes = "".join(f"vehicle {vehicle}: {route}\n" for vehicle, route in enumerate(ANNEALED, 1))
+    shown = f"requests 80 next 81\nsteps 70000 place 1120000\n{routes}cost 0 0 14621\ndeviation 30\nwork 0 0 14636\nok\n"
+    answers = session(folder, "vrp", customers(80), 0, "build\ndeviation 30\nanneal 70000\nshow\n")
+    expect("70,000 annealing steps", answers, "ok\nok\n" + ANNEALED_TOLD + shown)
+
+
+def main():
+    if not os.path.exists(PROGRAM):
+        sys.exit(f"costs: {PROGRAM} is not built: run rt ci, or ./planner once")
+    with tempfile.TemporaryDirectory() as folder:
+        check_solved(folder)
+        check_searched(folder)
+        check_annealed(folder)
+    print(f"costs: {len(SOLVED) + len(SEARCHED) + 1} plans cost what another program has found, to the number")
+
+
+main()
