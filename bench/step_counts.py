@@ -1,10 +1,10 @@
 #!/usr/bin/env python3
 """How many instructions a step takes, which a busy machine doesn't disturb, and whether another program of the same steps ends at the same cost.
 
-Both are counted by callgrind, once with few steps and once with more: the difference is that of the steps alone. Ours is `planner run` with a new store,
-in which the instance is loaded and a plan built, and then `search` or `anneal` makes the steps, of whose commands it has all. OTHER is a program with the
-commands `gen KIND STOPS SEED`, `search KIND INSTANCE STEPS SEED DEVIATION` and `anneal ..`, as in `bench/search_speed.py`. The program is built by `./planner`;
-another one can be named, so that two builds are compared.
+Both are counted by callgrind, once with few steps and once with more: the difference is that of the steps alone. Ours is `planner run` over a store with an
+instance, where `build`, `deviation` and `search` or `anneal` are said, so what commands and store take is counted too. OTHER is a program with the commands
+`gen KIND STOPS SEED`, `search KIND INSTANCE STEPS SEED DEVIATION` and `anneal` with the same words, as in `bench/search_speed.py`. The program is built by
+`./planner`; another one can be named, so that two builds are compared.
 
     bench/step_counts.py OTHER [--program PATH] [search|anneal] [STOPS..]
 """
