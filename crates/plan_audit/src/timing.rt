@@ -35,8 +35,8 @@ pub(crate) fn kept_cost(problem: &Problem, routes: &[Route], unplanned: u64) -> 
     })
 }
 
-// How far a vehicle drives that keeps the rules on loads and times. The return is judged as a stop is, which asks no
-// less than the rules do.
+// How far a vehicle drives that keeps the rules on loads and times. The return is judged as a stop is: the depot has
+// neither demand nor service, so that refuses no more than the rules do.
 fn kept_length(problem: &Problem, route: &[u32]) -> Option<u64>
     requires { AreLiveOnce problem.now route.now }
     ensures kept { IfSome result (λ _. KeepsLimits problem.now route.now) }
