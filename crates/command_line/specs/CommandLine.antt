@@ -60,17 +60,17 @@ load_app names =
 abbrev pub upgrade_app : App
 upgrade_app = with_rule (with_rule (new_app (codes "upgrade")) (word_rule (codes "OLD"))) (word_rule (codes "NEW"))
 
+-- with the words that name a store or a solution: `STORE|KIND`, a second one, `SOLUTION` and a last one
+abbrev pub with_plan_rules : App → Rule → Rule → App
+with_plan_rules a second last = with_rule (with_rule (with_rule (with_rule a (word_rule (codes "STORE|KIND"))) second) (new_rule (codes "SOLUTION"))) last
+
 -- `timetable STORE [tabs]` or `timetable KIND INSTANCE SOLUTION [tabs]`
 abbrev pub timetable_app : App
-timetable_app =
-    let two = with_rule (with_rule (new_app (codes "timetable")) (word_rule (codes "STORE|KIND"))) (new_rule (codes "tabs|INSTANCE")) in
-    with_rule (with_rule two (new_rule (codes "SOLUTION"))) (new_rule (codes "tabs"))
+timetable_app = with_plan_rules (new_app (codes "timetable")) (new_rule (codes "tabs|INSTANCE")) (new_rule (codes "tabs"))
 
 -- `draw STORE` or `draw KIND INSTANCE SOLUTION [ROUTE]`
 abbrev pub draw_app : App
-draw_app =
-    let two = with_rule (with_rule (new_app (codes "draw")) (word_rule (codes "STORE|KIND"))) (new_rule (codes "INSTANCE")) in
-    with_rule (with_rule two (new_rule (codes "SOLUTION"))) (new_rule (codes "ROUTE"))
+draw_app = with_plan_rules (new_app (codes "draw")) (new_rule (codes "INSTANCE")) (new_rule (codes "ROUTE"))
 
 -- a command that tells its version
 abbrev pub versioned_app : Text → App

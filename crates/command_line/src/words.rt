@@ -3,10 +3,10 @@
 //! Words that begin with a hyphen are `clap`'s, and the contract speaks of the other ones, since an exact clause
 //! would have to speak of UTF-8 within each word. `--` alone counts as no words, as `clap` has it.
 ghost use Rattle.std.specs.Prelude.{◌≡◌, Some, IfOk, codes, drop, map, option_and_then, option_map};
-ghost use Rattle.clap.specs.Words.{App, Rule, app_of, first_of, found_of, kind_of, new_rule, rows_of, subcommand_rows_of, with_rule, with_subcommand};
+ghost use Rattle.clap.specs.Words.{App, Rule, app_of, first_of, found_of, kind_of, new_app, new_rule, rows_of, subcommand_rows_of, with_rule, with_subcommand};
 ghost use Rattle.text_lines.specs.Numbers.{integer_of};
 ghost use Rattle.command_line.specs.Asked.{ArePositional, ReadsWords, as_u64, asked_of, paths_in, paths_of, run_in, kind_named, list_in, load_in, load_of, deviation_or_none, draw_from, draw_in, route_or_none, seed_named, seed_or_none, steps_named, store_in, store_timetable_from, tabs_named, task_in, task_of, tasks_in, tasks_of, timetable_from, timetable_in, told_by, told_by_other, told_of, told_of_store, upgrade_in};
-ghost use Rattle.command_line.specs.CommandLine.{IsKindNames, IsLeafCommand, IsModeNames, IsPlannerCommand, IsWord, audits_app, draw_app, load_app, mode_rule, paths_app, kind_rule, run_app, solve_app, solves_app, store_app, timetable_app, upgrade_app, word_rule};
+ghost use Rattle.command_line.specs.CommandLine.{IsKindNames, IsLeafCommand, IsModeNames, IsPlannerCommand, IsWord, audits_app, draw_app, load_app, mode_rule, paths_app, kind_rule, run_app, solve_app, solves_app, store_app, timetable_app, upgrade_app, with_plan_rules, word_rule};
 
 use crate::help::{
     ABOUT, AUDIT_ABOUT, AUDIT_ANSWERS, AUDITS_ABOUT, AUDITS_ANSWERS, DRAW_ABOUT, DRAW_ANSWERS,
@@ -168,22 +168,61 @@ fn bad_words(alloc: Global, matches: &ArgMatches<'_>) -> Result<Error, OutOfMemo
     ensures { IfOk result (λ error. kind_of error ≡ ErrorKind.InvalidValue) }
 {
     match matches.subcommand_name() {
-        Some("load") => load_command(alloc, kind_names())?
-            .bin_name("planner load")?
-            .error(ErrorKind::InvalidValue, BAD_SEED),
-        Some("solves") => solves_command(alloc, kind_names())?
-            .bin_name("planner solves")?
-            .error(ErrorKind::InvalidValue, BAD_TASKS),
-        Some("draw") => draw_command(alloc)?
-            .bin_name("planner draw")?
-            .error(ErrorKind::InvalidValue, BAD_DRAWING),
-        Some("timetable") => timetable_command(alloc)?
-            .bin_name("planner timetable")?
-            .error(ErrorKind::InvalidValue, BAD_TIMETABLE),
-        _ => solve_command(alloc, kind_names())?
-            .bin_name("planner solve")?
-            .error(ErrorKind::InvalidValue, BAD_STEPS),
+        Some("load") => bad_load(alloc),
+        Some("solves") => bad_solves(alloc),
+        Some("draw") => bad_draw(alloc),
+        Some("timetable") => bad_timetable(alloc),
+        _ => bad_solve(alloc),
     }
+}
+
+fn bad_load(alloc: Global) -> Result<Error, OutOfMemory>
+    ensures { IfOk result (λ error. kind_of error ≡ ErrorKind.InvalidValue) }
+{
+    refused(load_command(alloc, kind_names())?, "planner load", BAD_SEED)
+}
+
+fn bad_solves(alloc: Global) -> Result<Error, OutOfMemory>
+    ensures { IfOk result (λ error. kind_of error ≡ ErrorKind.InvalidValue) }
+{
+    refused(
+        solves_command(alloc, kind_names())?,
+        "planner solves",
+        BAD_TASKS,
+    )
+}
+
+fn bad_draw(alloc: Global) -> Result<Error, OutOfMemory>
+    ensures { IfOk result (λ error. kind_of error ≡ ErrorKind.InvalidValue) }
+{
+    refused(draw_command(alloc)?, "planner draw", BAD_DRAWING)
+}
+
+fn bad_timetable(alloc: Global) -> Result<Error, OutOfMemory>
+    ensures { IfOk result (λ error. kind_of error ≡ ErrorKind.InvalidValue) }
+{
+    refused(
+        timetable_command(alloc)?,
+        "planner timetable",
+        BAD_TIMETABLE,
+    )
+}
+
+fn bad_solve(alloc: Global) -> Result<Error, OutOfMemory>
+    ensures { IfOk result (λ error. kind_of error ≡ ErrorKind.InvalidValue) }
+{
+    refused(
+        solve_command(alloc, kind_names())?,
+        "planner solve",
+        BAD_STEPS,
+    )
+}
+
+// The error that says why the words of a command are refused, with the command's usage under this name.
+fn refused(command: Command<'_>, name: &str, why: &str) -> Result<Error, OutOfMemory>
+    ensures { IfOk result (λ error. kind_of error ≡ ErrorKind.InvalidValue) }
+{
+    command.bin_name(name)?.error(ErrorKind::InvalidValue, why)
 }
 
 fn planner_command<'a>(alloc: Global, lines: &'a str) -> Result<Command<'a>, OutOfMemory>
@@ -224,6 +263,13 @@ fn mode_names<'a>() -> &'a [&'a str]
     MODE_WORDS.as_slice()
 }
 
+// A command with its help, and no words yet.
+fn bare_command<'a>(alloc: Global, name: &'a str, about: &'a str, answers: &'a str) -> Command<'a>
+    ensures { IsLeafCommand (new_app name.entry.now) result }
+{
+    Command::new(alloc, name).about(about).after_help(answers)
+}
+
 // A command whose one word is the path of a store.
 fn store_command<'a>(
     alloc: Global,
@@ -233,7 +279,7 @@ fn store_command<'a>(
 ) -> Result<Command<'a>, OutOfMemory>
     ensures { IfOk result (IsLeafCommand (store_app name.entry.now)) }
 {
-    let command = Command::new(alloc, name).about(about).after_help(answers);
+    let command = bare_command(alloc, name, about, answers);
     with_word(command, word(alloc, "STORE", "The file of the store"))
 }
 
@@ -244,9 +290,7 @@ fn run_command<'a>(
 ) -> Result<Command<'a>, OutOfMemory>
     ensures { IfOk result (IsLeafCommand (run_app modes.entry)) }
 {
-    let command = Command::new(alloc, "run")
-        .about(RUN_ABOUT)
-        .after_help(lines);
+    let command = bare_command(alloc, "run", RUN_ABOUT, lines);
     let command = with_word(command, word(alloc, "STORE", "The file of the store"))?;
     with_word(command, mode_word(alloc, modes))
 }
@@ -254,9 +298,7 @@ fn run_command<'a>(
 fn load_command<'a>(alloc: Global, kinds: &'a [&'a str]) -> Result<Command<'a>, OutOfMemory>
     ensures { IfOk result (IsLeafCommand (load_app kinds.entry)) }
 {
-    let command = Command::new(alloc, "load")
-        .about(LOAD_ABOUT)
-        .after_help(LOAD_ANSWERS);
+    let command = bare_command(alloc, "load", LOAD_ABOUT, LOAD_ANSWERS);
     let command = with_word(command, word(alloc, "STORE", "The file of the store"))?;
     let command = with_word(command, kind_word(alloc, kinds))?;
     let command = with_word(command, instance_word(alloc))?;
@@ -266,9 +308,7 @@ fn load_command<'a>(alloc: Global, kinds: &'a [&'a str]) -> Result<Command<'a>, 
 fn upgrade_command<'a>(alloc: Global) -> Result<Command<'a>, OutOfMemory>
     ensures { IfOk result (IsLeafCommand upgrade_app) }
 {
-    let command = Command::new(alloc, "upgrade")
-        .about(UPGRADE_ABOUT)
-        .after_help(UPGRADE_ANSWERS);
+    let command = bare_command(alloc, "upgrade", UPGRADE_ABOUT, UPGRADE_ANSWERS);
     let command = with_word(command, word(alloc, "OLD", "The file of the old store"))?;
     with_word(command, word(alloc, "NEW", "The file of the new store"))
 }
@@ -276,25 +316,31 @@ fn upgrade_command<'a>(alloc: Global) -> Result<Command<'a>, OutOfMemory>
 fn timetable_command<'a>(alloc: Global) -> Result<Command<'a>, OutOfMemory>
     ensures { IfOk result (IsLeafCommand timetable_app) }
 {
-    let command = Command::new(alloc, "timetable")
-        .about(TIMETABLE_ABOUT)
-        .after_help(TIMETABLE_ANSWERS);
-    let command = with_word(command, word(alloc, "STORE|KIND", "A store, or a format"))?;
-    let command = with_word(command, second_word(alloc))?;
-    let command = with_word(command, solution_word(alloc))?;
-    with_word(command, tabs_word(alloc))
+    let command = bare_command(alloc, "timetable", TIMETABLE_ABOUT, TIMETABLE_ANSWERS);
+    with_plan_words(alloc, command, second_word(alloc), tabs_word(alloc))
 }
 
 fn draw_command<'a>(alloc: Global) -> Result<Command<'a>, OutOfMemory>
     ensures { IfOk result (IsLeafCommand draw_app) }
 {
-    let command = Command::new(alloc, "draw")
-        .about(DRAW_ABOUT)
-        .after_help(DRAW_ANSWERS);
+    let command = bare_command(alloc, "draw", DRAW_ABOUT, DRAW_ANSWERS);
+    with_plan_words(alloc, command, drawn_word(alloc), route_word(alloc))
+}
+
+// The command with the words that name a store or a solution: `STORE|KIND`, a second one, `SOLUTION` and a last one.
+fn with_plan_words<'a>(
+    alloc: Global,
+    command: Command<'a>,
+    second: Arg<'a>,
+    last: Arg<'a>,
+) -> Result<Command<'a>, OutOfMemory>
+    ensures { (a : App) (r q : Rule) → IsLeafCommand a command.entry → IsWord r second.entry
+        → IsWord q last.entry → IfOk result (IsLeafCommand (with_plan_rules a r q)) }
+{
     let command = with_word(command, word(alloc, "STORE|KIND", "A store, or a format"))?;
-    let command = with_word(command, drawn_word(alloc))?;
+    let command = with_word(command, second)?;
     let command = with_word(command, solution_word(alloc))?;
-    with_word(command, route_word(alloc))
+    with_word(command, last)
 }
 
 // A command of the words `KIND INSTANCE SOLUTION`.
@@ -307,7 +353,7 @@ fn paths_command<'a>(
 ) -> Result<Command<'a>, OutOfMemory>
     ensures { IfOk result (IsLeafCommand (paths_app name.entry.now kinds.entry)) }
 {
-    let command = Command::new(alloc, name).about(about).after_help(answers);
+    let command = bare_command(alloc, name, about, answers);
     let command = with_word(command, kind_word(alloc, kinds))?;
     let command = with_word(command, instance_word(alloc))?;
     with_word(
@@ -323,9 +369,7 @@ fn paths_command<'a>(
 fn audits_command<'a>(alloc: Global, kinds: &'a [&'a str]) -> Result<Command<'a>, OutOfMemory>
     ensures { IfOk result (IsLeafCommand (audits_app kinds.entry)) }
 {
-    let command = Command::new(alloc, "audits")
-        .about(AUDITS_ABOUT)
-        .after_help(AUDITS_ANSWERS);
+    let command = bare_command(alloc, "audits", AUDITS_ABOUT, AUDITS_ANSWERS);
     let command = with_word(command, kind_word(alloc, kinds))?;
     with_word(command, list_word(alloc))
 }
@@ -333,9 +377,7 @@ fn audits_command<'a>(alloc: Global, kinds: &'a [&'a str]) -> Result<Command<'a>
 fn solve_command<'a>(alloc: Global, kinds: &'a [&'a str]) -> Result<Command<'a>, OutOfMemory>
     ensures { IfOk result (IsLeafCommand (solve_app kinds.entry)) }
 {
-    let command = Command::new(alloc, "solve")
-        .about(SOLVE_ABOUT)
-        .after_help(SOLVE_ANSWERS);
+    let command = bare_command(alloc, "solve", SOLVE_ABOUT, SOLVE_ANSWERS);
     let command = with_word(command, kind_word(alloc, kinds))?;
     let command = with_word(command, instance_word(alloc))?;
     let command = with_word(command, word(alloc, "STEPS", "How many steps are made"))?;
@@ -346,9 +388,7 @@ fn solve_command<'a>(alloc: Global, kinds: &'a [&'a str]) -> Result<Command<'a>,
 fn solves_command<'a>(alloc: Global, kinds: &'a [&'a str]) -> Result<Command<'a>, OutOfMemory>
     ensures { IfOk result (IsLeafCommand (solves_app kinds.entry)) }
 {
-    let command = Command::new(alloc, "solves")
-        .about(SOLVES_ABOUT)
-        .after_help(SOLVES_ANSWERS);
+    let command = bare_command(alloc, "solves", SOLVES_ABOUT, SOLVES_ANSWERS);
     let command = with_word(command, kind_word(alloc, kinds))?;
     let command = with_word(command, list_word(alloc))?;
     let command = with_word(

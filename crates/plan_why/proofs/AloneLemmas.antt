@@ -1,5 +1,5 @@
 -- A route exceeds no limit exactly where it keeps them, and then a request alone is feasible by the auditor's rules.
-use Rattle.std.proofs.Common.{◌≡◌, ◌∙◌, ℕ, zero, suc, ◌+◌, ◌-◌, ◌<◌, ◌≤◌, ◌≤ℤ◌, ◌<ℤ◌, ℤ, pos, int_lt, ltb, ◌&&◌, Bool, true, false, T, List, [], map, length, get_or, Option, Some, None, refl, sym, ap, subst, arith, inl, inr, nat_eq}
+use Rattle.std.proofs.Common.{◌≡◌, ◌∙◌, ℕ, zero, suc, ◌+◌, ◌-◌, ◌<◌, ◌≤◌, ◌≤ℤ◌, ◌<ℤ◌, ℤ, pos, int_lt, ltb, ◌&&◌, Bool, true, false, T, List, [], map, length, get_or, slice_get, Option, Some, None, refl, sym, ap, subst, arith, inl, inr, nat_eq}
 use Rattle.std.specs.List.{find, range_with_len}
 use Rattle.std.specs.Map.{lookup}
 use Rattle.std.specs.Option.{option_map, option_or}
@@ -34,7 +34,7 @@ find_none : {X : Type 0} (test : X → Bool) (f : ℕ → X) (a n : ℕ) → ((k
 find_none test f a zero none = refl
 find_none test f a (suc n) none = rw (none a (omega arith) (omega arith)) (find_none test f (a + 1) n (λ k from to. none k (omega arith) (omega arith)))
 
-none_found : {X : Type 0} (test : X → Bool) (f : ℕ → X) (a n : ℕ) → find test (map f (range_with_len a n)) ≡ None → (k : ℕ) → a ≤ k → k < a + n → test (f k) ≡ false
+pub none_found : {X : Type 0} (test : X → Bool) (f : ℕ → X) (a n : ℕ) → find test (map f (range_with_len a n)) ≡ None → (k : ℕ) → a ≤ k → k < a + n → test (f k) ≡ false
 none_found test f a zero none k from to = absurd (omega arith)
 none_found test f a (suc n) none k from to = elim (cases_Bool (test (f a))) [
   | inl t ↦ absurd (none_some (f a) (sym (rw t at none)))
@@ -44,7 +44,7 @@ none_found test f a (suc n) none k from to = elim (cases_Bool (test (f a))) [
   ]
 ]
 
-map_none : {X Y : Type 0} (f : X → Y) (o : Option X) → option_map f o ≡ None → o ≡ None
+pub map_none : {X Y : Type 0} (f : X → Y) (o : Option X) → option_map f o ≡ None → o ≡ None
 map_none f None none = refl
 map_none f (Some x) none = absurd (none_some (f x) (sym none))
 
@@ -57,7 +57,7 @@ and_false : (a : Bool) → (a && false) ≡ false
 and_false true = refl
 and_false false = refl
 
-at_most : (most l : ℤ) → int_lt most l ≡ false → l ≤ℤ most
+pub at_most : (most l : ℤ) → int_lt most l ≡ false → l ≤ℤ most
 at_most most l fails = by_lt_z {P = l ≤ℤ most} most l (λ above. absurd (subst T fails above.lt)) (λ le. le)
 
 not_above : (most l : ℤ) → l ≤ℤ most → int_lt most l ≡ false
@@ -73,7 +73,7 @@ not_later latest t le = elim (leb_tells (suc latest) t) [
   | inr t ↦ t.0
 ]
 
-in_time : (latest t : ℕ) → ltb latest t ≡ false → t ≤ latest
+pub in_time : (latest t : ℕ) → ltb latest t ≡ false → t ≤ latest
 in_time latest t fails = elim (leb_tells (suc latest) t) [
   | inl t ↦ absurd (let k : true ≡ false = sym t.0 ∙ fails in cc)
   | inr t ↦ omega (arith, t.1)
@@ -82,13 +82,13 @@ in_time latest t fails = elim (leb_tells (suc latest) t) [
 -- ---- a route of stops whose numbers are no depot's
 module _ (p : Instance) (route : List ℕ) (valid : IsInstance p) (numbered : (k : ℕ) → k < length route → 1 ≤ (place p route (k + 1)).number) where
   -- the row of a stop is told where the load behind it is above the capacity, that of the return never
-  heavy_stop : (k : ℕ) → k < length route → is_heavy p.capacity (row_behind p route k) ≡ int_lt (pos p.capacity) (load p route (k + 1))
+  pub heavy_stop : (k : ℕ) → k < length route → is_heavy p.capacity (row_behind p route k) ≡ int_lt (pos p.capacity) (load p route (k + 1))
   heavy_stop k below = let one = numbered k below in rw (ne_eqb (place p route (k + 1)).number 0 (λ e. omega arith)) refl
 
-  back : place p route (length route + 1) ≡ p.depot
+  pub back : place p route (length route + 1) ≡ p.depot
   back = place-return p route (length route) (omega arith)
 
-  heavy_return : is_heavy p.capacity (row_behind p route (length route)) ≡ false
+  pub heavy_return : is_heavy p.capacity (row_behind p route (length route)) ≡ false
   heavy_return = let none : (place p route (length route + 1)).number ≡ 0 = ap (λ (s : Stop). s.number) back ∙ valid.depot.number in rw none refl
 
   abbrev rows : ℕ
@@ -150,26 +150,33 @@ module _ (p : Instance) (route : List ℕ) (valid : IsInstance p) (numbered : (k
 
 -- ---- a request alone
 module _ (found : NamedAreFound) (stand : RequestsStandByName) (p : Instance) (valid : IsInstance p) where
-  -- a stop of a request stands at its place
+  -- place k of a route is that of the stop whose number stands there
+  abbrev pub StandsAt : List ℕ → ℕ → Type 0
+  StandsAt route k = (1 ≤ (place p route (k + 1)).number) × (slice_get route k ≡ Some (place p route (k + 1)).number)
+
+  -- so it is with a stop of a request
   at_place : (name : ℕ) (r : Request) → lookup (nat_eq name) p.requests ≡ Some r → (s : Stop) → stop_in s.number r ≡ Some s → IsStop s → 1 ≤ times s.number (numbers_of r)
-      → (route : List ℕ) (k : ℕ) → s.number ≡ get_or route k 0 → 1 ≤ (place p route (k + 1)).number
-  at_place name r named s is stop some route k at =
+      → (route : List ℕ) (k : ℕ) → s.number ≡ get_or route k 0 → slice_get route k ≡ Some s.number → StandsAt route k
+  at_place name r named s is stop some route k at on =
       let here = (found p s.number name r valid named (in_numbers s.number r some)).stop in
       let same : place p route (k + 1) ≡ s = place-stop p route k s.number s at (here ∙ is) refl stop in
-      subst (λ (t : Stop). 1 ≤ t.number) (sym same) stop.from_one
+      (subst (λ (t : Stop). 1 ≤ t.number) (sym same) stop.from_one, on ∙ ap (λ (t : Stop). Some t.number) (sym same))
+
+  pub alone_stands : (name : ℕ) (r : Request) → lookup (nat_eq name) p.requests ≡ Some r → (k : ℕ) → k < length (alone_route r) → StandsAt (alone_route r) k
+  alone_stands name (Single s) named zero below =
+      let request = valid_request p.requests name (Single s) valid.valid named in
+      at_place name (Single s) named s (rw (eq-eqb s.number s.number refl) refl) request.0 (let e = one_here s.number s.number refl in omega arith) (alone_route (Single s)) 0 refl refl
+  alone_stands name (Single s) named (suc k) below = absurd (omega arith)
+  alone_stands name (Pair a b) named zero below =
+      let request = valid_request p.requests name (Pair a b) valid.valid named in
+      at_place name (Pair a b) named a (rw (eq-eqb a.number a.number refl) refl) request.0 (let e = one_here a.number a.number refl in omega arith) (alone_route (Pair a b)) 0 refl refl
+  alone_stands name (Pair a b) named (suc zero) below =
+      let request = valid_request p.requests name (Pair a b) valid.valid named in
+      at_place name (Pair a b) named b (rw (ne_eqb a.number b.number request.2, eq-eqb b.number b.number refl) refl) request.1 (let e = one_here b.number b.number refl in omega arith) (alone_route (Pair a b)) 1 refl refl
+  alone_stands name (Pair a b) named (suc (suc k)) below = absurd (omega arith)
 
   alone_numbered : (name : ℕ) (r : Request) → lookup (nat_eq name) p.requests ≡ Some r → (k : ℕ) → k < length (alone_route r) → 1 ≤ (place p (alone_route r) (k + 1)).number
-  alone_numbered name (Single s) named zero below =
-      let request = valid_request p.requests name (Single s) valid.valid named in
-      at_place name (Single s) named s (rw (eq-eqb s.number s.number refl) refl) request.0 (let e = one_here s.number s.number refl in omega arith) (alone_route (Single s)) 0 refl
-  alone_numbered name (Single s) named (suc k) below = absurd (omega arith)
-  alone_numbered name (Pair a b) named zero below =
-      let request = valid_request p.requests name (Pair a b) valid.valid named in
-      at_place name (Pair a b) named a (rw (eq-eqb a.number a.number refl) refl) request.0 (let e = one_here a.number a.number refl in omega arith) (alone_route (Pair a b)) 0 refl
-  alone_numbered name (Pair a b) named (suc zero) below =
-      let request = valid_request p.requests name (Pair a b) valid.valid named in
-      at_place name (Pair a b) named b (rw (ne_eqb a.number b.number request.2, eq-eqb b.number b.number refl) refl) request.1 (let e = one_here b.number b.number refl in omega arith) (alone_route (Pair a b)) 1 refl
-  alone_numbered name (Pair a b) named (suc (suc k)) below = absurd (omega arith)
+  alone_numbered name r named k below = (alone_stands name r named k below).0
 
   idle_times : (kind : Kind) → keeps_times kind p [] ≡ true
   idle_times LiLim = refl

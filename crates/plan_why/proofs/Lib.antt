@@ -1,4 +1,5 @@
 pub mod AloneLemmas
 pub mod BestLemmas
+pub mod FaultLemmas
 pub mod MayTake
 pub mod TrialLemmas

@@ -1,13 +1,18 @@
 -- What the best trial means, and what is told of a request alone.
-use Rattle.std.specs.Prelude.{◌≡◌, ◌↔◌, ℕ, false, List, None, Some}
+use Rattle.std.specs.Prelude.{◌≡◌, ◌↔◌, ℕ, false, List, Option, None, Some}
 use Rattle.std.specs.List.{AllByRecursion}
 use Rattle.plan_types.specs.Instance.{Instance, IsInstance}
 use Rattle.plan_types.specs.declared.requests.Request.{Request}
-use Rattle.plan_audit.specs.Alone.{IsFeasibleAlone}
+use Rattle.plan_audit.specs.Alone.{IsFeasibleAlone, alone}
+use Rattle.plan_audit.specs.Verdict.{IsVerdictOver}
+use Rattle.plan_audit.specs.declared.rules.Verdict.TheVariants.{Broken}
 use Rattle.move_ops.specs.Insertion.{request_named}
 use Rattle.plan_why.specs.Missed.{miss_of}
 use Rattle.plan_why.specs.Trials.{best_trial, is_better, trials}
 use Rattle.plan_why.specs.Why.{alone_route}
+use Rattle.plan_why.specs.declared.missed.Limit.{Limit}
+use Rattle.plan_why.specs.declared.missed.Limit.TheVariants.{Capacity, Start, Return}
+use Rattle.plan_why.specs.declared.missed.Miss.{Miss}
 use Rattle.plan_why.specs.declared.trials.Trial.{Trial}
 
 -- law: no trial misses less than the best one, or as much on a shorter way
@@ -17,3 +22,18 @@ NoneIsBetter = (p : Instance) (route : List ℕ) (r : Request) (kept : ℕ) (bes
 -- law: a vehicle that serves a live request and nothing else exceeds no limit exactly where the auditor finds its route feasible alone
 abbrev pub AloneIsJudgedByRules : Type 0
 AloneIsJudgedByRules = (p : Instance) (name : ℕ) (r : Request) → IsInstance p → request_named p name ≡ Some r → (miss_of p (alone_route r) ≡ None) ↔ IsFeasibleAlone p (alone_route r)
+
+-- the number of the auditor's rule that asks for a limit
+abbrev pub limit_rule : Limit → ℕ
+limit_rule Capacity = 6
+limit_rule Start = 7
+limit_rule Return = 8
+
+-- what is missed is what the auditor tells of the route alone: nothing, or the rule of the limit, at some place of the only route with this stop
+abbrev pub TellsFault : Instance → List ℕ → Option Miss → Type 0
+TellsFault p route None = IsFeasibleAlone p route
+TellsFault p route (Some m) = (i : ℕ) × IsVerdictOver 3 8 p (alone route) (Broken (limit_rule m.limit) 1 i m.stop)
+
+-- law: so it is of a vehicle that serves a live request and nothing else
+abbrev pub AloneTellsFault : Type 0
+AloneTellsFault = (p : Instance) (name : ℕ) (r : Request) → IsInstance p → request_named p name ≡ Some r → TellsFault p (alone_route r) (miss_of p (alone_route r))

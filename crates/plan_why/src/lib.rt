@@ -25,6 +25,7 @@
 //! - `reason`: the same of an unplanned request in any routes whose stops are live and stand once in each (`reason_text`)
 //! - `no_trial_is_better`: the trial that is told of a vehicle misses least
 //! - `what_is_alone_is_judged_by_the_rules`: no limit is told of a request alone exactly where its route is feasible by the auditor
+//! - `what_is_alone_is_told_as_its_fault`: a limit that is told is that of the auditor's least broken rule, at its stop
 #![tactic(auto)]
 
 mod answers;
@@ -36,5 +37,7 @@ mod trials;
 mod words;
 
 pub use answers::{reason, why};
-pub use laws::{no_trial_is_better, what_is_alone_is_judged_by_the_rules};
+pub use laws::{
+    no_trial_is_better, what_is_alone_is_judged_by_the_rules, what_is_alone_is_told_as_its_fault,
+};
 pub use leads::Lead;

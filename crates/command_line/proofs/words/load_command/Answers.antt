@@ -1,17 +1,12 @@
 -- The command with its four words, the last of which may be left out.
-use Rattle.std.proofs.Common.{◌∙◌, ap, codes}
-use Rattle.clap.specs.Simple.{app_of_fields}
+use Rattle.std.proofs.Common.{codes}
 use Rattle.clap.specs.Words.{new_app, new_rule, with_rule}
-use Rattle.command_line.specs.CommandLine.{IsLeafCommand, kind_rule, word_rule}
+use Rattle.command_line.specs.CommandLine.{kind_rule, word_rule}
 use Rattle.command_line.proofs.words.load_command.Goals as goal
 
 pub returns : goal.returns
 returns c =
-    let leaf : IsLeafCommand (new_app (codes "load")) c.after_help-command.result = record {
-      app = ap app_of_fields c.after_help-command.ensures ∙ (ap app_of_fields c.about.ensures ∙ c.new.ensures.app);
-      local = ap (λ f. f.has_globals) c.after_help-command.ensures ∙ (ap (λ f. f.has_globals) c.about.ensures ∙ c.new.ensures.local);
-    } in
-    let one = c.in_ok-command.ensures (new_app (codes "load")) (word_rule (codes "STORE")) leaf c.word.ensures in
+    let one = c.in_ok-command.ensures (new_app (codes "load")) (word_rule (codes "STORE")) c.bare_command-command.ensures c.word.ensures in
     let store = with_rule (new_app (codes "load")) (word_rule (codes "STORE")) in
     let two = c.in_ok-command-2.ensures store (kind_rule c.args.kinds) one c.kind_word.ensures in
     let kind = with_rule store (kind_rule c.args.kinds) in

@@ -1,18 +1,13 @@
 -- The command with its five words, the last two of which may be left out.
-use Rattle.std.proofs.Common.{◌∙◌, ap, codes}
-use Rattle.clap.specs.Simple.{app_of_fields}
+use Rattle.std.proofs.Common.{codes}
 use Rattle.clap.specs.Words.{new_app, new_rule, with_rule}
-use Rattle.command_line.specs.CommandLine.{IsLeafCommand, kind_app, kind_rule, word_rule}
+use Rattle.command_line.specs.CommandLine.{kind_app, kind_rule, word_rule}
 use Rattle.command_line.proofs.words.solve_command.Goals as goal
 
 pub returns : goal.returns
 returns c =
-    let leaf : IsLeafCommand (new_app (codes "solve")) c.after_help-command.result = record {
-      app = ap app_of_fields c.after_help-command.ensures ∙ (ap app_of_fields c.about.ensures ∙ c.new.ensures.app);
-      local = ap (λ f. f.has_globals) c.after_help-command.ensures ∙ (ap (λ f. f.has_globals) c.about.ensures ∙ c.new.ensures.local);
-    } in
     let kind = kind_app (codes "solve") c.args.kinds in
-    let one = c.in_ok-command.ensures (new_app (codes "solve")) (kind_rule c.args.kinds) leaf c.kind_word.ensures in
+    let one = c.in_ok-command.ensures (new_app (codes "solve")) (kind_rule c.args.kinds) c.bare_command-command.ensures c.kind_word.ensures in
     let two = c.in_ok-command-2.ensures kind (word_rule (codes "INSTANCE")) one c.instance_word.ensures in
     let instance = with_rule kind (word_rule (codes "INSTANCE")) in
     let three = c.in_ok-command-3.ensures instance (word_rule (codes "STEPS")) two c.word.ensures in

@@ -1,15 +1,10 @@
 -- The command with its two words.
-use Rattle.std.proofs.Common.{◌∙◌, ap, codes}
-use Rattle.clap.specs.Simple.{app_of_fields}
+use Rattle.std.proofs.Common.{codes}
 use Rattle.clap.specs.Words.{new_app, with_rule}
-use Rattle.command_line.specs.CommandLine.{IsLeafCommand, word_rule}
+use Rattle.command_line.specs.CommandLine.{word_rule}
 use Rattle.command_line.proofs.words.upgrade_command.Goals as goal
 
 pub returns : goal.returns
 returns c =
-    let leaf : IsLeafCommand (new_app (codes "upgrade")) c.after_help-command.result = record {
-      app = ap app_of_fields c.after_help-command.ensures ∙ (ap app_of_fields c.about.ensures ∙ c.new.ensures.app);
-      local = ap (λ f. f.has_globals) c.after_help-command.ensures ∙ (ap (λ f. f.has_globals) c.about.ensures ∙ c.new.ensures.local);
-    } in
-    let one = c.in_ok-command.ensures (new_app (codes "upgrade")) (word_rule (codes "OLD")) leaf c.word.ensures in
+    let one = c.in_ok-command.ensures (new_app (codes "upgrade")) (word_rule (codes "OLD")) c.bare_command-command.ensures c.word.ensures in
     c.with_word-2.ensures (with_rule (new_app (codes "upgrade")) (word_rule (codes "OLD"))) (word_rule (codes "NEW")) one c.word-2.ensures
