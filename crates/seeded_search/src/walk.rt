@@ -4,7 +4,8 @@
 //! The candidate stands in a draft over the working plan (`move_ops::Draft`) and is taken or dropped; no plan
 //! is copied for it. One that costs no more than the incumbent is near it, so one `take` serves both plans.
 //! The lists of movable and of unplanned requests stay where none is unplanned before and after a candidate
-//! is taken, since both plans then plan all requests; else they are filled anew.
+//! is taken, since both plans then plan all requests, and where the candidate is the plan that it was made of;
+//! else they are filled anew.
 ghost use Rattle.std.specs.Prelude.{◌≡◌, true, IfOk, OnOk};
 ghost use Rattle.route_sched.specs.Cost.{cost_of};
 ghost use Rattle.plan_audit.specs.Passes.{passes};
@@ -123,7 +124,11 @@ impl Walk {
         requires cost { cost.now ≡ cost_of problem.now (draft_of self.old.draft) }
         ensures { OnOk result (HasTaken problem.now pins.now.routes self.old self.new) }
     {
+        let is_base = self.draft.is_base();
         self.draft.take();
+        if is_base {
+            return Ok(());
+        }
         if cost.unplanned == 0 && self.lists.unplanned.is_empty() {
             return Ok(());
         }
