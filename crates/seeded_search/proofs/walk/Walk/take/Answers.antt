@@ -27,6 +27,7 @@ returns-then-is_empty c =
         movable = c.requires.lists.movable ∙ movable_stay p c.args.pins.now.routes old new before after;
         unplanned = c.requires.lists.unplanned ∙ (before ∙ sym after);
       };
+      at = search rules;
     }
 
 -- the plan that stood is taken once more
@@ -43,4 +44,5 @@ returns-then-is_base c =
       best = search rules;
       front = search rules;
       lists = subst (λ routes. AreListsOf p pins routes c.args.self.now.lists) (sym same) c.requires.lists;
+      at = search rules;
     }
