@@ -14,7 +14,7 @@ use Rattle.seeded_search.specs.Steps.{unplanned_names, is_near}
 use Rattle.seeded_search.specs.StepLaws.{BothPass}
 use Rattle.seeded_search.specs.Working.{walked_by, HasTaken}
 use Rattle.seeded_search.specs.declared.walk.Walk.{Walk}
-use Rattle.seeded_search.proofs.WalkLemmas.{Passes, removed_passes, placed_all_passes, taken_walk}
+use Rattle.seeded_search.proofs.WalkLemmas.{Passes, removed_passes, placed_all_passes, noted_walk, taken_walk}
 use Rattle.anneal_search.specs.Orders.{ordered}
 use Rattle.anneal_search.specs.Strings.{ruined_names}
 use Rattle.anneal_search.specs.Annealing.{Walked, walked, recreated, candidate, annealed, annealed_by, anneal_step, anneal_steps}
@@ -54,8 +54,8 @@ removed_and_more f None made old left new h is more = absurd (both_ways made h.0
 removed_and_more f (Some routes) made old left new h is more = (refl, more ∙ ap f h.1)
 
 -- ---- what it replaces
-module _ (p : Instance) (pins : List (List ℕ)) (deviation : ℕ) (old improved new : Walk) (cost work : Cost) (cost_is : cost ≡ cost_of p (draft_of old.draft))
-    (better : HasImproved p pins old improved) (taken : HasTaken p pins improved new) where
+module _ (p : Instance) (pins : List (List ℕ)) (deviation : ℕ) (old improved new : Walk) (at : Bool) (cost work : Cost) (cost_is : cost ≡ cost_of p (draft_of old.draft))
+    (better : HasImproved p pins old improved at) (taken : HasTaken p pins improved new) where
   base_is : base_of new.draft ≡ draft_of old.draft
   base_is = taken.base ∙ ap draft_of better.draft
 
@@ -69,9 +69,10 @@ module _ (p : Instance) (pins : List (List ℕ)) (deviation : ℕ) (old improved
       ∙ (ap (walked (cond (cost_at_most (cost_of p (draft_of old.draft)) (cost_of p old.incumbent.routes)) (draft_of old.draft) old.incumbent.routes)) base_is
       ∙ sym (ap (λ b. cond b (walked (cond (cost_at_most (cost_of p (draft_of old.draft)) (cost_of p old.incumbent.routes)) (draft_of old.draft) old.incumbent.routes) (draft_of old.draft)) (walked_by old)) there))
 
-  pub goes_on : IsGoing p pins (record { walk = new; work = cost })
+  pub goes_on : IsGoing p pins (record { walk = record new { is_at_incumbent = at }; work = cost })
   goes_on = record {
-    walk = taken_walk p pins improved new taken better.keeps.incumbent better.keeps.best better.keeps.idle;
+    walk = noted_walk p pins new at (taken_walk p pins improved new taken better.keeps.incumbent better.keeps.best better.keeps.idle)
+        (λ yes. ap (λ (plan : Plan). plan.routes) taken.incumbent ∙ (better.at yes ∙ sym base_is));
     work = cost_is ∙ ap (cost_of p) (sym base_is);
   }
 

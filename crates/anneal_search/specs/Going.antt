@@ -1,5 +1,5 @@
 -- What the loops of a step go by, and what annealing keeps of its plans from step to step.
-use Rattle.std.specs.Prelude.{◌≡◌, ℕ, suc, ◌+◌, ◌-◌, nat_lt, ◌<◌, ◌≤◌, Bool, List, [], ◌∷◌, Option, Some, None, IfSome, length, slice_get, if◌then◌else◌}
+use Rattle.std.specs.Prelude.{◌≡◌, ℕ, suc, ◌+◌, ◌-◌, nat_lt, ◌<◌, ◌≤◌, Bool, List, [], ◌∷◌, Option, Some, None, IfSome, IsTrue, length, slice_get, if◌then◌else◌}
 use Rattle.std.specs.Option.{option_or}
 use Rattle.plan_types.specs.Cost.{cost_at_most}
 use Rattle.plan_types.specs.Instance.{Instance}
@@ -59,11 +59,12 @@ pub record IsCutOf (n : ℕ) (cut : Cut) : Type 0 where
   pub within : cut.end ≤ n
   pub kept : IfSome cut.kept (λ kept. (cut.first ≤ kept) × (kept < cut.end))
 
--- the candidate has become the incumbent where it costs no more
-pub record HasImproved (p : Instance) (pins : List (List ℕ)) (old new : Walk) : Type 0 where
+-- the candidate has become the incumbent where it costs no more, and whether it has
+pub record HasImproved (p : Instance) (pins : List (List ℕ)) (old new : Walk) (improved : Bool) : Type 0 where
   pub keeps : KeepsWalk p pins new
   pub draft : new.draft ≡ old.draft
   pub incumbent : new.incumbent.routes ≡ (if cost_at_most (cost_of p (draft_of old.draft)) (cost_of p old.incumbent.routes) then draft_of old.draft else old.incumbent.routes)
+  pub at : IsTrue improved → new.incumbent.routes ≡ draft_of old.draft
 
 -- what is kept while a candidate stands
 pub record KeepsGoing (p : Instance) (pins : List (List ℕ)) (a : Annealing) : Type 0 where

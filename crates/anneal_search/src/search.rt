@@ -9,9 +9,8 @@ ghost use Rattle.anneal_search.specs.Annealing.{walked, candidate, annealed, ann
 ghost use Rattle.anneal_search.specs.Going.{HasImproved, KeepsGoing, IsGoing};
 
 use crate::candidates::make;
-use plan_audit::passes_are_local;
 use plan_types::{Cost, OutOfMemory, Pins, Plan, Problem, costs_compare_part_by_part};
-use seeded_search::{Found, StepWords, Walk, follow, is_near};
+use seeded_search::{Found, StepWords, Walk, is_near};
 use std::alloc::Global;
 
 /// One annealing step, from an incumbent and a working plan. The words of the step make a candidate of the working plan. It becomes the
@@ -152,32 +151,33 @@ impl Annealing {
             self.walk.draft.drop_draft();
             return Ok(());
         }
-        improve(alloc, problem, pins, &mut self.walk, &cost)?;
+        let improved = improve(alloc, problem, pins, &mut self.walk, &cost)?;
         self.work = cost;
-        self.walk.take(problem, pins, &cost)
+        self.walk.take(problem, pins, &cost)?;
+        self.walk.is_at_incumbent = improved;
+        Ok(())
     }
 }
 
-// Lets the candidate become the incumbent where it costs no more.
+// Lets the candidate become the incumbent where it costs no more, and tells whether it has.
 fn improve(
     alloc: Global,
     problem: &Problem,
     pins: &Pins,
     walk: &mut Walk,
     cost: &Cost,
-) -> Result<(), OutOfMemory>
+) -> Result<bool, OutOfMemory>
     requires keeps { KeepsWalk problem.now pins.now.routes walk.old }
     requires cost { cost.now ≡ cost_of problem.now (draft_of walk.old.draft) }
-    ensures { OnOk result (HasImproved problem.now pins.now.routes walk.old walk.new) }
+    ensures { IfOk result
+        (HasImproved problem.now pins.now.routes walk.old walk.new) }
 {
     costs_compare_part_by_part();
-    passes_are_local();
     if *cost <= walk.best {
-        walk.best = *cost;
-        follow(alloc, &walk.draft, &mut walk.incumbent.routes, walk.front)?;
-        walk.front = walk.draft.front();
+        walk.improve(alloc, problem, pins, cost)?;
+        return Ok(true);
     }
-    Ok(())
+    Ok(false)
 }
 
 /// So many annealing steps of a walk that goes on, from step number `step` on. It is lost where memory is refused.

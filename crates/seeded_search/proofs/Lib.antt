@@ -1,4 +1,5 @@
 mod BlockLemmas
+mod DrawLemmas
 mod Examples
 pub mod NameLemmas
 mod PickLemmas

@@ -13,22 +13,13 @@ use Rattle.move_ops.specs.Insertion.{of_vehicle}
 use Rattle.move_ops.specs.Drafts.{AreIdleBehind}
 use Rattle.move_ops.specs.Moves.{is_movable}
 use Rattle.seeded_search.specs.Names.{name_where, names_where}
-use Rattle.seeded_search.specs.Steps.{drawn, movable_names, unplanned_names}
+use Rattle.seeded_search.specs.Steps.{movable_names, unplanned_names}
 
 none_some : {X : Type 0} (x : X) → None ≡ Some x → ⊥
 none_some x h = cc
 
 some_same : {X : Type 0} (x y : X) → Some x ≡ Some y → x ≡ y
 some_same x y h = cc
-
--- nothing is drawn of nothing
-pub drawn_none : (ws : List ℕ) → drawn ws [] ≡ []
-drawn_none [] = refl
-drawn_none (w ∷ ws) = refl
-
-pub drawn_end : (names ws left all : List ℕ) → names ++ drawn ws left ≡ all → length left ≡ 0 → names ≡ all
-drawn_end names ws [] all so_far none = sym (append-nil names) ∙ (ap (λ ns. names ++ ns) (sym (drawn_none ws)) ∙ so_far)
-drawn_end names ws (x ∷ xs) all so_far none = absurd (omega arith)
 
 module _ (test : Request → Bool) where
   -- the names of a list, by its first request

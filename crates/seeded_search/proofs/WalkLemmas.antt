@@ -11,7 +11,7 @@ use Rattle.move_ops.specs.Insertion.{Insertion, request_named, passing, best_ins
 use Rattle.move_ops.specs.Moves.{removed, exchanged, crossed}
 use Rattle.seeded_search.specs.Words.{pick, step_words}
 use Rattle.seeded_search.specs.Steps.{picked, movable_names, unplanned_names, placed, placed_all, relocated, exchanged_by, used_vehicles, cut_by, crossed_by, ruined_names, recreated_by, candidate, Walked, has_less_pair, has_same_pair, is_near, moved_on, moved_on_by, step, steps, walked}
-use Rattle.move_ops.specs.Drafts.{AreIdleBehind, Drafted, draft_of, IsMade}
+use Rattle.move_ops.specs.Drafts.{AreIdleBehind, Drafted, base_of, draft_of, IsMade}
 use Rattle.seeded_search.specs.Working.{AreListsOf, IsWalk, HasTaken}
 use Rattle.seeded_search.specs.declared.walk.Walk.{Walk}
 use Rattle.plan_types.specs.declared.plans.Plan.{Plan}
@@ -301,9 +301,24 @@ taken_walk p pins old new h pass best idle =
         best = h.best ∙ (best ∙ ap (cost_of p) same);
         idle = subst (λ n. AreIdleBehind n new.incumbent.routes) (sym h.front) (subst (AreIdleBehind old.front) same idle);
         lists = subst (λ routes. AreListsOf p pins routes new.lists) (sym h.base) h.lists;
+        at = λ yes. absurd (both_ways new.is_at_incumbent h.at yes);
       };
       settled = h.settled ∙ sym h.base;
     }
+
+-- it may be noted that the working plan is the incumbent
+pub noted_walk : (p : Instance) (pins : List (List ℕ)) (w : Walk) (at : Bool) → IsWalk p pins w → (IsTrue at → w.incumbent.routes ≡ base_of w.draft) → IsWalk p pins (record w { is_at_incumbent = at })
+noted_walk p pins w at is same = record {
+  keeps = record {
+    draft = is.keeps.draft;
+    incumbent = is.keeps.incumbent;
+    best = is.keeps.best;
+    idle = is.keeps.idle;
+    lists = is.keeps.lists;
+    at = same;
+  };
+  settled = is.settled;
+}
 
 -- where a move has made a draft, it is the move's
 pub made_some : (answer : Option (List (List ℕ))) (made : Bool) (old new : Drafted) → IsMade answer made old new → made ≡ true → answer ≡ Some (draft_of new)

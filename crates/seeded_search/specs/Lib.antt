@@ -5,6 +5,7 @@ pub mod Laws
 pub mod Steps
 pub mod StepLaws
 -- of private functions alone
+pub mod Draws
 pub mod Generator
 pub mod Names
 pub mod Working

@@ -1,5 +1,5 @@
 -- What a search keeps of its plans.
-use Rattle.std.specs.Prelude.{◌≡◌, ℕ, true, List}
+use Rattle.std.specs.Prelude.{◌≡◌, ℕ, true, false, List, IsTrue}
 use Rattle.plan_types.specs.Instance.{Instance}
 use Rattle.route_sched.specs.Cost.{cost_of}
 use Rattle.plan_audit.specs.Passes.{passes}
@@ -24,11 +24,18 @@ pub record KeepsWalk (p : Instance) (pins : List (List ℕ)) (w : Walk) : Type 0
   pub best : w.best ≡ cost_of p w.incumbent.routes
   pub idle : AreIdleBehind w.front w.incumbent.routes
   pub lists : AreListsOf p pins (base_of w.draft) w.lists
+  pub at : IsTrue w.is_at_incumbent → w.incumbent.routes ≡ base_of w.draft
 
 -- a walk between two steps, without a candidate
 pub record IsWalk (p : Instance) (pins : List (List ℕ)) (w : Walk) : Type 0 where
   pub keeps : KeepsWalk p pins w
   pub settled : draft_of w.draft ≡ base_of w.draft
+
+-- the candidate is now the incumbent
+pub record HasFollowed (p : Instance) (pins : List (List ℕ)) (old new : Walk) : Type 0 where
+  pub keeps : KeepsWalk p pins new
+  pub draft : new.draft ≡ old.draft
+  pub incumbent : new.incumbent.routes ≡ draft_of old.draft
 
 -- the candidate is now the working plan
 pub record HasTaken (p : Instance) (pins : List (List ℕ)) (old new : Walk) : Type 0 where
@@ -39,3 +46,4 @@ pub record HasTaken (p : Instance) (pins : List (List ℕ)) (old new : Walk) : T
   pub best : new.best ≡ old.best
   pub front : new.front ≡ old.front
   pub lists : AreListsOf p pins (draft_of old.draft) new.lists
+  pub at : new.is_at_incumbent ≡ false

@@ -1,7 +1,8 @@
 //! What the words of a step draw.
-ghost use Rattle.std.specs.Prelude.{◌≡◌, ◌<◌, IfOk, length};
+ghost use Rattle.std.specs.Prelude.{◌≡◌, ◌+◌, ◌<◌, ◌^◌, IfOk, length};
 ghost use Rattle.seeded_search.specs.Words.{pick};
 ghost use Rattle.seeded_search.specs.Steps.{picked, drawn};
+ghost use Rattle.seeded_search.specs.Draws.{index_of};
 
 use plan_types::OutOfMemory;
 use std::alloc::Global;
@@ -28,19 +29,35 @@ pub(crate) fn picked_vehicle(word: u32, vehicles: &[u64]) -> Option<u64>
     vehicles.get(place(word, vehicles.len())).copied()
 }
 
-/// What the words draw of these numbers, one after another and none twice; fewer where the numbers are fewer.
+/// What the words draw of these numbers, one after another and none twice; fewer where the numbers are fewer. The numbers may be many
+/// and the words are few, so the indices drawn are kept, and no copy of the numbers is made.
 pub(crate) fn drawn(alloc: Global, words: &[u32], numbers: &[u32]) -> Result<Vec<u32>, OutOfMemory>
     ensures { IfOk result (λ names. names.items ≡ drawn words.now numbers.now) }
 {
-    let mut left = Vec::with_capacity(alloc, numbers.len())?;
-    left.extend_from_slice(numbers)?;
+    let mut taken = Vec::with_capacity(alloc, words.len())?;
     let mut names = Vec::with_capacity(alloc, words.len())?;
     for word in words {
-        if left.is_empty() {
+        if numbers.len() <= taken.len() {
             return Ok(names);
         }
-        let index = place(*word, left.len());
-        names.push(left.remove(index))?;
+        let index = place(*word, numbers.len() - taken.len());
+        names.push(numbers[index_of(&taken, index)])?;
+        taken.insert(0, index)?;
     }
     Ok(names)
+}
+
+// The index among all numbers of the one that has this index among those left. The indices drawn before are the newest first, each
+// among the numbers that were left then.
+fn index_of(taken: &[usize], index: usize) -> usize
+    requires { index + length taken.now < 2 ^ 64 }
+    ensures { result ≡ index_of taken.now index }
+{
+    let mut whole = index;
+    for older in taken {
+        if *older <= whole {
+            whole += 1;
+        }
+    }
+    whole
 }

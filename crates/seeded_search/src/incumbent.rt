@@ -8,7 +8,7 @@ use std::alloc::Global;
 
 /// Lets the routes become those of the draft. Those that are the same already stay, so that few are copied. No vehicle behind the first
 /// `front` has a stop in them before.
-pub fn follow(
+pub(crate) fn follow(
     alloc: Global,
     draft: &Draft,
     routes: &mut Routes,

@@ -28,7 +28,7 @@
 //! working plan alone. Otherwise nothing changes.
 //!
 //! What a step of another kind needs too is public: `Walk` with its `Lists` begins, ends and takes a candidate,
-//! `StepWords` gives the words of one step after another, `place_all` recreates, `follow` and `is_near` settle.
+//! `StepWords` gives the words of one step after another, `place_all` recreates, `Walk::improve` and `is_near` settle.
 //! A walk may be kept between searches (`command_core`): `walk_on` makes further steps, `plans` copies both plans.
 //!
 //! The definition of a step knows nothing of the code: commands and the journal speak of `step` and `steps`
@@ -58,7 +58,6 @@ mod search;
 mod stream;
 mod walk;
 
-pub use incumbent::follow;
 pub use laws::{
     incumbents_never_cost_more, picks_are_even, steps_add_up, steps_are_blocks, steps_keep_passing,
     working_stays_near,

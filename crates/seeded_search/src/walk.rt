@@ -4,13 +4,14 @@
 //! The candidate stands in a draft over the working plan (`move_ops::Draft`) and is taken or dropped; no plan
 //! is copied for it. One that costs no more than the incumbent is near it, so one `take` serves both plans.
 //! The lists of movable and of unplanned requests stay where none is unplanned before and after a candidate
-//! is taken, since both plans then plan all requests; else they are filled anew.
+//! is taken, since both plans then plan all requests, and where the candidate is the plan that it was made of;
+//! else they are filled anew.
 ghost use Rattle.std.specs.Prelude.{◌≡◌, true, IfOk, OnOk};
 ghost use Rattle.route_sched.specs.Cost.{cost_of};
 ghost use Rattle.plan_audit.specs.Passes.{passes};
 ghost use Rattle.move_ops.specs.Drafts.{base_of, draft_of, IsDraftOf};
 ghost use Rattle.seeded_search.specs.Steps.{walked, candidate, is_near, moved_on, moved_on_by};
-ghost use Rattle.seeded_search.specs.Working.{KeepsWalk, IsWalk, AreListsOf, HasTaken, walked_by};
+ghost use Rattle.seeded_search.specs.Working.{KeepsWalk, IsWalk, AreListsOf, HasFollowed, HasTaken, walked_by};
 
 use crate::incumbent::follow;
 use crate::lists::Lists;
@@ -35,6 +36,8 @@ pub struct Walk {
     pub best: Cost,
     /// The lists of the working plan.
     pub lists: Lists,
+    /// Whether the working plan is known to be the incumbent.
+    pub is_at_incumbent: bool,
 }
 
 impl Walk {
@@ -61,6 +64,7 @@ impl Walk {
             front: plan.routes.as_slice().len() as u64,
             best: plan_cost(problem, plan),
             lists,
+            is_at_incumbent: false,
         })
     }
 
@@ -103,10 +107,10 @@ impl Walk {
         passes_are_local();
         let cost = self.draft.cost(problem, pins);
         if cost <= self.best {
-            self.best = cost;
-            follow(alloc, &self.draft, &mut self.incumbent.routes, self.front)?;
-            self.front = self.draft.front();
-            return self.take(problem, pins, &cost);
+            self.improve(alloc, problem, pins, &cost)?;
+            self.take(problem, pins, &cost)?;
+            self.is_at_incumbent = true;
+            return Ok(());
         }
         if !is_near(deviation, &cost, &self.best) {
             self.draft.drop_draft();
@@ -115,7 +119,30 @@ impl Walk {
         self.take(problem, pins, &cost)
     }
 
-    /// Lets the candidate, which costs so much, become the working plan.
+    /// Lets the candidate, which costs so much, become the incumbent. Where it is known to be that already, no route is looked at.
+    pub fn improve(
+        &mut self,
+        alloc: Global,
+        problem: &Problem,
+        pins: &Pins,
+        cost: &Cost,
+    ) -> Result<(), OutOfMemory>
+        requires keeps { KeepsWalk problem.now pins.now.routes self.old }
+        requires cost { cost.now ≡ cost_of problem.now (draft_of self.old.draft) }
+        ensures { OnOk result (HasFollowed problem.now pins.now.routes self.old self.new) }
+    {
+        passes_are_local();
+        self.best = *cost;
+        if self.is_at_incumbent && self.draft.is_base() {
+            return Ok(());
+        }
+        self.is_at_incumbent = false;
+        follow(alloc, &self.draft, &mut self.incumbent.routes, self.front)?;
+        self.front = self.draft.front();
+        Ok(())
+    }
+
+    /// Lets the candidate, which costs so much, become the working plan. It is then not known to be the incumbent.
     pub fn take(&mut self, problem: &Problem, pins: &Pins, cost: &Cost) -> Result<(), OutOfMemory>
         requires draft { IsDraftOf problem.now pins.now.routes self.old.draft }
         requires lists { AreListsOf problem.now pins.now.routes
@@ -123,7 +150,12 @@ impl Walk {
         requires cost { cost.now ≡ cost_of problem.now (draft_of self.old.draft) }
         ensures { OnOk result (HasTaken problem.now pins.now.routes self.old self.new) }
     {
+        let is_base = self.draft.is_base();
+        self.is_at_incumbent = false;
         self.draft.take();
+        if is_base {
+            return Ok(());
+        }
         if cost.unplanned == 0 && self.lists.unplanned.is_empty() {
             return Ok(());
         }

@@ -16,6 +16,7 @@ returns-clause-walk c =
         best = search rules;
         idle = idle_behind_all routes (length c.as_slice.result.now) (omega arith);
         lists = search rules;
+        at = search rules;
       };
       settled = search rules;
     }

@@ -1,18 +1,18 @@
-use Rattle.std.proofs.Common.{◌≡◌, true, sym, ap, subst, ◌∙◌}
+use Rattle.std.proofs.Common.{true, sym, ap, ◌∙◌}
 use Rattle.std.proofs.lemmas.Result.{on_ok_weaker}
-use Rattle.route_sched.specs.Cost.{cost_of}
-use Rattle.plan_audit.specs.Passes.{passes}
-use Rattle.move_ops.specs.Drafts.{AreIdleBehind}
-use Rattle.seeded_search.proofs.WalkLemmas.{taken_walk}
+use Rattle.plan_types.specs.declared.plans.Plan.{Plan}
+use Rattle.move_ops.specs.Drafts.{draft_of}
+use Rattle.seeded_search.proofs.WalkLemmas.{noted_walk, taken_walk}
 use Rattle.seeded_search.proofs.walk.Walk.settle.Goals as goal
 
 pub returns-then-le-clause-walk : goal.returns-then-le-clause-walk
 returns-then-le-clause-walk c =
     let p = c.args.problem.now in
     let pins = c.args.pins.now.routes in
-    on_ok_weaker c.take.result
-    (λ taken. taken_walk p pins _ c.take.new.self taken (subst (λ routes. passes p pins routes ≡ true) (sym c.in_ok-follow.ensures) c.requires.draft.draft)
-    (c.cost-cost.ensures ∙ ap (cost_of p) (sym c.in_ok-follow.ensures)) (subst (AreIdleBehind c.front-self.result) (sym c.in_ok-follow.ensures) c.front-self.ensures.idle)) c.take.ensures
+    let followed = c.in_ok-improve.ensures in
+    let taken = c.in_ok-take.ensures in
+    noted_walk p pins c.take.new.self true (taken_walk p pins c.improve.new.self c.take.new.self taken followed.keeps.incumbent followed.keeps.best followed.keeps.idle)
+    (λ _. ap (λ (plan : Plan). plan.routes) taken.incumbent ∙ (followed.incumbent ∙ sym (taken.base ∙ ap draft_of followed.draft)))
 
 pub returns-clause-walk : goal.returns-clause-walk
 returns-clause-walk c = on_ok_weaker c.take-2.result (λ taken. taken_walk c.args.problem.now c.args.pins.now.routes c.args.self.now c.take-2.new.self taken c.requires.incumbent c.requires.best c.requires.idle) c.take-2.ensures

@@ -1,7 +1,8 @@
-use Rattle.std.proofs.Common.{rules, ◌≡◌, [], length, sym, ◌∙◌}
+use Rattle.std.proofs.Common.{rules, ◌≡◌, [], length, sym, subst, ◌∙◌}
 use Rattle.route_sched.specs.Cost.{unplanned_count}
 use Rattle.move_ops.specs.Drafts.{base_of, draft_of}
 use Rattle.seeded_search.specs.Steps.{unplanned_names}
+use Rattle.seeded_search.specs.Working.{AreListsOf}
 use Rattle.seeded_search.proofs.NameLemmas.{no_items, none_unplanned, movable_stay}
 use Rattle.seeded_search.proofs.walk.Walk.take.Goals as goal
 
@@ -26,4 +27,22 @@ returns-then-is_empty c =
         movable = c.requires.lists.movable ∙ movable_stay p c.args.pins.now.routes old new before after;
         unplanned = c.requires.lists.unplanned ∙ (before ∙ sym after);
       };
+      at = search rules;
+    }
+
+-- the plan that stood is taken once more
+pub returns-then-is_base : goal.returns-then-is_base
+returns-then-is_base c =
+    let p = c.args.problem.now in
+    let pins = c.args.pins.now.routes in
+    let same : draft_of c.args.self.now.draft ≡ base_of c.args.self.now.draft = search rules in
+    record {
+      base = c.take.ensures.base;
+      settled = c.take.ensures.draft;
+      draft = c.take.ensures.is p pins c.requires.draft;
+      incumbent = search rules;
+      best = search rules;
+      front = search rules;
+      lists = subst (λ routes. AreListsOf p pins routes c.args.self.now.lists) (sym same) c.requires.lists;
+      at = search rules;
     }
