@@ -41,6 +41,8 @@
 //! - `fates_have_causes`: `no Spent` is told at the last sequence alone, `fault device` where a call of the device failed
 //! - `cause` (`HasCause`): `ReadFault` only where the source has failed or the input has 10^12 bytes, `WriteFault` only
 //!   where the sink has failed
+//! - `most` (`IsTaken`), after `Ok`: less than 10^12 bytes of the input were taken, which are all, or those up to a line that ends
+//!   the serving. So `ReadFault` must come where 10^12 bytes are taken
 //! - `Strict::stopped`: what the last whole line tells that went through it (`TellsLast`, of `specs/Strict.antt`), unless the
 //!   writer has failed (`last_lines_are_ended` says what that line is); a `flush` that is `Ok` follows a line that tells neither, so serving over it ends behind the first
 //!   answer that does

@@ -9,6 +9,7 @@ returns g c =
       serves = λ input known. record {
         serves = λ reading is. c.serve-served.ensures.serves reading input is known;
         cause = unless_stopped c.serve-served.result c.serve-served.new.reader.has_failed c.serve-served.new.writer.has_failed _ (c.serve-served.ensures.cause input known);
+        most = c.serve-served.ensures.most input known;
       };
       plain = λ plain. refl;
       moments = c.serve-served.ensures.moments;

@@ -15,6 +15,7 @@ returns g c =
             (c.serve-served.ensures.serves reading input is known);
         cause = stopped_out served c.serve-served.new.reader.has_failed c.serve-served.new.writer.writer.has_failed _ c.serve-served.new.writer.told c.stop_of-stopped.result (length input)
             (ap (λ w. w.has_failed) c.into_inner.ensures) c.stop_of-stopped.ensures.stop (c.serve-served.ensures.cause input known);
+        most = c.serve-served.ensures.most input known;
       };
       plain = λ plain. absurd (true≢false plain);
       moments = c.serve-served.ensures.moments;
