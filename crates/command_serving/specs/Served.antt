@@ -13,7 +13,7 @@ use Rattle.command_serving.specs.declared.answering.ServeFault.{ServeFault}
 use Rattle.command_serving.specs.declared.answering.ServeFault.TheVariants as fault
 use Rattle.command_serving.specs.declared.streams.Source as sources
 use Rattle.command_serving.specs.Acts.{Act, Applied, BeginsWith, IsTry, IsTurn, Turn, acts_by, carried_of, commands_of, events_by, fates_of, kept_of, replies_of, text_by, unfailed}
-use Rattle.command_serving.specs.Streams.{Extends, IsPutInPart, Stream}
+use Rattle.command_serving.specs.Streams.{Event, Extends, IsPutInPart, Stream}
 use Rattle.recover.specs.Joining.{IsRunOn}
 use Rattle.recover.specs.Sessions.{SessionValue}
 use Rattle.recover.specs.declared.replies.Reply.{Reply as SessionReply}
@@ -131,6 +131,11 @@ module _ {D : Type 0} (on : sectors.Ghosts D) where
   abbrev pub EndsOrIsCut : {T E : Type 0} → Result T E → Reading → SessionValue D → List ℕ → Stream → Stream → SessionValue D → Type 0
   EndsOrIsCut r reading old input before after_it new =
       MatchResult r (λ _. IsServed reading old input before after_it new) (λ _. IsCutShort reading old (pieces_of input) before after_it new)
+
+  -- So it is where nothing is known of a writer but the bytes that it holds before and after.
+  abbrev pub EndsOrIsCutBetween : {T E : Type 0} → Result T E → Reading → SessionValue D → List ℕ → Option (List ℕ) → Option (List ℕ) → SessionValue D → Type 0
+  EndsOrIsCutBetween r reading old input before after_it new =
+      (events : List Event) × EndsOrIsCut r reading old input (record { contents = before; events = [] }) (record { contents = after_it; events = events }) new
 
 -- This is the input of a source that was read: its bytes, where they were known beforehand, or what was left of a text that its reads gave.
 abbrev pub IsInputOf : {R : Type 0} → sources.Ghosts R → R → R → List ℕ → Type 0

@@ -1,6 +1,4 @@
-//! Commands by lines of text, over a session: `serve`, and what it does for each kind of line.
-//!
-//! The module is not called `serve`, since a module and a function of one name are refused.
+//! Commands by lines of text, over a session: `serve_source`, and what it does for each kind of line.
 ghost use Rattle.std.specs.Prelude.{◌≡◌, ◌<◌, ◌++◌, ◌^◌, [], IfErr, IfOk, OnErr, OnOk, MatchResult, ℕ, List, Result, Ok, Err, Some, true, false, length};
 ghost use Rattle.plan_types.specs.Instance.{Instance};
 ghost use Rattle.instance_read.specs.declared.faults.ReadFault.{ReadFault};
@@ -75,13 +73,13 @@ enum Goes {
 ///
 /// `ok` and `at` stand behind the last sync of what they acknowledge. Where all of the input is served, what is written is the
 /// answer to it, and the session has carried out just the commands that it says, up to a failed device. The input is what is
-/// known of it beforehand, or each text that its reads gave piece by piece (`IsInputOf`).
+/// known of it beforehand, or each text that its reads gave piece by piece (`IsInputOf`). `serve` takes any reader and writer.
 ///
 /// # Errors
 ///
 /// `ReadFault` where the reader fails or 10^12 bytes of the input were taken, which after `Ok` are fewer. `WriteFault` where
 /// the writer fails. The state is then that after the commands answered, or with the one whose answer was being written.
-pub fn serve<D: Sectors, R: Source, W: Sink>(
+pub fn serve_source<D: Sectors, R: Source, W: Sink>(
     alloc: Global,
     session: &mut Session<D>,
     reader: &mut R,

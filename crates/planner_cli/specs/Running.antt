@@ -26,7 +26,7 @@ use Rattle.sector_disk.specs.declared.file_device.FileFault.{FileFault}
 use Rattle.sector_disk.specs.declared.sectors.Sectors as sectors
 use Rattle.state_codec.specs.declared.version.Version.TheVariants.{Two}
 
--- An input was served, less than 10^12 bytes of it, or the serving cut short, and for this cause, as `serve` says it.
+-- An input was served, less than 10^12 bytes of it, or the serving cut short, and for this cause, as `serve_source` says it.
 pub record Serves {D : Type 0} (on : sectors.Ghosts D) (served : Result ⊤ ServeFault) (old : SessionValue D) (input : List ℕ) (before after : Stream) (reader_failed writer_failed : Bool) (new : SessionValue D) : Type 0 where
   pub serves : (reading : Reading) → IsReading reading → EndsOrIsCut on served reading old input before after new
   pub cause : IfErr served (λ fault. HasCause fault reader_failed writer_failed (length input))

@@ -10,7 +10,7 @@ use Rattle.command_serving.specs.Serving.{IsCause}
 use Rattle.command_serving.proofs.ActLemmas.{honest_before}
 use Rattle.command_serving.proofs.AskedLemmas.{cause_of, whole_input}
 use Rattle.command_serving.proofs.CutLemmas.{known_somehow}
-use Rattle.command_serving.proofs.answering.serve.Goals as goal
+use Rattle.command_serving.proofs.answering.serve_source.Goals as goal
 
 pub returns-clause-serves : goal.returns-clause-serves
 returns-clause-serves g c = λ reading input is given.
