@@ -24,6 +24,7 @@ use Rattle.command_serving.specs.declared.input.LoadText.{LoadText}
 use Rattle.command_serving.specs.declared.input.LoadText.TheVariants.{Dropped, Short, Whole}
 use Rattle.command_serving.specs.declared.answering.ServeFault.TheVariants as fault
 use Rattle.command_serving.proofs.ActLemmas.{begins_as, begins_before}
+use Rattle.command_serving.proofs.CutLemmas.{CutLaws, cut_pieces}
 use Rattle.command_serving.proofs.StreamLemmas.{extends_none, extends_on, none_put}
 use Rattle.command_serving.proofs.TryLemmas.{asked_front}
 use Rattle.command_serving.proofs.TurnLemmas.{either_part, events_both, told_before}
@@ -298,17 +299,17 @@ module _ {D E : Type 0} (on : sectors.Ghosts D) (reading : Reading) (a : Asked) 
 
 -- ---- a load
 
-not_short : (len : ℕ) (bytes : List ℕ) → length bytes ≡ len → nat_lt (length bytes) len ≡ false
+pub not_short : (len : ℕ) (bytes : List ℕ) → length bytes ≡ len → nat_lt (length bytes) len ≡ false
 not_short len bytes is = at (nat_lt (length bytes) len) refl
   where
     at : (b : Bool) → nat_lt (length bytes) len ≡ b → nat_lt (length bytes) len ≡ false
     at true e = absurd (omega (arith, is, ltb-true (length bytes) len e))
     at false e = e
 
-take_front : (len : ℕ) (bytes rest : List ℕ) → length bytes ≡ len → take len (bytes ++ rest) ≡ bytes
+pub take_front : (len : ℕ) (bytes rest : List ℕ) → length bytes ≡ len → take len (bytes ++ rest) ≡ bytes
 take_front len bytes rest is = take-append-le len bytes rest (omega (arith, is)) ∙ take_all len bytes (omega (arith, is))
 
-drop_front : (len : ℕ) (bytes rest : List ℕ) → length bytes ≡ len → drop len (bytes ++ rest) ≡ rest
+pub drop_front : (len : ℕ) (bytes rest : List ℕ) → length bytes ≡ len → drop len (bytes ++ rest) ≡ rest
 drop_front len bytes rest is = drop-append-le len bytes rest (omega (arith, is)) ∙ ap (λ (b : List ℕ). b ++ rest) (drop_all len bytes (omega (arith, is)))
 
 load_cut : (kind : Kind) (seed len : ℕ) (bytes rest : List ℕ) → length bytes ≡ len → cut_at (Load kind seed len) (bytes ++ rest) ≡ record { asked = Load kind seed len; text = bytes } ∷ pieces_of rest
@@ -427,9 +428,9 @@ input_begun {on = on} reading s input o known is = record { left = input; is_kno
     none_yet (x ∷ some) others e = absurd cc
 
 -- the next line is cut off what is left
-cut_known : (a : Asked) (left : List ℕ) (known next : Option (List ℕ)) → known ≡ Some left → Cuts a known next → (rest : List ℕ) × (next ≡ Some rest) × (pieces_of left ≡ cut_at a rest)
-cut_known a left known None is cuts = absurd (subst (λ k. Cuts a k None) is cuts)
-cut_known a left known (Some rest) is cuts = (rest, refl, subst (λ k. Cuts a k (Some rest)) is cuts)
+cut_known : CutLaws → (a : Asked) (left : List ℕ) (known next : Option (List ℕ)) → known ≡ Some left → Cuts a known next → (rest : List ℕ) × (next ≡ Some rest) × (pieces_of left ≡ cut_at a rest)
+cut_known laws a left known None is cuts = absurd (subst (λ k. Cuts a k None) is cuts)
+cut_known laws a left known (Some rest) is cuts = (rest, refl, cut_pieces laws a left rest (subst (λ k. Cuts a k (Some rest)) is cuts))
 
 module _ {D : Type 0} {on : sectors.Ghosts D} (reading : Reading) (old mid new : SessionValue D) (pieces : List Piece) (x y z : Stream) where
   joined : (known behind : Option (List ℕ)) (goes : Goes) (p : ServesOn on reading old pieces x y mid On known) → ServesOn on reading mid (pieces_of p.left) y z new goes behind → ServesOn on reading old pieces x z new goes behind
@@ -459,10 +460,10 @@ module _ {D : Type 0} {on : sectors.Ghosts D} (reading : Reading) (old mid new :
       at some others (inr c) =
           answered_behind reading old mid pieces (pieces_of p.left) (others ++ pieces_behind goes q.left) p.serves.text p.serves.leads q.serves.leads.turns (q.lines c.0 others c.2)
 
-  pub line_served : (a : Asked) (known next behind : Option (List ℕ)) (goes : Goes) → ServesOn on reading old pieces x y mid On known → Cuts a known next
+  pub line_served : CutLaws → (a : Asked) (known next behind : Option (List ℕ)) (goes : Goes) → ServesOn on reading old pieces x y mid On known → Cuts a known next
       → ((rest : List ℕ) → next ≡ Some rest → ServesOn on reading mid (cut_at a rest) y z new goes behind) → ServesOn on reading old pieces x z new goes behind
-  line_served a known next behind goes p cuts more =
-      let cut = cut_known a p.left known next p.is_known cuts in
+  line_served laws a known next behind goes p cuts more =
+      let cut = cut_known laws a p.left known next p.is_known cuts in
       joined known behind goes p (subst (λ ps. ServesOn on reading mid ps y z new goes behind) (sym cut.2) (more cut.0 cut.1))
 
   -- there was no further line
@@ -555,10 +556,10 @@ module _ {D : Type 0} {on : sectors.Ghosts D} (reading : Reading) (old mid new :
       at some others next (inr e) =
           answered_behind reading old mid pieces (pieces_of p.left) (next ∷ (others ++ c.behind)) p.serves.text p.serves.leads c.answered.turns (c.lines e.0 others next e.2)
 
-  pub line_cut : (a : Asked) (known next : Option (List ℕ)) → ServesOn on reading old pieces x y mid On known → Cuts a known next
+  pub line_cut : CutLaws → (a : Asked) (known next : Option (List ℕ)) → ServesOn on reading old pieces x y mid On known → Cuts a known next
       → ((rest : List ℕ) → next ≡ Some rest → IsCutShort on reading mid (cut_at a rest) y z new) → IsCutShort on reading old pieces x z new
-  line_cut a known next p cuts more =
-      let cut = cut_known a p.left known next p.is_known cuts in
+  line_cut laws a known next p cuts more =
+      let cut = cut_known laws a p.left known next p.is_known cuts in
       cut_behind known p (subst (λ ps. IsCutShort on reading mid ps y z new) (sym cut.2) (more cut.0 cut.1))
 
 -- ---- causes

@@ -10,7 +10,7 @@ use Rattle.command_text.specs.Asking.{asked}
 use Rattle.command_text.specs.Cutting.{announced, ends, pieces_of}
 use Rattle.command_text.specs.Laws.{PiecesEnd, PiecesFollow, cut_at, piece_at}
 use Rattle.command_text.specs.declared.asked.Asked.{Asked}
-use Rattle.command_serving.specs.Input.{Counts, CountsTaken, Cuts, CutsNext, IsLast, IsLineSoFar, IsPartOf, IsTextPart, Loads, Moves, MovesShown, TakesMore, TakesPart, TakesShown, TakesText, left_of}
+use Rattle.command_serving.specs.Input.{Counts, CountsAll, CountsExactly, CountsTaken, Cuts, CutsLine, CutsNext, IsLast, IsLineSoFar, IsPartOf, IsTextPart, Loads, Moves, MovesShown, TakesMore, TakesPart, TakesShown, TakesText, left_of}
 use Rattle.command_serving.specs.Knowing.{Beforehand, ByReads, Fits, How, left_by}
 use Rattle.command_serving.specs.Served.{IsInputOf}
 use Rattle.command_serving.specs.declared.input.LoadText.TheVariants.{Short}
@@ -47,46 +47,58 @@ part_more old mid new before after n p t = record {
   kept = t.line p.seen p.kept;
 }
 
-module _ (ended : PiecesFollow) (last : PiecesEnd) (none : pieces_of [] ≡ []) where
-  feed_cuts : (line : List ℕ) → HasNoFeed line → (old new : Option (List ℕ)) → Consumes old new (line ++ 10 ∷ []) → Cuts (asked (strip_carriage_return line)) old new
-  feed_cuts line free None new moves = tt
-  feed_cuts line free (Some xs) None moves = absurd moves
-  feed_cuts line free (Some xs) (Some ys) moves = ap pieces_of (moves ∙ append_assoc line (10 ∷ []) ys) ∙ ended line ys free
+-- what is known of how an input is cut
+pub record CutLaws : Type 0 where
+  pub ended : PiecesFollow
+  pub last : PiecesEnd
+  pub none : pieces_of [] ≡ []
 
-  pub part_feed : (old mid new : Option (List ℕ)) (before after : LineSoFar) (n : ℕ) (a : Asked) → IsPartOf old mid before → TakesPart mid new before after (Feed n)
-      → ((line : List ℕ) → IsLineSoFar line after → a ≡ asked (strip_carriage_return line)) → Cuts a old new
-  part_feed old mid new before after n a p t asks =
-      let line : List ℕ = p.seen ++ t.bytes in
-      let moves : Consumes old new (p.seen ++ (t.bytes ++ 10 ∷ [])) = Consumes-trans old mid new p.seen (t.bytes ++ 10 ∷ []) p.moves t.moves in
-      subst (λ b. Cuts b old new) (sym (asks line (t.line p.seen p.kept)))
-      (feed_cuts line (no_feed_on p.seen t.bytes p.free t.free) old new (subst (Consumes old new) (sym (append_assoc p.seen t.bytes (10 ∷ []))) moves))
+nothing_behind : CutLaws → (a : Asked) → piece_at a [] ∷ [] ≡ cut_at a []
+nothing_behind laws a = sym (ap (λ ps. record { asked = a; text = take (announced a) [] } ∷ ps) (at (ends (piece_at a []))))
+  where
+    at : (b : Bool) → (if b then [] else pieces_of (drop (announced a) [])) ≡ []
+    at true = refl
+    at false = ap pieces_of (drop-nil (announced a)) ∙ laws.none
 
-  nothing_behind : (a : Asked) → piece_at a [] ∷ [] ≡ cut_at a []
-  nothing_behind a = sym (ap (λ ps. record { asked = a; text = take (announced a) [] } ∷ ps) (at (ends (piece_at a []))))
-    where
-      at : (b : Bool) → (if b then [] else pieces_of (drop (announced a) [])) ≡ []
-      at true = refl
-      at false = ap pieces_of (drop-nil (announced a)) ∙ none
+-- the pieces of what was left are those of its first line and the rest
+pub cut_pieces : CutLaws → (a : Asked) (bytes rest : List ℕ) → CutsLine a bytes rest → pieces_of bytes ≡ cut_at a rest
+cut_pieces laws a bytes rest c = at c.whole
+  where
+    at : (bytes ≡ c.line ++ 10 ∷ rest) ⊎ ((bytes ≡ c.line) × (rest ≡ []) × (0 < length c.line)) → pieces_of bytes ≡ cut_at a rest
+    at (inl e) = ap pieces_of e ∙ laws.ended c.line rest c.free ∙ ap (λ b. cut_at b rest) (sym c.asks)
+    at (inr e) = ap pieces_of e.0 ∙ laws.last c.line c.free e.2 ∙ ap (λ b. piece_at b [] ∷ []) (sym c.asks) ∙ nothing_behind laws a ∙ ap (cut_at a) (sym e.1)
 
-  last_cuts : (line : List ℕ) (next : Option Asked) → HasNoFeed line → IsLast line next → (old new : Option (List ℕ)) → Consumes old new line → OnSome old (IsAtEnd new) → CutsNext next old new
-  last_cuts line None free is None new moves end = tt
-  last_cuts line None free is (Some xs) None moves end = absurd moves
-  last_cuts line None free is (Some xs) (Some ys) moves end = moves ∙ ap (λ l. l ++ ys) is ∙ end
-  last_cuts line (Some a) free is None new moves end = tt
-  last_cuts line (Some a) free is (Some xs) None moves end = absurd moves
-  last_cuts line (Some a) free is (Some xs) (Some ys) moves end =
-      ap pieces_of (moves ∙ ap (λ l. line ++ l) end ∙ append-nil line) ∙ last line free is.0 ∙ ap (λ b. piece_at b [] ∷ []) (sym is.1) ∙ nothing_behind a ∙ ap (cut_at a) (sym end)
+feed_cuts : (line : List ℕ) (a : Asked) → HasNoFeed line → a ≡ asked (strip_carriage_return line) → (old new : Option (List ℕ)) → Consumes old new (line ++ 10 ∷ []) → Cuts a old new
+feed_cuts line a free asks None new moves = tt
+feed_cuts line a free asks (Some xs) None moves = absurd moves
+feed_cuts line a free asks (Some xs) (Some ys) moves = record { line = line; free = free; asks = asks; whole = inl (moves ∙ append_assoc line (10 ∷ []) ys) }
 
-  pub part_last : (old mid new : Option (List ℕ)) (before after : LineSoFar) (next : Option Asked) → IsPartOf old mid before → TakesPart mid new before after End
-      → ((line : List ℕ) → IsLineSoFar line after → IsLast line next) → CutsNext next old new
-  part_last old mid new before after next p t asks = ends_by t.bytes t.moves (t.line p.seen p.kept)
-    where
-      ends_by : (bytes : List ℕ) → (bytes ≡ []) × Consumes mid new [] × OnSome mid (IsAtEnd new) → IsLineSoFar (p.seen ++ bytes) after → CutsNext next old new
-      ends_by bytes moves line =
-          let same : p.seen ++ bytes ≡ p.seen = ap (λ b. p.seen ++ b) moves.0 ∙ append-nil p.seen in
-          let is : IsLast p.seen next = asks p.seen (subst (λ l. IsLineSoFar l after) same line) in
-          let all : Consumes old new p.seen = subst (Consumes old new) (append-nil p.seen) (Consumes-trans old mid new p.seen [] p.moves moves.1) in
-          last_cuts p.seen next p.free is old new all (known_before old mid new p.seen p.moves moves.2)
+pub part_feed : (old mid new : Option (List ℕ)) (before after : LineSoFar) (n : ℕ) (a : Asked) → IsPartOf old mid before → TakesPart mid new before after (Feed n)
+    → ((line : List ℕ) → IsLineSoFar line after → a ≡ asked (strip_carriage_return line)) → Cuts a old new
+part_feed old mid new before after n a p t asks =
+    let line : List ℕ = p.seen ++ t.bytes in
+    let moves : Consumes old new (p.seen ++ (t.bytes ++ 10 ∷ [])) = Consumes-trans old mid new p.seen (t.bytes ++ 10 ∷ []) p.moves t.moves in
+    feed_cuts line a (no_feed_on p.seen t.bytes p.free t.free) (asks line (t.line p.seen p.kept)) old new (subst (Consumes old new) (sym (append_assoc p.seen t.bytes (10 ∷ []))) moves)
+
+last_cuts : (line : List ℕ) (next : Option Asked) → HasNoFeed line → IsLast line next → (old new : Option (List ℕ)) → Consumes old new line → OnSome old (IsAtEnd new) → CutsNext next old new
+last_cuts line None free is None new moves end = tt
+last_cuts line None free is (Some xs) None moves end = absurd moves
+last_cuts line None free is (Some xs) (Some ys) moves end = moves ∙ ap (λ l. l ++ ys) is ∙ end
+last_cuts line (Some a) free is None new moves end = tt
+last_cuts line (Some a) free is (Some xs) None moves end = absurd moves
+last_cuts line (Some a) free is (Some xs) (Some ys) moves end =
+    record { line = line; free = free; asks = is.1; whole = inr (moves ∙ ap (λ l. line ++ l) end ∙ append-nil line, end, is.0) }
+
+pub part_last : (old mid new : Option (List ℕ)) (before after : LineSoFar) (next : Option Asked) → IsPartOf old mid before → TakesPart mid new before after End
+    → ((line : List ℕ) → IsLineSoFar line after → IsLast line next) → CutsNext next old new
+part_last old mid new before after next p t asks = ends_by t.bytes t.moves (t.line p.seen p.kept)
+  where
+    ends_by : (bytes : List ℕ) → (bytes ≡ []) × Consumes mid new [] × OnSome mid (IsAtEnd new) → IsLineSoFar (p.seen ++ bytes) after → CutsNext next old new
+    ends_by bytes moves line =
+        let same : p.seen ++ bytes ≡ p.seen = ap (λ b. p.seen ++ b) moves.0 ∙ append-nil p.seen in
+        let is : IsLast p.seen next = asks p.seen (subst (λ l. IsLineSoFar l after) same line) in
+        let all : Consumes old new p.seen = subst (Consumes old new) (append-nil p.seen) (Consumes-trans old mid new p.seen [] p.moves moves.1) in
+        last_cuts p.seen next p.free is old new all (known_before old mid new p.seen p.moves moves.2)
 
 -- at the end the line stays
 pub kept_at_end : (mid new : Option (List ℕ)) (before after : LineSoFar) (seen : List ℕ) → IsLineSoFar seen before → TakesPart mid new before after End → length after.kept.items ≡ length before.kept.items
@@ -144,11 +156,48 @@ pub counts_end : (rest known : Option (List ℕ)) (all behind : List ℕ) (befor
     → CountsTaken known left (prepend_known behind rest) left
 counts_end rest known all behind before after left keeps t = counts_by rest known all [] behind left left keeps (t.moves.1 ∙ sym t.moves.2) (omega arith)
 
+-- so they are counted exactly
+all_by : (rest known : Option (List ℕ)) (all front behind : List ℕ) (left later : ℕ) → Keeps known (prepend_known all rest) → all ≡ front ++ behind → left ≡ later + length front → (0 < left → 0 < later)
+    → CountsAll known left (prepend_known behind rest) later
+all_by rest None all front behind left later keeps is count some = tt
+all_by None (Some xs) all front behind left later keeps is count some = absurd keeps
+all_by (Some ys) (Some xs) all front behind left later keeps is count some =
+    let whole : length xs ≡ length (all ++ ys) = ap length (sym keeps) in
+    let parts : length (all ++ ys) ≡ length all + length ys = length-append all ys in
+    let front_len : length all ≡ length front + length behind = ap length is ∙ length-append front behind in
+    let later_len : length (behind ++ ys) ≡ length behind + length ys = length-append behind ys in
+    (omega (arith, whole, parts, front_len, later_len, count), some)
+
+pub all_part : (rest known : Option (List ℕ)) (all behind : List ℕ) (before after : LineSoFar) (part : Part) (n left later : ℕ) → Keeps known (prepend_known all rest) → TakesShown all behind before after part
+    → (part ≡ More n) ⊎ (part ≡ Feed n) → left ≡ later + n → 0 < later → CountsAll known left (prepend_known behind rest) later
+all_part rest known all behind before after part n left later keeps t (inl is) count some =
+    let moves = subst (λ p. MovesShown p all behind t.bytes) is t.moves in
+    all_by rest known all t.bytes behind left later keeps moves.0 (omega (arith, count, moves.1)) (λ _. some)
+all_part rest known all behind before after part n left later keeps t (inr is) count some =
+    let moves = subst (λ p. MovesShown p all behind t.bytes) is t.moves in
+    let more : length (t.bytes ++ 10 ∷ []) ≡ length t.bytes + 1 = length-append t.bytes (10 ∷ []) in
+    all_by rest known all (t.bytes ++ 10 ∷ []) behind left later keeps moves.0 (omega (arith, count, moves.1, more)) (λ _. some)
+
+pub all_end : (rest known : Option (List ℕ)) (all behind : List ℕ) (before after : LineSoFar) (left : ℕ) → Keeps known (prepend_known all rest) → TakesShown all behind before after End
+    → CountsAll known left (prepend_known behind rest) left
+all_end rest known all behind before after left keeps t = all_by rest known all [] behind left left keeps (t.moves.1 ∙ sym t.moves.2) (omega arith) (λ some. some)
+
 -- nothing was taken
 pub counts_kept : (known later : Option (List ℕ)) (left : ℕ) → Keeps known later → CountsTaken known left later left
 counts_kept None later left keeps = tt
 counts_kept (Some xs) None left keeps = absurd keeps
 counts_kept (Some xs) (Some ys) left keeps = omega (arith, ap length keeps)
+
+pub all_kept : (known later : Option (List ℕ)) (left : ℕ) → Keeps known later → CountsAll known left later left
+all_kept None later left keeps = tt
+all_kept (Some xs) None left keeps = absurd keeps
+all_kept (Some xs) (Some ys) left keeps = (omega (arith, ap length keeps), λ some. some)
+
+pub all_on : (a b c : Option (List ℕ)) (m n k : ℕ) → CountsAll a m b n → CountsAll b n c k → CountsAll a m c k
+all_on None b c m n k p q = tt
+all_on (Some xs) None c m n k p q = absurd p
+all_on (Some xs) (Some ys) None m n k p q = absurd q
+all_on (Some xs) (Some ys) (Some zs) m n k p q = (omega (arith, p.0, q.0), λ some. q.1 (p.1 some))
 
 pub counts_on : (a b c : Option (List ℕ)) (m n k : ℕ) → CountsTaken a m b n → CountsTaken b n c k → CountsTaken a m c k
 counts_on None b c m n k p q = tt
@@ -172,6 +221,13 @@ module _ {R : Type 0} (on : sources.Ghosts R) where
       let later = second how fits in
       let earlier = first how later.0 in
       (earlier.0, counts_on (left_of on how a r) (left_of on how b s) (left_of on how c t) a.left b.left c.left earlier.1 later.1)
+
+  pub all_nothing : (input : Input) (reader : R) → CountsExactly on input reader input reader
+  all_nothing input reader how fits = let left = left_of on how input reader in all_kept left left input.left (Keeps-refl left)
+
+  pub all_behind : (a b c : Input) (r s t : R) → CountsExactly on a r b s → Counts on b s c t → CountsExactly on b s c t → CountsExactly on a r c t
+  all_behind a b c r s t first counts second how fits =
+      all_on (left_of on how a r) (left_of on how b s) (left_of on how c t) a.left b.left c.left (first how (counts how fits).0) (second how fits)
 
   -- what was read was left before, however that is known
   pub read_however : {E : Type 0} (old new : R) (r : Result ℕ E) (block : List ℕ) → ReadConsumes (on.remaining old) (on.remaining new) r block
@@ -211,6 +267,10 @@ more_taken rest known all behind before after n some keeps end t more none = rec
 pub counts_text : (rest known : Option (List ℕ)) (all behind : List ℕ) (before after : TextSoFar) (n left later : ℕ) → Keeps known (prepend_known all rest) → TakesText all behind before after n
     → left ≤ later + n → CountsTaken known left (prepend_known behind rest) later
 counts_text rest known all behind before after n left later keeps t most = counts_by rest known all t.bytes behind left later keeps t.moves (omega (arith, most, t.count))
+
+pub all_text : (rest known : Option (List ℕ)) (all behind : List ℕ) (before after : TextSoFar) (n left later : ℕ) → Keeps known (prepend_known all rest) → TakesText all behind before after n
+    → left ≡ later + n → (0 < left → 0 < later) → CountsAll known left (prepend_known behind rest) later
+all_text rest known all behind before after n left later keeps t count some = all_by rest known all t.bytes behind left later keeps t.moves (omega (arith, count, t.count)) some
 
 pub text_more : (len : ℕ) (old mid new : Option (List ℕ)) (before after : TextSoFar) → IsTextPart len old mid before → TakesMore mid new before after true → IsTextPart len old new after
 text_more len old mid new before after p t = record { seen = p.seen ++ t.bytes; moves = Consumes-trans old mid new p.seen t.bytes p.moves t.moves; kept = t.text len p.seen p.kept }

@@ -10,6 +10,7 @@ pub mod ServingLemmas
 pub mod StoppedLemmas
 pub mod StreamLemmas
 pub mod StrictLemmas
+pub mod TakenLemmas
 pub mod TimelyLemmas
 pub mod TryLemmas
 pub mod TurnLemmas

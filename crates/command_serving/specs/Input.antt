@@ -5,8 +5,6 @@ use Rattle.text_lines.specs.Lines.{HasNoFeed}
 use Rattle.command_text.specs.Scanning.{scanned}
 use Rattle.std.specs.Str.Lines.{strip_carriage_return}
 use Rattle.command_text.specs.Asking.{asked}
-use Rattle.command_text.specs.Cutting.{pieces_of}
-use Rattle.command_text.specs.Laws.{cut_at}
 use Rattle.command_text.specs.declared.asked.Asked.{Asked}
 use Rattle.command_serving.specs.declared.input.LoadText.{LoadText}
 use Rattle.command_serving.specs.declared.input.LoadText.TheVariants.{Whole, Dropped, Short}
@@ -52,11 +50,17 @@ pub record TakesShown (old new : List ℕ) (before after : LineSoFar) (part : Pa
   pub moves : MovesShown part old new bytes
   pub line : (seen : List ℕ) → IsLineSoFar seen before → IsLineSoFar (seen ++ bytes) after
 
--- As many bytes were taken as there are fewer still to be read, at least.
+-- At least as many bytes were taken as fewer are still to be read.
 abbrev pub CountsTaken : Option (List ℕ) → ℕ → Option (List ℕ) → ℕ → Type 0
 CountsTaken None left new later = ⊤
 CountsTaken (Some xs) left None later = ⊥
 CountsTaken (Some xs) left (Some ys) later = left + length ys ≤ later + length xs
+
+-- just as many, and where some were still to be read, some are
+abbrev pub CountsAll : Option (List ℕ) → ℕ → Option (List ℕ) → ℕ → Type 0
+CountsAll None left new later = ⊤
+CountsAll (Some xs) left None later = ⊥
+CountsAll (Some xs) left (Some ys) later = (left + length ys ≡ later + length xs) × (0 < left → 0 < later)
 
 module _ {R : Type 0} (on : sources.Ghosts R) where
   -- what is left of the input: what was read ahead, and what the reader has left
@@ -67,9 +71,14 @@ module _ {R : Type 0} (on : sources.Ghosts R) where
   abbrev pub Between : Input → R → Input → R → (Option (List ℕ) → Option (List ℕ) → Type 0) → Type 0
   Between old before new later Holds = (how : How) → Fits on how later → Holds (left_of how old before) (left_of how new later)
 
-  -- as it is known after, it was known before, and bytes that were taken were counted
+  -- As it is known after, it was known before, and bytes that were taken were counted. Behind a count that ends the reading
+  -- more may have been taken than were still to be read.
   abbrev pub Counts : Input → R → Input → R → Type 0
   Counts old before new later = (how : How) → Fits on how later → Fits on how before × CountsTaken (left_of how old before) old.left (left_of how new later) new.left
+
+  -- each byte that was taken was counted, once
+  abbrev pub CountsExactly : Input → R → Input → R → Type 0
+  CountsExactly old before new later = (how : How) → Fits on how later → CountsAll (left_of how old before) old.left (left_of how new later) new.left
 
 -- fewer are still to be read, but at the end of the input
 abbrev pub TakesLess : ℕ → ℕ → Part → Type 0
@@ -92,11 +101,18 @@ abbrev pub IsLast : List ℕ → Option Asked → Type 0
 IsLast line None = line ≡ []
 IsLast line (Some a) = (0 < length line) × (a ≡ asked (strip_carriage_return line))
 
--- the first line of what was left asks for this, and the rest follows it
+-- The first line of these bytes asks for this, and the rest follows its line feed; or it is the last one, and nothing follows.
+pub record CutsLine (a : Asked) (bytes rest : List ℕ) : Type 0 where
+  pub line : List ℕ
+  pub free : HasNoFeed line
+  pub asks : a ≡ asked (strip_carriage_return line)
+  pub whole : (bytes ≡ line ++ 10 ∷ rest) ⊎ ((bytes ≡ line) × (rest ≡ []) × (0 < length line))
+
+-- so does the first line of what was left
 abbrev pub Cuts : Asked → Option (List ℕ) → Option (List ℕ) → Type 0
 Cuts a None new = ⊤
 Cuts a (Some xs) None = ⊥
-Cuts a (Some xs) (Some ys) = pieces_of xs ≡ cut_at a ys
+Cuts a (Some xs) (Some ys) = CutsLine a xs ys
 
 -- so does it, or nothing was left
 abbrev pub CutsNext : Option Asked → Option (List ℕ) → Option (List ℕ) → Type 0

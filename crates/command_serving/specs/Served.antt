@@ -1,16 +1,19 @@
 -- What an input is answered, what it makes of a session, and what stands where the serving ends before the input.
-use Rattle.std.specs.Prelude.{◌≡◌, ◌≤◌, ◌++◌, ◌^◌, ◌⊎◌, ℕ, Bool, true, List, [], ◌∷◌, length, Option, Some, None, Result, MatchResult}
+use Rattle.std.specs.Prelude.{◌≡◌, ◌≤◌, ◌<◌, ◌++◌, ◌^◌, ◌⊎◌, ℕ, Bool, true, false, List, [], ◌∷◌, length, Option, Some, None, Result, MatchResult}
 use Rattle.std.specs.List.{AllByRecursion}
+use Rattle.std.specs.Str.Lines.{strip_carriage_return}
+use Rattle.text_lines.specs.Lines.{HasNoFeed}
 use Rattle.command_core.specs.Runs.{after}
 use Rattle.command_core.specs.declared.commands.Command.{Command}
 use Rattle.command_text.specs.Answering.{Fate, Done, Reply, Serving, carried_all, joined_replies, served}
-use Rattle.command_text.specs.Cutting.{Piece, pieces_of}
+use Rattle.command_text.specs.Asking.{asked}
+use Rattle.command_text.specs.Cutting.{Piece, is_end, pieces_of}
 use Rattle.command_text.specs.Readings.{Reading}
 use Rattle.command_serving.specs.declared.answering.ServeFault.{ServeFault}
 use Rattle.command_serving.specs.declared.answering.ServeFault.TheVariants as fault
 use Rattle.command_serving.specs.declared.streams.Source as sources
 use Rattle.command_serving.specs.Acts.{Act, Applied, BeginsWith, IsTry, IsTurn, Turn, acts_by, carried_of, commands_of, events_by, fates_of, kept_of, replies_of, text_by, unfailed}
-use Rattle.command_serving.specs.Streams.{Extends, IsPutInPart, Stream}
+use Rattle.command_serving.specs.Streams.{Event, Extends, IsPutInPart, Stream}
 use Rattle.recover.specs.Joining.{IsRunOn}
 use Rattle.recover.specs.Sessions.{SessionValue}
 use Rattle.recover.specs.declared.replies.Reply.{Reply as SessionReply}
@@ -129,9 +132,36 @@ module _ {D : Type 0} (on : sectors.Ghosts D) where
   EndsOrIsCut r reading old input before after_it new =
       MatchResult r (λ _. IsServed reading old input before after_it new) (λ _. IsCutShort reading old (pieces_of input) before after_it new)
 
+  -- So it is where nothing is known of a writer but the bytes that it holds before and after.
+  abbrev pub EndsOrIsCutBetween : {T E : Type 0} → Result T E → Reading → SessionValue D → List ℕ → Option (List ℕ) → Option (List ℕ) → SessionValue D → Type 0
+  EndsOrIsCutBetween r reading old input before after_it new =
+      (events : List Event) × EndsOrIsCut r reading old input (record { contents = before; events = [] }) (record { contents = after_it; events = events }) new
+
 -- This is the input of a source that was read: its bytes, where they were known beforehand, or what was left of a text that its reads gave.
 abbrev pub IsInputOf : {R : Type 0} → sources.Ghosts R → R → R → List ℕ → Type 0
 IsInputOf on old new input = (on.remaining old ≡ Some input) ⊎ ((text : List ℕ) × on.gave new text × (input ≡ on.left old text))
+
+-- these bytes are whole pieces, whatever follows them
+pub record ArePieces (bytes : List ℕ) : Type 0 where
+  pub pieces : List Piece
+  pub cut : (rest : List ℕ) → pieces_of (bytes ++ rest) ≡ pieces ++ pieces_of rest
+
+-- They are up to a line, and this one ends the serving with its line feed.
+pub record AreEnded (bytes : List ℕ) : Type 0 where
+  pub before : List ℕ
+  pub whole : ArePieces before
+  pub line : List ℕ
+  pub free : HasNoFeed line
+  pub ends : is_end (asked (strip_carriage_return line)) false ≡ true
+  pub split : bytes ≡ before ++ (line ++ 10 ∷ [])
+
+-- What was taken of an input that was served: all of it, or what stands up to a line that ends the serving. It is less than so many bytes.
+pub record IsTaken (most : ℕ) (input : List ℕ) : Type 0 where
+  pub taken : List ℕ
+  pub rest : List ℕ
+  pub whole : input ≡ taken ++ rest
+  pub less : length taken < most
+  pub end : (rest ≡ []) ⊎ AreEnded taken
 
 -- Why the serving ended: the reader failed, or so many bytes are no longer read; the writer failed.
 abbrev pub HasCause : ServeFault → Bool → Bool → ℕ → Type 0

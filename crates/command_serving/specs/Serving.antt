@@ -1,5 +1,5 @@
 -- What a session did and what was written, as replies say it.
-use Rattle.std.specs.Prelude.{◌≡◌, ◌++◌, ◌⊎◌, ℕ, Bool, true, false, if◌then◌else◌, List, [], Option, Some, None, Result, MatchResult}
+use Rattle.std.specs.Prelude.{◌≡◌, ◌≤◌, ◌++◌, ◌⊎◌, ℕ, Bool, true, false, if◌then◌else◌, List, [], length, Option, Some, None, Result, MatchResult, ⊤}
 use Rattle.command_text.specs.Answering.{Reply, Serving, at_line, answered, carried_all, load, next_fate, served, unless_broken}
 use Rattle.command_text.specs.declared.answers.Answer.{Answer}
 use Rattle.command_text.specs.declared.answers.Answer.TheVariants as answer
@@ -13,18 +13,22 @@ use Rattle.recover.specs.Sessions.{SessionValue}
 use Rattle.recover.specs.declared.replies.Reply.{Reply as SessionReply}
 use Rattle.command_core.specs.declared.commands.Command.{Command}
 use Rattle.sector_disk.specs.declared.sectors.Sectors as sectors
+use Rattle.command_serving.specs.declared.streams.Source as sources
 use Rattle.command_serving.specs.Acts.{events_by}
-use Rattle.command_serving.specs.Served.{AreAnswered, IsCutShort, Leads, Tells}
+use Rattle.command_serving.specs.Input.{Between, CountsExactly}
+use Rattle.command_serving.specs.Served.{AreAnswered, ArePieces, IsCutShort, Leads, Tells}
 use Rattle.command_serving.specs.Streams.{Extends, IsPutInPart, Stream}
 use Rattle.command_serving.specs.declared.answering.ServeFault.{ServeFault}
 use Rattle.command_serving.specs.declared.answering.ServeFault.TheVariants as fault
-use Rattle.command_text.specs.Cutting.{Piece, pieces_of}
+use Rattle.command_text.specs.Cutting.{Piece, announced, is_end, pieces_of}
+use Rattle.command_text.specs.declared.asked.Asked.{Asked}
 use Rattle.recover.specs.declared.denials.Denial.{Denial}
 use Rattle.recover.specs.declared.denials.Denial.TheVariants as denial
 use Rattle.command_text.specs.Readings.{Reading}
 use Rattle.plan_types.specs.declared.requests.Kind.{Kind}
 use Rattle.command_serving.specs.declared.answering.Goes.{Goes}
 use Rattle.command_serving.specs.declared.answering.Goes.TheVariants.{On, ToEnd}
+use Rattle.command_serving.specs.declared.input.Input.{Input}
 use Rattle.command_serving.specs.declared.input.LoadText.{LoadText}
 use Rattle.command_serving.specs.declared.input.LoadText.TheVariants.{Whole, Dropped, Short}
 
@@ -127,6 +131,34 @@ pub record ServesOn {D : Type 0} (on : sectors.Ghosts D) (reading : Reading) (ol
 abbrev pub GoesOn : {D : Type 0} → sectors.Ghosts D → Result Goes ServeFault → Reading → SessionValue D → List Piece → Stream → Stream → SessionValue D → Option (List ℕ) → Type 0
 GoesOn on r reading old pieces before after new known =
     MatchResult r (λ goes. ServesOn on reading old pieces before after new goes known) (λ _. IsCutShort on reading old pieces before after new)
+
+-- Behind a line that asks for this, its bytes were taken where the serving goes on. Where it ends, the line ends it, or nothing is left.
+abbrev pub TakesBytes : Asked → Goes → List ℕ → List ℕ → Type 0
+TakesBytes a On old new = (text : List ℕ) × (old ≡ text ++ new) × (length text ≡ announced a) × (is_end a false ≡ false)
+TakesBytes a ToEnd old new = (new ≡ []) ⊎ ((new ≡ old) × (is_end a false ≡ true))
+
+-- so were they of an input that is known
+abbrev pub TakesKnown : Asked → Goes → Option (List ℕ) → Option (List ℕ) → Type 0
+TakesKnown a goes None new = ⊤
+TakesKnown a goes (Some xs) None = ⊥
+TakesKnown a goes (Some xs) (Some ys) = TakesBytes a goes xs ys
+
+-- and counted
+pub record TakesBehind {R : Type 0} (on : sources.Ghosts R) (a : Asked) (old : Input) (before : R) (new : Input) (later : R) (goes : Goes) : Type 0 where
+  pub less : new.left ≤ old.left
+  pub exact : CountsExactly on old before new later
+  pub takes : Between on old before new later (TakesKnown a goes)
+
+-- what was taken since, as far as the serving goes on: whole pieces, or all that there was
+pub record TakesPieces (old new : List ℕ) : Type 0 where
+  pub taken : List ℕ
+  pub whole : old ≡ taken ++ new
+  pub end : (new ≡ []) ⊎ ArePieces taken
+
+abbrev pub TakesKnownPieces : Option (List ℕ) → Option (List ℕ) → Type 0
+TakesKnownPieces None new = ⊤
+TakesKnownPieces (Some xs) None = ⊥
+TakesKnownPieces (Some xs) (Some ys) = TakesPieces xs ys
 
 -- why it was cut short, by how many bytes are still read
 abbrev pub IsCause : ServeFault → Bool → Bool → ℕ → Type 0

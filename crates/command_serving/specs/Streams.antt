@@ -37,6 +37,16 @@ pub record Given : Type 0 where
 abbrev pub IsInput : Given → List ℕ → Type 0
 IsInput given input = (given.known ≡ Some input) ⊎ ((text : List ℕ) × GaveText given.after text × (input ≡ left_behind given.before text))
 
+-- What no call of a sink changes: the bytes that it held when it began to follow what is written, where it does and they are known, and the
+-- reference that it writes through, where its writer is lent.
+pub record Origin : Type 0 where
+  pub held : Option (List ℕ)
+  pub lent : Option ℕ
+
+-- a sink with a writer of its own, that held these bytes then
+abbrev pub began_with : Option (List ℕ) → Origin
+began_with held = record { held = held; lent = None }
+
 -- A sink: the bytes that it holds, where they are known, and what was done to it, in order.
 pub record Stream : Type 0 where
   pub contents : Option (List ℕ)

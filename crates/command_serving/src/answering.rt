@@ -1,7 +1,5 @@
-//! Commands by lines of text, over a session: `serve`, and what it does for each kind of line.
-//!
-//! The module is not called `serve`, since a module and a function of one name are refused.
-ghost use Rattle.std.specs.Prelude.{◌≡◌, ◌≤◌, ◌++◌, [], IfErr, IfOk, OnErr, MatchResult, ℕ, List, Result, Ok, Err, Some, true, false, length};
+//! Commands by lines of text, over a session: `serve_source`, and what it does for each kind of line.
+ghost use Rattle.std.specs.Prelude.{◌≡◌, ◌<◌, ◌++◌, ◌^◌, [], IfErr, IfOk, OnErr, OnOk, MatchResult, ℕ, List, Result, Ok, Err, Some, true, false, length};
 ghost use Rattle.plan_types.specs.Instance.{Instance};
 ghost use Rattle.instance_read.specs.declared.faults.ReadFault.{ReadFault};
 ghost use Rattle.command_text.specs.Answering.{carried_all, commands_of, informed, made_or, next_stated, plain, printed, refused, shown, steps_to_make, unless_broken};
@@ -12,8 +10,8 @@ ghost use Rattle.command_core.specs.declared.states.State.TheVariants.{Loaded};
 ghost use Rattle.command_serving.specs.Input.{Counts, left_of};
 ghost use Rattle.command_serving.specs.Knowing.{Fits, How};
 ghost use Rattle.command_serving.specs.Streams.{HandsOn};
-ghost use Rattle.command_serving.specs.Served.{EndsOrIsCut, HasCause, IsInputOf, Tells};
-ghost use Rattle.command_serving.specs.Serving.{Answers, GoesOn, HasNoJob, IsAppliedOn, IsCause, denied, goes_behind, load_reply, load_told, progress_of, silent};
+ghost use Rattle.command_serving.specs.Served.{EndsOrIsCut, HasCause, IsInputOf, IsTaken, Tells};
+ghost use Rattle.command_serving.specs.Serving.{Answers, GoesOn, HasNoJob, IsAppliedOn, IsCause, TakesBehind, denied, goes_behind, load_reply, load_told, progress_of, silent};
 ghost use Rattle.command_serving.specs.Stopped.{RunsLeave};
 ghost use Rattle.command_serving.specs.declared.answering.ServeFault.TheVariants.{WriteFault};
 
@@ -75,13 +73,13 @@ enum Goes {
 ///
 /// `ok` and `at` stand behind the last sync of what they acknowledge. Where all of the input is served, what is written is the
 /// answer to it, and the session has carried out just the commands that it says, up to a failed device. The input is what is
-/// known of it beforehand, or each text that its reads gave piece by piece (`IsInputOf`).
+/// known of it beforehand, or each text that its reads gave piece by piece (`IsInputOf`). `serve` takes any reader and writer.
 ///
 /// # Errors
 ///
-/// `ReadFault` where the reader fails or 10^12 bytes were read, `WriteFault` where the writer fails. The state is then
-/// that after the commands answered, or with the one whose answer was being written.
-pub fn serve<D: Sectors, R: Source, W: Sink>(
+/// `ReadFault` where the reader fails or 10^12 bytes of the input were taken, which after `Ok` are fewer. `WriteFault` where
+/// the writer fails. The state is then that after the commands answered, or with the one whose answer was being written.
+pub fn serve_source<D: Sectors, R: Source, W: Sink>(
     alloc: Global,
     session: &mut Session<D>,
     reader: &mut R,
@@ -96,6 +94,8 @@ pub fn serve<D: Sectors, R: Source, W: Sink>(
     ensures cause { (input : List ℕ) → IsInputOf R.Source reader.old reader.new input
         → IfErr result (λ fault. HasCause fault (R.has_failed reader.new)
         (W.has_failed writer.new) (length input)) }
+    ensures most { (input : List ℕ) → IsInputOf R.Source reader.old reader.new input
+        → OnOk result (IsTaken (10 ^ 12) input) }
 {
     session.images_stand_for_the_state();
     runs_add_up::<D>();
@@ -119,6 +119,9 @@ fn serve_lines<D: Sectors, R: Source, W: Sink>(
     ensures cause { IfErr result (λ fault. IsCause fault (R.has_failed reader.new)
         (W.has_failed writer.new) input.new.left) }
     ensures counted { Counts R.Source input.old reader.old input.new reader.new }
+    ensures most { OnOk result ((bytes : List ℕ) (how : How) → Fits R.Source how reader.new
+        → left_of R.Source how input.old reader.old ≡ Some bytes → 0 < input.old.left
+        → IsTaken input.old.left bytes) }
 {
     pieces_follow();
     states_follow();
@@ -150,7 +153,8 @@ fn serve_asked<D: Sectors, R: Source, W: Sink>(
     ensures cause { IfErr result (λ fault. IsCause fault (R.has_failed reader.new)
         (W.has_failed writer.new) input.new.left) }
     ensures counted { Counts R.Source input.old reader.old input.new reader.new }
-    ensures less { input.new.left ≤ input.old.left }
+    ensures taken { IfOk result (TakesBehind R.Source asked input.old reader.old input.new
+        reader.new) }
 {
     match asked {
         Asked::Load { kind, seed, len } => {

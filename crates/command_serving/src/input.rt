@@ -2,15 +2,15 @@
 //!
 //! Bytes are counted as they are taken, not as they are read ahead, so that where the serving ends does not depend
 //! on the pieces in which they come.
-ghost use Rattle.std.specs.Prelude.{◌≡◌, ◌≤◌, ◌<◌, ◌+◌, ◌-◌, ◌++◌, IfOk, MatchResult, OnErr, OnSome, ℕ, List, [], length};
+ghost use Rattle.std.specs.Prelude.{◌≡◌, ◌≤◌, ◌<◌, ◌+◌, ◌-◌, ◌++◌, IfOk, MatchResult, OnErr, OnOk, OnSome, ℕ, List, [], length};
 ghost use Rattle.std.specs.Str.Lines.{strip_carriage_return};
 ghost use Rattle.command_text.specs.Asking.{asked};
-ghost use Rattle.command_serving.specs.Input.{Between, Counts, CutsNext, EndsFree, IsLast, IsLineSoFar, IsTextSoFar, IsUnread, Loads, TakesLess, TakesMore, TakesPart, TakesShown, TakesText};
+ghost use Rattle.command_serving.specs.Input.{Between, Counts, CountsExactly, CutsNext, EndsFree, IsLast, IsLineSoFar, IsTextSoFar, IsUnread, Loads, TakesLess, TakesMore, TakesPart, TakesShown, TakesText};
 
 use crate::ahead::Ahead;
 use crate::streams::{Failed, Source};
 use arrayvec::ArrayVec;
-use command_text::{Asked, FirstWord, pieces_follow, read_line};
+use command_text::{Asked, FirstWord, read_line};
 use memchr::memchr;
 use std::alloc::Global;
 
@@ -228,10 +228,10 @@ impl Input {
         ensures cuts { IfOk result (λ next. Between R.Source self.old reader.old self.new reader.new
             (CutsNext next)) }
         ensures counted { Counts R.Source self.old reader.old self.new reader.new }
+        ensures exact { OnOk result (CountsExactly R.Source self.old reader.old self.new reader.new) }
         ensures less { IfOk result (λ next. OnSome next (self.new.left < self.old.left)) }
         ensures unread { OnErr result (IsUnread (R.has_failed reader.new) self.new.left) }
     {
-        pieces_follow();
         self.line.begin();
         loop {
             match self.take_line(reader)? {
@@ -247,6 +247,7 @@ impl Input {
         ensures part { IfOk result (λ part. Between R.Source self.old reader.old self.new reader.new
             (λ old new. TakesPart old new self.old.line self.new.line part)) }
         ensures counted { Counts R.Source self.old reader.old self.new reader.new }
+        ensures exact { OnOk result (CountsExactly R.Source self.old reader.old self.new reader.new) }
         ensures less { IfOk result (TakesLess self.old.left self.new.left) }
         ensures unread { OnErr result (IsUnread (R.has_failed reader.new) self.new.left) }
     {
@@ -267,6 +268,7 @@ impl Input {
         ensures loads { IfOk result (λ text. Between R.Source self.old reader.old self.new reader.new
             (λ old new. Loads len old new text)) }
         ensures counted { Counts R.Source self.old reader.old self.new reader.new }
+        ensures exact { OnOk result (CountsExactly R.Source self.old reader.old self.new reader.new) }
         ensures less { self.new.left ≤ self.old.left }
         ensures unread { OnErr result (IsUnread (R.has_failed reader.new) self.new.left) }
     {
@@ -288,6 +290,7 @@ impl Input {
         ensures more { IfOk result (λ some. Between R.Source self.old reader.old self.new reader.new
             (λ old new. TakesMore old new text.old text.new some)) }
         ensures counted { Counts R.Source self.old reader.old self.new reader.new }
+        ensures exact { OnOk result (CountsExactly R.Source self.old reader.old self.new reader.new) }
         ensures less { self.new.left ≤ self.old.left }
         ensures unread { OnErr result (IsUnread (R.has_failed reader.new) self.new.left) }
     {
@@ -306,6 +309,7 @@ impl Input {
         ensures line { self.new.line ≡ self.old.line }
         ensures left { MatchResult result (λ _. self.new.left + taken ≡ self.old.left)
             (λ _. (self.new.left ≡ 0) × (self.old.left ≤ taken)) }
+        ensures some { OnOk result (0 < self.new.left) }
     {
         let taken = taken as u64;
         if taken >= self.left {

@@ -1,7 +1,8 @@
 //! The serving of a session: the lines of an input are read, done and answered.
 //!
-//! Entry function: `serve`, over any device, any `Source` and any `Sink`; called by `planner_cli` (the word `run`). It
-//! stands below `planner_cli`, the end of the longest chain, and knows no words of the command line.
+//! Entry functions: `serve_source`, over any device, any `Source` and any `Sink`, called by `planner_cli` (the word `run`); `serve`
+//! over any reader and writer of std. It stands below `planner_cli`, the end of the longest chain, and knows no words of the
+//! command line.
 //!
 //! Source: this project's own. What lines ask for and what is answered is `command_text`'s.
 //!
@@ -18,11 +19,12 @@
 //! - `strict`: `Strict`, a sink whose `flush` fails behind a line that tells a refusal or a failed device
 //! - `ahead`: what was read and not yet taken
 //! - `input`: an input as lines and the bytes that follow a line
-//! - `answering`: `serve`, and a function for each kind of line
+//! - `answering`: `serve_source`, and a function for each kind of line
+//! - `lent`: `serve`
 //! - `laws`: what stops leave of a serving, and the causes of its answers
 //!
 //! Said by `specs/Served.antt`, `Acts.antt`, `Stopped.antt`, `Timely.antt`, `Causes.antt`, `Streams.antt` and
-//! `Strict.antt`. Proved of `serve`, for an input as it is known beforehand, and for each text that its reads gave piece by piece
+//! `Strict.antt`. Proved of `serve_source`, for an input as it is known beforehand, and for each text that its reads gave piece by piece
 //! (`IsInputOf`, `GaveText`):
 //! - `serves`, after `Ok` (`IsServed`): all is served, what is appended is the answer to the input, and the state
 //!   is the one after the commands that were carried out
@@ -41,11 +43,15 @@
 //! - `fates_have_causes`: `no Spent` is told at the last sequence alone, `fault device` where a call of the device failed
 //! - `cause` (`HasCause`): `ReadFault` only where the source has failed or the input has 10^12 bytes, `WriteFault` only
 //!   where the sink has failed
+//! - `most` (`IsTaken`), after `Ok`: less than 10^12 bytes of the input were taken, which are all, or those up to a line that ends
+//!   the serving. So `ReadFault` must come where 10^12 bytes are taken
 //! - `Strict::stopped`: what the last whole line tells that went through it (`TellsLast`, of `specs/Strict.antt`), unless the
 //!   writer has failed (`last_lines_are_ended` says what that line is); a `flush` that is `Ok` follows a line that tells neither, so serving over it ends behind the first
 //!   answer that does
-//! - `origin`: where a sink began to follow what is written, no serving changes, so of a `Strict` the last line is that of the
-//!   answers
+//! - `origin`: where a sink began to follow what is written, and through which reference, no serving changes, so of a `Strict` the
+//!   last line is that of the answers, and `serve` tells what a writer that was lent holds
+//! - `serve`: of these clauses `moments`, and `serves` and `most` of an input that is known beforehand; std says of no call when it
+//!   fails, so nothing of causes
 //! - what a whole line asks for does not depend on the pieces in which its bytes come (`input`)
 //!
 //! Where a byte comes behind an end, as a terminal may give it, there is no such text, and nothing is said.
@@ -59,12 +65,14 @@ mod ahead;
 mod answering;
 mod input;
 mod laws;
+mod lent;
 mod log;
 mod since;
 mod streams;
 mod strict;
 
-pub use answering::{ServeFault, serve};
+pub use answering::{ServeFault, serve_source};
 pub use laws::{fates_have_causes, stopped_servings_recover};
+pub use lent::serve;
 pub use streams::{Failed, Noted, Sink, Source, Watched};
 pub use strict::{Stopped, Strict, last_lines_are_ended};

@@ -7,7 +7,7 @@
 ghost use Rattle.std.specs.Prelude.{◌≡◌, ◌<◌, ◌≤◌, [], ℕ, List, Option, Bool, true, false, None, Some, IfOk, IfSome, IsNone, OnErr, length, take};
 ghost use Rattle.std.specs.Io.{ReadsAtMost};
 ghost use Rattle.std.specs.Io.KnownBytes.{Appends, Keeps, ReadConsumes};
-ghost use Rattle.command_serving.specs.Streams.{Flushes, GaveText, Puts, ReadsSome, Stream, WritesSome, WritesUpTo, left_behind};
+ghost use Rattle.command_serving.specs.Streams.{Flushes, GaveText, Origin, Puts, ReadsSome, Stream, WritesSome, WritesUpTo, began_with, left_behind};
 
 use crate::log::Log;
 use recover::Session;
@@ -52,8 +52,8 @@ pub trait Sink {
     // Whether a call has failed.
     ghost has_failed: { Self → Bool };
 
-    // The bytes that it held when it began to follow what is written, where it does and they are known. No call changes them.
-    ghost origin: { Self → Option (List ℕ) };
+    // What no call changes.
+    ghost origin: { Self → Origin };
 
     /// Writes a text, or where a call fails a first part of it.
     fn put<D: Sectors>(&mut self, session: &Session<D>, text: &[u8]) -> Result<(), Failed>
@@ -179,7 +179,7 @@ impl<W: Write> Sink for Watched<W> {
 
     ghost has_failed = { λ w. w.has_failed };
 
-    ghost origin = { λ _. None };
+    ghost origin = { λ _. began_with None };
 
     fn put<D: Sectors>(&mut self, session: &Session<D>, text: &[u8]) -> Result<(), Failed>
         ensures puts { Puts (held W.contents self.old) (held W.contents self.new) result
@@ -262,7 +262,7 @@ fn read_once<R: Read>(reader: &mut R, block: &mut [u8]) -> Option<usize>
 }
 
 // Writes a text, or gives how many of its bytes were written before a call failed.
-fn write_text<W: Write>(writer: &mut W, text: &[u8]) -> Result<(), usize>
+pub(crate) fn write_text<W: Write>(writer: &mut W, text: &[u8]) -> Result<(), usize>
     ensures { WritesUpTo (W.contents writer.old) (W.contents writer.new) result text.now }
 {
     let mut written = 0;

@@ -2,7 +2,7 @@
 ghost use Rattle.std.specs.Prelude.{◌≡◌, ◌++◌, bytes_eq, ◌∷◌, ◌||◌, ℕ, List, Option, [], false, true, None, OnErr, OnOk};
 ghost use Rattle.std.specs.Io.{WritesAtMost};
 ghost use Rattle.std.specs.Io.KnownBytes.{WriteAppends};
-ghost use Rattle.command_serving.specs.Streams.{Flushes, Puts};
+ghost use Rattle.command_serving.specs.Streams.{Flushes, Puts, began_with};
 ghost use Rattle.command_serving.specs.Strict.{Follows, HasNoLine, IsLastLine, IsLastLineBehind, TellsLast, is_stopped, stop_of};
 
 use crate::since::Since;
@@ -174,13 +174,13 @@ impl<W: Write> Sink for Strict<W> {
 
     ghost has_failed = { λ s. s.writer.has_failed || is_stopped s.told };
 
-    ghost origin = { λ s. s.before };
+    ghost origin = { λ s. began_with s.before };
 
     fn put<D: Sectors>(&mut self, session: &Session<D>, text: &[u8]) -> Result<(), Failed>
         ensures puts { Puts (held W.contents self.old.writer) (held W.contents self.new.writer)
             result (D.calls session.now.device) text.now }
         ensures failed { OnErr result (self.new.writer.has_failed || is_stopped self.new.told ≡ true) }
-        ensures origin { self.new.before ≡ self.old.before }
+        ensures origin { began_with self.new.before ≡ began_with self.old.before }
     {
         self.writer.put(session, text)?;
         self.last_lines.take_all(text);
@@ -191,7 +191,7 @@ impl<W: Write> Sink for Strict<W> {
         ensures flushes { Flushes (held W.contents self.old.writer) (held W.contents self.new.writer)
             result (D.calls session.now.device) }
         ensures failed { OnErr result (self.new.writer.has_failed || is_stopped self.new.told ≡ true) }
-        ensures origin { self.new.before ≡ self.old.before }
+        ensures origin { began_with self.new.before ≡ began_with self.old.before }
         ensures told { self.new.told ≡ self.old.told }
         ensures lets { OnOk result (self.new.told ≡ None) }
     {

@@ -1,12 +1,12 @@
 -- What the word `run` does: it opens a store, tells how many search steps were repeated, and serves the input over it.
-use Rattle.std.specs.Prelude.{◌≡◌, ◌⊎◌, ℕ, ◌+◌, ◌<◌, ◌||◌, Bool, true, false, List, [], ◌++◌, length, codes, decimal, Option, Some, None, Result, Ok, Err, IfErr, ⊤}
+use Rattle.std.specs.Prelude.{◌≡◌, ◌⊎◌, ℕ, ◌+◌, ◌<◌, ◌||◌, ◌^◌, Bool, true, false, List, [], ◌++◌, length, codes, decimal, Option, Some, None, Result, Ok, Err, IfErr, OnOk, ⊤}
 use Rattle.std.specs.Io.KnownBytes.{Appends}
 use Rattle.checkpoint.specs.Holdless.{IsOfLoad, UnlessUnread}
 use Rattle.checkpoint.specs.Refused.{faults_of_store}
 use Rattle.checkpoint.specs.declared.faults.StoreFault.{StoreFault}
 use Rattle.checkpoint.specs.declared.faults.StoreFault.TheVariants.{NotFormatted}
 use Rattle.command_core.specs.Runs.{IsState}
-use Rattle.command_serving.specs.Served.{EndsOrIsCut, HasCause}
+use Rattle.command_serving.specs.Served.{EndsOrIsCut, HasCause, IsTaken}
 use Rattle.command_serving.specs.Stopped.{RunsLeave}
 use Rattle.command_serving.specs.Streams.{Extends, Given, IsInput, Stream}
 use Rattle.command_serving.specs.Strict.{TellsLast, is_stopped}
@@ -26,10 +26,11 @@ use Rattle.sector_disk.specs.declared.file_device.FileFault.{FileFault}
 use Rattle.sector_disk.specs.declared.sectors.Sectors as sectors
 use Rattle.state_codec.specs.declared.version.Version.TheVariants.{Two}
 
--- An input was served, or the serving cut short, and for this cause, as `serve` says it.
+-- An input was served, less than 10^12 bytes of it, or the serving cut short, and for this cause, as `serve_source` says it.
 pub record Serves {D : Type 0} (on : sectors.Ghosts D) (served : Result ⊤ ServeFault) (old : SessionValue D) (input : List ℕ) (before after : Stream) (reader_failed writer_failed : Bool) (new : SessionValue D) : Type 0 where
   pub serves : (reading : Reading) → IsReading reading → EndsOrIsCut on served reading old input before after new
   pub cause : IfErr served (λ fault. HasCause fault reader_failed writer_failed (length input))
+  pub most : OnOk served (IsTaken (10 ^ 12) input)
 
 -- what is told behind the answers
 abbrev pub served_line : {T : Type 0} → Result T ServeFault → List ℕ

@@ -35,7 +35,7 @@
 //!   leaves it
 //! - `timetable_read` (`TellsTimetable`), `timetable_store` (`TimetablesStore`): the audit's line and the timetable of the solution;
 //!   those of the plan in the store that opening the device gives, which is left as opening leaves it
-//! - `run_store` (`RunsStore`): the device that `FileDevice::at_or_cause` gives is opened, and what `serve` writes over that
+//! - `run_store` (`RunsStore`): the device that `FileDevice::at_or_cause` gives is opened, and what `serve_source` writes over that
 //!   session stands behind `opened N`; 3 where the reader or the writer failed, with `cannot read input` for the
 //!   reader
 //! - `stopped_runs_recover` (`ServedRunHeadline`, `RunHeadline`, `RunKeepsAnswers` in `specs/Recovering.antt`): stopped at any
@@ -68,6 +68,6 @@ pub use auditor_cli::{
     status,
 };
 pub use command_line::{Invocation, Loading, Paths, Task, Tasks, read_words};
-pub use command_serving::{Failed, ServeFault, Sink, Source, Watched, serve};
+pub use command_serving::{Failed, ServeFault, Sink, Source, Watched, serve, serve_source};
 pub use laws::stopped_runs_recover;
 pub use program::{Streams, run_words};

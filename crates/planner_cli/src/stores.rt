@@ -20,7 +20,7 @@ use crate::telling::{
 use auditor_cli::status::{BROKEN, DONE, FILE, USAGE};
 use auditor_cli::write_line;
 use checkpoint::format;
-use command_serving::{ServeFault, Stopped, Strict, Watched, serve};
+use command_serving::{ServeFault, Stopped, Strict, Watched, serve_source};
 use recover::{Opened, Session, upgrade};
 use sector_disk::{FileCalls, FileDevice, HostFile, Sectors, Start};
 use std::alloc::Global;
@@ -280,7 +280,7 @@ fn serve_input<D: Sectors + Drop, I: Read, W: Write>(
         return serve_strictly(alloc, session, input, output);
     }
     let mut output = output;
-    let served = serve(alloc, session, input, &mut output);
+    let served = serve_source(alloc, session, input, &mut output);
     Ended {
         served,
         stopped: None,
@@ -300,7 +300,7 @@ fn serve_strictly<D: Sectors + Drop, I: Read, W: Write>(
         input.new.has_failed result.output.has_failed session.new }
 {
     let mut answers = Strict::new(output);
-    let served = serve(alloc, session, input, &mut answers);
+    let served = serve_source(alloc, session, input, &mut answers);
     let stopped = stop_of(&answers);
     Ended {
         served,

@@ -2,7 +2,7 @@
 
 use crate::ends::{Limited, Pieces, Reader};
 use checkpoint::format;
-use planner_cli::{ServeFault, Watched, serve};
+use planner_cli::{ServeFault, serve};
 use recover::Session;
 use sector_disk::{MemDevice, Sectors};
 use std::alloc::Global;
@@ -47,9 +47,9 @@ pub(crate) fn new_store(alloc: Global) -> Option<Session<MemDevice>> {
 // What `show` answers.
 fn shown<D: Sectors>(alloc: Global, session: &mut Session<D>) -> Vec<u8> {
     let mut text: &[u8] = b"show\n";
-    let mut writer = Watched::new(Limited::whole(alloc));
+    let mut writer = Limited::whole(alloc);
     let _ = serve(alloc, session, &mut text, &mut writer);
-    writer.into_inner().taken
+    writer.taken
 }
 
 /// What comes of the input.
@@ -60,11 +60,11 @@ pub(crate) fn serve_input<D: Sectors>(
     pieces: Pieces,
     limited: Limited,
 ) -> Served {
-    let mut reader = Watched::new(Reader::new(input, pieces));
-    let mut writer = Watched::new(limited);
+    let mut reader = Reader::new(input, pieces);
+    let mut writer = limited;
     let fault = serve(alloc, session, &mut reader, &mut writer).err();
     Served {
-        text: writer.into_inner().taken,
+        text: writer.taken,
         fault,
         shown: shown(alloc, session),
     }

@@ -2,7 +2,7 @@
 //! `Strict` of `command_serving`.
 
 use checkpoint::format;
-use command_serving::{ServeFault, Sink, Stopped, Strict, Watched, serve};
+use command_serving::{ServeFault, Sink, Stopped, Strict, Watched, serve_source};
 use recover::Session;
 use sector_disk::MemDevice;
 use std::alloc::Global;
@@ -91,7 +91,7 @@ struct Served {
 fn serve_strictly(alloc: Global, session: &mut Session<MemDevice>, input: &[u8]) -> Served {
     let mut reader: &[u8] = input;
     let mut writer = Strict::new(Watched::new(Vec::new(alloc)));
-    let fault = serve(alloc, session, &mut reader, &mut writer).err();
+    let fault = serve_source(alloc, session, &mut reader, &mut writer).err();
     let stopped = writer.stopped();
     Served {
         text: writer.into_inner().into_inner(),

@@ -1,9 +1,10 @@
 -- By what the line asks for.
-use Rattle.std.proofs.Common.{◌++◌, refl, subst, sym, None}
+use Rattle.std.proofs.Common.{◌++◌, ap, false, refl, subst, sym, None}
 use Rattle.std.proofs.lemmas.Result.{err_from_is_err_and}
 use Rattle.command_core.specs.declared.refusals.Refusal.TheVariants as core
 use Rattle.command_text.specs.Answering.{answered, refused, stated, unless_broken}
 use Rattle.command_text.specs.Answers.{answer_text, help_text, line}
+use Rattle.command_text.specs.Cutting.{announced, is_end}
 use Rattle.command_text.specs.Laws.{cut_at}
 use Rattle.command_text.specs.declared.answers.Answer.TheVariants as answer
 use Rattle.command_text.specs.declared.asked.Asked.TheVariants as asked
@@ -14,6 +15,7 @@ use Rattle.command_serving.specs.declared.answering.Goes.TheVariants.{On}
 use Rattle.command_serving.proofs.AskedLemmas.{cut_at_once, line_ends, line_on, load_on, nothing_on}
 use Rattle.command_serving.proofs.ReplyLemmas.{tells_stated}
 use Rattle.command_serving.proofs.ServingLemmas.{answers_told, tells_same}
+use Rattle.command_serving.proofs.TakenLemmas.{line_takes, told_load, told_on, told_to_end}
 use Rattle.command_serving.proofs.answering.serve_asked.Goals as goal
 
 pub returns-in-BadLoad-clause-serves : goal.returns-in-BadLoad-clause-serves
@@ -164,3 +166,53 @@ returns-in_ok-text-in-Load-clause-serves g c = λ reading rest how is fits known
     subst (λ a. GoesOn g.D.Sectors c.once.result reading old (cut_at a rest) before after new left) (sym c.in-Load.is)
     (load_on g.D.Sectors reading c.in-Load.kind c.in-Load.seed c.in-Load.len old new before after c.once.result c.serve_load.result rest c.in_ok-text-in-Load.text c.goes_behind-goes.result first left known (c.in_ok-text-in-Load.ensures.loads how fits)
     c.goes_behind-goes.ensures c.once.ensures (λ bytes. c.serve_load.ensures.answers reading bytes is))
+
+pub returns-in-BadLoad-clause-taken : goal.returns-in-BadLoad-clause-taken
+returns-in-BadLoad-clause-taken g c = told_to_end g.R.Source c.tell.result c.once-in-BadLoad.result c.args.asked c.args.input.now c.args.reader.now c.once-in-BadLoad.ensures (ap (λ a. is_end a false) c.in-BadLoad.is)
+
+pub returns-in-LoadRange-clause-taken : goal.returns-in-LoadRange-clause-taken
+returns-in-LoadRange-clause-taken g c = told_to_end g.R.Source c.tell-in-LoadRange.result c.once-in-LoadRange.result c.args.asked c.args.input.now c.args.reader.now c.once-in-LoadRange.ensures (ap (λ a. is_end a false) c.in-LoadRange.is)
+
+pub returns-in-BadLine-clause-taken : goal.returns-in-BadLine-clause-taken
+returns-in-BadLine-clause-taken g c =
+    told_on g.R.Source c.tell-in-BadLine.result c.once-in-BadLine.result c.args.asked c.args.input.now c.args.reader.now c.once-in-BadLine.ensures (ap announced c.in-BadLine.is) (ap (λ a. is_end a false) c.in-BadLine.is)
+
+pub returns-in-Refused-clause-taken : goal.returns-in-Refused-clause-taken
+returns-in-Refused-clause-taken g c =
+    told_on g.R.Source c.tell-in-Refused.result c.once-in-Refused.result c.args.asked c.args.input.now c.args.reader.now c.once-in-Refused.ensures (ap announced c.in-Refused.is) (ap (λ a. is_end a false) c.in-Refused.is)
+
+pub returns-in-Plain-clause-taken : goal.returns-in-Plain-clause-taken
+returns-in-Plain-clause-taken g c =
+    told_on g.R.Source c.serve_plain.result c.once-in-Plain.result c.args.asked c.args.input.now c.args.reader.now c.once-in-Plain.ensures (ap announced c.in-Plain.is) (ap (λ a. is_end a false) c.in-Plain.is)
+
+pub returns-in-Steps-clause-taken : goal.returns-in-Steps-clause-taken
+returns-in-Steps-clause-taken g c =
+    told_on g.R.Source c.serve_steps.result c.once-in-Steps.result c.args.asked c.args.input.now c.args.reader.now c.once-in-Steps.ensures (ap announced c.in-Steps.is) (ap (λ a. is_end a false) c.in-Steps.is)
+
+pub returns-in-Print-clause-taken : goal.returns-in-Print-clause-taken
+returns-in-Print-clause-taken g c =
+    told_on g.R.Source c.serve_print.result c.once-in-Print.result c.args.asked c.args.input.now c.args.reader.now c.once-in-Print.ensures (ap announced c.in-Print.is) (ap (λ a. is_end a false) c.in-Print.is)
+
+pub returns-in-Show-clause-taken : goal.returns-in-Show-clause-taken
+returns-in-Show-clause-taken g c =
+    told_on g.R.Source c.serve_show.result c.once-in-Show.result c.args.asked c.args.input.now c.args.reader.now c.once-in-Show.ensures (ap announced c.in-Show.is) (ap (λ a. is_end a false) c.in-Show.is)
+
+pub returns-in-Tell-clause-taken : goal.returns-in-Tell-clause-taken
+returns-in-Tell-clause-taken g c =
+    told_on g.R.Source c.serve_question.result c.once-in-Tell.result c.args.asked c.args.input.now c.args.reader.now c.once-in-Tell.ensures (ap announced c.in-Tell.is) (ap (λ a. is_end a false) c.in-Tell.is)
+
+pub returns-in-Next-clause-taken : goal.returns-in-Next-clause-taken
+returns-in-Next-clause-taken g c =
+    told_on g.R.Source c.serve_next.result c.once-in-Next.result c.args.asked c.args.input.now c.args.reader.now c.once-in-Next.ensures (ap announced c.in-Next.is) (ap (λ a. is_end a false) c.in-Next.is)
+
+pub returns-in-Help-clause-taken : goal.returns-in-Help-clause-taken
+returns-in-Help-clause-taken g c =
+    told_on g.R.Source c.tell_line.result c.once-in-Help.result c.args.asked c.args.input.now c.args.reader.now c.once-in-Help.ensures (ap announced c.in-Help.is) (ap (λ a. is_end a false) c.in-Help.is)
+
+pub returns-in-Nothing-clause-taken : goal.returns-in-Nothing-clause-taken
+returns-in-Nothing-clause-taken g c = line_takes g.R.Source c.args.asked c.args.input.now c.args.reader.now (ap announced c.in-Nothing.is) (ap (λ a. is_end a false) c.in-Nothing.is)
+
+pub returns-in_ok-text-in-Load-clause-taken : goal.returns-in_ok-text-in-Load-clause-taken
+returns-in_ok-text-in-Load-clause-taken g c =
+    told_load g.R.Source c.serve_load.result c.once.result c.in-Load.kind c.in-Load.seed c.in-Load.len c.in_ok-text-in-Load.text c.goes_behind-goes.result c.args.asked c.args.input.now c.load_text.new.self c.args.reader.now
+    c.load_text.new.reader c.once.ensures c.goes_behind-goes.ensures c.in-Load.is c.load_text.ensures.less c.in_ok-text-in-Load.ensures.exact c.in_ok-text-in-Load.ensures.loads

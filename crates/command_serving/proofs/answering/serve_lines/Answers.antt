@@ -1,15 +1,16 @@
 -- Line by line, until there is none or the serving ends.
-use Rattle.std.proofs.Common.{◌∙◌, refl, subst, sym}
+use Rattle.std.proofs.Common.{◌<◌, ◌∙◌, arith, refl, subst, sym}
 use Rattle.std.proofs.lemmas.Result.{err_from_is_err_and}
-use Rattle.std.specs.Prelude.{MatchResult}
+use Rattle.std.specs.Prelude.{MatchResult, OnSome}
 use Rattle.command_text.specs.Cutting.{pieces_of}
 use Rattle.command_text.specs.Laws.{cut_at}
 use Rattle.command_serving.specs.Input.{CutsNext, left_of}
 use Rattle.command_serving.specs.Served.{IsCutShort, IsServed}
-use Rattle.command_serving.specs.Serving.{ServesOn}
+use Rattle.command_serving.specs.Serving.{ServesOn, TakesKnown}
 use Rattle.command_serving.specs.declared.answering.Goes.TheVariants.{On, ToEnd}
 use Rattle.command_serving.proofs.AskedLemmas.{all_served, cut_between, input_begun, input_ended, line_cut, line_served}
-use Rattle.command_serving.proofs.CutLemmas.{counts_behind, counts_nothing}
+use Rattle.command_serving.proofs.CutLemmas.{CutLaws, all_behind, all_nothing, counts_behind, counts_nothing}
+use Rattle.command_serving.proofs.TakenLemmas.{known_on, none_taken_yet, taken_to_end, taken_whole}
 use Rattle.command_serving.proofs.answering.serve_lines.Goals as goal
 
 pub loop-asked-init : goal.loop-asked-init
@@ -17,6 +18,8 @@ loop-asked-init g c = (
   λ reading bytes how is fits known. input_begun reading c.args.session.now bytes (g.W.Sink.stream c.args.writer.now) (left_of g.R.Source how c.args.input.now c.args.reader.now) known,
   refl,
   counts_nothing g.R.Source c.args.input.now c.args.reader.now,
+  all_nothing g.R.Source c.args.input.now c.args.reader.now,
+  λ how fits. none_taken_yet (left_of g.R.Source how c.args.input.now c.args.reader.now),
 )
 
 pub returns-in_err-asked-clause-serves : goal.returns-in_err-asked-clause-serves
@@ -44,6 +47,7 @@ returns-in_default-clause-serves g c = λ reading bytes how is fits known.
 
 pub returns-in_err-serve_asked-clause-serves : goal.returns-in_err-serve_asked-clause-serves
 returns-in_err-serve_asked-clause-serves g c = λ reading bytes how is fits known.
+    let laws : CutLaws = record { ended = c.pieces_follow.ensures.ended; last = c.pieces_follow.ensures.last; none = c.pieces_follow.ensures.none } in
     let old = c.args.session.now in
     let mid = c.loop-asked.session in
     let new = c.serve_asked.new.session in
@@ -57,11 +61,12 @@ returns-in_err-serve_asked-clause-serves g c = λ reading bytes how is fits know
     let cuts = subst (λ asked. CutsNext asked left next) c.in-Some.is (c.in_ok-asked.ensures.cuts how mid_fits) in
     let told = err_from_is_err_and c.from_residual-in_err-serve_asked.result c.from_residual-in_err-serve_asked.ensures.1 in
     subst (λ r. MatchResult r (λ _. IsServed g.D.Sectors reading old bytes before after new) (λ _. IsCutShort g.D.Sectors reading old (pieces_of bytes) before after new)) (sym told.1)
-    (line_cut reading old mid new (pieces_of bytes) before sofar after c.in-Some.asked left next (c.loop-asked.invariant.0 reading bytes how is left_fits known) cuts
+    (line_cut reading old mid new (pieces_of bytes) before sofar after laws c.in-Some.asked left next (c.loop-asked.invariant.0 reading bytes how is left_fits known) cuts
     (λ rest q. c.in_err-serve_asked.ensures.serves reading rest how is fits q))
 
 pub returns-in-ToEnd-clause-serves : goal.returns-in-ToEnd-clause-serves
 returns-in-ToEnd-clause-serves g c = λ reading bytes how is fits known.
+    let laws : CutLaws = record { ended = c.pieces_follow.ensures.ended; last = c.pieces_follow.ensures.last; none = c.pieces_follow.ensures.none } in
     let old = c.args.session.now in
     let mid = c.loop-asked.session in
     let new = c.serve_asked.new.session in
@@ -74,12 +79,13 @@ returns-in-ToEnd-clause-serves g c = λ reading bytes how is fits known.
     let mid_fits = (c.serve_asked.ensures.counted how fits).0 in
     let left_fits = (c.next_asked.ensures.counted how mid_fits).0 in
     let cuts = subst (λ asked. CutsNext asked left next) c.in-Some.is (c.in_ok-asked.ensures.cuts how mid_fits) in
-    let served = line_served reading old mid new (pieces_of bytes) before sofar after c.in-Some.asked left next behind ToEnd (c.loop-asked.invariant.0 reading bytes how is left_fits known) cuts
+    let served = line_served reading old mid new (pieces_of bytes) before sofar after laws c.in-Some.asked left next behind ToEnd (c.loop-asked.invariant.0 reading bytes how is left_fits known) cuts
     (λ rest q. subst (λ goes. ServesOn g.D.Sectors reading mid (cut_at c.in-Some.asked rest) sofar after new goes behind) c.in-ToEnd.is (c.in_ok-serve_asked.ensures.serves reading rest how is fits q)) in
     all_served c.states_follow.ensures reading old new bytes before after behind served
 
 pub loop-asked-preserved : goal.loop-asked-preserved
 loop-asked-preserved g c =
+    let laws : CutLaws = record { ended = c.pieces_follow.ensures.ended; last = c.pieces_follow.ensures.last; none = c.pieces_follow.ensures.none } in
     let old = c.args.session.now in
     let mid = c.loop-asked.session in
     let new = c.serve_asked.new.session in
@@ -93,10 +99,51 @@ loop-asked-preserved g c =
           let mid_fits = (c.serve_asked.ensures.counted how fits).0 in
           let left_fits = (c.next_asked.ensures.counted how mid_fits).0 in
           let cuts = subst (λ asked. CutsNext asked left next) c.in-Some.is (c.in_ok-asked.ensures.cuts how mid_fits) in
-          line_served reading old mid new (pieces_of bytes) before sofar after c.in-Some.asked left next behind On (c.loop-asked.invariant.0 reading bytes how is left_fits known) cuts
+          line_served reading old mid new (pieces_of bytes) before sofar after laws c.in-Some.asked left next behind On (c.loop-asked.invariant.0 reading bytes how is left_fits known) cuts
           (λ rest q. subst (λ goes. ServesOn g.D.Sectors reading mid (cut_at c.in-Some.asked rest) sofar after new goes behind) c.in-On.is (c.in_ok-serve_asked.ensures.serves reading rest how is fits q)),
       c.serve_asked.ensures.origin ∙ c.loop-asked.invariant.1,
       counts_behind g.R.Source c.args.input.now c.next_asked.new.self c.serve_asked.new.input c.args.reader.now c.next_asked.new.reader c.serve_asked.new.reader
           (counts_behind g.R.Source c.args.input.now c.loop-asked.input c.next_asked.new.self c.args.reader.now c.loop-asked.reader c.next_asked.new.reader c.loop-asked.invariant.2 c.next_asked.ensures.counted)
           c.serve_asked.ensures.counted,
+      all_behind g.R.Source c.args.input.now c.next_asked.new.self c.serve_asked.new.input c.args.reader.now c.next_asked.new.reader c.serve_asked.new.reader
+          (all_behind g.R.Source c.args.input.now c.loop-asked.input c.next_asked.new.self c.args.reader.now c.loop-asked.reader c.next_asked.new.reader c.loop-asked.invariant.3 c.next_asked.ensures.counted c.in_ok-asked.ensures.exact)
+          c.serve_asked.ensures.counted c.in_ok-serve_asked.ensures.taken.exact,
+      λ how fits.
+          let old = left_of g.R.Source how c.args.input.now c.args.reader.now in
+          let left = left_of g.R.Source how c.loop-asked.input c.loop-asked.reader in
+          let next = left_of g.R.Source how c.next_asked.new.self c.next_asked.new.reader in
+          let behind = left_of g.R.Source how c.serve_asked.new.input c.serve_asked.new.reader in
+          let mid_fits = (c.serve_asked.ensures.counted how fits).0 in
+          let left_fits = (c.next_asked.ensures.counted how mid_fits).0 in
+          let cuts = subst (λ asked. CutsNext asked left next) c.in-Some.is (c.in_ok-asked.ensures.cuts how mid_fits) in
+          known_on laws.ended c.in-Some.asked old left next behind (c.loop-asked.invariant.4 how left_fits) cuts
+          (subst (λ goes. TakesKnown c.in-Some.asked goes next behind) c.in-On.is (c.in_ok-serve_asked.ensures.taken.takes how fits)),
     )
+
+pub loop-asked-smaller : goal.loop-asked-smaller
+loop-asked-smaller g c =
+    let less : c.next_asked.new.self.left < c.loop-asked.input.left = subst (λ asked. OnSome asked (c.next_asked.new.self.left < c.loop-asked.input.left)) c.in-Some.is c.in_ok-asked.ensures.less in
+    omega (arith, less, c.in_ok-serve_asked.ensures.taken.less)
+
+pub returns-in_default-clause-most : goal.returns-in_default-clause-most
+returns-in_default-clause-most g c = λ bytes how fits known some.
+    let old = left_of g.R.Source how c.args.input.now c.args.reader.now in
+    let left = left_of g.R.Source how c.loop-asked.input c.loop-asked.reader in
+    let next = left_of g.R.Source how c.next_asked.new.self c.next_asked.new.reader in
+    let ended = subst (λ asked. CutsNext asked left next) c.in_default.is (c.in_ok-asked.ensures.cuts how fits) in
+    taken_whole bytes old left c.args.input.now.left c.loop-asked.input.left known ended (c.loop-asked.invariant.3 how (c.next_asked.ensures.counted how fits).0) some
+
+pub returns-in-ToEnd-clause-most : goal.returns-in-ToEnd-clause-most
+returns-in-ToEnd-clause-most g c = λ bytes how fits known some.
+    let old = left_of g.R.Source how c.args.input.now c.args.reader.now in
+    let left = left_of g.R.Source how c.loop-asked.input c.loop-asked.reader in
+    let next = left_of g.R.Source how c.next_asked.new.self c.next_asked.new.reader in
+    let behind = left_of g.R.Source how c.serve_asked.new.input c.serve_asked.new.reader in
+    let mid_fits = (c.serve_asked.ensures.counted how fits).0 in
+    let left_fits = (c.next_asked.ensures.counted how mid_fits).0 in
+    let cuts = subst (λ asked. CutsNext asked left next) c.in-Some.is (c.in_ok-asked.ensures.cuts how mid_fits) in
+    let counts = all_behind g.R.Source c.args.input.now c.next_asked.new.self c.serve_asked.new.input c.args.reader.now c.next_asked.new.reader c.serve_asked.new.reader
+    (all_behind g.R.Source c.args.input.now c.loop-asked.input c.next_asked.new.self c.args.reader.now c.loop-asked.reader c.next_asked.new.reader c.loop-asked.invariant.3 c.next_asked.ensures.counted c.in_ok-asked.ensures.exact)
+    c.serve_asked.ensures.counted c.in_ok-serve_asked.ensures.taken.exact in
+    taken_to_end c.pieces_follow.ensures.ended c.in-Some.asked bytes old left next behind c.args.input.now.left c.serve_asked.new.input.left known (c.loop-asked.invariant.4 how left_fits) cuts
+    (subst (λ goes. TakesKnown c.in-Some.asked goes next behind) c.in-ToEnd.is (c.in_ok-serve_asked.ensures.taken.takes how fits)) (counts how fits) some

@@ -7,21 +7,22 @@ use Rattle.planner_cli.proofs.stores.serve_strictly.Goals as goal
 
 pub returns : goal.returns
 returns g c =
-    let served = c.serve-served.result in
+    let served = c.serve_source-served.result in
     record {
       serves = λ input known. record {
-        serves = λ reading is. served_between g.D.Sectors served reading c.args.session.now c.serve-served.new.session input _ _ _ _
+        serves = λ reading is. served_between g.D.Sectors served reading c.args.session.now c.serve_source-served.new.session input _ _ _ _
             (ap (λ s. held g.W.Write.contents s.writer) c.new-answers.ensures) (sym (ap (held g.W.Write.contents) c.into_inner.ensures))
-            (c.serve-served.ensures.serves reading input is known);
-        cause = stopped_out served c.serve-served.new.reader.has_failed c.serve-served.new.writer.writer.has_failed _ c.serve-served.new.writer.told c.stop_of-stopped.result (length input)
-            (ap (λ w. w.has_failed) c.into_inner.ensures) c.stop_of-stopped.ensures.stop (c.serve-served.ensures.cause input known);
+            (c.serve_source-served.ensures.serves reading input is known);
+        cause = stopped_out served c.serve_source-served.new.reader.has_failed c.serve_source-served.new.writer.writer.has_failed _ c.serve_source-served.new.writer.told c.stop_of-stopped.result (length input)
+            (ap (λ w. w.has_failed) c.into_inner.ensures) c.stop_of-stopped.ensures.stop (c.serve_source-served.ensures.cause input known);
+        most = c.serve_source-served.ensures.most input known;
       };
       plain = λ plain. absurd (true≢false plain);
-      moments = c.serve-served.ensures.moments;
+      moments = c.serve_source-served.ensures.moments;
       last = λ strict whole.
-          let answers = c.serve-served.new.writer in
+          let answers = c.serve_source-served.new.writer in
           let told = c.stop_of-stopped.ensures.last (sym (ap (λ w. w.has_failed) c.into_inner.ensures) ∙ whole) in
-          let opened : answers.before ≡ g.W.Write.contents c.args.output.inner = c.serve-served.ensures.origin ∙ ap (λ s. s.before) c.new-answers.ensures in
+          let opened : answers.before ≡ g.W.Write.contents c.args.output.inner = ap (λ o. o.held) c.serve_source-served.ensures.origin ∙ ap (λ s. s.before) c.new-answers.ensures in
           subst (λ b. TellsLast b (g.W.Write.contents c.into_inner.result.inner) c.stop_of-stopped.result) opened
           (subst (λ a. TellsLast answers.before a c.stop_of-stopped.result) (sym (ap (λ w. g.W.Write.contents w.inner) c.into_inner.ensures)) told);
     }

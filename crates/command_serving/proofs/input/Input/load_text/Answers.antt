@@ -2,7 +2,7 @@
 use Rattle.std.proofs.Common.{subst, ◌≡◌, true, arith, rules}
 use Rattle.command_serving.specs.Input.{TakesMore, left_of}
 use Rattle.command_serving.specs.Knowing.{Beforehand}
-use Rattle.command_serving.proofs.CutLemmas.{counts_behind, text_more}
+use Rattle.command_serving.proofs.CutLemmas.{all_behind, counts_behind, text_more}
 use Rattle.command_serving.proofs.input.Input.load_text.Goals as goal
 
 pub loop-text-preserved : goal.loop-text-preserved
@@ -16,6 +16,7 @@ loop-text-preserved g c =
           (subst (TakesMore mid new c.loop-text.text c.take_more.new.text) some (c.in_ok-take_more.ensures.more how fits)),
       counts_behind g.R.Source c.args.self.now c.loop-text.self c.take_more.new.self c.args.reader.now c.loop-text.reader c.take_more.new.reader c.loop-text.invariant.1 c.take_more.ensures.counted,
       omega (arith, c.loop-text.invariant.2, c.take_more.ensures.less),
+      all_behind g.R.Source c.args.self.now c.loop-text.self c.take_more.new.self c.args.reader.now c.loop-text.reader c.take_more.new.reader c.loop-text.invariant.3 c.take_more.ensures.counted c.in_ok-take_more.ensures.exact,
     )
 
 pub loop-text-smaller : goal.loop-text-smaller

@@ -2,7 +2,7 @@
 use Rattle.std.proofs.Common.{◌<◌, ◌≡◌, length, ap, arith, subst}
 use Rattle.command_serving.specs.Input.{TakesLess, TakesPart, left_of}
 use Rattle.command_serving.specs.Knowing.{Beforehand}
-use Rattle.command_serving.proofs.CutLemmas.{counts_behind, counts_nothing, kept_at_end, none_taken, on_some, part_feed, part_last, part_more}
+use Rattle.command_serving.proofs.CutLemmas.{all_behind, all_nothing, counts_behind, counts_nothing, kept_at_end, none_taken, on_some, part_feed, part_last, part_more}
 use Rattle.command_serving.proofs.input.Input.next_asked.Goals as goal
 
 pub returns-in-Feed-clause-cuts : goal.returns-in-Feed-clause-cuts
@@ -10,7 +10,7 @@ returns-in-Feed-clause-cuts g c = λ how fits.
     let old = left_of g.R.Source how c.args.self.now c.args.reader.now in
     let mid = left_of g.R.Source how c.loop-self.self c.loop-self.reader in
     let new = left_of g.R.Source how c.take_line.new.self c.take_line.new.reader in
-    part_feed c.pieces_follow.ensures.ended c.pieces_follow.ensures.last c.pieces_follow.ensures.none old mid new c.loop-self.self.line c.take_line.new.self.line c.in-Feed.field-0 c.asked.result
+    part_feed old mid new c.loop-self.self.line c.take_line.new.self.line c.in-Feed.field-0 c.asked.result
     (c.loop-self.invariant.0 how (c.take_line.ensures.counted how fits).0)
     (subst (TakesPart mid new c.loop-self.self.line c.take_line.new.self.line) c.in-Feed.is (c.in_ok-take_line.ensures.part how fits)) c.asked.ensures
 
@@ -19,7 +19,7 @@ returns-in-End-clause-cuts g c = λ how fits.
     let old = left_of g.R.Source how c.args.self.now c.args.reader.now in
     let mid = left_of g.R.Source how c.loop-self.self c.loop-self.reader in
     let new = left_of g.R.Source how c.take_line.new.self c.take_line.new.reader in
-    part_last c.pieces_follow.ensures.ended c.pieces_follow.ensures.last c.pieces_follow.ensures.none old mid new c.loop-self.self.line c.take_line.new.self.line c.last_asked.result
+    part_last old mid new c.loop-self.self.line c.take_line.new.self.line c.last_asked.result
     (c.loop-self.invariant.0 how (c.take_line.ensures.counted how fits).0)
     (subst (TakesPart mid new c.loop-self.self.line c.take_line.new.self.line) c.in-End.is (c.in_ok-take_line.ensures.part how fits)) c.last_asked.ensures.last
 
@@ -46,6 +46,7 @@ loop-self-preserved g c =
       counts_behind g.R.Source c.args.self.now c.loop-self.self c.take_line.new.self c.args.reader.now c.loop-self.reader c.take_line.new.reader c.loop-self.invariant.1 c.take_line.ensures.counted,
       omega (arith, less, c.loop-self.invariant.2),
       λ some. omega (arith, less, c.loop-self.invariant.2),
+      all_behind g.R.Source c.args.self.now c.loop-self.self c.take_line.new.self c.args.reader.now c.loop-self.reader c.take_line.new.reader c.loop-self.invariant.4 c.take_line.ensures.counted c.in_ok-take_line.ensures.exact,
     )
 
 pub returns-in_err-take_line-clause-counted : goal.returns-in_err-take_line-clause-counted
@@ -66,4 +67,13 @@ loop-self-init g c = (
   counts_nothing g.R.Source c.args.self.now c.args.reader.now,
   omega arith,
   λ some. absurd (omega (arith, some, ap length c.begin.ensures.0)),
+  all_nothing g.R.Source c.args.self.now c.args.reader.now,
 )
+
+pub returns-in-Feed-clause-exact : goal.returns-in-Feed-clause-exact
+returns-in-Feed-clause-exact g c =
+    all_behind g.R.Source c.args.self.now c.loop-self.self c.take_line.new.self c.args.reader.now c.loop-self.reader c.take_line.new.reader c.loop-self.invariant.4 c.take_line.ensures.counted c.in_ok-take_line.ensures.exact
+
+pub returns-in-End-clause-exact : goal.returns-in-End-clause-exact
+returns-in-End-clause-exact g c =
+    all_behind g.R.Source c.args.self.now c.loop-self.self c.take_line.new.self c.args.reader.now c.loop-self.reader c.take_line.new.reader c.loop-self.invariant.4 c.take_line.ensures.counted c.in_ok-take_line.ensures.exact

@@ -1,6 +1,6 @@
 -- A part of one line was taken.
 use Rattle.std.proofs.Common.{◌<◌, ◌≤◌, length}
-use Rattle.command_serving.specs.Input.{Between, Counts, IsPartOf}
+use Rattle.command_serving.specs.Input.{Between, Counts, CountsExactly, IsPartOf}
 use Rattle.command_serving.proofs.input.Input.next_asked.Given as goal
 
 abbrev pub invariant-loop-self : goal.invariant-loop-self
@@ -9,6 +9,7 @@ invariant-loop-self g l =
     × Counts g.R.Source l.fn.self l.fn.reader l.self l.reader
     × (l.self.left ≤ l.fn.self.left)
     × (0 < length l.self.line.kept.items → l.self.left < l.fn.self.left)
+    × CountsExactly g.R.Source l.fn.self l.fn.reader l.self l.reader
 
 abbrev pub decreases-loop-self : goal.decreases-loop-self
 decreases-loop-self g l = l.self.left

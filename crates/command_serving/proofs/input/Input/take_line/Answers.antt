@@ -1,9 +1,9 @@
 -- What was read ahead is what the reader lost, however that is known.
 use Rattle.std.proofs.Common.{arith, rules, subst, sym}
-use Rattle.command_serving.specs.Input.{CountsTaken, left_of}
+use Rattle.command_serving.specs.Input.{CountsAll, CountsTaken, left_of}
 use Rattle.command_serving.specs.Knowing.{left_by}
 use Rattle.std.specs.Io.KnownBytes.{prepend_known}
-use Rattle.command_serving.proofs.CutLemmas.{counts_kept, counts_part, part_named, part_taken}
+use Rattle.command_serving.proofs.CutLemmas.{all_part, counts_kept, counts_part, part_named, part_taken}
 use Rattle.command_serving.proofs.input.Input.take_line.Goals as goal
 
 pub returns-in_err-fill-clause-counted : goal.returns-in_err-fill-clause-counted
@@ -41,3 +41,14 @@ returns-in_ok-count-clause-counted g c = λ how fits.
           (counts_part rest known c.fill.new.self c.take_part-part.new.ahead c.args.self.now.line c.take_part-part.new.line c.take_part-part.result c.in-More.len c.args.self.now.left c.count.new.self.left (c.fill.ensures.bytes how fits)
           c.take_part-part.ensures c.in-More.is (omega (arith, c.in_ok-count.ensures.left))),
     )
+
+pub returns-in_default-clause-exact : goal.returns-in_default-clause-exact
+returns-in_default-clause-exact g c = λ how fits. let keeps = c.fill.ensures.bytes how fits in search (rules, keeps)
+
+pub returns-in_ok-count-clause-exact : goal.returns-in_ok-count-clause-exact
+returns-in_ok-count-clause-exact g c = λ how fits.
+    let known = left_of g.R.Source how c.args.self.now c.args.reader.now in
+    let rest = left_by g.R.Source how c.fill.new.reader in
+    subst (λ a. CountsAll known c.args.self.now.left (prepend_known a rest) c.count.new.self.left) (sym c.count.ensures.ahead)
+    (all_part rest known c.fill.new.self c.take_part-part.new.ahead c.args.self.now.line c.take_part-part.new.line c.take_part-part.result c.in-More.len c.args.self.now.left c.count.new.self.left (c.fill.ensures.bytes how fits)
+    c.take_part-part.ensures c.in-More.is (sym c.in_ok-count.ensures.left) c.in_ok-count.ensures.some)

@@ -1,16 +1,16 @@
 -- Nothing is read yet, so what is left of the input is what the reader has. A run over a session leaves at each moment a first part of its commands.
-use Rattle.std.proofs.Common.{◌≡◌, ◌∙◌, [], Some, ap, refl, subst, length}
-use Rattle.std.proofs.lemmas.Result.{IfErr-weaker}
+use Rattle.std.proofs.Common.{◌≡◌, ◌<◌, ◌^◌, ◌∙◌, ℕ, List, [], Some, ap, arith, refl, subst, length}
+use Rattle.std.proofs.lemmas.Result.{IfErr-weaker, on_ok_weaker}
 use Rattle.std.proofs.KnownBytes.{prepend_known-nil}
 use Rattle.std.specs.Io.KnownBytes.{prepend_known}
 use Rattle.command_serving.specs.Input.{CountsTaken, left_of}
-use Rattle.command_serving.specs.Knowing.{left_by}
-use Rattle.command_serving.specs.Served.{HasCause}
+use Rattle.command_serving.specs.Knowing.{Fits, How, left_by}
+use Rattle.command_serving.specs.Served.{HasCause, IsTaken}
 use Rattle.command_serving.specs.Serving.{IsCause}
 use Rattle.command_serving.proofs.ActLemmas.{honest_before}
 use Rattle.command_serving.proofs.AskedLemmas.{cause_of, whole_input}
 use Rattle.command_serving.proofs.CutLemmas.{known_somehow}
-use Rattle.command_serving.proofs.answering.serve.Goals as goal
+use Rattle.command_serving.proofs.answering.serve_source.Goals as goal
 
 pub returns-clause-serves : goal.returns-clause-serves
 returns-clause-serves g c = λ reading input is given.
@@ -40,3 +40,14 @@ returns-clause-cause g c = λ input given.
     (subst (λ l. CountsTaken (left_of g.R.Source how c.new-input.result c.args.reader.now) l rest left) c.new-input.ensures.left (c.serve_lines.ensures.counted how known.1).1) in
     IfErr-weaker c.serve_lines.result (λ f. IsCause f read written left) (λ f. HasCause f read written (length input))
     (λ f cause. cause_of f read written left (length input) (λ none. whole_input input rest left counted none) cause) c.serve_lines.ensures.cause
+
+pub returns-clause-most : goal.returns-clause-most
+returns-clause-most g c = λ input given.
+    let known = known_somehow g.R.Source c.args.reader.now c.serve_lines.new.reader input given in
+    let how = known.0 in
+    let reader = left_by g.R.Source how c.args.reader.now in
+    let start : left_of g.R.Source how c.new-input.result c.args.reader.now ≡ Some input = ap (λ a. prepend_known a reader) c.new-input.ensures.ahead ∙ prepend_known-nil reader ∙ known.2 in
+    let some : 0 < c.new-input.result.left = omega (arith, c.new-input.ensures.left) in
+    let weaker : ((bytes : List ℕ) (how : How) → Fits g.R.Source how c.serve_lines.new.reader → left_of g.R.Source how c.new-input.result c.args.reader.now ≡ Some bytes → 0 < c.new-input.result.left → IsTaken c.new-input.result.left bytes) → IsTaken (10 ^ 12) input =
+    λ most. subst (λ n. IsTaken n input) c.new-input.ensures.left (most input how known.1 start some) in
+    on_ok_weaker c.serve_lines.result weaker c.serve_lines.ensures.most

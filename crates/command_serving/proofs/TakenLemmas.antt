@@ -1,0 +1,173 @@
+-- What the serving takes of an input: whole pieces, and at its end all, or a line that ends it.
+use Rattle.std.proofs.Common.{◌≡◌, ◌∙◌, ℕ, ◌+◌, ◌<◌, ◌≤◌, Bool, true, false, List, [], ◌∷◌, ◌++◌, ◌⊎◌, inl, inr, Option, Some, None, Result, Ok, Err, length, refl, sym, ap, ap₂, subst, arith, append-nil, append_assoc, length-append}
+use Rattle.std.specs.Prelude.{IfOk, IfSome, MatchResult, nat_lt, if◌then◌else◌, ⊤}
+use Rattle.plan_types.specs.declared.requests.Kind.{Kind}
+use Rattle.command_text.specs.Cutting.{Piece, announced, is_end, pieces_of}
+use Rattle.command_text.specs.Laws.{PiecesFollow, cut_at}
+use Rattle.command_text.specs.declared.asked.Asked.{Asked}
+use Rattle.command_text.specs.declared.asked.Asked.TheVariants.{Load}
+use Rattle.command_serving.specs.Input.{Between, CountsAll, CountsExactly, Cuts, CutsLine, Loads, left_of}
+use Rattle.command_serving.specs.Served.{ArePieces, IsTaken}
+use Rattle.command_serving.specs.Serving.{TakesBehind, TakesBytes, TakesKnown, TakesKnownPieces, TakesPieces, goes_behind}
+use Rattle.command_serving.specs.declared.answering.Goes.{Goes}
+use Rattle.command_serving.specs.declared.answering.Goes.TheVariants.{On, ToEnd}
+use Rattle.command_serving.specs.declared.answering.ServeFault.{ServeFault}
+use Rattle.command_serving.specs.declared.answering.ServeFault.TheVariants as fault
+use Rattle.command_serving.specs.declared.input.Input.{Input}
+use Rattle.command_serving.specs.declared.input.LoadText.{LoadText}
+use Rattle.command_serving.specs.declared.input.LoadText.TheVariants.{Dropped, Short, Whole}
+use Rattle.command_serving.specs.declared.streams.Source as sources
+use Rattle.command_serving.proofs.AskedLemmas.{drop_front, not_short, take_front}
+use Rattle.command_serving.proofs.CutLemmas.{all_nothing}
+
+no_item : (xs : List ℕ) → length xs ≡ 0 → xs ≡ []
+no_item [] e = refl
+no_item (x ∷ xs) e = absurd (omega (arith, e))
+
+none_left : (text rest whole : List ℕ) → whole ≡ text ++ rest → whole ≡ [] → rest ≡ []
+none_left text rest whole is none = no_item rest (omega (arith, ap length (sym none ∙ is), length-append text rest))
+
+no_feed_left : (line rest : List ℕ) → [] ≡ line ++ 10 ∷ rest → ⊥
+no_feed_left line rest is = omega (arith, ap length is, length-append line (10 ∷ rest))
+
+-- ---- behind a line
+
+cut_text : (a : Asked) (text rest : List ℕ) → length text ≡ announced a → is_end a false ≡ false → cut_at a (text ++ rest) ≡ record { asked = a; text = text } ∷ pieces_of rest
+cut_text a text rest is goes =
+    ap₂ {C = List Piece} (λ (t behind : List ℕ). record { asked = a; text = t } ∷ (if is_end a (nat_lt (length t) (announced a)) then [] else pieces_of behind)) (take_front (announced a) text rest is)
+    (drop_front (announced a) text rest is)
+    ∙ ap (λ (b : Bool). record { asked = a; text = text } ∷ (if is_end a b then [] else pieces_of rest)) (not_short (announced a) text is)
+    ∙ ap (λ (b : Bool). record { asked = a; text = text } ∷ (if b then [] else pieces_of rest)) goes
+
+all_taken : (most : ℕ) (bytes : List ℕ) → length bytes < most → IsTaken most bytes
+all_taken most bytes less = record { taken = bytes; rest = []; whole = sym (append-nil bytes); less = less; end = inl refl }
+
+module _ (ended : PiecesFollow) (a : Asked) (xs ys zs ws : List ℕ) (p : TakesPieces xs ys) (c : CutsLine a ys zs) where
+  taken_on : TakesBytes a On zs ws → TakesPieces xs ws
+  taken_on b = at p.end c.whole
+    where
+      at : (ys ≡ []) ⊎ ArePieces p.taken → (ys ≡ c.line ++ 10 ∷ zs) ⊎ ((ys ≡ c.line) × (zs ≡ []) × (0 < length c.line)) → TakesPieces xs ws
+      at (inl none) (inl e) = absurd (no_feed_left c.line zs (sym none ∙ e))
+      at (inr w) (inl e) =
+          let line : List ℕ = c.line ++ 10 ∷ b.0 in
+          let piece : Piece = record { asked = a; text = b.0 } in
+          record {
+            taken = p.taken ++ line;
+            whole = p.whole ∙ ap (λ l. p.taken ++ l) (e ∙ ap (λ l. c.line ++ 10 ∷ l) b.1 ∙ sym (append_assoc c.line (10 ∷ b.0) ws)) ∙ sym (append_assoc p.taken line ws);
+            end = inr (record {
+              pieces = w.pieces ++ piece ∷ [];
+              cut = λ us.
+                  ap pieces_of (append_assoc p.taken line us ∙ ap (λ l. p.taken ++ l) (append_assoc c.line (10 ∷ b.0) us)) ∙ w.cut (c.line ++ 10 ∷ (b.0 ++ us))
+                  ∙ ap (λ ps. w.pieces ++ ps) (ended c.line (b.0 ++ us) c.free ∙ ap (λ d. cut_at d (b.0 ++ us)) (sym c.asks) ∙ cut_text a b.0 us b.2 b.3) ∙ sym (append_assoc w.pieces (piece ∷ []) (pieces_of us));
+            });
+          }
+      at w (inr e) = let empty : ws ≡ [] = none_left b.0 ws zs b.1 e.1 in record { taken = xs; whole = sym (ap (λ l. xs ++ l) empty ∙ append-nil xs); end = inl empty }
+
+  taken_up_to : (most : ℕ) → TakesBytes a ToEnd zs ws → length xs < most + length ws → IsTaken most xs
+  taken_up_to most (inl none) less = all_taken most xs (omega (arith, less, ap length none))
+  taken_up_to most (inr b) less = at p.end c.whole
+    where
+      at : (ys ≡ []) ⊎ ArePieces p.taken → (ys ≡ c.line ++ 10 ∷ zs) ⊎ ((ys ≡ c.line) × (zs ≡ []) × (0 < length c.line)) → IsTaken most xs
+      at (inl none) (inl e) = absurd (no_feed_left c.line zs (sym none ∙ e))
+      at (inr w) (inl e) =
+          let line : List ℕ = c.line ++ 10 ∷ [] in
+          let whole : xs ≡ (p.taken ++ line) ++ zs = p.whole ∙ ap (λ l. p.taken ++ l) (e ∙ sym (append_assoc c.line (10 ∷ []) zs)) ∙ sym (append_assoc p.taken line zs) in
+          record {
+            taken = p.taken ++ line;
+            rest = zs;
+            whole = whole;
+            less = omega (arith, less, ap length whole, length-append (p.taken ++ line) zs, ap length b.0);
+            end = inr (record { before = p.taken; whole = w; line = c.line; free = c.free; ends = ap (λ d. is_end d false) (sym c.asks) ∙ b.1; split = refl });
+          }
+      at w (inr e) = all_taken most xs (omega (arith, less, ap length (b.0 ∙ e.1)))
+
+-- ---- of an input that is known
+
+-- nothing was taken
+pub none_taken_yet : (known : Option (List ℕ)) → TakesKnownPieces known known
+none_taken_yet None = tt
+none_taken_yet (Some xs) = record { taken = []; whole = refl; end = inr (record { pieces = []; cut = λ rest. refl }) }
+
+pub known_on : (ended : PiecesFollow) (a : Asked) (old known next behind : Option (List ℕ)) → TakesKnownPieces old known → Cuts a known next → TakesKnown a On next behind → TakesKnownPieces old behind
+known_on ended a None known next behind p c b = tt
+known_on ended a (Some xs) None next behind p c b = absurd p
+known_on ended a (Some xs) (Some ys) None behind p c b = absurd c
+known_on ended a (Some xs) (Some ys) (Some zs) None p c b = absurd b
+known_on ended a (Some xs) (Some ys) (Some zs) (Some ws) p c b = taken_on ended a xs ys zs ws p c b
+
+-- the serving ended behind a line
+pub taken_to_end : (ended : PiecesFollow) (a : Asked) (bytes : List ℕ) (old known next behind : Option (List ℕ)) (left later : ℕ) → old ≡ Some bytes → TakesKnownPieces old known → Cuts a known next → TakesKnown a ToEnd next behind
+    → CountsAll old left behind later → 0 < left → IsTaken left bytes
+taken_to_end ended a bytes old known next behind left later is p c b counts some =
+    at known next behind (subst (λ k. TakesKnownPieces k known) is p) c b (subst (λ k. CountsAll k left behind later) is counts)
+  where
+    at : (known next behind : Option (List ℕ)) → TakesKnownPieces (Some bytes) known → Cuts a known next → TakesKnown a ToEnd next behind → CountsAll (Some bytes) left behind later → IsTaken left bytes
+    at None next behind p c b counts = absurd p
+    at (Some ys) None behind p c b counts = absurd c
+    at (Some ys) (Some zs) None p c b counts = absurd b
+    at (Some ys) (Some zs) (Some ws) p c b counts = taken_up_to ended a bytes ys zs ws p c left b (omega (arith, counts.0, counts.1 some))
+
+-- or there was no further line
+pub taken_whole : (bytes : List ℕ) (old known : Option (List ℕ)) (left later : ℕ) → old ≡ Some bytes → IfSome known (λ xs. xs ≡ []) → CountsAll old left known later → 0 < left → IsTaken left bytes
+taken_whole bytes old known left later is none counts some = at known none (subst (λ k. CountsAll k left known later) is counts)
+  where
+    at : (known : Option (List ℕ)) → IfSome known (λ xs. xs ≡ []) → CountsAll (Some bytes) left known later → IsTaken left bytes
+    at None none counts = absurd counts
+    at (Some xs) none counts = all_taken left bytes (omega (arith, counts.0, counts.1 some, ap length none))
+
+-- ---- what a line takes
+
+module _ {R : Type 0} (on : sources.Ghosts R) where
+  takes_none : (a : Asked) (known : Option (List ℕ)) → announced a ≡ 0 → is_end a false ≡ false → TakesKnown a On known known
+  takes_none a None none goes = tt
+  takes_none a (Some xs) none goes = ([], refl, sym none, goes)
+
+  ends_at : (a : Asked) (known : Option (List ℕ)) → is_end a false ≡ true → TakesKnown a ToEnd known known
+  ends_at a None ends = tt
+  ends_at a (Some xs) ends = inr (refl, ends)
+
+  pub line_takes : (a : Asked) (input : Input) (reader : R) → announced a ≡ 0 → is_end a false ≡ false → TakesBehind on a input reader input reader On
+  line_takes a input reader none goes = record {
+    less = omega arith;
+    exact = all_nothing on input reader;
+    takes = λ how fits. takes_none a (left_of on how input reader) none goes;
+  }
+
+  line_ends : (a : Asked) (input : Input) (reader : R) → is_end a false ≡ true → TakesBehind on a input reader input reader ToEnd
+  line_ends a input reader ends = record {
+    less = omega arith;
+    exact = all_nothing on input reader;
+    takes = λ how fits. ends_at a (left_of on how input reader) ends;
+  }
+
+  once_takes : {E : Type 0} (told : Result ⊤ E) (r : Result Goes ServeFault) (to : Goes) (Takes : Goes → Type 0) → MatchResult told (λ _. r ≡ Ok to) (λ _. r ≡ Err fault.WriteFault) → Takes to → IfOk r Takes
+  once_takes (Ok done) r to Takes is takes = subst (λ o. IfOk o Takes) (sym is) takes
+  once_takes (Err failed) r to Takes is takes = subst (λ o. IfOk o Takes) (sym is) tt
+
+  pub told_on : {E : Type 0} (told : Result ⊤ E) (r : Result Goes ServeFault) (a : Asked) (input : Input) (reader : R) → MatchResult told (λ _. r ≡ Ok On) (λ _. r ≡ Err fault.WriteFault) → announced a ≡ 0 → is_end a false ≡ false
+      → IfOk r (TakesBehind on a input reader input reader)
+  told_on told r a input reader is none goes = once_takes told r On (TakesBehind on a input reader input reader) is (line_takes a input reader none goes)
+
+  pub told_to_end : {E : Type 0} (told : Result ⊤ E) (r : Result Goes ServeFault) (a : Asked) (input : Input) (reader : R) → MatchResult told (λ _. r ≡ Ok ToEnd) (λ _. r ≡ Err fault.WriteFault) → is_end a false ≡ true
+      → IfOk r (TakesBehind on a input reader input reader)
+  told_to_end told r a input reader is ends = once_takes told r ToEnd (TakesBehind on a input reader input reader) is (line_ends a input reader ends)
+
+  loads_takes : (kind : Kind) (seed len : ℕ) (text : LoadText) (old new : Option (List ℕ)) → Loads len old new text → TakesKnown (Load kind seed len) (goes_behind text) old new
+  loads_takes kind seed len (Whole text) None new l = tt
+  loads_takes kind seed len (Whole text) (Some xs) None l = absurd l.0
+  loads_takes kind seed len (Whole text) (Some xs) (Some ys) l = (text.items, l.0, l.1, refl)
+  loads_takes kind seed len Dropped None new l = tt
+  loads_takes kind seed len Dropped (Some xs) None l = absurd l.1
+  loads_takes kind seed len Dropped (Some xs) (Some ys) l = (l.0, l.1, l.2, refl)
+  loads_takes kind seed len Short None new l = tt
+  loads_takes kind seed len Short (Some xs) None l = absurd l.1
+  loads_takes kind seed len Short (Some xs) (Some ys) l = inl l.3
+
+  pub told_load : {E : Type 0} (told : Result ⊤ E) (r : Result Goes ServeFault) (kind : Kind) (seed len : ℕ) (text : LoadText) (goes : Goes) (a : Asked) (old new : Input) (before later : R)
+      → MatchResult told (λ _. r ≡ Ok goes) (λ _. r ≡ Err fault.WriteFault) → goes ≡ goes_behind text → a ≡ Load kind seed len → new.left ≤ old.left → CountsExactly on old before new later
+      → Between on old before new later (λ o n. Loads len o n text) → IfOk r (TakesBehind on a old before new later)
+  told_load told r kind seed len text goes a old new before later is to asks less exact loads =
+      once_takes told r goes (TakesBehind on a old before new later) is
+      (subst (TakesBehind on a old before new later) (sym to)
+      (subst (λ d. TakesBehind on d old before new later (goes_behind text)) (sym asks)
+      (record { less = less; exact = exact; takes = λ how fits. loads_takes kind seed len text (left_of on how old before) (left_of on how new later) (loads how fits) })))
