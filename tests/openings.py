@@ -68,13 +68,13 @@ class Opener:
             fail(f"{name}: {self.run(lines)}, wanted {wanted}")
 
     def expect_state(self, name, store, snapshot):
-        """It opens, and a checkpoint writes the same state under the next sequence."""
+        """It opens, and a checkpoint writes the same state under the next sequence, with zeros to the end of its last sector."""
         self.expect(name, store, (0, "opened 0\nok\n"), b"checkpoint\n")
         with open(self.path, "rb") as file:
             file.seek(SECTOR)
             written = file.read(len(header(2, 3, 0)))
             file.seek(HALVES[1])
-            same = file.read(len(snapshot)) == snapshot
+            same = file.read(len(snapshot) + -len(snapshot) % SECTOR) == snapshot + bytes(-len(snapshot) % SECTOR)
         if written != header(2, 3, len(snapshot)) or not same:
             fail(f"{name}: the state is written otherwise than it was read")
 

@@ -2,15 +2,16 @@
 """Asks the built program small things, whose answers are worked by hand or come from another program.
 
 1. audit: rule by rule, texts that are refused, and one route of 40,000 customers.
-2. Words: what they ask for, which numbers are taken, and how other words are refused.
+2. Words: what they ask for, which numbers are taken, and how other words are refused, with the usage of their command.
 3. Lines of run: which are read, over an empty store and over a loaded one; lines that are too long, and `load` in them.
 4. Sessions: pins, routes and next numbers as they are shown; timetables, and why a request is where it is; refusals.
 5. Steps: their pieces, how far `reach` goes, and the stages of annealing, made by hand, and cut and said again.
-6. solve: plans, what is left out, and tries of a smaller fleet.
+6. solve: plans, what is left out, and tries of a smaller fleet. solves: a solution that can't be written whole.
 
 Wants the program that rt ci leaves.
 """
 import os
+import resource
 import shutil
 import subprocess
 import sys
@@ -166,6 +167,7 @@ TAKEN = [
 # Words that ask for nothing, and how the first line of standard error begins, behind `error: `.
 NOT_GIVEN = "the following required arguments were not provided:"
 BAD_STEPS = "STEPS and DEVIATION are 0 to 1000000000 and SEED 0 to 18446744073709551615, in digits alone"
+BAD_SEED = "SEED is 0 to 18446744073709551615, in digits alone"
 BAD_TASKS = "STEPS is 0 to 1000000000 and SEED 0 to 18446744073709551615, in digits alone"
 BAD_DRAWING = "the words are STORE or KIND INSTANCE SOLUTION [ROUTE], KIND is lilim or vrp, and ROUTE a number, in digits alone"
 BAD_TIMETABLE = "the words are STORE [tabs] or KIND INSTANCE SOLUTION [tabs], and KIND is lilim or vrp"
@@ -193,12 +195,25 @@ REFUSED = [
     (["run", "a", "b"], "invalid value 'b' for '[strict]'"),
     (["run", "a", "strict", "b"], "unexpected argument 'b' found"),
     (["load", "a", "vrp"], NOT_GIVEN),
+    (["load", "a", "vrp", "b", "18446744073709551616"], BAD_SEED),
     (["format"], NOT_GIVEN),
     (["upgrade", "a"], NOT_GIVEN),
     (["timetable", "a", "b"], BAD_TIMETABLE),
     (["timetable", "Vrp", "a", "b"], BAD_TIMETABLE),
     (["timetable", "vrp", "a", "b", "tabs", "c"], "unexpected argument 'c' found"),
 ]
+# The usage of each command. Where a value alone is wrong, none is told; of words that name no command, that of the program.
+USAGES = {
+    "audit": "<KIND> <INSTANCE> <SOLUTION>",
+    "draw": "<STORE|KIND> [INSTANCE] [SOLUTION] [ROUTE]",
+    "format": "<STORE>",
+    "load": "<STORE> <KIND> <INSTANCE> [SEED]",
+    "run": "<STORE> [strict]",
+    "solve": "<KIND> <INSTANCE> <STEPS> [SEED] [DEVIATION]",
+    "solves": "<KIND> <LIST> <STEPS> [SEED]",
+    "timetable": "<STORE|KIND> [tabs|INSTANCE] [SOLUTION] [tabs]",
+    "upgrade": "<OLD> <NEW>",
+}
 NO_SOLUTION = f"error: {NOT_GIVEN}\n  <SOLUTION>\n\nUsage: planner audit <KIND> <INSTANCE> <SOLUTION>\n\nFor more information, try '--help'.\n"
 
 # Lines over an empty store, and what is answered.
@@ -625,6 +640,9 @@ def check_refused_words(folder):
     for words, reason in REFUSED:
         status, output, errors = folder.planner(*words)
         expect(f"{words}", (status, output, errors.split("\n")[0]), (64, "", "error: " + reason))
+        usage = f"{words[0]} {USAGES[words[0]]}" if words[0] in USAGES else "[COMMAND]"
+        told = [line for line in errors.split("\n") if line.startswith("Usage: ")]
+        expect(f"the usage behind {words}", told, [] if reason.startswith("invalid value") else [f"Usage: planner {usage}"])
     expect("the whole of what is told", folder.planner("audit", "lilim", "a"), (64, "", NO_SOLUTION))
     expect("--version", folder.planner("--version"), (0, "planner 0.1.0\n", ""))
     for words in ["help"], ["audit", "--help"]:
@@ -757,6 +775,18 @@ def check_solutions(folder):
             expect(f"the last line of {words}", output.splitlines()[-1], last)
 
 
+def check_unwritten(folder):
+    """What was written of a solution stays only where that is all of it: here the system takes four bytes and no more."""
+    folder.write("pair", ONE_PAIR)
+    words = [PROGRAM, "solves", "lilim", folder.write("cut.list", "pair\tcut.sol\n"), "0"]
+    few = lambda: resource.setrlimit(resource.RLIMIT_FSIZE, (4, 4))
+    # The signal of a file that gets too long stays ignored, as Python has it, and the write fails.
+    got = subprocess.run(words, cwd=folder.path, capture_output=True, text=True, preexec_fn=few, restore_signals=False)
+    expect("a solution that is cut", (got.returncode, got.stdout), (3, "pair\tcut.sol\tcannot write cut.sol\n"))
+    expect("what is left of it", os.path.exists(folder.file("cut.sol")), False)
+    expect("the solution then", folder.planner(*words[1:])[:2], (0, "pair\tcut.sol\tpass 0 1 20\n"))
+
+
 def main():
     if not os.path.exists(PROGRAM):
         sys.exit(f"program: {PROGRAM} is not built: run rt ci, or ./planner once")
@@ -775,6 +805,7 @@ def main():
         check_farthest(folder)
         check_stages(folder)
         check_solutions(folder)
+        check_unwritten(folder)
     print("program: audits, words, lines, sessions, stages and solutions are answered as they are by hand")
 
 

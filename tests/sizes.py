@@ -7,7 +7,7 @@
 3. A line of 70,000 bytes is refused, and the next one answered.
 4. One route with 2,000 stops: searched, and the plan passes the audit; in a store its first stops are pinned.
 5. A fleet that is too small: several requests are left out, by a store and by `solve`, which names them; with some hundred left out
-   a store anneals.
+   a store anneals. A vehicle for each stop: one annealing step takes stops out of many routes.
 6. Texts of a `load` whose lengths lie around each power of two, and the longest one. Searches and annealings of as many steps.
 7. A store with 40,000 requests of one stop and one with 20,000 pairs: loaded, written by `checkpoint`, shown, and opened again.
 
@@ -211,12 +211,24 @@ def check_small_fleet(folder):
         fail(f"400 requests for one vehicle: {answers!r}")
 
 
+def check_many_routes(folder):
+    """Routes of one stop: a step of annealing takes out up to nineteen strings, each of another route."""
+    store = os.path.join(folder, "routes.store")
+    planner("format", store)
+    text = vrp(400, 1, 20)
+    answers = run(store, f"load vrp 5 {len(text)}\n{text}build\nanneal 1000\nsearch 100\n".encode())
+    ats = [line.split()[1:3] for line in answers.split("\n") if line.startswith("at ")]
+    if not answers.endswith("ok\n") or ats[-1:] != [["1100", "0"]]:
+        fail(f"400 routes of one stop: {answers[:80]!r}, {ats[-1:]}")
+
+
 def main():
     with tempfile.TemporaryDirectory() as folder:
         check_long_line(folder)
         check_lengths(folder)
         check_counts(folder)
         check_small_fleet(folder)
+        check_many_routes(folder)
         check_largest(folder)
         check_many_commits(folder)
         check_long_route(folder)

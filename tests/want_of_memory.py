@@ -5,6 +5,9 @@ Finds each place of the product crates that makes a value which says want of mem
 a device, a reader, a writer or a file. tests/want_of_memory.txt knows them, with the reason why they may stand there. A place that
 it lacks fails, and so does a row of it without a place. What only hands a value on, as `?` does, is no place.
 
+A growth that asks for more than there is room for on any machine says want of memory too. So one is a place where it asks for more
+than sums, products and parts of lengths and of small numbers, as by a condition; and so is the greatest `usize`.
+
 The way of reading: comments, contracts, ghost items, attributes and declarations of types are left out. Patterns (left of `=>`,
 behind `let` and `for`, in `|..|` and `matches!`), the heads of functions and impls, imports, and what `==` compares make nothing.
 Each other occurrence of a name below is a place. It is known by crate, file and function and by the way to it: the code from the
@@ -21,7 +24,7 @@ WANT, FAULT = "want of memory", "faults"
 
 # What says so, and functions that always do. The `ReadFault` of an instance's text is no variant, and none of these.
 VALUES = {
-    WANT: re.compile(r"(.*::)?(AllocError|AllocFailed|OutOfMemory|OUT_OF_MEMORY|Dropped|dropped)"),
+    WANT: re.compile(r"(.*::)?(AllocError|AllocFailed|OutOfMemory|OUT_OF_MEMORY|Dropped|dropped)|[iu]size::MAX"),
     FAULT: re.compile(
         r"(.*::)?(DeviceFault|Failed|Unread|WriteFault|NoFile|BadLength|InUse|FILE|ReadFailed|WriteFailed|SyncFailed|fault_of|not_read"
         r"|[A-Z]\w*::ReadFault|ErrorKind::\w+|Error(::[a-z]\w*)?)"
@@ -30,6 +33,9 @@ VALUES = {
 # Fields that say so where they are set, and methods where they are called; functions that say so by `None`.
 MEMBERS = {"is_whole": WANT, "has_failed": FAULT, "fail": FAULT, "fault": FAULT}
 GIVE_NONE = {"read_once": FAULT, "write_once": FAULT}
+# Growths, and what they may be handed.
+GROWTHS = re.compile(r"(.*::)?(with_capacity|reserve|reserve_exact|resize)")
+PLAIN = re.compile(r"(?!if$|match$|MAX$|MIN$|pow$|\d[\d_]{4})\w+|::|[.,()&+*/-]")
 
 # A token, or what is none: a comment, or an import for clauses.
 TOKEN = re.compile(
@@ -160,6 +166,8 @@ class Source:
         path, before, after = "".join(self.words[number:end]), self.words[number - 1], self.words[end]
         if {before, after} & {"==", "!="}:
             return None, end
+        if GROWTHS.fullmatch(path) and after == "(" and not all(PLAIN.fullmatch(it) for it in self.words[end : self.close[end]]):
+            return WANT, self.close[end] + 1
         if path in MEMBERS and (after in {":", "="} or before + after == ".("):
             return MEMBERS[path], end_of(self.words, self.close, end, {",", ";"})
         if path == "None":

@@ -98,6 +98,8 @@ printf '1 10 1\n0 0 0 0 0 100 0 0 0\n1 30 0 4 0 30 0 0 2\n2 31 0 -4 0 60 0 1 0\n
 expect 1 'Route #1: 3 4' 'at 0 1 1 62' solve lilim "$folder/two-pairs.txt" 1
 [ "$("$program" solve lilim "$folder/two-pairs.txt" 0 2>&1 >/dev/null)" = "$(printf 'at 0 1 1 62\nunplanned 1: 3\nwhy 3: alone: a vehicle can serve it\nwhy 3: vehicle 1: stop 1 would start 60 late\nwhy 3: fleet: 1 of 1 vehicles are used\n')" ] || fail "solve: two pairs for one vehicle"
 [ "$("$program" solve lilim "$folder/two-pairs.txt" 0 2>/dev/null)" = 'Route #1: 1 2' ] || fail "solve: the routes of a plan that is not whole"
+# The plan is handed on before it is known why: in one pipe it stands before the reasons.
+[ "$("$program" solve lilim "$folder/two-pairs.txt" 0 2>&1)" = "$(printf 'at 0 1 1 62\nRoute #1: 1 2\nunplanned 1: 3\nwhy 3: alone: a vehicle can serve it\nwhy 3: vehicle 1: stop 1 would start 60 late\nwhy 3: fleet: 1 of 1 vehicles are used\n')" ] || fail "solve: the plan waits for the reasons"
 # The optimum of an instance of Christofides and Eilon (1969), with each of three seeds.
 for seed in 1 2 3; do
     "$program" solve vrp E-n51-k5.vrp 100000 "$seed" 2>/dev/null >"$folder/E-n51-k5.sol" || fail "solve E-n51-k5 by seed $seed: status $?"
@@ -170,22 +172,27 @@ cmp -s -- "$folder/lc101.sol" "$solved/lc101.sol" || fail "solves: not the solut
 [ "$(find "$solved" | wc -l)" = 5 ] || fail "solves: another file is there"
 "$program" solves lilim - 500 9 <"$folder/tasks" 2>/dev/null | head -n 1 | grep -q 'there already' || fail "solves -: not there already"
 
-# Each answer is handed on as soon as it is known: the next file, whose name may stand there already, has not come yet.
+# Each answer is handed on as soon as it is known, whatever it is: the next file, whose name may stand there already, has not come yet.
 mkfifo -- "$folder/late" || exit 1
 for words in audits solves; do
-    printf 'one-pair.txt\t%s\n%s\t%s\n' "$solved/$words.sol" "$folder/late" "$solved/late.sol" >"$folder/tasks"
-    [ "$words" = solves ] || cp one-pair.sol "$solved/audits.sol"
-    [ "$words" = solves ] && steps=0 || steps=
+    case $words in
+        audits) cp one-pair.sol "$solved/audits.sol" && cp one-pair-reversed.sol "$solved/audits-2.sol" && cp one-pair.sol "$solved/audits-3.sol"
+            steps='' second=$top/examples/one-pair.txt answer='broken 5 route 1 place 1 stop 2' ;;
+        solves) steps=0 second=$folder/two-pairs.txt answer='unplanned 1: 3' ;;
+    esac
+    printf 'one-pair.txt\t%s\n%s\t%s\none-pair.sol\t%s\nnot two paths\n%s\t%s\n' \
+        "$solved/$words.sol" "$second" "$solved/$words-2.sol" "$solved/$words-3.sol" "$folder/late" "$solved/late.sol" >"$folder/tasks"
     # shellcheck disable=SC2086 # no word where there are no steps
     "$program" "$words" lilim "$folder/tasks" $steps >"$folder/output" 2>/dev/null &
     told=$!
-    wanted=$(printf 'one-pair.txt\t%s\tpass 0 1 20' "$solved/$words.sol")
+    wanted=$(printf 'one-pair.txt\t%s\tpass 0 1 20\n%s\t%s\t%s\none-pair.sol\t%s\tinstance FieldCount 1\nbad line\n' \
+        "$solved/$words.sol" "$second" "$solved/$words-2.sol" "$answer" "$solved/$words-3.sol")
     tries=0
-    until [ "$(head -n 1 "$folder/output")" = "$wanted" ] || [ "$tries" = 100 ]; do
+    until [ "$(head -n 4 "$folder/output")" = "$wanted" ] || [ "$tries" = 100 ]; do
         sleep 0.1
         tries=$((tries + 1))
     done
-    [ "$(head -n 1 "$folder/output")" = "$wanted" ] || fail "$words: an answer waits for the next file"
+    [ "$(head -n 4 "$folder/output")" = "$wanted" ] || fail "$words: an answer waits for the next file"
     timeout 10 sh -c 'cat one-pair.txt >"$1"' sh "$folder/late"
     [ "$words" = solves ] || rm -f -- "$solved/late.sol"
     wait "$told"
