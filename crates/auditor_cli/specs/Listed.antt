@@ -1,17 +1,16 @@
 -- What is told of a list of pairs of files, line by line. `was` is what is known before, and `now` behind it.
-use Rattle.std.specs.Prelude.{◌≡◌, ◌⊎◌, ℕ, ◌==◌, ◌&&◌, ◌||◌, not, Bool, if◌then◌else◌, List, [], ◌∷◌, ◌++◌, length, take, drop, codes, Option, Some, None, Ok, Err, max, option_and_then, option_map}
+use Rattle.std.specs.Prelude.{◌≡◌, ◌⊎◌, ℕ, ◌-◌, ◌==◌, ◌&&◌, ◌||◌, not, Bool, if◌then◌else◌, List, [], ◌∷◌, ◌++◌, All, length, slice_index_or, take, drop, codes, Option, Some, None, Ok, Err, max, option_and_then, option_map}
 use Rattle.std.specs.Io.KnownBytes.{Appends}
-use Rattle.std.specs.List.{position_or_len}
+use Rattle.std.specs.List.{concat, flat_map, position_or_len}
 use Rattle.std.specs.Str.{IsUtf8, bytes_eq}
 use Rattle.std.specs.declared.io.ErrorKind.{ErrorKind}
 use Rattle.plan_types.specs.declared.requests.Kind.{Kind}
-use Rattle.text_lines.specs.Lines.{lines_of}
+use Rattle.text_lines.specs.Lines.{HasNoFeed, ended, lines_of}
 use Rattle.best_known.specs.BestKnown.{BestCost, best_in}
 use Rattle.auditor_cli.specs.Compared.{IsComparedAnswer}
 use Rattle.auditor_cli.specs.Files.{IsToldOfFiles, IsToldOfFilesBy}
 use Rattle.auditor_cli.specs.Reads.{FileRead}
-use Rattle.text_lines.specs.Lines.{ended}
-use Rattle.auditor_cli.specs.Telling.{TellsUnread}
+use Rattle.auditor_cli.specs.Telling.{TellsUnread, unread_line, unread_status}
 
 -- `-` is standard input
 abbrev pub list_path : List ℕ → List ℕ
@@ -129,8 +128,48 @@ IsComparedLine k l was now text status =
 abbrev pub IsAudited : Kind → List ℕ → List FileRead → List FileRead → List ℕ → ℕ → Type 0
 IsAudited k l was now text status = IsToldOfPair k l was now text status ⊎ (NamesNone l × IsComparedLine k l was now text status)
 
-abbrev pub and_read : FileRead → List FileRead → List FileRead
-and_read read was = read ∷ was
+-- ---- a list that is read line by line
+
+-- no byte of a text but its last one is a line feed, and the last one is
+abbrev pub IsEnded : List ℕ → Type 0
+IsEnded line = (piece : List ℕ) × HasNoFeed piece × (line ≡ ended piece)
+
+abbrev pub ends_at_feed : List ℕ → Bool
+ends_at_feed text = slice_index_or text (length text - 1) 0 == 10
+
+-- A line was read, with its line feed if it has one, and told before anything else was read of the list. There may be none.
+abbrev pub IsTakenLine : Kind → List ℕ → List ℕ → List FileRead → List FileRead → List ℕ → ℕ → Type 0
+IsTakenLine k path line was now text status = AreTold (IsAudited k) (lines_of line) ((path, Ok line) ∷ was) now text status
+
+-- The list was read to its end: lines with their line feeds, and what has none, which may be nothing. What was told are the lines of all
+-- its bytes.
+pub record IsTakenWhole (k : Kind) (path : List ℕ) (was now : List FileRead) (text : List ℕ) (status : ℕ) : Type 0 where
+  pub lines : List (List ℕ)
+  pub last : List ℕ
+  pub ended_lines : All IsEnded lines
+  pub unended : HasNoFeed last
+  pub told : AreTold (IsTakenLine k path) (lines ++ last ∷ []) was now text status
+  pub all_lines : flat_map lines_of (lines ++ last ∷ []) ≡ lines_of (concat lines ++ last)
+
+-- It can't be read, or not on: behind what is told of the lines before stands that.
+pub record IsBrokenOff (k : Kind) (path : List ℕ) (was now : List FileRead) (text : List ℕ) (status : ℕ) : Type 0 where
+  pub lines : List (List ℕ)
+  pub ended_lines : All IsEnded lines
+  pub between : List FileRead
+  pub before : List ℕ
+  pub greatest : ℕ
+  pub told : AreTold (IsTakenLine k path) lines was between before greatest
+  pub all_lines : flat_map lines_of lines ≡ lines_of (concat lines)
+  pub error : ErrorKind
+  pub noted : now ≡ (path, Err error) ∷ between
+  pub text_is : text ≡ before ++ unread_line path error
+  pub status_is : status ≡ max greatest (unread_status error)
+
+abbrev pub IsTaken : Kind → List ℕ → List FileRead → List FileRead → List ℕ → ℕ → Type 0
+IsTaken k path was now text status = IsTakenWhole k path was now text status ⊎ IsBrokenOff k path was now text status
+
+abbrev pub TellsTaken : Kind → List ℕ → List FileRead → List FileRead → Option (List ℕ) → Option (List ℕ) → ℕ → Type 0
+TellsTaken k path was now before after status = (text : List ℕ) × IsTaken k path was now text status × Appends before after text
 
 abbrev pub TellsList : Kind → List ℕ → List FileRead → List FileRead → Option (List ℕ) → Option (List ℕ) → ℕ → Type 0
-TellsList k list was now before after status = TellsListBy (IsAudited k) and_read list was now before after status
+TellsList k list was now before after status = TellsTaken k (list_path list) was now before after status

@@ -1,17 +1,21 @@
 //! The files that the words name: those that are read, and those that are made.
-ghost use Rattle.std.specs.Prelude.{◌≡◌, List, [], ◌∷◌, MatchResult};
+ghost use Rattle.std.specs.Prelude.{◌≡◌, List, [], ◌∷◌, IfOk, MatchResult};
+ghost use Rattle.std.specs.Io.{StopsAt};
 ghost use Rattle.std.specs.IoError.{error_kind};
 ghost use Rattle.auditor_cli.specs.Reads.{FileRead, FileWrite};
 
 use crate::file_record::{FileRecord, Outcome};
 use std::fs::{File, OpenOptions};
-use std::io::{ErrorKind, Write};
+use std::io::{BufRead, BufReader, ErrorKind, Write};
 use std::path::Path;
 use std::rt::Files;
 use std::{fs, io};
 
-/// What reads files, each whole, by its path. It tells what it read and what that gave.
+/// What reads files by their paths, each whole or line by line. It tells what it read and what that gave.
 pub trait ReadFiles {
+    /// A file that is read line by line.
+    type Opened: Drop;
+
     /// What was read so far, the newest first.
     ghost reads: { Self → List FileRead };
 
@@ -20,6 +24,20 @@ pub trait ReadFiles {
         ensures { MatchResult result
             (λ text. reads self.new ≡ (path.now, Ok text.items) ∷ reads self.old)
             (λ error. reads self.new ≡ (path.now, Err (error_kind error)) ∷ reads self.old) };
+
+    /// Opens a file to be read line by line, and reads nothing of it.
+    fn open(&mut self, path: &str) -> io::Result<Self::Opened>
+        ensures { MatchResult result
+            (λ _. reads self.new ≡ reads self.old)
+            (λ error. reads self.new ≡ (path.now, Err (error_kind error)) ∷ reads self.old) };
+
+    /// Reads the next line of a file that was opened by this path, with the line feed that ends it. Without one it is the rest of
+    /// the file, and nothing at its end.
+    fn read_line(&mut self, path: &str, opened: &mut Self::Opened) -> io::Result<Vec<u8>>
+        ensures noted { MatchResult result
+            (λ line. reads self.new ≡ (path.now, Ok line.items) ∷ reads self.old)
+            (λ error. reads self.new ≡ (path.now, Err (error_kind error)) ∷ reads self.old) }
+        ensures line { IfOk result (λ line. StopsAt line.items 10) };
 }
 
 /// What makes new files, each whole, by its path. It tells what it wrote where, and where it wrote nothing.
@@ -61,25 +79,70 @@ impl<'a, R> HostFiles<'a, R> {
     }
 }
 
+impl<'a, R: Eprint> HostFiles<'a, R> {
+    // Tells and notes why a file can't be read.
+    fn fail(&mut self, path: &str, error: &io::Error)
+        ensures { self.new.noted.entries
+            ≡ (path.now, Err (error_kind error.now)) ∷ self.old.noted.entries }
+    {
+        let _ = eprintln!(self.rt; "planner: {path}: {error}");
+        let kind = error.kind();
+        self.noted
+            .note(path.as_bytes(), &Outcome::Failed(kind), &[]);
+    }
+}
+
 impl<'a, R: Files + Eprint + AllocGlobal> ReadFiles for HostFiles<'a, R> {
+    type Opened = BufReader<R::File>;
+
     ghost reads = { λ f. f.noted.entries };
 
     fn read(&mut self, path: &str) -> io::Result<Vec<u8>> {
-        let source = if path == "-" { "/dev/stdin" } else { path };
-        match fs::read(self.rt, source) {
+        match fs::read(self.rt, source_of(path)) {
             Ok(text) => {
                 self.noted.note(path.as_bytes(), &Outcome::Done, &text);
                 Ok(text)
             }
             Err(error) => {
-                let _ = eprintln!(self.rt; "planner: {path}: {error}");
-                let kind = error.kind();
-                self.noted
-                    .note(path.as_bytes(), &Outcome::Failed(kind), &[]);
+                self.fail(path, &error);
                 Err(error)
             }
         }
     }
+
+    fn open(&mut self, path: &str) -> io::Result<BufReader<R::File>> {
+        match open_under(self.rt, path) {
+            Ok(opened) => Ok(opened),
+            Err(error) => {
+                self.fail(path, &error);
+                Err(error)
+            }
+        }
+    }
+
+    fn read_line(&mut self, path: &str, opened: &mut BufReader<R::File>) -> io::Result<Vec<u8>> {
+        let mut line = Vec::new(self.rt.alloc());
+        match opened.read_until(b'\n', &mut line) {
+            Ok(_) => {
+                self.noted.note(path.as_bytes(), &Outcome::Done, &line);
+                Ok(line)
+            }
+            Err(error) => {
+                self.fail(path, &error);
+                Err(error)
+            }
+        }
+    }
+}
+
+// The path of the system.
+fn source_of(path: &str) -> &str {
+    if path == "-" { "/dev/stdin" } else { path }
+}
+
+fn open_under<R: Files + AllocGlobal>(rt: &R, path: &str) -> io::Result<BufReader<R::File>> {
+    let file = fs::open(rt, source_of(path))?;
+    BufReader::new(rt.alloc(), file)
 }
 
 /// New files of the system, each on the disk before it is told as written. Why one can't be made is told on standard error, in

@@ -7,7 +7,8 @@
 //! Source: this project's own; status 64 is `EX_USAGE` of BSD's `sysexits.h`.
 //!
 //! How it works: each word has one function over whatever reads files and the writers (`audit_noted`, `audits_read`,
-//! `explain_read`). Both texts are read whole before either is looked into.
+//! `explain_read`). Both texts are read whole before either is looked into. A list is read line by line, and each line is answered
+//! before the next one is read.
 //!
 //! Modules, in reading order:
 //! - `status`: the statuses that the program ends with
@@ -29,7 +30,8 @@
 //!   what was written to the output and to the errors, and the status that goes with it, but for an answer that could not be
 //!   printed; of words that ask for more than an audit one line on the errors and status 64
 //! - `audits_read` (`TellsList`): of each line what `audit` tells of that pair alone, behind a pass also how its cost compares with
-//!   the best-known one that the line names; or `bad line`; the greatest status
+//!   the best-known one that the line names; or `bad line`; the greatest status. The lines are those of all bytes that were read, and
+//!   the files of a line were read before the next line was. Behind them a list that can't be read on is told
 //! - `explain_read` (`TellsExplained`): the audit's line and what it rests on
 //! - `HostFiles` notes each file of the system with what reading it gave, `HostNewFiles` each that was to be made with what was
 //!   written; what is under a path no contract says

@@ -3,8 +3,9 @@ ghost use Rattle.std.specs.Prelude.{◌≡◌, ◌≤◌, IfOk, MatchOption, cod
 ghost use Rattle.std.specs.List.{position_or_len};
 ghost use Rattle.std.specs.Io.KnownBytes.{Appends};
 ghost use Rattle.text_lines.specs.Lines.{ended};
-ghost use Rattle.auditor_cli.specs.Listed.{ComparesNone, IsAudited, IsComparedLine, IsComparedPair, IsPair, NamesNone, TellsLine, TellsLines, TellsList, compared_parts, cut, is_path, is_tab, list_path, parts_of};
+ghost use Rattle.auditor_cli.specs.Listed.{ComparesNone, IsAudited, IsComparedLine, IsComparedPair, IsPair, NamesNone, TellsLine, TellsLines, TellsList, TellsTaken, compared_parts, cut, ends_at_feed, is_path, is_tab, list_path, parts_of};
 ghost use Rattle.auditor_cli.specs.Reads.{IsGrown, IsReadFirst};
+ghost use Rattle.auditor_cli.specs.Telling.{unread_line, unread_status};
 
 use crate::audited::audit_read;
 use crate::compared::compare_read;
@@ -15,7 +16,7 @@ use best_known::BestKnown;
 use command_line::Paths;
 use plan_types::Kind;
 use std::alloc::Global;
-use std::io::Write;
+use std::io::{ErrorKind, Write};
 use std::{io, str};
 use text_lines::Lines;
 
@@ -27,7 +28,8 @@ struct ComparedPair<'a> {
     best: BestKnown,
 }
 
-/// Reads a list, and audits the pair that each of its lines names, as `audit_read` does. Gives the greatest status.
+/// Reads a list line by line, and audits the pair that each names, as `audit_read` does, before it reads the next one. Gives the
+/// greatest status.
 pub fn audits_read<F: ReadFiles, W: Write>(
     alloc: Global,
     kind: Kind,
@@ -41,10 +43,63 @@ pub fn audits_read<F: ReadFiles, W: Write>(
         (W.contents output.old) (W.contents output.new)) }
 {
     let path = list_path(list);
-    match files.read(path) {
-        Ok(text) => audit_lines(alloc, kind, Lines::new(&text), files, output),
+    match files.open(path) {
+        Ok(opened) => audit_opened(alloc, kind, path, opened, files, output),
         Err(error) => tell_unread(output, path, error.kind()),
     }
+}
+
+// Audits the pair that each line of an opened list names.
+fn audit_opened<F: ReadFiles, W: Write>(
+    alloc: Global,
+    kind: Kind,
+    path: &str,
+    opened: F::Opened,
+    files: &mut F,
+    output: &mut W,
+) -> io::Result<u8>
+    ensures status { IfOk result (λ status. status ≤ 4) }
+    ensures reads { IsReadFirst path.now (F.reads files.old) (F.reads files.new) }
+    ensures told { IfOk result (TellsTaken kind path.now (F.reads files.old) (F.reads files.new)
+        (W.contents output.old) (W.contents output.new)) }
+{
+    let mut opened = opened;
+    let mut greatest = DONE;
+    for _ in 0..u64::MAX {
+        let line = match files.read_line(path, &mut opened) {
+            Ok(line) => line,
+            Err(error) => return tell_broken_off(greatest, output, path, error.kind()),
+        };
+        let status = audit_lines(alloc, kind, Lines::new(&line), files, output)?;
+        greatest = greater(greatest, status);
+        if !ends_at_feed(&line) {
+            return Ok(greatest);
+        }
+    }
+    Err(io::Error::from(ErrorKind::FileTooLarge))
+}
+
+// Tells a list that can't be read on. Gives the greatest status.
+fn tell_broken_off<W: Write>(
+    greatest: u8,
+    output: &mut W,
+    path: &str,
+    kind: ErrorKind,
+) -> io::Result<u8>
+    requires { greatest ≤ 4 }
+    ensures bound { IfOk result (λ status. status ≤ 4) }
+    ensures told { IfOk result (λ status. (status ≡ max greatest (unread_status kind))
+        × Appends (W.contents output.old) (W.contents output.new) (unread_line path.now kind)) }
+{
+    let status = tell_unread(output, path, kind)?;
+    Ok(greater(greatest, status))
+}
+
+// Whether a line feed is the last byte.
+fn ends_at_feed(text: &[u8]) -> bool
+    ensures { result ≡ ends_at_feed text.now }
+{
+    matches!(text, [.., b'\n'])
 }
 
 /// The path by which the list is read.

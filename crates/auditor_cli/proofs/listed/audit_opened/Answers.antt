@@ -1,0 +1,89 @@
+-- Each line adds its own, and behind the last one all is told.
+use Rattle.std.proofs.Common.{◌≡◌, ◌∙◌, ◌∷◌, Err, Ok, ap, false, inr, rules, subst, sym, true}
+use Rattle.std.specs.IoError.{error_kind}
+use Rattle.std.proofs.lemmas.Result.{IfOk-weaker}
+use Rattle.text_lines.specs.Lines.{lines_of}
+use Rattle.auditor_cli.specs.Listed.{IsAudited, TellsTaken, ends_at_feed}
+use Rattle.auditor_cli.proofs.ListLemmas.{lines_as, read_as}
+use Rattle.auditor_cli.proofs.TakenLemmas.{IsSoFar, at_end, broken_off, ended_line, first_on, first_read, one_more, unended_rest}
+use Rattle.auditor_cli.proofs.listed.audit_opened.Goals as goal
+
+pub returns-in-Err-clause-reads : goal.returns-in-Err-clause-reads
+returns-in-Err-clause-reads g c =
+    first_read c.args.path.now (g.F.ReadFiles.reads c.args.files.now) c.loop.counter (g.F.ReadFiles.reads c.loop.files) (g.F.ReadFiles.reads c.read_line.new.self) (Err (error_kind c.in-Err.error))
+    c.loop.invariant.2 c.in-Err.ensures.noted
+
+pub returns-in-Err-clause-told : goal.returns-in-Err-clause-told
+returns-in-Err-clause-told g c =
+    let path = c.args.path.now in
+    let was = g.F.ReadFiles.reads c.args.files.now in
+    let next = g.F.ReadFiles.reads c.loop.files in
+    let later = g.F.ReadFiles.reads c.read_line.new.self in
+    let before = g.W.Write.contents c.args.output.now in
+    let now = g.W.Write.contents c.loop.output in
+    let after = g.W.Write.contents c.tell_broken_off.new.output in
+    let noted : later ≡ (path, Err c.kind.result) ∷ next = c.in-Err.ensures.noted ∙ ap (λ kind. (path, Err kind) ∷ next) (sym c.kind.ensures) in
+    IfOk-weaker c.tell_broken_off.result _ _
+    (λ status told. broken_off c.args.kind path was before next later now after c.loop.greatest c.loop.invariant.0 c.kind.result status noted told.0 told.1)
+    c.tell_broken_off.ensures.told
+
+pub returns-in_err-status-clause-reads : goal.returns-in_err-status-clause-reads
+returns-in_err-status-clause-reads g c =
+    let was = g.F.ReadFiles.reads c.args.files.now in
+    let later = g.F.ReadFiles.reads c.read_line.new.self in
+    first_on c.args.path.now was later (g.F.ReadFiles.reads c.audit_lines.new.files)
+    (first_read c.args.path.now was c.loop.counter (g.F.ReadFiles.reads c.loop.files) later (Ok c.in-Ok.line.items) c.loop.invariant.2 c.in-Ok.ensures.noted)
+    c.audit_lines.ensures.reads
+
+pub returns-then-not-ends_at_feed-clause-reads : goal.returns-then-not-ends_at_feed-clause-reads
+returns-then-not-ends_at_feed-clause-reads g c =
+    let was = g.F.ReadFiles.reads c.args.files.now in
+    let later = g.F.ReadFiles.reads c.read_line.new.self in
+    first_on c.args.path.now was later (g.F.ReadFiles.reads c.audit_lines.new.files)
+    (first_read c.args.path.now was c.loop.counter (g.F.ReadFiles.reads c.loop.files) later (Ok c.in-Ok.line.items) c.loop.invariant.2 c.in-Ok.ensures.noted)
+    c.audit_lines.ensures.reads
+
+pub returns-then-not-ends_at_feed-clause-told : goal.returns-then-not-ends_at_feed-clause-told
+returns-then-not-ends_at_feed-clause-told g c =
+    let k = c.args.kind in
+    let path = c.args.path.now in
+    let was = g.F.ReadFiles.reads c.args.files.now in
+    let next = g.F.ReadFiles.reads c.loop.files in
+    let mid = g.F.ReadFiles.reads c.read_line.new.self in
+    let later = g.F.ReadFiles.reads c.audit_lines.new.files in
+    let before = g.W.Write.contents c.args.output.now in
+    let now = g.W.Write.contents c.loop.output in
+    let after = g.W.Write.contents c.audit_lines.new.output in
+    let line = c.in-Ok.line.items in
+    let status = c.in_ok-status.status in
+    let are : c.new.result ≡ lines_of line = c.new.ensures.lines ∙ ap lines_of c.deref.ensures.value in
+    let told =
+    read_as (IsAudited k) (lines_of line) mid ((path, Ok line) ∷ next) later now after status c.in-Ok.ensures.noted
+    (lines_as (IsAudited k) c.new.result (lines_of line) mid later now after status are c.in_ok-status.ensures.told) in
+    let unended : ends_at_feed line ≡ false = search rules in
+    subst (TellsTaken k path was later before after) c.greater-greatest.ensures.value
+    (at_end k path was before next later now after c.loop.greatest c.loop.invariant.0 line status (unended_rest line c.in-Ok.ensures.line unended) told)
+
+pub loop-preserved : goal.loop-preserved
+loop-preserved g c =
+    let k = c.args.kind in
+    let path = c.args.path.now in
+    let was = g.F.ReadFiles.reads c.args.files.now in
+    let next = g.F.ReadFiles.reads c.loop.files in
+    let mid = g.F.ReadFiles.reads c.read_line.new.self in
+    let later = g.F.ReadFiles.reads c.audit_lines.new.files in
+    let before = g.W.Write.contents c.args.output.now in
+    let now = g.W.Write.contents c.loop.output in
+    let after = g.W.Write.contents c.audit_lines.new.output in
+    let line = c.in-Ok.line.items in
+    let status = c.in_ok-status.status in
+    let are : c.new.result ≡ lines_of line = c.new.ensures.lines ∙ ap lines_of c.deref.ensures.value in
+    let told =
+    read_as (IsAudited k) (lines_of line) mid ((path, Ok line) ∷ next) later now after status c.in-Ok.ensures.noted
+    (lines_as (IsAudited k) c.new.result (lines_of line) mid later now after status are c.in_ok-status.ensures.told) in
+    let is_ended : ends_at_feed line ≡ true = search rules in (
+      subst (IsSoFar k path was before later after) c.greater-greatest.ensures.value
+          (one_more k path was before next later now after c.loop.greatest c.loop.invariant.0 line status (ended_line line c.in-Ok.ensures.line is_ended) told),
+      c.greater-greatest.ensures.bound,
+      inr (first_on path was mid later (first_read path was c.loop.counter next mid (Ok line) c.loop.invariant.2 c.in-Ok.ensures.noted) c.audit_lines.ensures.reads),
+    )
