@@ -76,19 +76,28 @@ draw_app = with_plan_rules (new_app (codes "draw")) (new_rule (codes "INSTANCE")
 abbrev pub versioned_app : Text → App
 versioned_app name = on_top (λ s. record s { has_version = true }) (new_app name)
 
+-- with the commands that take a solution
+abbrev pub with_solution_apps : Bor (List (Bor Text)) → App → App
+with_solution_apps names above =
+    let audit = with_subcommand above (paths_app (codes "audit") names).top in
+    let audits = with_subcommand audit (audits_app names).top in
+    let explain = with_subcommand audits (paths_app (codes "explain") names).top in
+    with_subcommand (with_subcommand explain timetable_app.top) draw_app.top
+
+-- with the commands that make one
+abbrev pub with_search_apps : Bor (List (Bor Text)) → App → App
+with_search_apps names above = with_subcommand (with_subcommand above (solve_app names).top) (solves_app names).top
+
+-- with the commands that make or change a store
+abbrev pub with_store_apps : Bor (List (Bor Text)) → Bor (List (Bor Text)) → App → App
+with_store_apps names modes above =
+    let load = with_subcommand (with_subcommand above (store_app (codes "format")).top) (load_app names).top in
+    with_subcommand (with_subcommand load (run_app modes).top) upgrade_app.top
+
 -- one level of subcommands
 abbrev pub planner_app : Bor (List (Bor Text)) → Bor (List (Bor Text)) → App
 planner_app names modes =
-    let audit = with_subcommand (versioned_app (codes "planner")) (paths_app (codes "audit") names).top in
-    let audits = with_subcommand audit (audits_app names).top in
-    let explain = with_subcommand audits (paths_app (codes "explain") names).top in
-    let timetable = with_subcommand explain timetable_app.top in
-    let draw = with_subcommand timetable draw_app.top in
-    let solve = with_subcommand draw (solve_app names).top in
-    let solves = with_subcommand solve (solves_app names).top in
-    let format = with_subcommand solves (store_app (codes "format")).top in
-    let load = with_subcommand format (load_app names).top in
-    with_subcommand (with_subcommand load (run_app modes).top) upgrade_app.top
+    with_store_apps names modes (with_search_apps names (with_solution_apps names (versioned_app (codes "planner"))))
 
 abbrev pub kind_words : List Text
 kind_words = codes "lilim" ∷ codes "vrp" ∷ []

@@ -6,7 +6,7 @@ ghost use Rattle.std.specs.Prelude.{◌≡◌, Some, IfOk, codes, drop, map, opt
 ghost use Rattle.clap.specs.Words.{App, Rule, app_of, first_of, found_of, kind_of, new_app, new_rule, rows_of, subcommand_rows_of, with_rule, with_subcommand};
 ghost use Rattle.text_lines.specs.Numbers.{integer_of};
 ghost use Rattle.command_line.specs.Asked.{ArePositional, ReadsWords, as_u64, asked_of, paths_in, paths_of, run_in, kind_named, list_in, load_in, load_of, deviation_or_none, draw_from, draw_in, route_or_none, seed_named, seed_or_none, steps_named, store_in, store_timetable_from, tabs_named, task_in, task_of, tasks_in, tasks_of, timetable_from, timetable_in, told_by, told_by_other, told_of, told_of_store, upgrade_in};
-ghost use Rattle.command_line.specs.CommandLine.{IsKindNames, IsLeafCommand, IsModeNames, IsPlannerCommand, IsWord, audits_app, draw_app, load_app, mode_rule, paths_app, kind_rule, run_app, solve_app, solves_app, store_app, timetable_app, upgrade_app, with_plan_rules, word_rule};
+ghost use Rattle.command_line.specs.CommandLine.{IsKindNames, IsLeafCommand, IsModeNames, IsPlannerCommand, IsWord, audits_app, draw_app, load_app, mode_rule, paths_app, kind_rule, run_app, solve_app, solves_app, store_app, timetable_app, upgrade_app, with_plan_rules, with_search_apps, with_solution_apps, with_store_apps, word_rule};
 
 use crate::help::{
     ABOUT, AUDIT_ABOUT, AUDIT_ANSWERS, AUDITS_ABOUT, AUDITS_ANSWERS, DRAW_ABOUT, DRAW_ANSWERS,
@@ -233,20 +233,58 @@ fn planner_command<'a>(alloc: Global, lines: &'a str) -> Result<Command<'a>, Out
         .about(ABOUT)
         .version(VERSION)
         .after_help(STATUSES);
+    let planner = with_solution_commands(alloc, planner, kinds)?;
+    let planner = with_search_commands(alloc, planner, kinds)?;
+    with_store_commands(alloc, planner, kinds, mode_names(), lines)
+}
+
+// The command with those that take a solution.
+fn with_solution_commands<'a>(
+    alloc: Global,
+    above: Command<'a>,
+    kinds: &'a [&'a str],
+) -> Result<Command<'a>, OutOfMemory>
+    ensures { (a : App) → app_of above.entry ≡ a
+        → IfOk result (λ new. app_of new ≡ with_solution_apps kinds.entry a) }
+{
     let audit = paths_command(alloc, "audit", AUDIT_ABOUT, AUDIT_ANSWERS, kinds)?;
-    let planner = with_command(planner, audit)?;
-    let planner = with_command(planner, audits_command(alloc, kinds)?)?;
+    let above = with_command(above, audit)?;
+    let above = with_command(above, audits_command(alloc, kinds)?)?;
     let explain = paths_command(alloc, "explain", EXPLAIN_ABOUT, EXPLAIN_ANSWERS, kinds)?;
-    let planner = with_command(planner, explain)?;
-    let planner = with_command(planner, timetable_command(alloc)?)?;
-    let planner = with_command(planner, draw_command(alloc)?)?;
-    let planner = with_command(planner, solve_command(alloc, kinds)?)?;
-    let planner = with_command(planner, solves_command(alloc, kinds)?)?;
+    let above = with_command(above, explain)?;
+    let above = with_command(above, timetable_command(alloc)?)?;
+    with_command(above, draw_command(alloc)?)
+}
+
+// The command with those that make a solution.
+fn with_search_commands<'a>(
+    alloc: Global,
+    above: Command<'a>,
+    kinds: &'a [&'a str],
+) -> Result<Command<'a>, OutOfMemory>
+    ensures { (a : App) → app_of above.entry ≡ a
+        → IfOk result (λ new. app_of new ≡ with_search_apps kinds.entry a) }
+{
+    let above = with_command(above, solve_command(alloc, kinds)?)?;
+    with_command(above, solves_command(alloc, kinds)?)
+}
+
+// The command with those that make or change a store.
+fn with_store_commands<'a>(
+    alloc: Global,
+    above: Command<'a>,
+    kinds: &'a [&'a str],
+    modes: &'a [&'a str],
+    lines: &'a str,
+) -> Result<Command<'a>, OutOfMemory>
+    ensures { (a : App) → app_of above.entry ≡ a
+        → IfOk result (λ new. app_of new ≡ with_store_apps kinds.entry modes.entry a) }
+{
     let format = store_command(alloc, "format", FORMAT_ABOUT, FORMAT_ANSWERS)?;
-    let planner = with_command(planner, format)?;
-    let planner = with_command(planner, load_command(alloc, kinds)?)?;
-    let planner = with_command(planner, run_command(alloc, mode_names(), lines)?)?;
-    with_command(planner, upgrade_command(alloc)?)
+    let above = with_command(above, format)?;
+    let above = with_command(above, load_command(alloc, kinds)?)?;
+    let above = with_command(above, run_command(alloc, modes, lines)?)?;
+    with_command(above, upgrade_command(alloc)?)
 }
 
 // The words that name a kind of instance.

@@ -1,0 +1,11 @@
+-- The commands are added in turn.
+use Rattle.clap.specs.Words.{with_subcommand}
+use Rattle.command_line.specs.CommandLine.{solve_app, solves_app}
+use Rattle.command_line.proofs.words.with_search_commands.Goals as goal
+
+pub returns : goal.returns
+returns c = λ a is.
+    let names = c.args.kinds in
+    let solve = with_subcommand a (solve_app names).top in
+    let one = c.in_ok-above.ensures a (solve_app names) is c.in_ok-solve_command.ensures in
+    c.with_command-2.ensures solve (solves_app names) one c.in_ok-solves_command.ensures
