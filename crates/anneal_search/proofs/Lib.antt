@@ -6,5 +6,6 @@ mod NearLemmas
 mod NearestLemmas
 mod OrderLemmas
 mod SortLemmas
+mod StopLemmas
 mod StringExamples
 mod StringLemmas

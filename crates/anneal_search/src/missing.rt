@@ -14,7 +14,7 @@ pub(crate) fn with_names(
 ) -> Result<Vec<u32>, OutOfMemory>
     ensures { IfOk result (λ all. all.items ≡ with_names rising.now names.now) }
 {
-    let mut all = Vec::new(alloc);
+    let mut all = Vec::with_capacity(alloc, rising.len() + names.len())?;
     all.extend_from_slice(rising)?;
     for name in names {
         put_name(&mut all, *name)?;

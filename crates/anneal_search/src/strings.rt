@@ -97,35 +97,34 @@ fn longest(draft: &Draft) -> usize
     ensures value { result ≡ longest (draft_of draft.now) }
     ensures bound { result ≤ 10 }
 {
-    let used = used_count(draft);
+    let Totals { stops, used } = totals_of(draft);
     if used == 0 {
         return 0;
     }
-    (stop_count(draft) / u128::from(used)).min(10) as usize
+    (stops / u128::from(used)).min(10) as usize
 }
 
-// How many stops the routes have.
-fn stop_count(draft: &Draft) -> u128
-    ensures { result ≡ length (concat (draft_of draft.now)) }
-{
-    let mut count = 0;
-    for index in 0..draft.front() {
-        count += draft.route(index + 1).len() as u128;
-    }
-    count
+// How many stops the routes have, and how many routes are not empty.
+#[derive(Clone, Copy, Debug, PartialEq, Eq)]
+struct Totals {
+    stops: u128,
+    used: u64,
 }
 
-// How many routes are not empty.
-fn used_count(draft: &Draft) -> u64
-    ensures { result ≡ used_count (draft_of draft.now) }
+fn totals_of(draft: &Draft) -> Totals
+    ensures stops { result.stops ≡ length (concat (draft_of draft.now)) }
+    ensures used { result.used ≡ used_count (draft_of draft.now) }
 {
-    let mut count = 0;
+    let mut stops = 0;
+    let mut used = 0;
     for index in 0..draft.front() {
-        if !draft.route(index + 1).is_empty() {
-            count += 1;
+        let route = draft.route(index + 1);
+        stops += route.len() as u128;
+        if !route.is_empty() {
+            used += 1;
         }
     }
-    count
+    Totals { stops, used }
 }
 
 // How many routes are cut.
@@ -147,11 +146,12 @@ fn strings_of(
     words: &[u32; 16],
 ) -> Result<Vec<u32>, OutOfMemory>
     requires few { length nears.now ≤ 12 }
+    requires longest { longest ≤ 10 }
     requires places { All (IsInRoute (draft_of draft.now)) nears.now }
     ensures { IfOk result (λ stops. stops.items
         ≡ strings_of (draft_of draft.now) words.now longest 0 nears.now) }
 {
-    let mut stops = Vec::new(alloc);
+    let mut stops = Vec::with_capacity(alloc, nears.len() * longest)?;
     for index in 0..nears.len() {
         let near = nears[index];
         let route = draft.route(near.vehicle);

@@ -18,7 +18,7 @@
 //!
 //! Problem and pins are given in each call and tied to the draft by `IsDraftOf`, so the type borrows nothing.
 ghost use Rattle.std.specs.Prelude.{◌≡◌, ◌≤◌, ◌<◌, ◌-◌, ◌==◌, not, true, false, ℕ, List, Some, IfOk, MatchOption, IsTrue, length, slice_get, slice_set, slice_index_or};
-ghost use Rattle.slack_tables.specs.Course.{Course};
+ghost use Rattle.slack_tables.specs.Course.{Course, route_of, IsCourseIn};
 ghost use Rattle.plan_types.specs.Instance.{Instance};
 ghost use Rattle.plan_audit.specs.Passes.{passes};
 ghost use Rattle.route_sched.specs.Cost.{cost_of, has_stop, is_planned};
@@ -42,6 +42,7 @@ use crate::tours::{front_of, routes_of, seats_of, tours_of, vehicle_with};
 use plan_audit::passes_are_local;
 use plan_types::{Cost, OutOfMemory, Pins, Plan, Problem, Request};
 use route_sched::plan_cost;
+use slack_tables::RouteTable;
 use std::alloc::Global;
 use std::marker::Model;
 
@@ -161,6 +162,18 @@ impl Draft {
             return &[];
         }
         self.tours[index].stops()
+    }
+
+    /// The table of a vehicle's route in the draft. Vehicles count from 1.
+    #[inline(always)]
+    pub fn table(&self, vehicle: u64) -> &RouteTable
+        requires from_one { 1 ≤ vehicle }
+        requires within { vehicle ≤ length (draft_of self.now) }
+        ensures route { route_of result.now ≡ of_vehicle (draft_of self.now) vehicle }
+        ensures course { (p : Instance) (pins : List (List ℕ)) → IsDraftOf p pins self.now
+            → IsCourseIn p result.now }
+    {
+        self.tours[(vehicle - 1) as usize].table()
     }
 
     /// How many vehicles are to be asked for the stops of the draft: none behind them has any.

@@ -24,6 +24,9 @@ module _ (c : Course) (places : List Row) (table : AreKnown c places) (p : Insta
   pub start-read : (k : ℕ) (d : Row) → k ≤ length c.stops + 1 → (get_or places k d).at.start ≡ start p route k
   start-read k d h = let count = table.long in (table.known k d (omega arith)).at.start ∙ (ap (λ f. start_along f k) on ∙ sym (start-is p route k))
 
+  pub stop-read : (k : ℕ) (d : Row) → k ≤ length c.stops + 1 → (get_or places k d).at.stop ≡ place p route k
+  stop-read k d h = let count = table.long in (table.known k d (omega arith)).at.stop ∙ ap (λ f. f k) on
+
   pub load-read : (k : ℕ) (d : Row) → k ≤ length c.stops + 1 → (get_or places k d).at.load ≡ load p route k
   load-read k d h = let count = table.long in (table.known k d (omega arith)).at.load ∙ (ap (λ f. load_along f k) on ∙ sym (load-is p route k))
 

@@ -69,6 +69,14 @@ sides-le x y long short e up across reach = by (cases_lt x y)
     by (inl less) = let same = up less in rw (same.0, same.1) (omega arith)
     by (inr more) = let same = across more in rw (same.0, same.1) reach
 
+-- two stops are no nearer than along one axis
+pub side-le : (x y e : ℕ) → x * x + y * y ≤ e * (e + 1) → x ≤ e
+side-le x y e reach = by (cases_lt e x)
+  where
+    by : (e < x) ⊎ (x ≤ e) → x ≤ e
+    by (inr le) = le
+    by (inl less) = let square = mul-le (e + 1) (e + 1) x x (omega arith) (omega arith) in absurd (omega arith)
+
 -- no stop inside is nearer than the gaps to the span
 pub apart-le : DistancesAreNearestRoots → (a b : Stop) (x y w : ℕ) → ((e : ℕ) → x * x + y * y ≤ e * (e + 1) → w ≤ e) → x ≤ unsigned_abs (a.x -ℤ b.x) → y ≤ unsigned_abs (a.y -ℤ b.y) → w ≤ distance a b
 apart-le law a b x y w least gap_x gap_y =

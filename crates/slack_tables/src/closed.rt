@@ -12,7 +12,7 @@ ghost use Rattle.slack_tables.specs.Closed.{due_of, comes_late, is_due_before, A
 ghost use Rattle.slack_tables.specs.Driven.{IsSmallRow};
 ghost use Rattle.slack_tables.specs.Legs.{AreRising};
 
-use crate::legs::{least_leg_at, small_row};
+use crate::legs::{side_at, small_row};
 use crate::progress::{Limits, Row, is_in_time};
 use crate::ride::Detour;
 use nint_dist::detours_save_at_most_one;
@@ -30,12 +30,12 @@ pub(crate) fn first_open(limits: Limits, places: &[Row], pickup: &Stop, kept: us
     ensures closed { AreClosed limits places.now pickup.now kept result }
 {
     let first = first_due(limits, places, pickup, kept);
-    let mut to = least_leg_at(places, first - 1, pickup);
+    let mut to = side_at(places, first - 1, pickup);
     for i in first..places.len() {
         if is_past(limits, places, pickup, i) {
             return places.len();
         }
-        let from = least_leg_at(places, i, pickup);
+        let from = side_at(places, i, pickup);
         if !is_closed(limits, places, pickup, i, Detour { to, from }) {
             return i;
         }

@@ -11,7 +11,7 @@ ghost use Rattle.slack_tables.specs.Driven.{IsSmallRow};
 ghost use Rattle.slack_tables.specs.Legs.{AreLeast};
 
 use crate::progress::{Row, difference};
-use crate::span::least_between;
+use crate::span::{least_between, side_between};
 use crate::table::row_at;
 use nint_dist::dist;
 use plan_types::Stop;
@@ -48,6 +48,18 @@ pub(crate) fn least_leg_at(places: &[Row], k: usize, stop: &Stop) -> u64
 {
     let place = row_at(places, k);
     least_between(&place.at.stop, stop)
+}
+
+/// The same by the longer side alone, which is quicker to know and not as near.
+#[inline(always)]
+pub(crate) fn side_at(places: &[Row], k: usize, stop: &Stop) -> u64
+    requires within { k < length places.now }
+    ensures value { (d : Row) → result
+        ≤ distance (slice_index_or places.now k d).at.stop stop.now }
+    ensures bound { result ≤ 2 ^ 33 }
+{
+    let place = row_at(places, k);
+    side_between(&place.at.stop, stop)
 }
 
 // By how much the way from a place to the next gets longer over a stop so far from both.

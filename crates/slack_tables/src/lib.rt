@@ -34,6 +34,7 @@
 //! - `build`, `rebuild` and `remade` give the table of the route's course; a refused `rebuild` leaves the old
 //!   one; `remade` gives none, and `keeps_limits` is false, exactly where the route breaks the capacity or a
 //!   window;
+//! - `stop` is the stop at a place; `is_beyond` is true only where each stop of the route is farther away than asked;
 //! - `start`, `load` and `distance` are `route_sched`'s; `latest_start` is the greatest start from which no
 //!   later window and no return is missed;
 //! - `try_insert`: exactly by how much the new route is longer, or none exactly where it breaks a limit;

@@ -26,7 +26,7 @@ ghost use Rattle.slack_tables.specs.Ride.{IsSmallRide, IsNearRide};
 ghost use Rattle.slack_tables.specs.Scan.{AddsSingle, AddsPair, AddsDelivery, AreDear, IsNearUnderway, served_single, picked_up, gone_on, none_below, offered, accepted};
 
 use crate::closed::{first_open, is_closed, is_past};
-use crate::legs::{ROOM, SHORT, fill_least, is_hopeless, least_leg_at, leg_at, small_row};
+use crate::legs::{ROOM, SHORT, fill_least, is_hopeless, least_leg_at, leg_at, side_at, small_row};
 use crate::progress::{Limits, Progress, Row, difference, is_in_time};
 use crate::ride::{Detour, Ride, price, ride_of, ride_on, serve_below};
 use crate::span::Span;
@@ -127,9 +127,9 @@ pub(crate) fn best_single(
     ensures { (d : Row) → IsFirstOf (AddsSingle limits places.now stop.now kept below d) result }
 {
     let mut best = Best::none_below(below);
-    let mut to = least_leg_at(places, kept, stop);
+    let mut to = side_at(places, kept, stop);
     for i in kept + 1..places.len() {
-        let from = least_leg_at(places, i, stop);
+        let from = side_at(places, i, stop);
         let bound = best.bound;
         let distance = single_at(limits, places, stop, i, Detour { to, from }, bound);
         best.offer(distance, i, i);
@@ -139,30 +139,38 @@ pub(crate) fn best_single(
 }
 
 // The distance that a single adds at place `i`, where it is less than `below` and all limits are
-// kept. The price by a detour from below is compared first, since it takes no root.
+// kept. Prices by detours from below are compared first, the one that is quicker to know before the nearer one, since they take no
+// root.
 fn single_at(
     limits: Limits,
     places: &[Row],
     stop: &Stop,
     i: usize,
-    least: Detour,
+    near: Detour,
     below: i64,
 ) -> Option<i64>
     requires places { All IsSmallRow places.now }
     requires stop { IsVisit stop.now }
     requires from_one { 1 ≤ i }
     requires within { i < length places.now }
-    requires to { (d : Row) → least.to
+    requires to { (d : Row) → near.to
         ≤ distance (slice_index_or places.now (i - 1) d).at.stop stop.now }
-    requires from { (d : Row) → least.from
+    requires from { (d : Row) → near.from
         ≤ distance (slice_index_or places.now i d).at.stop stop.now }
-    requires to_small { least.to ≤ 2 ^ 33 }
-    requires from_small { least.from ≤ 2 ^ 33 }
+    requires to_small { near.to ≤ 2 ^ 33 }
+    requires from_small { near.from ≤ 2 ^ 33 }
     ensures { (d : Row) → result ≡ served_single below limits places.now stop.now i d }
 {
     let before = small_row(places, i - 1);
     let tail = small_row(places, i);
     let ride = ride_of(&before.at);
+    if price(&ride, near, tail) >= below {
+        return None;
+    }
+    let least = Detour {
+        to: least_leg_at(places, i - 1, stop),
+        from: least_leg_at(places, i, stop),
+    };
     if price(&ride, least, tail) >= below {
         return None;
     }

@@ -237,6 +237,17 @@ impl Span {
         inner.min(outer)
     }
 
+    /// Whether each stop inside is seen to be farther from this one than `reach`.
+    #[inline(always)]
+    pub(crate) fn is_beyond(&self, center: &Stop, reach: u32) -> bool
+        ensures { IsTrue result → (s : Stop) → IsInside self.now s → reach < distance center.now s }
+    {
+        distances_are_nearest_roots();
+        let dx = gap(self.west, self.east, center.x);
+        let dy = gap(self.south, self.north, center.y);
+        u64::from(reach) < longer_side(dx, dy)
+    }
+
     // No way from the stop to one inside is shorter.
     fn least_inside(&self, stop: &Stop) -> u64
         ensures below { (s : Stop) → IsInside self.now s → result ≤ distance s stop.now }
@@ -283,6 +294,28 @@ pub(crate) fn least_between(a: &Stop, b: &Stop) -> u64
 {
     distances_are_nearest_roots();
     least_way(u64::from(a.x.abs_diff(b.x)), u64::from(a.y.abs_diff(b.y)))
+}
+
+/// The way between two stops is no shorter than the longer of its sides along the axes. This is quicker to know than
+/// `least_between`, and not as near.
+#[inline(always)]
+pub(crate) fn side_between(a: &Stop, b: &Stop) -> u64
+    ensures below { result ≤ distance a.now b.now }
+    ensures bound { result ≤ 2 ^ 33 }
+{
+    distances_are_nearest_roots();
+    longer_side(u64::from(a.x.abs_diff(b.x)), u64::from(a.y.abs_diff(b.y)))
+}
+
+// No way with these differences of coordinates is shorter.
+#[inline(always)]
+fn longer_side(dx: u64, dy: u64) -> u64
+    requires dx { dx < 2 ^ 32 }
+    requires dy { dy < 2 ^ 32 }
+    ensures below { (e : ℕ) → dx * dx + dy * dy ≤ e * (e + 1) → result ≤ e }
+    ensures bound { result ≤ 2 ^ 33 }
+{
+    dx.max(dy)
 }
 
 // How far a coordinate is at least from those between two others.

@@ -6,11 +6,12 @@
 //! (`slack`). Windows are asked by kind where they are met, so in a table of a `Vrp` problem the starts are
 //! the only times that mean something.
 
-ghost use Rattle.std.specs.Prelude.{◌≡◌, ◌↔◌, ◌+◌, ◌-◌, ◌<◌, ◌≤◌, ℕ, Some, true, IsSome, IfOk, OnOk, OnErr, length, slice_index_or};
+ghost use Rattle.std.specs.Prelude.{◌≡◌, ◌↔◌, ◌+◌, ◌-◌, ◌<◌, ◌≤◌, ℕ, Some, true, IsSome, IsTrue, IfOk, OnOk, OnErr, length, slice_index_or};
 ghost use Rattle.plan_types.specs.Limits.{IsStop};
 ghost use Rattle.plan_types.specs.declared.requests.Stop.{Stop};
 ghost use Rattle.plan_types.specs.Request.{IsRequest};
 ghost use Rattle.plan_types.specs.Instance.{IsInstance, stop_at};
+ghost use Rattle.nint_dist.specs.Distance.{IsPlaced, distance};
 ghost use Rattle.route_sched.specs.Route.{AreLiveOnce, IsLive, place};
 ghost use Rattle.slack_tables.specs.Insertion.{request_named, KeepsLimits};
 ghost use Rattle.slack_tables.specs.declared.progress.Row.{Row};
@@ -21,6 +22,7 @@ ghost use Rattle.slack_tables.specs.Legs.{AreLinked};
 
 use crate::front::{behind_front, copy_front, same_front};
 use crate::insertion::{pair_added, single_added};
+use crate::legs::small_row;
 use crate::progress::{Limits, Progress, Row, driven_on, keeps};
 use crate::request::RequestWays;
 use crate::scan::{Addition, best_pair, best_single, rules_out_single};
@@ -156,6 +158,28 @@ impl RouteTable {
         ensures few { result ≤ 40001 }
     {
         self.places.len() - 2
+    }
+
+    /// The stop at a place. Place 0 is the depot, and so is that behind the last stop.
+    #[inline(always)]
+    pub fn stop(&self, index: usize) -> &Stop
+        requires { index ≤ length self.now.stops + 1 }
+        ensures stop { (p : Instance) (route : List ℕ) → course_of p route ≡ self.now
+            → result.now ≡ place p route index }
+        ensures placed { IsPlaced result.now }
+    {
+        let places = self.places.as_slice();
+        &small_row(places, index).at.stop
+    }
+
+    /// Whether a look at the route's extent tells that each stop is farther from this one than `reach`.
+    #[inline(always)]
+    pub fn is_beyond(&self, center: &Stop, reach: u32) -> bool
+        ensures { IsTrue result → (p : Instance) (route : List ℕ) → course_of p route ≡ self.now
+            → (k : ℕ) → 1 ≤ k → k ≤ length route
+            → reach < distance center.now (place p route k) }
+    {
+        self.span.is_beyond(center, reach)
     }
 
     /// When service starts at a place. Place 0 is the depot, that behind the last stop the return.

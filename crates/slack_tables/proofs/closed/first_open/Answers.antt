@@ -7,8 +7,8 @@ use Rattle.slack_tables.proofs.closed.first_open.Goals as goal
 pub loop-i-init : goal.loop-i-init
 loop-i-init c = record {
   behind = c.first_due-first.ensures.behind;
-  to = c.least_leg_at-to.ensures.value;
-  bound = c.least_leg_at-to.ensures.bound;
+  to = c.side_at-to.ensures.value;
+  bound = c.side_at-to.ensures.bound;
   closed = c.first_due-first.ensures.closed;
 }
 
@@ -18,8 +18,8 @@ loop-i-preserved c =
     let here : c.loop-i.i ≡ c.loop-i.i + 1 - 1 = omega arith in
     record {
       behind = omega arith;
-      to = λ d. subst (λ k. c.least_leg_at-from.result ≤ distance (get_or c.args.places.now k d).at.stop c.args.pickup.now) here (c.least_leg_at-from.ensures.value d);
-      bound = c.least_leg_at-from.ensures.bound;
+      to = λ d. subst (λ k. c.side_at-from.result ≤ distance (get_or c.args.places.now k d).at.stop c.args.pickup.now) here (c.side_at-from.ensures.value d);
+      bound = c.side_at-from.ensures.bound;
       closed = closed-more c.args.limits c.args.places.now c.args.pickup.now c.args.kept c.loop-i.i c.loop-i.invariant.closed (c.is_closed.ensures c.if-not-is_closed.false);
     }
 

@@ -11,8 +11,8 @@ use Rattle.slack_tables.proofs.scan.best_single.Goals as goal
 pub loop-i-init : goal.loop-i-init
 loop-i-init c = record {
   behind = omega arith;
-  to = λ d. (let here : c.args.kept ≡ c.args.kept + 1 - 1 = omega arith in subst (λ k. c.least_leg_at-to.result ≤ distance (get_or c.args.places.now k d).at.stop c.args.stop.now) here (c.least_leg_at-to.ensures.value d));
-  bound = c.least_leg_at-to.ensures.bound;
+  to = λ d. (let here : c.args.kept ≡ c.args.kept + 1 - 1 = omega arith in subst (λ k. c.side_at-to.result ≤ distance (get_or c.args.places.now k d).at.stop c.args.stop.now) here (c.side_at-to.ensures.value d));
+  bound = c.side_at-to.ensures.bound;
   best = λ d. singles-begin c.args.limits c.args.places.now c.args.stop.now c.args.kept d _ _ c.none_below-best.ensures;
 }
 
@@ -23,8 +23,8 @@ loop-i-preserved c =
     let bound : SFits w64 c.loop-i.best.bound = search rules in
     record {
       behind = omega arith;
-      to = λ d. subst (λ k. c.least_leg_at-from.result ≤ distance (get_or c.args.places.now k d).at.stop c.args.stop.now) here (c.least_leg_at-from.ensures.value d);
-      bound = c.least_leg_at-from.ensures.bound;
+      to = λ d. subst (λ k. c.side_at-from.result ≤ distance (get_or c.args.places.now k d).at.stop c.args.stop.now) here (c.side_at-from.ensures.value d);
+      bound = c.side_at-from.ensures.bound;
       best = λ d.
           (let served = subst (λ x. c.single_at-distance.result ≡ served_single x c.args.limits c.args.places.now c.args.stop.now c.loop-i.i d) (to_z-of_z w64 c.loop-i.best.bound bound) (c.single_at-distance.ensures d) in
           single-more c.args.limits c.args.places.now c.args.stop.now c.args.kept d _ c.loop-i.i c.loop-i.best (c.loop-i.invariant.best d) _ c.offer.new.self behind (omega arith) refl

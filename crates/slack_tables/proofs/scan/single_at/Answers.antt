@@ -19,8 +19,20 @@ returns-then-price-below c = λ d.
     let start = ap (λ (r : Ride). r.distance) c.ride_of-ride.ensures in
     let before = ap (λ (e : Row). e.at.distance) (c.small_row-before.ensures.place d) in
     let end = ap (λ (e : Row). e.at.distance) (c.small_row-tail.ensures.place d) in
-    let dear : c.args.below ≤ℤ price (ride_of (get_or c.args.places.now (c.args.i - 1) d).at) c.args.least.to c.args.least.from (get_or c.args.places.now c.args.i d) = omega (arith, ints) in
-    served-dear c.args.below c.args.limits (ride_of (get_or c.args.places.now (c.args.i - 1) d).at) (get_or c.args.places.now (c.args.i - 1) d).at.stop.service (distance (get_or c.args.places.now (c.args.i - 1) d).at.stop c.args.stop.now) c.args.stop.now (distance (get_or c.args.places.now c.args.i d).at.stop c.args.stop.now) (get_or c.args.places.now c.args.i d) c.args.least.to c.args.least.from (c.requires.to d) (c.requires.from d) dear)
+    let dear : c.args.below ≤ℤ price (ride_of (get_or c.args.places.now (c.args.i - 1) d).at) c.args.near.to c.args.near.from (get_or c.args.places.now c.args.i d) = omega (arith, ints) in
+    served-dear c.args.below c.args.limits (ride_of (get_or c.args.places.now (c.args.i - 1) d).at) (get_or c.args.places.now (c.args.i - 1) d).at.stop.service (distance (get_or c.args.places.now (c.args.i - 1) d).at.stop c.args.stop.now) c.args.stop.now (distance (get_or c.args.places.now c.args.i d).at.stop c.args.stop.now) (get_or c.args.places.now c.args.i d) c.args.near.to c.args.near.from (c.requires.to d) (c.requires.from d) dear)
+
+pub returns-then-price-below-2 : goal.returns-then-price-below-2
+returns-then-price-below-2 c = λ d.
+    (let below : SFits w64 c.args.below = record { sfits = c.ranges.below.sfits } in
+    let value = c.price-2.ensures in
+    let fits : SFits w64 c.price-2.result = search rules in
+    let le = bits-below c.args.below _ below (subst (λ (x : ℤ). to_z w64 (of_z w64 c.args.below) ≤ℤ x) (to_z-of_z w64 c.price-2.result fits) (int_le-true _ _ c.if-price-below-2.true)) in
+    let start = ap (λ (r : Ride). r.distance) c.ride_of-ride.ensures in
+    let before = ap (λ (e : Row). e.at.distance) (c.small_row-before.ensures.place d) in
+    let end = ap (λ (e : Row). e.at.distance) (c.small_row-tail.ensures.place d) in
+    let dear : c.args.below ≤ℤ price (ride_of (get_or c.args.places.now (c.args.i - 1) d).at) c.least_leg_at.result c.least_leg_at-2.result (get_or c.args.places.now c.args.i d) = omega (arith, ints) in
+    served-dear c.args.below c.args.limits (ride_of (get_or c.args.places.now (c.args.i - 1) d).at) (get_or c.args.places.now (c.args.i - 1) d).at.stop.service (distance (get_or c.args.places.now (c.args.i - 1) d).at.stop c.args.stop.now) c.args.stop.now (distance (get_or c.args.places.now c.args.i d).at.stop c.args.stop.now) (get_or c.args.places.now c.args.i d) c.least_leg_at.result c.least_leg_at-2.result (c.least_leg_at.ensures.value d) (c.least_leg_at-2.ensures.value d) dear)
 
 pub returns : goal.returns
 returns c = λ d.
