@@ -20,6 +20,7 @@ pub mod Leaving
 pub mod LimitRules
 pub mod NamedFound
 pub mod Logging
+pub mod Marking
 pub mod Places
 pub mod Placing
 pub mod Pricing

@@ -1,5 +1,6 @@
 //! The stops of a route without some requests.
-ghost use Rattle.std.specs.Prelude.{◌≡◌, not, filter, OnOk};
+ghost use Rattle.std.specs.Prelude.{◌≡◌, ◌%◌, ℕ, true, false, not, filter, length, slice_index_or, OnOk};
+ghost use Rattle.plan_audit.specs.Passes.{has};
 ghost use Rattle.move_ops.specs.Moves.{is_of_named};
 
 use plan_types::{OutOfMemory, Problem};
@@ -16,20 +17,39 @@ pub(crate) fn keep_others(
 {
     kept.clear();
     kept.reserve(route.len())?;
+    let marks = marks_of(names);
     for stop in route {
-        if !is_of_named(problem, names, *stop) {
+        if !is_of_named(problem, names, &marks, *stop) {
             kept.push(*stop)?;
         }
     }
     Ok(())
 }
 
-// Whether the stop is of one of the named requests.
-fn is_of_named(problem: &Problem, names: &[u32], stop: u32) -> bool
+// So many marks stand for all names, each for those that leave the same rest.
+const MARKS: usize = 64;
+
+// Which rests the names leave.
+fn marks_of(names: &[u32]) -> [bool; MARKS]
+    ensures len { length result ≡ 64 }
+    ensures marks { (n : ℕ) → has names.now n ≡ true → slice_index_or result (n % 64) false ≡ true }
+{
+    let mut marks = [false; MARKS];
+    for name in names {
+        marks[*name as usize % MARKS] = true;
+    }
+    marks
+}
+
+// Whether the stop is of one of the named requests. Most are of none, which a mark tells without a look at the names.
+fn is_of_named(problem: &Problem, names: &[u32], marks: &[bool; MARKS], stop: u32) -> bool
+    requires len { length marks.now ≡ 64 }
+    requires marks { (n : ℕ) → has names.now n ≡ true
+        → slice_index_or marks.now (n % 64) false ≡ true }
     ensures { result ≡ is_of_named problem.now names.now stop }
 {
     match problem.name_of(stop) {
-        Some(name) => names.contains(&name),
+        Some(name) => marks[name as usize % MARKS] && names.contains(&name),
         None => false,
     }
 }

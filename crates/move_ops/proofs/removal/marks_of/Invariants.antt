@@ -1,0 +1,9 @@
+use Rattle.std.proofs.Common.{◌≡◌, length}
+use Rattle.move_ops.proofs.Marking.{AreMarked}
+use Rattle.move_ops.proofs.removal.marks_of.Given as goal
+
+abbrev pub invariant-loop-name : goal.invariant-loop-name
+invariant-loop-name l = record {
+  len : length l.marks ≡ 64;
+  marked : AreMarked l.marks l.names l.name-index;
+}
