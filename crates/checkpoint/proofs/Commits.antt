@@ -3,11 +3,11 @@ use Rattle.std.proofs.Common.{◌≡◌, ◌⊎◌, inl, inr, ⊎_elim, ℕ, ◌
 use Rattle.sector_disk.specs.Image.{sector, written, Mixes}
 use Rattle.sector_disk.specs.ImageLaws.{length-written, mixes_outside}
 use Rattle.sector_disk.specs.Sectors.{Reached}
+use Rattle.sector_disk.specs.Calls.{IsInCommit}
 use Rattle.checkpoint.specs.declared.headers.Header.{Header}
 use Rattle.checkpoint.specs.Headers.{header_bytes}
 use Rattle.checkpoint.specs.Layouts.{half_at, version_2}
-use Rattle.checkpoint.specs.Stores.{Stores, snapshot_in, begins_with}
-use Rattle.checkpoint.specs.Moments.{IsInCommit}
+use Rattle.checkpoint.specs.Stores.{Stores, HasStored, snapshot_in, begins_with}
 use Rattle.checkpoint.specs.Puts.{IsInSnapshot}
 use Rattle.checkpoint.specs.Written.{half_of, with_snapshot, with_both}
 use Rattle.checkpoint.proofs.Runs.{read_written}
@@ -92,7 +92,7 @@ module _ (header : Header) (bytes : List ℕ) (sequence : ℕ) (next : header.se
     now = becomes seen (stored seen here).header.valid.room (stored_below version_2 seen sequence state journal (stored seen here)) last some long
 
     pub in_commit : (calls m : ℕ) (image : List ℕ) → IsInSnapshot header bytes possible seen calls m image
-        → IsInCommit (λ i. Stores version_2 i sequence state journal) (λ i. Stores version_2 i header.sequence (take header.length bytes) []) calls m image
+        → IsInCommit (HasStored sequence state journal) (HasStored header.sequence (take header.length bytes) []) 4 2 calls m image
     in_commit calls m image put = record {
       from = put.from;
       to = put.to;

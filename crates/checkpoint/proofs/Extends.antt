@@ -2,9 +2,9 @@
 use Rattle.std.proofs.Common.{◌≡◌, inl, inr, ⊎_elim, ℕ, ◌+◌, ◌*◌, ◌<◌, List, [], ◌∷◌, ◌++◌, length, sym, subst, arith}
 use Rattle.sector_disk.specs.Image.{written}
 use Rattle.sector_disk.specs.ImageLaws.{mixes_one}
+use Rattle.sector_disk.specs.Calls.{IsInCommit}
 use Rattle.checkpoint.specs.Layouts.{version_2}
-use Rattle.checkpoint.specs.Stores.{Stores, begins_with}
-use Rattle.checkpoint.specs.Moments.{IsInRecord}
+use Rattle.checkpoint.specs.Stores.{Stores, HasStored, begins_with}
 use Rattle.checkpoint.specs.Puts.{IsInPut}
 use Rattle.checkpoint.proofs.Added.{added}
 
@@ -15,10 +15,11 @@ module _ (bytes : List ℕ) (sequence : ℕ) (state : List ℕ) (journal : List 
       (added version_2 image sequence state journal bytes (stored image left) one mark (omega (arith, free, is_used)))
 
   pub in_record : (calls n : ℕ) → ((image : List ℕ) → possible image → length image ≡ 512 * n) → (m : ℕ) (image : List ℕ) → IsInPut (2 + used) bytes possible seen calls m image
-      → IsInRecord (λ i. Stores version_2 i sequence state journal) (λ i. Stores version_2 i sequence state (journal ++ bytes ∷ [])) calls m image
+      → IsInCommit (HasStored sequence state journal) (HasStored sequence state (journal ++ bytes ∷ [])) 2 0 calls m image
   in_record calls n sizes m image put = record {
     from = put.from;
     to = put.to;
+    early = λ before. absurd (omega (arith, before, put.from));
     either =
         let before = put.reached in
         ⊎_elim

@@ -11,9 +11,9 @@ use Rattle.state_codec.specs.declared.version.Version.TheVariants.{Two}
 use Rattle.state_codec.specs.Bytes.{number_bytes, state_bytes, command_bytes, fields_bytes, record_bytes}
 use Rattle.state_codec.specs.Limits.{IsRecorded}
 use Rattle.checkpoint.specs.declared.places.Place.{Place}
-use Rattle.checkpoint.specs.Stores.{Stores, begins_with}
-use Rattle.checkpoint.specs.Holds.{Holds, layout_of, journal}
-use Rattle.checkpoint.specs.Moments.{IsInRecord}
+use Rattle.checkpoint.specs.Stores.{Stores, HasStored, begins_with}
+use Rattle.checkpoint.specs.Holds.{Holds, HoldsAt, layout_of, journal}
+use Rattle.checkpoint.specs.Places.{behind_record}
 
 -- a record begins with its sequence
 pub record_begins : (version : Version) (sequence index : ℕ) (command : Command) → sequence < 2 ^ 64 → begins_with (record_bytes version sequence index command) ≡ sequence
@@ -54,7 +54,7 @@ pub holds_still : (image : List ℕ) (state : State) (commands : List Command) (
     → Stores (layout_of Two) image place.sequence (state_bytes Two state) (journal Two place.sequence 0 commands) → Holds Two image state commands place
 holds_still image state commands place known held stored = record { stored = stored; used = held.used; facts = held.facts; told = held.told; recorded = held.recorded; numbers = held.numbers }
 
--- From what each image stores at each moment to what it holds.
+-- from what an image stores to what it holds
 module _ (place : Place) (command : Command) (bytes : List ℕ) (is : bytes ≡ record_bytes Two place.sequence place.used command) (recorded : IsRecorded Two command) (last : place.sequence ≤ 2 ^ 60)
     (possible : List ℕ → Type 0) (seen : List ℕ) (here : possible seen) (state : State) (commands : List Command) (held : (image : List ℕ) → possible image → Holds Two image state commands place) where
   pub mark : begins_with bytes ≡ place.sequence
@@ -63,18 +63,9 @@ module _ (place : Place) (command : Command) (bytes : List ℕ) (is : bytes ≡ 
   pub counted : place.used ≡ length (journal Two place.sequence 0 commands)
   counted = (held seen here).used ∙ sym (length-journal Two place.sequence 0 commands)
 
-  pub in_held : (calls m : ℕ) (image : List ℕ)
-      → IsInRecord (λ i. Stores (layout_of Two) i place.sequence (state_bytes Two state) (journal Two place.sequence 0 commands))
-      (λ i. Stores (layout_of Two) i place.sequence (state_bytes Two state) (journal Two place.sequence 0 commands ++ bytes ∷ [])) calls m image
-      → IsInRecord (λ i. Holds Two i state commands place) (λ i. Holds Two i state (commands ++ command ∷ []) (record { sequence = place.sequence; used = place.used + 1 })) calls m image
-  in_held calls m image within = record {
-    from = within.from;
-    to = within.to;
-    either = ⊎_elim (λ old. inl (holds_still image state commands place seen (held seen here) old)) (λ new. inr (more new)) within.either;
-    done = λ end. more (within.done end);
-  }
-    where
-      more : Stores (layout_of Two) image place.sequence (state_bytes Two state) (journal Two place.sequence 0 commands ++ bytes ∷ [])
-          → Holds Two image state (commands ++ command ∷ []) (record { sequence = place.sequence; used = place.used + 1 })
-      more stored = holds_more image state commands command place seen (held seen here) recorded
-          (subst (λ (b : List ℕ). Stores (layout_of Two) image place.sequence (state_bytes Two state) (journal Two place.sequence 0 commands ++ b ∷ [])) is stored)
+  pub still : (image : List ℕ) → HasStored place.sequence (state_bytes Two state) (journal Two place.sequence 0 commands) image → HoldsAt state commands place image
+  still image = holds_still image state commands place seen (held seen here)
+
+  pub more : (image : List ℕ) → HasStored place.sequence (state_bytes Two state) (journal Two place.sequence 0 commands ++ bytes ∷ []) image → HoldsAt state (commands ++ command ∷ []) (behind_record place) image
+  more image stored = holds_more image state commands command place seen (held seen here) recorded
+      (subst (λ (b : List ℕ). Stores (layout_of Two) image place.sequence (state_bytes Two state) (journal Two place.sequence 0 commands ++ b ∷ [])) is stored)

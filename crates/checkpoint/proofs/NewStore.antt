@@ -4,18 +4,15 @@ use Rattle.sector_disk.specs.Image.{written}
 use Rattle.sector_disk.specs.Sectors.{Reached, Only}
 use Rattle.checkpoint.specs.declared.headers.Header.{Header}
 use Rattle.checkpoint.specs.Layouts.{version_2}
-use Rattle.checkpoint.specs.Stores.{Stores, IsUnformatted}
+use Rattle.checkpoint.specs.Stores.{Stores, HasStored, IsUnformatted}
 use Rattle.checkpoint.specs.Moments.{IsInFormat}
 use Rattle.checkpoint.specs.Puts.{IsInPut, IsInSnapshot}
-use Rattle.checkpoint.specs.Written.{half_of, with_both}
+use Rattle.checkpoint.specs.Written.{first_header, half_of, with_both}
 use Rattle.checkpoint.proofs.Cleared.{IsCleared, cleared_unformatted, cleared_below}
 use Rattle.checkpoint.proofs.Commits.{front_stays, becomes}
 
-abbrev pub first_header : ℕ → Header
-first_header size = record { sequence = 1; length = size }
-
 abbrev pub IsMaking : List ℕ → ℕ → ℕ → ℕ → List ℕ → Type 0
-IsMaking bytes size = IsInFormat (IsUnformatted version_2) (λ image. Stores version_2 image 1 (take size bytes) [])
+IsMaking bytes size = IsInFormat (IsUnformatted version_2) (HasStored 1 (take size bytes) [])
 
 module _ (bytes : List ℕ) (size : ℕ) (zeros seen : List ℕ) (cleared : IsCleared (written 0 zeros seen)) (calls : ℕ) where
   pub in_zeros : (possible : List ℕ → Type 0) (m : ℕ) (image : List ℕ) → IsInPut 0 zeros possible seen calls m image → IsMaking bytes size calls m image

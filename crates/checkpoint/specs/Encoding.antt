@@ -4,6 +4,7 @@ use Rattle.command_core.specs.Runs.{IsState}
 use Rattle.command_core.specs.declared.states.State.{State}
 use Rattle.state_codec.specs.declared.version.Version.TheVariants.{Two}
 use Rattle.state_codec.specs.Bytes.{state_bytes}
+use Rattle.checkpoint.specs.Layouts.{version_2}
 use Rattle.checkpoint.specs.Written.{to_whole_sectors}
 
 -- the state's bytes to whole sectors, which have room in a half
@@ -15,4 +16,4 @@ pub record IsSnapshot (state : State) (size : ℕ) (bytes : List ℕ) : Type 0 w
   pub some : 1 ≤ size
   pub long : size ≤ length bytes
   pub whole : length bytes % 512 ≡ 0
-  pub fits : length bytes ≤ 512 * 4096
+  pub fits : length bytes ≤ 512 * version_2.half

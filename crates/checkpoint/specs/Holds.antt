@@ -31,3 +31,7 @@ pub record Holds (version : Version) (image : List ℕ) (state : State) (command
   pub told : IsStateOf version state
   pub recorded : All (IsRecorded version) commands
   pub numbers : HaveNumbers version state commands
+
+-- the images of the version that is written which hold this
+abbrev pub HoldsAt : State → List Command → Place → List ℕ → Type 0
+HoldsAt state commands place image = Holds Two image state commands place

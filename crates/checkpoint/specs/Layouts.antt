@@ -1,5 +1,5 @@
 -- Where the parts of a store lie.
-use Rattle.std.specs.Prelude.{ℕ, ◌+◌, ◌*◌, ◌%◌}
+use Rattle.std.specs.Prelude.{ℕ, ◌+◌, ◌*◌, ◌%◌, ◌^◌}
 use Rattle.checkpoint.specs.declared.layouts.Layout.{Layout}
 
 -- the store that is written now, 8,450 sectors
@@ -10,10 +10,26 @@ version_2 = record { version = 2; half = 4096 }
 abbrev pub version_1 : Layout
 version_1 = record { version = 1; half = 272 }
 
--- two headers, 256 records and two halves
+-- how many records a journal has room for
+abbrev pub journal_room : ℕ
+journal_room = 256
+
+-- the sectors before the halves: two headers and the records
+abbrev pub front_sectors : ℕ
+front_sectors = 2 + journal_room
+
+-- the last sequence
+abbrev pub last_sequence : ℕ
+last_sequence = 2 ^ 60
+
+-- two headers, the records and two halves
 abbrev pub sectors_in : Layout → ℕ
-sectors_in layout = 258 + 2 * layout.half
+sectors_in layout = front_sectors + 2 * layout.half
 
 -- the first sector of the half of a sequence
 abbrev pub half_at : Layout → ℕ → ℕ
-half_at layout sequence = 258 + layout.half * (sequence % 2)
+half_at layout sequence = front_sectors + layout.half * (sequence % 2)
+
+-- the sectors of the smallest store of any version
+abbrev pub least_sectors : ℕ
+least_sectors = sectors_in version_1

@@ -4,11 +4,13 @@ pub mod Headers
 pub mod Stores
 pub mod Numbers
 pub mod Holds
+pub mod Places
 pub mod Moments
 pub mod Written
 pub mod Reads
 pub mod Holdless
 pub mod Refused
+pub mod Making
 pub mod Names
 pub mod Laws
 -- of private functions alone

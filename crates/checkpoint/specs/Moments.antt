@@ -8,18 +8,3 @@ pub record IsInFormat (unformatted new : List ℕ → Type 0) (calls m : ℕ) (i
   pub cleared : calls + 2 ≤ m → m ≤ calls + 3 → unformatted image
   pub either : calls + 2 ≤ m → unformatted image ⊎ new image
   pub done : m ≡ calls + 6 → new image
-
--- Within the four calls that commit a snapshot. From the header's write on there may be the new one, and at last it alone.
-pub record IsInCommit (old new : List ℕ → Type 0) (calls m : ℕ) (image : List ℕ) : Type 0 where
-  pub from : calls ≤ m
-  pub to : m ≤ calls + 4
-  pub early : m ≤ calls + 1 → old image
-  pub either : old image ⊎ new image
-  pub done : m ≡ calls + 4 → new image
-
--- Within the two calls that commit a record.
-pub record IsInRecord (old new : List ℕ → Type 0) (calls m : ℕ) (image : List ℕ) : Type 0 where
-  pub from : calls ≤ m
-  pub to : m ≤ calls + 2
-  pub either : old image ⊎ new image
-  pub done : m ≡ calls + 2 → new image

@@ -1,7 +1,9 @@
 -- What reading leaves, and what the front of an image tells.
 use Rattle.std.specs.Prelude.{◌≡◌, ◌≢◌, ℕ, ◌+◌, ◌*◌, ◌%◌, ◌^◌, ◌<◌, ◌≤◌, List, Option, Some, None, length, take, All}
 use Rattle.sector_disk.specs.Image.{sector}
-use Rattle.sector_disk.specs.Sectors.{SameImages, Throughout}
+use Rattle.sector_disk.specs.declared.sectors.Sectors as sectors
+use Rattle.sector_disk.specs.Sectors.{SameImages, Throughout, as_many}
+use Rattle.sector_disk.specs.Calls.{Calls}
 use Rattle.command_core.specs.Runs.{IsState}
 use Rattle.command_core.specs.declared.states.State.{State}
 use Rattle.command_core.specs.declared.commands.Command.{Command}
@@ -11,7 +13,7 @@ use Rattle.state_codec.specs.Limits.{IsRecorded}
 use Rattle.checkpoint.specs.declared.layouts.Layout.{Layout}
 use Rattle.checkpoint.specs.declared.headers.Header.{Header}
 use Rattle.checkpoint.specs.declared.places.Place.{Place}
-use Rattle.checkpoint.specs.Layouts.{sectors_in}
+use Rattle.checkpoint.specs.Layouts.{journal_room, front_sectors, last_sequence, sectors_in}
 use Rattle.checkpoint.specs.Stores.{IsValid, Counts, snapshot_in, record_sectors, begins_with}
 use Rattle.checkpoint.specs.Holds.{layout_of, journal}
 
@@ -21,35 +23,46 @@ pub record IsUnchanged {D : Type 0} (clock : D → ℕ) (since : D → ℕ → �
   pub images : SameImages (possible old) (possible new)
   pub moments : Throughout clock since old new (λ m image. (m ≡ calls old) × possible old image)
 
+module _ {D : Type 0} (on : sectors.Ghosts D) where
+  -- The device was read, and not called otherwise, and so many calls have failed then.
+  pub record ReadsOnly (faults_then : ℕ → ℕ) (old new : D) : Type 0 where
+    pub called : Calls on as_many faults_then old new
+    pub kept : on.honest new → IsUnchanged on.clock on.possible_since on.possible on.seen on.calls old new
+
 -- What is read of any device, whether or not it answers as the model says: it has the sectors of a store, at least so many, the place is one
 -- that a store can stand at, and the state keeps its facts.
 pub record IsStanding (least sectors : ℕ) (state : State) (place : Place) : Type 0 where
   pub room : least ≤ sectors
   pub first : 1 ≤ place.sequence
-  pub last : place.sequence ≤ 2 ^ 60
-  pub used : place.used ≤ 256
+  pub last : place.sequence ≤ last_sequence
+  pub used : place.used ≤ journal_room
   pub facts : IsState state
 
 -- the headers and the records of an image of so many sectors
 pub record IsImageFront (sectors : ℕ) (front image : List ℕ) : Type 0 where
   pub size : length image ≡ 512 * sectors
-  pub room : 258 ≤ sectors
-  pub is : take (512 * 258) image ≡ front
+  pub room : front_sectors ≤ sectors
+  pub is : take (512 * front_sectors) image ≡ front
 
 -- a header of a store: its snapshot has room in its half, and a device of so many sectors for the layout
 pub record FitsLayout (layout : Layout) (sectors : ℕ) (header : Header) : Type 0 where
   pub room : sectors_in layout ≤ sectors
   pub first : 1 ≤ header.sequence
-  pub last : header.sequence ≤ 2 ^ 60
+  pub last : header.sequence ≤ last_sequence
   pub some : 1 ≤ header.length
   pub fits : header.length ≤ 512 * layout.half
+
+-- the front of a device of so many sectors, and a header that fits there
+pub record IsFront (layout : Layout) (sectors : ℕ) (front : List ℕ) (header : Header) : Type 0 where
+  pub long : length front ≡ 512 * front_sectors
+  pub fits : FitsLayout layout sectors header
 
 -- a header that may stand in this sector of a device of so many sectors
 pub record IsAllowed (layout : Layout) (sectors : ℕ) (header : Header) (index : ℕ) : Type 0 where
   pub room : sectors_in layout ≤ sectors
   pub parity : header.sequence % 2 ≡ index
   pub first : 1 ≤ header.sequence
-  pub last : header.sequence ≤ 2 ^ 60
+  pub last : header.sequence ≤ last_sequence
   pub some : 1 ≤ header.length
   pub fits : header.length ≤ 512 * layout.half
 
@@ -66,16 +79,16 @@ pub record IsLed (version : Version) (image : List ℕ) (sequence : ℕ) (comman
 -- the records of a sequence as far as they go: those of these commands, and the sector behind them is none
 pub record HasRecords (version : Version) (image : List ℕ) (sequence : ℕ) (commands : List Command) : Type 0 where
   pub led : IsLed version image sequence commands
-  pub count : length commands ≤ 256
-  pub ends : length commands < 256 → (command : Command) → IsRecorded version command → sector (2 + length commands) image ≢ record_bytes version sequence (length commands) command
+  pub count : length commands ≤ journal_room
+  pub ends : length commands < journal_room → (command : Command) → IsRecorded version command → sector (2 + length commands) image ≢ record_bytes version sequence (length commands) command
 
 -- from this index on no record sector begins with this sequence or a greater one
 abbrev pub IsClearFrom : ℕ → List ℕ → ℕ → Type 0
-IsClearFrom used image sequence = (i : ℕ) → used ≤ i → i < 256 → begins_with (sector (2 + i) image) < sequence
+IsClearFrom used image sequence = (i : ℕ) → used ≤ i → i < journal_room → begins_with (sector (2 + i) image) < sequence
 
 -- from this index on some record sector does
 abbrev pub HasStrayFrom : ℕ → List ℕ → ℕ → Type 0
-HasStrayFrom used image sequence = (i : ℕ) × (used ≤ i) × (i < 256) × (sequence ≤ begins_with (sector (2 + i) image))
+HasStrayFrom used image sequence = (i : ℕ) × (used ≤ i) × (i < journal_room) × (sequence ≤ begins_with (sector (2 + i) image))
 
 -- the parts of an image that a store is read from: the header that counts, the front and the snapshot's bytes
 pub record HasParts (version : Version) (sectors : ℕ) (image : List ℕ) (header : Header) (front bytes : List ℕ) : Type 0 where

@@ -54,18 +54,10 @@ IsOfReading (store.Codec fault) = ⊥
 IsOfReading store.Spent = ⊥
 
 -- What a snapshot's commit may be refused for. Only a failed call leaves anything of it on the device.
-abbrev pub IsOfCommit : StoreFault → Type 0
-IsOfCommit store.Spent = Unit {0}
-IsOfCommit store.OutOfMemory = Unit {0}
-IsOfCommit store.DeviceFault = Unit {0}
-IsOfCommit store.NotFormatted = ⊥
-IsOfCommit store.BadVersion = ⊥
-IsOfCommit (store.Codec fault) = ⊥
-
-abbrev pub IsKeptByCommit : {D : Type 0} → StoreFault → D → D → Type 0
-IsKeptByCommit store.DeviceFault old new = Unit {0}
-IsKeptByCommit store.NotFormatted old new = new ≡ old
-IsKeptByCommit store.BadVersion old new = new ≡ old
-IsKeptByCommit (store.Codec fault) old new = new ≡ old
-IsKeptByCommit store.Spent old new = new ≡ old
-IsKeptByCommit store.OutOfMemory old new = new ≡ old
+abbrev pub IsRefusedCommit : {D : Type 0} → StoreFault → D → D → Type 0
+IsRefusedCommit store.DeviceFault old new = Unit {0}
+IsRefusedCommit store.Spent old new = new ≡ old
+IsRefusedCommit store.OutOfMemory old new = new ≡ old
+IsRefusedCommit store.NotFormatted old new = ⊥
+IsRefusedCommit store.BadVersion old new = ⊥
+IsRefusedCommit (store.Codec fault) old new = ⊥

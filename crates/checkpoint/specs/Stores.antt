@@ -4,7 +4,7 @@ use Rattle.byteorder.specs.Endian.{big_number}
 use Rattle.sector_disk.specs.Image.{sector}
 use Rattle.checkpoint.specs.declared.layouts.Layout.{Layout}
 use Rattle.checkpoint.specs.declared.headers.Header.{Header}
-use Rattle.checkpoint.specs.Layouts.{sectors_in, half_at}
+use Rattle.checkpoint.specs.Layouts.{version_2, journal_room, last_sequence, least_sectors, sectors_in, half_at}
 use Rattle.checkpoint.specs.Headers.{header_bytes, HasOtherVersion}
 
 -- This header is valid: it stands in the sector of its sequence, and the image has room for the whole layout.
@@ -12,7 +12,7 @@ pub record IsValid (layout : Layout) (image : List ℕ) (header : Header) : Type
   pub room : 512 * sectors_in layout ≤ length image
   pub bytes : sector (header.sequence % 2) image ≡ header_bytes layout.version header
   pub first : 1 ≤ header.sequence
-  pub last : header.sequence ≤ 2 ^ 60
+  pub last : header.sequence ≤ last_sequence
   pub some : 1 ≤ header.length
   pub fits : header.length ≤ 512 * layout.half
 
@@ -23,7 +23,7 @@ pub record Counts (layout : Layout) (image : List ℕ) (header : Header) : Type 
 
 -- A header sector has the magic and another version, on a device with the sectors of the smallest store of any version.
 pub record IsOfOtherVersion (layout : Layout) (image : List ℕ) : Type 0 where
-  pub room : 512 * 802 ≤ length image
+  pub room : 512 * least_sectors ≤ length image
   pub other : HasOtherVersion layout.version (sector 0 image) ⊎ HasOtherVersion layout.version (sector 1 image)
 
 -- no header is valid, and none is of another version
@@ -49,7 +49,11 @@ begins_with bytes = big_number 8 bytes
 pub record Stores (layout : Layout) (image : List ℕ) (sequence : ℕ) (state : List ℕ) (journal : List (List ℕ)) : Type 0 where
   pub header : Counts layout image (record { sequence = sequence; length = length state })
   pub snapshot : snapshot_in layout image sequence (length state) ≡ state
-  pub count : length journal ≤ 256
+  pub count : length journal ≤ journal_room
   pub records : record_sectors 0 (length journal) image ≡ journal
   pub marked : (i : ℕ) → i < length journal → begins_with (sector (2 + i) image) ≡ sequence
-  pub rest : (i : ℕ) → length journal ≤ i → i < 256 → begins_with (sector (2 + i) image) < sequence
+  pub rest : (i : ℕ) → length journal ≤ i → i < journal_room → begins_with (sector (2 + i) image) < sequence
+
+-- the images that store this in the layout that is written
+abbrev pub HasStored : ℕ → List ℕ → List (List ℕ) → List ℕ → Type 0
+HasStored sequence state journal image = Stores version_2 image sequence state journal

@@ -7,12 +7,16 @@ use Rattle.state_codec.specs.Bytes.{state_bytes, record_bytes}
 use Rattle.state_codec.specs.declared.version.Version.TheVariants.{Two}
 use Rattle.checkpoint.specs.declared.headers.Header.{Header}
 use Rattle.checkpoint.specs.declared.places.Place.{Place}
-use Rattle.checkpoint.specs.Layouts.{version_2, half_at}
+use Rattle.checkpoint.specs.Layouts.{version_2, front_sectors, half_at}
 use Rattle.checkpoint.specs.Headers.{header_bytes}
 
 -- the first sector of the half that a snapshot is written to
 abbrev pub half_of : Header → ℕ
 half_of header = half_at version_2 header.sequence
+
+-- the first header of a store
+abbrev pub first_header : ℕ → Header
+first_header size = record { sequence = 1; length = size }
 
 -- an image with a snapshot in its half, and then with its header
 abbrev pub with_snapshot : Header → List ℕ → List ℕ → List ℕ
@@ -38,7 +42,7 @@ with_record place command image = written (2 + place.used) (record_bytes Two pla
 
 -- how many bytes the two headers and the 256 records have
 unfoldable pub front_size : ℕ
-front_size = 512 * 258
+front_size = 512 * front_sectors
 
 -- zeros over them
 abbrev pub cleared : List ℕ → List ℕ

@@ -2,22 +2,25 @@
 //!
 //! Within the write of a header a count of finished calls can't tell whether the write has begun, so of a snapshot's commit
 //! either image may be there from two finished calls on. `Spent` is told before memory is asked for.
-ghost use Rattle.std.specs.Prelude.{◌≡◌, ◌+◌, ◌*◌, ◌%◌, ◌<◌, ◌≤◌, ◌^◌, ℕ, List, [], ◌∷◌, ◌++◌, length, take, OnOk, IfOk, IfErr, IsErrOf};
+ghost use Rattle.std.specs.Prelude.{◌≡◌, ◌+◌, ◌*◌, ◌%◌, ◌<◌, ◌≤◌, ◌^◌, ℕ, List, [], ◌∷◌, ◌++◌, length, take, ◌↔◌, OnOk, IfOk, IfErr, IsErrOf, MatchResult};
 ghost use Rattle.command_core.specs.Runs.{IsState};
 ghost use Rattle.command_core.specs.declared.states.State.{State};
 ghost use Rattle.command_core.specs.declared.commands.Command.{Command};
-ghost use Rattle.sector_disk.specs.Sectors.{Only, Throughout, faults_after};
+ghost use Rattle.sector_disk.specs.Sectors.{Only, more, faults_after};
+ghost use Rattle.sector_disk.specs.Calls.{Calls, CommitsFrom};
 ghost use Rattle.state_codec.specs.declared.version.Version.TheVariants.{Two};
 ghost use Rattle.state_codec.specs.Limits.{IsRecorded};
 ghost use Rattle.state_codec.specs.Bytes.{state_bytes};
-ghost use Rattle.checkpoint.specs.Holds.{Holds};
-ghost use Rattle.checkpoint.specs.Refused.{IsOfCommit, IsKeptByCommit, faults_after_reading};
-ghost use Rattle.checkpoint.specs.Moments.{IsInCommit, IsInRecord};
+ghost use Rattle.checkpoint.specs.Holds.{HoldsAt};
+ghost use Rattle.checkpoint.specs.Refused.{IsRefusedCommit, faults_after_reading};
+ghost use Rattle.checkpoint.specs.Layouts.{version_2, journal_room, last_sequence, sectors_in};
+ghost use Rattle.checkpoint.specs.Places.{behind_record, behind_snapshot};
 ghost use Rattle.checkpoint.specs.Written.{to_whole_sectors, with_record, with_state};
 
 use crate::encoding::snapshot_of;
 use crate::faults::StoreFault;
 use crate::headers::Header;
+use crate::layouts::LAST_SEQUENCE;
 use crate::places::Place;
 use crate::puts::{advance, extend};
 use command_core::{Command, State};
@@ -35,26 +38,19 @@ pub fn commit_record<D: Sectors>(
     place: Place,
     command: &Command,
 ) -> Result<Place, StoreFault>
-    requires free { place.used < 256 }
+    requires free { place.used < journal_room }
     requires recorded { IsRecorded Two command.now }
-    requires room { 8450 ≤ D.len device.old }
+    requires room { sectors_in version_2 ≤ D.len device.old }
     requires first { 1 ≤ place.sequence }
-    requires last { place.sequence ≤ 2 ^ 60 }
+    requires last { place.sequence ≤ last_sequence }
 
     ensures fails { IfErr result (λ fault. fault ≡ StoreFault.DeviceFault) }
-    ensures place { IfOk result (λ next. next
-        ≡ record { sequence = place.sequence; used = place.used + 1 }) }
-    ensures same_len { D.len device.new ≡ D.len device.old }
-    ensures finished { OnOk result (D.calls device.new ≡ D.calls device.old + 2) }
-    ensures fault { D.faults device.new ≡ faults_after result (D.faults device.old) }
-    ensures honest { D.honest device.new → D.honest device.old }
-    ensures moments { D.honest device.new → (state : State) (commands : List Command)
-        → ((image : List ℕ) → D.possible device.old image → Holds Two image state commands place)
-        → Throughout D.clock D.possible_since device.old device.new (IsInRecord (λ image. Holds Two image state commands place)
-        (λ image. Holds Two image state (commands ++ command.now ∷ []) (record { sequence = place.sequence; used = place.used + 1 })) (D.calls device.old)) }
-    ensures after { D.honest device.new → (state : State) (commands : List Command)
-        → ((image : List ℕ) → D.possible device.old image → Holds Two image state commands place)
-        → OnOk result ((image : List ℕ) → D.possible device.new image → Holds Two image state (commands ++ command.now ∷ []) (record { sequence = place.sequence; used = place.used + 1 })) }
+    ensures place { IfOk result (λ next. next ≡ behind_record place) }
+    ensures called { Calls D.Sectors (more result 2) (faults_after result) device.old device.new }
+    ensures commits { (state : State) (commands : List Command)
+        → CommitsFrom D.Sectors result 2 0 (HoldsAt state commands place)
+        (HoldsAt state (commands ++ command.now ∷ []) (behind_record place))
+        device.old device.new }
     ensures durable { D.honest device.new
         → OnOk result (Only (with_record place command.now (D.seen device.old))
         (D.possible device.new)) }
@@ -84,25 +80,17 @@ fn save<D: Sectors>(
     requires some { 1 ≤ size }
     requires long { size ≤ length bytes.now }
     requires whole { length bytes.now % 512 ≡ 0 }
-    requires fits { length bytes.now ≤ 512 * 4096 }
-    requires room { 8450 ≤ D.len device.old }
+    requires fits { length bytes.now ≤ 512 * version_2.half }
+    requires room { sectors_in version_2 ≤ D.len device.old }
     requires first { 1 ≤ place.sequence }
-    requires next { place.sequence < 2 ^ 60 }
+    requires next { place.sequence < last_sequence }
 
     ensures fails { IfErr result (λ fault. fault ≡ StoreFault.DeviceFault) }
-    ensures place { IfOk result (λ next. next
-        ≡ record { sequence = place.sequence + 1; used = 0 }) }
-    ensures same_len { D.len device.new ≡ D.len device.old }
-    ensures finished { OnOk result (D.calls device.new ≡ D.calls device.old + 4) }
-    ensures fault { D.faults device.new ≡ faults_after result (D.faults device.old) }
-    ensures honest { D.honest device.new → D.honest device.old }
-    ensures moments { D.honest device.new → (old : State) (commands : List Command)
-        → ((image : List ℕ) → D.possible device.old image → Holds Two image old commands place)
-        → Throughout D.clock D.possible_since device.old device.new (IsInCommit (λ image. Holds Two image old commands place)
-        (λ image. Holds Two image state.now [] (record { sequence = place.sequence + 1; used = 0 })) (D.calls device.old)) }
-    ensures after { D.honest device.new → (old : State) (commands : List Command)
-        → ((image : List ℕ) → D.possible device.old image → Holds Two image old commands place)
-        → OnOk result ((image : List ℕ) → D.possible device.new image → Holds Two image state.now [] (record { sequence = place.sequence + 1; used = 0 })) }
+    ensures place { IfOk result (λ next. next ≡ behind_snapshot place) }
+    ensures called { Calls D.Sectors (more result 4) (faults_after result) device.old device.new }
+    ensures commits { (old : State) (commands : List Command)
+        → CommitsFrom D.Sectors result 4 2 (HoldsAt old commands place)
+        (HoldsAt state.now [] (behind_snapshot place)) device.old device.new }
     ensures durable { D.honest device.new
         → OnOk result (Only (with_state (place.sequence + 1) state.now (D.seen device.old))
         (D.possible device.new)) }
@@ -121,9 +109,6 @@ fn save<D: Sectors>(
     }
 }
 
-/// The last sequence of a store.
-const LAST_SEQUENCE: u64 = 1 << 60;
-
 /// Commits a state as a snapshot under the next sequence, with an empty journal: the snapshot into the other half, a sync, its header, a sync. Asks for the device
 /// of a store that stands at this place. `Spent` where the sequence is 2^60; neither that nor `OutOfMemory` has called the device.
 ///
@@ -136,27 +121,18 @@ pub fn commit_snapshot<D: Sectors>(
     place: Place,
     state: &State,
 ) -> Result<Place, StoreFault>
-    requires room { 8450 ≤ D.len device.old }
+    requires room { sectors_in version_2 ≤ D.len device.old }
     requires first { 1 ≤ place.sequence }
-    requires last { place.sequence ≤ 2 ^ 60 }
+    requires last { place.sequence ≤ last_sequence }
 
-    ensures fails { IfErr result IsOfCommit }
-    ensures spent { place.sequence ≡ 2 ^ 60 → IsErrOf result StoreFault.Spent }
-    ensures not_spent { place.sequence < 2 ^ 60 → ¬ IsErrOf result StoreFault.Spent }
-    ensures kept { IfErr result (λ fault. IsKeptByCommit fault device.old device.new) }
-    ensures place { IfOk result (λ next. next
-        ≡ record { sequence = place.sequence + 1; used = 0 }) }
-    ensures same_len { D.len device.new ≡ D.len device.old }
-    ensures finished { OnOk result (D.calls device.new ≡ D.calls device.old + 4) }
-    ensures fault { D.faults device.new ≡ faults_after_reading result (D.faults device.old) }
-    ensures honest { D.honest device.new → D.honest device.old }
-    ensures moments { D.honest device.new → (old : State) (commands : List Command)
-        → ((image : List ℕ) → D.possible device.old image → Holds Two image old commands place)
-        → Throughout D.clock D.possible_since device.old device.new (IsInCommit (λ image. Holds Two image old commands place)
-        (λ image. Holds Two image state.now [] (record { sequence = place.sequence + 1; used = 0 })) (D.calls device.old)) }
-    ensures after { D.honest device.new → (old : State) (commands : List Command)
-        → ((image : List ℕ) → D.possible device.old image → Holds Two image old commands place)
-        → OnOk result ((image : List ℕ) → D.possible device.new image → Holds Two image state.now [] (record { sequence = place.sequence + 1; used = 0 })) }
+    ensures answer { MatchResult result (λ next. next ≡ behind_snapshot place)
+        (λ fault. IsRefusedCommit fault device.old device.new) }
+    ensures spent { IsErrOf result StoreFault.Spent ↔ (place.sequence ≡ last_sequence) }
+    ensures called { Calls D.Sectors (more result 4) (faults_after_reading result)
+        device.old device.new }
+    ensures commits { (old : State) (commands : List Command)
+        → CommitsFrom D.Sectors result 4 2 (HoldsAt old commands place)
+        (HoldsAt state.now [] (behind_snapshot place)) device.old device.new }
     ensures durable { D.honest device.new
         → OnOk result (Only (with_state (place.sequence + 1) state.now (D.seen device.old))
         (D.possible device.new)) }

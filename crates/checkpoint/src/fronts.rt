@@ -2,6 +2,7 @@
 ghost use Rattle.std.specs.Prelude.{◌≡◌, ◌≢◌, ◌+◌, ◌*◌, ◌%◌, ◌<◌, ◌≤◌, ◌^◌, ◌↔◌, ℕ, List, length, take, OnOk, OnErr, IfOk, IfErr, IfSome, IsTrue, MatchOption, MatchResult, Some, None};
 ghost use Rattle.sector_disk.specs.Image.{sector};
 ghost use Rattle.checkpoint.specs.Headers.{HasOtherVersion};
+ghost use Rattle.checkpoint.specs.Layouts.{journal_room, front_sectors, least_sectors};
 ghost use Rattle.checkpoint.specs.Stores.{IsValid, Counts, begins_with};
 ghost use Rattle.checkpoint.specs.Reads.{IsImageFront, FitsLayout, IsAllowed, IsOfParity, HasRecords, IsClearFrom, HasStrayFrom};
 ghost use Rattle.checkpoint.specs.Holdless.{HasNoHeader, IsOfHeaders};
@@ -12,7 +13,7 @@ ghost use Rattle.checkpoint.specs.declared.headers.Header.{Header};
 
 use crate::faults::StoreFault;
 use crate::headers::{Header, MAGIC, begins_with, header_in};
-use crate::layouts::{Layout, sectors_in};
+use crate::layouts::{LAST_SEQUENCE, Layout, RECORDS, sectors_in};
 use command_core::Command;
 use sector_disk::SECTOR_SIZE;
 use state_codec::version::Version;
@@ -36,7 +37,7 @@ fn is_allowed(layout: Layout, sectors: u64, header: Header, index: u64) -> bool
     if sectors < sectors_in(layout) || header.sequence % 2 != index {
         return false;
     }
-    if header.sequence < 1 || 1 << 60 < header.sequence {
+    if header.sequence < 1 || LAST_SEQUENCE < header.sequence {
         return false;
     }
     1 <= header.length && header.length <= 512 * u64::from(layout.half)
@@ -44,7 +45,7 @@ fn is_allowed(layout: Layout, sectors: u64, header: Header, index: u64) -> bool
 
 // The valid header in one of the first two sectors.
 fn valid_header(layout: Layout, sectors: u64, front: &[u8], index: usize) -> Option<Header>
-    requires front { length front.now ≡ 512 * 258 }
+    requires front { length front.now ≡ 512 * front_sectors }
     requires index { index < 2 }
     ensures fits { IfSome result (FitsLayout layout sectors) }
     ensures valid { (image : List ℕ) → IsImageFront sectors front.now image
@@ -71,9 +72,10 @@ fn is_of_other_version(version: u32, sector: &[u8; SECTOR_SIZE]) -> bool
 
 // What is told where no header is valid.
 fn no_header(layout: Layout, front: &[u8]) -> StoreFault
-    requires front { length front.now ≡ 512 * 258 }
+    requires front { length front.now ≡ 512 * front_sectors }
     ensures kind { IsOfHeaders result }
-    ensures told { (sectors : ℕ) (image : List ℕ) → 802 ≤ sectors → IsImageFront sectors front.now image
+    ensures told { (sectors : ℕ) (image : List ℕ) → least_sectors ≤ sectors
+        → IsImageFront sectors front.now image
         → ((header : Header) → ¬ IsValid layout image header) → HasNoHeader layout image result }
 {
     if is_of_other_version(layout.version, &sector_at(front, 0)) {
@@ -91,8 +93,8 @@ pub(crate) fn current_header(
     sectors: u64,
     front: &[u8],
 ) -> Result<Header, StoreFault>
-    requires front { length front.now ≡ 512 * 258 }
-    requires room { 802 ≤ sectors }
+    requires front { length front.now ≡ 512 * front_sectors }
+    requires room { least_sectors ≤ sectors }
     ensures kind { IfErr result IsOfHeaders }
     ensures fits { IfOk result (FitsLayout layout sectors) }
     ensures found { (image : List ℕ) → IsImageFront sectors front.now image
@@ -128,7 +130,8 @@ fn command_in(
 ) -> Option<Command>
     ensures { MatchOption result ((command : Command) → IsRecorded version command
         → sector.now ≢ record_bytes version sequence index command)
-        (λ command. IsRecorded version command × (sector.now ≡ record_bytes version sequence index command)) }
+        (λ command. IsRecorded version command
+        × (sector.now ≡ record_bytes version sequence index command)) }
 {
     match version {
         Version::One => decode_record_v1(sector, sequence, index),
@@ -143,11 +146,11 @@ pub(crate) fn leading_commands(
     front: &[u8],
     sequence: u64,
 ) -> Result<Vec<Command>, AllocError>
-    requires { length front.now ≡ 512 * 258 }
+    requires { length front.now ≡ 512 * front_sectors }
     ensures { IfOk result (λ commands. HasRecords version front.now sequence commands.items) }
 {
     let mut commands = Vec::new(alloc);
-    for index in 0..256u32 {
+    for index in 0..RECORDS {
         match command_in(
             version,
             &sector_at(front, 2 + index as usize),
@@ -163,12 +166,12 @@ pub(crate) fn leading_commands(
 
 /// The first record sector from this index on that begins with this sequence or a greater one.
 pub(crate) fn stray_from(front: &[u8], used: usize, sequence: u64) -> Option<usize>
-    requires front { length front.now ≡ 512 * 258 }
-    requires used { used ≤ 256 }
+    requires front { length front.now ≡ 512 * front_sectors }
+    requires used { used ≤ journal_room }
     ensures { MatchOption result (IsClearFrom used front.now sequence)
         (λ i. HasStrayFrom used front.now sequence) }
 {
-    for i in used..256 {
+    for i in used..RECORDS as usize {
         if sequence <= begins_with(&sector_at(front, 2 + i)) {
             return Some(i);
         }

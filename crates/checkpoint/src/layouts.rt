@@ -14,6 +14,24 @@ pub struct Layout {
     pub half: u32,
 }
 
+/// How many records a journal has room for.
+pub const RECORDS: u32 = 256;
+
+/// The last sequence of a store.
+pub const LAST_SEQUENCE: u64 = 1 << 60;
+
+/// The sectors before the halves: two headers and the records.
+const FRONT_SECTORS: u64 = 2 + RECORDS as u64;
+
+/// Their bytes.
+pub(crate) const FRONT: usize = FRONT_SECTORS as usize * 512;
+
+/// The sectors of a store that is written.
+pub const SECTORS: u64 = FRONT_SECTORS + 2 * VERSION_2.half as u64;
+
+/// The sectors of the smallest store of any version.
+pub const LEAST_SECTORS: u64 = FRONT_SECTORS + 2 * VERSION_1.half as u64;
+
 /// The store of old, 802 sectors.
 const VERSION_1: Layout = Layout {
     version: 1,
@@ -40,12 +58,12 @@ pub(crate) fn layout_of(version: Version) -> Layout
 pub(crate) fn sectors_in(layout: Layout) -> u64
     ensures { result ≡ sectors_in layout }
 {
-    258 + 2 * u64::from(layout.half)
+    FRONT_SECTORS + 2 * u64::from(layout.half)
 }
 
 /// The first sector of the half of a sequence.
 pub(crate) fn half_start(layout: Layout, sequence: u64) -> u64
     ensures { result ≡ half_at layout sequence }
 {
-    258 + u64::from(layout.half) * (sequence % 2)
+    FRONT_SECTORS + u64::from(layout.half) * (sequence % 2)
 }

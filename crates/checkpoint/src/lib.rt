@@ -26,12 +26,12 @@
 //! - An image holds at most one state, list of commands and place, never beside a cause to hold nothing, and of these
 //!   causes it has at most one (`images_hold_one_thing`); each holds something or has one (`images_hold_or_have_a_cause`).
 //! - Of an honest device: `load_latest` gives what the image that reads give holds, or the cause (`found`), and changes
-//!   nothing (`kept`). `format`, `commit_snapshot` and `commit_record` say for each moment, by the number of finished calls,
-//!   which of the old and the new an image may hold (`moments`), and that after `Ok` it holds the new alone (`after`). The image
-//!   is then what reads gave before with these sectors written, zeros that fill them up among them, and no other (`durable`).
+//!   nothing (`reads`). `commit_snapshot` and `commit_record` say for each moment, by the number of finished calls, which of the
+//!   old and the new an image may hold, and that after `Ok` it holds the new alone (`commits`); so does `format` (`formats`). The
+//!   image is then what reads gave before with these sectors written, zeros that fill them up among them, and no other (`durable`).
 //! - Of any device: what is loaded keeps the facts of a state, and its place those of a store (`standing`).
-//! - `TooSmall`, `Spent` and want of memory come before any device call; `DeviceFault` only where `faults` rose, or stood at
-//!   its last value (`fault`, `kept`).
+//! - `TooSmall`, `Spent` and want of memory come before any device call (`kept`, `answer`); `DeviceFault` only where `faults`
+//!   rose, or stood at its last value (`called`).
 #![tactic(auto)]
 
 mod changes;
@@ -52,6 +52,7 @@ mod zeros;
 pub use changes::{commit_record, commit_snapshot};
 pub use faults::{FormatFault, StoreFault};
 pub use laws::{images_hold_one_thing, images_hold_or_have_a_cause};
+pub use layouts::{LAST_SEQUENCE, LEAST_SECTORS, RECORDS, SECTORS};
 pub use loads::{Loaded, load_latest, load_latest_v1};
 pub use making::{format, format_with};
 pub use places::Place;

@@ -5,9 +5,9 @@
 //! store.
 ghost use Rattle.std.specs.Prelude.{◌≡◌, ◌+◌, ◌*◌, ◌/◌, ◌%◌, ◌<◌, ◌≤◌, ℕ, List, length, take, drop, OnOk, IfOk, IfErr, IsErrOf, MatchResult};
 ghost use Rattle.command_core.specs.Runs.{IsState};
-ghost use Rattle.checkpoint.specs.Layouts.{sectors_in};
+ghost use Rattle.checkpoint.specs.Layouts.{version_1, version_2, front_sectors, least_sectors, sectors_in};
 ghost use Rattle.checkpoint.specs.Stores.{Counts, snapshot_in};
-ghost use Rattle.checkpoint.specs.Reads.{IsImageFront, IsUnchanged, IsStanding, FitsLayout, HasParts};
+ghost use Rattle.checkpoint.specs.Reads.{IsImageFront, IsFront, ReadsOnly, IsStanding, FitsLayout, HasParts};
 ghost use Rattle.state_codec.specs.Bytes.{state_bytes};
 ghost use Rattle.state_codec.specs.declared.version.Version.TheVariants.{One, Two};
 ghost use Rattle.state_codec.specs.Limits.{IsStateOf};
@@ -20,8 +20,7 @@ use crate::encoding::keeps_facts;
 use crate::faults::StoreFault;
 use crate::fronts::{current_header, leading_commands, stray_from};
 use crate::headers::Header;
-use crate::layouts::{Layout, half_start, layout_of};
-use crate::making::FRONT;
+use crate::layouts::{FRONT, LEAST_SECTORS, Layout, half_start, layout_of};
 use crate::numbers::have_numbers;
 use crate::places::Place;
 use crate::reads::read_run;
@@ -30,9 +29,6 @@ use sector_disk::{SECTOR_SIZE, Sectors};
 use state_codec::version::Version;
 use state_codec::{CodecFault, decode_state, decode_state_v1};
 use std::alloc::Global;
-
-/// The sectors of the smallest store of any version.
-const LEAST_SECTORS: u64 = 802;
 
 /// The headers and the records of a device, and the header that counts.
 #[derive(Drop)]
@@ -47,22 +43,17 @@ pub(crate) fn read_front<D: Sectors>(
     device: &mut D,
     layout: Layout,
 ) -> Result<Opened, StoreFault>
-    requires { 802 ≤ D.len device.old }
+    requires { least_sectors ≤ D.len device.old }
 
     ensures fails { IfErr result IsOfHeadersOrUnread }
-    ensures long { IfOk result (λ opened. length opened.front.items ≡ 512 * 258) }
-    ensures fits { IfOk result (λ opened. FitsLayout layout (D.len device.old) opened.header) }
+    ensures front { IfOk result (λ opened.
+        IsFront layout (D.len device.old) opened.front.items opened.header) }
     ensures found { D.honest device.new
         → MatchResult result (λ opened.
         IsImageFront (D.len device.old) opened.front.items (D.seen device.old)
         × Counts layout (D.seen device.old) opened.header)
         (UnlessUnread (HasNoHeader layout (D.seen device.old))) }
-    ensures same_len { D.len device.new ≡ D.len device.old }
-    ensures same_calls { D.calls device.new ≡ D.calls device.old }
-    ensures fault { D.faults device.new ≡ faults_after_reading result (D.faults device.old) }
-    ensures honest { D.honest device.new → D.honest device.old }
-    ensures kept { D.honest device.new
-        → IsUnchanged D.clock D.possible_since D.possible D.seen D.calls device.old device.new }
+    ensures reads { ReadsOnly D.Sectors (faults_after_reading result) device.old device.new }
 {
     let sectors = device.len();
     let front = match read_run(alloc, device, 0, FRONT) {
@@ -88,12 +79,7 @@ pub(crate) fn read_snapshot<D: Sectors>(
     ensures bytes { D.honest device.new
         → IfOk result (λ bytes. bytes.items
         ≡ snapshot_in layout (D.seen device.old) header.sequence header.length) }
-    ensures same_len { D.len device.new ≡ D.len device.old }
-    ensures same_calls { D.calls device.new ≡ D.calls device.old }
-    ensures fault { D.faults device.new ≡ faults_after_reading result (D.faults device.old) }
-    ensures honest { D.honest device.new → D.honest device.old }
-    ensures kept { D.honest device.new
-        → IsUnchanged D.clock D.possible_since D.possible D.seen D.calls device.old device.new }
+    ensures reads { ReadsOnly D.Sectors (faults_after_reading result) device.old device.new }
 {
     let size = (header.length as usize).div_ceil(SECTOR_SIZE) * SECTOR_SIZE;
     match read_run(alloc, device, half_start(layout, header.sequence), size) {
@@ -124,7 +110,7 @@ pub(crate) fn with_journal(
     front: &[u8],
     state: State,
 ) -> Result<Loaded, StoreFault>
-    requires { length front.now ≡ 512 * 258 }
+    requires { length front.now ≡ 512 * front_sectors }
 
     ensures facts { IsState state }
     ensures fails { IfErr result IsOfJournal }
@@ -133,8 +119,11 @@ pub(crate) fn with_journal(
         (sectors_in (layout_of version)) sectors loaded.state loaded.place) }
     ensures found { (sectors : ℕ) (image : List ℕ) → IsImageFront sectors front.now image
         → Counts (layout_of version) image header
-        → snapshot_in (layout_of version) image header.sequence header.length ≡ state_bytes version state → IsStateOf version state
-        → MatchResult result (λ loaded. Holds version image loaded.state loaded.commands.items loaded.place) (UnlessUnread (λ fault. HasBadJournal version image header.sequence state)) }
+        → snapshot_in (layout_of version) image header.sequence header.length
+        ≡ state_bytes version state → IsStateOf version state
+        → MatchResult result (λ loaded.
+        Holds version image loaded.state loaded.commands.items loaded.place)
+        (UnlessUnread (λ fault. HasBadJournal version image header.sequence state)) }
 {
     keeps_facts(&state);
     let commands = match leading_commands(alloc, version, front, header.sequence) {
@@ -174,23 +163,17 @@ pub(crate) fn read_parts<D: Sectors>(
     device: &mut D,
     version: Version,
 ) -> Result<Parts, StoreFault>
-    ensures small { D.len device.old < 802 → device.new ≡ device.old }
-    ensures told { D.len device.old < 802 → IsErrOf result StoreFault.NotFormatted }
+    ensures small { D.len device.old < least_sectors
+        → (device.new ≡ device.old) × IsErrOf result StoreFault.NotFormatted }
     ensures fails { IfErr result IsOfHeadersOrUnread }
-    ensures long { IfOk result (λ parts. length parts.opened.front.items ≡ 512 * 258) }
-    ensures fits { IfOk result (λ parts.
-        FitsLayout (layout_of version) (D.len device.old) parts.opened.header) }
+    ensures front { IfOk result (λ parts. IsFront (layout_of version) (D.len device.old)
+        parts.opened.front.items parts.opened.header) }
     ensures found { D.honest device.new
         → MatchResult result (λ parts.
         HasParts version (D.len device.old)
         (D.seen device.old) parts.opened.header parts.opened.front.items parts.bytes.items)
         (UnlessUnread (HasNoHeader (layout_of version) (D.seen device.old))) }
-    ensures same_len { D.len device.new ≡ D.len device.old }
-    ensures same_calls { D.calls device.new ≡ D.calls device.old }
-    ensures fault { D.faults device.new ≡ faults_after_reading result (D.faults device.old) }
-    ensures honest { D.honest device.new → D.honest device.old }
-    ensures kept { D.honest device.new
-        → IsUnchanged D.clock D.possible_since D.possible D.seen D.calls device.old device.new }
+    ensures reads { ReadsOnly D.Sectors (faults_after_reading result) device.old device.new }
 {
     if device.len() < LEAST_SECTORS {
         return Err(StoreFault::NotFormatted);
@@ -226,7 +209,7 @@ pub(crate) fn interpreted(
     bytes: &[u8],
     decoded: Result<State, CodecFault>,
 ) -> Result<Loaded, StoreFault>
-    requires long { length opened.now.front.items ≡ 512 * 258 }
+    requires long { length opened.now.front.items ≡ 512 * front_sectors }
     requires decodes { Decodes version bytes.now decoded }
 
     ensures fails { IfErr result IsOfBytes }
@@ -235,7 +218,9 @@ pub(crate) fn interpreted(
         (sectors_in (layout_of version)) sectors loaded.state loaded.place) }
     ensures found { (sectors : ℕ) (image : List ℕ)
         → HasParts version sectors image opened.now.header opened.now.front.items bytes.now
-        → MatchResult result (λ loaded. Holds version image loaded.state loaded.commands.items loaded.place) (UnlessUnread (HoldsNothing version image)) }
+        → MatchResult result (λ loaded.
+        Holds version image loaded.state loaded.commands.items loaded.place)
+        (UnlessUnread (HoldsNothing version image)) }
 {
     match decoded {
         Ok(state) => with_journal(alloc, version, opened.header, &opened.front, state),
@@ -250,21 +235,16 @@ pub(crate) fn interpreted(
 ///
 /// Whatever the device answers, what is given keeps the facts of a store and of a state.
 pub fn load_latest<D: Sectors>(alloc: Global, device: &mut D) -> Result<Loaded, StoreFault>
-    ensures small { D.len device.old < 802 → device.new ≡ device.old }
-    ensures told { D.len device.old < 802 → IsErrOf result StoreFault.NotFormatted }
+    ensures small { D.len device.old < least_sectors
+        → (device.new ≡ device.old) × IsErrOf result StoreFault.NotFormatted }
     ensures fails { IfErr result IsOfLoad }
     ensures standing { IfOk result
-        (λ loaded. IsStanding 8450 (D.len device.old) loaded.state loaded.place) }
+        (λ loaded. IsStanding (sectors_in version_2) (D.len device.old) loaded.state loaded.place) }
     ensures found { D.honest device.new
         → MatchResult result (λ loaded.
         Holds Two (D.seen device.old) loaded.state loaded.commands.items loaded.place)
         (UnlessUnread (HoldsNothing Two (D.seen device.old))) }
-    ensures same_len { D.len device.new ≡ D.len device.old }
-    ensures same_calls { D.calls device.new ≡ D.calls device.old }
-    ensures fault { D.faults device.new ≡ faults_after_reading result (D.faults device.old) }
-    ensures honest { D.honest device.new → D.honest device.old }
-    ensures kept { D.honest device.new
-        → IsUnchanged D.clock D.possible_since D.possible D.seen D.calls device.old device.new }
+    ensures reads { ReadsOnly D.Sectors (faults_after_reading result) device.old device.new }
 {
     let parts = match read_parts(alloc, device, Version::Two) {
         Ok(parts) => parts,
@@ -277,21 +257,16 @@ pub fn load_latest<D: Sectors>(alloc: Global, device: &mut D) -> Result<Loaded, 
 /// The same for a store of version 1, by its layout, bytes and limits. Records that add a stop past number 4,000 are `Codec(BadField)`: the numbers
 /// go on from the next one of the snapshot, record by record.
 pub fn load_latest_v1<D: Sectors>(alloc: Global, device: &mut D) -> Result<Loaded, StoreFault>
-    ensures small { D.len device.old < 802 → device.new ≡ device.old }
-    ensures told { D.len device.old < 802 → IsErrOf result StoreFault.NotFormatted }
+    ensures small { D.len device.old < least_sectors
+        → (device.new ≡ device.old) × IsErrOf result StoreFault.NotFormatted }
     ensures fails { IfErr result IsOfLoad }
     ensures standing { IfOk result
-        (λ loaded. IsStanding 802 (D.len device.old) loaded.state loaded.place) }
+        (λ loaded. IsStanding (sectors_in version_1) (D.len device.old) loaded.state loaded.place) }
     ensures found { D.honest device.new
         → MatchResult result (λ loaded.
         Holds One (D.seen device.old) loaded.state loaded.commands.items loaded.place)
         (UnlessUnread (HoldsNothing One (D.seen device.old))) }
-    ensures same_len { D.len device.new ≡ D.len device.old }
-    ensures same_calls { D.calls device.new ≡ D.calls device.old }
-    ensures fault { D.faults device.new ≡ faults_after_reading result (D.faults device.old) }
-    ensures honest { D.honest device.new → D.honest device.old }
-    ensures kept { D.honest device.new
-        → IsUnchanged D.clock D.possible_since D.possible D.seen D.calls device.old device.new }
+    ensures reads { ReadsOnly D.Sectors (faults_after_reading result) device.old device.new }
 {
     let parts = match read_parts(alloc, device, Version::One) {
         Ok(parts) => parts,

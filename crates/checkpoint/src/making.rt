@@ -1,31 +1,28 @@
 //! Making a store: zeros over the headers and records, a snapshot, its header, each with a sync.
 ghost use Rattle.command_core.specs.declared.states.State.TheVariants.{Empty};
-ghost use Rattle.state_codec.specs.declared.version.Version.TheVariants.{Two};
-ghost use Rattle.checkpoint.specs.Holds.{Holds};
+ghost use Rattle.checkpoint.specs.Holds.{HoldsAt};
 ghost use Rattle.std.specs.Prelude.{◌≡◌, ◌↔◌, ◌+◌, ◌*◌, ◌%◌, ◌<◌, ◌≤◌, ℕ, List, [], length, take, OnOk, IfOk, IfErr, IsErrOf};
-ghost use Rattle.sector_disk.specs.Sectors.{Only, Throughout, faults_after};
-ghost use Rattle.checkpoint.specs.Layouts.{version_2};
-ghost use Rattle.checkpoint.specs.Stores.{Stores, IsUnformatted};
+ghost use Rattle.sector_disk.specs.Sectors.{Only, more, faults_after};
+ghost use Rattle.sector_disk.specs.Calls.{Calls, During};
+ghost use Rattle.checkpoint.specs.Layouts.{version_2, sectors_in};
+ghost use Rattle.checkpoint.specs.Places.{first_place};
+ghost use Rattle.checkpoint.specs.Making.{Formats};
+ghost use Rattle.checkpoint.specs.Stores.{HasStored, IsUnformatted};
 ghost use Rattle.checkpoint.specs.Moments.{IsInFormat};
 ghost use Rattle.checkpoint.specs.Puts.{IsZeros};
-ghost use Rattle.checkpoint.specs.Written.{cleared, with_both, with_state};
-ghost use Rattle.checkpoint.specs.Refused.{faults_after_format, IsKeptByFormat, OnCalls};
+ghost use Rattle.checkpoint.specs.Written.{cleared, first_header, with_both, with_state};
+ghost use Rattle.checkpoint.specs.Refused.{faults_after_format, IsKeptByFormat};
 
 use crate::encoding::snapshot_of;
 use crate::faults::FormatFault;
 use crate::headers::Header;
+use crate::layouts::{FRONT, SECTORS};
 use crate::places::Place;
 use crate::puts::{put, put_snapshot};
 use crate::zeros::zeros;
 use command_core::State;
 use sector_disk::{DeviceFault, SECTOR_SIZE, Sectors};
 use std::alloc::Global;
-
-/// How many sectors a store has.
-const SECTORS: u64 = 8450;
-
-/// The bytes of the headers and of the records.
-pub(crate) const FRONT: usize = 258 * 512;
 
 // Writes zeros over the headers and the records, and then the first snapshot with its header. Its bytes are the first of `bytes`. Six calls.
 fn put_all<D: Sectors>(
@@ -38,19 +35,16 @@ fn put_all<D: Sectors>(
     requires some { 1 ≤ size }
     requires length { size ≤ length bytes.now }
     requires whole { length bytes.now % 512 ≡ 0 }
-    requires fits { length bytes.now ≤ 512 * 4096 }
-    requires room { 8450 ≤ D.len device.old }
+    requires fits { length bytes.now ≤ 512 * version_2.half }
+    requires room { sectors_in version_2 ≤ D.len device.old }
 
-    ensures same_len { D.len device.new ≡ D.len device.old }
-    ensures finished { OnOk result (D.calls device.new ≡ D.calls device.old + 6) }
-    ensures fault { D.faults device.new ≡ faults_after result (D.faults device.old) }
-    ensures honest { D.honest device.new → D.honest device.old }
+    ensures called { Calls D.Sectors (more result 6) (faults_after result) device.old device.new }
     ensures moments { D.honest device.new
-        → Throughout D.clock D.possible_since device.old device.new
-        (IsInFormat (IsUnformatted version_2) (λ image. Stores version_2 image 1 (take size bytes.now) []) (D.calls device.old)) }
+        → During D.Sectors device.old device.new
+        (IsInFormat (IsUnformatted version_2) (HasStored 1 (take size bytes.now) [])) }
     ensures durable { D.honest device.new
-        → OnOk result (Only (with_both (record { sequence = 1; length = size }) bytes.now
-        (cleared (D.seen device.old))) (D.possible device.new)) }
+        → OnOk result (Only (with_both (first_header size) bytes.now (cleared (D.seen device.old)))
+        (D.possible device.new)) }
 {
     put(device, 0, zeros)?;
     put_snapshot(
@@ -73,21 +67,18 @@ pub(crate) fn make<D: Sectors>(
     requires some { 1 ≤ size }
     requires length { size ≤ length bytes.now }
     requires whole { length bytes.now % 512 ≡ 0 }
-    requires fits { length bytes.now ≤ 512 * 4096 }
+    requires fits { length bytes.now ≤ 512 * version_2.half }
 
-    ensures place { IfOk result (λ place. place ≡ record { sequence = 1; used = 0 }) }
-    ensures too_small { IsErrOf result FormatFault.TooSmall ↔ D.len device.old < 8450 }
+    ensures place { IfOk result (λ place. place ≡ first_place) }
+    ensures too_small { IsErrOf result FormatFault.TooSmall
+        ↔ D.len device.old < sectors_in version_2 }
     ensures kept { IfErr result (λ fault. IsKeptByFormat fault device.old device.new) }
-    ensures same_len { D.len device.new ≡ D.len device.old }
-    ensures finished { OnOk result (D.calls device.new ≡ D.calls device.old + 6) }
-    ensures fault { D.faults device.new ≡ faults_after_format result (D.faults device.old) }
-    ensures honest { D.honest device.new → D.honest device.old }
-    ensures moments { D.honest device.new
-        → OnCalls result (Throughout D.clock D.possible_since device.old device.new
-        (IsInFormat (IsUnformatted version_2) (λ image. Stores version_2 image 1 (take size bytes.now) []) (D.calls device.old))) }
-    ensures durable { D.honest device.new
-        → OnOk result (Only (with_both (record { sequence = 1; length = size }) bytes.now
-        (cleared (D.seen device.old))) (D.possible device.new)) }
+    ensures called { Calls D.Sectors (more result 6) (faults_after_format result)
+        device.old device.new }
+    ensures formats { D.honest device.new
+        → Formats D.Sectors result (HasStored 1 (take size bytes.now) [])
+        (with_both (first_header size) bytes.now (cleared (D.seen device.old)))
+        device.old device.new }
 {
     if device.len() < SECTORS {
         return Err(FormatFault::TooSmall);
@@ -109,22 +100,15 @@ pub(crate) fn make<D: Sectors>(
 /// holds it: then the image is what reads gave before with zeros in sectors 0 to 257, the snapshot's sector and its header. `TooSmall` below 8,450 sectors; neither that nor `OutOfMemory` has called the device. After `DeviceFault` there is no store until a format
 /// succeeds.
 pub fn format<D: Sectors>(alloc: Global, device: &mut D) -> Result<Place, FormatFault>
-    ensures place { IfOk result (λ place. place ≡ record { sequence = 1; used = 0 }) }
-    ensures too_small { IsErrOf result FormatFault.TooSmall ↔ D.len device.old < 8450 }
+    ensures place { IfOk result (λ place. place ≡ first_place) }
+    ensures too_small { IsErrOf result FormatFault.TooSmall
+        ↔ D.len device.old < sectors_in version_2 }
     ensures kept { IfErr result (λ fault. IsKeptByFormat fault device.old device.new) }
-    ensures same_len { D.len device.new ≡ D.len device.old }
-    ensures finished { OnOk result (D.calls device.new ≡ D.calls device.old + 6) }
-    ensures fault { D.faults device.new ≡ faults_after_format result (D.faults device.old) }
-    ensures honest { D.honest device.new → D.honest device.old }
-    ensures moments { D.honest device.new
-        → OnCalls result (Throughout D.clock D.possible_since device.old device.new
-        (IsInFormat (IsUnformatted version_2) (λ image. Holds Two image Empty [] (record { sequence = 1; used = 0 })) (D.calls device.old))) }
-    ensures after { D.honest device.new
-        → OnOk result ((image : List ℕ) → D.possible device.new image
-        → Holds Two image Empty [] (record { sequence = 1; used = 0 })) }
-    ensures durable { D.honest device.new
-        → OnOk result (Only (with_state 1 Empty (cleared (D.seen device.old)))
-        (D.possible device.new)) }
+    ensures called { Calls D.Sectors (more result 6) (faults_after_format result)
+        device.old device.new }
+    ensures formats { D.honest device.new
+        → Formats D.Sectors result (HoldsAt Empty [] first_place)
+        (with_state 1 Empty (cleared (D.seen device.old))) device.old device.new }
 {
     make(alloc, device, 1, &[0; SECTOR_SIZE])
 }
@@ -135,22 +119,15 @@ pub fn format_with<D: Sectors>(
     device: &mut D,
     state: &State,
 ) -> Result<Place, FormatFault>
-    ensures place { IfOk result (λ place. place ≡ record { sequence = 1; used = 0 }) }
-    ensures too_small { IsErrOf result FormatFault.TooSmall ↔ D.len device.old < 8450 }
+    ensures place { IfOk result (λ place. place ≡ first_place) }
+    ensures too_small { IsErrOf result FormatFault.TooSmall
+        ↔ D.len device.old < sectors_in version_2 }
     ensures kept { IfErr result (λ fault. IsKeptByFormat fault device.old device.new) }
-    ensures same_len { D.len device.new ≡ D.len device.old }
-    ensures finished { OnOk result (D.calls device.new ≡ D.calls device.old + 6) }
-    ensures fault { D.faults device.new ≡ faults_after_format result (D.faults device.old) }
-    ensures honest { D.honest device.new → D.honest device.old }
-    ensures moments { D.honest device.new
-        → OnCalls result (Throughout D.clock D.possible_since device.old device.new
-        (IsInFormat (IsUnformatted version_2) (λ image. Holds Two image state.now [] (record { sequence = 1; used = 0 })) (D.calls device.old))) }
-    ensures after { D.honest device.new
-        → OnOk result ((image : List ℕ) → D.possible device.new image
-        → Holds Two image state.now [] (record { sequence = 1; used = 0 })) }
-    ensures durable { D.honest device.new
-        → OnOk result (Only (with_state 1 state.now (cleared (D.seen device.old)))
-        (D.possible device.new)) }
+    ensures called { Calls D.Sectors (more result 6) (faults_after_format result)
+        device.old device.new }
+    ensures formats { D.honest device.new
+        → Formats D.Sectors result (HoldsAt state.now [] first_place)
+        (with_state 1 state.now (cleared (D.seen device.old))) device.old device.new }
 {
     if device.len() < SECTORS {
         return Err(FormatFault::TooSmall);

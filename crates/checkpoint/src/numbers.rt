@@ -1,6 +1,7 @@
 //! The numbers of the stops that a journal adds. In version 1 they are judged from the snapshot's next number and from how many
 //! stops each record adds, without applying a command.
 ghost use Rattle.std.specs.Prelude.{◌≡◌, ◌≤◌, ◌*◌, ◌↔◌, length, IsTrue};
+ghost use Rattle.checkpoint.specs.Layouts.{journal_room};
 ghost use Rattle.checkpoint.specs.Numbers.{stops_added, all_added, next_number_of, HaveNumbers};
 
 use command_core::{Command, State};
@@ -31,7 +32,7 @@ fn stops_added(command: &Command) -> u32
 
 // How many stops the commands of a journal add.
 fn all_added(commands: &[Command]) -> u32
-    requires { length commands.now ≤ 256 }
+    requires { length commands.now ≤ journal_room }
     ensures added { result ≡ all_added commands.now }
     ensures few { result ≤ 512 }
 {
@@ -55,7 +56,7 @@ fn next_number_of(state: &State) -> u32
 
 /// Whether the stops that the commands of a journal add to a state have numbers of the version.
 pub(crate) fn have_numbers(version: Version, state: &State, commands: &[Command]) -> bool
-    requires { length commands.now ≤ 256 }
+    requires { length commands.now ≤ journal_room }
     ensures { IsTrue result ↔ HaveNumbers version state.now commands.now }
 {
     match version {

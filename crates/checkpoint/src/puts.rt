@@ -1,10 +1,10 @@
 //! Writes that are made durable.
 ghost use Rattle.std.specs.Prelude.{◌≡◌, ◌+◌, ◌*◌, ◌%◌, ◌<◌, ◌≤◌, ◌^◌, ℕ, List, [], ◌∷◌, ◌++◌, length, take, OnOk};
 ghost use Rattle.sector_disk.specs.Image.{written};
-ghost use Rattle.sector_disk.specs.Sectors.{Only, Reached, Throughout, faults_after};
-ghost use Rattle.checkpoint.specs.Layouts.{version_2};
-ghost use Rattle.checkpoint.specs.Stores.{Stores, IsUnformatted, begins_with};
-ghost use Rattle.checkpoint.specs.Moments.{IsInCommit, IsInFormat, IsInRecord};
+ghost use Rattle.sector_disk.specs.Sectors.{Only, Reached, more, faults_after};
+ghost use Rattle.sector_disk.specs.Calls.{Calls, CommitsFrom, During};
+ghost use Rattle.checkpoint.specs.Layouts.{version_2, journal_room, last_sequence, sectors_in};
+ghost use Rattle.checkpoint.specs.Stores.{HasStored, begins_with};
 ghost use Rattle.checkpoint.specs.Puts.{IsInPut, IsInSnapshot};
 ghost use Rattle.checkpoint.specs.Written.{with_both};
 
@@ -18,10 +18,7 @@ pub(crate) fn put<D: Sectors>(device: &mut D, first: u64, bytes: &[u8]) -> Resul
     requires whole { length bytes.now % 512 ≡ 0 }
     requires inside { 512 * first + length bytes.now ≤ 512 * D.len device.old }
 
-    ensures same_len { D.len device.new ≡ D.len device.old }
-    ensures finished { OnOk result (D.calls device.new ≡ D.calls device.old + 2) }
-    ensures fault { D.faults device.new ≡ faults_after result (D.faults device.old) }
-    ensures honest { D.honest device.new → D.honest device.old }
+    ensures called { Calls D.Sectors (more result 2) (faults_after result) device.old device.new }
     ensures seen { D.honest device.new
         → OnOk result (D.seen device.new ≡ written first bytes.now (D.seen device.old)) }
     ensures durable { D.honest device.new
@@ -29,8 +26,8 @@ pub(crate) fn put<D: Sectors>(device: &mut D, first: u64, bytes: &[u8]) -> Resul
     ensures left { D.honest device.new → (image : List ℕ) → D.possible device.new image
         → Reached first bytes.now (D.possible device.old) image }
     ensures moments { D.honest device.new
-        → Throughout D.clock D.possible_since device.old device.new
-        (IsInPut first bytes.now (D.possible device.old) (D.seen device.old) (D.calls device.old)) }
+        → During D.Sectors device.old device.new
+        (IsInPut first bytes.now (D.possible device.old) (D.seen device.old)) }
 {
     device.write(first, bytes)?;
     device.sync()
@@ -44,19 +41,16 @@ pub(crate) fn put_snapshot<D: Sectors>(
 ) -> Result<(), DeviceFault>
     requires some { 0 < length bytes.now }
     requires whole { length bytes.now % 512 ≡ 0 }
-    requires fits { length bytes.now ≤ 512 * 4096 }
-    requires room { 8450 ≤ D.len device.old }
+    requires fits { length bytes.now ≤ 512 * version_2.half }
+    requires room { sectors_in version_2 ≤ D.len device.old }
 
-    ensures same_len { D.len device.new ≡ D.len device.old }
-    ensures finished { OnOk result (D.calls device.new ≡ D.calls device.old + 4) }
-    ensures fault { D.faults device.new ≡ faults_after result (D.faults device.old) }
-    ensures honest { D.honest device.new → D.honest device.old }
+    ensures called { Calls D.Sectors (more result 4) (faults_after result) device.old device.new }
     ensures durable { D.honest device.new
         → OnOk result (Only (with_both header bytes.now (D.seen device.old))
         (D.possible device.new)) }
     ensures moments { D.honest device.new
-        → Throughout D.clock D.possible_since device.old device.new
-        (IsInSnapshot header bytes.now (D.possible device.old) (D.seen device.old) (D.calls device.old)) }
+        → During D.Sectors device.old device.new
+        (IsInSnapshot header bytes.now (D.possible device.old) (D.seen device.old)) }
 {
     put(device, half_start(VERSION_2, header.sequence), bytes)?;
     put(
@@ -75,19 +69,15 @@ pub(crate) fn advance<D: Sectors>(
     requires some { 1 ≤ header.length }
     requires length { header.length ≤ length bytes.now }
     requires whole { length bytes.now % 512 ≡ 0 }
-    requires fits { length bytes.now ≤ 512 * 4096 }
-    requires last { header.sequence ≤ 2 ^ 60 }
-    requires room { 8450 ≤ D.len device.old }
+    requires fits { length bytes.now ≤ 512 * version_2.half }
+    requires last { header.sequence ≤ last_sequence }
+    requires room { sectors_in version_2 ≤ D.len device.old }
 
-    ensures same_len { D.len device.new ≡ D.len device.old }
-    ensures finished { OnOk result (D.calls device.new ≡ D.calls device.old + 4) }
-    ensures fault { D.faults device.new ≡ faults_after result (D.faults device.old) }
-    ensures honest { D.honest device.new → D.honest device.old }
-    ensures moments { D.honest device.new
-        → (sequence : ℕ) (state : List ℕ) (journal : List (List ℕ)) → header.sequence ≡ sequence + 1
-        → ((image : List ℕ) → D.possible device.old image → Stores version_2 image sequence state journal)
-        → Throughout D.clock D.possible_since device.old device.new (IsInCommit (λ image. Stores version_2 image sequence state journal)
-        (λ image. Stores version_2 image header.sequence (take header.length bytes.now) []) (D.calls device.old)) }
+    ensures called { Calls D.Sectors (more result 4) (faults_after result) device.old device.new }
+    ensures commits { (sequence : ℕ) (state : List ℕ) (journal : List (List ℕ))
+        → header.sequence ≡ sequence + 1
+        → CommitsFrom D.Sectors result 4 2 (HasStored sequence state journal)
+        (HasStored header.sequence (take header.length bytes.now) []) device.old device.new }
     ensures durable { D.honest device.new
         → OnOk result (Only (with_both header bytes.now (D.seen device.old))
         (D.possible device.new)) }
@@ -97,20 +87,15 @@ pub(crate) fn advance<D: Sectors>(
 
 /// Commits a record behind the journal. Its bytes begin with the sequence.
 pub(crate) fn extend<D: Sectors>(device: &mut D, used: u32, bytes: &[u8]) -> Result<(), DeviceFault>
-    requires free { used < 256 }
+    requires free { used < journal_room }
     requires one { length bytes.now ≡ 512 }
-    requires room { 8450 ≤ D.len device.old }
+    requires room { sectors_in version_2 ≤ D.len device.old }
 
-    ensures same_len { D.len device.new ≡ D.len device.old }
-    ensures finished { OnOk result (D.calls device.new ≡ D.calls device.old + 2) }
-    ensures fault { D.faults device.new ≡ faults_after result (D.faults device.old) }
-    ensures honest { D.honest device.new → D.honest device.old }
-    ensures moments { D.honest device.new
-        → (sequence : ℕ) (state : List ℕ) (journal : List (List ℕ))
+    ensures called { Calls D.Sectors (more result 2) (faults_after result) device.old device.new }
+    ensures commits { (sequence : ℕ) (state : List ℕ) (journal : List (List ℕ))
         → begins_with bytes.now ≡ sequence → used ≡ length journal
-        → ((image : List ℕ) → D.possible device.old image → Stores version_2 image sequence state journal)
-        → Throughout D.clock D.possible_since device.old device.new (IsInRecord (λ image. Stores version_2 image sequence state journal)
-        (λ image. Stores version_2 image sequence state (journal ++ bytes.now ∷ [])) (D.calls device.old)) }
+        → CommitsFrom D.Sectors result 2 0 (HasStored sequence state journal)
+        (HasStored sequence state (journal ++ bytes.now ∷ [])) device.old device.new }
     ensures durable { D.honest device.new
         → OnOk result (Only (written (2 + used) bytes.now (D.seen device.old))
         (D.possible device.new)) }

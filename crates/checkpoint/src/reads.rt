@@ -1,6 +1,6 @@
 //! Reading a run of sectors.
 ghost use Rattle.std.specs.Prelude.{◌≡◌, ◌+◌, ◌*◌, ◌%◌, ◌<◌, ◌≤◌, ℕ, List, length, take, drop, OnOk, OnErr, IfOk, IfErr};
-ghost use Rattle.checkpoint.specs.Reads.{IsUnchanged};
+ghost use Rattle.checkpoint.specs.Reads.{ReadsOnly};
 ghost use Rattle.checkpoint.specs.Refused.{IsOfReading, faults_after_reading};
 
 use crate::faults::StoreFault;
@@ -23,12 +23,7 @@ pub(crate) fn read_run<D: Sectors>(
     ensures long { IfOk result (λ bytes. length bytes.items ≡ size) }
     ensures bytes { D.honest device.new
         → IfOk result (λ bytes. bytes.items ≡ take size (drop (512 * first) (D.seen device.old))) }
-    ensures same_len { D.len device.new ≡ D.len device.old }
-    ensures same_calls { D.calls device.new ≡ D.calls device.old }
-    ensures fault { D.faults device.new ≡ faults_after_reading result (D.faults device.old) }
-    ensures honest { D.honest device.new → D.honest device.old }
-    ensures kept { D.honest device.new
-        → IsUnchanged D.clock D.possible_since D.possible D.seen D.calls device.old device.new }
+    ensures reads { ReadsOnly D.Sectors (faults_after_reading result) device.old device.new }
 {
     let mut bytes = zeros(alloc, size)?;
     match device.read(first, &mut bytes) {

@@ -121,6 +121,6 @@ module _ {D : Type 0} (on : sectors.Ghosts D) where
   -- a device that is honest behind a run was so before it
   pub honest_before : (commands : List Command) (answers : List SessionReply) (old new : SessionValue D) → IsRunOn on old commands answers new → on.honest new.device → on.honest old.device
   honest_before [] [] old new run h = subst (λ (s : SessionValue D). on.honest s.device) run h
-  honest_before (command ∷ commands) (reply ∷ answers) old new run h = run.1.honest_before (honest_before commands answers run.0 new run.2 h)
+  honest_before (command ∷ commands) (reply ∷ answers) old new run h = run.1.called.honest_before (honest_before commands answers run.0 new run.2 h)
   honest_before [] (reply ∷ answers) old new run h = elim run [ ]
   honest_before (command ∷ commands) [] old new run h = elim run [ ]

@@ -111,9 +111,9 @@ module _ {D : Type 0} (on : sectors.Ghosts D) where
     where
       by_answer : (answer : Result (Unit {0}) Denial) (n : ℕ) → IsAppliedOn on old command (answers_so answer n) run.0 → on.faults new.device ≡ faults_told (fates_of acts) (on.faults run.0.device)
           → on.faults new.device ≡ faults_told (fates_of (Applied command (answers_so answer n) ∷ acts)) (on.faults old.device)
-      by_answer (Ok done) n applied more = more ∙ ap (faults_told (fates_of acts)) applied.fault
-      by_answer (Err DeviceFault) n applied more = more ∙ ap (faults_told (fates_of acts)) applied.fault
-      by_answer (Err Spent) n applied more = more ∙ ap (faults_told (fates_of acts)) applied.fault
-      by_answer (Err OutOfMemory) n applied more = more ∙ ap (faults_told (fates_of acts)) applied.fault
-      by_answer (Err Broken) n applied more = more ∙ ap (faults_told (fates_of acts)) applied.fault
-      by_answer (Err (Core r)) n applied more = more ∙ ap (faults_told (fates_of acts)) applied.fault
+      by_answer (Ok done) n applied more = more ∙ ap (faults_told (fates_of acts)) applied.called.fault
+      by_answer (Err DeviceFault) n applied more = more ∙ ap (faults_told (fates_of acts)) applied.called.fault
+      by_answer (Err Spent) n applied more = more ∙ ap (faults_told (fates_of acts)) applied.called.fault
+      by_answer (Err OutOfMemory) n applied more = more ∙ ap (faults_told (fates_of acts)) applied.called.fault
+      by_answer (Err Broken) n applied more = more ∙ ap (faults_told (fates_of acts)) applied.called.fault
+      by_answer (Err (Core r)) n applied more = more ∙ ap (faults_told (fates_of acts)) applied.called.fault

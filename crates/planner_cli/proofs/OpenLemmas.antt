@@ -56,20 +56,20 @@ module _ {D : Type 0} (on : sectors.Ghosts D) (old read : D) where
     opens = λ honest. opens_none never (on.seen old) fault (nothing honest);
     fails = fails;
     small = λ short. (same_fault (unread fault) (unread NotFormatted) fault NotFormatted refl refl (only.told short), only.small short);
-    moments = λ honest. weakened on.clock on.possible_since old read _ _ (λ m image at. ((omega (arith, at.0), omega (arith, at.0)), at.1)) (only.kept honest).moments;
-    honest = only.honest;
-    faults = only.fault;
+    moments = λ honest. weakened on.clock on.possible_since old read _ _ (λ m image at. ((omega (arith, at.0), omega (arith, at.0)), at.1)) (only.read.kept honest).moments;
+    honest = only.read.called.honest_before;
+    faults = only.read.called.fault;
   }
 
   -- It was read, and then opened.
   module _ (steps : ℕ) (only : IsOnlyRead on (found steps) old read) where
     kept : on.honest read → IsUnchanged on.clock on.possible_since on.possible on.seen on.calls old read
-    kept = only.kept
+    kept = only.read.kept
 
     -- a moment of the opening is one in which the images are those before the reading
     within : (m : ℕ) (image : List ℕ) → on.honest read → IsBetween (on.calls read) (on.calls read + 1) m image × on.possible read image
         → IsBetween (on.calls old) (on.calls old + 1) m image × on.possible old image
-    within m image honest at = (subst (λ (n : ℕ). IsBetween n (n + 1) m image) only.same_calls at.0, (kept honest).images.nothing_else image at.1)
+    within m image honest at = (subst (λ (n : ℕ). IsBetween n (n + 1) m image) only.read.called.finished at.0, (kept honest).images.nothing_else image at.1)
 
     -- so is a moment of the reading
     before : (m : ℕ) (image : List ℕ) → (m ≡ on.calls old) × on.possible old image → IsBetween (on.calls old) (on.calls old + 1) m image × on.possible old image
@@ -89,8 +89,8 @@ module _ {D : Type 0} (on : sectors.Ghosts D) (old read : D) where
       fails = behind.fails;
       small = λ short. absurd (not_refused (found steps) steps NotFormatted refl (only.told short));
       moments = λ honest. moments after (behind.honest honest) (behind.moments honest);
-      honest = λ honest. only.honest (behind.honest honest);
-      faults = behind.faults ∙ ap (faults_of_store fault) only.fault;
+      honest = λ honest. only.read.called.honest_before (behind.honest honest);
+      faults = behind.faults ∙ ap (faults_of_store fault) only.read.called.fault;
     }
 
     pub opened_behind : (session : SessionValue D) (replayed : ℕ) → IsOpened on read session replayed → IsOpened on old session replayed
@@ -102,10 +102,10 @@ module _ {D : Type 0} (on : sectors.Ghosts D) (old read : D) where
           replays = λ honest. subst (λ (image : List ℕ). IsReplayed Two image session.state session.place replayed) (same honest) (behind.replays honest);
           stands = behind.stands;
           moments = λ honest. moments session.device (behind.honest honest) (behind.moments honest);
-          honest = λ honest. only.honest (behind.honest honest);
+          honest = λ honest. only.read.called.honest_before (behind.honest honest);
           facts = behind.facts;
           whole = behind.whole;
-          finished = behind.finished ∙ ap (λ (n : ℕ). n + 1) only.same_calls;
-          faults = behind.faults ∙ only.fault;
-          same_len = behind.same_len ∙ only.same_len;
+          finished = behind.finished ∙ ap (λ (n : ℕ). n + 1) only.read.called.finished;
+          faults = behind.faults ∙ only.read.called.fault;
+          same_len = behind.same_len ∙ only.read.called.same_len;
         }

@@ -67,7 +67,7 @@ module _ {D : Type 0} (on : sectors.Ghosts D) where
       first : (answer : Result (Unit {0}) Denial) (n : ℕ) → IsAppliedOn on old command (answers answer n) run.0 → (m ≤ on.calls run.0.device → acked m replies ≡ 0)
           → (run.0.is_broken ≡ true → acked m replies ≡ 0) → acked m (answers answer n ∷ replies) ≡ 0
       first (Ok done) n applied later broken =
-          let calls : on.calls run.0.device ≡ on.calls old.device + calls_of old.place command = applied.finished in
+          let calls : on.calls run.0.device ≡ on.calls old.device + calls_of old.place command = applied.called.finished in
           let below : nat_le n m ≡ false = lt-leb n m (omega (arith, le, calls, some_calls old.place command, applied.count)) in
           unacked m (answers (Ok done) n) replies below (later (omega (arith, le, calls)))
       first (Err DeviceFault) n applied later broken = unacked m (answers (Err DeviceFault) n) replies refl (broken applied.makes.is_broken)

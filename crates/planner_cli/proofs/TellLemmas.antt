@@ -2,6 +2,7 @@
 use Rattle.std.proofs.Common.{◌≡◌, ◌∙◌, ◌<◌, ◌||◌, ℕ, Bool, true, false, true≢false, List, Option, Some, None, Result, Ok, Err, refl, sym, ap, subst, arith}
 use Rattle.std.specs.Prelude.{◌≢◌, ◌↔◌, IfErr, IsErrOf, OnOk}
 use Rattle.std.specs.Result.{result_err}
+use Rattle.checkpoint.specs.Layouts.{version_2, sectors_in}
 use Rattle.command_core.specs.Effects.{effect}
 use Rattle.command_core.specs.declared.commands.Command.{Command}
 use Rattle.command_core.specs.declared.states.State.{State}
@@ -54,7 +55,7 @@ served_between on served reading old new input b b' a a' first last given =
     subst (λ (x : Stream). EndsOrIsCut on served reading old input x a new) first (subst (λ (x : Stream). EndsOrIsCut on served reading old input b' x new) last given)
 
 -- a device of a store's sectors is not too small
-pub not_too_small : {T E : Type 0} (made : Result T E) (fault : E) (len : ℕ) → IsErrOf made fault ↔ (len < 8450) → len ≡ 8450 → result_err made ≢ Some fault
+pub not_too_small : {T E : Type 0} (made : Result T E) (fault : E) (len : ℕ) → IsErrOf made fault ↔ (len < sectors_in version_2) → len ≡ sectors_in version_2 → result_err made ≢ Some fault
 not_too_small (Ok x) fault len small is told = absurd cc
 not_too_small (Err f) fault len small is told = let same : f ≡ fault = cc in absurd (omega (arith, is, small.0 (ap (λ x. Err x) same)))
 

@@ -3,7 +3,7 @@ use Rattle.std.specs.Prelude.{◌≡◌, ◌≢◌, ◌⊎◌, ℕ, ◌+◌, Lis
 use Rattle.std.specs.Result.{result_err}
 use Rattle.std.specs.Io.KnownBytes.{Appends}
 use Rattle.checkpoint.specs.Holds.{Holds}
-use Rattle.checkpoint.specs.Layouts.{version_2}
+use Rattle.checkpoint.specs.Layouts.{version_2, sectors_in}
 use Rattle.checkpoint.specs.Moments.{IsInFormat}
 use Rattle.checkpoint.specs.Refused.{IsKeptByFormat, OnCalls, faults_after_format}
 use Rattle.checkpoint.specs.Stores.{IsUnformatted}
@@ -34,6 +34,6 @@ module _ {D : Type 0} (on : sectors.Ghosts D) where
   -- A store of 8,450 sectors is made in the file, or it is told why there is none. `IsNew` is what is known of the device over the file.
   abbrev pub FormatsStore : (D → Type 0) → List ℕ → Option (List ℕ) → Option (List ℕ) → ℕ → Type 0
   FormatsStore IsNew path before after status =
-      ((old : D) × (new : D) × (made : Result Place FormatFault) × IsNew old × (on.len old ≡ 8450) × IsFormatted old new made
+      ((old : D) × (new : D) × (made : Result Place FormatFault) × IsNew old × (on.len old ≡ sectors_in version_2) × IsFormatted old new made
       × (result_err made ≢ Some TooSmall) × (status ≡ format_status (result_err made)) × Appends before after (format_line (result_err made)))
       ⊎ ((fault : FileFault) × (fault ≢ BadLength) × (status ≡ open_status fault) × Appends before after (open_line path fault))

@@ -5,6 +5,7 @@ use Rattle.std.specs.declared.io.ErrorKind.{ErrorKind}
 use Rattle.plan_types.specs.Instance.{Instance}
 use Rattle.instance_read.specs.Faults.{TellsFirstFault}
 use Rattle.instance_read.specs.declared.faults.ReadFault.{ReadFault}
+use Rattle.checkpoint.specs.Layouts.{version_2, sectors_in}
 use Rattle.checkpoint.specs.declared.faults.FormatFault.{FormatFault}
 use Rattle.checkpoint.specs.declared.faults.StoreFault.TheVariants.{NotFormatted}
 use Rattle.checkpoint.specs.declared.places.Place.{Place}
@@ -80,7 +81,7 @@ module _ {D : Type 0} (on : sectors.Ghosts D) where
   -- A file of 8,450 sectors is made, and a store in it begun, or it is told why there is none. `IsNew` is what is known of the device over it.
   abbrev pub BeginsNew : (D → Type 0) → List ℕ → Command → Option (List ℕ) → Option (List ℕ) → ℕ → Type 0
   BeginsNew IsNew path command before after status =
-      ((device : D) × (left : D) × IsNew device × (on.len device ≡ 8450) × BeginsMade device command before after left status)
+      ((device : D) × (left : D) × IsNew device × (on.len device ≡ sectors_in version_2) × BeginsMade device command before after left status)
       ⊎ ((fault : FileFault) × (status ≡ open_status fault) × Appends before after (open_line path fault))
 
 module _ {D E : Type 0} (on_old : sectors.Ghosts D) (on_new : sectors.Ghosts E) (IsOld : D → Type 0) (IsNew : E → Type 0) where

@@ -2,6 +2,7 @@
 use Rattle.std.specs.Prelude.{◌≡◌, ◌⊎◌, ℕ, ◌+◌, ◌<◌, ◌||◌, ◌^◌, Bool, true, false, List, [], ◌++◌, length, codes, decimal, Option, Some, None, Result, Ok, Err, IfErr, OnOk, ⊤}
 use Rattle.std.specs.Io.KnownBytes.{Appends}
 use Rattle.checkpoint.specs.Holdless.{IsOfLoad, UnlessUnread}
+use Rattle.checkpoint.specs.Layouts.{least_sectors}
 use Rattle.checkpoint.specs.Refused.{faults_of_store}
 use Rattle.checkpoint.specs.declared.faults.StoreFault.{StoreFault}
 use Rattle.checkpoint.specs.declared.faults.StoreFault.TheVariants.{NotFormatted}
@@ -108,7 +109,7 @@ module _ {D : Type 0} (on : sectors.Ghosts D) where
     pub refused : on.honest after → UnlessUnread (StandsForNone Two (on.seen device)) fault
     pub opens : on.honest after → Opens Two (on.seen device) (Err fault)
     pub fails : IsOfLoad fault
-    pub small : on.len device < 802 → (fault ≡ NotFormatted) × (after ≡ device)
+    pub small : on.len device < least_sectors → (fault ≡ NotFormatted) × (after ≡ device)
     pub moments : on.honest after
         → Throughout on.clock on.possible_since device after (λ m image. IsBetween (on.calls device) (on.calls device + 1) m image × on.possible device image)
     pub honest : on.honest after → on.honest device

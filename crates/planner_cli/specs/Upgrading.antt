@@ -2,6 +2,7 @@
 use Rattle.std.specs.Prelude.{◌≡◌, ◌≢◌, ◌⊎◌, ℕ, List, Option, Some, Result, IfErr, codes}
 use Rattle.std.specs.Result.{result_err}
 use Rattle.std.specs.Io.KnownBytes.{Appends}
+use Rattle.checkpoint.specs.Layouts.{version_2, sectors_in}
 use Rattle.checkpoint.specs.declared.faults.FormatFault.TheVariants.{TooSmall}
 use Rattle.checkpoint.specs.declared.places.Place.{Place}
 use Rattle.command_text.specs.Answers.{line}
@@ -29,7 +30,7 @@ module _ {D E : Type 0} (on_old : sectors.Ghosts D) (on_new : sectors.Ghosts E) 
   -- over that file.
   abbrev pub UpgradesOnto : (E → Type 0) → D → List ℕ → Option (List ℕ) → Option (List ℕ) → ℕ → Type 0
   UpgradesOnto IsNew old path before after status =
-      ((old_after : D) × (new : E) × (new_after : E) × (made : Result Place UpgradeFault) × IsNew new × (on_new.len new ≡ 8450) × IsUpgraded old old_after new new_after made
+      ((old_after : D) × (new : E) × (new_after : E) × (made : Result Place UpgradeFault) × IsNew new × (on_new.len new ≡ sectors_in version_2) × IsUpgraded old old_after new new_after made
       × (result_err made ≢ Some (New TooSmall)) × (status ≡ upgrade_status (result_err made)) × Appends before after (upgrade_line (result_err made)))
       ⊎ ((fault : FileFault) × (fault ≢ BadLength) × (status ≡ open_status fault) × Appends before after (new_line path fault))
 

@@ -9,13 +9,12 @@ ghost use Rattle.planner_cli.specs.Loading.{BeginsDevice, BeginsFormatted, Begin
 ghost use Rattle.auditor_cli.specs.Reads.{IsRead};
 
 use crate::opened::open_session;
-use crate::stores::STORE_SECTORS;
 use crate::telling::{
     tell_answer, tell_cause, tell_file_fault, tell_format, tell_instance_fault, tell_store_fault,
 };
 use auditor_cli::status::REFUSED;
 use auditor_cli::{ReadFiles, read_instance, tell_unread, write_line};
-use checkpoint::{StoreFault, format};
+use checkpoint::{SECTORS, StoreFault, format};
 use command_core::{Command, State};
 use command_line::Loading;
 use recover::Opened;
@@ -122,7 +121,7 @@ where
         (IsUnused ⟦<HostFile as FileCalls>⟧.entries) store.now command
         (W.contents output.old) (W.contents output.new)) }
 {
-    match FileDevice::create_or_cause(rt, store, STORE_SECTORS, start) {
+    match FileDevice::create_or_cause(rt, store, SECTORS, start) {
         Ok(device) => {
             let (told, device) = begin_made(rt.alloc(), device, command, output, errors);
             tell_cause(rt, store, device.cause());

@@ -19,7 +19,7 @@ use crate::telling::{
 };
 use auditor_cli::status::{BROKEN, DONE, FILE, USAGE};
 use auditor_cli::write_line;
-use checkpoint::format;
+use checkpoint::{SECTORS, format};
 use command_serving::{ServeFault, Stopped, Strict, Watched, serve_source};
 use recover::{Opened, Session, upgrade};
 use sector_disk::{FileCalls, FileDevice, HostFile, Sectors, Start};
@@ -29,9 +29,6 @@ use std::io::{Read, Write};
 use std::os::unix::fs::MetadataExt;
 use std::rt::Files;
 use std::{fs, io};
-
-/// How many sectors a store has.
-pub(crate) const STORE_SECTORS: u64 = 8450;
 
 /// Makes an empty store in the file, and tells what came of it.
 pub(crate) fn format_store<R, T: Start, W: Write>(
@@ -47,7 +44,7 @@ where
         (IsUnused ⟦<HostFile as FileCalls>⟧.entries) store.now
         (W.contents output.old) (W.contents output.new)) }
 {
-    match FileDevice::create_or_cause(rt, store, STORE_SECTORS, start) {
+    match FileDevice::create_or_cause(rt, store, SECTORS, start) {
         Ok(mut device) => {
             let made = format(rt.alloc(), &mut device);
             tell_cause(rt, store, device.cause());
@@ -167,7 +164,7 @@ where
         ⟦<FileDevice<U> as Sectors>⟧ (IsUnused ⟦<HostFile as FileCalls>⟧.entries) device new.now
         (W.contents output.old) (W.contents output.new)) }
 {
-    match FileDevice::create_or_cause(rt, new, STORE_SECTORS, start) {
+    match FileDevice::create_or_cause(rt, new, SECTORS, start) {
         Ok(mut made) => {
             let upgraded = upgrade(rt.alloc(), &mut device, &mut made);
             tell_cause(rt, old, device.cause());

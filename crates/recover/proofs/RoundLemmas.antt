@@ -75,7 +75,7 @@ pub all_faults : (commands : List Command) (replies : List Reply) (old new : Ses
     → (memory new.device).faults < 2 ^ 64 - 1 → (memory new.device).faults ≡ (memory old.device).faults + count_device_faults replies
 all_faults [] [] old new run below = let same = ap (λ (s : SessionValue MemDevice). (memory s.device).faults) run in omega (arith, same)
 all_faults (command ∷ commands) (reply ∷ replies) old new run below =
-    first reply.answer reply.calls run.1.fault (all_faults commands replies run.0 new run.2 below)
+    first reply.answer reply.calls run.1.called.fault (all_faults commands replies run.0 new run.2 below)
   where
     first : (answer : Result (Unit {0}) Denial) (n : ℕ) → (memory run.0.device).faults ≡ faults_after_answer answer (memory old.device).faults
         → (memory new.device).faults ≡ (memory run.0.device).faults + count_device_faults replies

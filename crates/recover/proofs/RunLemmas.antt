@@ -105,7 +105,7 @@ module _ {D : Type 0} (len calls faults : D → ℕ) (honest : D → Type 0) (cl
   pub honest_back : (commands : List Command) (replies : List Reply) (old new : SessionValue D) → Run old commands replies new → honest new.device → honest old.device
   honest_back [] [] old new run h = subst (λ (s : SessionValue D). honest s.device) run h
   honest_back (command ∷ commands) (reply ∷ replies) old new run h =
-      let applied : Applied old command reply run.0 = run.1 in applied.honest_before (honest_back commands replies run.0 new run.2 h)
+      let applied : Applied old command reply run.0 = run.1 in applied.called.honest_before (honest_back commands replies run.0 new run.2 h)
   honest_back [] (reply ∷ replies) old new run h = elim run [ ]
   honest_back (command ∷ commands) [] old new run h = elim run [ ]
 
@@ -117,7 +117,7 @@ module _ {D : Type 0} (len calls faults : D → ℕ) (honest : D → Type 0) (cl
       first : (answer : Result (Unit {0}) Denial) (n : ℕ) → Applied old command (record { answer = answer; calls = n }) run.0 → (m ≤ calls run.0.device → acked m replies ≡ 0)
           → acked m (record { answer = answer; calls = n } ∷ replies) ≡ 0
       first (Ok done) n applied again =
-          let later : calls run.0.device ≡ calls old.device + calls_of old.place command = applied.finished in
+          let later : calls run.0.device ≡ calls old.device + calls_of old.place command = applied.called.finished in
           let some = some_calls old.place command in
           let below : nat_le n m ≡ false = lt-leb n m (omega (arith, le, later, some, applied.count)) in
           unacked m (record { answer = Ok done; calls = n }) replies below ∙ again (omega (arith, le, later))
@@ -143,7 +143,7 @@ module _ {D : Type 0} (len calls faults : D → ℕ) (honest : D → Type 0) (cl
       where
         first : (answer : Result (Unit {0}) Denial) (n : ℕ) → Applied old command (record { answer = answer; calls = n }) run.0 → All run.0.device new.device (from run.0) → All old.device new.device (from old)
         first (Ok done) n applied rest =
-            let later : calls run.0.device ≡ calls old.device + calls_of old.place command = applied.finished in
+            let later : calls run.0.device ≡ calls old.device + calls_of old.place command = applied.called.finished in
             through.joined clock since old.device run.0.device new.device (from old)
             (through.weakened clock since old.device run.0.device (IsBetween (calls old.device) (calls old.device + calls_of old.place command)) (from old) (λ m image between. between.0) (applied.counts (honest_back commands replies run.0 new run.2 h)))
             (through.weakened clock since run.0.device new.device (from run.0) (from old) (λ m image le. omega (arith, le, later)) rest)
@@ -200,7 +200,7 @@ module _ {D : Type 0} (len calls faults : D → ℕ) (honest : D → Type 0) (cl
         first (Ok done) n applied rest =
             let reply : Reply = record { answer = Ok done; calls = n } in
             let done_so = applied.makes in
-            let counted : calls run.0.device ≡ calls old.device + calls_of old.place command = applied.finished in
+            let counted : calls run.0.device ≡ calls old.device + calls_of old.place command = applied.called.finished in
             let own = both old.device run.0.device (RunLeaves old.state (command ∷ []) (reply ∷ [])) (IsBetween (calls old.device) (calls old.device + calls_of old.place command)) (applied.moments whole mid_honest) (applied.counts mid_honest) in
             let behind = both run.0.device new.device (RunLeaves run.0.state commands replies) (λ m image. calls run.0.device ≤ m) (rest done_so.is_broken (applied.stands done_so.is_broken mid_honest)) (counted_from commands replies run.0 new run.2 h) in
             through.joined clock since old.device run.0.device new.device (RunLeaves old.state (command ∷ commands) (reply ∷ replies))

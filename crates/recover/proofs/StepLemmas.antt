@@ -1,5 +1,5 @@
 -- What a commit does to what images hold and stand for.
-use Rattle.std.proofs.Common.{◌≡◌, inl, inr, ⊎_elim, ℕ, List, [], ◌∷◌, ◌++◌, refl, sym, ◌∙◌, ap, subst}
+use Rattle.std.proofs.Common.{◌≡◌, ℕ, List, [], ◌∷◌, ◌++◌, refl, sym, ◌∙◌, ap, subst}
 use Rattle.std.specs.Prelude.{Result, Ok, Err, OnOk}
 use Rattle.command_core.specs.Effects.{effect}
 use Rattle.command_core.specs.Runs.{after, AreAccepted}
@@ -7,14 +7,15 @@ use Rattle.command_core.specs.declared.states.State.{State}
 use Rattle.command_core.specs.declared.commands.Command.{Command}
 use Rattle.state_codec.specs.declared.version.Version.TheVariants.{Two}
 use Rattle.checkpoint.specs.declared.places.Place.{Place}
-use Rattle.checkpoint.specs.Holds.{Holds}
-use Rattle.checkpoint.specs.Moments.{IsInRecord, IsInCommit}
+use Rattle.checkpoint.specs.Holds.{Holds, HoldsAt}
+use Rattle.sector_disk.specs.Calls.{IsInCommit}
+use Rattle.sector_disk.specs.CommitLaws.{within_by, unquiet}
 use Rattle.recover.specs.StandsFor.{StandsFor}
 use Rattle.recover.specs.Sessions.{AllHold}
 use Rattle.checkpoint.specs.declared.faults.StoreFault.{StoreFault}
 use Rattle.checkpoint.specs.declared.faults.StoreFault.TheVariants.{NotFormatted, BadVersion, Codec, Spent, OutOfMemory, DeviceFault}
-use Rattle.recover.specs.Committing.{IsInStep, LeavesDevice, cause, faults_of_commit}
-use Rattle.checkpoint.specs.Refused.{IsKeptByCommit, faults_of_store}
+use Rattle.recover.specs.Committing.{IsInStep, IsOfChange, LeavesDevice, cause, faults_of_commit}
+use Rattle.checkpoint.specs.Refused.{IsRefusedCommit, faults_of_store}
 
 pub on_ok : {T E : Type 0} (result : Result T E) (A B : Type 0) → (A → B) → OnOk result A → OnOk result B
 on_ok (Ok x) A B so h = so h
@@ -54,36 +55,33 @@ module _ (images : List ℕ → Type 0) (state : State) (place : Place) (all : A
     pub all_more : (after_it : List ℕ → Type 0) → ((image : List ℕ) → after_it image → Holds Two image all.snapshot (all.commands ++ command ∷ []) next) → AllHold after_it (effect state command) next
     all_more after_it each = record { snapshot = all.snapshot; commands = all.commands ++ command ∷ []; accepted = accepted_more; leads = leads_on; each = each }
 
-    pub in_record : (calls m : ℕ) (image : List ℕ)
-        → IsInRecord (λ image. Holds Two image all.snapshot all.commands place) (λ image. Holds Two image all.snapshot (all.commands ++ command ∷ []) next) calls m image
+    pub in_record : (calls m : ℕ) (image : List ℕ) → IsInCommit (HoldsAt all.snapshot all.commands place) (HoldsAt all.snapshot (all.commands ++ command ∷ []) next) 2 0 calls m image
         → IsInStep state (effect state command) calls 2 m image
-    in_record calls m image within = record {
-      from = within.from;
-      to = within.to;
-      either = ⊎_elim (λ old. inl (held image old)) (λ new. inr (held_more image new)) within.either;
-      done = λ all_calls. held_more image (within.done all_calls);
-    }
+    in_record = within_by _ _ _ _ held held_more 2 0
 
   module _ (new : State) (next : Place) where
-    pub in_commit : (calls m : ℕ) (image : List ℕ)
-        → IsInCommit (λ image. Holds Two image all.snapshot all.commands place) (λ image. Holds Two image new [] next) calls m image
+    pub in_commit : (calls m : ℕ) (image : List ℕ) → IsInCommit (HoldsAt all.snapshot all.commands place) (HoldsAt new [] next) 4 2 calls m image
         → IsInStep state new calls 4 m image
-    in_commit calls m image within = record {
-      from = within.from;
-      to = within.to;
-      either = ⊎_elim (λ old. inl (held image old)) (λ now. inr (held_new new next image now)) within.either;
-      done = λ all_calls. held_new new next image (within.done all_calls);
-    }
+    in_commit calls m image within = unquiet _ _ 4 2 calls m image (within_by _ _ _ _ held (held_new new next) 4 2 calls m image within)
 
 -- the cause of a refusal leaves what the refusal does
 module _ {D : Type 0} (old new : D) where
-  pub left : (fault : StoreFault) → IsKeptByCommit fault old new → LeavesDevice (cause fault) old new
+  pub left : (fault : StoreFault) → IsRefusedCommit fault old new → LeavesDevice (cause fault) old new
   left Spent h = h
   left OutOfMemory h = h
   left DeviceFault h = h
-  left NotFormatted h = h
-  left BadVersion h = h
-  left (Codec fault) h = h
+  left NotFormatted h = absurd h
+  left BadVersion h = absurd h
+  left (Codec fault) h = absurd h
+
+-- a snapshot's commit that had a place
+pub of_change : {D : Type 0} (old new : D) (fault : StoreFault) → IsRefusedCommit fault old new → (fault ≡ Spent → ⊥) → IsOfChange fault
+of_change old new Spent h unspent = unspent refl
+of_change old new OutOfMemory h unspent = tt
+of_change old new DeviceFault h unspent = tt
+of_change old new NotFormatted h unspent = h
+of_change old new BadVersion h unspent = h
+of_change old new (Codec fault) h unspent = h
 
 pub same_faults : (fault : StoreFault) (faults : ℕ) → faults_of_store fault faults ≡ faults_of_commit (cause fault) faults
 same_faults Spent faults = refl

@@ -10,12 +10,13 @@ use Rattle.checkpoint.specs.Stores.{IsUnformatted}
 use Rattle.checkpoint.specs.Holds.{Holds}
 use Rattle.checkpoint.specs.Moments.{IsInFormat}
 use Rattle.checkpoint.specs.Refused.{OnCalls}
+use Rattle.checkpoint.specs.Places.{first_place}
 use Rattle.checkpoint.specs.declared.faults.FormatFault.{FormatFault}
 use Rattle.checkpoint.specs.declared.faults.FormatFault.TheVariants.{TooSmall, DeviceFault, OutOfMemory}
 use Rattle.checkpoint.specs.declared.places.Place.{Place}
 use Rattle.recover.specs.declared.upgrading.UpgradeFault.TheVariants.{New}
 use Rattle.recover.specs.StandsFor.{StandsFor}
-use Rattle.recover.specs.Upgrading.{OnWritten, IsMadeOfOld, first_place}
+use Rattle.recover.specs.Upgrading.{OnWritten, IsMadeOfOld}
 
 -- what the format says of each moment
 pub is_made : {D E : Type 0} (on_old : sectors.Ghosts D) (on_new : sectors.Ghosts E) (fault : FormatFault) (old old_after : D) (new new_after : E) (state : State)

@@ -1,13 +1,15 @@
 -- What a session answers to commands, and what they make of it.
-use Rattle.std.specs.Prelude.{◌≡◌, ℕ, ◌+◌, ◌^◌, ◌≤◌, Bool, true, false, not, ◌||◌, ◌&&◌, ◌==◌, List, [], ◌∷◌, Option, Some, None, Result, Ok, Err, OnOk, if◌then◌else◌, ⊤}
+use Rattle.std.specs.Prelude.{◌≡◌, ℕ, ◌+◌, ◌≤◌, Bool, true, false, not, ◌||◌, ◌&&◌, ◌==◌, List, [], ◌∷◌, Option, Some, None, Result, Ok, Err, if◌then◌else◌, ⊤}
 use Rattle.std.specs.Option.{option_map, option_or}
-use Rattle.sector_disk.specs.Sectors.{Throughout}
+use Rattle.sector_disk.specs.Sectors.{IsCalled, Throughout, more}
 use Rattle.command_core.specs.Effects.{effect}
 use Rattle.command_core.specs.Refusing.{refusal}
 use Rattle.command_core.specs.Runs.{AreAccepted, is_recorded}
 use Rattle.command_core.specs.declared.commands.Command.{Command}
 use Rattle.state_codec.specs.declared.version.Version.TheVariants.{Two}
 use Rattle.checkpoint.specs.declared.places.Place.{Place}
+use Rattle.checkpoint.specs.Layouts.{journal_room, last_sequence}
+use Rattle.checkpoint.specs.Places.{behind_record, behind_snapshot}
 use Rattle.checkpoint.specs.Refused.{one_more_fault}
 use Rattle.recover.specs.declared.denials.Denial.{Denial}
 use Rattle.recover.specs.declared.denials.Denial.TheVariants.{Broken, Core, Spent, OutOfMemory, DeviceFault}
@@ -18,7 +20,7 @@ use Rattle.recover.specs.Sessions.{SessionValue}
 
 -- A snapshot is due: for Load, Checkpoint and Anneal, and where 256 records stand.
 abbrev pub is_snapshot_due : Place → Command → Bool
-is_snapshot_due place command = not (is_recorded command) || (place.used == 256)
+is_snapshot_due place command = not (is_recorded command) || (place.used == journal_room)
 
 -- the finished calls of the device that a command takes
 abbrev pub calls_of : Place → Command → ℕ
@@ -28,12 +30,12 @@ calls_of place command = if is_snapshot_due place command then 4 else 2
 abbrev pub place_after : Place → Command → Place
 place_after place command =
     if is_snapshot_due place command
-    then record { sequence = place.sequence + 1; used = 0 }
-    else record { sequence = place.sequence; used = place.used + 1 }
+    then behind_snapshot place
+    else behind_record place
 
 -- a snapshot is due, and there is no sequence for it
 abbrev pub spent : Place → Command → Option Denial
-spent place command = if is_snapshot_due place command && (place.sequence == 2 ^ 60) then Some Spent else None
+spent place command = if is_snapshot_due place command && (place.sequence == last_sequence) then Some Spent else None
 
 -- why a command is denied, if it is, before memory is asked for and the device is called: the first cause
 abbrev pub denial : {D : Type 0} → SessionValue D → Command → Option Denial
@@ -91,10 +93,7 @@ module _ {D : Type 0} (len calls faults : D → ℕ) (honest : D → Type 0) (cl
     pub answer : IsAnswer (denial old command) reply.answer
     pub makes : Makes reply.answer old command new
     pub count : reply.calls ≡ calls new.device
-    pub finished : OnOk reply.answer (calls new.device ≡ calls old.device + calls_of old.place command)
-    pub fault : faults new.device ≡ faults_after_answer reply.answer (faults old.device)
-    pub same_len : len new.device ≡ len old.device
-    pub honest_before : honest new.device → honest old.device
+    pub called : IsCalled len calls faults honest (more reply.answer (calls_of old.place command)) (faults_after_answer reply.answer) old.device new.device
     pub moments : old.is_broken ≡ false → honest new.device → Throughout clock since old.device new.device (RunLeaves old.state (command ∷ []) (reply ∷ []))
     pub counts : honest new.device → Throughout clock since old.device new.device (IsBetween (calls old.device) (calls old.device + calls_of old.place command))
     pub stands : new.is_broken ≡ false → honest new.device → (image : List ℕ) → possible new.device image → StandsFor Two image new.state

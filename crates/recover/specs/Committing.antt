@@ -1,22 +1,33 @@
 -- What a commit does, and what a stop may leave within it.
-use Rattle.std.specs.Prelude.{◌≡◌, ◌⊎◌, ℕ, ◌+◌, ◌≤◌, List, Result, Ok, Err}
+use Rattle.std.specs.Prelude.{◌≡◌, ℕ, List, Result, Ok, Err, OnOk}
+use Rattle.sector_disk.specs.declared.sectors.Sectors as sectors
+use Rattle.sector_disk.specs.Sectors.{Throughout}
+use Rattle.sector_disk.specs.Calls.{IsInCommit}
 use Rattle.command_core.specs.declared.states.State.{State}
 use Rattle.state_codec.specs.declared.version.Version.TheVariants.{Two}
 use Rattle.checkpoint.specs.declared.faults.StoreFault.{StoreFault}
 use Rattle.checkpoint.specs.declared.faults.StoreFault.TheVariants as store
+use Rattle.checkpoint.specs.declared.places.Place.{Place}
 use Rattle.checkpoint.specs.Refused.{one_more_fault}
 use Rattle.recover.specs.declared.commits.CommitFault.{CommitFault}
 use Rattle.recover.specs.declared.commits.CommitFault.TheVariants.{OutOfMemory, DeviceFault}
 use Rattle.recover.specs.StandsFor.{StandsFor}
+use Rattle.recover.specs.Sessions.{AllHold}
 
 -- Within so many calls that lead from one state to another, when m have finished in all, and `calls` when they began.
-pub record IsInStep (old new : State) (calls steps m : ℕ) (image : List ℕ) : Type 0 where
-  pub from : calls ≤ m
-  pub to : m ≤ calls + steps
-  pub either : StandsFor Two image old ⊎ StandsFor Two image new
-  pub done : m ≡ calls + steps → StandsFor Two image new
+abbrev pub IsInStep : State → State → ℕ → ℕ → ℕ → List ℕ → Type 0
+IsInStep old new calls steps m image = IsInCommit (λ i. StandsFor Two i old) (λ i. StandsFor Two i new) steps 0 calls m image
 
--- what a store that has a free place tells when it is not changed
+-- what a store that has a free place may tell when it is not changed: of a failed call or of want of memory, and of nothing else
+abbrev pub IsOfChange : StoreFault → Type 0
+IsOfChange store.DeviceFault = Unit {0}
+IsOfChange store.OutOfMemory = Unit {0}
+IsOfChange store.NotFormatted = ⊥
+IsOfChange store.BadVersion = ⊥
+IsOfChange (store.Codec fault) = ⊥
+IsOfChange store.Spent = ⊥
+
+-- as the commit's own fault; the last four don't come
 abbrev pub cause : StoreFault → CommitFault
 cause store.DeviceFault = DeviceFault
 cause store.OutOfMemory = OutOfMemory
@@ -38,3 +49,13 @@ faults_of_commit OutOfMemory faults = faults
 abbrev pub faults_after_commit : {T : Type 0} → Result T CommitFault → ℕ → ℕ
 faults_after_commit (Ok x) faults = faults
 faults_after_commit (Err fault) faults = faults_of_commit fault faults
+
+module _ {D : Type 0} (on : sectors.Ghosts D) where
+  -- A commit of so many calls from one state to another: what a stop leaves within it, and what each image holds after Ok.
+  pub record Leads {T E : Type 0} (result : Result T E) (steps : ℕ) (state next : State) (behind : Place) (old new : D) : Type 0 where
+    pub moments : Throughout on.clock on.possible_since old new (IsInStep state next (on.calls old) steps)
+    pub after : OnOk result (AllHold (on.possible new) next behind)
+
+  -- and that it is one, where the device is honest and all its images held the state at this place
+  abbrev pub LeadsFrom : {T E : Type 0} → Result T E → ℕ → State → State → Place → Place → D → D → Type 0
+  LeadsFrom result steps state next place behind old new = on.honest new → AllHold (on.possible old) state place → Leads result steps state next behind old new

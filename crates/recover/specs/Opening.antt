@@ -1,6 +1,7 @@
 -- What opening a device gives, by the version of its store.
-use Rattle.std.specs.Prelude.{◌≡◌, ◌⊎◌, ℕ, ◌+◌, ◌<◌, ◌≤◌, List, sum_by, Result, Ok, Err, IsErrOf, ⊤}
+use Rattle.std.specs.Prelude.{◌≡◌, ◌⊎◌, ℕ, ◌+◌, ◌<◌, ◌≤◌, List, sum_by, Result, Ok, Err, OnOk, IsErrOf, ⊤}
 use Rattle.sector_disk.specs.declared.sectors.Sectors as sectors
+use Rattle.sector_disk.specs.Sectors.{Only, Throughout}
 use Rattle.command_core.specs.Runs.{AreAccepted, steps_of}
 use Rattle.command_core.specs.declared.states.State.{State}
 use Rattle.command_core.specs.declared.states.State.TheVariants.{Empty, Loaded}
@@ -12,9 +13,11 @@ use Rattle.checkpoint.specs.declared.faults.StoreFault.TheVariants.{NotFormatted
 use Rattle.checkpoint.specs.declared.places.Place.{Place}
 use Rattle.checkpoint.specs.Holds.{Holds}
 use Rattle.checkpoint.specs.Holdless.{HoldsNothing}
-use Rattle.checkpoint.specs.Reads.{IsUnchanged}
+use Rattle.checkpoint.specs.Layouts.{least_sectors}
+use Rattle.checkpoint.specs.Reads.{ReadsOnly}
 use Rattle.checkpoint.specs.Refused.{faults_after_reading}
 use Rattle.recover.specs.StandsFor.{StandsFor}
+use Rattle.recover.specs.Applying.{IsBetween}
 
 -- A state is given, and it has P, unless memory was refused or the device failed.
 abbrev pub GivesUnlessFailed : (State → Type 0) → Result State StoreFault → Type 0
@@ -71,14 +74,10 @@ pub record IsToRepeat (version : Version) (image : List ℕ) (steps : ℕ) : Typ
 -- The device was read, and not called otherwise: it is as it was, but that it may have failed.
 module _ {D : Type 0} (on : sectors.Ghosts D) where
   pub record IsOnlyRead {T : Type 0} (answer : Result T StoreFault) (old new : D) : Type 0 where
-    pub same_len : on.len new ≡ on.len old
-    pub same_calls : on.calls new ≡ on.calls old
-    pub fault : on.faults new ≡ faults_after_reading answer (on.faults old)
-    pub honest : on.honest new → on.honest old
-    pub kept : on.honest new → IsUnchanged on.clock on.possible_since on.possible on.seen on.calls old new
+    pub read : ReadsOnly on (faults_after_reading answer) old new
     -- a device that is smaller than any store is not called
-    pub small : on.len old < 802 → new ≡ old
-    pub told : on.len old < 802 → IsErrOf answer NotFormatted
+    pub small : on.len old < least_sectors → new ≡ old
+    pub told : on.len old < least_sectors → IsErrOf answer NotFormatted
 
 -- What reads give after a refusal: what they gave before, or, where the device failed, an image that a stop might have left before.
 abbrev pub ReadsAfter : StoreFault → (List ℕ → Type 0) → List ℕ → List ℕ → Type 0
@@ -93,6 +92,13 @@ ReadsAfter OutOfMemory possible before after = after ≡ before
 abbrev pub ReadsAgain : {T : Type 0} → Result T StoreFault → (List ℕ → Type 0) → List ℕ → List ℕ → Type 0
 ReadsAgain (Ok x) possible before after = after ≡ before
 ReadsAgain (Err fault) possible before after = ReadsAfter fault possible before after
+
+module _ {D : Type 0} (on : sectors.Ghosts D) where
+  -- A device was synced and read: what reads give is durable after Ok, it was possible at each moment, and reads give it again.
+  pub record Settles {T : Type 0} (result : Result T StoreFault) (old new : D) : Type 0 where
+    pub only : OnOk result (Only (on.seen old) (on.possible new))
+    pub again : ReadsAgain result (on.possible old) (on.seen old) (on.seen new)
+    pub moments : Throughout on.clock on.possible_since old new (λ m image. IsBetween (on.calls old) (on.calls old + 1) m image × on.possible old image)
 
 -- of what opening answers: the state, or why there is none
 abbrev pub outcome : {T D : Type 0} → (T → State) → Result T (StoreFault × D) → Result State StoreFault

@@ -1,11 +1,12 @@
 -- A session, as its callers see it, and what every session keeps.
-use Rattle.std.specs.Prelude.{◌≡◌, ℕ, ◌^◌, ◌≤◌, Bool, false, List}
+use Rattle.std.specs.Prelude.{◌≡◌, ℕ, ◌≤◌, Bool, false, List}
 use Rattle.command_core.specs.Runs.{IsState, after, AreAccepted}
 use Rattle.command_core.specs.declared.states.State.{State}
 use Rattle.command_core.specs.declared.commands.Command.{Command}
 use Rattle.state_codec.specs.declared.version.Version.TheVariants.{Two}
 use Rattle.checkpoint.specs.declared.places.Place.{Place}
 use Rattle.checkpoint.specs.Holds.{Holds}
+use Rattle.checkpoint.specs.Layouts.{version_2, journal_room, last_sequence, sectors_in}
 
 pub record SessionValue (D : Type 0) : Type 0 where
   pub device : D
@@ -28,8 +29,8 @@ pub record AllHold (images : List ℕ → Type 0) (state : State) (place : Place
 -- broken and the device is honest, each image that a stop may leave stands for the state.
 pub record IsSession {D : Type 0} (len : D → ℕ) (honest : D → Type 0) (possible : D → List ℕ → Type 0) (s : SessionValue D) : Type 0 where
   pub state : IsState s.state
-  pub room : 8450 ≤ len s.device
+  pub room : sectors_in version_2 ≤ len s.device
   pub first : 1 ≤ s.place.sequence
-  pub last : s.place.sequence ≤ 2 ^ 60
-  pub used : s.place.used ≤ 256
+  pub last : s.place.sequence ≤ last_sequence
+  pub used : s.place.used ≤ journal_room
   pub durable : s.is_broken ≡ false → honest s.device → AllHold (possible s.device) s.state s.place

@@ -1,10 +1,12 @@
 -- What an upgrade answers, and what it makes of the two devices.
 use Rattle.std.specs.Prelude.{◌≡◌, ◌⊎◌, ℕ, ◌+◌, ◌<◌, List, [], Result, Ok, Err, OnOk, IfOk, ⊤}
-use Rattle.sector_disk.specs.Sectors.{Throughout}
+use Rattle.sector_disk.specs.Sectors.{Throughout, more}
+use Rattle.sector_disk.specs.Calls.{Calls}
 use Rattle.sector_disk.specs.declared.sectors.Sectors as sectors
 use Rattle.command_core.specs.declared.states.State.{State}
 use Rattle.state_codec.specs.declared.version.Version.TheVariants.{One, Two}
-use Rattle.checkpoint.specs.Layouts.{version_2}
+use Rattle.checkpoint.specs.Layouts.{version_2, least_sectors}
+use Rattle.checkpoint.specs.Places.{first_place}
 use Rattle.checkpoint.specs.Stores.{IsUnformatted}
 use Rattle.checkpoint.specs.Holds.{Holds}
 use Rattle.checkpoint.specs.Holdless.{IsOfLoad, UnlessUnread}
@@ -18,10 +20,6 @@ use Rattle.recover.specs.declared.upgrading.UpgradeFault.TheVariants.{Old, New}
 use Rattle.recover.specs.Applying.{IsBetween}
 use Rattle.recover.specs.Opening.{StandsForNone}
 use Rattle.recover.specs.StandsFor.{StandsFor}
-
--- where the journal of a new store goes on
-abbrev pub first_place : Place
-first_place = record { sequence = 1; used = 0 }
 
 -- what holds where the old device's store was read
 abbrev pub OnRead : {T : Type 0} → Result T UpgradeFault → Type 0 → Type 0
@@ -60,13 +58,10 @@ IsKeptByUpgrade (New format.OutOfMemory) old old_after new new_after = new_after
 module _ {D : Type 0} (on : sectors.Ghosts D) where
   -- The old device is synced and read, and never written to: at each moment each of its images is one of those at entry.
   pub record IsReadOnly {T : Type 0} (answer : Result T UpgradeFault) (old after : D) : Type 0 where
-    pub same_len : on.len after ≡ on.len old
-    pub finished : OnRead answer (on.calls after ≡ on.calls old + 1)
-    pub fault : on.faults after ≡ faults_of_old answer (on.faults old)
-    pub honest : on.honest after → on.honest old
+    pub called : Calls on (λ n m. OnRead answer (m ≡ n + 1)) (faults_of_old answer) old after
     pub moments : on.honest after → Throughout on.clock on.possible_since old after (λ m image. IsBetween (on.calls old) (on.calls old + 1) m image × on.possible old image)
-    pub small : on.len old < 802 → after ≡ old
-    pub told : on.len old < 802 → (answer ≡ Err (Old NotFormatted)) ⊎ (answer ≡ Err (New format.TooSmall))
+    pub small : on.len old < least_sectors → after ≡ old
+    pub told : on.len old < least_sectors → (answer ≡ Err (Old NotFormatted)) ⊎ (answer ≡ Err (New format.TooSmall))
 
   -- Why the old store is refused: its image stands for no state of version 1, or memory was refused or the device failed.
   abbrev pub IsOfOldStore : UpgradeFault → D → D → Type 0
@@ -75,11 +70,8 @@ module _ {D : Type 0} (on : sectors.Ghosts D) where
 
 module _ {E : Type 0} (on : sectors.Ghosts E) where
   -- The new device gets the six calls of a format, or none.
-  pub record IsWrittenAnew {T : Type 0} (answer : Result T UpgradeFault) (new after : E) : Type 0 where
-    pub same_len : on.len after ≡ on.len new
-    pub finished : OnOk answer (on.calls after ≡ on.calls new + 6)
-    pub fault : on.faults after ≡ faults_of_new answer (on.faults new)
-    pub honest : on.honest after → on.honest new
+  abbrev pub IsWrittenAnew : {T : Type 0} → Result T UpgradeFault → E → E → Type 0
+  IsWrittenAnew answer new after = Calls on (more answer 6) (faults_of_new answer) new after
 
 module _ {D E : Type 0} (on_old : sectors.Ghosts D) (on_new : sectors.Ghosts E) where
   -- What a refusal tells of the old store, and what it leaves.

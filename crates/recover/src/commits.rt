@@ -3,14 +3,16 @@ ghost use Rattle.std.specs.Prelude.{◌≡◌, ◌+◌, ◌<◌, ◌≤◌, ◌^
 ghost use Rattle.command_core.specs.Effects.{effect};
 ghost use Rattle.command_core.specs.Runs.{AreAccepted, is_recorded, fits_record};
 ghost use Rattle.command_core.specs.declared.states.State.{State};
-ghost use Rattle.sector_disk.specs.Sectors.{Throughout};
+ghost use Rattle.sector_disk.specs.Sectors.{more};
+ghost use Rattle.sector_disk.specs.Calls.{Calls};
+ghost use Rattle.checkpoint.specs.Layouts.{version_2, journal_room, last_sequence, sectors_in};
+ghost use Rattle.checkpoint.specs.Places.{behind_record, behind_snapshot};
 ghost use Rattle.state_codec.specs.Limits.{IsRecorded};
 ghost use Rattle.state_codec.specs.declared.version.Version.TheVariants.{Two};
-ghost use Rattle.recover.specs.Sessions.{AllHold};
 ghost use Rattle.recover.specs.Applying.{is_snapshot_due, calls_of, place_after, spent};
-ghost use Rattle.recover.specs.Committing.{IsInStep, LeavesDevice, cause, faults_after_commit};
+ghost use Rattle.recover.specs.Committing.{IsOfChange, LeadsFrom, LeavesDevice, cause, faults_after_commit};
 
-use checkpoint::{Place, StoreFault, commit_record, commit_snapshot};
+use checkpoint::{Place, RECORDS, StoreFault, commit_record, commit_snapshot};
 use command_core::{Command, State};
 use sector_disk::Sectors;
 use std::alloc::Global;
@@ -22,22 +24,20 @@ pub(crate) enum CommitFault {
     DeviceFault,
 }
 
-// What the store told, where it had a place.
+// What the store told, where it had a place. The other faults are of reading, or of a store without a place.
 fn cause(fault: StoreFault) -> CommitFault
+    requires { IsOfChange fault }
     ensures { result ≡ cause fault }
 {
     match fault {
         StoreFault::DeviceFault => CommitFault::DeviceFault,
+        StoreFault::OutOfMemory => CommitFault::OutOfMemory,
         StoreFault::NotFormatted
         | StoreFault::BadVersion
         | StoreFault::Codec(_)
-        | StoreFault::Spent
-        | StoreFault::OutOfMemory => CommitFault::OutOfMemory,
+        | StoreFault::Spent => unreachable!(),
     }
 }
-
-/// How many records a journal has room for.
-const RECORDS: u32 = 256;
 
 // Whether a store writes a record of the command, and not the state after it.
 fn has_record(command: &Command) -> bool
@@ -75,25 +75,19 @@ fn as_record<D: Sectors>(
     place: Place,
     command: &Command,
 ) -> Result<Place, CommitFault>
-    requires free { place.used < 256 }
+    requires free { place.used < journal_room }
     requires recorded { IsRecorded Two command.now }
-    requires room { 8450 ≤ D.len device.old }
+    requires room { sectors_in version_2 ≤ D.len device.old }
     requires first { 1 ≤ place.sequence }
-    requires last { place.sequence ≤ 2 ^ 60 }
+    requires last { place.sequence ≤ last_sequence }
 
     ensures left { IfErr result (λ fault. LeavesDevice fault device.old device.new) }
-    ensures place { IfOk result (λ next. next
-        ≡ record { sequence = place.sequence; used = place.used + 1 }) }
-    ensures same_len { D.len device.new ≡ D.len device.old }
-    ensures finished { OnOk result (D.calls device.new ≡ D.calls device.old + 2) }
-    ensures fault { D.faults device.new ≡ faults_after_commit result (D.faults device.old) }
-    ensures honest { D.honest device.new → D.honest device.old }
-    ensures moments { D.honest device.new → (state : State) → AreAccepted state (command.now ∷ [])
-        → AllHold (D.possible device.old) state place
-        → Throughout D.clock D.possible_since device.old device.new (IsInStep state (effect state command.now) (D.calls device.old) 2) }
-    ensures after { D.honest device.new → (state : State) → AreAccepted state (command.now ∷ [])
-        → AllHold (D.possible device.old) state place
-        → OnOk result (AllHold (D.possible device.new) (effect state command.now) (record { sequence = place.sequence; used = place.used + 1 })) }
+    ensures place { IfOk result (λ next. next ≡ behind_record place) }
+    ensures called { Calls D.Sectors (more result 2) (faults_after_commit result)
+        device.old device.new }
+    ensures leads { (state : State) → AreAccepted state (command.now ∷ [])
+        → LeadsFrom D.Sectors result 2 state (effect state command.now)
+        place (behind_record place) device.old device.new }
 {
     match commit_record(device, place, command) {
         Ok(next) => Ok(next),
@@ -108,23 +102,16 @@ fn as_snapshot<D: Sectors>(
     place: Place,
     next: &State,
 ) -> Result<Place, CommitFault>
-    requires room { 8450 ≤ D.len device.old }
+    requires room { sectors_in version_2 ≤ D.len device.old }
     requires first { 1 ≤ place.sequence }
-    requires last { place.sequence < 2 ^ 60 }
+    requires last { place.sequence < last_sequence }
 
     ensures left { IfErr result (λ fault. LeavesDevice fault device.old device.new) }
-    ensures place { IfOk result (λ next. next
-        ≡ record { sequence = place.sequence + 1; used = 0 }) }
-    ensures same_len { D.len device.new ≡ D.len device.old }
-    ensures finished { OnOk result (D.calls device.new ≡ D.calls device.old + 4) }
-    ensures fault { D.faults device.new ≡ faults_after_commit result (D.faults device.old) }
-    ensures honest { D.honest device.new → D.honest device.old }
-    ensures moments { D.honest device.new → (state : State)
-        → AllHold (D.possible device.old) state place
-        → Throughout D.clock D.possible_since device.old device.new (IsInStep state next.now (D.calls device.old) 4) }
-    ensures after { D.honest device.new → (state : State)
-        → AllHold (D.possible device.old) state place
-        → OnOk result (AllHold (D.possible device.new) next.now (record { sequence = place.sequence + 1; used = 0 })) }
+    ensures place { IfOk result (λ next. next ≡ behind_snapshot place) }
+    ensures called { Calls D.Sectors (more result 4) (faults_after_commit result)
+        device.old device.new }
+    ensures leads { (state : State) → LeadsFrom D.Sectors result 4 state next.now
+        place (behind_snapshot place) device.old device.new }
 {
     match commit_snapshot(alloc, device, place, next) {
         Ok(place) => Ok(place),
@@ -142,24 +129,19 @@ pub(crate) fn commit<D: Sectors>(
 ) -> Result<Place, CommitFault>
     requires fits { is_recorded command.now ≡ true → fits_record command.now ≡ true }
     requires unspent { spent place command.now ≡ None }
-    requires room { 8450 ≤ D.len device.old }
+    requires room { sectors_in version_2 ≤ D.len device.old }
     requires first { 1 ≤ place.sequence }
-    requires last { place.sequence ≤ 2 ^ 60 }
-    requires used { place.used ≤ 256 }
+    requires last { place.sequence ≤ last_sequence }
+    requires used { place.used ≤ journal_room }
 
     ensures left { IfErr result (λ fault. LeavesDevice fault device.old device.new) }
     ensures place { IfOk result (λ next. next ≡ place_after place command.now) }
-    ensures same_len { D.len device.new ≡ D.len device.old }
-    ensures finished { OnOk result
-        (D.calls device.new ≡ D.calls device.old + calls_of place command.now) }
-    ensures fault { D.faults device.new ≡ faults_after_commit result (D.faults device.old) }
-    ensures honest { D.honest device.new → D.honest device.old }
-    ensures moments { D.honest device.new → (state : State) → AreAccepted state (command.now ∷ [])
-        → next.now ≡ effect state command.now → AllHold (D.possible device.old) state place
-        → Throughout D.clock D.possible_since device.old device.new (IsInStep state next.now (D.calls device.old) (calls_of place command.now)) }
-    ensures after { D.honest device.new → (state : State) → AreAccepted state (command.now ∷ [])
-        → next.now ≡ effect state command.now → AllHold (D.possible device.old) state place
-        → OnOk result (AllHold (D.possible device.new) next.now (place_after place command.now)) }
+    ensures called { Calls D.Sectors (more result (calls_of place command.now))
+        (faults_after_commit result) device.old device.new }
+    ensures leads { (state : State) → AreAccepted state (command.now ∷ [])
+        → next.now ≡ effect state command.now
+        → LeadsFrom D.Sectors result (calls_of place command.now) state next.now
+        place (place_after place command.now) device.old device.new }
 {
     if has_record(command) && place.used < RECORDS {
         return as_record(device, place, command);

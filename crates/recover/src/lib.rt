@@ -33,7 +33,7 @@
 //!   (`moments`), and after `Ok` one that stands for the state (`stands`).
 //! - `steps_to_repeat`: how many search steps `open` is to repeat, by reading alone (`found`, `reads`).
 //! - `apply`: the exact denial or `Ok` (`answer`), what it makes of the session (`makes`), four finished calls for a snapshot
-//!   and two for a record (`finished`), and at each moment the state before the command or the one after it (`moments`).
+//!   and two for a record (`called`), and at each moment the state before the command or the one after it (`moments`).
 //! - `run`: each command is answered as `apply` answers it (`replies`); each moment leaves the state after a first part of
 //!   the kept commands that holds every acknowledged one (`moments`).
 //! - `upgrade`: the old device's images are at each moment those at entry (`reads`), refused or not (`refused`). From the

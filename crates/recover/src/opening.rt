@@ -6,28 +6,28 @@
 //! the records.
 ghost use Rattle.std.specs.Prelude.{◌≡◌, ◌+◌, ◌<◌, ◌≤◌, ◌^◌, List, ℕ, false, Err, OnOk, IfOk, IfErr, IsErrOf, MatchResult};
 ghost use Rattle.command_core.specs.Runs.{IsState};
-ghost use Rattle.sector_disk.specs.Sectors.{Throughout, Only};
+ghost use Rattle.sector_disk.specs.Sectors.{Throughout, more};
+ghost use Rattle.sector_disk.specs.Calls.{Calls};
 ghost use Rattle.state_codec.specs.declared.version.Version.TheVariants.{Two};
-ghost use Rattle.checkpoint.specs.Reads.{IsStanding, IsUnchanged};
-ghost use Rattle.checkpoint.specs.Layouts.{sectors_in};
+ghost use Rattle.checkpoint.specs.Reads.{IsStanding, ReadsOnly};
+ghost use Rattle.checkpoint.specs.Layouts.{least_sectors, sectors_in};
 ghost use Rattle.checkpoint.specs.Holds.{Holds, layout_of};
 ghost use Rattle.checkpoint.specs.Holdless.{HoldsNothing, IsOfLoad, UnlessUnread};
 ghost use Rattle.checkpoint.specs.Refused.{faults_after_reading};
 ghost use Rattle.recover.specs.StandsFor.{StandsFor};
 ghost use Rattle.recover.specs.Applying.{IsBetween};
-ghost use Rattle.recover.specs.Opening.{Opens, StandsForNone, IsReplayed, IsToRepeat, IsOnlyRead, ReadsAgain, outcome, device_after};
+ghost use Rattle.recover.specs.Opening.{Opens, Settles, StandsForNone, IsReplayed, IsToRepeat, IsOnlyRead, ReadsAgain, outcome, device_after};
 ghost use Rattle.recover.specs.Repeating.{IsRepeated};
 
 use crate::repeating::{repeat, steps_among, steps_in};
 use crate::sessions::Session;
-use checkpoint::{Loaded, Place, StoreFault, images_hold_one_thing, load_latest, load_latest_v1};
+use checkpoint::{
+    LEAST_SECTORS, Loaded, Place, StoreFault, images_hold_one_thing, load_latest, load_latest_v1,
+};
 use command_core::State;
 use sector_disk::{DeviceFault, Sectors};
 use state_codec::version::Version;
 use std::alloc::Global;
-
-/// The sectors of the smallest store of any version.
-const LEAST_SECTORS: u64 = 802;
 
 /// What a device's store stands for.
 #[derive(Drop)]
@@ -41,21 +41,17 @@ pub(crate) struct Recovered {
 
 // What the image that reads give holds, by the layout, bytes and limits of a version. It reads only.
 fn load<D: Sectors>(alloc: Global, device: &mut D, version: Version) -> Result<Loaded, StoreFault>
-    ensures small { D.len device.old < 802 → device.new ≡ device.old }
-    ensures told { D.len device.old < 802 → IsErrOf result StoreFault.NotFormatted }
+    ensures small { D.len device.old < least_sectors
+        → (device.new ≡ device.old) × IsErrOf result StoreFault.NotFormatted }
     ensures fails { IfErr result IsOfLoad }
     ensures standing { IfOk result
-        (λ loaded. IsStanding (sectors_in (layout_of version)) (D.len device.old) loaded.state loaded.place) }
+        (λ loaded. IsStanding (sectors_in (layout_of version)) (D.len device.old)
+        loaded.state loaded.place) }
     ensures found { D.honest device.new
         → MatchResult result (λ loaded.
         Holds version (D.seen device.old) loaded.state loaded.commands.items loaded.place)
         (UnlessUnread (HoldsNothing version (D.seen device.old))) }
-    ensures same_len { D.len device.new ≡ D.len device.old }
-    ensures same_calls { D.calls device.new ≡ D.calls device.old }
-    ensures fault { D.faults device.new ≡ faults_after_reading result (D.faults device.old) }
-    ensures honest { D.honest device.new → D.honest device.old }
-    ensures kept { D.honest device.new
-        → IsUnchanged D.clock D.possible_since D.possible D.seen D.calls device.old device.new }
+    ensures reads { ReadsOnly D.Sectors (faults_after_reading result) device.old device.new }
 {
     match version {
         Version::One => load_latest_v1(alloc, device),
@@ -69,26 +65,19 @@ fn read_settled<D: Sectors>(
     device: &mut D,
     version: Version,
 ) -> Result<Loaded, StoreFault>
-    ensures small { D.len device.old < 802 → device.new ≡ device.old }
-    ensures told { D.len device.old < 802 → IsErrOf result StoreFault.NotFormatted }
+    ensures small { D.len device.old < least_sectors
+        → (device.new ≡ device.old) × IsErrOf result StoreFault.NotFormatted }
     ensures fails { IfErr result IsOfLoad }
     ensures standing { IfOk result
-        (λ loaded. IsStanding (sectors_in (layout_of version)) (D.len device.old) loaded.state loaded.place) }
+        (λ loaded. IsStanding (sectors_in (layout_of version)) (D.len device.old)
+        loaded.state loaded.place) }
     ensures found { D.honest device.new
         → MatchResult result (λ loaded.
         Holds version (D.seen device.old) loaded.state loaded.commands.items loaded.place)
         (UnlessUnread (HoldsNothing version (D.seen device.old))) }
-    ensures only { D.honest device.new
-        → OnOk result (Only (D.seen device.old) (D.possible device.new)) }
-    ensures reads { D.honest device.new
-        → ReadsAgain result (D.possible device.old) (D.seen device.old) (D.seen device.new) }
-    ensures same_len { D.len device.new ≡ D.len device.old }
-    ensures finished { OnOk result (D.calls device.new ≡ D.calls device.old + 1) }
-    ensures fault { D.faults device.new ≡ faults_after_reading result (D.faults device.old) }
-    ensures honest { D.honest device.new → D.honest device.old }
-    ensures moments { D.honest device.new
-        → Throughout D.clock D.possible_since device.old device.new
-        (λ m image. IsBetween (D.calls device.old) (D.calls device.old + 1) m image × D.possible device.old image) }
+    ensures called { Calls D.Sectors (more result 1) (faults_after_reading result)
+        device.old device.new }
+    ensures settles { D.honest device.new → Settles D.Sectors result device.old device.new }
 {
     if device.len() < LEAST_SECTORS {
         return Err(StoreFault::NotFormatted);
@@ -105,26 +94,19 @@ pub(crate) fn recover<D: Sectors>(
     device: &mut D,
     version: Version,
 ) -> Result<Recovered, StoreFault>
-    ensures small { D.len device.old < 802 → device.new ≡ device.old }
-    ensures told { D.len device.old < 802 → IsErrOf result StoreFault.NotFormatted }
+    ensures small { D.len device.old < least_sectors
+        → (device.new ≡ device.old) × IsErrOf result StoreFault.NotFormatted }
     ensures fails { IfErr result IsOfLoad }
     ensures standing { IfOk result
-        (λ found. IsStanding (sectors_in (layout_of version)) (D.len device.old) found.state found.place) }
+        (λ found. IsStanding (sectors_in (layout_of version)) (D.len device.old)
+        found.state found.place) }
     ensures found { D.honest device.new
         → MatchResult result (λ found.
         IsRepeated version (D.seen device.old) found.state found.place found.replayed)
         (UnlessUnread (StandsForNone version (D.seen device.old))) }
-    ensures only { D.honest device.new
-        → OnOk result (Only (D.seen device.old) (D.possible device.new)) }
-    ensures reads { D.honest device.new
-        → ReadsAgain result (D.possible device.old) (D.seen device.old) (D.seen device.new) }
-    ensures same_len { D.len device.new ≡ D.len device.old }
-    ensures finished { OnOk result (D.calls device.new ≡ D.calls device.old + 1) }
-    ensures fault { D.faults device.new ≡ faults_after_reading result (D.faults device.old) }
-    ensures honest { D.honest device.new → D.honest device.old }
-    ensures moments { D.honest device.new
-        → Throughout D.clock D.possible_since device.old device.new
-        (λ m image. IsBetween (D.calls device.old) (D.calls device.old + 1) m image × D.possible device.old image) }
+    ensures called { Calls D.Sectors (more result 1) (faults_after_reading result)
+        device.old device.new }
+    ensures settles { D.honest device.new → Settles D.Sectors result device.old device.new }
 {
     let loaded = read_settled(alloc, device, version)?;
     let begun = steps_in(&loaded.state);
@@ -179,11 +161,13 @@ impl<D: Sectors> Session<D> {
         ensures fails { IfErr (outcome (λ o. o.session.state) result) IsOfLoad }
         ensures fault { D.faults (device_after (λ o. o.session.device) result)
             ≡ faults_after_reading (outcome (λ o. o.session.state) result) (D.faults device) }
-        ensures small { D.len device < 802 → result ≡ Err (StoreFault.NotFormatted, device) }
+        ensures small { D.len device < least_sectors
+            → result ≡ Err (StoreFault.NotFormatted, device) }
         ensures moments { D.honest (device_after (λ o. o.session.device) result)
             → Throughout D.clock D.possible_since device
             (device_after (λ o. o.session.device) result)
-            (λ m image. IsBetween (D.calls device) (D.calls device + 1) m image × D.possible device image) }
+            (λ m image. IsBetween (D.calls device) (D.calls device + 1) m image
+            × D.possible device image) }
         ensures reads { D.honest (device_after (λ o. o.session.device) result)
             → ReadsAgain (outcome (λ o. o.session.state) result) (D.possible device) (D.seen device)
             (D.seen (device_after (λ o. o.session.device) result)) }

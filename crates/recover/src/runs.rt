@@ -23,7 +23,8 @@ impl<D: Sectors> Session<D> {
             (λ run. IsRun D.len D.calls D.faults D.honest D.clock D.possible_since D.possible
             self.old commands.items run.replies.items self.new) }
         ensures moments { IfOk result (λ run. self.old.is_broken ≡ false → D.honest self.new.device
-            → Throughout D.clock D.possible_since self.old.device self.new.device (RunLeaves self.old.state commands.items run.replies.items)) }
+            → Throughout D.clock D.possible_since self.old.device self.new.device
+            (RunLeaves self.old.state commands.items run.replies.items)) }
     {
         let replies = Vec::with_capacity(alloc, commands.len())?;
         Ok(self.run_into(alloc, commands, replies))
@@ -41,7 +42,8 @@ impl<D: Sectors> Session<D> {
         ensures replies { IsRun D.len D.calls D.faults D.honest D.clock D.possible_since D.possible
             self.old commands.items result.replies.items self.new }
         ensures moments { self.old.is_broken ≡ false → D.honest self.new.device
-            → Throughout D.clock D.possible_since self.old.device self.new.device (RunLeaves self.old.state commands.items result.replies.items) }
+            → Throughout D.clock D.possible_since self.old.device self.new.device
+            (RunLeaves self.old.state commands.items result.replies.items) }
     {
         self.images_stand_for_the_state();
         let mut replies = replies;

@@ -1,23 +1,21 @@
 //! Sessions over a device.
 ghost use Rattle.std.specs.Prelude.{◌≡◌, ◌+◌, false, true, List, [], ◌∷◌, ℕ, None, OnOk};
 ghost use Rattle.command_core.specs.Runs.{IsState};
-ghost use Rattle.sector_disk.specs.Sectors.{Throughout};
+ghost use Rattle.sector_disk.specs.Sectors.{Throughout, more};
+ghost use Rattle.sector_disk.specs.Calls.{Calls};
 ghost use Rattle.state_codec.specs.declared.version.Version.TheVariants.{Two};
 ghost use Rattle.recover.specs.StandsFor.{StandsFor};
 ghost use Rattle.recover.specs.Moments.{RunLeaves};
-ghost use Rattle.recover.specs.Applying.{denial, calls_of, IsAnswer, Makes, IsBetween, faults_after_answer};
+ghost use Rattle.recover.specs.Applying.{denial, calls_of, IsAnswer, IsApplied, Makes, IsBetween, faults_after_answer};
 
 use crate::commits::{CommitFault, commit, is_snapshot_due};
 use crate::denials::Denial;
 use crate::replies::Reply;
-use checkpoint::Place;
+use checkpoint::{LAST_SEQUENCE, Place};
 use command_core::{Command, Planner, State, accepted_commands_fit_records, check};
 use sector_disk::{MemDevice, Sectors};
 use std::alloc::Global;
 use std::marker::Model;
-
-/// The greatest sequence of a store.
-const LAST_SEQUENCE: u64 = 1 << 60;
 
 /// A store that takes commands. Unless it is broken and while its device is honest, each image that a stop may leave stands for its state.
 #[derive(Drop)]
@@ -76,22 +74,8 @@ impl<D: Sectors> Session<D> {
     /// a snapshot where 256 records stand. Every denial but `DeviceFault` leaves all as it was. After `DeviceFault` the session is broken:
     /// each image that a stop may leave stands for the state before the command or for the one after it, and opening the device tells which.
     pub fn apply(&mut self, alloc: Global, command: Command) -> Reply
-        ensures answer { IsAnswer (denial self.old command) result.answer }
-        ensures makes { Makes result.answer self.old command self.new }
-        ensures count { result.calls ≡ D.calls self.new.device }
-        ensures finished { OnOk result.answer
-            (D.calls self.new.device ≡ D.calls self.old.device + calls_of self.old.place command) }
-        ensures fault { D.faults self.new.device
-            ≡ faults_after_answer result.answer (D.faults self.old.device) }
-        ensures same_len { D.len self.new.device ≡ D.len self.old.device }
-        ensures honest { D.honest self.new.device → D.honest self.old.device }
-        ensures moments { self.old.is_broken ≡ false → D.honest self.new.device
-            → Throughout D.clock D.possible_since self.old.device self.new.device (RunLeaves self.old.state (command ∷ []) (result ∷ [])) }
-        ensures counts { D.honest self.new.device
-            → Throughout D.clock D.possible_since self.old.device self.new.device
-            (IsBetween (D.calls self.old.device) (D.calls self.old.device + calls_of self.old.place command)) }
-        ensures stands { self.new.is_broken ≡ false → D.honest self.new.device → (image : List ℕ)
-            → D.possible self.new.device image → StandsFor Two image self.new.state }
+        ensures { IsApplied D.len D.calls D.faults D.honest D.clock D.possible_since D.possible
+            self.old command result self.new }
     {
         let answer = self.answer(alloc, &command);
         Reply {
@@ -104,19 +88,16 @@ impl<D: Sectors> Session<D> {
     fn answer(&mut self, alloc: Global, command: &Command) -> Result<(), Denial>
         ensures answer { IsAnswer (denial self.old command.now) result }
         ensures makes { Makes result self.old command.now self.new }
-        ensures finished { OnOk result
-            (D.calls self.new.device ≡ D.calls self.old.device + calls_of self.old.place
-            command.now) }
-        ensures fault { D.faults self.new.device
-            ≡ faults_after_answer result (D.faults self.old.device) }
-        ensures same_len { D.len self.new.device ≡ D.len self.old.device }
-        ensures honest { D.honest self.new.device → D.honest self.old.device }
+        ensures called { Calls D.Sectors (more result (calls_of self.old.place command.now))
+            (faults_after_answer result) self.old.device self.new.device }
         ensures moments { self.old.is_broken ≡ false → D.honest self.new.device
             → Throughout D.clock D.possible_since self.old.device self.new.device
-            (RunLeaves self.old.state (command.now ∷ []) (record { answer = result; calls = D.calls self.new.device } ∷ [])) }
+            (RunLeaves self.old.state (command.now ∷ [])
+            (record { answer = result; calls = D.calls self.new.device } ∷ [])) }
         ensures counts { D.honest self.new.device
             → Throughout D.clock D.possible_since self.old.device self.new.device
-            (IsBetween (D.calls self.old.device) (D.calls self.old.device + calls_of self.old.place command.now)) }
+            (IsBetween (D.calls self.old.device)
+            (D.calls self.old.device + calls_of self.old.place command.now)) }
     {
         self.images_stand_for_the_state();
         match self.denial(command) {
@@ -147,19 +128,16 @@ impl<D: Sectors> Session<D> {
         requires { denial self.old command.now ≡ None }
         ensures answer { IsAnswer None result }
         ensures makes { Makes result self.old command.now self.new }
-        ensures finished { OnOk result
-            (D.calls self.new.device ≡ D.calls self.old.device + calls_of self.old.place
-            command.now) }
-        ensures fault { D.faults self.new.device
-            ≡ faults_after_answer result (D.faults self.old.device) }
-        ensures same_len { D.len self.new.device ≡ D.len self.old.device }
-        ensures honest { D.honest self.new.device → D.honest self.old.device }
+        ensures called { Calls D.Sectors (more result (calls_of self.old.place command.now))
+            (faults_after_answer result) self.old.device self.new.device }
         ensures moments { D.honest self.new.device
             → Throughout D.clock D.possible_since self.old.device self.new.device
-            (RunLeaves self.old.state (command.now ∷ []) (record { answer = result; calls = D.calls self.new.device } ∷ [])) }
+            (RunLeaves self.old.state (command.now ∷ [])
+            (record { answer = result; calls = D.calls self.new.device } ∷ [])) }
         ensures counts { D.honest self.new.device
             → Throughout D.clock D.possible_since self.old.device self.new.device
-            (IsBetween (D.calls self.old.device) (D.calls self.old.device + calls_of self.old.place command.now)) }
+            (IsBetween (D.calls self.old.device)
+            (D.calls self.old.device + calls_of self.old.place command.now)) }
     {
         accepted_commands_fit_records();
         let Ok(before) = self.planner.change(alloc, command) else {

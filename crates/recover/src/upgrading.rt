@@ -3,18 +3,16 @@
 //! The old device is read as `open` reads one, by version 1's bytes and limits, and the new one made as `format` makes it, with the
 //! state that was read. So version 1 has no writer, and the old store stays as it was.
 ghost use Rattle.std.specs.Prelude.{◌≡◌, ◌<◌, ◌↔◌, IfErr, IsErrOf};
+ghost use Rattle.checkpoint.specs.Layouts.{version_2, sectors_in};
 ghost use Rattle.recover.specs.Names.{upgrade_fault_name};
 ghost use Rattle.recover.specs.Upgrading.{OnWritten, IsMadeOfOld, IsReadOnly, IsRefusal, IsWrittenAnew};
 
 use crate::opening::recover;
-use checkpoint::{FormatFault, Place, StoreFault, format_with};
+use checkpoint::{FormatFault, Place, SECTORS, StoreFault, format_with};
 use sector_disk::Sectors;
 use state_codec::version::Version;
 use std::alloc::Global;
 use thiserror::Error;
-
-/// The sectors of a store.
-const SECTORS: u64 = 8450;
 
 /// Why a store was not upgraded.
 #[derive(Clone, Copy, Debug, PartialEq, Eq, Error)]
@@ -51,7 +49,7 @@ pub fn upgrade<D: Sectors, E: Sectors>(
     new: &mut E,
 ) -> Result<Place, UpgradeFault>
     ensures too_small { IsErrOf result (UpgradeFault.New FormatFault.TooSmall)
-        ↔ E.len new.old < 8450 }
+        ↔ E.len new.old < sectors_in version_2 }
     ensures refused { IfErr result (λ fault.
         IsRefusal D.Sectors E.Sectors fault old.old old.new new.old new.new) }
     ensures reads { IsReadOnly D.Sectors result old.old old.new }

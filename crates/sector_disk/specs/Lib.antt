@@ -2,6 +2,7 @@
 pub mod Image
 pub mod Sectors
 pub mod Throughout
+pub mod Calls
 pub mod Model
 pub mod History
 pub mod Memory
@@ -16,6 +17,7 @@ pub mod Laws
 -- of private functions and of proofs alone
 pub mod Kept
 pub mod Crash
+pub mod CommitLaws
 pub mod HistoryLaws
 pub mod FileLaws
 pub mod ImageLaws

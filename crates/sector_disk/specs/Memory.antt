@@ -137,6 +137,12 @@ Gives outcome result new = (is_ok result ≡ outcome.ok) × (new ≡ outcome.sta
 abbrev pub GivesIfMemory : {T E : Type 0} → Memory → Outcome → Result T E → Memory → Type 0
 GivesIfMemory old outcome result new = Gives outcome result new ⊎ ((is_ok result ≡ false) × (new ≡ with_fault old))
 
+-- the length and both counts stay
+pub record KeepsCounts (old new : Memory) : Type 0 where
+  pub len : len_of new ≡ len_of old
+  pub calls : new.calls ≡ old.calls
+  pub faults : new.faults ≡ old.faults
+
 -- what has changed is not the device: its contents, its moments and its counts are as before
 pub record IsSameDevice (old new : Memory) : Type 0 where
   pub len : len_of new ≡ len_of old

@@ -126,7 +126,7 @@ impl MemDevice {
     ghost use Rattle.sector_disk.specs.Model.{Stops};
     ghost use Rattle.sector_disk.specs.Sectors.{Only};
     ghost use Rattle.sector_disk.specs.MemDevice.{memory};
-    ghost use Rattle.sector_disk.specs.Memory.{fresh, len_of, disk_of, seen_of, MayLeave, IsSameDevice, is_due, is_refused, tears, failed, read_of, write_of, sync_of, with_fault, Gives, GivesIfMemory, Crashes};
+    ghost use Rattle.sector_disk.specs.Memory.{fresh, len_of, disk_of, seen_of, MayLeave, IsSameDevice, KeepsCounts, is_due, is_refused, tears, failed, read_of, write_of, sync_of, with_fault, Gives, GivesIfMemory, Crashes};
 
     /// A device of zeros.
     pub fn new(alloc: Global, sectors: u64) -> Result<MemDevice, OutOfMemory>
@@ -180,9 +180,7 @@ impl MemDevice {
             (disk_of (memory self.new)) }
         ensures possible { MayLeave (memory self.old) (seen_of (memory self.new)) }
         ensures only { Only (seen_of (memory self.new)) (MayLeave (memory self.new)) }
-        ensures same_len { len_of (memory self.new) ≡ len_of (memory self.old) }
-        ensures same_calls { (memory self.new).calls ≡ (memory self.old).calls }
-        ensures same_faults { (memory self.new).faults ≡ (memory self.old).faults }
+        ensures counts { KeepsCounts (memory self.old) (memory self.new) }
     {
         stop(&mut self.start, &self.history, choices);
         self.image.copy_from_slice(&self.start);
@@ -406,7 +404,8 @@ fn choice_for(choices: &[u32], index: u64) -> u32
 // Puts into each sector of the image the content that was chosen for it.
 fn choose(image: &mut [u8], unsynced: &[Call], choices: &[u32])
     ensures { (i : ℕ) → i < length image.old / 512 → sector i image.new
-        ≡ chosen (sector i image.old) (filter_map (content_of i) (map call_of unsynced.now)) (slice_index choices.now i) }
+        ≡ chosen (sector i image.old) (filter_map (content_of i) (map call_of unsynced.now))
+        (slice_index choices.now i) }
 {
     for i in 0..(image.len() / SECTOR_SIZE) as u64 {
         choose_sector(image, unsynced, i, choice_for(choices, i));

@@ -5,7 +5,7 @@
 //! may do; "honest after a call exactly where it was before" could only be met by one whose honesty is settled from the start.
 ghost use Rattle.std.specs.Prelude.{◌≡◌, ◌+◌, ◌-◌, ◌*◌, ◌%◌, ◌^◌, ◌<◌, ◌≤◌, ◌↔◌, List, ℕ, length, take, drop, OnOk, OnErr, IsErr};
 ghost use Rattle.sector_disk.specs.Image.{written};
-ghost use Rattle.sector_disk.specs.Sectors.{calls_after, faults_after, Reached, AddsContents, Only, SameImages, Elapses};
+ghost use Rattle.sector_disk.specs.Sectors.{IsCalled, as_many, OneMore, faults_after, Reached, AddsContents, Only, SameImages, Passes};
 
 use std::alloc::AllocError;
 use thiserror::Error;
@@ -68,19 +68,14 @@ pub trait Sectors {
         requires whole { length into.old % 512 ≡ 0 }
         requires inside { 512 * first + length into.old ≤ 512 * len self.old }
 
-        ensures same_len { len self.new ≡ len self.old }
-        ensures same_calls { calls self.new ≡ calls self.old }
-        ensures fault { faults self.new ≡ faults_after result (faults self.old) }
-        ensures honest { honest self.new → honest self.old }
-
+        ensures called { IsCalled len calls faults honest as_many (faults_after result)
+            self.old self.new }
         ensures bytes { honest self.new
             → OnOk result (into.new ≡ take (length into.old) (drop (512 * first) (seen self.old))) }
         ensures reads { honest self.new → seen self.new ≡ seen self.old }
         ensures contents { honest self.new → SameImages (possible self.old) (possible self.new) }
         ensures moments { honest self.new
-            → Elapses (clock self.old) (clock self.new) (possible_since self.old)
-            (possible_since self.new)
-            (calls self.old) (calls self.new) (possible self.old) (possible self.new) };
+            → Passes clock possible_since calls possible (possible self.old) self.old self.new };
 
     /// Writes a run of whole sectors, `first` the number of its first. Until a sync succeeds a stop may leave the old
     /// content or the new one in each of them; after a fault reads give one of the possible images.
@@ -89,41 +84,31 @@ pub trait Sectors {
         requires whole { length bytes.now % 512 ≡ 0 }
         requires inside { 512 * first + length bytes.now ≤ 512 * len self.old }
 
-        ensures same_len { len self.new ≡ len self.old }
-        ensures finished { calls self.new ≡ calls_after result (calls self.old) }
-        ensures fault { faults self.new ≡ faults_after result (faults self.old) }
-        ensures last { calls self.old ≡ 2 ^ 64 - 1 → IsErr result }
-        ensures honest { honest self.new → honest self.old }
-
+        ensures called { IsCalled len calls faults honest (OneMore result) (faults_after result)
+            self.old self.new }
         ensures written { honest self.new
             → OnOk result (seen self.new ≡ written first bytes.now (seen self.old)) }
         ensures contents { honest self.new
             → AddsContents result first bytes.now (possible self.old) (possible self.new) }
         // Within the call each sector may have reached the device or not.
         ensures within { honest self.new
-            → OnOk result ((t : ℕ) (image : List ℕ) → t ≤ clock self.old →
-            Reached first bytes.now (possible self.old) image → possible_since self.new t (calls self.old) image) }
+            → OnOk result ((t : ℕ) (image : List ℕ) → t ≤ clock self.old
+            → Reached first bytes.now (possible self.old) image
+            → possible_since self.new t (calls self.old) image) }
         ensures moments { honest self.new
-            → Elapses (clock self.old) (clock self.new) (possible_since self.old)
-            (possible_since self.new)
-            (calls self.old) (calls self.new) (Reached first bytes.now (possible self.old)) (possible self.new) };
+            → Passes clock possible_since calls possible
+            (Reached first bytes.now (possible self.old)) self.old self.new };
 
     /// Makes durable what reads give. After a fault nothing more is durable, and reads give one of the possible images.
     fn sync(&mut self) -> Result<(), DeviceFault>
-        ensures same_len { len self.new ≡ len self.old }
-        ensures finished { calls self.new ≡ calls_after result (calls self.old) }
-        ensures fault { faults self.new ≡ faults_after result (faults self.old) }
-        ensures last { calls self.old ≡ 2 ^ 64 - 1 → IsErr result }
-        ensures honest { honest self.new → honest self.old }
-
+        ensures called { IsCalled len calls faults honest (OneMore result) (faults_after result)
+            self.old self.new }
         ensures reads { honest self.new → OnOk result (seen self.new ≡ seen self.old) }
         ensures durable { honest self.new → OnOk result (Only (seen self.old) (possible self.new)) }
         ensures contents { honest self.new
             → OnErr result (SameImages (possible self.old) (possible self.new)) }
         ensures moments { honest self.new
-            → Elapses (clock self.old) (clock self.new) (possible_since self.old)
-            (possible_since self.new)
-            (calls self.old) (calls self.new) (possible self.old) (possible self.new) };
+            → Passes clock possible_since calls possible (possible self.old) self.old self.new };
 
     /// What reads give is a possible image.
     ghost reads_possible: { (d : Self) → honest d → possible d (seen d) };

@@ -140,7 +140,8 @@ pub fn write_at(file: &File, bytes: &[u8], offset: u64, noted: &mut Record) -> i
 
 /// A read that is not asked for: it can't be, or was interrupted too often. It is noted as one that failed so.
 pub fn refuse_read(into: &[u8], offset: u64, kind: ErrorKind, noted: &mut Record) -> io::Error
-    ensures noted { noted.new.calls ≡ (SystemCall.ReadAtFailed offset kind, into.now) ∷ noted.old.calls }
+    ensures noted { noted.new.calls
+        ≡ (SystemCall.ReadAtFailed offset kind, into.now) ∷ noted.old.calls }
     ensures kind { error_kind result ≡ kind }
 {
     noted.note(&SystemCall::ReadAtFailed { offset, kind }, into);
@@ -149,7 +150,8 @@ pub fn refuse_read(into: &[u8], offset: u64, kind: ErrorKind, noted: &mut Record
 
 /// A write that is not asked for: it can't be, or was interrupted too often. It is noted as one that failed so.
 pub fn refuse_write(bytes: &[u8], offset: u64, kind: ErrorKind, noted: &mut Record) -> io::Error
-    ensures noted { noted.new.calls ≡ (SystemCall.WriteAtFailed offset kind, bytes.now) ∷ noted.old.calls }
+    ensures noted { noted.new.calls
+        ≡ (SystemCall.WriteAtFailed offset kind, bytes.now) ∷ noted.old.calls }
     ensures kind { error_kind result ≡ kind }
 {
     noted.note(&SystemCall::WriteAtFailed { offset, kind }, bytes);

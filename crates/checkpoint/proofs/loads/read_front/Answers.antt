@@ -7,7 +7,7 @@ pub returns-in-Ok-current_header-clause-found : goal.returns-in-Ok-current_heade
 returns-in-Ok-current_header-clause-found g c honest =
     let d = g.D.Sectors in
     let start = c.args.device.now in
-    let from = c.read_run.ensures.honest honest in
+    let from = c.read_run.ensures.reads.called.honest_before honest in
     let size = g.met.D.Sectors.image_size start (d.seen start) from (g.met.D.Sectors.reads_possible start from) in
     let whole : IsImageFront (d.len start) c.in-Ok.front.items (d.seen start) = record { size = size; room = omega (arith, c.requires); is = sym (c.in-Ok.ensures.bytes honest) } in (
       whole,
@@ -15,5 +15,14 @@ returns-in-Ok-current_header-clause-found g c honest =
           (subst (λ (n : ℕ). IsImageFront n c.deref.result.now (d.seen start)) (sym c.len-sectors.ensures) (subst (λ (f : List ℕ). IsImageFront (d.len start) f (d.seen start)) (sym c.deref.ensures.value) whole)),
     )
 
-pub returns-in-Err-current_header-clause-fault : goal.returns-in-Err-current_header-clause-fault
-returns-in-Err-current_header-clause-fault g c = c.in-Ok.ensures.fault ∙ sym (no_fault_more c.in-Err-current_header.fault c.in-Err-current_header.ensures.kind _)
+pub returns-in-Err-current_header-clause-reads : goal.returns-in-Err-current_header-clause-reads
+returns-in-Err-current_header-clause-reads g c =
+    let read = c.in-Ok.ensures.reads in record {
+      called = record {
+        same_len = read.called.same_len;
+        finished = read.called.finished;
+        fault = read.called.fault ∙ sym (no_fault_more c.in-Err-current_header.fault c.in-Err-current_header.ensures.kind _);
+        honest_before = read.called.honest_before;
+      };
+      kept = read.kept;
+    }

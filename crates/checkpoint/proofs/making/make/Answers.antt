@@ -1,6 +1,16 @@
-use Rattle.std.proofs.Common.{sym, subst}
+use Rattle.std.proofs.Common.{[], take, sym, subst}
 use Rattle.checkpoint.specs.Puts.{IsZeros}
+use Rattle.checkpoint.specs.Stores.{HasStored}
+use Rattle.checkpoint.proofs.Fresh.{formats}
 use Rattle.checkpoint.proofs.making.make.Goals as goal
 
 pub put_all-requires-clause-zeros : goal.put_all-requires-clause-zeros
 put_all-requires-clause-zeros g c = subst (IsZeros 132096) (sym c.deref.ensures.value) c.in_ok-zeros.ensures
+
+-- what is possible at the return is of the last moment
+pub returns-in-Ok-clause-formats : goal.returns-in-Ok-clause-formats
+returns-in-Ok-clause-formats g c honest =
+    let d = g.D.Sectors in
+    let end = c.put_all.new.device in
+    formats d _ (HasStored 1 (take c.args.size c.args.bytes.now) []) _ c.args.device.now end (λ t image le left. g.met.D.Sectors.counts_now end t image honest le left) c.in-Ok.ensures.called.finished
+    (c.put_all.ensures.moments honest) (c.in-Ok.ensures.durable honest)

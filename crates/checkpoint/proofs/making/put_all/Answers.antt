@@ -5,8 +5,8 @@ use Rattle.sector_disk.specs.Sectors.{Only}
 use Rattle.sector_disk.specs.Throughout.{joined, weakened}
 use Rattle.checkpoint.specs.Puts.{IsInPut, IsInSnapshot}
 use Rattle.checkpoint.proofs.Cleared.{clears, length_cleared}
-use Rattle.checkpoint.proofs.NewStore.{IsMaking, first_header, in_zeros, in_snapshot}
-use Rattle.checkpoint.specs.Written.{with_both}
+use Rattle.checkpoint.proofs.NewStore.{IsMaking, in_zeros, in_snapshot}
+use Rattle.checkpoint.specs.Written.{first_header, with_both}
 use Rattle.checkpoint.proofs.FrontZeros.{front_zeros}
 use Rattle.checkpoint.proofs.making.put_all.Goals as goal
 
@@ -17,7 +17,7 @@ pub returns-in_err-put-clause-moments : goal.returns-in_err-put-clause-moments
 returns-in_err-put-clause-moments g c honest =
     let d = g.D.Sectors in
     let start = c.args.device.now in
-    let from = c.put.ensures.honest honest in
+    let from = c.put.ensures.called.honest_before honest in
     let size = g.met.D.Sectors.image_size start (d.seen start) from (g.met.D.Sectors.reads_possible start from) in
     let zeros = c.args.zeros.now in
     let is = c.requires.zeros in
@@ -29,8 +29,8 @@ pub returns-clause-moments : goal.returns-clause-moments
 returns-clause-moments g c honest =
     let d = g.D.Sectors in
     let start = c.args.device.now in
-    let mid = c.put_snapshot.ensures.honest honest in
-    let from = c.put.ensures.honest mid in
+    let mid = c.put_snapshot.ensures.called.honest_before honest in
+    let from = c.put.ensures.called.honest_before mid in
     let size = g.met.D.Sectors.image_size start (d.seen start) from (g.met.D.Sectors.reads_possible start from) in
     let zeros = c.args.zeros.now in
     let is = c.requires.zeros in
@@ -42,14 +42,14 @@ returns-clause-moments g c honest =
     (c.put.ensures.moments mid) in
     let second = weakened d.clock d.possible_since c.put.new.device c.put_snapshot.new.device (IsInSnapshot (first_header c.args.size) c.args.bytes.now (d.possible c.put.new.device) (d.seen c.put.new.device) (d.calls c.put.new.device)) all
     (in_snapshot c.args.bytes.now c.args.size zeros (d.seen start) front (d.calls start) c.requires.whole c.requires.fits c.requires.some c.requires.length (omega (arith, long, size, c.requires.room))
-    (d.possible c.put.new.device) (d.seen c.put.new.device) (d.calls c.put.new.device) c.in_ok-put.ensures.finished (c.in_ok-put.ensures.seen mid) (c.in_ok-put.ensures.durable mid))
+    (d.possible c.put.new.device) (d.seen c.put.new.device) (d.calls c.put.new.device) c.in_ok-put.ensures.called.finished (c.in_ok-put.ensures.seen mid) (c.in_ok-put.ensures.durable mid))
     (c.put_snapshot.ensures.moments honest) in
     joined d.clock d.possible_since start c.put.new.device c.put_snapshot.new.device all first second
 
 pub returns-clause-durable : goal.returns-clause-durable
 returns-clause-durable g c honest =
     let d = g.D.Sectors in
-    let mid = c.put_snapshot.ensures.honest honest in
+    let mid = c.put_snapshot.ensures.called.honest_before honest in
     let end = d.possible c.put_snapshot.new.device in
     subst (λ (image : List ℕ). OnOk c.put_snapshot.result (Only (with_both (first_header c.args.size) c.args.bytes.now image) end))
     (c.in_ok-put.ensures.seen mid ∙ ap (λ (zeros : List ℕ). written 0 zeros (d.seen c.args.device.now)) (front_zeros c.args.zeros.now c.requires.zeros))

@@ -10,14 +10,14 @@ returns-in-Ok-clause-begins g c =
       c.format.new.device,
       c.format.result,
       record {
-        holds = given.after;
+        holds = λ honest. (given.formats honest).after;
         place = given.place;
-        moments = given.moments;
+        moments = λ honest. (given.formats honest).moments;
         kept = given.kept;
-        honest = given.honest;
-        finished = given.finished;
-        faults = given.fault;
-        same_len = given.same_len;
+        honest = given.called.honest_before;
+        finished = given.called.finished;
+        faults = given.called.fault;
+        same_len = given.called.same_len;
       },
       rw c.in-Ok.is begins,
     )) c.begin_device.ensures.begins
@@ -29,14 +29,14 @@ returns-in-Err-clause-begins g c =
       c.format.new.device,
       c.format.result,
       record {
-        holds = given.after;
+        holds = λ honest. (given.formats honest).after;
         place = given.place;
-        moments = given.moments;
+        moments = λ honest. (given.formats honest).moments;
         kept = given.kept;
-        honest = given.honest;
-        finished = given.finished;
-        faults = given.fault;
-        same_len = given.same_len;
+        honest = given.called.honest_before;
+        finished = given.called.finished;
+        faults = given.called.fault;
+        same_len = given.called.same_len;
       },
       rw c.in-Err.is (refl, told.0, told.1),
     )) c.tell_format.ensures

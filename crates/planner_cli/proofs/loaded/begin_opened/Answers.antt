@@ -21,18 +21,7 @@ returns-clause-begins g c =
       empty = empty;
       reply = c.apply-reply.result;
       new = new;
-      applied = record {
-        answer = given.answer;
-        makes = given.makes;
-        count = given.count;
-        finished = given.finished;
-        fault = given.fault;
-        same_len = given.same_len;
-        honest_before = given.honest;
-        moments = given.moments;
-        counts = given.counts;
-        stands = given.stands;
-      };
+      applied = given;
       device = c.close-2.ensures.device;
       stands = begun c.apply-reply.result.answer old new c.args.command
           (λ s. g.D.Sectors.honest left → (image : List ℕ) → g.D.Sectors.possible left image → StandsFor Two image s) empty given.makes c.close-2.ensures.stands;

@@ -3,6 +3,7 @@ use Rattle.std.proofs.Common.{◌≡◌, ◌<◌, arith, inl, inr, subst}
 use Rattle.std.specs.Prelude.{◌^◌, IfOk}
 use Rattle.std.specs.Io.KnownBytes.{Appends}
 use Rattle.std.specs.Result.{result_err}
+use Rattle.checkpoint.specs.Layouts.{version_2, sectors_in}
 use Rattle.checkpoint.specs.declared.faults.FormatFault.TheVariants.{TooSmall}
 use Rattle.std.proofs.lemmas.Result.{IfOk-weaker}
 use Rattle.planner_cli.specs.Telling.{format_line, format_status}
@@ -23,14 +24,14 @@ returns-in-Ok-clause-formats g c =
       c.in-Ok.ensures.unused,
       c.in-Ok.ensures.len,
       record {
-        holds = given.after;
+        holds = λ honest. (given.formats honest).after;
         place = given.place;
-        moments = given.moments;
+        moments = λ honest. (given.formats honest).moments;
         kept = given.kept;
-        honest = given.honest;
-        finished = given.finished;
-        faults = given.fault;
-        same_len = given.same_len;
+        honest = given.called.honest_before;
+        finished = given.called.finished;
+        faults = given.called.fault;
+        same_len = given.called.same_len;
       },
       not_too_small made TooSmall _ given.too_small c.in-Ok.ensures.len,
       told.0,
@@ -40,5 +41,5 @@ returns-in-Ok-clause-formats g c =
 
 pub returns-in-Err-clause-formats : goal.returns-in-Err-clause-formats
 returns-in-Err-clause-formats g c =
-    let short : 8450 < 2 ^ 54 = omega arith in
+    let short : sectors_in version_2 < 2 ^ 54 = omega arith in
     IfOk-weaker c.tell_file_fault.result _ _ (λ status told. inr (c.in-Err.refusal.fault, c.in-Err.ensures.not_too_long short, told.0, told.1)) c.tell_file_fault.ensures

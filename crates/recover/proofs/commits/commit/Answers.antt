@@ -1,12 +1,19 @@
 use Rattle.std.proofs.Common.{rules, ◌≡◌, ℕ, sym, subst}
-use Rattle.sector_disk.specs.Sectors.{Throughout}
-use Rattle.recover.specs.Applying.{calls_of}
-use Rattle.recover.specs.Committing.{IsInStep}
+use Rattle.checkpoint.specs.declared.places.Place.{Place}
+use Rattle.checkpoint.specs.Places.{behind_snapshot}
+use Rattle.recover.specs.Applying.{calls_of, place_after}
+use Rattle.recover.specs.Committing.{Leads}
 use Rattle.recover.proofs.commits.commit.Goals as goal
 
-pub returns-clause-moments : goal.returns-clause-moments
-returns-clause-moments g c honest state accepted same all =
+pub returns-clause-leads : goal.returns-clause-leads
+returns-clause-leads g c state accepted same honest all =
     let d = g.D.Sectors in
     let start = c.args.device.now in
-    let four : calls_of c.args.place c.args.command.now ≡ 4 = search rules in
-    subst (λ (n : ℕ). Throughout d.clock d.possible_since start c.as_snapshot.new.device (IsInStep state c.args.next.now (d.calls start) n)) (sym four) (c.as_snapshot.ensures.moments honest state all)
+    let end = c.as_snapshot.new.device in
+    let place = c.args.place in
+    let command = c.args.command.now in
+    let next = c.args.next.now in
+    let four : calls_of place command ≡ 4 = search rules in
+    let behind : place_after place command ≡ behind_snapshot place = search rules in
+    subst (λ (n : ℕ). Leads d c.as_snapshot.result n state next (place_after place command) start end) (sym four)
+    (subst (λ (p : Place). Leads d c.as_snapshot.result 4 state next p start end) (sym behind) (c.as_snapshot.ensures.leads state honest all))

@@ -8,10 +8,14 @@ pub returns-in-Some-clause-makes : goal.returns-in-Some-clause-makes
 returns-in-Some-clause-makes g c =
     let s = c.args.self.now in denied s c.args.command.now c.in-Some.denial (sym c.in-Some.ensures) (λ why. Makes {T = Unit {0}} (Err why) s c.args.command.now s) refl (λ r. refl) refl
 
-pub returns-in-Some-clause-fault : goal.returns-in-Some-clause-fault
-returns-in-Some-clause-fault g c =
-    let faults = g.D.Sectors.faults c.args.self.now.device in
-    denied c.args.self.now c.args.command.now c.in-Some.denial (sym c.in-Some.ensures) (λ why. faults ≡ faults_after_answer {T = Unit {0}} (Err why) faults) refl (λ r. refl) refl
+pub returns-in-Some-clause-called : goal.returns-in-Some-clause-called
+returns-in-Some-clause-called g c =
+    let faults = g.D.Sectors.faults c.args.self.now.device in record {
+      same_len = refl;
+      finished = tt;
+      fault = denied c.args.self.now c.args.command.now c.in-Some.denial (sym c.in-Some.ensures) (λ why. faults ≡ faults_after_answer {T = Unit {0}} (Err why) faults) refl (λ r. refl) refl;
+      honest_before = λ honest. honest;
+    }
 
 pub returns-in-Some-clause-moments : goal.returns-in-Some-clause-moments
 returns-in-Some-clause-moments g c whole honest =

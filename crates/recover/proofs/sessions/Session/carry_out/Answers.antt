@@ -39,11 +39,11 @@ invariant_of-self-in-Ok-commit g c =
     let fits = place_fits i.place command unspent c.self.invariant.first c.self.invariant.last c.self.invariant.used in
     subst (λ (p : Place). IsSession d.len d.honest d.possible (record { device = c.commit.new.device; state = c.change.new.self; place = p; is_broken = i.is_broken })) (sym c.in-Ok-commit.ensures.place) (record {
       state = c.in-Ok.ensures.ok.facts;
-      room = subst (λ (n : ℕ). 8450 ≤ n) (sym c.commit.ensures.same_len) c.self.invariant.room;
+      room = subst (λ (n : ℕ). 8450 ≤ n) (sym c.commit.ensures.called.same_len) c.self.invariant.room;
       first = fits.0;
       last = fits.1;
       used = fits.2;
-      durable = λ whole honest. subst (λ (s : State). AllHold (d.possible c.commit.new.device) s (place_after i.place command)) c.state.ensures (c.in-Ok-commit.ensures.after honest i.planner c.in-Ok.ensures.ok.accepted (c.state.ensures ∙ c.in-Ok.ensures.ok.effect) (c.self.invariant.durable whole (c.commit.ensures.honest honest)));
+      durable = λ whole honest. subst (λ (s : State). AllHold (d.possible c.commit.new.device) s (place_after i.place command)) c.state.ensures (c.in-Ok-commit.ensures.leads i.planner c.in-Ok.ensures.ok.accepted (c.state.ensures ∙ c.in-Ok.ensures.ok.effect) honest (c.self.invariant.durable whole (c.commit.ensures.called.honest_before honest))).after;
     })
 
 -- the session after a commit, whatever the change was that is dropped then
@@ -80,9 +80,9 @@ returns-in-Ok-commit-clause-moments g c =
     subst (λ (new : SessionValue _). d.honest new.device → Throughout d.clock d.possible_since c.args.self.now.device new.device (RunLeaves c.args.self.now.state (command ∷ []) (record { answer = Ok tt; calls = d.calls new.device } ∷ []))) (sym (committed g c))
     (subst (λ (s : SessionValue _). d.honest end → Throughout d.clock d.possible_since s.device end (RunLeaves s.state (command ∷ []) (record { answer = Ok tt; calls = d.calls end } ∷ []))) c.self.view_is
     (λ honest. weakened d.clock d.possible_since i.device end (IsInStep i.planner c.state.result.now (d.calls i.device) (calls_of i.place command)) _
-    (λ m image step. leaves_ok i.planner command c.in-Ok.ensures.ok.accepted c.state.result.now (c.state.ensures ∙ c.in-Ok.ensures.ok.effect) (d.calls i.device) (calls_of i.place command) (d.calls end) m image step tt c.in-Ok-commit.ensures.finished)
-    (c.commit.ensures.moments honest i.planner c.in-Ok.ensures.ok.accepted (c.state.ensures ∙ c.in-Ok.ensures.ok.effect)
-    (c.self.invariant.durable (is_whole (record { device = i.device; state = i.planner; place = i.place; is_broken = i.is_broken }) command none) (c.commit.ensures.honest honest)))))
+    (λ m image step. leaves_ok i.planner command c.in-Ok.ensures.ok.accepted c.state.result.now (c.state.ensures ∙ c.in-Ok.ensures.ok.effect) (d.calls i.device) (calls_of i.place command) (d.calls end) m image step tt c.in-Ok-commit.ensures.called.finished)
+    (c.commit.ensures.leads i.planner c.in-Ok.ensures.ok.accepted (c.state.ensures ∙ c.in-Ok.ensures.ok.effect) honest
+    (c.self.invariant.durable (is_whole (record { device = i.device; state = i.planner; place = i.place; is_broken = i.is_broken }) command none) (c.commit.ensures.called.honest_before honest))).moments))
 
 pub returns-in-Ok-commit-clause-counts : goal.returns-in-Ok-commit-clause-counts
 returns-in-Ok-commit-clause-counts g c =
@@ -95,8 +95,8 @@ returns-in-Ok-commit-clause-counts g c =
     (subst (λ (s : SessionValue _). d.honest end → Throughout d.clock d.possible_since s.device end (IsBetween (d.calls s.device) (d.calls s.device + calls_of s.place command))) c.self.view_is
     (λ honest. weakened d.clock d.possible_since i.device end (IsInStep i.planner c.state.result.now (d.calls i.device) (calls_of i.place command)) (IsBetween (d.calls i.device) (d.calls i.device + calls_of i.place command))
     (λ m image step. (step.from, step.to))
-    (c.commit.ensures.moments honest i.planner c.in-Ok.ensures.ok.accepted (c.state.ensures ∙ c.in-Ok.ensures.ok.effect)
-    (c.self.invariant.durable (is_whole (record { device = i.device; state = i.planner; place = i.place; is_broken = i.is_broken }) command none) (c.commit.ensures.honest honest)))))
+    (c.commit.ensures.leads i.planner c.in-Ok.ensures.ok.accepted (c.state.ensures ∙ c.in-Ok.ensures.ok.effect) honest
+    (c.self.invariant.durable (is_whole (record { device = i.device; state = i.planner; place = i.place; is_broken = i.is_broken }) command none) (c.commit.ensures.called.honest_before honest))).moments))
 
 -- want of memory for a snapshot
 pub returns-in-Err-OutOfMemory-clause-moments : goal.returns-in-Err-OutOfMemory-clause-moments
@@ -135,8 +135,8 @@ returns-in-Err-DeviceFault-clause-moments g c =
     subst (λ (s : SessionValue _). d.honest end → Throughout d.clock d.possible_since s.device end (RunLeaves s.state (command ∷ []) (record { answer = Err DeviceFault; calls = d.calls end } ∷ []))) c.self.view_is
     (λ honest. weakened d.clock d.possible_since i.device end (IsInStep i.planner c.state.result.now (d.calls i.device) (calls_of i.place command)) _
     (λ m image step. leaves_fault i.planner command c.in-Ok.ensures.ok.accepted c.state.result.now (c.state.ensures ∙ c.in-Ok.ensures.ok.effect) (d.calls i.device) (calls_of i.place command) (d.calls end) m image step)
-    (c.commit.ensures.moments honest i.planner c.in-Ok.ensures.ok.accepted (c.state.ensures ∙ c.in-Ok.ensures.ok.effect)
-    (c.self.invariant.durable (is_whole (record { device = i.device; state = i.planner; place = i.place; is_broken = i.is_broken }) command none) (c.commit.ensures.honest honest))))
+    (c.commit.ensures.leads i.planner c.in-Ok.ensures.ok.accepted (c.state.ensures ∙ c.in-Ok.ensures.ok.effect) honest
+    (c.self.invariant.durable (is_whole (record { device = i.device; state = i.planner; place = i.place; is_broken = i.is_broken }) command none) (c.commit.ensures.called.honest_before honest))).moments)
 
 pub returns-in-Err-DeviceFault-clause-counts : goal.returns-in-Err-DeviceFault-clause-counts
 returns-in-Err-DeviceFault-clause-counts g c =
@@ -148,5 +148,5 @@ returns-in-Err-DeviceFault-clause-counts g c =
     subst (λ (s : SessionValue _). d.honest end → Throughout d.clock d.possible_since s.device end (IsBetween (d.calls s.device) (d.calls s.device + calls_of s.place command))) c.self.view_is
     (λ honest. weakened d.clock d.possible_since i.device end (IsInStep i.planner c.state.result.now (d.calls i.device) (calls_of i.place command)) (IsBetween (d.calls i.device) (d.calls i.device + calls_of i.place command))
     (λ m image step. (step.from, step.to))
-    (c.commit.ensures.moments honest i.planner c.in-Ok.ensures.ok.accepted (c.state.ensures ∙ c.in-Ok.ensures.ok.effect)
-    (c.self.invariant.durable (is_whole (record { device = i.device; state = i.planner; place = i.place; is_broken = i.is_broken }) command none) (c.commit.ensures.honest honest))))
+    (c.commit.ensures.leads i.planner c.in-Ok.ensures.ok.accepted (c.state.ensures ∙ c.in-Ok.ensures.ok.effect) honest
+    (c.self.invariant.durable (is_whole (record { device = i.device; state = i.planner; place = i.place; is_broken = i.is_broken }) command none) (c.commit.ensures.called.honest_before honest))).moments)

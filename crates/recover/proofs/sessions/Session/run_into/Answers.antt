@@ -20,22 +20,10 @@ loop-command-preserved g c =
     let steps : into_iter_items at.command-iterator ≡ command ∷ into_iter_items c.next.new.self = c.in-Some.ensures.steps.0 in
     let now : c.push.new.self.items ≡ at.replies.items ++ c.apply.result ∷ [] = c.push.ensures.items ∙ ap (λ r. if is_ok r then at.replies.items ++ c.apply.result ∷ [] else at.replies.items) c.unwrap.ensures in
     let room : vec_capacity at.replies ≤ vec_capacity c.push.new.self = search rules in
-    let longer : length c.push.new.self.items ≡ length at.replies.items + 1 = ap length now ∙ length-append at.replies.items (c.apply.result ∷ []) in
-    let said = c.apply.ensures in (
+    let longer : length c.push.new.self.items ≡ length at.replies.items + 1 = ap length now ∙ length-append at.replies.items (c.apply.result ∷ []) in (
       append_assoc at.yielded (command ∷ []) _ ∙ rw (← steps) at.invariant.0,
       subst (λ (replies : List Reply). IsRun d.len d.calls d.faults d.honest d.clock d.possible_since d.possible c.args.self.now (at.yielded ++ command ∷ []) replies c.apply.new.self) (sym now)
-          (run_more d.len d.calls d.faults d.honest d.clock d.possible_since d.possible at.yielded at.replies.items c.args.self.now at.self c.apply.new.self command c.apply.result at.invariant.1 (record {
-            answer = said.answer;
-            makes = said.makes;
-            count = said.count;
-            finished = said.finished;
-            fault = said.fault;
-            same_len = said.same_len;
-            honest_before = said.honest;
-            moments = said.moments;
-            counts = said.counts;
-            stands = said.stands;
-          })),
+          (run_more d.len d.calls d.faults d.honest d.clock d.possible_since d.possible at.yielded at.replies.items c.args.self.now at.self c.apply.new.self command c.apply.result at.invariant.1 c.apply.ensures),
       let was = at.invariant.2 in
           let gone = c.in-Some.ensures.steps.1 in
           let short = ap length steps in
