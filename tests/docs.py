@@ -6,6 +6,7 @@
 3. Each .rt file begins with a line of what it holds.
 4. Each document is linked from README.md, and each link leads to a file and a heading that are there.
 5. No paragraph has more than 90 words, and no cell of a table more than 100 characters.
+6. Definitions with a crate behind them, as `Rules.IsLate` (plan_audit), stand in the specs of that crate.
 """
 import pathlib
 import re
@@ -141,6 +142,20 @@ def check_document(path, words, paths, declared):
             check_name(path, number, span.strip(), words, paths, declared)
 
 
+def check_homes(path):
+    """Each of the definitions in front of a crate's name in brackets is declared there; a comma or a line's end may stand between them."""
+    lines = without_code(path.read_text(encoding="utf-8"))
+    text = "\n".join(lines)
+    for run in re.finditer(r"((?:`[^`]+`,?\s(?:and\s)?)+)\((\w+)\)", text):
+        crate = TOP / "crates" / run[2] / "specs"
+        if not crate.is_dir():
+            continue
+        for span in re.findall(r"`([A-Z]\w*)\.(\w+)`", run[1]):
+            homes = [it for it in crate.rglob(span[0] + ".antt") if span[1] in words_of(it.read_text(encoding="utf-8"))]
+            if not homes:
+                complain(path, text[: run.start()].count("\n") + 1, f"{run[2]} has no {'.'.join(span)}")
+
+
 def crates():
     for line in (TOP / "crates.txt").read_text(encoding="utf-8").splitlines():
         if line.strip() and not line.startswith("#"):
@@ -174,6 +189,7 @@ def main():
     words, paths, declared = read_tree()
     for path in DOCUMENTS:
         check_document(path, words, paths, declared)
+        check_homes(path)
     check_crates()
     check_heads()
     check_linked()
