@@ -1,10 +1,11 @@
 -- The same of the tables: a table of each vehicle's route.
-use Rattle.std.proofs.Common.{◌≡◌, ℕ, zero, suc, ◌+◌, ◌-◌, ◌<◌, ◌≤◌, true, List, [], ◌∷◌, length, map, get_or, slice_get, Option, Some, None, add-one, refl, sym, ap, subst, ◌∙◌, arith}
+use Rattle.std.proofs.Common.{◌≡◌, ◌⊎◌, ℕ, zero, suc, ◌+◌, ◌-◌, ◌<◌, ◌≤◌, true, List, [], ◌∷◌, length, map, get_or, slice_get, Option, Some, None, add-one, refl, sym, ap, subst, ◌∙◌, inl, inr, arith}
 use Rattle.std.specs.Prelude.{unwrap_or}
 use Rattle.std.specs.Option.{option_map}
 use Rattle.std.proofs.Math.ListN.{get_or-map, length-map}
 use Rattle.std.proofs.lemmas.List.Elements.{All-get_or}
-use Rattle.std.proofs.lemmas.Option.{slice_get-get_or}
+use Rattle.std.proofs.lemmas.Bool.{cases_lt}
+use Rattle.std.proofs.lemmas.Option.{slice_get-get_or, slice_get_within}
 use Rattle.plan_types.specs.Cost.{BelowTells, AtMostTells, CostsAreTotal, CostsAreTransitive, BelowThenAtMost, AtMostThenBelow, BelowIsAtMost}
 use Rattle.plan_types.specs.Instance.{Instance, IsInstance}
 use Rattle.plan_types.specs.Laws.{NamedAreFound, RequestsStandByName}
@@ -19,14 +20,15 @@ use Rattle.slack_tables.specs.Course.{Course, course_of, route_of, IsCourseIn}
 use Rattle.slack_tables.specs.Insertion.{KeepsLimits}
 use Rattle.move_ops.specs.Insertion.{of_vehicle, best_insertion}
 use Rattle.move_ops.specs.Laws.{BestInsertionsAreLeast, BestInsertionsAreUnique, PlansPassWithoutPins}
+use Rattle.move_ops.specs.Refreshing.{AreWithin}
 use Rattle.move_ops.specs.Tables.{plan_of, AreTablesIn}
-use Rattle.move_ops.specs.Choosing.{place_found, IsAsked, IsBestUpTo, HasIdle, IsBetter, IsReach}
+use Rattle.move_ops.specs.Choosing.{place_found, IsAsked, IsBestAmongThese, IsEntryOf, IsLookedAt, IsNamed, IsNamedOrUpTo, HasIdle, IsBetter, IsReach}
 use Rattle.move_ops.specs.declared.tables.Found.{Found}
 use Rattle.move_ops.proofs.Fitting.{route_limits}
 use Rattle.move_ops.proofs.Inserting.{valid_request}
 use Rattle.move_ops.proofs.Replacing.{parts}
-use Rattle.move_ops.proofs.Times.{none_some}
-use Rattle.move_ops.proofs.Choosing.{pin_within, bettered, skipped, none_first, answer_is}
+use Rattle.move_ops.proofs.Times.{none_some, some_same}
+use Rattle.move_ops.proofs.Choosing.{pin_within, bettered, skipped, these_same, answer_is}
 
 -- the table at a place is that of the vehicle's route
 module _ (courses : List Course) (k : ℕ) (c : Course) (is : c ≡ get_or courses k c) (in_range : k < length courses) where
@@ -52,6 +54,23 @@ module _ (courses : List Course) (k : ℕ) (c : Course) (is : c ≡ get_or cours
   pub stops_long : length (route_of c) ≡ length c.stops
   stops_long = length-map c.stops (λ s. s.number)
 
+-- each entry is of a vehicle
+pub within_at : (n : ℕ) (entries : List (ℕ × Course)) (j : ℕ) (e : ℕ × Course) → AreWithin n entries → slice_get entries j ≡ Some e → (1 ≤ e.0) × (e.0 ≤ n)
+within_at n [] zero e all at = absurd (none_some e at)
+within_at n [] (suc k) e all at = absurd (none_some e at)
+within_at n (x ∷ xs) zero e all at = subst (λ (f : ℕ × Course). (1 ≤ f.0) × (f.0 ≤ n)) (some_same x e at) all.0
+within_at n (x ∷ xs) (suc k) e all at = within_at n xs k e all.1 at
+
+-- the entry at a place, and its vehicle
+pub entry_at : (n : ℕ) (entries : List (ℕ × Course)) (j : ℕ) (d : ℕ × Course) (v : ℕ) → AreWithin n entries → j < length entries → v ≡ (get_or entries j d).0
+    → (slice_get entries j ≡ Some (get_or entries j d)) × ((get_or entries j d).0 ≡ v - 1 + 1) × (v ≡ v - 1 + 1) × (v - 1 < n)
+entry_at n entries j d v all below is =
+    let at = slice_get-get_or entries j d below in
+    let w = within_at n entries j (get_or entries j d) all at in
+    let low = w.0 in
+    let high = w.1 in
+    (at, omega arith, omega arith, omega arith)
+
 pub idle_more : (routes : List (List ℕ)) (k : ℕ) → HasIdle routes k → HasIdle routes (k + 1)
 idle_more routes k idle = (idle.0, idle.1, (let h = idle.2 in omega arith), idle.3, idle.4)
 
@@ -61,33 +80,56 @@ module _ (law : NamedAreFound) (stand : RequestsStandByName) (local : PassesAreL
   pub request_valid : IsRequest r
   request_valid = valid_request p.requests (request_name r) r (asked.valid.valid) (asked.named)
 
-  pub none_yet : (k : ℕ) → k ≡ 0 → IsBestUpTo p pins (plan_of courses) r k None
-  none_yet k start =
-      none_first law stand local says below_tells at_most_tells costs_total costs_transitive below_at_most at_most_below weaken p pins (plan_of courses) (asked.valid) (asked.good) (request_name r) r (asked.named) (asked.free) k start
+  -- of no vehicles nothing is found
+  pub none_yet : (These : ℕ → Type 0) → ((v : ℕ) → These v → ⊥) → IsBestAmongThese p pins (plan_of courses) r These None
+  none_yet These none = λ y c these. none y.0 these
 
-  pub answered : BestInsertionsAreLeast → BestInsertionsAreUnique → (answer : Option Found) → IsBestUpTo p pins (plan_of courses) r (length courses) answer
-      → option_map place_found answer ≡ best_insertion p pins (plan_of courses) (request_name r)
-  answered least unique answer up =
-      answer_is law stand local says below_tells at_most_tells costs_total costs_transitive below_at_most at_most_below weaken p pins (plan_of courses) (asked.valid) (asked.good) (request_name r) r (asked.named) (asked.free)
-      least unique (length courses) (sym (length-map courses route_of)) answer up
+  pub said_otherwise : (These Others : ℕ → Type 0) → ((u : ℕ) → These u → Others u) → ((u : ℕ) → Others u → These u) → (best : Option Found)
+      → IsBestAmongThese p pins (plan_of courses) r These best → IsBestAmongThese p pins (plan_of courses) r Others best
+  said_otherwise = these_same law stand local says below_tells at_most_tells costs_total costs_transitive below_at_most at_most_below weaken p pins (plan_of courses) (asked.valid) (asked.good) (request_name r) r (asked.named) (asked.free)
 
-  -- vehicles that are not looked at, all as one that was
-  rest_skipped : (left k : ℕ) → k + left ≡ length (plan_of courses)
-      → ((v : ℕ) → k < v → v ≤ length (plan_of courses) → HasIdle (plan_of courses) k × (length (of_vehicle (plan_of courses) v) ≡ 0))
-      → (best : Option Found) → IsBestUpTo p pins (plan_of courses) r k best → IsBestUpTo p pins (plan_of courses) r (length courses) best
-  rest_skipped zero k all idle best old =
-      let e = length-map courses route_of in
-      subst (λ n. IsBestUpTo p pins (plan_of courses) r n best) (omega arith) old
-  rest_skipped (suc left) k all idle best old =
-      let here = idle (k + 1) (omega arith) (omega arith) in
-      rest_skipped left (k + 1) (omega arith) (λ v above within. let h = idle v (omega arith) within in (idle_more (plan_of courses) k h.0, h.1)) best
-      (skipped law stand local says below_tells at_most_tells costs_total costs_transitive below_at_most at_most_below weaken p pins (plan_of courses) (asked.valid) (asked.good) (request_name r) r (asked.named) (asked.free)
-      k (k + 1) refl (omega arith) here.1 here.0 best old)
+  module _ (entries : List (ℕ × Course)) where
+    abbrev Looked : ℕ → ℕ → Type 0
+    Looked k v = IsNamedOrUpTo (plan_of courses) entries k v
 
-  pub beyond : (end : ℕ) → end ≤ length courses → IsReach (plan_of courses) end → (best : Option Found) → IsBestUpTo p pins (plan_of courses) r end best → IsBestUpTo p pins (plan_of courses) r (length courses) best
-  beyond end within reach best old =
-      let e = length-map courses route_of in
-      rest_skipped (length (plan_of courses) - end) end (omega arith) reach best old
+    -- one vehicle more
+    one_on : (k v : ℕ) → Looked k v → Looked (k + 1) v
+    one_on k v seen = elim seen [ inl up ↦ inl (up.0, (let h = up.1 in omega arith)) | inr named ↦ inr named ]
+
+    one_off : (k u : ℕ) → Looked (k + 1) u → (u ≡ k + 1) ⊎ Looked k u
+    one_off k u seen = elim seen [
+      | inl up ↦ elim (cases_lt k u) [ inl more ↦ inl (let h = up.1 in omega arith) | inr less ↦ inr (inl (up.0, less)) ]
+      | inr named ↦ inr (inr named)
+    ]
+
+    -- before the first vehicle those are looked at that are named
+    pub from_named : (best : Option Found) → IsBestAmongThese p pins (plan_of courses) r (IsNamed (plan_of courses) entries (length entries)) best → IsBestAmongThese p pins (plan_of courses) r (Looked 0) best
+    from_named best first = said_otherwise (IsNamed (plan_of courses) entries (length entries)) (Looked 0) (λ u named. inr named) (λ u seen. elim seen [ inl none ↦ absurd (let low = none.0 in let high = none.1 in omega arith) | inr named ↦ named ]) best first
+
+    pub answered : BestInsertionsAreLeast → BestInsertionsAreUnique → (answer : Option Found) → IsBestAmongThese p pins (plan_of courses) r (Looked (length courses)) answer
+        → option_map place_found answer ≡ best_insertion p pins (plan_of courses) (request_name r)
+    answered least unique answer up =
+        answer_is law stand local says below_tells at_most_tells costs_total costs_transitive below_at_most at_most_below weaken p pins (plan_of courses) (asked.valid) (asked.good) (request_name r) r (asked.named) (asked.free)
+        least unique (Looked (length courses)) (λ v from high. inl (from, (let e = length-map courses route_of in omega arith))) answer up
+
+    -- vehicles that are not looked at, all as one that was
+    rest_skipped : (left k : ℕ) → k + left ≡ length (plan_of courses)
+        → ((v : ℕ) → k < v → v ≤ length (plan_of courses) → HasIdle (plan_of courses) k × (length (of_vehicle (plan_of courses) v) ≡ 0))
+        → (best : Option Found) → IsBestAmongThese p pins (plan_of courses) r (Looked k) best → IsBestAmongThese p pins (plan_of courses) r (Looked (length courses)) best
+    rest_skipped zero k all idle best old =
+        let e = length-map courses route_of in
+        subst (λ n. IsBestAmongThese p pins (plan_of courses) r (Looked n) best) (omega arith) old
+    rest_skipped (suc left) k all idle best old =
+        let here = idle (k + 1) (omega arith) (omega arith) in
+        rest_skipped left (k + 1) (omega arith) (λ v above within. let h = idle v (omega arith) within in (idle_more (plan_of courses) k h.0, h.1)) best
+        (skipped law stand local says below_tells at_most_tells costs_total costs_transitive below_at_most at_most_below weaken p pins (plan_of courses) (asked.valid) (asked.good) (request_name r) r (asked.named) (asked.free)
+        (Looked k) (Looked (k + 1)) (k + 1) (omega arith) (omega arith) (one_on k) (one_off k) (inl (omega arith, omega arith)) here.1 k (omega arith) (λ u from le. inl (from, le)) here.0 best old)
+
+    pub beyond : (end : ℕ) → end ≤ length courses → IsReach (plan_of courses) end → (best : Option Found) → IsBestAmongThese p pins (plan_of courses) r (Looked end) best
+        → IsBestAmongThese p pins (plan_of courses) r (Looked (length courses)) best
+    beyond end within reach best old =
+        let e = length-map courses route_of in
+        rest_skipped (length (plan_of courses) - end) end (omega arith) reach best old
 
   module _ (k : ℕ) (c : Course) (is : c ≡ get_or courses k c) (in_range : k < length courses) where
     pub pin_fits : (pin : List ℕ) → pin ≡ of_vehicle pins (k + 1) → length pin ≤ length c.stops
@@ -107,18 +149,78 @@ module _ (law : NamedAreFound) (stand : RequestsStandByName) (local : PassesAreL
     pub idle_here : length c.stops ≡ 0 → HasIdle (plan_of courses) (k + 1)
     idle_here none = (k + 1, omega arith, omega arith, high, empty_at none)
 
-    pub one_more : (pin : List ℕ) → pin ≡ of_vehicle pins (k + 1) → length c.stops ≤ 40001 → (best result : Option Found) → IsBestUpTo p pins (plan_of courses) r k best
-        → IsBetter p (route_of c) r (length pin) (k + 1) best result → IsBestUpTo p pins (plan_of courses) r (k + 1) result
-    one_more pin is_pin few best result old better =
-        bettered law stand local says below_tells at_most_tells costs_total costs_transitive below_at_most at_most_below weaken p pins (plan_of courses) (asked.valid) (asked.good) (request_name r) r (asked.named) (asked.free)
-        k (k + 1) refl high (let g = ap length (route_at courses k c is in_range) in let h = stops_long courses k c is in_range in omega arith) best result old
-        (subst (λ (l : List ℕ). IsBetter p l r (length (of_vehicle pins (k + 1))) (k + 1) best result) (sym (route_at courses k c is in_range))
-        (subst (λ (l : List ℕ). IsBetter p (route_of c) r (length l) (k + 1) best result) is_pin better))
+    few_stops : length c.stops ≤ 40001 → length (of_vehicle (plan_of courses) (k + 1)) ≤ 40001
+    few_stops few = let g = ap length (route_at courses k c is in_range) in let h = stops_long courses k c is in_range in omega arith
 
-    pub one_skipped : length c.stops ≡ 0 → HasIdle (plan_of courses) k → (best : Option Found) → IsBestUpTo p pins (plan_of courses) r k best → IsBestUpTo p pins (plan_of courses) r (k + 1) best
-    one_skipped none idle best old =
-        skipped law stand local says below_tells at_most_tells costs_total costs_transitive below_at_most at_most_below weaken p pins (plan_of courses) (asked.valid) (asked.good) (request_name r) r (asked.named) (asked.free)
-        k (k + 1) refl high (empty_at none) idle best old
+    -- what is said by the table, said by the plan
+    by_plan : (pin : List ℕ) → pin ≡ of_vehicle pins (k + 1) → (best result : Option Found) → IsBetter p (route_of c) r (length pin) (k + 1) best result
+        → IsBetter p (of_vehicle (plan_of courses) (k + 1)) r (length (of_vehicle pins (k + 1))) (k + 1) best result
+    by_plan pin is_pin best result better =
+        subst (λ (l : List ℕ). IsBetter p l r (length (of_vehicle pins (k + 1))) (k + 1) best result) (sym (route_at courses k c is in_range))
+        (subst (λ (l : List ℕ). IsBetter p (route_of c) r (length l) (k + 1) best result) is_pin better)
+
+    module _ (entries : List (ℕ × Course)) where
+      -- a vehicle of the list more
+      pub named_more : (n : ℕ) (e : ℕ × Course) → slice_get entries n ≡ Some e → e.0 ≡ k + 1 → 1 ≤ length c.stops → (pin : List ℕ) → pin ≡ of_vehicle pins (k + 1) → length c.stops ≤ 40001 → (best result : Option Found)
+          → IsBestAmongThese p pins (plan_of courses) r (IsNamed (plan_of courses) entries n) best → IsBetter p (route_of c) r (length pin) (k + 1) best result
+          → IsBestAmongThese p pins (plan_of courses) r (IsNamed (plan_of courses) entries (n + 1)) result
+      named_more n e at same some pin is_pin few best result old better =
+          bettered law stand local says below_tells at_most_tells costs_total costs_transitive below_at_most at_most_below weaken p pins (plan_of courses) (asked.valid) (asked.good) (request_name r) r (asked.named) (asked.free)
+          (IsNamed (plan_of courses) entries n) (IsNamed (plan_of courses) entries (n + 1)) (k + 1) (omega arith) high grow split (record { place = n; entry = e; below = omega arith; at = at; same = same; some = long }) (few_stops few) best result old (by_plan pin is_pin best result better)
+        where
+          long : 1 ≤ length (of_vehicle (plan_of courses) (k + 1))
+          long = let g = ap length (route_at courses k c is in_range) in let h = stops_long courses k c is in_range in omega arith
+
+          grow : (u : ℕ) → IsNamed (plan_of courses) entries n u → IsNamed (plan_of courses) entries (n + 1) u
+          grow u was = record { place = was.place; entry = was.entry; below = (let h = was.below in omega arith); at = was.at; same = was.same; some = was.some }
+
+          split : (u : ℕ) → IsNamed (plan_of courses) entries (n + 1) u → (u ≡ k + 1) ⊎ IsNamed (plan_of courses) entries n u
+          split u was = elim (cases_lt was.place n) [
+            | inl less ↦ inr (record { place = was.place; entry = was.entry; below = less; at = was.at; same = was.same; some = was.some })
+            | inr more ↦ inl (
+                let last : was.place ≡ n = (let h = was.below in omega arith) in
+                let one : was.entry ≡ e = some_same was.entry e (sym was.at ∙ (ap (slice_get entries) last ∙ at)) in
+                sym was.same ∙ (ap (λ (x : ℕ × Course). x.0) one ∙ same))
+          ]
+
+      -- one without stops
+      pub named_idle : (n : ℕ) (e : ℕ × Course) → slice_get entries n ≡ Some e → e.0 ≡ k + 1 → length c.stops ≡ 0 → (best : Option Found)
+          → IsBestAmongThese p pins (plan_of courses) r (IsNamed (plan_of courses) entries n) best → IsBestAmongThese p pins (plan_of courses) r (IsNamed (plan_of courses) entries (n + 1)) best
+      named_idle n e at same none best old =
+          said_otherwise (IsNamed (plan_of courses) entries n) (IsNamed (plan_of courses) entries (n + 1)) grow back best old
+        where
+          grow : (u : ℕ) → IsNamed (plan_of courses) entries n u → IsNamed (plan_of courses) entries (n + 1) u
+          grow u was = record { place = was.place; entry = was.entry; below = (let h = was.below in omega arith); at = was.at; same = was.same; some = was.some }
+
+          back : (u : ℕ) → IsNamed (plan_of courses) entries (n + 1) u → IsNamed (plan_of courses) entries n u
+          back u was = elim (cases_lt was.place n) [
+            | inl less ↦ record { place = was.place; entry = was.entry; below = less; at = was.at; same = was.same; some = was.some }
+            | inr more ↦ absurd (
+                let last : was.place ≡ n = (let h = was.below in omega arith) in
+                let one : was.entry ≡ e = some_same was.entry e (sym was.at ∙ (ap (slice_get entries) last ∙ at)) in
+                let here : u ≡ k + 1 = sym was.same ∙ (ap (λ (x : ℕ × Course). x.0) one ∙ same) in
+                let long = was.some in
+                let f = ap (λ w. length (of_vehicle (plan_of courses) w)) here in
+                let g = empty_at none in
+                omega arith)
+          ]
+
+      pub one_more : (pin : List ℕ) → pin ≡ of_vehicle pins (k + 1) → length c.stops ≤ 40001 → (best result : Option Found) → IsBestAmongThese p pins (plan_of courses) r (Looked entries k) best
+          → IsLookedAt p (route_of c) r (length pin) entries (k + 1) best result → IsBestAmongThese p pins (plan_of courses) r (Looked entries (k + 1)) result
+      one_more pin is_pin few best result old looked = elim looked [
+        | inl better ↦ bettered law stand local says below_tells at_most_tells costs_total costs_transitive below_at_most at_most_below weaken p pins (plan_of courses) (asked.valid) (asked.good) (request_name r) r (asked.named) (asked.free)
+            (Looked entries k) (Looked entries (k + 1)) (k + 1) (omega arith) high (one_on entries k) (one_off entries k) (inl (omega arith, omega arith)) (few_stops few) best result old (by_plan pin is_pin best result better)
+        | inr known ↦ subst (IsBestAmongThese p pins (plan_of courses) r (Looked entries (k + 1))) (sym known.2)
+            (said_otherwise (Looked entries k) (Looked entries (k + 1)) (one_on entries k) (λ u seen. elim (one_off entries k u seen) [ inl here ↦ subst (Looked entries k) (sym here) (inr (there known.0 known.1)) | inr before ↦ before ]) best old)
+      ]
+        where
+          there : 1 ≤ length (route_of c) → IsEntryOf entries (k + 1) → IsNamed (plan_of courses) entries (length entries) (k + 1)
+          there long entry = record { place = entry.0; entry = entry.1; below = slice_get_within entries entry.0 entry.1 entry.2; at = entry.2; same = entry.3; some = (let g = ap length (route_at courses k c is in_range) in omega arith) }
+
+      pub one_skipped : length c.stops ≡ 0 → HasIdle (plan_of courses) k → (best : Option Found) → IsBestAmongThese p pins (plan_of courses) r (Looked entries k) best → IsBestAmongThese p pins (plan_of courses) r (Looked entries (k + 1)) best
+      one_skipped none idle best old =
+          skipped law stand local says below_tells at_most_tells costs_total costs_transitive below_at_most at_most_below weaken p pins (plan_of courses) (asked.valid) (asked.good) (request_name r) r (asked.named) (asked.free)
+          (Looked entries k) (Looked entries (k + 1)) (k + 1) (omega arith) high (one_on entries k) (one_off entries k) (inl (omega arith, omega arith)) (empty_at none) k (omega arith) (λ u from le. inl (from, le)) idle best old
 
 -- a table can be built of each route of a plan that passes
 module _ (local : PassesAreLocal) (plans : PlansAreLocal) (says : TestsSayFeasible) (p : Instance) (pins routes : List (List ℕ)) (good : passes p pins routes ≡ true) (k : ℕ) (route : List ℕ) (is : route ≡ get_or routes k route) (in_range : k < length routes) where

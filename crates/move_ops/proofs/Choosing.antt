@@ -2,12 +2,12 @@
 use Rattle.std.proofs.Common.{◌≡◌, ℕ, zero, suc, ◌+◌, ◌-◌, ◌<◌, ◌≤◌, ℤ, pos, ◌+ℤ◌, ◌-ℤ◌, ◌<ℤ◌, ◌≤ℤ◌, eqb, ltb, leb, cond, ◌&&◌, Bool, true, false, not, List, [], ◌∷◌, length, length-append, take, drop, get_or, slice_get, Option, Some, None, refl, sym, ap, subst, ◌∙◌, inl, inr, arith, nat_eq}
 use Rattle.std.specs.List.{AllByRecursion, Contains, insert}
 use Rattle.std.specs.Map.{lookup}
-use Rattle.std.specs.Prelude.{◌==◌, IsSome, MatchOption, unwrap_or}
+use Rattle.std.specs.Prelude.{◌⊎◌, ◌≢◌, nat_lt, ◌==◌, MatchOption, unwrap_or}
 use Rattle.plan_types.specs.declared.requests.Kind.{Kind}
 use Rattle.plan_types.specs.declared.requests.Kind.TheVariants.{LiLim, Vrp}
 use Rattle.std.specs.Option.{option_map, option_map_or, option_or}
 use Rattle.std.proofs.lemmas.Bool.{cases_lt, and_from, and_parts, eq-eqb, eqb-true, ltb-true, lt-ltb, leb-true, le-leb}
-use Rattle.std.proofs.lemmas.Bool.Decides.{eqb_tells}
+use Rattle.std.proofs.lemmas.Bool.Decides.{eqb_tells, leb_tells}
 use Rattle.std.proofs.lemmas.Int.{ints, by_lt_z}
 use Rattle.std.proofs.lemmas.List.{take-append-drop}
 use Rattle.std.proofs.lemmas.Option.{slice_get-get_or}
@@ -26,9 +26,9 @@ use Rattle.plan_audit.specs.Rules.{item_at}
 use Rattle.slack_tables.specs.Best.{Adds, ComesFirst, IsBestAddition}
 use Rattle.slack_tables.specs.Insertion.{KeepsLimits, ArePlaces, inserted}
 use Rattle.slack_tables.specs.declared.scan.Addition.{Addition}
-use Rattle.move_ops.specs.Insertion.{Insertion, of_vehicle, are_places, is_place_of, insertions_of, insertions, best_insertion, cost_with, is_no_worse}
+use Rattle.move_ops.specs.Insertion.{Insertion, is_no_later, of_vehicle, are_places, is_place_of, insertions_of, insertions, best_insertion, cost_with, is_no_worse}
 use Rattle.move_ops.specs.Laws.{IsBest, BestInsertionsAreLeast, BestInsertionsAreUnique}
-use Rattle.move_ops.specs.Choosing.{opens, bound_of, place_found, found_at, IsBestAmong, IsBestUpTo, HasIdle, IsBetterBelow, IsBetter}
+use Rattle.move_ops.specs.Choosing.{opens, bound_beside, bound_of, place_found, found_at, IsBestAmong, IsBestAmongThese, IsLoose, IsShort, HasIdle, IsBetterBelow, IsBetter}
 use Rattle.move_ops.specs.declared.tables.Found.{Found}
 use Rattle.move_ops.proofs.Times.{none_some, some_same, times}
 use Rattle.move_ops.proofs.Inserting.{numbers_of, nowhere, passes_where_feasible}
@@ -177,13 +177,26 @@ pub used_opens : (kind : Kind) (route : List ℕ) → (length route == 0) ≡ fa
 used_opens LiLim route some = some
 used_opens Vrp route some = refl
 
-pub bound_used : (best : Option Found) → IsSome (bound_of false best)
-bound_used None = refl
-bound_used (Some f) = by f.opens f.addition.distance
+-- a bound of a vehicle is one of each further one
+pub beside_falls : (v u : ℕ) (f : Found) → v ≤ u → bound_beside u f ≤ℤ bound_beside v f
+beside_falls v u f le = elim (leb_tells (suc u) f.vehicle) [
+  | inl t ↦ elim (leb_tells (suc v) f.vehicle) [
+    | inl s ↦ rw t.0 rw s.0 omega (arith, ints)
+    | inr s ↦ absurd (let more = s.1 in let less = t.1 in omega arith)
+  ]
+  | inr t ↦ elim (leb_tells (suc v) f.vehicle) [
+    | inl s ↦ rw t.0 rw s.0 omega (arith, ints)
+    | inr s ↦ rw t.0 rw s.0 omega (arith, ints)
+  ]
+]
+
+-- where nothing adds less than a greater bound, the best so far stays
+pub still : (p : Instance) (route : List ℕ) (r : Request) (kept v : ℕ) (best : Option Found) (below : ℤ) → IsLoose v best below → ((a : Addition) → Adds p route r kept below a → ⊥) → IsBetterBelow p route r kept v false best best (bound_of v false best)
+still p route r kept v best below loose empty = by (bound_of v false best) refl
   where
-    by : (b : Bool) (x : ℤ) → IsSome (cond (b && not false) (Some (pos 9223372036854775807)) (cond (false && not b) None (Some x)))
-    by true x = refl
-    by false x = refl
+    by : (o : Option ℤ) → bound_of v false best ≡ o → IsBetterBelow p route r kept v false best best o
+    by None is = refl
+    by (Some b) is = (None, (λ a adds. empty a (record { places = adds.places; behind = adds.behind; added = adds.added; cheaper = (let le = loose v (omega arith) b is in let less = adds.cheaper in omega (arith, ints)) })), refl)
 
 no_stops : (xs ys : List ℕ) → length xs ≡ 0 → length ys ≡ 0 → xs ≡ ys
 no_stops [] [] none also = refl
@@ -217,8 +230,8 @@ module _ (law : NamedAreFound) (stand : RequestsStandByName) (local : PassesAreL
   follow x y z h k =
       both_transitive costs_total costs_transitive below_at_most at_most_below weaken (cost_with p routes r x) (cost_with p routes r y) (cost_with p routes r z) x y z h k
 
-  price_found : (k : ℕ) (f : Found) → IsBestAmong p pins routes r k f → IsPriced p routes r (place_found f) f.opens f.addition.distance
-  price_found k f best =
+  price_found : (These : ℕ → Type 0) (f : Found) → IsBestAmong p pins routes r These f → IsPriced p routes r (place_found f) f.opens f.addition.distance
+  price_found These f best =
       let at = fit (place_found f) (best.among) in
       let plain = price (place_found f) at in
       record { from = at.from; within = at.within; some = plain.some; opens = best.opens; added = (best.added).1 }
@@ -245,7 +258,8 @@ module _ (law : NamedAreFound) (stand : RequestsStandByName) (local : PassesAreL
         ),
       )))
 
-  module _ (k v : ℕ) (next : v ≡ k + 1) (high : v ≤ length routes) where
+  -- some vehicles, and one more that may be among them
+  module _ (These More : ℕ → Type 0) (v : ℕ) (low : 1 ≤ v) (high : v ≤ length routes) (grow : (u : ℕ) → These u → More u) (split : (u : ℕ) → More u → (u ≡ v) ⊎ These u) (last : More v) where
     abbrev old_route : List ℕ
     old_route = of_vehicle routes v
 
@@ -259,7 +273,7 @@ module _ (law : NamedAreFound) (stand : RequestsStandByName) (local : PassesAreL
         (record { places = f.places; behind = f.behind; added = (f.keeps, (price y f).added); cheaper = less })
 
     fit_of : (a : Addition) (below : ℤ) → Adds p old_route r pinned below a → IsFit (v, a.pickup, a.delivery)
-    fit_of a below is = record { from = omega arith; within = high; places = is.places; behind = is.behind; keeps = (is.added).0 }
+    fit_of a below is = record { from = low; within = high; places = is.places; behind = is.behind; keeps = (is.added).0 }
 
     price_of : (a : Addition) (below : ℤ) (o : Bool) → opens p.kind old_route ≡ o → Adds p old_route r pinned below a → IsPriced p routes r (v, a.pickup, a.delivery) o a.distance
     price_of a below o is_open is =
@@ -273,9 +287,9 @@ module _ (law : NamedAreFound) (stand : RequestsStandByName) (local : PassesAreL
         record { from = f.from; within = f.within; some = plain.some; opens = ap (λ u. opens p.kind (of_vehicle routes u)) same ∙ is_open; added = plain.added }
 
     -- with a bound that tells what is better than the best so far
-    module _ (few : length old_route ≤ 40001) (o : Bool) (is_open : opens p.kind old_route ≡ o) (best : Option Found) (old : IsBestUpTo p pins routes r k best) (below : ℤ)
-        (beats : (f : Found) → best ≡ Some f → (d : ℤ) → d <ℤ below → (x y : Insertion) → Ahead p routes r x o d y f.opens f.addition.distance)
-        (keeps_up : (f : Found) → best ≡ Some f → (y : Insertion) → f.vehicle < y.0 → adds y <ℤ pos 9223372036854775807 → below ≤ℤ adds y → Ahead p routes r (place_found f) f.opens f.addition.distance y o (adds y))
+    module _ (few : length old_route ≤ 40001) (o : Bool) (is_open : opens p.kind old_route ≡ o) (best : Option Found) (old : IsBestAmongThese p pins routes r These best) (below : ℤ)
+        (beats : (f : Found) → best ≡ Some f → (d : ℤ) → d <ℤ below → (x : Insertion) → x.0 ≡ v → Ahead p routes r x o d (place_found f) f.opens f.addition.distance)
+        (keeps_up : (f : Found) → best ≡ Some f → (y : Insertion) → y.0 ≡ v → v ≢ f.vehicle → adds y <ℤ pos 9223372036854775807 → below ≤ℤ adds y → Ahead p routes r (place_found f) f.opens f.addition.distance y o (adds y))
         (all_below : best ≡ None → (y : Insertion) → adds y <ℤ pos 9223372036854775807 → adds y <ℤ below) where
       small : (y : Insertion) → IsFit y → y.0 ≡ v → adds y <ℤ pos 9223372036854775807
       small y f same =
@@ -284,110 +298,137 @@ module _ (law : NamedAreFound) (stand : RequestsStandByName) (local : PassesAreL
           gain_small law stand local says p pins routes valid good name r named free y (omega arith)
 
       -- nothing below the bound here
-      stays : (b : Option Found) → best ≡ b → IsBestUpTo p pins routes r k b → ((a : Addition) → Adds p old_route r pinned below a → ⊥) → IsBestUpTo p pins routes r (k + 1) b
-      stays None is none empty = λ y c le. elim (cases_lt k y.0) [
-        | inl more ↦ (let same : y.0 ≡ v = omega arith in let f = fit y c in empty (record { distance = adds y; pickup = y.1; delivery = y.2 }) (here y below f same (all_below is y (small y f same))))
-        | inr less ↦ none y c less
+      stays : (b : Option Found) → best ≡ b → IsBestAmongThese p pins routes r These b → ((a : Addition) → Adds p old_route r pinned below a → ⊥) → IsBestAmongThese p pins routes r More b
+      stays None is none empty = λ y c these. elim (split y.0 these) [
+        | inl same ↦ (let f = fit y c in empty (record { distance = adds y; pickup = y.1; delivery = y.2 }) (here y below f same (all_below is y (small y f same))))
+        | inr before ↦ none y c before
       ]
       stays (Some g) is was empty = record {
         among = was.among;
-        seen = (let h = was.seen in omega arith);
+        seen = grow g.vehicle was.seen;
         opens = was.opens;
         added = was.added;
-        least = λ y c le. elim (cases_lt k y.0) [
-          | inl more ↦ (
-              let same : y.0 ≡ v = omega arith in
-              let f = fit y c in
-              let seen = was.seen in
-              by_lt_z {P = is_no_worse p routes r (place_found g) y ≡ true} (adds y) below
-              (λ cheap. absurd (empty (record { distance = adds y; pickup = y.1; delivery = y.2 }) (here y below f same cheap)))
-              (λ dear. no_worse_than (place_found g) y g.opens o g.addition.distance (adds y) (price_found k g was) (price_at y o is_open f same) (keeps_up g is y (omega arith) (small y f same) dear)))
-          | inr less ↦ was.least y c less
+        least = λ y c these. elim (split y.0 these) [
+          | inl same ↦ elim (eqb_tells v g.vehicle) [
+            | inl t ↦ was.least y c (subst These (sym (same ∙ t.1)) was.seen)
+            | inr t ↦ (
+                let f = fit y c in
+                by_lt_z {P = is_no_worse p routes r (place_found g) y ≡ true} (adds y) below
+                (λ cheap. absurd (empty (record { distance = adds y; pickup = y.1; delivery = y.2 }) (here y below f same cheap)))
+                (λ dear. no_worse_than (place_found g) y g.opens o g.addition.distance (adds y) (price_found These g was) (price_at y o is_open f same) (keeps_up g is y same t.1 (small y f same) dear)))
+          ]
+          | inr before ↦ was.least y c before
         ];
       }
 
       -- the first below the bound here
-      changes : (b : Option Found) → best ≡ b → IsBestUpTo p pins routes r k b → (a : Addition) → Adds p old_route r pinned below a
-          → ((e : Addition) → Adds p old_route r pinned below e → ComesFirst a e) → IsBestUpTo p pins routes r (k + 1) (Some (found_at v o a))
+      changes : (b : Option Found) → best ≡ b → IsBestAmongThese p pins routes r These b → (a : Addition) → Adds p old_route r pinned below a
+          → ((e : Addition) → Adds p old_route r pinned below e → ComesFirst a e) → IsBestAmongThese p pins routes r More (Some (found_at v o a))
       changes b is was a adds_a first = record {
         among = listed_fit (v, a.pickup, a.delivery) (fit_of a below adds_a);
-        seen = omega arith;
+        seen = last;
         opens = is_open;
         added = adds_a.added;
-        least = λ y c le. elim (cases_lt k y.0) [
-          | inl more ↦ (
-              let same : y.0 ≡ v = omega arith in
+        least = λ y c these. elim (split y.0 these) [
+          | inl same ↦ (
               let f = fit y c in
               no_worse_than (v, a.pickup, a.delivery) y o o a.distance (adds y) (price_of a below o is_open adds_a) (price_at y o is_open f same)
               (by_lt_z {P = Ahead p routes r (v, a.pickup, a.delivery) o a.distance y o (adds y)} (adds y) below
               (λ cheap. subst (λ u. Ahead p routes r (v, a.pickup, a.delivery) o a.distance (u, y.1, y.2) o (adds y)) (sym same) (first_ahead v o a (record { distance = adds y; pickup = y.1; delivery = y.2 }) (first (record { distance = adds y; pickup = y.1; delivery = y.2 }) (here y below f same cheap))))
               (λ dear. (let less = adds_a.cheaper in inr (refl, inl (omega (arith, ints)))))))
-          | inr less ↦ before b is was y c less
+          | inr these_before ↦ before b is was y c these_before
         ];
       }
         where
-          before : (b : Option Found) → best ≡ b → IsBestUpTo p pins routes r k b → (y : Insertion) → Contains (insertions_of p pins routes r) y → y.0 ≤ k → is_no_worse p routes r (v, a.pickup, a.delivery) y ≡ true
-          before None is none y c less = absurd (none y c less)
-          before (Some g) is was y c less =
+          before : (b : Option Found) → best ≡ b → IsBestAmongThese p pins routes r These b → (y : Insertion) → Contains (insertions_of p pins routes r) y → These y.0 → is_no_worse p routes r (v, a.pickup, a.delivery) y ≡ true
+          before None is none y c these = absurd (none y c these)
+          before (Some g) is was y c these =
               follow (v, a.pickup, a.delivery) (place_found g) y
-              (no_worse_than (v, a.pickup, a.delivery) (place_found g) o g.opens a.distance g.addition.distance (price_of a below o is_open adds_a) (price_found k g was) (beats g is a.distance (adds_a.cheaper) (v, a.pickup, a.delivery) (place_found g)))
-              (was.least y c less)
+              (no_worse_than (v, a.pickup, a.delivery) (place_found g) o g.opens a.distance g.addition.distance (price_of a below o is_open adds_a) (price_found These g was) (beats g is a.distance (adds_a.cheaper) (v, a.pickup, a.delivery) refl))
+              (was.least y c these)
 
-      pub chosen : (answer : Option Addition) → IsBestAddition p old_route r pinned below answer → IsBestUpTo p pins routes r (k + 1) (option_or (option_map (found_at v o) answer) best)
+      pub chosen : (answer : Option Addition) → IsBestAddition p old_route r pinned below answer → IsBestAmongThese p pins routes r More (option_or (option_map (found_at v o) answer) best)
       chosen None empty = stays best refl old empty
       chosen (Some a) first = changes best refl old a first.0 first.1
 
     module _ (few : length old_route ≤ 40001) where
-      -- among the first vehicles and this one
-      pub bettered : (best result : Option Found) → IsBestUpTo p pins routes r k best → IsBetter p old_route r pinned v best result → IsBestUpTo p pins routes r (k + 1) result
+      -- among these vehicles and this one
+      pub bettered : (best result : Option Found) → IsBestAmongThese p pins routes r These best → IsBetter p old_route r pinned v best result → IsBestAmongThese p pins routes r More result
       bettered None result old better =
-          subst (IsBestUpTo p pins routes r (k + 1)) (sym better.2)
+          subst (IsBestAmongThese p pins routes r More) (sym better.2)
           (chosen few (opens p.kind old_route) refl None old (pos 9223372036854775807) (λ f is. absurd (none_some f is)) (λ f is. absurd (none_some f is)) (λ is y small. small) better.0 better.1)
       bettered (Some f) result old better = by f.opens (opens p.kind old_route) refl refl better
         where
-          ahead_of : (g : Found) → Some f ≡ Some g → g.opens ≡ f.opens
-          ahead_of g is = ap (λ (h : Found). h.opens) (sym (some_same f g is))
+          same_opens : (g : Found) → Some f ≡ Some g → g.opens ≡ f.opens
+          same_opens g is = ap (λ (h : Found). h.opens) (sym (some_same f g is))
 
-          below_found : (o : Bool) → f.opens ≡ o → (g : Found) → Some f ≡ Some g → (d : ℤ) → d <ℤ f.addition.distance → (x y : Insertion) → Ahead p routes r x o d y g.opens g.addition.distance
-          below_found o same g is d less x y = subst (λ (h : Found). Ahead p routes r x o d y h.opens h.addition.distance) (some_same f g is) (inr (sym same, inl less))
+          below_found : (o : Bool) → f.opens ≡ o → (g : Found) → Some f ≡ Some g → (d : ℤ) → d <ℤ bound_beside v f → (x : Insertion) → x.0 ≡ v → Ahead p routes r x o d (place_found g) g.opens g.addition.distance
+          below_found o same g is d less x at = subst (λ (h : Found). Ahead p routes r x o d (place_found h) h.opens h.addition.distance) (some_same f g is) (inr (
+            sym same,
+            elim (leb_tells (suc v) f.vehicle) [
+              | inl t ↦ by_lt_z {P = (d <ℤ f.addition.distance) ⊎ ((d ≡ f.addition.distance) × (is_no_later x (place_found f) ≡ true))} d f.addition.distance (λ closer. inl closer)
+                  (λ not_closer. inr (nearly t.0 not_closer, said_later x (place_found f) (inl (let first = t.1 in omega arith))))
+              | inr t ↦ inl (plainly t.0)
+            ],
+          ))
+            where
+              nearly : nat_lt v f.vehicle ≡ true → f.addition.distance ≤ℤ d → d ≡ f.addition.distance
+              nearly first le = let h : d <ℤ (f.addition.distance +ℤ pos 1) = subst (λ b. d <ℤ (cond b (f.addition.distance +ℤ pos 1) f.addition.distance)) first less in omega (arith, ints)
 
-          no_less : (o : Bool) → f.opens ≡ o → (g : Found) → Some f ≡ Some g → (y : Insertion) → g.vehicle < y.0 → adds y <ℤ pos 9223372036854775807 → f.addition.distance ≤ℤ adds y → Ahead p routes r (place_found g) g.opens g.addition.distance y o (adds y)
-          no_less o same g is y before little le =
+              plainly : nat_lt v f.vehicle ≡ false → d <ℤ f.addition.distance
+              plainly later = subst (λ b. d <ℤ (cond b (f.addition.distance +ℤ pos 1) f.addition.distance)) later less
+
+          no_less : (o : Bool) → f.opens ≡ o → (g : Found) → Some f ≡ Some g → (y : Insertion) → y.0 ≡ v → v ≢ g.vehicle → adds y <ℤ pos 9223372036854775807 → bound_beside v f ≤ℤ adds y → Ahead p routes r (place_found g) g.opens g.addition.distance y o (adds y)
+          no_less o same g is y at other little le =
               subst (λ (h : Found). Ahead p routes r (place_found h) h.opens h.addition.distance y o (adds y)) (some_same f g is)
-              (by_lt_z {P = Ahead p routes r (place_found f) f.opens f.addition.distance y o (adds y)} f.addition.distance (adds y) (λ less. inr (same, inl less))
-              (λ more. inr (same, inr (omega (arith, ints), said_later (place_found f) y (inl (subst (λ (h : Found). h.vehicle < y.0) (sym (some_same f g is)) before))))))
+              (inr (
+                same,
+                elim (leb_tells (suc v) f.vehicle) [
+                  | inl t ↦ inl (dearer t.0)
+                  | inr t ↦ by_lt_z {P = (f.addition.distance <ℤ adds y) ⊎ ((f.addition.distance ≡ adds y) × (is_no_later (place_found f) y ≡ true))} f.addition.distance (adds y) (λ closer. inl closer)
+                      (λ not_closer. inr (let h = as_dear t.0 in omega (arith, ints), said_later (place_found f) y (inl (let apart = not_same in let behind = t.1 in omega arith))))
+                ],
+              ))
+            where
+              not_same : f.vehicle ≡ v → ⊥
+              not_same one = other (sym one ∙ ap (λ (h : Found). h.vehicle) (some_same f g is))
+
+              dearer : nat_lt v f.vehicle ≡ true → f.addition.distance <ℤ adds y
+              dearer first = let h : (f.addition.distance +ℤ pos 1) ≤ℤ adds y = subst (λ b. (cond b (f.addition.distance +ℤ pos 1) f.addition.distance) ≤ℤ adds y) first le in omega (arith, ints)
+
+              as_dear : nat_lt v f.vehicle ≡ false → f.addition.distance ≤ℤ adds y
+              as_dear later = subst (λ b. (cond b (f.addition.distance +ℤ pos 1) f.addition.distance) ≤ℤ adds y) later le
 
           by : (c o : Bool) → f.opens ≡ c → opens p.kind old_route ≡ o
-              → IsBetterBelow p old_route r pinned v o (Some f) result (cond (c && not o) (Some (pos 9223372036854775807)) (cond (o && not c) None (Some f.addition.distance))) → IsBestUpTo p pins routes r (k + 1) result
+              → IsBetterBelow p old_route r pinned v o (Some f) result (cond (c && not o) (Some (pos 9223372036854775807)) (cond (o && not c) None (Some (bound_beside v f)))) → IsBestAmongThese p pins routes r More result
           by true true is_c is_o better =
-              subst (IsBestUpTo p pins routes r (k + 1)) (sym better.2)
-              (chosen few true is_o (Some f) old f.addition.distance (below_found true is_c) (no_less true is_c) (λ is. absurd (none_some f (sym is))) better.0 better.1)
+              subst (IsBestAmongThese p pins routes r More) (sym better.2)
+              (chosen few true is_o (Some f) old (bound_beside v f) (below_found true is_c) (no_less true is_c) (λ is. absurd (none_some f (sym is))) better.0 better.1)
           by false false is_c is_o better =
-              subst (IsBestUpTo p pins routes r (k + 1)) (sym better.2)
-              (chosen few false is_o (Some f) old f.addition.distance (below_found false is_c) (no_less false is_c) (λ is. absurd (none_some f (sym is))) better.0 better.1)
+              subst (IsBestAmongThese p pins routes r More) (sym better.2)
+              (chosen few false is_o (Some f) old (bound_beside v f) (below_found false is_c) (no_less false is_c) (λ is. absurd (none_some f (sym is))) better.0 better.1)
           by true false is_c is_o better =
-              subst (IsBestUpTo p pins routes r (k + 1)) (sym better.2)
-              (chosen few false is_o (Some f) old (pos 9223372036854775807) (λ g is d less x y. inl (refl, ahead_of g is ∙ is_c)) (λ g is y before little much. absurd (omega (arith, ints)))
+              subst (IsBestAmongThese p pins routes r More) (sym better.2)
+              (chosen few false is_o (Some f) old (pos 9223372036854775807) (λ g is d less x at. inl (refl, same_opens g is ∙ is_c)) (λ g is y at other little much. absurd (omega (arith, ints)))
               (λ is. absurd (none_some f (sym is))) better.0 better.1)
           by false true is_c is_o better =
-              subst (IsBestUpTo p pins routes r (k + 1)) (sym better)
+              subst (IsBestAmongThese p pins routes r More) (sym better)
               (record {
                 among = old.among;
-                seen = (let h = old.seen in omega arith);
+                seen = grow f.vehicle old.seen;
                 opens = old.opens;
                 added = old.added;
-                least = λ y c le. elim (cases_lt k y.0) [
-                  | inl more ↦ (
-                      let same : y.0 ≡ v = omega arith in
+                least = λ y c these. elim (split y.0 these) [
+                  | inl same ↦ (
                       let g = fit y c in
-                      no_worse_than (place_found f) y f.opens true f.addition.distance (adds y) (price_found k f old) (price_at y true is_o g same) (inl (is_c, refl)))
-                  | inr less ↦ old.least y c less
+                      no_worse_than (place_found f) y f.opens true f.addition.distance (adds y) (price_found These f old) (price_at y true is_o g same) (inl (is_c, refl)))
+                  | inr before ↦ old.least y c before
                 ];
               })
 
     -- an empty vehicle, where one was looked at before
-    pub skipped : length old_route ≡ 0 → HasIdle routes k → (best : Option Found) → IsBestUpTo p pins routes r k best → IsBestUpTo p pins routes r (k + 1) best
-    skipped none idle best old = by best old
+    pub skipped : length old_route ≡ 0 → (k : ℕ) → k < v → ((u : ℕ) → 1 ≤ u → u ≤ k → These u) → HasIdle routes k → (best : Option Found) → IsBestAmongThese p pins routes r These best → IsBestAmongThese p pins routes r More best
+    skipped none k ahead known idle best old = by best old
       where
         alike : of_vehicle routes idle.0 ≡ old_route
         alike = no_stops (of_vehicle routes idle.0) old_route idle.4 none
@@ -416,42 +457,43 @@ module _ (law : NamedAreFound) (stand : RequestsStandByName) (local : PassesAreL
             no_worse_than (idle.0, y.1, y.2) y (opens p.kind (of_vehicle routes idle.0)) (opens p.kind (of_vehicle routes y.0)) (adds (idle.0, y.1, y.2)) (adds y) (price (idle.0, y.1, y.2) (other y f same)) (price y f)
             (inr (ap (opens p.kind) one, inr (ap (λ (l : List ℕ). pos (route_length p (inserted r y.1 y.2 l)) -ℤ pos (route_length p l)) one, said_later (idle.0, y.1, y.2) y (inl (omega arith)))))
 
-        by : (b : Option Found) → IsBestUpTo p pins routes r k b → IsBestUpTo p pins routes r (k + 1) b
-        by None empty = λ y c le. elim (cases_lt k y.0) [
-          | inl more ↦ (let same : y.0 ≡ v = omega arith in let f = fit y c in empty (idle.0, y.1, y.2) (listed_fit (idle.0, y.1, y.2) (other y f same)) idle.2)
-          | inr less ↦ empty y c less
+        by : (b : Option Found) → IsBestAmongThese p pins routes r These b → IsBestAmongThese p pins routes r More b
+        by None empty = λ y c these. elim (split y.0 these) [
+          | inl same ↦ (let f = fit y c in empty (idle.0, y.1, y.2) (listed_fit (idle.0, y.1, y.2) (other y f same)) (known idle.0 idle.1 idle.2))
+          | inr before_it ↦ empty y c before_it
         ]
         by (Some g) was = record {
           among = was.among;
-          seen = (let h = was.seen in omega arith);
+          seen = grow g.vehicle was.seen;
           opens = was.opens;
           added = was.added;
-          least = λ y c le. elim (cases_lt k y.0) [
-            | inl more ↦ (
-                let same : y.0 ≡ v = omega arith in
+          least = λ y c these. elim (split y.0 these) [
+            | inl same ↦ (
                 let f = fit y c in
-                follow (place_found g) (idle.0, y.1, y.2) y (was.least (idle.0, y.1, y.2) (listed_fit (idle.0, y.1, y.2) (other y f same)) idle.2) (before y f same))
-            | inr less ↦ was.least y c less
+                follow (place_found g) (idle.0, y.1, y.2) y (was.least (idle.0, y.1, y.2) (listed_fit (idle.0, y.1, y.2) (other y f same)) (known idle.0 idle.1 idle.2)) (before y f same))
+            | inr before_it ↦ was.least y c before_it
           ];
         }
 
-  -- at no vehicle there is none
-  pub none_first : (k : ℕ) → k ≡ 0 → IsBestUpTo p pins routes r k None
-  none_first k zero_vehicles = λ y c le. (let f = fit y c in let low = f.from in omega arith)
+  -- the same vehicles, said otherwise
+  pub these_same : (These Others : ℕ → Type 0) → ((u : ℕ) → These u → Others u) → ((u : ℕ) → Others u → These u) → (best : Option Found) → IsBestAmongThese p pins routes r These best → IsBestAmongThese p pins routes r Others best
+  these_same These Others there back None none = λ y c others. none y c (back y.0 others)
+  these_same These Others there back (Some g) was = record { among = was.among; seen = there g.vehicle was.seen; opens = was.opens; added = was.added; least = λ y c others. was.least y c (back y.0 others) }
 
   -- among all vehicles
-  pub answer_is : BestInsertionsAreLeast → BestInsertionsAreUnique → (k : ℕ) → k ≡ length routes → (answer : Option Found) → IsBestUpTo p pins routes r k answer → option_map place_found answer ≡ best_insertion p pins routes name
-  answer_is least unique k all answer up = by_best (best_insertion p pins routes name) refl (least p pins routes name r named)
+  pub answer_is : BestInsertionsAreLeast → BestInsertionsAreUnique → (These : ℕ → Type 0) → ((v : ℕ) → 1 ≤ v → v ≤ length routes → These v) → (answer : Option Found) → IsBestAmongThese p pins routes r These answer
+      → option_map place_found answer ≡ best_insertion p pins routes name
+  answer_is least unique These all answer up = by_best (best_insertion p pins routes name) refl (least p pins routes name r named)
     where
-      all_seen : (x : Insertion) → Contains (insertions_of p pins routes r) x → x.0 ≤ k
-      all_seen x c = let f = fit x c in let high = f.within in omega arith
+      all_seen : (x : Insertion) → Contains (insertions_of p pins routes r) x → These x.0
+      all_seen x c = let f = fit x c in all x.0 f.from f.within
 
       nothing : insertions p pins routes name ≡ [] → (x : Insertion) → Contains (insertions_of p pins routes r) x → ⊥
       nothing none x c =
           let same : insertions p pins routes name ≡ insertions_of p pins routes r = ap (λ (o : Option Request). option_map_or (insertions_of p pins routes) o []) named in
           within [] x (subst (λ (l : List Insertion). Contains l x) (sym same ∙ none) c)
 
-      by : (a : Option Found) (o : Option Insertion) → IsBestUpTo p pins routes r k a → best_insertion p pins routes name ≡ o → MatchOption o (insertions p pins routes name ≡ []) (IsBest p pins routes r) → option_map place_found a ≡ o
+      by : (a : Option Found) (o : Option Insertion) → IsBestAmongThese p pins routes r These a → best_insertion p pins routes name ≡ o → MatchOption o (insertions p pins routes name ≡ []) (IsBest p pins routes r) → option_map place_found a ≡ o
       by None None up is best = refl
       by None (Some x) up is best = absurd (up x (best.among) (all_seen x (best.among)))
       by (Some f) None up is none = absurd (nothing none (place_found f) (up.among))

@@ -1,5 +1,5 @@
 -- The best insertion so far, on the way over the vehicles.
-use Rattle.std.specs.Prelude.{◌≡◌, ℕ, ◌≤◌, ◌<◌, ℤ, pos, ◌==◌, Bool, true, false, not, ◌&&◌, List, length, Option, Some, None, nat_eq, MatchOption, if◌then◌else◌}
+use Rattle.std.specs.Prelude.{◌≡◌, ◌⊎◌, ℕ, ◌+◌, ◌≤◌, ◌<◌, ℤ, pos, ◌+ℤ◌, ◌≤ℤ◌, ◌<ℤ◌, nat_lt, ◌==◌, Bool, true, false, not, ◌&&◌, List, length, slice_get, Option, Some, None, nat_eq, IfSome, MatchOption, if◌then◌else◌}
 use Rattle.std.specs.List.{Contains}
 use Rattle.std.specs.Map.{lookup}
 use Rattle.std.specs.Option.{option_map, option_or}
@@ -37,17 +37,34 @@ pub record IsAsked (p : Instance) (pins : List (List ℕ)) (courses : List Cours
   pub named : lookup (nat_eq (request_name r)) p.requests ≡ Some r
   pub free : is_planned (plan_of courses) r ≡ false
 
--- what was found is an insertion at one of the first k vehicles, and no worse than any other there
-pub record IsBestAmong (p : Instance) (pins routes : List (List ℕ)) (r : Request) (k : ℕ) (f : Found) : Type 0 where
+-- what was found is an insertion at one of these vehicles, and no worse than any other there
+pub record IsBestAmong (p : Instance) (pins routes : List (List ℕ)) (r : Request) (These : ℕ → Type 0) (f : Found) : Type 0 where
   pub among : Contains (insertions_of p pins routes r) (place_found f)
-  pub seen : f.vehicle ≤ k
+  pub seen : These f.vehicle
   pub opens : opens p.kind (of_vehicle routes f.vehicle) ≡ f.opens
   pub added : IsAdded p (of_vehicle routes f.vehicle) (inserted r f.addition.pickup f.addition.delivery (of_vehicle routes f.vehicle)) (Some f.addition.distance)
-  pub least : (y : Insertion) → Contains (insertions_of p pins routes r) y → y.0 ≤ k → is_no_worse p routes r (place_found f) y ≡ true
+  pub least : (y : Insertion) → Contains (insertions_of p pins routes r) y → These y.0 → is_no_worse p routes r (place_found f) y ≡ true
 
 -- or nothing is found, where these vehicles have no insertion
-abbrev pub IsBestUpTo : Instance → List (List ℕ) → List (List ℕ) → Request → ℕ → Option Found → Type 0
-IsBestUpTo p pins routes r k answer = MatchOption answer ((y : Insertion) → Contains (insertions_of p pins routes r) y → y.0 ≤ k → ⊥) (IsBestAmong p pins routes r k)
+abbrev pub IsBestAmongThese : Instance → List (List ℕ) → List (List ℕ) → Request → (ℕ → Type 0) → Option Found → Type 0
+IsBestAmongThese p pins routes r These answer = MatchOption answer ((y : Insertion) → Contains (insertions_of p pins routes r) y → These y.0 → ⊥) (IsBestAmong p pins routes r These)
+
+-- an entry of a list is the vehicle's
+abbrev pub IsEntryOf : List (ℕ × Course) → ℕ → Type 0
+IsEntryOf entries v = (k : ℕ) × (e : ℕ × Course) × (slice_get entries k ≡ Some e) × (e.0 ≡ v)
+
+-- a vehicle with stops that one of the first n entries is of
+pub record IsNamed (routes : List (List ℕ)) (entries : List (ℕ × Course)) (n v : ℕ) : Type 0 where
+  pub place : ℕ
+  pub entry : ℕ × Course
+  pub below : place < n
+  pub at : slice_get entries place ≡ Some entry
+  pub same : entry.0 ≡ v
+  pub some : 1 ≤ length (of_vehicle routes v)
+
+-- one of those, or of the first k vehicles
+abbrev pub IsNamedOrUpTo : List (List ℕ) → List (ℕ × Course) → ℕ → ℕ → Type 0
+IsNamedOrUpTo routes entries k v = ((1 ≤ v) × (v ≤ k)) ⊎ IsNamed routes entries (length entries) v
 
 -- one of the first k vehicles has no stops
 abbrev pub HasIdle : List (List ℕ) → ℕ → Type 0
@@ -57,10 +74,23 @@ HasIdle routes k = (u : ℕ) × (1 ≤ u) × (u ≤ k) × (u ≤ length routes) 
 abbrev pub IsReach : List (List ℕ) → ℕ → Type 0
 IsReach routes end = (v : ℕ) → end < v → v ≤ length routes → HasIdle routes end × (length (of_vehicle routes v) ≡ 0)
 
--- what an insertion must add less than, where it opens a vehicle or not, to be better than the best so far; nothing where none is
-abbrev pub bound_of : Bool → Option Found → Option ℤ
-bound_of o None = Some (pos 9223372036854775807)
-bound_of o (Some f) = if f.opens && not o then Some (pos 9223372036854775807) else if o && not f.opens then None else Some f.addition.distance
+-- the distance that an insertion at vehicle v must add less than, to be better than one that opens as many vehicles: of equals the first
+-- vehicle's is
+abbrev pub bound_beside : ℕ → Found → ℤ
+bound_beside v f = if nat_lt v f.vehicle then f.addition.distance +ℤ pos 1 else f.addition.distance
+
+-- what an insertion at vehicle v must add less than, where it opens a vehicle or not, to be better than the best so far; nothing where none is
+abbrev pub bound_of : ℕ → Bool → Option Found → Option ℤ
+bound_of v o None = Some (pos 9223372036854775807)
+bound_of v o (Some f) = if f.opens && not o then Some (pos 9223372036854775807) else if o && not f.opens then None else Some (bound_beside v f)
+
+-- from vehicle v on, no used vehicle needs a greater bound
+abbrev pub IsLoose : ℕ → Option Found → ℤ → Type 0
+IsLoose v best below = (u : ℕ) → v ≤ u → (b : ℤ) → bound_of u false best ≡ Some b → b ≤ℤ below
+
+-- what was found adds less than the greatest number
+abbrev pub IsShort : Option Found → Type 0
+IsShort best = IfSome best (λ f. f.addition.distance <ℤ pos 9223372036854775807)
 
 -- the best places below this bound, or what was found before
 abbrev pub IsBetterBelow : Instance → List ℕ → Request → ℕ → ℕ → Bool → Option Found → Option Found → Option ℤ → Type 0
@@ -70,4 +100,8 @@ IsBetterBelow p route r kept v o best result (Some below) =
 
 -- a vehicle more is looked at
 abbrev pub IsBetter : Instance → List ℕ → Request → ℕ → ℕ → Option Found → Option Found → Type 0
-IsBetter p route r kept v best result = IsBetterBelow p route r kept v (opens p.kind route) best result (bound_of (opens p.kind route) best)
+IsBetter p route r kept v best result = IsBetterBelow p route r kept v (opens p.kind route) best result (bound_of v (opens p.kind route) best)
+
+-- or it has stops, and was looked at before
+abbrev pub IsLookedAt : Instance → List ℕ → Request → ℕ → List (ℕ × Course) → ℕ → Option Found → Option Found → Type 0
+IsLookedAt p route r kept entries v best result = IsBetter p route r kept v best result ⊎ ((1 ≤ length route) × IsEntryOf entries v × (result ≡ best))

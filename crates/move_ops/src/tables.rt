@@ -1,12 +1,13 @@
 //! Where a request is put into a plan best, by a table for each vehicle.
 //!
 //! Vehicle after vehicle is asked for a place that is better than the best so far. Costs are compared by
-//! whether a vehicle more is used, then by the distance added; the first of equals stands, which is the least
-//! by vehicle and places.
+//! whether a vehicle more is used, then by the distance added, then by vehicle and places. Vehicles that a draft
+//! has changed are asked first, since what was taken out of them mostly fits there best: behind them most others
+//! are ruled out. So at a vehicle before that of the best so far an equal distance is better, too.
 //!
 //! Tables need a plan that passes with no pins, so `build` and `refresh` are given none; the law
 //! `plans_pass_without_pins` leads there from a plan that passes with its own.
-ghost use Rattle.std.specs.Prelude.{◌≡◌, ◌≤◌, true, false, [], map, Some, IfOk, IsSome, length};
+ghost use Rattle.std.specs.Prelude.{◌≡◌, ◌+◌, ◌≤◌, ◌<ℤ◌, pos, true, false, [], map, Some, IfOk, IsSome, length};
 ghost use Rattle.std.specs.Option.{option_map};
 ghost use Rattle.plan_types.specs.Instance.{IsInstance};
 ghost use Rattle.plan_types.specs.Request.{request_name, IsRequest};
@@ -14,9 +15,9 @@ ghost use Rattle.slack_tables.specs.Course.{route_of, IsCourseIn};
 ghost use Rattle.slack_tables.specs.RequestFloors.{AreWays};
 ghost use Rattle.move_ops.specs.Insertion.{request_named, of_vehicle, best_insertion};
 ghost use Rattle.plan_audit.specs.Passes.{passes};
-ghost use Rattle.move_ops.specs.Refreshing.{fresh_of};
+ghost use Rattle.move_ops.specs.Refreshing.{fresh_of, AreWithin};
 ghost use Rattle.move_ops.specs.Tables.{plan_of, AreVehicles};
-ghost use Rattle.move_ops.specs.Choosing.{opens, bound_of, place_found, IsAsked, IsBetter, IsReach};
+ghost use Rattle.move_ops.specs.Choosing.{opens, bound_of, place_found, IsAsked, IsBestAmongThese, IsLookedAt, IsLoose, bound_beside, IsBetter, IsEntryOf, IsNamed, IsReach, IsShort};
 
 use crate::laws::{best_insertions_are_least, best_insertions_are_unique};
 use crate::lists::of_vehicle;
@@ -97,6 +98,7 @@ impl Tables {
             pins.routes.as_slice(),
             tables,
             tables.len(),
+            &[],
             request,
         ) {
             Some(found) => Some(found.place()),
@@ -177,18 +179,20 @@ fn live_request(problem: &Problem, name: u32) -> &Request
     problem.requests.get(&name).unwrap()
 }
 
-/// The best insertion over all vehicles. Empty ones are alike, so the first of them stands for all, and where no others stand behind
-/// `end`, the loop ends there.
+/// The best insertion over all vehicles, where those of `first` are asked before the others. Empty ones are alike, so the first of them
+/// stands for all, and where no others stand behind `end`, the loop ends there.
 pub(crate) fn best_of(
     problem: &Problem,
     pins: &[Route],
     tables: &[Tour],
     end: usize,
+    first: &[(u32, Tour)],
     request: &Request,
 ) -> Option<Found>
     requires asked { IsAsked problem.now pins.now tables.now request.now }
     requires within { end ≤ length tables.now }
     requires reach { IsReach (plan_of tables.now) end }
+    requires first { AreWithin (length tables.now) first.now }
     ensures { option_map place_found result
         ≡ best_insertion problem.now pins.now (plan_of tables.now) (request_name request.now) }
 {
@@ -201,8 +205,8 @@ pub(crate) fn best_of(
     costs_compare_part_by_part();
     costs_are_in_order();
     let ways = RequestWays::of(&problem.depot, request);
-    let mut best = None;
-    let mut below = i64::MAX;
+    let mut best = best_of_first(problem, pins, tables, first, request, &ways);
+    let mut below = bound_from(&best, 1);
     let mut has_idle = false;
     for k in 0..end {
         let table = &tables[k];
@@ -214,14 +218,53 @@ pub(crate) fn best_of(
             has_idle = true;
         }
         below = look_at(
-            problem, request, &ways, table, pins, vehicle, below, &mut best,
+            problem, request, &ways, table, pins, first, vehicle, below, &mut best,
         );
     }
     best
 }
 
-// Lets the best insertion so far become a better one at this vehicle, if there is one. What an insertion at a used vehicle must add less
-// than is handed on as one number, since most vehicles are only asked whether that rules them out.
+// The best insertion over those of these vehicles that have stops.
+#[inline(never)]
+fn best_of_first(
+    problem: &Problem,
+    pins: &[Route],
+    tables: &[Tour],
+    first: &[(u32, Tour)],
+    request: &Request,
+    ways: &RequestWays,
+) -> Option<Found>
+    requires asked { IsAsked problem.now pins.now tables.now request.now }
+    requires ways { AreWays problem.now.depot request.now ways.now }
+    requires first { AreWithin (length tables.now) first.now }
+    ensures best { IsBestAmongThese problem.now pins.now (plan_of tables.now) request.now
+        (IsNamed (plan_of tables.now) first.now (length first.now)) result }
+    ensures short { IsShort result }
+{
+    requests_are_found_by_stop();
+    requests_stand_by_name();
+    passes_are_local();
+    tests_say_feasible();
+    costs_compare_part_by_part();
+    costs_are_in_order();
+    let mut best = None;
+    for j in 0..first.len() {
+        let vehicle = u64::from(first[j].0);
+        let index = (vehicle - 1) as usize;
+        let table = &tables[index];
+        if table.stop_count() != 0 {
+            let below = bound_from(&best, vehicle);
+            look_past(
+                problem, request, ways, table, pins, vehicle, below, &mut best,
+            );
+        }
+    }
+    best
+}
+
+// Lets the best insertion so far become a better one at this vehicle, if there is one, where it isn't one of the first, which are known. What
+// an insertion at a used vehicle must add less than is handed on as one number, since most vehicles are only asked whether that rules them
+// out.
 #[inline(always)]
 fn look_at(
     problem: &Problem,
@@ -229,6 +272,7 @@ fn look_at(
     ways: &RequestWays,
     table: &Tour,
     pins: &[Route],
+    first: &[(u32, Tour)],
     vehicle: u64,
     below: i64,
     best: &mut Option<Found>,
@@ -239,16 +283,52 @@ fn look_at(
     requires valid { IsRequest request.now }
     requires ways { AreWays problem.now.depot request.now ways.now }
     requires pin { length (of_vehicle pins.now vehicle) ≤ length table.now.stops }
-    requires below { bound_of false best.old ≡ Some below }
-    ensures better { IsBetter problem.now (route_of table.now) request.now
-        (length (of_vehicle pins.now vehicle)) vehicle best.old best.new }
-    ensures below { bound_of false best.new ≡ Some result }
+    requires below { IsLoose vehicle best.old below }
+    requires short { IsShort best.old }
+    ensures looked { IsLookedAt problem.now (route_of table.now) request.now
+        (length (of_vehicle pins.now vehicle)) first.now vehicle best.old best.new }
+    ensures below { IsLoose vehicle best.new result }
+    ensures short { IsShort best.new }
 {
-    if table.stop_count() != 0 && table.table().rules_out_by(request, ways, below) {
-        return below;
+    if table.stop_count() != 0 {
+        if table.table().rules_out_by(request, ways, below) {
+            return below;
+        }
+        if is_among(first, vehicle) {
+            return bound_from(best, vehicle);
+        }
     }
     look_closer(problem, request, ways, table, pins, vehicle, best);
-    bound_of_used(best)
+    bound_from(best, vehicle)
+}
+
+// The same, of a vehicle with stops that isn't known.
+fn look_past(
+    problem: &Problem,
+    request: &Request,
+    ways: &RequestWays,
+    table: &Tour,
+    pins: &[Route],
+    vehicle: u64,
+    below: i64,
+    best: &mut Option<Found>,
+)
+    requires problem { IsInstance problem.now }
+    requires course { IsCourseIn problem.now table.now }
+    requires request { request_named problem.now (request_name request.now) ≡ Some request.now }
+    requires valid { IsRequest request.now }
+    requires ways { AreWays problem.now.depot request.now ways.now }
+    requires pin { length (of_vehicle pins.now vehicle) ≤ length table.now.stops }
+    requires below { IsLoose vehicle best.old below }
+    requires short { IsShort best.old }
+    ensures better { IsBetter problem.now (route_of table.now) request.now
+        (length (of_vehicle pins.now vehicle)) vehicle best.old best.new }
+    ensures short { IsShort best.new }
+{
+    if table.stop_count() != 0 && table.table().rules_out_by(request, ways, below) {
+        return;
+    }
+    look_closer(problem, request, ways, table, pins, vehicle, best);
 }
 
 // The same, at each place of a vehicle that isn't ruled out. It is written in its place, and the pin is looked up of such vehicles alone.
@@ -268,11 +348,13 @@ fn look_closer(
     requires valid { IsRequest request.now }
     requires ways { AreWays problem.now.depot request.now ways.now }
     requires pin { length (of_vehicle pins.now vehicle) ≤ length table.now.stops }
-    ensures { IsBetter problem.now (route_of table.now) request.now
+    requires short { IsShort best.old }
+    ensures better { IsBetter problem.now (route_of table.now) request.now
         (length (of_vehicle pins.now vehicle)) vehicle best.old best.new }
+    ensures short { IsShort best.new }
 {
     let opens = opens(problem.kind, table);
-    let Some(below) = bound(opens, best) else {
+    let Some(below) = bound(vehicle, opens, best) else {
         return;
     };
     let kept = of_vehicle(pins, vehicle).len() as u64;
@@ -283,6 +365,18 @@ fn look_closer(
             addition,
         });
     }
+}
+
+// Whether the vehicle is one of these.
+fn is_among(first: &[(u32, Tour)], vehicle: u64) -> bool
+    ensures { result ≡ true → IsEntryOf first.now vehicle }
+{
+    for j in 0..first.len() {
+        if u64::from(first[j].0) == vehicle {
+            return true;
+        }
+    }
+    false
 }
 
 // Whether a request put into this route uses one vehicle more.
@@ -296,10 +390,11 @@ fn opens(kind: Kind, table: &Tour) -> bool
     }
 }
 
-// What an insertion must add less than to be better than the best so far.
+// What an insertion at a vehicle must add less than to be better than the best so far.
 #[inline(always)]
-fn bound(opens: bool, best: &Option<Found>) -> Option<i64>
-    ensures { result ≡ bound_of opens best.now }
+fn bound(vehicle: u64, opens: bool, best: &Option<Found>) -> Option<i64>
+    requires { IsShort best.now }
+    ensures { result ≡ bound_of vehicle opens best.now }
 {
     match best {
         None => Some(i64::MAX),
@@ -310,15 +405,37 @@ fn bound(opens: bool, best: &Option<Found>) -> Option<i64>
             if opens && !best.opens {
                 return None;
             }
-            Some(best.addition.distance)
+            Some(bound_at(vehicle, best))
         }
     }
 }
 
-// The same where it opens no vehicle.
+// The same beside an insertion that opens as many vehicles.
 #[inline(always)]
-fn bound_of_used(best: &Option<Found>) -> i64
-    ensures { bound_of false best.now ≡ Some result }
+fn bound_at(vehicle: u64, best: &Found) -> i64
+    requires { best.now.addition.distance <ℤ pos 9223372036854775807 }
+    ensures { result ≡ bound_beside vehicle best.now }
 {
-    bound(false, best).unwrap()
+    if vehicle < best.vehicle {
+        best.addition.distance + 1
+    } else {
+        best.addition.distance
+    }
+}
+
+// What no insertion at a used vehicle from this one on needs to add less than to be better than the best so far.
+#[inline(always)]
+fn bound_from(best: &Option<Found>, vehicle: u64) -> i64
+    requires { IsShort best.now }
+    ensures { IsLoose vehicle best.now result }
+{
+    match best {
+        None => i64::MAX,
+        Some(best) => {
+            if best.opens {
+                return i64::MAX;
+            }
+            bound_at(vehicle, best)
+        }
+    }
 }

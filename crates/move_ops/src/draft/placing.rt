@@ -98,7 +98,7 @@ impl Draft {
             return None;
         }
         let kept = pins.routes.as_slice();
-        match best_of(problem, kept, &self.tours, self.reach(), request) {
+        match best_of(problem, kept, &self.tours, self.reach(), &self.log, request) {
             Some(found) => Some(found.place()),
             None => None,
         }

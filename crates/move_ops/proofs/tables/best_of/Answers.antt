@@ -1,20 +1,22 @@
-use Rattle.std.proofs.Common.{◌≡◌, ◌+◌, rules, w64, true, false, Some, refl, sym, ap, ◌∙◌, arith, subst}
 use mir.Val.{SFits}
 use Rattle.std.proofs.lemmas.Int.{to_z-of_z}
+use Rattle.std.proofs.Common.{◌≡◌, ◌+◌, rules, w64, true, false, Some, refl, sym, ap, ◌∙◌, arith, subst}
 use Rattle.move_ops.specs.Insertion.{of_vehicle}
 use Rattle.move_ops.specs.Tables.{plan_of}
-use Rattle.move_ops.specs.Choosing.{IsBestUpTo}
-use Rattle.move_ops.proofs.Asked.{course_at, request_valid, none_yet, pin_fits, idle_here, idle_more, one_more, one_skipped, beyond, answered}
+use Rattle.move_ops.specs.Choosing.{IsBestAmongThese, IsLoose, IsNamedOrUpTo}
+use Rattle.move_ops.proofs.Asked.{course_at, request_valid, from_named, pin_fits, idle_here, idle_more, one_more, one_skipped, beyond, answered}
 use Rattle.move_ops.proofs.tables.best_of.Goals as goal
 use Rattle.move_ops.proofs.tables.best_of.Goals.{then-stop_count-eq0+else-has_idle, else-stop_count-eq0}
 
 pub loop-k-init : goal.loop-k-init
 loop-k-init c =
     record {
-      best = none_yet c.requests_are_found_by_stop.ensures c.requests_stand_by_name.ensures c.passes_are_local.ensures c.tests_say_feasible.ensures c.costs_compare_part_by_part.ensures.below_tells
+      best = from_named c.requests_are_found_by_stop.ensures c.requests_stand_by_name.ensures c.passes_are_local.ensures c.tests_say_feasible.ensures c.costs_compare_part_by_part.ensures.below_tells
           c.costs_compare_part_by_part.ensures.at_most_tells c.costs_are_in_order.ensures.total c.costs_are_in_order.ensures.transitive c.costs_are_in_order.ensures.below_then_at_most
-          c.costs_are_in_order.ensures.at_most_then_below c.costs_are_in_order.ensures.below_is_at_most c.args.problem.now c.args.pins.now c.args.tables.now c.args.request.now c.requires.asked 0 refl;
-      below = refl;
+          c.costs_are_in_order.ensures.at_most_then_below c.costs_are_in_order.ensures.below_is_at_most c.args.problem.now c.args.pins.now c.args.tables.now c.args.request.now c.requires.asked
+          c.args.first.now c.best_of_first-best.result c.best_of_first-best.ensures.best;
+      below = let fits : SFits w64 c.bound_from-below.result = search rules in subst (IsLoose 1 c.best_of_first-best.result) (sym (to_z-of_z w64 c.bound_from-below.result fits)) c.bound_from-below.ensures;
+      short = c.best_of_first-best.ensures.short;
       idle = λ h. absurd (let k : false ≡ true = h in cc);
     }
 
@@ -26,8 +28,9 @@ loop-k-preserved-then-has_idle c =
       best = one_skipped c.requests_are_found_by_stop.ensures c.requests_stand_by_name.ensures c.passes_are_local.ensures c.tests_say_feasible.ensures c.costs_compare_part_by_part.ensures.below_tells
           c.costs_compare_part_by_part.ensures.at_most_tells c.costs_are_in_order.ensures.total c.costs_are_in_order.ensures.transitive c.costs_are_in_order.ensures.below_then_at_most
           c.costs_are_in_order.ensures.at_most_then_below c.costs_are_in_order.ensures.below_is_at_most c.args.problem.now c.args.pins.now c.args.tables.now c.args.request.now c.requires.asked
-          c.loop-k.k c.index-tables-k.result c.index-tables-k.is (omega arith) (omega arith) (c.loop-k.invariant.idle c.if-has_idle.true) c.loop-k.best c.loop-k.invariant.best;
-      below = c.loop-k.invariant.below;
+          c.loop-k.k c.index-tables-k.result c.index-tables-k.is (omega arith) c.args.first.now (omega arith) (c.loop-k.invariant.idle c.if-has_idle.true) c.loop-k.best c.loop-k.invariant.best;
+      below = λ u from. c.loop-k.invariant.below u (omega arith);
+      short = c.loop-k.invariant.short;
       idle = λ h. idle_more (plan_of c.args.tables.now) c.loop-k.k (c.loop-k.invariant.idle h);
     }
 
@@ -57,13 +60,13 @@ pub loop-k-preserved : goal.loop-k-preserved
 loop-k-preserved c =
     let few = c.stop_count.ensures.few in
     let count = c.stop_count.ensures.count in
-    let fits : SFits w64 c.look_at-below.result = search rules in
     record {
       best = one_more c.requests_are_found_by_stop.ensures c.requests_stand_by_name.ensures c.passes_are_local.ensures c.tests_say_feasible.ensures c.costs_compare_part_by_part.ensures.below_tells
           c.costs_compare_part_by_part.ensures.at_most_tells c.costs_are_in_order.ensures.total c.costs_are_in_order.ensures.transitive c.costs_are_in_order.ensures.below_then_at_most
           c.costs_are_in_order.ensures.at_most_then_below c.costs_are_in_order.ensures.below_is_at_most c.args.problem.now c.args.pins.now c.args.tables.now c.args.request.now c.requires.asked
-          c.loop-k.k c.index-tables-k.result c.index-tables-k.is (omega arith) (of_vehicle c.args.pins.now (c.loop-k.k + 1)) refl (omega arith) c.loop-k.best c.look_at-below.new.best c.loop-k.invariant.best c.look_at-below.ensures.better;
-      below = c.look_at-below.ensures.below ∙ ap Some (sym (to_z-of_z w64 c.look_at-below.result fits));
+          c.loop-k.k c.index-tables-k.result c.index-tables-k.is (omega arith) c.args.first.now (of_vehicle c.args.pins.now (c.loop-k.k + 1)) refl (omega arith) c.loop-k.best c.look_at-below.new.best c.loop-k.invariant.best c.look_at-below.ensures.looked;
+      below = λ u from. (let fits : SFits w64 c.look_at-below.result = search rules in subst (IsLoose (c.loop-k.k + 1) c.look_at-below.new.best) (sym (to_z-of_z w64 c.look_at-below.result fits)) c.look_at-below.ensures.below u (omega arith));
+      short = c.look_at-below.ensures.short;
       idle = λ h. elim c.if-stop_count-eq0.branch [
         | then-stop_count-eq0+else-has_idle w ↦ (let none = w.if-stop_count-eq0 in idle_here c.requests_are_found_by_stop.ensures c.requests_stand_by_name.ensures c.passes_are_local.ensures c.tests_say_feasible.ensures c.costs_compare_part_by_part.ensures.below_tells
             c.costs_compare_part_by_part.ensures.at_most_tells c.costs_are_in_order.ensures.total c.costs_are_in_order.ensures.transitive c.costs_are_in_order.ensures.below_then_at_most
@@ -77,10 +80,10 @@ returns c =
     let end : c.loop-k.k ≡ c.args.end = search rules in
     answered c.requests_are_found_by_stop.ensures c.requests_stand_by_name.ensures c.passes_are_local.ensures c.tests_say_feasible.ensures c.costs_compare_part_by_part.ensures.below_tells
     c.costs_compare_part_by_part.ensures.at_most_tells c.costs_are_in_order.ensures.total c.costs_are_in_order.ensures.transitive c.costs_are_in_order.ensures.below_then_at_most
-    c.costs_are_in_order.ensures.at_most_then_below c.costs_are_in_order.ensures.below_is_at_most c.args.problem.now c.args.pins.now c.args.tables.now c.args.request.now c.requires.asked
+    c.costs_are_in_order.ensures.at_most_then_below c.costs_are_in_order.ensures.below_is_at_most c.args.problem.now c.args.pins.now c.args.tables.now c.args.request.now c.requires.asked c.args.first.now
     c.best_insertions_are_least.ensures c.best_insertions_are_unique.ensures c.loop-k.best
     (beyond c.requests_are_found_by_stop.ensures c.requests_stand_by_name.ensures c.passes_are_local.ensures c.tests_say_feasible.ensures c.costs_compare_part_by_part.ensures.below_tells
     c.costs_compare_part_by_part.ensures.at_most_tells c.costs_are_in_order.ensures.total c.costs_are_in_order.ensures.transitive c.costs_are_in_order.ensures.below_then_at_most
     c.costs_are_in_order.ensures.at_most_then_below c.costs_are_in_order.ensures.below_is_at_most c.args.problem.now c.args.pins.now c.args.tables.now c.args.request.now c.requires.asked
-    c.args.end c.requires.within c.requires.reach c.loop-k.best
-    (subst (λ k. IsBestUpTo c.args.problem.now c.args.pins.now (plan_of c.args.tables.now) c.args.request.now k c.loop-k.best) end c.loop-k.invariant.best))
+    c.args.first.now c.args.end c.requires.within c.requires.reach c.loop-k.best
+    (subst (λ k. IsBestAmongThese c.args.problem.now c.args.pins.now (plan_of c.args.tables.now) c.args.request.now (IsNamedOrUpTo (plan_of c.args.tables.now) c.args.first.now k) c.loop-k.best) end c.loop-k.invariant.best))

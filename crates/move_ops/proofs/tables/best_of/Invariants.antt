@@ -1,12 +1,13 @@
-use Rattle.std.proofs.Common.{◌≡◌, Some, true, false}
-use Rattle.move_ops.specs.Choosing.{bound_of, IsBestUpTo, HasIdle}
+use Rattle.std.proofs.Common.{◌≡◌, ◌+◌, true}
+use Rattle.move_ops.specs.Choosing.{HasIdle, IsBestAmongThese, IsLoose, IsNamedOrUpTo, IsShort}
 use Rattle.move_ops.specs.Tables.{plan_of}
 use Rattle.move_ops.proofs.tables.best_of.Given as goal
 
 -- the best among the vehicles so far, what a used vehicle must add less than, and whether one so far has no stops
 abbrev pub invariant-loop-k : goal.invariant-loop-k
 invariant-loop-k l = record {
-  best : IsBestUpTo l.problem l.pins (plan_of l.tables) l.request l.k l.best;
-  below : bound_of false l.best ≡ Some l.below;
+  best : IsBestAmongThese l.problem l.pins (plan_of l.tables) l.request (IsNamedOrUpTo (plan_of l.tables) l.first l.k) l.best;
+  below : IsLoose (l.k + 1) l.best l.below;
+  short : IsShort l.best;
   idle : l.has_idle ≡ true → HasIdle (plan_of l.tables) l.k;
 }

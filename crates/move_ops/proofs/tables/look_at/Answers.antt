@@ -1,4 +1,4 @@
-use Rattle.std.proofs.Common.{w64, ◌≡◌, eqb, false, None, Some, length, refl, sym, ap, subst, inl, inr, arith, ◌∙◌}
+use Rattle.std.proofs.Common.{w64, ◌≡◌, eqb, false, length, sym, ap, subst, inl, inr, arith}
 use mir.Val.{SFits}
 use Rattle.std.proofs.lemmas.Bool.Decides.{eqb_tells}
 use Rattle.std.proofs.lemmas.Int.{to_z-of_z}
@@ -9,13 +9,14 @@ use Rattle.slack_tables.specs.FitsNowhere.{FitsNowhere}
 use Rattle.plan_types.specs.Request.{request_name}
 use Rattle.move_ops.specs.Choosing.{opens, bound_of, IsBetterBelow}
 use Rattle.move_ops.specs.Insertion.{of_vehicle}
-use Rattle.move_ops.proofs.Choosing.{used_opens}
+use Rattle.move_ops.proofs.Choosing.{still, used_opens}
 use Rattle.move_ops.proofs.tables.look_at.Goals as goal
 
-pub returns-then-rules_out_by : goal.returns-then-rules_out_by
-returns-then-rules_out_by c =
+pub returns-then-rules_out_by-clause-looked : goal.returns-then-rules_out_by-clause-looked
+returns-then-rules_out_by-clause-looked c =
     let p = c.args.problem.now in
     let r = c.args.request.now in
+    let best = c.args.best.now in
     let route = route_of c.args.table.now in
     let kept = length (of_vehicle c.args.pins.now c.args.vehicle) in
     let below : SFits w64 c.args.below = record { sfits = c.ranges.below.sfits } in
@@ -28,12 +29,8 @@ returns-then-rules_out_by c =
       | inr t ↦ t.0
     ] in
     let closed : opens p.kind route ≡ false = used_opens p.kind route some in
-    record {
-      better = subst (λ o. IsBetterBelow p route r kept c.args.vehicle o c.args.best.now c.args.best.now (bound_of o c.args.best.now)) (sym closed)
-          (subst (IsBetterBelow p route r kept c.args.vehicle false c.args.best.now c.args.best.now) (sym c.requires.below)
-          (None, out p (request_name r) kept c.requires.problem c.requires.course c.requires.request, refl));
-      below = c.requires.below ∙ ap Some (sym stays);
-    }
+    inl (subst (λ o. IsBetterBelow p route r kept c.args.vehicle o best best (bound_of c.args.vehicle o best)) (sym closed)
+    (still p route r kept c.args.vehicle best c.args.below c.requires.below (out p (request_name r) kept c.requires.problem c.requires.course c.requires.request)))
 
 pub rules_out_by-requires : goal.rules_out_by-requires
 rules_out_by-requires c =
