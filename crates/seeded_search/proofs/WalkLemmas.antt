@@ -10,8 +10,8 @@ use Rattle.plan_audit.specs.Passes.{passes}
 use Rattle.move_ops.specs.Insertion.{Insertion, request_named, passing, best_insertion, put_in}
 use Rattle.move_ops.specs.Moves.{removed, exchanged, crossed}
 use Rattle.seeded_search.specs.Words.{pick, step_words}
-use Rattle.seeded_search.specs.Steps.{picked, movable_names, unplanned_names, placed, placed_all, relocated, exchanged_by, used_vehicles, cut_by, crossed_by, ruined_names, recreated_by, candidate, Walked, has_less_pair, has_same_pair, is_near, moved_on, moved_on_by, step, steps, walked}
-use Rattle.move_ops.specs.Drafts.{AreIdleBehind, Drafted, base_of, draft_of, IsMade}
+use Rattle.seeded_search.specs.Steps.{picked, movable_names, unplanned_names, placed_all, relocated, exchanged_by, used_vehicles, cut_by, crossed_by, ruined_names, recreated_by, candidate, Walked, has_less_pair, has_same_pair, is_near, moved_on, moved_on_by, step, steps, walked}
+use Rattle.move_ops.specs.Drafts.{placed, AreIdleBehind, Drafted, base_of, draft_of, IsMade}
 use Rattle.seeded_search.specs.Working.{AreListsOf, IsWalk, HasTaken}
 use Rattle.seeded_search.specs.declared.walk.Walk.{Walk}
 use Rattle.plan_types.specs.declared.plans.Plan.{Plan}
