@@ -3,11 +3,12 @@ use Rattle.std.proofs.Common.{◌≡◌, ℕ, zero, suc, ◌+◌, ◌-◌, ◌<�
 use Rattle.std.specs.Option.{option_map, option_and_then}
 use Rattle.std.proofs.lemmas.Bool.{cond_both, cases_lt, cases_order, eqb-true, eq-eqb, leb-true, le-leb, lt-ltb, not_from_true, or_cases, or_left, or_right, and_parts, and_from, both_ways}
 use Rattle.plan_types.specs.Cost.{cost_below, cost_at_most, CostsAreTotal, CostsAreTransitive, BelowIsAtMost}
-use Rattle.plan_types.specs.Instance.{Instance}
+use Rattle.plan_types.specs.Instance.{Instance, IsInstance}
 use Rattle.plan_types.specs.declared.plans.Cost.{Cost}
 use Rattle.route_sched.specs.Cost.{cost_of}
 use Rattle.plan_audit.specs.Passes.{passes}
 use Rattle.move_ops.specs.Insertion.{Insertion, request_named, passing, best_insertion, put_in}
+use Rattle.move_ops.specs.Laws.{RelocationsNeverCostMore}
 use Rattle.move_ops.specs.Moves.{removed, exchanged, crossed}
 use Rattle.seeded_search.specs.Words.{pick, step_words}
 use Rattle.seeded_search.specs.Steps.{picked, movable_names, unplanned_names, placed_all, relocated, exchanged_by, used_vehicles, cut_by, crossed_by, ruined_names, recreated_by, candidate, Walked, has_less_pair, has_same_pair, is_near, moved_on, moved_on_by, step, steps, walked}
@@ -15,7 +16,7 @@ use Rattle.move_ops.specs.Drafts.{placed, AreIdleBehind, Drafted, base_of, draft
 use Rattle.seeded_search.specs.Working.{AreListsOf, IsWalk, HasTaken}
 use Rattle.seeded_search.specs.declared.walk.Walk.{Walk}
 use Rattle.plan_types.specs.declared.plans.Plan.{Plan}
-use Rattle.seeded_search.specs.StepLaws.{StepsAddUp, BothPass, StepsKeepPassing, IncumbentsNeverCostMore, WorksNear, WorkingStaysNear}
+use Rattle.seeded_search.specs.StepLaws.{RelocatedNeverCostMore, StepsAddUp, BothPass, StepsKeepPassing, IncumbentsNeverCostMore, WorksNear, WorkingStaysNear}
 
 none_some : {X : Type 0} (x : X) → None ≡ Some x → ⊥
 none_some x h = cc
@@ -82,6 +83,14 @@ module _ (p : Instance) (pins : List (List ℕ)) where
       let t = and_then_some _ (picked w (movable_names p pins routes)) y is in
       let u = map_some (λ left. placed p pins left t.0) (removed p pins routes (t.0 ∷ [])) y t.1 in
       subst Passes u.2 (placed_passes u.0 t.0 (removed_passes routes (t.0 ∷ []) u.0 u.1))
+
+  -- and it costs no more, with the law of relocations
+  pub relocated_cost : RelocationsNeverCostMore → IsInstance p → (routes : List (List ℕ)) (w : ℕ) (y : List (List ℕ)) → Passes routes → relocated p pins routes w ≡ Some y → IsTrue (cost_at_most (cost_of p y) (cost_of p routes))
+  relocated_cost law valid routes w y pass is =
+      let t = and_then_some _ (picked w (movable_names p pins routes)) y is in
+      let u = map_some (λ left. placed p pins left t.0) (removed p pins routes (t.0 ∷ [])) y t.1 in
+      let all = law p pins routes u.0 t.0 valid pass u.1 in
+      subst (λ (plan : List (List ℕ)). IsTrue (cost_at_most (cost_of p plan) (cost_of p routes))) u.2 (all.cost)
 
   exchanged_by_passes : (routes : List (List ℕ)) (w v : ℕ) (y : List (List ℕ)) → exchanged_by p pins routes w v ≡ Some y → Passes y
   exchanged_by_passes routes w v y is =
@@ -324,3 +333,6 @@ noted_walk p pins w at is same = record {
 pub made_some : (answer : Option (List (List ℕ))) (made : Bool) (old new : Drafted) → IsMade answer made old new → made ≡ true → answer ≡ Some (draft_of new)
 made_some None made old new h is = absurd (both_ways made h.0 is)
 made_some (Some routes) made old new h is = ap (λ x. Some x) (sym h.1)
+
+pub relocated_never_cost_more : RelocationsNeverCostMore → RelocatedNeverCostMore
+relocated_never_cost_more law p pins routes new word valid good is = relocated_cost p pins law valid routes word new good is
