@@ -1,5 +1,5 @@
 -- A request that is put into a plan is planned there, beside all that were planned before; so the plan costs less.
-use Rattle.std.proofs.Common.{◌≡◌, ℕ, ◌+◌, ◌<◌, ◌||◌, Bool, true, false, cond, not, List, [], ◌∷◌, length, Option, Some, None, unwrap_or, refl, sym, ap, subst, ◌∙◌, inl, inr, arith, nat_lt, IsTrue}
+use Rattle.std.proofs.Common.{◌≡◌, ℕ, ◌+◌, ◌<◌, ◌||◌, Bool, true, false, not, List, [], ◌∷◌, length, Option, Some, None, unwrap_or, refl, sym, ap, subst, ◌∙◌, inl, inr, arith, nat_lt, IsTrue}
 use Rattle.std.specs.List.{concat}
 use Rattle.std.specs.Option.{option_and_then}
 use Rattle.std.proofs.lemmas.Bool.{and_parts, leb-true, lt-ltb, or_left, or_right, or_cases, not-true}
@@ -15,18 +15,10 @@ use Rattle.move_ops.proofs.Counting.{planned_where}
 use Rattle.move_ops.proofs.Fitting.{had_often, often_had}
 use Rattle.move_ops.proofs.Inserting.{numbers_of, times_inserted}
 use Rattle.move_ops.proofs.Replacing.{times_with}
-use Rattle.move_ops.proofs.Times.{none_some, some_same, times}
+use Rattle.move_ops.proofs.Times.{some_same, times}
 use Rattle.seeded_search.specs.Steps.{placed_all}
+use Rattle.seeded_search.proofs.WalkLemmas.{and_then_some, then_some}
 use Rattle.command_core.proofs.CountLemmas.{count_less}
-
--- what a chain of options gives
-and_then_some : {X Y : Type 0} (f : X → Option Y) (o : Option X) (y : Y) → option_and_then f o ≡ Some y → (x : X) × (o ≡ Some x) × (f x ≡ Some y)
-and_then_some f None y is = absurd (none_some y is)
-and_then_some f (Some x) y is = (x, refl, is)
-
-then_some : {X : Type 0} (b : Bool) (o : Option X) (y : X) → cond b o None ≡ Some y → (b ≡ true) × (o ≡ Some y)
-then_some true o y is = (refl, is)
-then_some false o y is = absurd (none_some y is)
 
 -- how often numbers stand with a request put in
 times_then : (n : ℕ) (pins routes : List (List ℕ)) (r : Request) (x : Insertion) → is_place_of pins routes r x ≡ true → times n (concat (with_request_at routes r x)) ≡ times n (numbers_of r) + times n (concat routes)
