@@ -42,7 +42,6 @@ pub fn anneal_step(
 }
 
 /// `count` annealing steps, one after another, from step number `step` on, each as `anneal_step` makes it; the last is below 2^60.
-#[tactic(auto, unfolding(crate::specs::Annealing::anneal_step, crate::specs::Annealing::anneal_steps))]
 pub fn anneal_steps(
     alloc: Global,
     problem: &Problem,
@@ -65,12 +64,8 @@ pub fn anneal_steps(
         (λ found. BothPass problem.now pins.now.routes
         (walked found.plan.routes found.work.routes)) }
 {
-    let mut annealing = Annealing::begin(alloc, problem, pins, plan, work)?;
-    let mut words = StepWords::from_step(seed, step);
-    for done in 0..count {
-        annealing.step(alloc, problem, pins, deviation, &words.next_step())?;
-    }
-    annealing.walk.end(alloc)
+    let walk = Walk::begin(alloc, problem, pins, plan, work)?;
+    anneal_on(alloc, problem, pins, walk, deviation, seed, step, count)?.end(alloc)
 }
 
 /// Annealing between two steps.
@@ -83,25 +78,6 @@ pub struct Annealing {
 }
 
 impl Annealing {
-    // Before the first step.
-    fn begin(
-        alloc: Global,
-        problem: &Problem,
-        pins: &Pins,
-        plan: &Plan,
-        work: &Plan,
-    ) -> Result<Annealing, OutOfMemory>
-        requires plan { passes problem.now pins.now.routes plan.now.routes ≡ true }
-        requires work { passes problem.now pins.now.routes work.now.routes ≡ true }
-        ensures walked { IfOk result
-            (λ a. walked_by a.walk ≡ walked plan.now.routes work.now.routes) }
-        ensures going { IfOk result (λ a. IsGoing problem.now pins.now.routes a) }
-    {
-        let walk = Walk::begin(alloc, problem, pins, plan, work)?;
-        let work = walk.draft.cost(problem, pins);
-        Ok(Annealing { walk, work })
-    }
-
     // A step with these words.
     fn step(
         &mut self,

@@ -1,70 +1,14 @@
--- How often a number stands in lists, and how that tells which requests are planned.
-use Rattle.std.proofs.Common.{◌≡◌, ℕ, zero, suc, ◌+◌, ◌<◌, ◌≤◌, Bool, true, false, cond, not, List, [], ◌∷◌, ◌++◌, length, take, drop, set, filter, Some, None, slice_get, refl, sym, ap, subst, ◌∙◌, inl, inr, arith, eqb, nat_eq}
+-- How many items pass a test, and what is told by how often numbers stand in lists.
+use Rattle.std.proofs.Common.{◌≡◌, ℕ, zero, suc, ◌<◌, ◌≤◌, Bool, true, false, cond, not, List, [], ◌∷◌, ◌++◌, Some, refl, sym, ap, subst, ◌∙◌, inl, inr, arith, nat_eq}
 use Rattle.std.specs.Prelude.{count_by}
-use Rattle.std.specs.List.{AllByRecursion, list_any, concat, starts_with}
+use Rattle.std.specs.List.{AllByRecursion, concat, starts_with}
 use Rattle.std.specs.Map.{lookup}
-use Rattle.std.proofs.lemmas.Bool.{and_parts, and_from, not-true, eqb-true, eq-eqb}
+use Rattle.std.proofs.lemmas.Bool.{and_parts, and_from, not-true, eqb-true}
 use Rattle.std.proofs.lemmas.Bool.Decides.{eqb_tells}
-use Rattle.std.proofs.lemmas.List.{take-append-drop}
 use Rattle.std.proofs.lemmas.List.Sums.{sum_by-cons}
 use Rattle.plan_audit.specs.Passes.{has, are_distinct}
-
-pub none_some : {X : Type 0} (x : X) → None ≡ Some x → ⊥
-none_some x h = cc
-
-pub some_same : {X : Type 0} (x y : X) → Some x ≡ Some y → x ≡ y
-some_same x y h = cc
-
-abbrev pub times : ℕ → List ℕ → ℕ
-times n [] = 0
-times n (x ∷ xs) = cond (eqb n x) 1 0 + times n xs
-
-pub times-append : (n : ℕ) (xs ys : List ℕ) → times n (xs ++ ys) ≡ times n xs + times n ys
-times-append n [] ys = omega arith
-times-append n (x ∷ xs) ys = omega (arith, times-append n xs ys)
-
-pub times_split : (n k : ℕ) (xs : List ℕ) → times n (take k xs) + times n (drop k xs) ≡ times n xs
-times_split n k xs = sym (times-append n (take k xs) (drop k xs)) ∙ ap (times n) (take-append-drop k xs)
-
-pub one_here : (n x : ℕ) → n ≡ x → ◌≡◌ {A = ℕ} (cond (eqb n x) 1 0) 1
-one_here n x same = rw (eq-eqb n x same) refl
-
-none_here : (n x : ℕ) → eqb n x ≡ false → ◌≡◌ {A = ℕ} (cond (eqb n x) 1 0) 0
-none_here n x apart = rw apart refl
-
--- what a list has stands in it, and the other way round
-pub had_stands : (n : ℕ) (xs : List ℕ) → list_any (nat_eq n) xs ≡ true → 1 ≤ times n xs
-had_stands n [] has = absurd (let h : false ≡ true = has in cc)
-had_stands n (x ∷ xs) has = elim (eqb_tells n x) [
-  | inl t ↦ (let e = one_here n x t.1 in omega arith)
-  | inr t ↦ (let rest : list_any (nat_eq n) xs ≡ true = rw t.0 at has in let h = had_stands n xs rest in omega arith)
-]
-
-pub stands_had : (n : ℕ) (xs : List ℕ) → 1 ≤ times n xs → list_any (nat_eq n) xs ≡ true
-stands_had n [] some = absurd (omega arith)
-stands_had n (x ∷ xs) some = elim (eqb_tells n x) [
-  | inl t ↦ (let e : eqb n x ≡ true = t.0 in rw e refl)
-  | inr t ↦ (let e = none_here n x t.0 in let h = stands_had n xs (omega arith) in rw t.0 h)
-]
-
--- all routes, where one is replaced
-pub times_replaced : (n : ℕ) (routes : List (List ℕ)) (k : ℕ) (old new : List ℕ) → slice_get routes k ≡ Some old → times n (concat (set routes k new)) + times n old ≡ times n (concat routes) + times n new
-times_replaced n [] k old new at = absurd (none_some old at)
-times_replaced n (route ∷ routes) zero old new at =
-    let same = ap (times n) (some_same route old at) in
-    let e = times-append n new (concat routes) in
-    let f = times-append n route (concat routes) in
-    omega arith
-times_replaced n (route ∷ routes) (suc k) old new at =
-    let e = times-append n route (concat (set routes k new)) in
-    let f = times-append n route (concat routes) in
-    let h = times_replaced n routes k old new at in
-    omega arith
-
-pub found : {X : Type 0} (xs : List X) (k : ℕ) → k < length xs → (x : X) × (slice_get xs k ≡ Some x)
-found [] k less = absurd (omega arith)
-found (x ∷ xs) zero less = (x, refl)
-found (x ∷ xs) (suc k) less = found xs k (omega arith)
+use Rattle.move_ops.proofs.Fitting.{had_often, often_had}
+use Rattle.move_ops.proofs.Times.{none_some, some_same, times, one_here, none_here}
 
 one_at_most : (a b : Bool) → (b ≡ true → a ≡ true) → cond b 1 0 ≤ cond a 1 0
 one_at_most true true to = omega arith
@@ -120,7 +64,7 @@ at_most_once (x ∷ xs) once n =
       where
         by : (k : ℕ) → times x xs ≡ k → k ≡ 0
         by zero e = refl
-        by (suc k) e = absurd (let h : true ≡ false = sym (stands_had x xs (omega arith)) ∙ none in cc)
+        by (suc k) e = absurd (let h : true ≡ false = sym (often_had xs x (omega arith)) ∙ none in cc)
 
 pub distinct_from : (xs : List ℕ) → ((n : ℕ) → times n xs ≤ 1) → are_distinct xs ≡ true
 distinct_from [] few = refl
@@ -130,12 +74,20 @@ distinct_from (x ∷ xs) few =
   where
     by : (b : Bool) → has xs x ≡ b → not b ≡ true
     by false e = refl
-    by true e = absurd (let h = had_stands x xs e in let g = few x in let k = one_here x x refl in omega arith)
+    by true e = absurd (let h = had_often xs x e in let g = few x in let k = one_here x x refl in omega arith)
 
 -- what holds of each number that stands in a list
 pub all_standing : (P : ℕ → Type 0) (xs : List ℕ) → ((n : ℕ) → 1 ≤ times n xs → P n) → AllByRecursion P xs
 all_standing P [] each = tt
 all_standing P (x ∷ xs) each = (each x (let e = one_here x x refl in omega arith), all_standing P xs (λ n h. each n (omega arith)))
+
+-- and the other way round
+pub standing : (P : ℕ → Type 0) (xs : List ℕ) → AllByRecursion P xs → (n : ℕ) → 1 ≤ times n xs → P n
+standing P [] all n some = absurd (omega arith)
+standing P (x ∷ xs) all n some = elim (eqb_tells n x) [
+  | inl t ↦ subst P (sym t.1) all.0
+  | inr t ↦ (let e = none_here n x t.0 in standing P xs all.1 n (omega arith))
+]
 
 -- and of the lists that are joined
 all_parts : (P : ℕ → Type 0) (xs ys : List ℕ) → AllByRecursion P (xs ++ ys) → AllByRecursion P xs × AllByRecursion P ys
@@ -154,15 +106,7 @@ pub all_joined : (P : ℕ → Type 0) (lists : List (List ℕ)) → AllByRecursi
 all_joined P [] all = tt
 all_joined P (l ∷ lists) all = all_join P l (concat lists) all.0 (all_joined P lists all.1)
 
--- a part of a list has no number more often
-pub times_filter : (test : ℕ → Bool) (n : ℕ) (xs : List ℕ) → times n (filter test xs) ≤ times n xs
-times_filter test n [] = omega arith
-times_filter test n (x ∷ xs) = by (test x) (times_filter test n xs)
-  where
-    by : (b : Bool) → times n (filter test xs) ≤ times n xs → times n (cond b (x ∷ filter test xs) (filter test xs)) ≤ times n (x ∷ xs)
-    by true h = omega arith
-    by false h = omega arith
-
+-- a front of a list has no number more often
 pub times_front : (n : ℕ) (xs front : List ℕ) → starts_with nat_eq xs front ≡ true → times n front ≤ times n xs
 times_front n xs [] begins = omega arith
 times_front n [] (m ∷ front) begins = absurd (let h : false ≡ true = begins in cc)

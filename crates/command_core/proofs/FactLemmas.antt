@@ -29,7 +29,7 @@ use Rattle.command_core.specs.declared.commands.Command.TheVariants.{Load, Add, 
 use Rattle.command_core.proofs.AddLemmas.{single_is_request, pair_is_request, IsNext, new_problem, same_at_live}
 use Rattle.command_core.proofs.PassLemmas.{passes_same, all_feasible_same, numbers_live, routes_live, pins_live}
 use Rattle.command_core.proofs.PinLemmas.{none_feasible, none_all_feasible, none_passes, set_all, unpinned_passes, pinned_passes}
-use Rattle.command_core.proofs.PlacedLemmas.{placed_all_passes}
+use Rattle.seeded_search.proofs.WalkLemmas.{placed_all_passes}
 use Rattle.command_core.proofs.TakeLemmas.{pins_others, withdrawn_passes, pins_still_feasible}
 
 -- the laws of the layers below

@@ -1,5 +1,4 @@
 pub mod AddLemmas
-pub mod AuditLemmas
 pub mod CountLemmas
 pub mod Examples
 pub mod FactLemmas

@@ -1,20 +1,12 @@
 -- Lists of routes, and parts of live stops that stand once.
-use Rattle.std.proofs.Common.{◌≡◌, ℕ, zero, suc, ◌+◌, ◌<◌, ◌||◌, true, false, List, [], ◌∷◌, length, take, drop, get_or, ap, subst, sym, ◌∙◌, nat_eq}
-use Rattle.std.specs.List.{AllByRecursion, IsDistinct, concat}
-use Rattle.std.proofs.lemmas.List.Folds.{list_any-append}
-use Rattle.std.proofs.lemmas.List.{drop_more}
+use Rattle.std.proofs.Common.{◌≡◌, ℕ, zero, suc, true, false, List, [], ◌∷◌, take, ap, subst, sym, ◌∙◌, nat_eq}
+use Rattle.std.specs.List.{AllByRecursion, IsDistinct}
 use Rattle.std.proofs.lemmas.List.Elements.{All-take, All-nil, recursion_from_All}
 use Rattle.plan_types.specs.Instance.{Instance}
-use Rattle.route_sched.specs.Cost.{has_stop}
 use Rattle.route_sched.specs.Route.{IsLive, AreLiveOnce}
-use Rattle.plan_audit.specs.Passes.{has, passes}
+use Rattle.plan_audit.specs.Passes.{passes}
 use Rattle.plan_audit.specs.Locality.{PassesAreLocal, PlansAreLocal}
 use Rattle.move_ops.specs.Insertion.{of_vehicle}
-
--- the stop is in the next list, or in those behind it
-pub has_stop_more : (lists : List (List ℕ)) (k n : ℕ) → k < length lists → has_stop (drop k lists) n ≡ has (get_or lists k []) n || has_stop (drop (k + 1) lists) n
-has_stop_more lists k n within =
-    ap (λ ls. has_stop ls n) (drop_more lists k [] within) ∙ list_any-append (nat_eq n) (get_or lists k []) (concat (drop (k + 1) lists))
 
 all_front : {X : Type 0} (P : X → Type 0) (xs : List X) (k : ℕ) → AllByRecursion P xs → AllByRecursion P (take k xs)
 all_front P xs zero all = tt

@@ -1,5 +1,5 @@
 -- A request that is put into a plan is planned there, beside all that were planned before; so the plan costs less.
-use Rattle.std.proofs.Common.{◌≡◌, ℕ, zero, suc, ◌+◌, ◌-◌, ◌<◌, ◌≤◌, ◌||◌, Bool, true, false, cond, not, List, [], ◌∷◌, length, take, drop, Option, Some, None, unwrap_or, slice_get, refl, sym, ap, subst, ◌∙◌, inl, inr, arith, nat_lt, IsTrue}
+use Rattle.std.proofs.Common.{◌≡◌, ℕ, ◌+◌, ◌<◌, ◌||◌, Bool, true, false, not, List, [], ◌∷◌, length, Option, Some, None, unwrap_or, refl, sym, ap, subst, ◌∙◌, inl, inr, arith, nat_lt, IsTrue}
 use Rattle.std.specs.List.{concat}
 use Rattle.std.specs.Option.{option_and_then}
 use Rattle.std.proofs.lemmas.Bool.{and_parts, leb-true, lt-ltb, or_left, or_right, or_cases, not-true}
@@ -9,52 +9,23 @@ use Rattle.plan_types.specs.declared.requests.Request.{Request}
 use Rattle.plan_types.specs.declared.requests.Request.TheVariants.{Single, Pair}
 use Rattle.route_sched.specs.Cost.{has_stop, is_planned, unplanned_count, cost_of}
 use Rattle.plan_audit.specs.Passes.{passes}
-use Rattle.move_ops.specs.Insertion.{Insertion, request_named, of_vehicle, passing, put_at, inserted, with_request_at, is_place_of, best_insertion, put_in}
-use Rattle.seeded_search.specs.Steps.{placed, placed_all}
-use Rattle.command_core.proofs.CountLemmas.{none_some, some_same, one_here, times, times-append, times_split, had_stands, stands_had, times_replaced, found, count_less}
+use Rattle.move_ops.specs.Insertion.{Insertion, request_named, of_vehicle, passing, inserted, with_request_at, is_place_of, best_insertion, put_in}
+use Rattle.move_ops.specs.Drafts.{placed}
+use Rattle.move_ops.proofs.Counting.{planned_where}
+use Rattle.move_ops.proofs.Fitting.{had_often, often_had}
+use Rattle.move_ops.proofs.Inserting.{numbers_of, times_inserted}
+use Rattle.move_ops.proofs.Replacing.{times_with}
+use Rattle.move_ops.proofs.Times.{some_same, times}
+use Rattle.seeded_search.specs.Steps.{placed_all}
+use Rattle.seeded_search.proofs.WalkLemmas.{and_then_some, then_some}
+use Rattle.command_core.proofs.CountLemmas.{count_less}
 
--- what a chain of options gives
-and_then_some : {X Y : Type 0} (f : X → Option Y) (o : Option X) (y : Y) → option_and_then f o ≡ Some y → (x : X) × (o ≡ Some x) × (f x ≡ Some y)
-and_then_some f None y is = absurd (none_some y is)
-and_then_some f (Some x) y is = (x, refl, is)
-
-then_some : {X : Type 0} (b : Bool) (o : Option X) (y : X) → cond b o None ≡ Some y → (b ≡ true) × (o ≡ Some y)
-then_some true o y is = (refl, is)
-then_some false o y is = absurd (none_some y is)
-
--- a stop more in a route
-times_put : (n i m : ℕ) (route : List ℕ) → times n (put_at route i m) ≡ times n (m ∷ []) + times n route
-times_put n i m route =
-    let e = times-append n (take (i - 1) route) (m ∷ drop (i - 1) route) in
-    let f = times_split n (i - 1) route in
-    omega arith
-
--- the numbers of a request
-abbrev numbers_of : Request → List ℕ
-numbers_of (Single s) = s.number ∷ []
-numbers_of (Pair a b) = a.number ∷ b.number ∷ []
-
-times_inserted : (n : ℕ) (r : Request) (i j : ℕ) (route : List ℕ) → times n (inserted r i j route) ≡ times n (numbers_of r) + times n route
-times_inserted n (Single s) i j route = times_put n i s.number route
-times_inserted n (Pair a b) i j route =
-    let e = times_put n j b.number (put_at route i a.number) in
-    let f = times_put n i a.number route in
-    omega arith
-
--- the vehicle's route is one of the plan's
-own_route : (routes : List (List ℕ)) (v : ℕ) → 1 ≤ v → v ≤ length routes → slice_get routes (v - 1) ≡ Some (of_vehicle routes v)
-own_route routes zero from to = absurd (omega arith)
-own_route routes (suc k) from to =
-    let t = found routes k (omega arith) in
-    let e : suc k - 1 ≡ k = omega arith in
-    rw e (t.1 ∙ ap Some (sym (ap (λ o. unwrap_or o []) t.1)))
-
-times_with : (n : ℕ) (pins routes : List (List ℕ)) (r : Request) (x : Insertion) → is_place_of pins routes r x ≡ true → times n (concat (with_request_at routes r x)) ≡ times n (numbers_of r) + times n (concat routes)
-times_with n pins routes r x at =
+-- how often numbers stand with a request put in
+times_then : (n : ℕ) (pins routes : List (List ℕ)) (r : Request) (x : Insertion) → is_place_of pins routes r x ≡ true → times n (concat (with_request_at routes r x)) ≡ times n (numbers_of r) + times n (concat routes)
+times_then n pins routes r x at =
     let a = and_parts _ _ at in
     let b = and_parts _ _ a.1 in
-    let own = own_route routes x.0 (leb-true 1 x.0 a.0) (leb-true x.0 (length routes) b.0) in
-    let e = times_replaced n routes (x.0 - 1) (of_vehicle routes x.0) (inserted r x.1 x.2 (of_vehicle routes x.0)) own in
+    let e = times_with n routes x.0 (inserted r x.1 x.2 (of_vehicle routes x.0)) (leb-true 1 x.0 a.0) (leb-true x.0 (length routes) b.0) in
     let f = times_inserted n r x.1 x.2 (of_vehicle routes x.0) in
     omega arith
 
@@ -63,7 +34,7 @@ module _ (p : Instance) (pins routes : List (List ℕ)) (r : Request) (x : Inser
   new = with_request_at routes r x
 
   stop_kept : (n : ℕ) → has_stop routes n ≡ true → has_stop new n ≡ true
-  stop_kept n had = let h = had_stands n (concat routes) had in let e = times_with n pins routes r x at in stands_had n (concat new) (omega arith)
+  stop_kept n had = let h = had_often (concat routes) n had in let e = times_then n pins routes r x at in often_had (concat new) n (omega arith)
 
   planned_kept : (s : Request) → is_planned routes s ≡ true → is_planned new s ≡ true
   planned_kept (Single s) had = elim (or_cases (has_stop routes s.number) false had) [
@@ -79,11 +50,7 @@ module _ (p : Instance) (pins routes : List (List ℕ)) (r : Request) (x : Inser
   ]
 
   planned_now : is_planned new r ≡ true
-  planned_now = by r refl
-    where
-      by : (q : Request) → q ≡ r → is_planned new q ≡ true
-      by (Single s) same = or_left (has_stop new s.number) false (stands_had s.number (concat new) (let e = times_with s.number pins routes r x at in let f : times s.number (numbers_of r) ≡ times s.number (s.number ∷ []) = ap (λ q. times s.number (numbers_of q)) (sym same) in let g = one_here s.number s.number refl in omega arith))
-      by (Pair a b) same = or_left (has_stop new a.number) (has_stop new b.number || false) (stands_had a.number (concat new) (let e = times_with a.number pins routes r x at in let f : times a.number (numbers_of r) ≡ times a.number (a.number ∷ b.number ∷ []) = ap (λ q. times a.number (numbers_of q)) (sym same) in let g = one_here a.number a.number refl in omega arith))
+  planned_now = planned_where new r (λ n. let e = times_then n pins routes r x at in omega arith)
 
   unplanned_less : (name : ℕ) → request_named p name ≡ Some r → is_planned routes r ≡ false → unplanned_count p new < unplanned_count p routes
   unplanned_less name named unplanned =
@@ -136,15 +103,3 @@ module _ (total : CostsAreTotal) (transitive : CostsAreTransitive) (below : Belo
   placed_all_cost (name ∷ names) routes =
       transitive (cost_of p (placed_all p pins (placed p pins routes name) names)) (cost_of p (placed p pins routes name)) (cost_of p routes)
       (placed_all_cost names (placed p pins routes name)) (placed_cost routes name)
-
-module _ (p : Instance) (pins : List (List ℕ)) where
-  pub placed_passes : (routes : List (List ℕ)) (name : ℕ) → passes p pins routes ≡ true → passes p pins (placed p pins routes name) ≡ true
-  placed_passes routes name pass = by (option_and_then (put_in p pins routes name) (best_insertion p pins routes name)) refl
-    where
-      by : (o : Option (List (List ℕ))) → option_and_then (put_in p pins routes name) (best_insertion p pins routes name) ≡ o → passes p pins (unwrap_or o routes) ≡ true
-      by None e = pass
-      by (Some y) e = let t = and_then_some (put_in p pins routes name) (best_insertion p pins routes name) y e in (put_in_gives p pins routes name t.0 y t.2).4
-
-  pub placed_all_passes : (names : List ℕ) (routes : List (List ℕ)) → passes p pins routes ≡ true → passes p pins (placed_all p pins routes names) ≡ true
-  placed_all_passes [] routes pass = pass
-  placed_all_passes (name ∷ names) routes pass = placed_all_passes names (placed p pins routes name) (placed_passes routes name pass)

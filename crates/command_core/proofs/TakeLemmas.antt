@@ -1,8 +1,9 @@
 -- What withdrawing a request leaves passes in the problem without it.
-use Rattle.std.proofs.Common.{◌≡◌, ℕ, suc, ◌≤◌, Bool, true, false, cond, not, ◌||◌, List, [], ◌∷◌, length, Option, Some, None, is_some, refl, sym, ap, subst, ◌∙◌, inl, inr, eqb, nat_eq, arith}
+use Rattle.std.proofs.Common.{◌≡◌, ℕ, suc, ◌≤◌, Bool, true, false, cond, not, ◌||◌, List, [], ◌∷◌, length, Option, Some, None, is_some, IsSome, refl, sym, ap, subst, ◌∙◌, inl, inr, eqb, nat_eq, arith}
 use Rattle.std.specs.List.{AllByRecursion, list_all, concat, starts_with}
 use Rattle.std.specs.Option.{option_map, option_or, option_map_or}
 use Rattle.std.proofs.lemmas.Bool.{and_parts, and_from, or_left, or_right, or_cases, eq-eqb, eqb-true}
+use Rattle.std.proofs.lemmas.List.Elements.{recursion_from_All}
 use Rattle.plan_types.specs.Request.{request_name, stop_in}
 use Rattle.plan_types.specs.Instance.{Instance, IsInstance, first_some, stop_at, request_with, name_at, without_request}
 use Rattle.plan_types.specs.Laws.{RequestsStandByName, TakeKeepsOthers}
@@ -10,13 +11,16 @@ use Rattle.plan_types.specs.declared.requests.Stop.{Stop}
 use Rattle.plan_types.specs.declared.requests.Request.{Request}
 use Rattle.plan_types.specs.declared.requests.Request.TheVariants.{Single, Pair}
 use Rattle.route_sched.specs.Cost.{has_stop, is_planned}
-use Rattle.route_sched.specs.Route.{IsLive}
+use Rattle.route_sched.specs.Route.{IsLive, AreLiveOnce}
 use Rattle.plan_audit.specs.Passes.{has, begin_with_pins, feasible_alone, passes}
 use Rattle.plan_audit.specs.Locality.{FeasibilityIsLocal}
 use Rattle.move_ops.specs.Insertion.{request_named}
 use Rattle.move_ops.specs.Moves.{is_of_named}
 use Rattle.command_core.specs.Effects.{serves, route_without, route_left, routes_left}
-use Rattle.command_core.proofs.CountLemmas.{none_some, some_same, times, times-append, stands_had, at_most_once, distinct_from, all_standing, all_split, all_joined, times_filter, times_front}
+use Rattle.move_ops.proofs.Fitting.{often_had}
+use Rattle.move_ops.proofs.Removing.{times_kept}
+use Rattle.move_ops.proofs.Times.{none_some, some_same, times, times-append, once_few, once_from}
+use Rattle.command_core.proofs.CountLemmas.{standing, at_most_once, distinct_from, all_standing, all_split, all_joined, times_front}
 use Rattle.command_core.proofs.PassLemmas.{parts_of, from_parts, Agree, feasible_same, all_feasible_same, live_same}
 
 -- a list of the request's numbers plans it
@@ -92,7 +96,7 @@ module _ (p : Instance) (name : ℕ) (valid : IsInstance p) where
     where
       by : (n : ℕ) → 1 ≤ times n (concat pins) → (b : Bool) → is_of_named p (name ∷ []) n ≡ b → b ≡ false
       by n stands false e = refl
-      by n stands true e = absurd (let h : true ≡ false = sym (planned_by pins r n (name_found law r named n (named_of n e)) (stands_had n (concat pins) stands)) ∙ free in cc)
+      by n stands true e = absurd (let h : true ≡ false = sym (planned_by pins r n (name_found law r named n (named_of n e)) (often_had (concat pins) n stands)) ∙ free in cc)
 
   -- of a route whose vehicle doesn't serve the request
   others_all : (route : List ℕ) → serves p name route ≡ false → AllByRecursion IsOther route
@@ -152,7 +156,7 @@ module _ (p : Instance) (name : ℕ) (valid : IsInstance p) where
         by false b e f =
             let kept = kept_all route live (others_all route e) in
             record { kept = kept; fewer = λ n. omega arith; feasible = same_feasible route kept feasible; begins = begins }
-        by true true e f = record { kept = kept_without route live; fewer = λ n. times_filter (λ m. not (is_of_named p (name ∷ []) m)) n route; feasible = f; begins = begins_without route pin begins pin_other }
+        by true true e f = record { kept = kept_without route live; fewer = λ n. times_kept n (λ m. not (is_of_named p (name ∷ []) m)) route; feasible = f; begins = begins_without route pin begins pin_other }
         by true false e f = record { kept = pin_kept; fewer = λ n. times_front n route pin begins; feasible = same_feasible pin pin_kept pin_feasible; begins = begins_itself pin }
 
   -- what the routes become
@@ -216,3 +220,16 @@ module _ (p : Instance) (name : ℕ) (valid : IsInstance p) where
 
       pub pins_still_feasible : list_all (feasible_alone (without_request p name)) pins ≡ true
       pins_still_feasible = sym (all_feasible_same p (without_request p name) IsKept (agree others) law pins (kept_lists pins pins_live other)) ∙ pins_feasible
+
+-- what is left of a route is live once where the request is taken out
+pub without_once : TakeKeepsOthers → (p : Instance) (name : ℕ) → IsInstance p → (route : List ℕ) → AreLiveOnce p route → AreLiveOnce (without_request p name) (route_without p name route)
+without_once others p name valid route once =
+    let q = without_request p name in
+    let rest = route_without p name route in
+    let kept = kept_without p name valid route (recursion_from_All (IsLive p) route (once.live)) in
+    once_from q rest
+    (λ n. let e = times_kept n (λ m. not (is_of_named p (name ∷ []) m)) route in let f = once_few p route once n in omega arith)
+    (λ n some. (
+    let here = standing (IsKept p name valid) rest kept n some in
+    let same = (agree p name valid others).same n here in
+    subst (λ o. IsSome o) (sym (same.stop)) here.0))

@@ -11,4 +11,3 @@ pub mod Wishes
 pub mod Fields
 pub mod Kept
 pub mod Marks
-pub mod Passing

@@ -34,7 +34,7 @@ pub(crate) fn is_planned(lists: &[Route], request: &Request) -> bool
     }
 }
 
-#[tactic(auto, using(crate::proofs::ListLemmas::has_stop_more))]
+#[tactic(auto, using(move_ops::proofs::Times::has_stop_more))]
 fn has_stop(lists: &[Route], number: u32) -> bool
     ensures { result ≡ has_stop lists.now number }
 {
@@ -52,7 +52,7 @@ fn is_in(list: &[u32], number: u32) -> bool
     list.contains(&number)
 }
 
-/// Whether the route is feasible alone.
+/// Whether the route is feasible alone. Takes no memory; each pair is looked for in the whole route, so the time is quadratic in it.
 pub(crate) fn is_feasible(problem: &Problem, route: &[u32]) -> bool
     requires { AreLiveOnce problem.now route.now }
     ensures { result ≡ feasible_alone problem.now route.now }

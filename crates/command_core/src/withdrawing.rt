@@ -1,29 +1,22 @@
 //! What is left of a job once a request is withdrawn.
-//!
-//! Whether the rest of a route is feasible is asked of an audit of that route alone, in time linear in the problem:
-//! `route_fault`, which takes no memory, is quadratic in the route.
 ghost use Rattle.std.specs.Prelude.{◌≡◌, None, [], ◌∷◌, All, length, IfOk, IfErr};
 ghost use Rattle.plan_types.specs.Instance.{IsInstance, without_request};
 ghost use Rattle.route_sched.specs.Route.{AreLiveOnce};
-ghost use Rattle.plan_audit.specs.Passes.{feasible_alone};
 ghost use Rattle.move_ops.specs.Moves.{is_of_named};
-ghost use Rattle.command_core.specs.Passing.{is_pass};
 ghost use Rattle.command_core.specs.Effects.{serves, route_without, route_left, routes_left, withdrawn};
 ghost use Rattle.command_core.specs.Refusing.{job_refusal};
 
 use crate::commands::Command;
 use crate::laws::effects_keep_facts;
-use crate::lists::no_stops;
+use crate::lists::is_feasible;
 use crate::refusals::Refusal;
 use crate::states::Job;
-use plan_audit::{
-    Verdict, audit, passes_are_local, plans_are_local, tests_say_pass, verdicts_are_unique,
-};
-use plan_types::{OutOfMemory, Pins, Plan, Problem, Route, Routes, take_removes_one_request};
+use plan_audit::{passes_are_local, plans_are_local};
+use plan_types::{OutOfMemory, Plan, Problem, Route, Routes, take_removes_one_request};
 use std::alloc::Global;
 
-/// The request is taken out, of the problem and of the plan. Where its route is then not feasible, the route becomes its pin. Takes time
-/// linear in the problem and the plan.
+/// The request is taken out, of the problem and of the plan. Where its route is then not feasible, the route becomes its pin. Time is
+/// linear in the problem and the plan, but for that route's pairs, which `is_feasible` looks for.
 pub(crate) fn withdraw(alloc: Global, job: &Job, name: u32) -> Result<Job, Refusal>
     requires { job_refusal job.now (Command.Withdraw name) ≡ None }
     ensures ok { IfOk result (λ new. new ≡ withdrawn job.now name) }
@@ -110,7 +103,7 @@ fn route_left(
         return route.copy();
     }
     let rest = route_without(alloc, problem, name, route.as_slice())?;
-    if is_feasible(alloc, without, rest.copy()?)? {
+    if is_feasible(without, rest.as_slice()) {
         return Ok(rest);
     }
     pin.copy()
@@ -147,30 +140,5 @@ fn is_of(problem: &Problem, name: u32, number: u32) -> bool
     match problem.name_of(number) {
         Some(found) => found == name,
         None => false,
-    }
-}
-
-// Whether the stops are a feasible route. Asks an audit of the vehicles with no other route, which takes time linear in the problem.
-fn is_feasible(alloc: Global, problem: &Problem, route: Route) -> Result<bool, OutOfMemory>
-    requires { AreLiveOnce problem.now route }
-    ensures { IfOk result (λ b. b ≡ feasible_alone problem.now route) }
-{
-    tests_say_pass();
-    verdicts_are_unique();
-    let mut routes = no_stops(alloc, problem.fleet)?;
-    routes.set(0, route);
-    let pins = Pins {
-        routes: Routes::new(alloc),
-    };
-    let plan = Plan { routes };
-    Ok(is_pass(audit(alloc, problem, &pins, &plan)?))
-}
-
-fn is_pass(verdict: Verdict) -> bool
-    ensures { result ≡ is_pass verdict }
-{
-    match verdict {
-        Verdict::Pass(_) => true,
-        Verdict::Broken { .. } => false,
     }
 }

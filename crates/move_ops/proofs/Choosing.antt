@@ -62,7 +62,7 @@ to_places (Pair c d) kept n i j t =
     let above = ltb-true kept i a.0 in
     ((omega arith, ltb-true i j b.0, leb-true j (n + 2) b.1), above)
 
-from_places : (q : Request) (kept n i j : ℕ) → ArePlaces q n i j → kept < i → are_places q kept n i j ≡ true
+pub from_places : (q : Request) (kept n i j : ℕ) → ArePlaces q n i j → kept < i → are_places q kept n i j ≡ true
 from_places (Single s) kept n i j places above =
     and_from (ltb kept i) (leb i (n + 1) && eqb i j) (lt-ltb kept i above) (and_from (leb i (n + 1)) (eqb i j) (le-leb i (n + 1) places.1) (eq-eqb i j (sym places.2)))
 from_places (Pair c d) kept n i j places above =
@@ -147,7 +147,7 @@ module _ (law : NamedAreFound) (stand : RequestsStandByName) (local : PassesAreL
       by a b le = omega (arith, ints)
 
 -- ---- lengths
-insert_long : (xs : List ℕ) (k m : ℕ) → length (insert xs k m) ≡ length xs + 1
+pub insert_long : (xs : List ℕ) (k m : ℕ) → length (insert xs k m) ≡ length xs + 1
 insert_long xs k m = let e = length-append (take k xs) (m ∷ drop k xs) in let f = length-append (take k xs) (drop k xs) in let g = ap length (take-append-drop k xs) in let h : length (m ∷ drop k xs) ≡ length (drop k xs) + 1 = omega arith in omega arith
 
 few_more : (q : Request) (i j : ℕ) (route : List ℕ) → length (inserted q i j route) ≤ length route + 2

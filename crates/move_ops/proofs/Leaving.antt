@@ -101,7 +101,7 @@ module _ (found : NamedAreFound) (by_name : RequestsStandByName) (p : Instance) 
 
   -- the stops of one name more
   module _ (name : ℕ) (names : List ℕ) (r : Request) (at : lookup (nat_eq name) p.requests ≡ Some r) where
-    others_as : (m : ℕ) → times m (numbers_of r) ≡ 0 → is_of_named p (name ∷ names) m ≡ is_of_named p names m
+    pub others_as : (m : ℕ) → times m (numbers_of r) ≡ 0 → is_of_named p (name ∷ names) m ≡ is_of_named p names m
     others_as m none = by (name_at p m) refl
       where
         by : (o : Option ℕ) → name_at p m ≡ o → option_map_or (has (name ∷ names)) o false ≡ option_map_or (has names) o false
@@ -111,13 +111,13 @@ module _ (found : NamedAreFound) (by_name : RequestsStandByName) (p : Instance) 
           | inr t ↦ rw t.0 refl
         ]
 
-    stops_of_it : (m : ℕ) → 1 ≤ times m (numbers_of r) → is_of_named p (name ∷ names) m ≡ true
+    pub stops_of_it : (m : ℕ) → 1 ≤ times m (numbers_of r) → is_of_named p (name ∷ names) m ≡ true
     stops_of_it m some = ap (λ o. option_map_or (has (name ∷ names)) o false) (is_named name m r at some) ∙ rw (eq-eqb name name refl) refl
 
     stops_not_of : has names name ≡ false → (m : ℕ) → 1 ≤ times m (numbers_of r) → is_of_named p names m ≡ false
     stops_not_of fresh m some = ap (λ o. option_map_or (has names) o false) (is_named name m r at some) ∙ fresh
 
-    gone_now : (routes : List (List ℕ)) → is_planned (without_named p (name ∷ names) routes) r ≡ false
+    pub gone_now : (routes : List (List ℕ)) → is_planned (without_named p (name ∷ names) routes) r ≡ false
     gone_now routes = by r (λ m some. named_gone p (name ∷ names) routes (without_named p (name ∷ names) routes) refl m (stops_of_it m some))
       where
         by : (q : Request) → ((m : ℕ) → 1 ≤ times m (numbers_of q) → has_stop (without_named p (name ∷ names) routes) m ≡ false) → is_planned (without_named p (name ∷ names) routes) q ≡ false
@@ -150,7 +150,7 @@ module _ (found : NamedAreFound) (by_name : RequestsStandByName) (p : Instance) 
         | inr t ↦ rw t.0 refl
       ]
 
-  none_named : (m : ℕ) → is_of_named p [] m ≡ false
+  pub none_named : (m : ℕ) → is_of_named p [] m ≡ false
   none_named m = by (name_at p m)
     where
       by : (o : Option ℕ) → option_map_or (has []) o false ≡ false

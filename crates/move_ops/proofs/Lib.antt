@@ -25,6 +25,7 @@ pub mod Places
 pub mod Placing
 pub mod Pricing
 pub mod Putting
+pub mod PuttingBack
 pub mod Refreshing
 pub mod Removing
 pub mod Replacing

@@ -1,9 +1,9 @@
 //! What the best insertion is: the least by a test that compares costs and then places. The list of insertions rises, but
-//! nothing rests on that.
-ghost use Rattle.move_ops.specs.Laws.{BestInsertionsAreLeast, BestInsertionsAreUnique, InsertionsCanBePutIn, LimitsAreRules, PlansPassWithoutPins};
+//! nothing rests on that. A request that is taken out has one, since it fits where it was.
+ghost use Rattle.move_ops.specs.Laws.{BestInsertionsAreLeast, BestInsertionsAreUnique, InsertionsCanBePutIn, LimitsAreRules, PlansPassWithoutPins, RelocationsNeverCostMore, RequestsKeepTheirPlaces};
 
-use plan_audit::passes_are_local;
-use plan_types::costs_are_in_order;
+use plan_audit::{a_passing_plan_is_sound, passes_are_local, tests_say_pass};
+use plan_types::{costs_are_in_order, requests_are_found_by_stop, requests_stand_by_name};
 
 /// The best insertion of a request is one of its insertions, and no other costs less, or as much at an earlier vehicle, pickup place or
 /// delivery place. There is none exactly where the request has no insertion.
@@ -24,6 +24,30 @@ pub fn best_insertions_are_unique()
 pub fn insertions_can_be_put_in()
     ensures { InsertionsCanBePutIn }
 {}
+
+/// A request that is taken out of a plan that passes can be put in where it was, which gives the old plan.
+pub fn requests_keep_their_places()
+    ensures { RequestsKeepTheirPlaces }
+{
+    requests_are_found_by_stop();
+    requests_stand_by_name();
+    passes_are_local();
+    a_passing_plan_is_sound();
+    tests_say_pass();
+}
+
+/// So it has a best insertion, at which `Draft::place` puts it, and the plan then costs no more than before.
+pub fn relocations_never_cost_more()
+    ensures { RelocationsNeverCostMore }
+{
+    requests_are_found_by_stop();
+    requests_stand_by_name();
+    passes_are_local();
+    a_passing_plan_is_sound();
+    tests_say_pass();
+    best_insertions_are_least();
+    costs_are_in_order();
+}
 
 /// A plan that passes with its pins passes with none.
 pub fn plans_pass_without_pins()

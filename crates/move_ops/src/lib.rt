@@ -14,7 +14,7 @@
 //! - `pairing`, `tour`, `tours`, `changes`: a route with its table, and what is asked of a new one.
 //! - `seats`, `naming`: where to look for a stop, and the request of a name.
 //! - `tables`: the best insertion, by a table for each vehicle.
-//! - `laws`: what the best insertion is, without code.
+//! - `laws`: what the best insertion is, and that a request which is taken out has one, without code.
 //!
 //! Specs: `Insertion` and `Moves` name the plan of each move, `Tables` and `Drafts` say what is kept, `Laws`
 //! what the best insertion is; the others follow the modules.
@@ -37,8 +37,9 @@
 //!   `placed`), `cost` is what it costs, `take` makes it the base and `drop_draft` forgets it, without
 //!   memory;
 //! - the laws: the best insertion is the least and the only one; the list of insertions holds those that can
-//!   be put in and no others; a plan that passes with its pins passes without them; the limits of which tables
-//!   speak are the auditor's rules on load and time.
+//!   be put in and no others; a request that is taken out fits where it was, and relocated the plan costs no
+//!   more; a plan that passes with its pins passes without them; the limits of which tables speak are the
+//!   auditor's rules on load and time.
 #![tactic(auto)]
 
 mod changes;
@@ -59,7 +60,8 @@ mod tours;
 pub use draft::Draft;
 pub use laws::{
     best_insertions_are_least, best_insertions_are_unique, insertions_can_be_put_in,
-    limits_are_rules, plans_pass_without_pins,
+    limits_are_rules, plans_pass_without_pins, relocations_never_cost_more,
+    requests_keep_their_places,
 };
 pub use plan_moves::{best_insertion, exchange, insert_at, remove, two_opt_star};
 pub use tables::Tables;

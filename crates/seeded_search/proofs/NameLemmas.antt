@@ -12,14 +12,9 @@ use Rattle.route_sched.specs.Cost.{is_planned, unplanned_count}
 use Rattle.move_ops.specs.Insertion.{of_vehicle}
 use Rattle.move_ops.specs.Drafts.{AreIdleBehind}
 use Rattle.move_ops.specs.Moves.{is_movable}
+use Rattle.move_ops.proofs.Times.{none_some, some_same}
 use Rattle.seeded_search.specs.Names.{name_where, names_where}
 use Rattle.seeded_search.specs.Steps.{movable_names, unplanned_names}
-
-none_some : {X : Type 0} (x : X) → None ≡ Some x → ⊥
-none_some x h = cc
-
-some_same : {X : Type 0} (x y : X) → Some x ≡ Some y → x ≡ y
-some_same x y h = cc
 
 module _ (test : Request → Bool) where
   -- the names of a list, by its first request

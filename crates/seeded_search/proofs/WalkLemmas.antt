@@ -3,37 +3,33 @@ use Rattle.std.proofs.Common.{◌≡◌, ℕ, zero, suc, ◌+◌, ◌-◌, ◌<�
 use Rattle.std.specs.Option.{option_map, option_and_then}
 use Rattle.std.proofs.lemmas.Bool.{cond_both, cases_lt, cases_order, eqb-true, eq-eqb, leb-true, le-leb, lt-ltb, not_from_true, or_cases, or_left, or_right, and_parts, and_from, both_ways}
 use Rattle.plan_types.specs.Cost.{cost_below, cost_at_most, CostsAreTotal, CostsAreTransitive, BelowIsAtMost}
-use Rattle.plan_types.specs.Instance.{Instance}
+use Rattle.plan_types.specs.Instance.{Instance, IsInstance}
 use Rattle.plan_types.specs.declared.plans.Cost.{Cost}
 use Rattle.route_sched.specs.Cost.{cost_of}
 use Rattle.plan_audit.specs.Passes.{passes}
 use Rattle.move_ops.specs.Insertion.{Insertion, request_named, passing, best_insertion, put_in}
+use Rattle.move_ops.specs.Laws.{RelocationsNeverCostMore}
 use Rattle.move_ops.specs.Moves.{removed, exchanged, crossed}
+use Rattle.move_ops.proofs.Times.{none_some, some_same}
 use Rattle.seeded_search.specs.Words.{pick, step_words}
-use Rattle.seeded_search.specs.Steps.{picked, movable_names, unplanned_names, placed, placed_all, relocated, exchanged_by, used_vehicles, cut_by, crossed_by, ruined_names, recreated_by, candidate, Walked, has_less_pair, has_same_pair, is_near, moved_on, moved_on_by, step, steps, walked}
-use Rattle.move_ops.specs.Drafts.{AreIdleBehind, Drafted, base_of, draft_of, IsMade}
+use Rattle.seeded_search.specs.Steps.{picked, movable_names, unplanned_names, placed_all, relocated, exchanged_by, used_vehicles, cut_by, crossed_by, ruined_names, recreated_by, candidate, Walked, has_less_pair, has_same_pair, is_near, moved_on, moved_on_by, step, steps, walked}
+use Rattle.move_ops.specs.Drafts.{placed, AreIdleBehind, Drafted, base_of, draft_of, IsMade}
 use Rattle.seeded_search.specs.Working.{AreListsOf, IsWalk, HasTaken}
 use Rattle.seeded_search.specs.declared.walk.Walk.{Walk}
 use Rattle.plan_types.specs.declared.plans.Plan.{Plan}
-use Rattle.seeded_search.specs.StepLaws.{StepsAddUp, BothPass, StepsKeepPassing, IncumbentsNeverCostMore, WorksNear, WorkingStaysNear}
-
-none_some : {X : Type 0} (x : X) → None ≡ Some x → ⊥
-none_some x h = cc
-
-some_same : {X : Type 0} (x y : X) → Some x ≡ Some y → x ≡ y
-some_same x y h = cc
+use Rattle.seeded_search.specs.StepLaws.{RelocatedNeverCostMore, StepsAddUp, BothPass, StepsKeepPassing, IncumbentsNeverCostMore, WorksNear, WorkingStaysNear}
 
 -- what a chain of options gives
-and_then_some : {X Y : Type 0} (f : X → Option Y) (o : Option X) (y : Y) → option_and_then f o ≡ Some y → (x : X) × (f x ≡ Some y)
+pub and_then_some : {X Y : Type 0} (f : X → Option Y) (o : Option X) (y : Y) → option_and_then f o ≡ Some y → (x : X) × (o ≡ Some x) × (f x ≡ Some y)
 and_then_some f None y is = absurd (none_some y is)
-and_then_some f (Some x) y is = (x, is)
+and_then_some f (Some x) y is = (x, refl, is)
 
 map_some : {X Y : Type 0} (f : X → Y) (o : Option X) (y : Y) → option_map f o ≡ Some y → (x : X) × (o ≡ Some x) × (f x ≡ y)
 map_some f None y is = absurd (none_some y is)
 map_some f (Some x) y is = (x, refl, some_same (f x) y is)
 
-then_some : {X : Type 0} (b : Bool) (o : Option X) (y : X) → cond b o None ≡ Some y → o ≡ Some y
-then_some true o y is = is
+pub then_some : {X : Type 0} (b : Bool) (o : Option X) (y : X) → cond b o None ≡ Some y → (b ≡ true) × (o ≡ Some y)
+then_some true o y is = (refl, is)
 then_some false o y is = absurd (none_some y is)
 
 else_some : {X : Type 0} (b : Bool) (o : Option X) (y : X) → cond b None o ≡ Some y → o ≡ Some y
@@ -52,26 +48,26 @@ module _ (p : Instance) (pins : List (List ℕ)) where
       by false e is = absurd (none_some y is)
 
   put_in_passes : (routes : List (List ℕ)) (name : ℕ) (x : Insertion) (y : List (List ℕ)) → put_in p pins routes name x ≡ Some y → Passes y
-  put_in_passes routes name x y is = let t = and_then_some _ (request_named p name) y is in passing_gives _ y (then_some _ _ y t.1)
+  put_in_passes routes name x y is = let t = and_then_some _ (request_named p name) y is in passing_gives _ y (then_some _ _ y t.2).1
 
   pub removed_passes : (routes : List (List ℕ)) (names : List ℕ) (y : List (List ℕ)) → removed p pins routes names ≡ Some y → Passes y
-  removed_passes routes names y is = passing_gives _ y (then_some _ _ y is)
+  removed_passes routes names y is = passing_gives _ y (then_some _ _ y is).1
 
   pub exchanged_passes : (routes : List (List ℕ)) (a b : ℕ) (y : List (List ℕ)) → exchanged p pins routes a b ≡ Some y → Passes y
   exchanged_passes routes a b y is =
       let t = and_then_some _ (request_named p a) y (else_some (eqb a b) _ y is) in
-      let u = and_then_some _ (request_named p b) y t.1 in
-      passing_gives _ y (then_some _ _ y u.1)
+      let u = and_then_some _ (request_named p b) y t.2 in
+      passing_gives _ y (then_some _ _ y u.2).1
 
   crossed_passes : (routes : List (List ℕ)) (a ca b cb : ℕ) (y : List (List ℕ)) → crossed p pins routes a ca b cb ≡ Some y → Passes y
-  crossed_passes routes a ca b cb y is = passing_gives _ y (then_some _ _ y is)
+  crossed_passes routes a ca b cb y is = passing_gives _ y (then_some _ _ y is).1
 
   pub placed_passes : (routes : List (List ℕ)) (name : ℕ) → Passes routes → Passes (placed p pins routes name)
   placed_passes routes name pass = by (option_and_then (put_in p pins routes name) (best_insertion p pins routes name)) refl
     where
       by : (o : Option (List (List ℕ))) → option_and_then (put_in p pins routes name) (best_insertion p pins routes name) ≡ o → Passes (unwrap_or o routes)
       by None e = pass
-      by (Some y) e = let t = and_then_some (put_in p pins routes name) (best_insertion p pins routes name) y e in put_in_passes routes name t.0 y t.1
+      by (Some y) e = let t = and_then_some (put_in p pins routes name) (best_insertion p pins routes name) y e in put_in_passes routes name t.0 y t.2
 
   pub placed_all_passes : (names : List ℕ) (routes : List (List ℕ)) → Passes routes → Passes (placed_all p pins routes names)
   placed_all_passes [] routes pass = pass
@@ -80,14 +76,22 @@ module _ (p : Instance) (pins : List (List ℕ)) where
   relocated_passes : (routes : List (List ℕ)) (w : ℕ) (y : List (List ℕ)) → relocated p pins routes w ≡ Some y → Passes y
   relocated_passes routes w y is =
       let t = and_then_some _ (picked w (movable_names p pins routes)) y is in
-      let u = map_some (λ left. placed p pins left t.0) (removed p pins routes (t.0 ∷ [])) y t.1 in
+      let u = map_some (λ left. placed p pins left t.0) (removed p pins routes (t.0 ∷ [])) y t.2 in
       subst Passes u.2 (placed_passes u.0 t.0 (removed_passes routes (t.0 ∷ []) u.0 u.1))
+
+  -- and it costs no more, with the law of relocations
+  pub relocated_cost : RelocationsNeverCostMore → IsInstance p → (routes : List (List ℕ)) (w : ℕ) (y : List (List ℕ)) → Passes routes → relocated p pins routes w ≡ Some y → IsTrue (cost_at_most (cost_of p y) (cost_of p routes))
+  relocated_cost law valid routes w y pass is =
+      let t = and_then_some _ (picked w (movable_names p pins routes)) y is in
+      let u = map_some (λ left. placed p pins left t.0) (removed p pins routes (t.0 ∷ [])) y t.2 in
+      let all = law p pins routes u.0 t.0 valid pass u.1 in
+      subst (λ (plan : List (List ℕ)). IsTrue (cost_at_most (cost_of p plan) (cost_of p routes))) u.2 (all.cost)
 
   exchanged_by_passes : (routes : List (List ℕ)) (w v : ℕ) (y : List (List ℕ)) → exchanged_by p pins routes w v ≡ Some y → Passes y
   exchanged_by_passes routes w v y is =
       let t = and_then_some _ (picked w (movable_names p pins routes)) y is in
-      let u = and_then_some _ (picked v (movable_names p pins routes)) y t.1 in
-      exchanged_passes routes t.0 u.0 y u.1
+      let u = and_then_some _ (picked v (movable_names p pins routes)) y t.2 in
+      exchanged_passes routes t.0 u.0 y u.2
 
   -- what the words make of the vehicles that they pick
   abbrev second_vehicle : List (List ℕ) → List ℕ → ℕ → ℕ → Option (List (List ℕ))
@@ -99,8 +103,8 @@ module _ (p : Instance) (pins : List (List ℕ)) where
   crossed_by_passes : (routes : List (List ℕ)) (words : List ℕ) (y : List (List ℕ)) → crossed_by p pins routes words ≡ Some y → Passes y
   crossed_by_passes routes words y is =
       let t = and_then_some (first_vehicle routes words) (picked (slice_index words 1) (used_vehicles routes)) y is in
-      let u = and_then_some (second_vehicle routes words t.0) (picked (slice_index words 2) (used_vehicles routes)) y t.1 in
-      crossed_passes routes t.0 (cut_by pins routes t.0 (slice_index words 3)) u.0 (cut_by pins routes u.0 (slice_index words 4)) y u.1
+      let u = and_then_some (second_vehicle routes words t.0) (picked (slice_index words 2) (used_vehicles routes)) y t.2 in
+      crossed_passes routes t.0 (cut_by pins routes t.0 (slice_index words 3)) u.0 (cut_by pins routes u.0 (slice_index words 4)) y u.2
 
   recreated_by_passes : (routes : List (List ℕ)) (words : List ℕ) (y : List (List ℕ)) → recreated_by p pins routes words ≡ Some y → Passes y
   recreated_by_passes routes words y is =
@@ -324,3 +328,6 @@ noted_walk p pins w at is same = record {
 pub made_some : (answer : Option (List (List ℕ))) (made : Bool) (old new : Drafted) → IsMade answer made old new → made ≡ true → answer ≡ Some (draft_of new)
 made_some None made old new h is = absurd (both_ways made h.0 is)
 made_some (Some routes) made old new h is = ap (λ x. Some x) (sym h.1)
+
+pub relocated_never_cost_more : RelocationsNeverCostMore → RelocatedNeverCostMore
+relocated_never_cost_more law p pins routes new word valid good is = relocated_cost p pins law valid routes word new good is

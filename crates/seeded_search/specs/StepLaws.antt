@@ -1,15 +1,20 @@
 -- What the steps of a search keep, for every problem, pins, deviation and seed.
-use Rattle.std.specs.Prelude.{◌≡◌, ℕ, ◌+◌, ◌≤◌, IsTrue, List, true}
+use Rattle.std.specs.Prelude.{◌≡◌, ℕ, ◌+◌, ◌≤◌, IsTrue, List, Some, true}
 use Rattle.plan_types.specs.Cost.{cost_at_most}
-use Rattle.plan_types.specs.Instance.{Instance}
+use Rattle.plan_types.specs.Instance.{Instance, IsInstance}
 use Rattle.route_sched.specs.Cost.{cost_of}
 use Rattle.plan_audit.specs.Passes.{passes}
-use Rattle.seeded_search.specs.Steps.{Walked, steps}
+use Rattle.seeded_search.specs.Steps.{relocated, Walked, steps}
 
 -- law: so many steps and then so many more are all of them at once
 abbrev pub StepsAddUp : Type 0
 StepsAddUp = (p : Instance) (pins : List (List ℕ)) (deviation seed n a b : ℕ) (s : Walked)
     → steps p pins deviation seed n (a + b) s ≡ steps p pins deviation seed (n + a) b (steps p pins deviation seed n a s)
+
+-- law: a request that is relocated from a plan that passes is put in again, and the plan costs no more
+abbrev pub RelocatedNeverCostMore : Type 0
+RelocatedNeverCostMore = (p : Instance) (pins routes new : List (List ℕ)) (word : ℕ)
+    → IsInstance p → passes p pins routes ≡ true → relocated p pins routes word ≡ Some new → IsTrue (cost_at_most (cost_of p new) (cost_of p routes))
 
 -- both plans pass
 pub record BothPass (p : Instance) (pins : List (List ℕ)) (s : Walked) : Type 0 where

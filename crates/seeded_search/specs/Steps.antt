@@ -1,13 +1,14 @@
 -- One step of a search, and many: a random move, and record-to-record travel (Dueck 1993), which walks on from a plan that is a little
 -- worse than the incumbent. A step is a function of the plans, the deviation, the seed and its number alone.
-use Rattle.std.specs.Prelude.{ℕ, zero, suc, ◌+◌, ◌-◌, nat_lt, nat_le, ◌==◌, ◌&&◌, ◌||◌, not, Bool, List, [], ◌∷◌, ◌++◌, length, take, drop, map, filter, fold, slice_get, slice_index, remove, Option, Some, None, unwrap_or, if◌then◌else◌}
+use Rattle.std.specs.Prelude.{ℕ, zero, suc, ◌+◌, ◌-◌, nat_lt, nat_le, ◌==◌, ◌&&◌, ◌||◌, not, Bool, List, [], ◌∷◌, ◌++◌, length, take, drop, map, filter, fold, slice_get, slice_index, remove, Option, Some, None, if◌then◌else◌}
 use Rattle.std.specs.List.{range_with_len}
 use Rattle.std.specs.Option.{option_map, option_and_then}
 use Rattle.plan_types.specs.Cost.{cost_at_most}
 use Rattle.plan_types.specs.Instance.{Instance}
 use Rattle.plan_types.specs.declared.plans.Cost.{Cost}
 use Rattle.route_sched.specs.Cost.{is_planned, cost_of}
-use Rattle.move_ops.specs.Insertion.{of_vehicle, best_insertion, put_in}
+use Rattle.move_ops.specs.Drafts.{placed}
+use Rattle.move_ops.specs.Insertion.{of_vehicle}
 use Rattle.move_ops.specs.Moves.{is_movable, removed, exchanged, crossed}
 use Rattle.seeded_search.specs.Words.{pick, step_words}
 
@@ -38,17 +39,13 @@ module _ (p : Instance) (pins : List (List ℕ)) where
   abbrev pub movable_names : List (List ℕ) → List ℕ
   movable_names routes = map (λ e. e.0) (filter (λ e. is_movable pins routes e.1) p.requests)
 
-  -- the plan with the request at its best insertion, or as it is where it has none
-  abbrev pub placed : List (List ℕ) → ℕ → List (List ℕ)
-  placed routes name = unwrap_or (option_and_then (put_in p pins routes name) (best_insertion p pins routes name)) routes
-
-  -- with several, one after another
+  -- the plan with several requests, one after another, each at its best insertion, or left out where it has none
   abbrev pub placed_all : List (List ℕ) → List ℕ → List (List ℕ)
-  placed_all routes names = fold placed routes names
+  placed_all routes names = fold (placed p pins) routes names
 
   -- relocate: a request is removed, and put at its best insertion
   abbrev pub relocated : List (List ℕ) → ℕ → Option (List (List ℕ))
-  relocated routes w = option_and_then (λ name. option_map (λ left. placed left name) (removed p pins routes (name ∷ []))) (picked w (movable_names routes))
+  relocated routes w = option_and_then (λ name. option_map (λ left. placed p pins left name) (removed p pins routes (name ∷ []))) (picked w (movable_names routes))
 
   -- exchange: two requests take one another's places
   abbrev pub exchanged_by : List (List ℕ) → ℕ → ℕ → Option (List (List ℕ))

@@ -43,7 +43,8 @@
 //!   memory;
 //! - the laws of these: steps add up, however they are cut (`steps_add_up`); plans that pass are walked on to
 //!   such (`steps_keep_passing`); the incumbent never costs more (`incumbents_never_cost_more`); a working
-//!   plan within the deviation stays there (`working_stays_near`).
+//!   plan within the deviation stays there (`working_stays_near`); a relocated plan costs no more than the one
+//!   that it is made of (`relocated_never_cost_more`).
 #![tactic(auto)]
 
 ghost use Rattle.std.specs.Prelude.{◌≡◌, ◌<◌, ◌≤◌};
@@ -59,8 +60,8 @@ mod stream;
 mod walk;
 
 pub use laws::{
-    incumbents_never_cost_more, picks_are_even, steps_add_up, steps_are_blocks, steps_keep_passing,
-    working_stays_near,
+    incumbents_never_cost_more, picks_are_even, relocated_never_cost_more, steps_add_up,
+    steps_are_blocks, steps_keep_passing, working_stays_near,
 };
 pub use lists::Lists;
 pub use operators::place_all;

@@ -1,8 +1,8 @@
 //! The candidates that the words of a step make of a plan: the first word picks one of four operators.
 //!
 //! By the definition a request that is removed and has no insertion stays unplanned. Where one request alone
-//! is taken out, its old place should always be one, since the plan that it is taken from passes; no law says
-//! so yet.
+//! is taken out, its old place is always one, so that a relocated request is put in again, and the plan costs
+//! no more (`relocated_never_cost_more`).
 ghost use Rattle.std.specs.Prelude.{◌≡◌, ◌+◌, IfOk, OnOk, take, drop, slice_index};
 ghost use Rattle.seeded_search.specs.Words.{pick};
 ghost use Rattle.move_ops.specs.Drafts.{base_of, draft_of, IsDraftOf, IsMade};
