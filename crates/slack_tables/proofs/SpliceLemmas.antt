@@ -1,6 +1,6 @@
 -- A route that goes on from a place of another one: it keeps its limits where the stops between do and the place where they join
 -- is reached in time and with few goods.
-use Rattle.std.proofs.Common.{◌≡◌, ℕ, suc, ◌+◌, ◌-◌, ◌<◌, ◌≤◌, ◌⊎◌, Bool, true, false, cond, ◌&&◌, int_le, ℤ, pos, ◌+ℤ◌, ◌-ℤ◌, ◌≤ℤ◌, List, [], ◌∷◌, get_or, length, Option, Some, None, refl, sym, ap, ◌∙◌, arith, subst, inl, inr, T}
+use Rattle.std.proofs.Common.{◌≡◌, ℕ, ◌+◌, ◌-◌, ◌<◌, ◌≤◌, ◌⊎◌, Bool, true, false, cond, ◌&&◌, int_le, ℤ, pos, ◌+ℤ◌, ◌-ℤ◌, ◌≤ℤ◌, Option, Some, None, refl, sym, ap, ◌∙◌, arith, subst, inl, inr, T}
 use Rattle.std.specs.Prelude.{MatchOption}
 use Rattle.std.specs.Option.{option_and_then}
 use Rattle.std.proofs.lemmas.Bool.{cases_lt, leb-true, leb-false}
@@ -10,7 +10,8 @@ use Rattle.plan_types.specs.declared.requests.Kind.{Kind}
 use Rattle.plan_types.specs.declared.requests.Kind.TheVariants.{LiLim, Vrp}
 use Rattle.nint_dist.specs.Distance.{distance}
 use Rattle.slack_tables.specs.Along.{start_along, moved_along, load_along, length_along, GoesOnAlong}
-use Rattle.slack_tables.specs.Driven.{driven_on, is_in_time, keeps, stepped, walked, bears, with_tail}
+use Rattle.slack_tables.specs.Driven.{driven_on, stepped, with_stop}
+use Rattle.slack_tables.specs.Ride.{ride_of, is_in_time, is_kept, is_borne, price}
 use Rattle.slack_tables.specs.Places.{IsAt, IsKnown}
 use Rattle.slack_tables.specs.declared.progress.Limits.{Limits}
 use Rattle.slack_tables.specs.declared.progress.Progress.{Progress}
@@ -66,7 +67,7 @@ module _ (limits : Limits) (stops : ℕ → Stop) where
     pub load : load_along stops k ≤ℤ pos limits.capacity
     pub window : limits.kind ≡ LiLim → start_along stops k ≤ (stops k).latest
 
-  pub keeps-true : (k : ℕ) (a : Progress) → IsAt stops k a → keeps limits a ≡ true → Keeps k
+  pub keeps-true : (k : ℕ) (a : Progress) → IsAt stops k a → is_kept limits (ride_of a) a.stop ≡ true → Keeps k
   keeps-true k a is h =
       let both = and-true _ _ h in
       record {
@@ -74,7 +75,7 @@ module _ (limits : Limits) (stops : ℕ → Stop) where
         window = λ lilim. (let le : a.start ≤ a.stop.latest = in_time-true limits.kind _ _ (both.second) lilim in rw (← is.start, ← is.stop) le);
       }
 
-  pub keeps-false : (k : ℕ) (a : Progress) → IsAt stops k a → keeps limits a ≡ false → Keeps k → ⊥
+  pub keeps-false : (k : ℕ) (a : Progress) → IsAt stops k a → is_kept limits (ride_of a) a.stop ≡ false → Keeps k → ⊥
   keeps-false k a is h keep = by (and-false _ _ h)
     where
       by : (int_le a.load (pos limits.capacity) ≡ false) ⊎ (is_in_time limits.kind a.start a.stop.latest ≡ false) → ⊥
@@ -90,12 +91,12 @@ module _ (limits : Limits) (stops : ℕ → Stop) where
 
   step-is : (k : ℕ) (a : Progress) (s : Stop) → IsAt stops k a → s ≡ stops (k + 1) → StepIs (k + 1) (stepped limits a s)
   unfolding StepIs
-  step-is k a s is next = by (keeps limits (driven_on a s)) refl
+  step-is k a s is next = by (is_kept limits (ride_of (driven_on a s)) s) refl
     where
       there : IsAt stops (k + 1) (driven_on a s)
       there = at-next stops k a s is next
 
-      by : (b : Bool) → keeps limits (driven_on a s) ≡ b → MatchOption (cond b (Some (driven_on a s)) None) (Keeps (k + 1) → ⊥) (λ a. IsAt stops (k + 1) a × Keeps (k + 1))
+      by : (b : Bool) → is_kept limits (ride_of (driven_on a s)) s ≡ b → MatchOption (cond b (Some (driven_on a s)) None) (Keeps (k + 1) → ⊥) (λ a. IsAt stops (k + 1) a × Keeps (k + 1))
       by true h = (there, keeps-true (k + 1) _ there h)
       by false h = keeps-false (k + 1) _ there h
 
@@ -106,52 +107,19 @@ module _ (limits : Limits) (stops : ℕ → Stop) where
   unfoldable pub WalkIs : ℕ → ℕ → Option Progress → Type 0
   WalkIs m n o = MatchOption o (EachKeeps m n → ⊥) (λ a. IsAt stops n a × EachKeeps m n)
 
-  pub walk-is : (ss : List Stop) (m n : ℕ) (a : Progress) → n ≡ m + length ss → IsAt stops m a → ((k : ℕ) (d : Stop) → k < length ss → stops (m + 1 + k) ≡ get_or ss k d) → WalkIs m n (walked limits a ss)
+  -- a walk goes on by one stop
+  pub walk-on : (m n : ℕ) (o : Option Progress) (s : Stop) → m ≤ n → WalkIs m n o → s ≡ stops (n + 1) → WalkIs m (n + 1) (option_and_then (λ a. stepped limits a s) o)
   unfolding WalkIs EachKeeps StepIs
-  walk-is [] m n a long is on =
-      let end : m ≡ n = omega arith in
-      (subst (λ k. IsAt stops k a) end is, λ k h l. absurd (omega arith))
-  walk-is (s ∷ ss) m n a long is on = by (stepped limits a s) (step-is m a s is here) (λ b at. walk-is ss (m + 1) n b (omega arith) at behind)
+  walk-on m n None s h never next = λ each. never (λ k l j. each k l (omega arith))
+  walk-on m n (Some a) s h is next = by (stepped limits a s) (step-is n a s is.0 next)
     where
-      here : s ≡ stops (m + 1)
-      here = let none : m + 1 + 0 ≡ m + 1 = omega arith in sym (subst (λ k. stops k ≡ s) none (on 0 s (omega arith)))
-
-      behind : (k : ℕ) (d : Stop) → k < length ss → stops (m + 1 + 1 + k) ≡ get_or ss k d
-      behind k d h = let more : m + 1 + suc k ≡ m + 1 + 1 + k = omega arith in subst (λ i. stops i ≡ get_or ss k d) more (on (suc k) d (omega arith))
-
-      by : (o : Option Progress) → StepIs (m + 1) o → ((b : Progress) → IsAt stops (m + 1) b → WalkIs (m + 1) n (walked limits b ss)) → WalkIs m n (option_and_then (λ b. walked limits b ss) o)
-      by None never rest = λ each. never (each (m + 1) (omega arith) (omega arith))
-      by (Some b) first rest = then (walked limits b ss) (rest b first.0)
+      by : (o : Option Progress) → StepIs (n + 1) o → WalkIs m (n + 1) o
+      by None never = λ each. never (each (n + 1) (omega arith) (omega arith))
+      by (Some b) at = (at.0, λ k l j. split k l j (cases_lt n k))
         where
-          then : (o : Option Progress) → WalkIs (m + 1) n o → WalkIs m n o
-          then None never = λ each. never (λ k h l. each k (omega arith) l)
-          then (Some c) is = (is.0, λ k h l. split k h l (cases_lt (m + 1) k))
-            where
-              split : (k : ℕ) → m < k → k ≤ n → (m + 1 < k) ⊎ (k ≤ m + 1) → Keeps k
-              split k h l (inl after) = is.1 k after l
-              split k h l (inr at_once) = let e : m + 1 ≡ k = omega arith in subst Keeps e first.1
-
-  pub step-walk : (k : ℕ) (a : Progress) (s : Stop) → IsAt stops k a → s ≡ stops (k + 1) → WalkIs k (k + 1) (stepped limits a s)
-  unfolding WalkIs EachKeeps StepIs
-  step-walk k a s is next = by (stepped limits a s) (step-is k a s is next)
-    where
-      by : (o : Option Progress) → StepIs (k + 1) o → WalkIs k (k + 1) o
-      by None never = λ each. never (each (k + 1) (omega arith) (omega arith))
-      by (Some b) at = (at.0, λ m h l. let e : k + 1 ≡ m = omega arith in subst Keeps e at.1)
-
-  -- one walk after another
-  pub walk-then : (m n l : ℕ) (o : Option Progress) (f : Progress → Option Progress) → m ≤ n → n ≤ l → WalkIs m n o → ((a : Progress) → IsAt stops n a → WalkIs n l (f a)) → WalkIs m l (option_and_then f o)
-  unfolding WalkIs EachKeeps
-  walk-then m n l None f p q never rest = λ each. never (λ k h j. each k h (omega arith))
-  walk-then m n l (Some a) f p q is rest = both (f a) (rest a is.0)
-    where
-      both : (o : Option Progress) → WalkIs n l o → WalkIs m l o
-      both None never = λ each. never (λ k h j. each k (omega arith) j)
-      both (Some b) at = (at.0, λ k h j. split k h j (cases_lt n k))
-        where
-          split : (k : ℕ) → m < k → k ≤ l → (n < k) ⊎ (k ≤ n) → Keeps k
-          split k h j (inl after) = at.1 k after j
-          split k h j (inr before) = is.1 k h before
+          split : (k : ℕ) → m < k → k ≤ n + 1 → (n < k) ⊎ (k ≤ n) → Keeps k
+          split k l j (inl last) = let e : n + 1 ≡ k = omega arith in subst Keeps e at.1
+          split k l j (inr before) = is.1 k l before
 
   -- a route whose length was `old` goes on from place m to its end
   unfoldable pub EndIs : ℕ → ℕ → ℕ → Option ℤ → Type 0
@@ -207,7 +175,7 @@ module _ (limits : Limits) (a b : ℕ → Stop) (n s rest : ℕ) (same : (k : �
 
   module _ (tail : Row) (known : IsKnown limits.kind a (n + rest) n tail) (late : (a n).latest ≤ 100000000) where
     -- the load there and the time there, by what the table knows of the place
-    bears-true : (at : Progress) → IsAt b s at → Keeps limits b s → bears limits at tail ≡ true → EachKeeps limits b s (s + rest)
+    bears-true : (at : Progress) → IsAt b s at → Keeps limits b s → is_borne limits (ride_of at) tail ≡ true → EachKeeps limits b s (s + rest)
     unfolding EachKeeps
     bears-true at is here h k m l =
         let both = and-true _ _ h in
@@ -226,7 +194,7 @@ module _ (limits : Limits) (a b : ℕ → Stop) (n s rest : ℕ) (same : (k : �
               goes_on-true ((known.latest_start lilim (start_along b s) (omega arith)).1 (omega arith)) lilim k m l);
         }
 
-    bears-false : (at : Progress) → IsAt b s at → Keeps limits b s → bears limits at tail ≡ false → EachKeeps limits b s (s + rest) → ⊥
+    bears-false : (at : Progress) → IsAt b s at → Keeps limits b s → is_borne limits (ride_of at) tail ≡ false → EachKeeps limits b s (s + rest) → ⊥
     unfolding EachKeeps
     bears-false at is here h each = by (and-false _ _ h)
       where
@@ -262,28 +230,32 @@ module _ (limits : Limits) (a b : ℕ → Stop) (n s rest : ℕ) (same : (k : �
         let spliced = spliced-length a b n s same rest in
         omega (arith, ints)
 
-    -- the place itself, and all behind it
-    pub join-is : (m : ℕ) (at : Progress) → m + 1 ≡ s → IsAt b m at → EndIs limits b m (s + rest) (length_along a (n + rest)) (with_tail limits at tail)
-    unfolding EndIs EachKeeps StepIs
-    join-is m at next is = by (stepped limits at tail.at.stop) (step-is limits b m at tail.at.stop is here)
+    -- a stop, then the place itself and all behind it
+    pub stop-is : (m : ℕ) (at : Progress) (stop : Stop) → m + 1 + 1 ≡ s → IsAt b m at → stop ≡ b (m + 1) → EndIs limits b m (s + rest) (length_along a (n + rest)) (with_stop limits at stop tail)
+    unfolding EndIs EachKeeps
+    stop-is m at stop next is here = by (is_kept limits (ride_of first) stop) (is_kept limits (ride_of second) tail.at.stop) (is_borne limits (ride_of second) tail) refl refl refl
       where
-        here : tail.at.stop ≡ b (m + 1)
-        here = known.at.stop ∙ (sym same-here ∙ ap b (sym next))
+        first : Progress
+        first = driven_on at stop
 
-        by : (o : Option Progress) → StepIs limits b (m + 1) o → EndIs limits b m (s + rest) (length_along a (n + rest)) (option_and_then (λ g. cond (bears limits g tail) (Some (pos g.distance -ℤ pos tail.at.distance)) None) o)
-        by None never = λ each. never (each (m + 1) (omega arith) (omega arith))
-        by (Some g) there = test (bears limits g tail) refl
-          where
-            at-s : IsAt b s g
-            at-s = subst (λ k. IsAt b k g) next there.0
+        second : Progress
+        second = driven_on (driven_on at stop) tail.at.stop
 
-            keeps-s : Keeps limits b s
-            keeps-s = subst (Keeps limits b) next there.1
+        at-first : IsAt b (m + 1) first
+        at-first = at-next b m at stop is here
 
-            split : ((k : ℕ) → s < k → k ≤ s + rest → Keeps limits b k) → (k : ℕ) → m < k → k ≤ s + rest → (s < k) ⊎ (k ≤ s) → Keeps limits b k
-            split each k h l (inl after) = each k after l
-            split each k h l (inr first) = let e : s ≡ k = omega arith in subst (Keeps limits b) e keeps-s
+        at-second : IsAt b s second
+        at-second = subst (λ k. IsAt b k second) next (at-next b (m + 1) first tail.at.stop at-first (known.at.stop ∙ (sym same-here ∙ ap b (sym next))))
 
-            test : (t : Bool) → bears limits g tail ≡ t → EndIs limits b m (s + rest) (length_along a (n + rest)) (cond t (Some (pos g.distance -ℤ pos tail.at.distance)) None)
-            test true h = ((λ k j l. split (bears-true g at-s keeps-s h) k j l (cases_lt s k)), added-is g at-s)
-            test false h = λ each. bears-false g at-s keeps-s h (λ k j l. each k (omega arith) l)
+        split : Keeps limits b (m + 1) → Keeps limits b s → ((k : ℕ) → s < k → k ≤ s + rest → Keeps limits b k) → (k : ℕ) → m < k → k ≤ s + rest → (s < k) ⊎ (k ≤ s) → (m + 1 < k) ⊎ (k ≤ m + 1) → Keeps limits b k
+        split one two each k h l (inl after) _ = each k after l
+        split one two each k h l (inr upto) (inl last) = let e : s ≡ k = omega arith in subst (Keeps limits b) e two
+        split one two each k h l (inr _) (inr before) = let e : m + 1 ≡ k = omega arith in subst (Keeps limits b) e one
+
+        by : (k l t : Bool) → is_kept limits (ride_of first) stop ≡ k → is_kept limits (ride_of second) tail.at.stop ≡ l → is_borne limits (ride_of second) tail ≡ t → EndIs limits b m (s + rest) (length_along a (n + rest)) (cond (k && (l && t)) (Some (price (ride_of at) (distance at.stop stop) (distance stop tail.at.stop) tail)) None)
+        by false l t h _ _ = λ each. keeps-false limits b (m + 1) first at-first h (each (m + 1) (omega arith) (omega arith))
+        by true false t _ h _ = λ each. keeps-false limits b s second at-second h (each s (omega arith) (omega arith))
+        by true true false _ h j = λ each. bears-false second at-second (keeps-true limits b s second at-second h) j (λ k p l. each k (omega arith) l)
+        by true true true g h j =
+            let two = keeps-true limits b s second at-second h in
+            ((λ k p l. split (keeps-true limits b (m + 1) first at-first g) two (bears-true second at-second two j) k p l (cases_lt s k) (cases_lt (m + 1) k)), added-is second at-second)

@@ -1,10 +1,10 @@
-use Rattle.std.proofs.Common.{◌≡◌, ◌∙◌, ◌-◌, [], ◌∷◌, length, Option, Some, None, refl, sym, ap, subst}
+use Rattle.std.proofs.Common.{◌≡◌, ◌∙◌, length, Option, Some, None, refl, sym, ap, subst}
 use Rattle.std.specs.Prelude.{IsSome, IsSomeAnd, IfSome}
 use Rattle.plan_types.specs.Request.{IsRequest}
 use Rattle.plan_types.specs.declared.requests.Request.{Request}
 use Rattle.plan_types.specs.declared.requests.Request.TheVariants.{Single, Pair}
 use Rattle.slack_tables.specs.Course.{Course, route_of}
-use Rattle.slack_tables.specs.Driven.{with_between, with_pair}
+use Rattle.slack_tables.specs.Driven.{with_single, with_pair}
 use Rattle.slack_tables.specs.Insertion.{request_named, inserted, ArePlaces, IsAdded}
 use Rattle.slack_tables.specs.Inside.{AreKnown}
 use Rattle.slack_tables.specs.Opened.{leaving, open_row}
@@ -37,8 +37,8 @@ returns-in-Single c =
     let are : ArePlaces (Single c.in-Single.stop) (length (route_of c.args.self.now)) c.args.i c.args.j = subst (λ o. IsSomeAnd o (λ r. ArePlaces r (length (route_of c.args.self.now)) c.args.i c.args.j)) named c.requires.places in
     let d = open_row (leaving c.in-Single.stop) in
     let made = c.single_added.ensures d in
-    let limits = ap (λ (q : Course). with_between (limits_of q) c.as_slice-places.result.now (c.args.i - 1) (c.in-Single.stop ∷ []) c.args.i d) c.self.view_is in
-    let items = ap (λ xs. with_between (limits_of c.args.self.now) xs (c.args.i - 1) (c.in-Single.stop ∷ []) c.args.i d) c.as_slice-places.ensures.value in
+    let limits = ap (λ (q : Course). with_single (limits_of q) c.as_slice-places.result.now c.in-Single.stop c.args.i d) c.self.view_is in
+    let items = ap (λ xs. with_single (limits_of c.args.self.now) xs c.in-Single.stop c.args.i d) c.as_slice-places.ensures.value in
     subst (λ o. IfSome o (λ r. IsAdded c.args.problem.now (route_of c.args.self.now) (inserted r c.args.i c.args.j (route_of c.args.self.now)) c.single_added.result)) (sym named)
     (single-added c.args.problem.now c.args.self.now c.self.inside.places.items table c.live_request.ensures.problem c.requires.course c.requests_are_found_by_stop.ensures c.args.name c.args.i c.args.j c.in-Single.stop d c.single_added.result named are (made ∙ (limits ∙ items)))
 
