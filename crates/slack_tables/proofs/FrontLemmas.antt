@@ -22,7 +22,7 @@ use Rattle.slack_tables.proofs.OpenLemmas.{at-begin, within-begin, place-first}
 
 -- ---- two routes with the same stops up to place n
 module _ (a b : ℕ → Stop) (n : ℕ) (same : (k : ℕ) → k ≤ n → b k ≡ a k) where
-  at-same : (x : Progress) → IsAt a n x → IsAt b n x
+  pub at-same : (x : Progress) → IsAt a n x → IsAt b n x
   at-same x is = record {
     stop = is.stop ∙ sym (same n (omega arith));
     start = is.start ∙ sym (same-start a b n same n (omega arith));
@@ -30,7 +30,7 @@ module _ (a b : ℕ → Stop) (n : ℕ) (same : (k : ℕ) → k ≤ n → b k �
     distance = is.distance ∙ sym (same-length a b n same n (omega arith));
   }
 
-  kept-same : (kind : Kind) (capacity : ℕ) → IsInLimits kind capacity a n → IsInLimits kind capacity b n
+  pub kept-same : (kind : Kind) (capacity : ℕ) → IsInLimits kind capacity a n → IsInLimits kind capacity b n
   kept-same kind capacity is = record {
     load = λ k h j. subst (λ x. x ≤ℤ pos capacity) (sym (same-load a b n same k j)) (is.load k h j);
     window = λ lilim k h j. (let start = same-start a b n same k j in let stop : (b k).latest ≡ (a k).latest = ap (λ s. s.latest) (same k j) in let le = is.window lilim k h j in omega arith);

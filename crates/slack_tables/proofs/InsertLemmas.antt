@@ -1,5 +1,5 @@
 -- Stops put into a route: what the code finds is by how much the new route is longer, where it keeps its limits.
-use Rattle.std.proofs.Common.{◌≡◌, ◌≢◌, ℕ, zero, suc, ◌+◌, ◌-◌, ◌<◌, ◌≤◌, ◌⊎◌, Bool, true, false, eqb, cond, ℤ, pos, ◌+ℤ◌, ◌≤ℤ◌, List, [], ◌∷◌, get_or, length, Option, Some, None, refl, sym, ap, ◌∙◌, arith, add-one, subst, inl, inr}
+use Rattle.std.proofs.Common.{◌≡◌, ◌≢◌, ℕ, zero, suc, ◌+◌, ◌-◌, ◌<◌, ◌≤◌, ◌⊎◌, Bool, true, false, eqb, cond, ℤ, pos, ◌+ℤ◌, List, [], ◌∷◌, get_or, length, Option, Some, None, refl, sym, ap, ◌∙◌, arith, add-one, subst, inl, inr}
 use Rattle.std.specs.Prelude.{IsSome, MatchOption, nat_eq}
 use Rattle.std.specs.List.{AllByRecursion, insert}
 use Rattle.std.specs.Map.{lookup}
@@ -15,7 +15,7 @@ use Rattle.plan_types.specs.declared.requests.Request.TheVariants.{Single, Pair}
 use Rattle.route_sched.specs.Route.{place, stop_numbered}
 use Rattle.route_sched.specs.Schedule.{route_length}
 use Rattle.slack_tables.specs.Course.{Course, route_of, IsCourseIn}
-use Rattle.slack_tables.specs.Along.{stop_on, load_along, length_along}
+use Rattle.slack_tables.specs.Along.{stop_on, length_along}
 use Rattle.slack_tables.specs.Driven.{walked, walk_to, with_stop, with_single, with_pair, IsSmallRow}
 use Rattle.slack_tables.specs.Inside.{IsInLimits, AreKnown}
 use Rattle.slack_tables.specs.Insertion.{request_named, inserted, ArePlaces, IsAdded}
@@ -23,8 +23,8 @@ use Rattle.slack_tables.specs.Places.{IsAt, IsKnown}
 use Rattle.slack_tables.specs.declared.progress.Limits.{Limits}
 use Rattle.slack_tables.specs.declared.progress.Progress.{Progress}
 use Rattle.slack_tables.specs.declared.progress.Row.{Row}
-use Rattle.slack_tables.proofs.AlongLemmas.{same-start, same-load, same-length}
 use Rattle.slack_tables.proofs.CourseLemmas.{places-on, long-on, length-is, limits-to, limits-from}
+use Rattle.slack_tables.proofs.FrontLemmas.{at-same, kept-same}
 use Rattle.slack_tables.proofs.SpliceLemmas.{Keeps, EachKeeps, WalkIs, EndIs, walk-on, end-then, stop-is}
 
 -- ---- by place
@@ -49,24 +49,10 @@ module _ (c : Course) (places : List Row) (table : AreKnown c places) (b : ℕ �
   module _ (m : ℕ) (front : (k : ℕ) → k ≤ m → b k ≡ stop_on c k) (within : m ≤ length c.stops) where
     -- the front is driven as before
     front-at : (d : Row) → IsAt b m (get_or places m d).at
-    front-at d =
-        let long = table.long in
-        let is = (table.known m d (omega arith)).at in
-        record {
-          stop = is.stop ∙ sym (front m (omega arith));
-          start = is.start ∙ sym (same-start (stop_on c) b m front m (omega arith));
-          load = is.load ∙ sym (same-load (stop_on c) b m front m (omega arith));
-          distance = is.distance ∙ sym (same-length (stop_on c) b m front m (omega arith));
-        }
+    front-at d = let long = table.long in at-same (stop_on c) b m front (get_or places m d).at (table.known m d (omega arith)).at
 
     front-keeps : EachKeeps (limits_of c) b 0 m
-    unfolding EachKeeps
-    front-keeps = λ k h j.
-        let load : load_along (stop_on c) k ≤ℤ pos c.capacity = table.limits.load k h (omega arith) in
-        record {
-          load = subst (λ x. x ≤ℤ pos c.capacity) (sym (same-load (stop_on c) b m front k j)) load;
-          window = λ lilim. (let le = table.limits.window lilim k h (omega arith) in rw (same-start (stop_on c) b m front k j, front k j) le);
-        }
+    front-keeps = each-from 0 m (kept-same (stop_on c) b m front c.kind c.capacity (record { load = λ k h j. table.limits.load k h (omega arith); window = λ lilim k h j. table.limits.window lilim k h (omega arith) }))
 
     whole : (l : ℕ) (o : Option ℤ) → EndIs (limits_of c) b m l (length_along (stop_on c) (length c.stops + 1)) o → IsEnd l o
     unfolding IsEnd EndIs EachKeeps

@@ -1,5 +1,5 @@
 -- A vehicle that keeps the limits place after place.
-use Rattle.std.proofs.Common.{◌≡◌, ◌∙◌, ℕ, ◌+◌, ◌<◌, ◌≤◌, ◌≤ℤ◌, ◌⊎◌, Bool, true, false, pos, List, length, refl, sym, arith, subst, inl, inr}
+use Rattle.std.proofs.Common.{◌≡◌, ℕ, ◌+◌, ◌<◌, ◌≤◌, ◌≤ℤ◌, ◌⊎◌, true, false, pos, List, length, arith, subst, inl, inr}
 use Rattle.std.specs.Prelude.{◌↔◌}
 use Rattle.std.proofs.lemmas.Bool.{cases_lt}
 use Rattle.plan_types.specs.Instance.{Instance}
@@ -13,7 +13,7 @@ use Rattle.slack_tables.specs.Insertion.{KeepsLimits}
 use Rattle.slack_tables.specs.Places.{IsAt}
 use Rattle.slack_tables.specs.declared.progress.Limits.{Limits}
 use Rattle.slack_tables.specs.declared.progress.Progress.{Progress}
-use Rattle.slack_tables.proofs.CourseLemmas.{limits-to, limits-from}
+use Rattle.slack_tables.proofs.CourseLemmas.{limits-to}
 use Rattle.slack_tables.proofs.SpliceLemmas.{keeps-true, keeps-false}
 
 pub kept-none : (kind : Kind) (capacity : ℕ) (stops : ℕ → Stop) → IsInLimits kind capacity stops 0
@@ -36,23 +36,13 @@ module _ (limits : Limits) (stops : ℕ → Stop) where
       window-by le each k h (inl before) j = each k h (omega arith)
       window-by le each k h (inr last) j = let same : n + 1 ≡ k = omega arith in subst (λ m. start_along stops m ≤ (stops m).latest) same le
 
-  pub kept-never : (k n : ℕ) (a : Progress) → 1 ≤ k → k ≤ n → IsAt stops k a → is_kept limits (ride_of a) a.stop ≡ false → IsInLimits limits.kind limits.capacity stops n → ⊥
-  kept-never k n a one within at never is = keeps-false limits stops k a at never (record { load = is.load k one within; window = λ lilim. is.window lilim k one within })
-
--- a route keeps the limits where each place does
+-- one place that breaks the limits breaks those of the route
 module _ (p : Instance) (route : List ℕ) (nothing : p.depot.demand ≡ pos 0) where
   abbrev pub limits_in : Limits
   limits_in = record { kind = p.kind; capacity = p.capacity }
 
   pub kept-broken : (k : ℕ) (a : Progress) → k ≤ length route → IsAt (place p route) (k + 1) a → is_kept limits_in (ride_of a) a.stop ≡ false → (false ≡ true) ↔ KeepsLimits p route
-  kept-broken k a h at never = (λ e. absurd (cc), λ keep. absurd (kept-never limits_in (place p route) (k + 1) (length route + 1) a (omega arith) (omega arith) at never (limits-to p route nothing keep)))
-
-  pub kept-as : (a : Progress) (b : Bool) → IsInLimits p.kind p.capacity (place p route) (length route) → IsAt (place p route) (length route + 1) a → b ≡ is_kept limits_in (ride_of a) a.stop → (b ≡ true) ↔ KeepsLimits p route
-  kept-as a b is at test = (
-    λ h. limits-from p route (kept-more limits_in (place p route) (length route) a is at (sym test ∙ h)),
-    λ keep. by b refl (limits-to p route nothing keep),
+  kept-broken k a h at never = (
+    λ e. absurd (cc),
+    λ keep. absurd (let is = limits-to p route nothing keep in keeps-false limits_in (place p route) (k + 1) a at never (record { load = is.load (k + 1) (omega arith) (omega arith); window = λ lilim. is.window lilim (k + 1) (omega arith) (omega arith) })),
   )
-    where
-      by : (c : Bool) → b ≡ c → IsInLimits p.kind p.capacity (place p route) (length route + 1) → b ≡ true
-      by true h all = h
-      by false h all = absurd (kept-never limits_in (place p route) (length route + 1) (length route + 1) a (omega arith) (omega arith) at (sym test ∙ h) all)

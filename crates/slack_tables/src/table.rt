@@ -7,7 +7,7 @@
 //! the only times that mean something.
 
 ghost use Rattle.std.specs.Prelude.{◌≡◌, ◌↔◌, ◌+◌, ◌-◌, ◌<◌, ◌≤◌, ℕ, Some, true, IsSome, IsTrue, IfOk, OnOk, OnErr, length, slice_index_or};
-ghost use Rattle.plan_types.specs.Limits.{IsStop};
+ghost use Rattle.plan_types.specs.Limits.{IsStop, IsVisit};
 ghost use Rattle.plan_types.specs.declared.requests.Stop.{Stop};
 ghost use Rattle.plan_types.specs.Request.{IsRequest};
 ghost use Rattle.plan_types.specs.Instance.{IsInstance, stop_at};
@@ -406,18 +406,28 @@ fn drive_route(places: &mut [Row], problem: &Problem, known: &[Row], route: &[u3
     copy_front(places, known, front);
     let mut at = behind_front(problem, known, front);
     let mut seen = front;
-    for k in front..route.len() {
-        let stop = live_stop(problem, route[k]);
-        at = driven_on(known, seen, &at, stop);
+    for k in front..route.len() + 1 {
+        seen = place_seen(known, seen, &at.stop);
+        at = driven_on(known, seen, &at, stop_behind(problem, route, k));
         if !is_kept(limits, &ride_of(&at), &at.stop) {
             return false;
         }
         put(places, k + 1, at);
-        seen = place_seen(known, seen, stop);
     }
-    at = driven_on(known, seen, &at, &problem.depot);
-    put(places, route.len() + 1, at);
-    is_kept(limits, &ride_of(&at), &at.stop)
+    true
+}
+
+// The stop behind place `k` of a route, which is the depot behind the last one.
+fn stop_behind<'a>(problem: &'a Problem, route: &[u32], k: usize) -> &'a Stop
+    requires route { AreLiveOnce problem.now route.now }
+    requires within { k ≤ length route.now }
+    ensures stop { result.now ≡ place problem.now route.now (k + 1) }
+    ensures visit { IsVisit result.now }
+{
+    if k == route.len() {
+        return &problem.depot;
+    }
+    live_stop(problem, route[k])
 }
 
 // The law that a route has at most as many stops as there are numbers.
