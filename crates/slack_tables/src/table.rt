@@ -17,7 +17,7 @@ ghost use Rattle.slack_tables.specs.Insertion.{request_named, KeepsLimits};
 ghost use Rattle.slack_tables.specs.declared.progress.Row.{Row};
 ghost use Rattle.slack_tables.specs.Opened.{leaving, open_row, AreOpen};
 ghost use Rattle.slack_tables.specs.Front.{KnowsFronts};
-ghost use Rattle.slack_tables.specs.Inside.{limits_of, IsMade};
+ghost use Rattle.slack_tables.specs.Inside.{limits_of, AreKnown, IsMade};
 ghost use Rattle.slack_tables.specs.Legs.{AreLinked};
 
 use crate::front::{behind_front, copy_front, put, same_front};
@@ -105,7 +105,7 @@ impl RouteTable {
         ensures route { OnOk result (route_of self.new ≡ route.now) }
         ensures refused { OnErr result (self.new ≡ self.old) }
     {
-        remake(&mut self.places, problem, near.places.as_slice(), route)?;
+        remake(&mut self.places, problem, near.rows(), route)?;
         self.limits = limits_of(problem);
         self.depot = problem.depot;
         self.span = Span::of(self.places.as_slice());
@@ -130,7 +130,7 @@ impl RouteTable {
         ensures kept { IfOk result (λ o. (IsSome o) ↔ KeepsLimits problem.now route.now) }
     {
         let RouteTable { mut places, .. } = self;
-        if !remake(&mut places, problem, near.places.as_slice(), route)? {
+        if !remake(&mut places, problem, near.rows(), route)? {
             return Ok(None);
         }
         let span = Span::of(places.as_slice());
@@ -150,7 +150,17 @@ impl RouteTable {
         ensures { (result ≡ true) ↔ KeepsLimits problem.now route.now }
     {
         stops_are_few(problem, route);
-        drive_route(&mut [], problem, self.places.as_slice(), route)
+        drive_route(&mut [], problem, self.rows(), route)
+    }
+
+    // What is known of each place, by which routes that differ little are driven too.
+    #[inline(always)]
+    fn rows(&self) -> &[Row]
+        ensures known { AreKnown self.now result.now }
+        ensures linked { AreLinked result.now }
+        ensures fronts { (p : Instance) → IsCourseIn p self.now → KnowsFronts p result.now }
+    {
+        self.places.as_slice()
     }
 
     /// How many stops the route has.
@@ -169,7 +179,7 @@ impl RouteTable {
             → result.now ≡ place p route index }
         ensures placed { IsPlaced result.now }
     {
-        let places = self.places.as_slice();
+        let places = self.rows();
         &small_row(places, index).at.stop
     }
 
@@ -189,7 +199,7 @@ impl RouteTable {
         ensures { (p : Instance) (route : List ℕ) → course_of p route ≡ self.now
             → result ≡ start p route place }
     {
-        let places = self.places.as_slice();
+        let places = self.rows();
         row_at(places, place).at.start
     }
 
@@ -201,7 +211,7 @@ impl RouteTable {
         ensures { (p : Instance) (route : List ℕ) → course_of p route ≡ self.now
             → IsLimitOfStarts p route place result }
     {
-        let places = self.places.as_slice();
+        let places = self.rows();
         if place + 1 == places.len() {
             return None;
         }
@@ -217,7 +227,7 @@ impl RouteTable {
         ensures { (p : Instance) (route : List ℕ) → course_of p route ≡ self.now
             → result ≡ load p route place }
     {
-        let places = self.places.as_slice();
+        let places = self.rows();
         load_at(row_at(places, place))
     }
 
@@ -226,7 +236,7 @@ impl RouteTable {
         ensures { (p : Instance) (route : List ℕ) → course_of p route ≡ self.now
             → result ≡ route_length p route }
     {
-        let places = self.places.as_slice();
+        let places = self.rows();
         row_at(places, places.len() - 1).at.distance
     }
 
@@ -245,7 +255,7 @@ impl RouteTable {
             (inserted r i j (route_of self.now)) result) }
     {
         requests_are_found_by_stop();
-        let places = self.places.as_slice();
+        let places = self.rows();
         match live_request(problem, name) {
             Request::Single(stop) => single_added(self.limits, places, stop, i as usize),
             Request::Pair(pickup, delivery) => {
@@ -321,7 +331,7 @@ impl RouteTable {
             → IsBestAddition p (route_of self.now) request.now kept below result }
     {
         requests_are_found_by_stop();
-        let places = self.places.as_slice();
+        let places = self.rows();
         match request {
             Request::Single(stop) => {
                 best_single(self.limits, places, stop, kept as usize, below)
