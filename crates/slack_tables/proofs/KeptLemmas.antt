@@ -8,7 +8,7 @@ use Rattle.plan_types.specs.declared.requests.Kind.{Kind}
 use Rattle.route_sched.specs.Route.{place}
 use Rattle.slack_tables.specs.Along.{load_along, start_along}
 use Rattle.slack_tables.specs.Ride.{ride_of, is_kept}
-use Rattle.slack_tables.specs.Inside.{IsInLimits}
+use Rattle.slack_tables.specs.Inside.{limits_of, IsInLimits}
 use Rattle.slack_tables.specs.Insertion.{KeepsLimits}
 use Rattle.slack_tables.specs.Places.{IsAt}
 use Rattle.slack_tables.specs.declared.progress.Limits.{Limits}
@@ -38,11 +38,8 @@ module _ (limits : Limits) (stops : ℕ → Stop) where
 
 -- one place that breaks the limits breaks those of the route
 module _ (p : Instance) (route : List ℕ) (nothing : p.depot.demand ≡ pos 0) where
-  abbrev pub limits_in : Limits
-  limits_in = record { kind = p.kind; capacity = p.capacity }
-
-  pub kept-broken : (k : ℕ) (a : Progress) → k ≤ length route → IsAt (place p route) (k + 1) a → is_kept limits_in (ride_of a) a.stop ≡ false → (false ≡ true) ↔ KeepsLimits p route
+  pub kept-broken : (k : ℕ) (a : Progress) → k ≤ length route → IsAt (place p route) (k + 1) a → is_kept (limits_of p) (ride_of a) a.stop ≡ false → (false ≡ true) ↔ KeepsLimits p route
   kept-broken k a h at never = (
     λ e. absurd (cc),
-    λ keep. absurd (let is = limits-to p route nothing keep in keeps-false limits_in (place p route) (k + 1) a at never (record { load = is.load (k + 1) (omega arith) (omega arith); window = λ lilim. is.window lilim (k + 1) (omega arith) (omega arith) })),
+    λ keep. absurd (let is = limits-to p route nothing keep in keeps-false (limits_of p) (place p route) (k + 1) a at never (record { load = is.load (k + 1) (omega arith) (omega arith); window = λ lilim. is.window lilim (k + 1) (omega arith) (omega arith) })),
   )

@@ -3,7 +3,7 @@
 use Rattle.std.proofs.Common.{◌≡◌, ℕ, ◌+◌, ◌-◌, ◌<◌, ◌≤◌, ◌⊎◌, Bool, true, false, cond, ◌&&◌, int_le, ℤ, pos, ◌+ℤ◌, ◌-ℤ◌, ◌≤ℤ◌, Option, Some, None, refl, sym, ap, ◌∙◌, arith, subst, inl, inr, T}
 use Rattle.std.specs.Prelude.{MatchOption}
 use Rattle.std.specs.Option.{option_and_then}
-use Rattle.std.proofs.lemmas.Bool.{cases_lt, leb-true, leb-false}
+use Rattle.std.proofs.lemmas.Bool.{and_parts, cases_lt, leb-true, leb-false}
 use Rattle.std.proofs.lemmas.Int.{ints}
 use Rattle.plan_types.specs.declared.requests.Stop.{Stop}
 use Rattle.plan_types.specs.declared.requests.Kind.{Kind}
@@ -33,15 +33,6 @@ in_time-false : (kind : Kind) (t u : ℕ) → is_in_time kind t u ≡ false → 
 in_time-false LiLim t u h = (refl, leb-false _ _ h)
 in_time-false Vrp t u h = absurd (cc)
 
--- two tests, one after the other
-record Both (a b : Bool) : Type 0 where
-  first : a ≡ true
-  second : b ≡ true
-
-and-true : (a b : Bool) → (a && b) ≡ true → Both a b
-and-true true b h = record { first = refl; second = h }
-and-true false b h = absurd (cc)
-
 and-false : (a b : Bool) → (a && b) ≡ false → (a ≡ false) ⊎ (b ≡ false)
 and-false true b h = inr h
 and-false false b h = inl refl
@@ -69,10 +60,10 @@ module _ (limits : Limits) (stops : ℕ → Stop) where
 
   pub keeps-true : (k : ℕ) (a : Progress) → IsAt stops k a → is_kept limits (ride_of a) a.stop ≡ true → Keeps k
   keeps-true k a is h =
-      let both = and-true _ _ h in
+      let both = and_parts _ _ h in
       record {
-        load = subst (λ x. x ≤ℤ pos limits.capacity) (is.load) (int_le-true _ _ (both.first));
-        window = λ lilim. (let le : a.start ≤ a.stop.latest = in_time-true limits.kind _ _ (both.second) lilim in rw (← is.start, ← is.stop) le);
+        load = subst (λ x. x ≤ℤ pos limits.capacity) (is.load) (int_le-true _ _ (both.0));
+        window = λ lilim. (let le : a.start ≤ a.stop.latest = in_time-true limits.kind _ _ (both.1) lilim in rw (← is.start, ← is.stop) le);
       }
 
   pub keeps-false : (k : ℕ) (a : Progress) → IsAt stops k a → is_kept limits (ride_of a) a.stop ≡ false → Keeps k → ⊥
@@ -178,16 +169,16 @@ module _ (limits : Limits) (a b : ℕ → Stop) (n s rest : ℕ) (same : (k : �
     bears-true : (at : Progress) → IsAt b s at → Keeps limits b s → is_borne limits (ride_of at) tail ≡ true → EachKeeps limits b s (s + rest)
     unfolding EachKeeps
     bears-true at is here h k m l =
-        let both = and-true _ _ h in
+        let both = and_parts _ _ h in
         let e = pos limits.capacity -ℤ (load_along b s -ℤ load_along a n) in
-        let light : (at.load -ℤ tail.at.load +ℤ tail.most_load) ≤ℤ pos limits.capacity = int_le-true _ _ (both.first) in
+        let light : (at.load -ℤ tail.at.load +ℤ tail.most_load) ≤ℤ pos limits.capacity = int_le-true _ _ (both.0) in
         let load_here = is.load in
         let load_tail = known.at.load in
         let most : tail.most_load ≤ℤ e = omega (arith, ints) in
         record {
           load = loads-true (pos limits.capacity) e refl ((known.most_load e).0 most) k (omega arith) l;
           window = λ lilim.
-              (let le : at.start ≤ tail.latest_start = in_time-true limits.kind _ _ (both.second) lilim in
+              (let le : at.start ≤ tail.latest_start = in_time-true limits.kind _ _ (both.1) lilim in
               let start = is.start in
               let window = here.window lilim in
               let stop : (b s).latest ≡ (a n).latest = ap (λ x. x.latest) same-here in
