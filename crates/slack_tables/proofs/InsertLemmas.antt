@@ -1,9 +1,9 @@
 -- Stops put into a route: what the code finds is by how much the new route is longer, where it keeps its limits.
-use Rattle.std.proofs.Common.{◌≡◌, ◌≢◌, ℕ, zero, suc, ◌+◌, ◌-◌, ◌<◌, ◌≤◌, ◌⊎◌, Bool, true, false, eqb, cond, ℤ, pos, ◌+ℤ◌, List, [], ◌∷◌, get_or, length, Option, Some, None, refl, sym, ap, ◌∙◌, arith, add-one, subst, inl, inr}
-use Rattle.std.specs.Prelude.{IsSome, MatchOption, nat_eq}
+use Rattle.std.proofs.Common.{◌≡◌, ◌≢◌, ℕ, zero, suc, ◌+◌, ◌-◌, ◌<◌, ◌≤◌, Bool, true, false, eqb, cond, ℤ, pos, ◌+ℤ◌, List, [], ◌∷◌, get_or, length, Option, Some, None, refl, sym, ap, ◌∙◌, arith, add-one, subst}
+use Rattle.std.specs.Prelude.{IsSome, nat_eq}
 use Rattle.std.specs.List.{AllByRecursion, insert}
 use Rattle.std.specs.Map.{lookup}
-use Rattle.std.proofs.lemmas.Bool.{cases_lt, ne_eqb, eq-eqb}
+use Rattle.std.proofs.lemmas.Bool.{ne_eqb, eq-eqb}
 use Rattle.std.proofs.lemmas.List.Edits.{get_or-insert_at, get_or-insert_below, get_or-insert_above, length-insert}
 use Rattle.plan_types.specs.Limits.{IsStop}
 use Rattle.plan_types.specs.Request.{IsRequest, stop_in}
@@ -25,47 +25,28 @@ use Rattle.slack_tables.specs.declared.progress.Progress.{Progress}
 use Rattle.slack_tables.specs.declared.progress.Row.{Row}
 use Rattle.slack_tables.proofs.CourseLemmas.{places-on, long-on, length-is, limits-to, limits-from}
 use Rattle.slack_tables.proofs.FrontLemmas.{at-same, kept-same}
-use Rattle.slack_tables.proofs.SpliceLemmas.{Keeps, EachKeeps, WalkIs, EndIs, walk-on, end-then, stop-is}
+use Rattle.slack_tables.proofs.SpliceLemmas.{In, WalkIs, EndIs, kept-fewer, walk-on, end-then, stop-is}
 
 -- ---- by place
 abbrev pub limits_of : Course → Limits
 limits_of c = record { kind = c.kind; capacity = c.capacity }
 
 module _ (c : Course) (places : List Row) (table : AreKnown c places) (b : ℕ → Stop) where
-  last : ℕ
-  last = length c.stops + 1
-
-  pub IsEnd : ℕ → Option ℤ → Type 0
-  IsEnd l o = MatchOption o (IsInLimits c.kind c.capacity b l → ⊥) (λ added. IsInLimits c.kind c.capacity b l × (pos (length_along b l) ≡ pos (length_along (stop_on c) (length c.stops + 1)) +ℤ added))
-
-  each-from : (m l : ℕ) → IsInLimits c.kind c.capacity b l → EachKeeps (limits_of c) b m l
-  unfolding EachKeeps
-  each-from m l is = λ k h j. record { load = is.load k (omega arith) j; window = λ lilim. is.window lilim k (omega arith) j }
-
-  each-to : (l : ℕ) → EachKeeps (limits_of c) b 0 l → IsInLimits c.kind c.capacity b l
-  unfolding EachKeeps
-  each-to l each = record { load = λ k h j. (each k h j).load; window = λ lilim k h j. (each k h j).window lilim }
+  -- the new route keeps the limits and is so much longer, or doesn't keep them
+  abbrev pub IsEnd : ℕ → Option ℤ → Type 0
+  IsEnd l o = EndIs (limits_of c) b l (length_along (stop_on c) (length c.stops + 1)) o
 
   module _ (m : ℕ) (front : (k : ℕ) → k ≤ m → b k ≡ stop_on c k) (within : m ≤ length c.stops) where
     -- the front is driven as before
     front-at : (d : Row) → IsAt b m (get_or places m d).at
     front-at d = let long = table.long in at-same (stop_on c) b m front (get_or places m d).at (table.known m d (omega arith)).at
 
-    front-keeps : EachKeeps (limits_of c) b 0 m
-    front-keeps = each-from 0 m (kept-same (stop_on c) b m front c.kind c.capacity (record { load = λ k h j. table.limits.load k h (omega arith); window = λ lilim k h j. table.limits.window lilim k h (omega arith) }))
-
-    whole : (l : ℕ) (o : Option ℤ) → EndIs (limits_of c) b m l (length_along (stop_on c) (length c.stops + 1)) o → IsEnd l o
-    unfolding IsEnd EndIs EachKeeps
-    whole l None never = λ is. never (each-from m l is)
-    whole l (Some added) is = (each-to l (λ k h j. split k h j (cases_lt m k)), is.1)
-      where
-        split : (k : ℕ) → 0 < k → k ≤ l → (m < k) ⊎ (k ≤ m) → Keeps (limits_of c) b k
-        split k h j (inl after) = is.0 k after j
-        split k h j (inr before) = front-keeps k h before
+    front-in : In (limits_of c) b m
+    front-in = kept-same (stop_on c) b m front c.kind c.capacity (kept-fewer (limits_of c) (stop_on c) m (length c.stops + 1) (omega arith) table.limits)
 
   -- a stop at place j of the new route, then place n of the table and all behind it
-  rest-is : (j n l : ℕ) (d : Row) (at : Progress) (s : Stop) → 1 ≤ j → n ≤ length c.stops + 1 → l ≡ j + 1 + (length c.stops + 1 - n) → b j ≡ s → ((k : ℕ) → b (j + 1 + k) ≡ stop_on c (n + k)) → IsAt b (j - 1) at → EndIs (limits_of c) b (j - 1) l (length_along (stop_on c) (length c.stops + 1)) (with_stop (limits_of c) at s (get_or places n d))
-  rest-is j n l d at s one h end here same is =
+  rest-is : (j n l : ℕ) (d : Row) (at : Progress) (s : Stop) → 1 ≤ j → n ≤ length c.stops + 1 → l ≡ j + 1 + (length c.stops + 1 - n) → b j ≡ s → ((k : ℕ) → b (j + 1 + k) ≡ stop_on c (n + k)) → IsAt b (j - 1) at → In (limits_of c) b (j - 1) → IsEnd l (with_stop (limits_of c) at s (get_or places n d))
+  rest-is j n l d at s one h end here same is kept =
       let long = table.long in
       let rest = length c.stops + 1 - n in
       let back : j - 1 + 1 ≡ j = omega arith in
@@ -74,38 +55,37 @@ module _ (c : Course) (places : List Row) (table : AreKnown c places) (b : ℕ �
       let small : IsSmallRow (get_or places n d) = table.small n d (omega arith) in
       let due = small.at.visit.latest in
       let late : (get_or places n d).at.stop.latest ≡ (stop_on c n).latest = ap (λ s. s.latest) (known.at.stop) in
-      let is_end = stop-is (limits_of c) (stop_on c) b n (j + 1) rest same (get_or places n d) known (omega arith) (j - 1) at s (omega arith) is (sym here ∙ ap b (sym back)) in
-      subst (λ q. EndIs (limits_of c) b (j - 1) l (length_along (stop_on c) q) (with_stop (limits_of c) at s (get_or places n d))) total
-      (subst (λ q. EndIs (limits_of c) b (j - 1) q (length_along (stop_on c) (n + rest)) (with_stop (limits_of c) at s (get_or places n d))) (sym end) is_end)
+      let is_end = stop-is (limits_of c) (stop_on c) b n (j + 1) rest same (get_or places n d) known (omega arith) (j - 1) at s (omega arith) is kept (sym here ∙ ap b (sym back)) in
+      subst (λ q. EndIs (limits_of c) b l (length_along (stop_on c) q) (with_stop (limits_of c) at s (get_or places n d))) total
+      (subst (λ q. EndIs (limits_of c) b q (length_along (stop_on c) (n + rest)) (with_stop (limits_of c) at s (get_or places n d))) (sym end) is_end)
 
   pub single-is : (i : ℕ) (s : Stop) (d : Row) → 1 ≤ i → i ≤ length c.stops + 1 → ((k : ℕ) → k ≤ i - 1 → b k ≡ stop_on c k) → b i ≡ s → ((k : ℕ) → b (i + 1 + k) ≡ stop_on c (i + k)) → IsEnd (length c.stops + 2) (with_single (limits_of c) places s i d)
   single-is i s d one most front here behind =
-      whole (i - 1) front (omega arith) (length c.stops + 2) _ (rest-is i i (length c.stops + 2) d (get_or places (i - 1) d).at s one most (omega arith) here behind (front-at (i - 1) front (omega arith) d))
+      rest-is i i (length c.stops + 2) d (get_or places (i - 1) d).at s one most (omega arith) here behind (front-at (i - 1) front (omega arith) d) (front-in (i - 1) front (omega arith))
 
   -- the pickup at place i, then n places of the table
-  walked-is : (i n : ℕ) (p : Stop) (d : Row) → 1 ≤ i → i + n ≤ length c.stops + 1 → ((k : ℕ) → k ≤ i - 1 → b k ≡ stop_on c k) → b i ≡ p → ((k : ℕ) → k < n → b (i + 1 + k) ≡ stop_on c (i + k)) → WalkIs (limits_of c) b (i - 1) (i + n) (walked (limits_of c) places p i d n)
-  unfolding WalkIs EachKeeps
+  walked-is : (i n : ℕ) (p : Stop) (d : Row) → 1 ≤ i → i + n ≤ length c.stops + 1 → ((k : ℕ) → k ≤ i - 1 → b k ≡ stop_on c k) → b i ≡ p → ((k : ℕ) → k < n → b (i + 1 + k) ≡ stop_on c (i + k)) → WalkIs (limits_of c) b (i + n) (walked (limits_of c) places p i d n)
+  unfolding WalkIs
   walked-is i zero p d one most front first middle =
       let here : i - 1 + 1 ≡ i + 0 = omega arith in
       let same : i - 1 + 1 ≡ i = omega arith in
-      subst (λ k. WalkIs (limits_of c) b (i - 1) k (walked (limits_of c) places p i d 0)) here
-      (walk-on (limits_of c) b (i - 1) (i - 1) (Some (get_or places (i - 1) d).at) p (omega arith) (front-at (i - 1) front (omega arith) d, λ k h l. absurd (omega arith)) (sym (ap b same ∙ first)))
+      subst (λ k. WalkIs (limits_of c) b k (walked (limits_of c) places p i d 0)) here
+      (walk-on (limits_of c) b (i - 1) (Some (get_or places (i - 1) d).at) p (front-at (i - 1) front (omega arith) d, front-in (i - 1) front (omega arith)) (sym (ap b same ∙ first)))
   walked-is i (suc n) p d one most front first middle =
       let long = table.long in
       let next : i + n + 1 ≡ i + suc n = omega arith in
       let there : i + n + 1 ≡ i + 1 + n = omega arith in
-      subst (λ k. WalkIs (limits_of c) b (i - 1) k (walked (limits_of c) places p i d (suc n))) next
-      (walk-on (limits_of c) b (i - 1) (i + n) (walked (limits_of c) places p i d n) (get_or places (i + n) d).at.stop (omega arith) (walked-is i n p d one (omega arith) front first (λ k h. middle k (omega arith)))
+      subst (λ k. WalkIs (limits_of c) b k (walked (limits_of c) places p i d (suc n))) next
+      (walk-on (limits_of c) b (i + n) (walked (limits_of c) places p i d n) (get_or places (i + n) d).at.stop (walked-is i n p d one (omega arith) front first (λ k h. middle k (omega arith)))
       ((table.known (i + n) d (omega arith)).at.stop ∙ sym (ap b there ∙ middle n (omega arith))))
 
   pub pair-is : (i j : ℕ) (p q : Stop) (d : Row) → 1 ≤ i → i < j → j ≤ length c.stops + 2 → ((k : ℕ) → k ≤ i - 1 → b k ≡ stop_on c k) → b i ≡ p → ((k : ℕ) → i + 1 + k < j → b (i + 1 + k) ≡ stop_on c (i + k)) → b j ≡ q → ((k : ℕ) → b (j + 1 + k) ≡ stop_on c (j - 1 + k)) → IsEnd (length c.stops + 3) (with_pair (limits_of c) places p q i j d)
   unfolding walk_to
   pair-is i j p q d one order most front first middle second behind =
       let far : i + (j - (i + 1)) ≡ j - 1 = omega arith in
-      let walk = subst (λ k. WalkIs (limits_of c) b (i - 1) k (walked (limits_of c) places p i d (j - (i + 1)))) far (walked-is i (j - (i + 1)) p d one (omega arith) front first (λ k h. middle k (omega arith))) in
-      whole (i - 1) front (omega arith) (length c.stops + 3) _
-      (end-then (limits_of c) b (i - 1) (j - 1) (length c.stops + 3) _ _ (λ at. with_stop (limits_of c) at q (get_or places (j - 1) d)) (omega arith) (omega arith) walk
-      (λ at is. rest-is j (j - 1) (length c.stops + 3) d at q (omega arith) (omega arith) (omega arith) second behind is))
+      let walk = subst (λ k. WalkIs (limits_of c) b k (walked (limits_of c) places p i d (j - (i + 1)))) far (walked-is i (j - (i + 1)) p d one (omega arith) front first (λ k h. middle k (omega arith))) in
+      end-then (limits_of c) b (j - 1) (length c.stops + 3) _ _ (λ at. with_stop (limits_of c) at q (get_or places (j - 1) d)) (omega arith) walk
+      (λ at is kept. rest-is j (j - 1) (length c.stops + 3) d at q (omega arith) (omega arith) (omega arith) second behind is kept)
 
 -- ---- by numbers
 insert-before : (p : Instance) (route : List ℕ) (m x k : ℕ) → m ≤ length route → k ≤ m → place p (insert route m x) k ≡ place p route k
@@ -170,7 +150,7 @@ module _ (p : Instance) (c : Course) (places : List Row) (table : AreKnown c pla
   same_capacity = ap (λ q. q.capacity) is
 
   added-is : (new : List ℕ) (l : ℕ) (o : Option ℤ) → l ≡ length new + 1 → IsEnd c places table (place p new) l o → IsAdded p (route_of c) new o
-  unfolding IsEnd
+  unfolding EndIs
   added-is new l None end never = λ keeps. never (subst (λ l. IsInLimits c.kind c.capacity (place p new) l) (sym end) (subst (λ q. IsInLimits c.kind q (place p new) (length new + 1)) same_capacity (subst (λ q. IsInLimits q p.capacity (place p new) (length new + 1)) same_kind (limits-to p new valid.depot.demand keeps))))
   added-is new l (Some added) end found =
       let keeps : IsInLimits c.kind c.capacity (place p new) (length new + 1) = subst (λ l. IsInLimits c.kind c.capacity (place p new) l) end found.0 in

@@ -12,6 +12,7 @@ use Rattle.nint_dist.specs.Distance.{distance}
 use Rattle.slack_tables.specs.Along.{start_along, moved_along, load_along, length_along, GoesOnAlong}
 use Rattle.slack_tables.specs.Driven.{driven_on, stepped, with_stop}
 use Rattle.slack_tables.specs.Ride.{ride_of, is_in_time, is_kept, is_borne, price}
+use Rattle.slack_tables.specs.Inside.{IsInLimits}
 use Rattle.slack_tables.specs.Places.{IsAt, IsKnown}
 use Rattle.slack_tables.specs.declared.progress.Limits.{Limits}
 use Rattle.slack_tables.specs.declared.progress.Progress.{Progress}
@@ -76,58 +77,58 @@ module _ (limits : Limits) (stops : ℕ → Stop) where
           let reached : a.start ≤ a.stop.latest = rw (is.start, is.stop) (keep.window missed.0) in
           let after = missed.1 in absurd (omega arith)
 
-  -- one stop more
-  unfoldable pub StepIs : ℕ → Option Progress → Type 0
-  StepIs k o = MatchOption o (Keeps k → ⊥) (λ a. IsAt stops k a × Keeps k)
+  -- ---- the places up to one
+  abbrev pub In : ℕ → Type 0
+  In n = IsInLimits limits.kind limits.capacity stops n
 
-  step-is : (k : ℕ) (a : Progress) (s : Stop) → IsAt stops k a → s ≡ stops (k + 1) → StepIs (k + 1) (stepped limits a s)
-  unfolding StepIs
-  step-is k a s is next = by (is_kept limits (ride_of (driven_on a s)) s) refl
+  pub kept-none : In 0
+  kept-none = record { load = λ k h j. absurd (omega arith); window = λ lilim k h j. absurd (omega arith) }
+
+  pub kept-fewer : (m n : ℕ) → m ≤ n → In n → In m
+  kept-fewer m n le is = record { load = λ k h j. is.load k h (omega arith); window = λ lilim k h j. is.window lilim k h (omega arith) }
+
+  pub kept-here : (k n : ℕ) → 1 ≤ k → k ≤ n → In n → Keeps k
+  kept-here k n h j is = record { load = is.load k h j; window = λ lilim. is.window lilim k h j }
+
+  kept-behind : (n l : ℕ) → In n → ((k : ℕ) → n < k → k ≤ l → Keeps k) → In l
+  kept-behind n l is each = record { load = λ k h j. load-by k h j (cases_lt n k); window = λ lilim k h j. window-by lilim k h j (cases_lt n k) }
     where
-      there : IsAt stops (k + 1) (driven_on a s)
-      there = at-next stops k a s is next
+      load-by : (k : ℕ) → 1 ≤ k → k ≤ l → (n < k) ⊎ (k ≤ n) → load_along stops k ≤ℤ pos limits.capacity
+      load-by k h j (inl after) = (each k after j).load
+      load-by k h j (inr before) = is.load k h before
 
-      by : (b : Bool) → is_kept limits (ride_of (driven_on a s)) s ≡ b → MatchOption (cond b (Some (driven_on a s)) None) (Keeps (k + 1) → ⊥) (λ a. IsAt stops (k + 1) a × Keeps (k + 1))
-      by true h = (there, keeps-true (k + 1) _ there h)
-      by false h = keeps-false (k + 1) _ there h
+      window-by : limits.kind ≡ LiLim → (k : ℕ) → 1 ≤ k → k ≤ l → (n < k) ⊎ (k ≤ n) → start_along stops k ≤ (stops k).latest
+      window-by lilim k h j (inl after) = (each k after j).window lilim
+      window-by lilim k h j (inr before) = is.window lilim k h before
 
-  -- each place behind place m, up to place n
-  unfoldable pub EachKeeps : ℕ → ℕ → Type 0
-  EachKeeps m n = (k : ℕ) → m < k → k ≤ n → Keeps k
+  pub kept-more : (n : ℕ) (a : Progress) → In n → IsAt stops (n + 1) a → is_kept limits (ride_of a) a.stop ≡ true → In (n + 1)
+  kept-more n a is at keep = kept-behind n (n + 1) is (λ k h l. let e : n + 1 ≡ k = omega arith in subst Keeps e (keeps-true (n + 1) a at keep))
 
-  unfoldable pub WalkIs : ℕ → ℕ → Option Progress → Type 0
-  WalkIs m n o = MatchOption o (EachKeeps m n → ⊥) (λ a. IsAt stops n a × EachKeeps m n)
+  -- ---- a walk to place n
+  unfoldable pub WalkIs : ℕ → Option Progress → Type 0
+  WalkIs n o = MatchOption o (In n → ⊥) (λ a. IsAt stops n a × In n)
 
-  -- a walk goes on by one stop
-  pub walk-on : (m n : ℕ) (o : Option Progress) (s : Stop) → m ≤ n → WalkIs m n o → s ≡ stops (n + 1) → WalkIs m (n + 1) (option_and_then (λ a. stepped limits a s) o)
-  unfolding WalkIs EachKeeps StepIs
-  walk-on m n None s h never next = λ each. never (λ k l j. each k l (omega arith))
-  walk-on m n (Some a) s h is next = by (stepped limits a s) (step-is n a s is.0 next)
+  -- it goes on by one stop
+  pub walk-on : (n : ℕ) (o : Option Progress) (s : Stop) → WalkIs n o → s ≡ stops (n + 1) → WalkIs (n + 1) (option_and_then (λ a. stepped limits a s) o)
+  unfolding WalkIs
+  walk-on n None s never next = λ is. never (kept-fewer n (n + 1) (omega arith) is)
+  walk-on n (Some a) s is next = by (is_kept limits (ride_of (driven_on a s)) s) refl
     where
-      by : (o : Option Progress) → StepIs (n + 1) o → WalkIs m (n + 1) o
-      by None never = λ each. never (each (n + 1) (omega arith) (omega arith))
-      by (Some b) at = (at.0, λ k l j. split k l j (cases_lt n k))
-        where
-          split : (k : ℕ) → m < k → k ≤ n + 1 → (n < k) ⊎ (k ≤ n) → Keeps k
-          split k l j (inl last) = let e : n + 1 ≡ k = omega arith in subst Keeps e at.1
-          split k l j (inr before) = is.1 k l before
+      there : IsAt stops (n + 1) (driven_on a s)
+      there = at-next stops n a s is.0 next
 
-  -- a route whose length was `old` goes on from place m to its end
-  unfoldable pub EndIs : ℕ → ℕ → ℕ → Option ℤ → Type 0
-  EndIs m l old o = MatchOption o (EachKeeps m l → ⊥) (λ added. EachKeeps m l × (pos (length_along stops l) ≡ pos old +ℤ added))
+      by : (b : Bool) → is_kept limits (ride_of (driven_on a s)) s ≡ b → MatchOption (cond b (Some (driven_on a s)) None) (In (n + 1) → ⊥) (λ a. IsAt stops (n + 1) a × In (n + 1))
+      by true h = (there, kept-more n _ is.1 there h)
+      by false h = λ all. keeps-false (n + 1) _ there h (kept-here (n + 1) (n + 1) (omega arith) (omega arith) all)
 
-  pub end-then : (m n l old : ℕ) (o : Option Progress) (f : Progress → Option ℤ) → m ≤ n → n ≤ l → WalkIs m n o → ((a : Progress) → IsAt stops n a → EndIs n l old (f a)) → EndIs m l old (option_and_then f o)
-  unfolding WalkIs EachKeeps EndIs
-  end-then m n l old None f p q never rest = λ each. never (λ k h j. each k h (omega arith))
-  end-then m n l old (Some a) f p q is rest = both (f a) (rest a is.0)
-    where
-      both : (o : Option ℤ) → EndIs n l old o → EndIs m l old o
-      both None never = λ each. never (λ k h j. each k (omega arith) j)
-      both (Some b) at = (λ k h j. split k h j (cases_lt n k), at.1)
-        where
-          split : (k : ℕ) → m < k → k ≤ l → (n < k) ⊎ (k ≤ n) → Keeps k
-          split k h j (inl after) = at.0 k after j
-          split k h j (inr before) = is.1 k h before
+  -- a route whose length was `old` goes on to its end
+  unfoldable pub EndIs : ℕ → ℕ → Option ℤ → Type 0
+  EndIs l old o = MatchOption o (In l → ⊥) (λ added. In l × (pos (length_along stops l) ≡ pos old +ℤ added))
+
+  pub end-then : (n l old : ℕ) (o : Option Progress) (f : Progress → Option ℤ) → n ≤ l → WalkIs n o → ((a : Progress) → IsAt stops n a → In n → EndIs l old (f a)) → EndIs l old (option_and_then f o)
+  unfolding WalkIs EndIs
+  end-then n l old None f le never rest = λ is. never (kept-fewer n l le is)
+  end-then n l old (Some a) f le is rest = rest a is.0 is.1
 
 -- ---- the rest: place n of the old route and all behind it, at place s of the new one
 module _ (limits : Limits) (a b : ℕ → Stop) (n s rest : ℕ) (same : (k : ℕ) → b (s + k) ≡ a (n + k)) where
@@ -166,8 +167,7 @@ module _ (limits : Limits) (a b : ℕ → Stop) (n s rest : ℕ) (same : (k : �
 
   module _ (tail : Row) (known : IsKnown limits.kind a (n + rest) n tail) (late : (a n).latest ≤ 100000000) where
     -- the load there and the time there, by what the table knows of the place
-    bears-true : (at : Progress) → IsAt b s at → Keeps limits b s → is_borne limits (ride_of at) tail ≡ true → EachKeeps limits b s (s + rest)
-    unfolding EachKeeps
+    bears-true : (at : Progress) → IsAt b s at → Keeps limits b s → is_borne limits (ride_of at) tail ≡ true → (k : ℕ) → s < k → k ≤ s + rest → Keeps limits b k
     bears-true at is here h k m l =
         let both = and_parts _ _ h in
         let e = pos limits.capacity -ℤ (load_along b s -ℤ load_along a n) in
@@ -185,8 +185,7 @@ module _ (limits : Limits) (a b : ℕ → Stop) (n s rest : ℕ) (same : (k : �
               goes_on-true ((known.latest_start lilim (start_along b s) (omega arith)).1 (omega arith)) lilim k m l);
         }
 
-    bears-false : (at : Progress) → IsAt b s at → Keeps limits b s → is_borne limits (ride_of at) tail ≡ false → EachKeeps limits b s (s + rest) → ⊥
-    unfolding EachKeeps
+    bears-false : (at : Progress) → IsAt b s at → Keeps limits b s → is_borne limits (ride_of at) tail ≡ false → ((k : ℕ) → s < k → k ≤ s + rest → Keeps limits b k) → ⊥
     bears-false at is here h each = by (and-false _ _ h)
       where
         start_is : at.start ≡ start_along b s
@@ -222,9 +221,9 @@ module _ (limits : Limits) (a b : ℕ → Stop) (n s rest : ℕ) (same : (k : �
         omega (arith, ints)
 
     -- a stop, then the place itself and all behind it
-    pub stop-is : (m : ℕ) (at : Progress) (stop : Stop) → m + 1 + 1 ≡ s → IsAt b m at → stop ≡ b (m + 1) → EndIs limits b m (s + rest) (length_along a (n + rest)) (with_stop limits at stop tail)
-    unfolding EndIs EachKeeps
-    stop-is m at stop next is here = by (is_kept limits (ride_of first) stop) (is_kept limits (ride_of second) tail.at.stop) (is_borne limits (ride_of second) tail) refl refl refl
+    pub stop-is : (m : ℕ) (at : Progress) (stop : Stop) → m + 1 + 1 ≡ s → IsAt b m at → In limits b m → stop ≡ b (m + 1) → EndIs limits b (s + rest) (length_along a (n + rest)) (with_stop limits at stop tail)
+    unfolding EndIs
+    stop-is m at stop next is kept here = by (is_kept limits (ride_of first) stop) (is_kept limits (ride_of second) tail.at.stop) (is_borne limits (ride_of second) tail) refl refl refl
       where
         first : Progress
         first = driven_on at stop
@@ -238,15 +237,13 @@ module _ (limits : Limits) (a b : ℕ → Stop) (n s rest : ℕ) (same : (k : �
         at-second : IsAt b s second
         at-second = subst (λ k. IsAt b k second) next (at-next b (m + 1) first tail.at.stop at-first (known.at.stop ∙ (sym same-here ∙ ap b (sym next))))
 
-        split : Keeps limits b (m + 1) → Keeps limits b s → ((k : ℕ) → s < k → k ≤ s + rest → Keeps limits b k) → (k : ℕ) → m < k → k ≤ s + rest → (s < k) ⊎ (k ≤ s) → (m + 1 < k) ⊎ (k ≤ m + 1) → Keeps limits b k
-        split one two each k h l (inl after) _ = each k after l
-        split one two each k h l (inr upto) (inl last) = let e : s ≡ k = omega arith in subst (Keeps limits b) e two
-        split one two each k h l (inr _) (inr before) = let e : m + 1 ≡ k = omega arith in subst (Keeps limits b) e one
+        all-in : is_kept limits (ride_of first) stop ≡ true → is_kept limits (ride_of second) tail.at.stop ≡ true → is_borne limits (ride_of second) tail ≡ true → In limits b (s + rest)
+        all-in g h j =
+            let to_s = kept-behind limits b (m + 1) s (kept-more limits b m first kept at-first g) (λ k p l. let e : s ≡ k = omega arith in subst (Keeps limits b) e (keeps-true limits b s second at-second h)) in
+            kept-behind limits b s (s + rest) to_s (bears-true second at-second (keeps-true limits b s second at-second h) j)
 
-        by : (k l t : Bool) → is_kept limits (ride_of first) stop ≡ k → is_kept limits (ride_of second) tail.at.stop ≡ l → is_borne limits (ride_of second) tail ≡ t → EndIs limits b m (s + rest) (length_along a (n + rest)) (cond (k && (l && t)) (Some (price (ride_of at) (distance at.stop stop) (distance stop tail.at.stop) tail)) None)
-        by false l t h _ _ = λ each. keeps-false limits b (m + 1) first at-first h (each (m + 1) (omega arith) (omega arith))
-        by true false t _ h _ = λ each. keeps-false limits b s second at-second h (each s (omega arith) (omega arith))
-        by true true false _ h j = λ each. bears-false second at-second (keeps-true limits b s second at-second h) j (λ k p l. each k (omega arith) l)
-        by true true true g h j =
-            let two = keeps-true limits b s second at-second h in
-            ((λ k p l. split (keeps-true limits b (m + 1) first at-first g) two (bears-true second at-second two j) k p l (cases_lt s k) (cases_lt (m + 1) k)), added-is second at-second)
+        by : (k l t : Bool) → is_kept limits (ride_of first) stop ≡ k → is_kept limits (ride_of second) tail.at.stop ≡ l → is_borne limits (ride_of second) tail ≡ t → EndIs limits b (s + rest) (length_along a (n + rest)) (cond (k && (l && t)) (Some (price (ride_of at) (distance at.stop stop) (distance stop tail.at.stop) tail)) None)
+        by false l t h _ _ = λ all. keeps-false limits b (m + 1) first at-first h (kept-here limits b (m + 1) (s + rest) (omega arith) (omega arith) all)
+        by true false t _ h _ = λ all. keeps-false limits b s second at-second h (kept-here limits b s (s + rest) (omega arith) (omega arith) all)
+        by true true false _ h j = λ all. bears-false second at-second (keeps-true limits b s second at-second h) j (λ k p l. kept-here limits b k (s + rest) (omega arith) l all)
+        by true true true g h j = (all-in g h j, added-is second at-second)

@@ -3,9 +3,9 @@ use Rattle.std.proofs.Math.ListN.{length-set}
 use Rattle.route_sched.specs.Route.{place}
 use Rattle.slack_tables.specs.Inside.{limits_of, IsInLimits}
 use Rattle.slack_tables.specs.Ride.{ride_of, is_kept}
-use Rattle.slack_tables.proofs.CourseLemmas.{limits-from}
-use Rattle.slack_tables.proofs.KeptLemmas.{kept-broken, kept-more}
+use Rattle.slack_tables.proofs.CourseLemmas.{limits-from, limits-to}
 use Rattle.slack_tables.proofs.OpenLemmas.{place-first, at-begin, at-more, within-begin, within-next, open-to-none, open-to-more, open-to-all}
+use Rattle.slack_tables.proofs.SpliceLemmas.{keeps-false, kept-here, kept-more}
 use Rattle.slack_tables.proofs.table.drive_route.Goals as goal
 
 pub loop-k-init : goal.loop-k-init
@@ -28,8 +28,11 @@ returns-then-not-is_kept-clause-kept c =
     let p = c.args.problem.now in
     let k = c.loop-k.k in
     let at = at-more (place p c.args.route.now) k _ _ _ c.loop-k.invariant.come.at c.stop_behind.ensures.stop c.driven_on-at.ensures.value in
-    let never : is_kept (limits_of p) (ride_of c.driven_on-at.result) c.driven_on-at.result.stop ≡ false = search rules in
-    kept-broken p c.args.route.now c.limits_of-limits.ensures.valid.depot.demand k c.driven_on-at.result (omega arith) at never
+    let never : is_kept (limits_of p) (ride_of c.driven_on-at.result) c.driven_on-at.result.stop ≡ false = search rules in (
+      λ e. absurd (cc),
+      λ keep. absurd (keeps-false (limits_of p) (place p c.args.route.now) (k + 1) c.driven_on-at.result at never
+          (kept-here (limits_of p) (place p c.args.route.now) (k + 1) (length c.args.route.now + 1) (omega arith) (omega arith) (limits-to p c.args.route.now c.limits_of-limits.ensures.valid.depot.demand keep))),
+    )
 
 pub loop-k-preserved : goal.loop-k-preserved
 loop-k-preserved c =
