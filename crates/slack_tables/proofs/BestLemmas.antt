@@ -1,5 +1,5 @@
 -- What a scan finds among the places of a table is the best that the definitions allow.
-use Rattle.std.proofs.Common.{◌≡◌, ℕ, ◌+◌, ◌-◌, ℤ, List, [], ◌∷◌, get_or, length, Option, Some, None, refl, ap, arith, subst}
+use Rattle.std.proofs.Common.{◌≡◌, ℕ, ◌+◌, ℤ, List, get_or, length, Option, Some, None, refl, ap, arith, subst}
 use Rattle.std.proofs.lemmas.Int.{ints}
 use Rattle.plan_types.specs.Instance.{Instance, IsInstance}
 use Rattle.plan_types.specs.Laws.{NamedAreFound}
@@ -9,7 +9,7 @@ use Rattle.nint_dist.specs.Distance.{distance}
 use Rattle.slack_tables.specs.Best.{IsFirstOf, Adds, IsBestAddition}
 use Rattle.slack_tables.specs.Along.{stop_on}
 use Rattle.slack_tables.specs.Course.{Course, route_of, IsCourseIn}
-use Rattle.slack_tables.specs.Driven.{with_between, with_pair}
+use Rattle.slack_tables.specs.Driven.{with_single, with_pair}
 use Rattle.slack_tables.specs.Inside.{AreKnown}
 use Rattle.slack_tables.specs.Insertion.{request_named, inserted, ArePlaces, IsAdded}
 use Rattle.slack_tables.specs.Legs.{AreLinked, AreRising}
@@ -40,7 +40,7 @@ module _ (p : Instance) (c : Course) (places : List Row) (table : AreKnown c pla
   pub single-best : (s : Stop) (o : Option Addition) → request_named p name ≡ Some (Single s) → IsFirstOf (AddsSingle (limits_of c) places s kept below d) o → IsBestAddition p (route_of c) (Single s) kept below o
   single-best s o named first = first-same _ _ to from o first
     where
-      answer : (i j : ℕ) → ArePlaces (Single s) (length (route_of c)) i j → IsAdded p (route_of c) (inserted (Single s) i j (route_of c)) (with_between (limits_of c) places (i - 1) (s ∷ []) i d)
+      answer : (i j : ℕ) → ArePlaces (Single s) (length (route_of c)) i j → IsAdded p (route_of c) (inserted (Single s) i j (route_of c)) (with_single (limits_of c) places s i d)
       answer i j are = single-added p c places table valid is law name i j s d _ named are refl
 
       are-places : (a : Addition) → AddsSingle (limits_of c) places s kept below d a → ArePlaces (Single s) (length (route_of c)) a.pickup a.delivery

@@ -5,9 +5,9 @@ use Rattle.std.proofs.lemmas.Bool.{cases_lt}
 use Rattle.std.proofs.lemmas.Int.{ints}
 use Rattle.plan_types.specs.declared.requests.Stop.{Stop}
 use Rattle.nint_dist.specs.Distance.{distance}
-use Rattle.slack_tables.specs.Driven.{driven_on, keeps, stepped, with_tail, with_pair}
+use Rattle.slack_tables.specs.Driven.{driven_on, stepped, with_stop, with_pair}
 use Rattle.slack_tables.specs.Legs.{AreLinked, AreLeast, detour_of}
-use Rattle.slack_tables.specs.Ride.{ride_of, is_served, price, served, served_below}
+use Rattle.slack_tables.specs.Ride.{ride_of, is_kept, is_served, price, served, served_below}
 use Rattle.slack_tables.specs.Walk.{walk_to, IsUnderway}
 use Rattle.slack_tables.specs.declared.progress.Limits.{Limits}
 use Rattle.slack_tables.specs.declared.progress.Progress.{Progress}
@@ -15,10 +15,10 @@ use Rattle.slack_tables.specs.declared.progress.Row.{Row}
 use Rattle.slack_tables.specs.declared.ride.Ride.{Ride}
 use Rattle.slack_tables.specs.declared.scan.Underway.{Underway}
 use Rattle.slack_tables.proofs.ScanLemmas.{int_lt-true}
-use Rattle.slack_tables.proofs.WalkLemmas.{distance-back, walk-first, walk-more, pair-served}
+use Rattle.slack_tables.proofs.WalkLemmas.{distance-back, walk-first, walk-more}
 
 step-far : (limits : Limits) (a b : Progress) (s : Stop) → stepped limits a s ≡ Some b → (b.stop ≡ s) × (b.distance ≡ a.distance + distance a.stop s)
-step-far limits a b s is = by (keeps limits (driven_on a s)) is
+step-far limits a b s is = by (is_kept limits (ride_of (driven_on a s)) s) is
   where
     by : (k : Bool) → cond k (Some (driven_on a s)) None ≡ Some b → (b.stop ≡ s) × (b.distance ≡ a.distance + distance a.stop s)
     by true is = let same : driven_on a s ≡ b = cc in (ap (λ (x : Progress). x.stop) (sym same), ap (λ (x : Progress). x.distance) (sym same))
@@ -83,12 +83,11 @@ module _ (limits : Limits) (places : List Row) (p q : Stop) (i : ℕ) (d : Row) 
 
   -- what the delivery at place j adds, by where the vehicle is then
   pair-price : (j : ℕ) (x : ℤ) → with_pair limits places p q i j d ≡ Some x → {P : Type 0} → ((a : Progress) → walk_to limits places p i d j ≡ Some a → x ≡ pos (a.distance + distance a.stop q + distance q (get_or places (j - 1) d).at.stop) -ℤ pos (get_or places (j - 1) d).at.distance → P) → P
-  unfolding walk_to
   pair-price j x is {P = P} then = by (walk_to limits places p i d j) refl is
     where
-      by : (o : Option Progress) → walk_to limits places p i d j ≡ o → option_and_then (λ at. with_tail limits at (get_or places (j - 1) d)) (option_and_then (λ at. stepped limits at q) o) ≡ Some x → P
+      by : (o : Option Progress) → walk_to limits places p i d j ≡ o → option_and_then (λ at. with_stop limits at q (get_or places (j - 1) d)) o ≡ Some x → P
       by None _ is = absurd (cc)
-      by (Some a) here is' = then a here (served-price limits (ride_of a) a.stop.service (distance a.stop q) q (distance q (get_or places (j - 1) d).at.stop) (get_or places (j - 1) d) x (sym (pair-served limits places p i d q j (ride_of a) a.stop here) ∙ is))
+      by (Some a) here is' = then a here (served-price limits (ride_of a) a.stop.service (distance a.stop q) q (distance q (get_or places (j - 1) d).at.stop) (get_or places (j - 1) d) x is')
 
   -- right behind the pickup
   pub near-is : (x : ℤ) → with_pair limits places p q i (i + 1) d ≡ Some x → x ≡ pos ((get_or places (i - 1) d).at.distance + distance (get_or places (i - 1) d).at.stop p + distance p q + distance (get_or places i d).at.stop q) -ℤ pos (get_or places i d).at.distance

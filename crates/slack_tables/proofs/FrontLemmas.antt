@@ -5,24 +5,23 @@ use Rattle.plan_types.specs.Instance.{Instance}
 use Rattle.plan_types.specs.Limits.{IsVisit}
 use Rattle.plan_types.specs.declared.requests.Stop.{Stop}
 use Rattle.plan_types.specs.declared.requests.Kind.{Kind}
-use Rattle.plan_types.specs.declared.requests.Kind.TheVariants.{LiLim}
 use Rattle.route_sched.specs.Route.{place, stop_numbered}
-use Rattle.slack_tables.specs.Along.{stop_on, start_along, load_along}
+use Rattle.slack_tables.specs.Along.{stop_on}
 use Rattle.slack_tables.specs.Course.{Course, route_of, IsCourseIn}
 use Rattle.slack_tables.specs.Front.{IsFront, HasCome, KnowsFronts}
-use Rattle.slack_tables.specs.Inside.{AreKnown, IsInLimits}
+use Rattle.slack_tables.specs.Inside.{limits_of, AreKnown, IsInLimits}
 use Rattle.slack_tables.specs.Opened.{leaving}
 use Rattle.slack_tables.specs.Places.{IsAt}
 use Rattle.slack_tables.specs.declared.progress.Row.{Row}
 use Rattle.slack_tables.specs.declared.progress.Progress.{Progress}
 use Rattle.slack_tables.proofs.AlongLemmas.{same-start, same-load, same-length}
 use Rattle.slack_tables.proofs.CourseLemmas.{places-on}
-use Rattle.slack_tables.proofs.KeptLemmas.{kept-none}
+use Rattle.slack_tables.proofs.SpliceLemmas.{kept-fewer, kept-none}
 use Rattle.slack_tables.proofs.OpenLemmas.{at-begin, within-begin, place-first}
 
 -- ---- two routes with the same stops up to place n
 module _ (a b : ℕ → Stop) (n : ℕ) (same : (k : ℕ) → k ≤ n → b k ≡ a k) where
-  at-same : (x : Progress) → IsAt a n x → IsAt b n x
+  pub at-same : (x : Progress) → IsAt a n x → IsAt b n x
   at-same x is = record {
     stop = is.stop ∙ sym (same n (omega arith));
     start = is.start ∙ sym (same-start a b n same n (omega arith));
@@ -30,7 +29,7 @@ module _ (a b : ℕ → Stop) (n : ℕ) (same : (k : ℕ) → k ≤ n → b k �
     distance = is.distance ∙ sym (same-length a b n same n (omega arith));
   }
 
-  kept-same : (kind : Kind) (capacity : ℕ) → IsInLimits kind capacity a n → IsInLimits kind capacity b n
+  pub kept-same : (kind : Kind) (capacity : ℕ) → IsInLimits kind capacity a n → IsInLimits kind capacity b n
   kept-same kind capacity is = record {
     load = λ k h j. subst (λ x. x ≤ℤ pos capacity) (sym (same-load a b n same k j)) (is.load k h j);
     window = λ lilim k h j. (let start = same-start a b n same k j in let stop : (b k).latest ≡ (a k).latest = ap (λ s. s.latest) (same k j) in let le = is.window lilim k h j in omega arith);
@@ -75,11 +74,7 @@ module _ (p : Instance) (c : Course) (places : List Row) (table : AreKnown c pla
       capacity = sym (ap (λ (q : Course). q.capacity) course)
 
       kept-fewer-to : (m : ℕ) → m ≤ length c.stops + 1 → IsInLimits p.kind p.capacity (stop_on c) m
-      kept-fewer-to m h =
-          let is = table.limits in
-          let load : (k : ℕ) → 1 ≤ k → k ≤ m → load_along (stop_on c) k ≤ℤ pos c.capacity = λ k j l. is.load k j (omega arith) in
-          let window : c.kind ≡ LiLim → (k : ℕ) → 1 ≤ k → k ≤ m → start_along (stop_on c) k ≤ (stop_on c k).latest = λ lilim k j l. is.window lilim k j (omega arith) in
-          subst (λ x. IsInLimits x p.capacity (stop_on c) m) kind (subst (λ x. IsInLimits c.kind x (stop_on c) m) capacity (record { load = load; window = window }))
+      kept-fewer-to m h = subst (λ x. IsInLimits x p.capacity (stop_on c) m) kind (subst (λ x. IsInLimits c.kind x (stop_on c) m) capacity (kept-fewer (record { kind = c.kind; capacity = c.capacity }) (stop_on c) m (length c.stops + 1) h table.limits))
 
 pub knows-fronts : (p : Instance) (c : Course) (places : List Row) → AreKnown c places → IsCourseIn p c → KnowsFronts p places
 knows-fronts p c places table course = λ route n d within front. has-come p c places table course route n d within front
@@ -89,5 +84,5 @@ pub come-begin : (p : Instance) (route : List ℕ) (n : ℕ) (depot : Stop) (a :
 come-begin p route n depot a none is visit made = subst (λ m. HasCome p route m a) (sym none) (record {
   at = at-begin (place p route) depot a (place-first p route ∙ sym is) made;
   within = within-begin depot a visit made;
-  kept = kept-none p.kind p.capacity (place p route);
+  kept = kept-none (limits_of p) (place p route);
 })

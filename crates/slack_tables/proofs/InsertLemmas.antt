@@ -1,11 +1,9 @@
 -- Stops put into a route: what the code finds is by how much the new route is longer, where it keeps its limits.
-use Rattle.std.proofs.Common.{◌≡◌, ◌≢◌, ℕ, zero, suc, ◌+◌, ◌-◌, ◌<◌, ◌≤◌, ◌⊎◌, Bool, true, false, eqb, cond, ℤ, pos, ◌+ℤ◌, ◌≤ℤ◌, List, [], ◌∷◌, map, drop, get_or, length, Option, Some, None, refl, sym, ap, ◌∙◌, arith, add-one, subst, inl, inr}
-use Rattle.std.specs.Prelude.{IsSome, MatchOption, nat_eq, slice_range}
+use Rattle.std.proofs.Common.{◌≡◌, ◌≢◌, ℕ, zero, suc, ◌+◌, ◌-◌, ◌<◌, ◌≤◌, Bool, true, false, eqb, cond, ℤ, pos, ◌+ℤ◌, List, [], ◌∷◌, get_or, length, Option, Some, None, refl, sym, ap, ◌∙◌, arith, add-one, subst}
+use Rattle.std.specs.Prelude.{IsSome, nat_eq}
 use Rattle.std.specs.List.{AllByRecursion, insert}
 use Rattle.std.specs.Map.{lookup}
-use Rattle.std.proofs.Math.ListN.{length-map}
-use Rattle.std.proofs.lemmas.Bool.{cases_lt, ne_eqb, eq-eqb}
-use Rattle.std.proofs.lemmas.List.{get_or-map, get_or-take, get_or-drop, length-take, length-drop}
+use Rattle.std.proofs.lemmas.Bool.{ne_eqb, eq-eqb}
 use Rattle.std.proofs.lemmas.List.Edits.{get_or-insert_at, get_or-insert_below, get_or-insert_above, length-insert}
 use Rattle.plan_types.specs.Limits.{IsStop}
 use Rattle.plan_types.specs.Request.{IsRequest, stop_in}
@@ -17,131 +15,77 @@ use Rattle.plan_types.specs.declared.requests.Request.TheVariants.{Single, Pair}
 use Rattle.route_sched.specs.Route.{place, stop_numbered}
 use Rattle.route_sched.specs.Schedule.{route_length}
 use Rattle.slack_tables.specs.Course.{Course, route_of, IsCourseIn}
-use Rattle.slack_tables.specs.Along.{stop_on, load_along, length_along}
-use Rattle.slack_tables.specs.Driven.{stepped, walked, with_tail, with_between, with_pair, IsSmallRow}
+use Rattle.slack_tables.specs.Along.{stop_on, length_along}
+use Rattle.slack_tables.specs.Driven.{walked, walk_to, with_stop, with_single, with_pair, IsSmallRow}
 use Rattle.slack_tables.specs.Inside.{IsInLimits, AreKnown}
 use Rattle.slack_tables.specs.Insertion.{request_named, inserted, ArePlaces, IsAdded}
 use Rattle.slack_tables.specs.Places.{IsAt, IsKnown}
 use Rattle.slack_tables.specs.declared.progress.Limits.{Limits}
 use Rattle.slack_tables.specs.declared.progress.Progress.{Progress}
 use Rattle.slack_tables.specs.declared.progress.Row.{Row}
-use Rattle.slack_tables.proofs.AlongLemmas.{same-start, same-load, same-length}
 use Rattle.slack_tables.proofs.CourseLemmas.{places-on, long-on, length-is, limits-to, limits-from}
-use Rattle.slack_tables.proofs.SpliceLemmas.{Keeps, EachKeeps, WalkIs, EndIs, walk-is, step-walk, walk-then, end-then, join-is}
+use Rattle.slack_tables.proofs.FrontLemmas.{at-same, kept-same}
+use Rattle.slack_tables.proofs.SpliceLemmas.{In, WalkIs, EndIs, kept-fewer, walk-on, end-then, stop-is}
 
 -- ---- by place
 abbrev pub limits_of : Course → Limits
 limits_of c = record { kind = c.kind; capacity = c.capacity }
 
 module _ (c : Course) (places : List Row) (table : AreKnown c places) (b : ℕ → Stop) where
-  last : ℕ
-  last = length c.stops + 1
-
-  pub IsEnd : ℕ → Option ℤ → Type 0
-  IsEnd l o = MatchOption o (IsInLimits c.kind c.capacity b l → ⊥) (λ added. IsInLimits c.kind c.capacity b l × (pos (length_along b l) ≡ pos (length_along (stop_on c) (length c.stops + 1)) +ℤ added))
-
-  each-from : (m l : ℕ) → IsInLimits c.kind c.capacity b l → EachKeeps (limits_of c) b m l
-  unfolding EachKeeps
-  each-from m l is = λ k h j. record { load = is.load k (omega arith) j; window = λ lilim. is.window lilim k (omega arith) j }
-
-  each-to : (l : ℕ) → EachKeeps (limits_of c) b 0 l → IsInLimits c.kind c.capacity b l
-  unfolding EachKeeps
-  each-to l each = record { load = λ k h j. (each k h j).load; window = λ lilim k h j. (each k h j).window lilim }
+  -- the new route keeps the limits and is so much longer, or doesn't keep them
+  abbrev pub IsEnd : ℕ → Option ℤ → Type 0
+  IsEnd l o = EndIs (limits_of c) b l (length_along (stop_on c) (length c.stops + 1)) o
 
   module _ (m : ℕ) (front : (k : ℕ) → k ≤ m → b k ≡ stop_on c k) (within : m ≤ length c.stops) where
     -- the front is driven as before
     front-at : (d : Row) → IsAt b m (get_or places m d).at
-    front-at d =
-        let long = table.long in
-        let is = (table.known m d (omega arith)).at in
-        record {
-          stop = is.stop ∙ sym (front m (omega arith));
-          start = is.start ∙ sym (same-start (stop_on c) b m front m (omega arith));
-          load = is.load ∙ sym (same-load (stop_on c) b m front m (omega arith));
-          distance = is.distance ∙ sym (same-length (stop_on c) b m front m (omega arith));
-        }
+    front-at d = let long = table.long in at-same (stop_on c) b m front (get_or places m d).at (table.known m d (omega arith)).at
 
-    front-keeps : EachKeeps (limits_of c) b 0 m
-    unfolding EachKeeps
-    front-keeps = λ k h j.
-        let load : load_along (stop_on c) k ≤ℤ pos c.capacity = table.limits.load k h (omega arith) in
-        record {
-          load = subst (λ x. x ≤ℤ pos c.capacity) (sym (same-load (stop_on c) b m front k j)) load;
-          window = λ lilim. (let le = table.limits.window lilim k h (omega arith) in rw (same-start (stop_on c) b m front k j, front k j) le);
-        }
+    front-in : In (limits_of c) b m
+    front-in = kept-same (stop_on c) b m front c.kind c.capacity (kept-fewer (limits_of c) (stop_on c) m (length c.stops + 1) (omega arith) table.limits)
 
-    whole : (l : ℕ) (o : Option ℤ) → EndIs (limits_of c) b m l (length_along (stop_on c) (length c.stops + 1)) o → IsEnd l o
-    unfolding IsEnd EndIs EachKeeps
-    whole l None never = λ is. never (each-from m l is)
-    whole l (Some added) is = (each-to l (λ k h j. split k h j (cases_lt m k)), is.1)
-      where
-        split : (k : ℕ) → 0 < k → k ≤ l → (m < k) ⊎ (k ≤ m) → Keeps (limits_of c) b k
-        split k h j (inl after) = is.0 k after j
-        split k h j (inr before) = front-keeps k h before
-
-  -- place n of the table and all behind it, behind place m of the new route
-  rest-is : (m n l : ℕ) (d : Row) (at : Progress) → n ≤ length c.stops + 1 → l ≡ m + 1 + (length c.stops + 1 - n) → ((k : ℕ) → b (m + 1 + k) ≡ stop_on c (n + k)) → IsAt b m at → EndIs (limits_of c) b m l (length_along (stop_on c) (length c.stops + 1)) (with_tail (limits_of c) at (get_or places n d))
-  unfolding EndIs EachKeeps
-  rest-is m n l d at h end same is =
+  -- a stop at place j of the new route, then place n of the table and all behind it
+  rest-is : (j n l : ℕ) (d : Row) (at : Progress) (s : Stop) → 1 ≤ j → n ≤ length c.stops + 1 → l ≡ j + 1 + (length c.stops + 1 - n) → b j ≡ s → ((k : ℕ) → b (j + 1 + k) ≡ stop_on c (n + k)) → IsAt b (j - 1) at → In (limits_of c) b (j - 1) → IsEnd l (with_stop (limits_of c) at s (get_or places n d))
+  rest-is j n l d at s one h end here same is kept =
       let long = table.long in
       let rest = length c.stops + 1 - n in
+      let back : j - 1 + 1 ≡ j = omega arith in
       let total : n + rest ≡ length c.stops + 1 = omega arith in
       let known : IsKnown c.kind (stop_on c) (n + rest) n (get_or places n d) = subst (λ q. IsKnown c.kind (stop_on c) q n (get_or places n d)) (sym total) (table.known n d (omega arith)) in
       let small : IsSmallRow (get_or places n d) = table.small n d (omega arith) in
       let due = small.at.visit.latest in
       let late : (get_or places n d).at.stop.latest ≡ (stop_on c n).latest = ap (λ s. s.latest) (known.at.stop) in
-      let is_end = join-is (limits_of c) (stop_on c) b n (m + 1) rest same (get_or places n d) known (omega arith) m at refl is in
-      subst (λ q. EndIs (limits_of c) b m l (length_along (stop_on c) q) (with_tail (limits_of c) at (get_or places n d))) total
-      (subst (λ q. EndIs (limits_of c) b m q (length_along (stop_on c) (n + rest)) (with_tail (limits_of c) at (get_or places n d))) (sym end) is_end)
+      let is_end = stop-is (limits_of c) (stop_on c) b n (j + 1) rest same (get_or places n d) known (omega arith) (j - 1) at s (omega arith) is kept (sym here ∙ ap b (sym back)) in
+      subst (λ q. EndIs (limits_of c) b l (length_along (stop_on c) q) (with_stop (limits_of c) at s (get_or places n d))) total
+      (subst (λ q. EndIs (limits_of c) b q (length_along (stop_on c) (n + rest)) (with_stop (limits_of c) at s (get_or places n d))) (sym end) is_end)
 
-  pub single-is : (i : ℕ) (s : Stop) (d : Row) → 1 ≤ i → i ≤ length c.stops + 1 → ((k : ℕ) → k ≤ i - 1 → b k ≡ stop_on c k) → b i ≡ s → ((k : ℕ) → b (i + 1 + k) ≡ stop_on c (i + k)) → IsEnd (length c.stops + 2) (with_between (limits_of c) places (i - 1) (s ∷ []) i d)
+  pub single-is : (i : ℕ) (s : Stop) (d : Row) → 1 ≤ i → i ≤ length c.stops + 1 → ((k : ℕ) → k ≤ i - 1 → b k ≡ stop_on c k) → b i ≡ s → ((k : ℕ) → b (i + 1 + k) ≡ stop_on c (i + k)) → IsEnd (length c.stops + 2) (with_single (limits_of c) places s i d)
   single-is i s d one most front here behind =
-      let next : i - 1 + 1 ≡ i = omega arith in
-      let step : WalkIs (limits_of c) b (i - 1) i (walked (limits_of c) (get_or places (i - 1) d).at (s ∷ [])) =
-      walk-is (limits_of c) b (s ∷ []) (i - 1) i _ (omega (arith, one_long s)) (front-at (i - 1) front (omega arith) d) on in
-      whole (i - 1) front (omega arith) (length c.stops + 2) _
-      (end-then (limits_of c) b (i - 1) i (length c.stops + 2) _ _ (λ at. with_tail (limits_of c) at (get_or places i d)) (omega arith) (omega arith) step
-      (λ at is. rest-is i i (length c.stops + 2) d at most (omega arith) behind is))
-    where
-      one_long : (s : Stop) → length (s ∷ []) ≡ 1
-      one_long s = omega arith
+      rest-is i i (length c.stops + 2) d (get_or places (i - 1) d).at s one most (omega arith) here behind (front-at (i - 1) front (omega arith) d) (front-in (i - 1) front (omega arith))
 
-      on : (k : ℕ) (e : Stop) → k < length (s ∷ []) → b (i - 1 + 1 + k) ≡ get_or (s ∷ []) k e
-      on zero e h = let at : i - 1 + 1 + 0 ≡ i = omega arith in ap b at ∙ here
-      on (suc k) e h = absurd (omega arith)
-
-  stops_between : ℕ → ℕ → List Stop
-  stops_between i j = map (λ (e : Row). e.at.stop) (slice_range places i (j - 1))
-
-  long_between : (i j : ℕ) → 1 ≤ i → i < j → j ≤ length c.stops + 2 → length (stops_between i j) + i ≡ j - 1
-  unfolding stops_between
-  long_between i j one order most = let long = table.long in omega (arith, length-map (slice_range places i (j - 1)) (λ (e : Row). e.at.stop), length-take (j - 1 - i) (drop i places), length-drop i places)
-
-  on_between : (i j k : ℕ) (d : Row) (e : Stop) → 1 ≤ i → i < j → j ≤ length c.stops + 2 → k < length (stops_between i j) → ((k : ℕ) → i + 1 + k < j → b (i + 1 + k) ≡ stop_on c (i + k)) → b (i + 1 + k) ≡ get_or (stops_between i j) k e
-  unfolding stops_between
-  on_between i j k d e one order most h middle =
+  -- the pickup at place i, then n places of the table
+  walked-is : (i n : ℕ) (p : Stop) (d : Row) → 1 ≤ i → i + n ≤ length c.stops + 1 → ((k : ℕ) → k ≤ i - 1 → b k ≡ stop_on c k) → b i ≡ p → ((k : ℕ) → k < n → b (i + 1 + k) ≡ stop_on c (i + k)) → WalkIs (limits_of c) b (i + n) (walked (limits_of c) places p i d n)
+  unfolding WalkIs
+  walked-is i zero p d one most front first middle =
+      let here : i - 1 + 1 ≡ i + 0 = omega arith in
+      let same : i - 1 + 1 ≡ i = omega arith in
+      subst (λ k. WalkIs (limits_of c) b k (walked (limits_of c) places p i d 0)) here
+      (walk-on (limits_of c) b (i - 1) (Some (get_or places (i - 1) d).at) p (front-at (i - 1) front (omega arith) d, front-in (i - 1) front (omega arith)) (sym (ap b same ∙ first)))
+  walked-is i (suc n) p d one most front first middle =
       let long = table.long in
-      let few = long_between i j one order most in
-      let count = length-map (slice_range places i (j - 1)) (λ (e : Row). e.at.stop) in
-      let read : get_or (map (λ (e : Row). e.at.stop) (slice_range places i (j - 1))) k e ≡ (get_or (slice_range places i (j - 1)) k d).at.stop = get_or-map (λ (e : Row). e.at.stop) (slice_range places i (j - 1)) k d e (omega arith) in
-      let there : get_or (slice_range places i (j - 1)) k d ≡ get_or places (i + k) d = get_or-take (j - 1 - i) (drop i places) k d (omega arith) ∙ get_or-drop i places k d in
-      middle k (omega arith) ∙ sym (read ∙ (ap (λ (e : Row). e.at.stop) there ∙ (table.known (i + k) d (omega arith)).at.stop))
+      let next : i + n + 1 ≡ i + suc n = omega arith in
+      let there : i + n + 1 ≡ i + 1 + n = omega arith in
+      subst (λ k. WalkIs (limits_of c) b k (walked (limits_of c) places p i d (suc n))) next
+      (walk-on (limits_of c) b (i + n) (walked (limits_of c) places p i d n) (get_or places (i + n) d).at.stop (walked-is i n p d one (omega arith) front first (λ k h. middle k (omega arith)))
+      ((table.known (i + n) d (omega arith)).at.stop ∙ sym (ap b there ∙ middle n (omega arith))))
 
   pub pair-is : (i j : ℕ) (p q : Stop) (d : Row) → 1 ≤ i → i < j → j ≤ length c.stops + 2 → ((k : ℕ) → k ≤ i - 1 → b k ≡ stop_on c k) → b i ≡ p → ((k : ℕ) → i + 1 + k < j → b (i + 1 + k) ≡ stop_on c (i + k)) → b j ≡ q → ((k : ℕ) → b (j + 1 + k) ≡ stop_on c (j - 1 + k)) → IsEnd (length c.stops + 3) (with_pair (limits_of c) places p q i j d)
-  unfolding stops_between
+  unfolding walk_to
   pair-is i j p q d one order most front first middle second behind =
-      let next : i - 1 + 1 ≡ i = omega arith in
-      let last_one : j - 1 + 1 ≡ j = omega arith in
-      let start = front-at (i - 1) front (omega arith) d in
-      let pickup : WalkIs (limits_of c) b (i - 1) i (stepped (limits_of c) (get_or places (i - 1) d).at p) =
-      subst (λ k. WalkIs (limits_of c) b (i - 1) k (stepped (limits_of c) (get_or places (i - 1) d).at p)) next (step-walk (limits_of c) b (i - 1) _ p start (sym (ap b next ∙ first))) in
-      let between = walk-then (limits_of c) b (i - 1) i (j - 1) _ (λ at. walked (limits_of c) at (stops_between i j)) (omega arith) (omega arith) pickup
-      (λ at is. walk-is (limits_of c) b (stops_between i j) i (j - 1) at (omega (arith, long_between i j one order most)) is (λ k e h. on_between i j k d e one order most h middle)) in
-      let delivery = walk-then (limits_of c) b (i - 1) (j - 1) j _ (λ at. stepped (limits_of c) at q) (omega arith) (omega arith) between
-      (λ at is. subst (λ k. WalkIs (limits_of c) b (j - 1) k (stepped (limits_of c) at q)) last_one (step-walk (limits_of c) b (j - 1) at q is (sym (ap b last_one ∙ second)))) in
-      whole (i - 1) front (omega arith) (length c.stops + 3) _
-      (end-then (limits_of c) b (i - 1) j (length c.stops + 3) _ _ (λ at. with_tail (limits_of c) at (get_or places (j - 1) d)) (omega arith) (omega arith) delivery
-      (λ at is. rest-is j (j - 1) (length c.stops + 3) d at (omega arith) (omega arith) behind is))
+      let far : i + (j - (i + 1)) ≡ j - 1 = omega arith in
+      let walk = subst (λ k. WalkIs (limits_of c) b k (walked (limits_of c) places p i d (j - (i + 1)))) far (walked-is i (j - (i + 1)) p d one (omega arith) front first (λ k h. middle k (omega arith))) in
+      end-then (limits_of c) b (j - 1) (length c.stops + 3) _ _ (λ at. with_stop (limits_of c) at q (get_or places (j - 1) d)) (omega arith) walk
+      (λ at is kept. rest-is j (j - 1) (length c.stops + 3) d at q (omega arith) (omega arith) (omega arith) second behind is kept)
 
 -- ---- by numbers
 insert-before : (p : Instance) (route : List ℕ) (m x k : ℕ) → m ≤ length route → k ≤ m → place p (insert route m x) k ≡ place p route k
@@ -206,7 +150,7 @@ module _ (p : Instance) (c : Course) (places : List Row) (table : AreKnown c pla
   same_capacity = ap (λ q. q.capacity) is
 
   added-is : (new : List ℕ) (l : ℕ) (o : Option ℤ) → l ≡ length new + 1 → IsEnd c places table (place p new) l o → IsAdded p (route_of c) new o
-  unfolding IsEnd
+  unfolding EndIs
   added-is new l None end never = λ keeps. never (subst (λ l. IsInLimits c.kind c.capacity (place p new) l) (sym end) (subst (λ q. IsInLimits c.kind q (place p new) (length new + 1)) same_capacity (subst (λ q. IsInLimits q p.capacity (place p new) (length new + 1)) same_kind (limits-to p new valid.depot.demand keeps))))
   added-is new l (Some added) end found =
       let keeps : IsInLimits c.kind c.capacity (place p new) (length new + 1) = subst (λ l. IsInLimits c.kind c.capacity (place p new) l) end found.0 in
@@ -216,7 +160,7 @@ module _ (p : Instance) (c : Course) (places : List Row) (table : AreKnown c pla
       let near : length_along (stop_on c) (length c.stops + 1) ≡ route_length p (route_of c) = ap (λ f. length_along f (length c.stops + 1)) (sym on_course) ∙ (ap (λ n. length_along (place p (route_of c)) (n + 1)) long ∙ sym (length-is p (route_of c))) in
       (limits-from p new by_kind, ap pos (sym far) ∙ (found.1 ∙ ap (λ n. pos n +ℤ added) near))
 
-  pub single-added : (law : NamedAreFound) (name i j : ℕ) (s : Stop) (d : Row) (o : Option ℤ) → request_named p name ≡ Some (Single s) → ArePlaces (Single s) (length (route_of c)) i j → o ≡ with_between (limits_of c) places (i - 1) (s ∷ []) i d → IsAdded p (route_of c) (inserted (Single s) i j (route_of c)) o
+  pub single-added : (law : NamedAreFound) (name i j : ℕ) (s : Stop) (d : Row) (o : Option ℤ) → request_named p name ≡ Some (Single s) → ArePlaces (Single s) (length (route_of c)) i j → o ≡ with_single (limits_of c) places s i d → IsAdded p (route_of c) (inserted (Single s) i j (route_of c)) o
   single-added law name i j s d o named are made =
       let stop = request-valid p name (Single s) valid named in
       let own : stop_numbered p s.number ≡ s = stands p name (Single s) s law valid named stop.0 (single-found s) in

@@ -1,19 +1,19 @@
 -- Who comes to a place after a stop's latest time comes to none behind it in time.
-use Rattle.std.proofs.Common.{◌≡◌, ℕ, zero, suc, ◌+◌, ◌-◌, ◌<◌, ◌≤◌, Bool, true, false, cond, ◌&&◌, int_le, pos, List, get_or, length, map, Option, Some, None, refl, sym, ap, ◌∙◌, arith, subst}
-use Rattle.std.specs.Prelude.{slice_range}
+use Rattle.std.proofs.Common.{◌≡◌, ℕ, zero, suc, ◌+◌, ◌-◌, ◌<◌, ◌≤◌, Bool, true, false, cond, ◌&&◌, int_le, pos, List, get_or, length, Option, Some, None, refl, sym, ap, ◌∙◌, arith, subst}
 use Rattle.std.specs.Option.{option_and_then}
 use Rattle.std.proofs.lemmas.Bool.{leb-true, leb-false}
 use Rattle.plan_types.specs.declared.requests.Stop.{Stop}
 use Rattle.plan_types.specs.declared.requests.Kind.{Kind}
 use Rattle.plan_types.specs.declared.requests.Kind.TheVariants.{LiLim, Vrp}
 use Rattle.nint_dist.specs.Distance.{distance}
-use Rattle.slack_tables.specs.Driven.{driven_on, is_in_time, keeps, stepped, walked, with_tail, with_pair}
+use Rattle.slack_tables.specs.Driven.{driven_on, stepped, with_stop, with_pair}
 use Rattle.slack_tables.specs.Legs.{AreRising}
+use Rattle.slack_tables.specs.Ride.{ride_of, is_in_time, is_kept}
 use Rattle.slack_tables.specs.Walk.{walk_to}
 use Rattle.slack_tables.specs.declared.progress.Limits.{Limits}
 use Rattle.slack_tables.specs.declared.progress.Progress.{Progress}
 use Rattle.slack_tables.specs.declared.progress.Row.{Row}
-use Rattle.slack_tables.proofs.WalkLemmas.{walk-more}
+use Rattle.slack_tables.proofs.WalkLemmas.{walk-first, walk-more, pair-over}
 
 rises-by : (places : List Row) → AreRising places → (d : Row) (n k : ℕ) → k + n < length places → (get_or places k d).at.start ≤ (get_or places (k + n) d).at.start
 rises-by places rising d zero k h = let same : k + 0 ≡ k = omega arith in subst (λ m. (get_or places k d).at.start ≤ (get_or places m d).at.start) (sym same) (omega arith)
@@ -32,21 +32,21 @@ late-too : (kind : Kind) (t u latest : ℕ) → t ≤ u → is_in_time kind t la
 late-too LiLim t u latest le late there = let after = leb-false _ _ late in let before = leb-true _ _ there in absurd (omega arith)
 late-too Vrp t u latest le late there = absurd (cc)
 
-pub late-stop : (limits : Limits) (a : Progress) (s : Stop) (t : ℕ) → is_in_time limits.kind t s.latest ≡ false → t ≤ a.start → stepped limits a s ≡ None
-late-stop limits a s t late le = by (int_le (driven_on a s).load (pos limits.capacity)) (is_in_time limits.kind (driven_on a s).start s.latest) refl
+late-kept : (limits : Limits) (a : Progress) (s : Stop) (t : ℕ) → is_in_time limits.kind t s.latest ≡ false → t ≤ a.start → is_kept limits (ride_of (driven_on a s)) s ≡ false
+late-kept limits a s t late le = by (int_le (driven_on a s).load (pos limits.capacity)) (is_in_time limits.kind (driven_on a s).start s.latest) refl
   where
-    by : (k l : Bool) → is_in_time limits.kind (driven_on a s).start s.latest ≡ l → cond (k && l) (Some (driven_on a s)) None ≡ None
+    by : (k l : Bool) → is_in_time limits.kind (driven_on a s).start s.latest ≡ l → (k && l) ≡ false
     by false l there = refl
     by true false there = refl
     by true true there = absurd (late-too limits.kind t (driven_on a s).start s.latest (omega arith) late there)
 
-pub late-pickup : (limits : Limits) (places : List Row) (p q : Stop) (d : Row) → AreRising places → (i k j : ℕ) → 1 ≤ i → i ≤ k → k ≤ length places → is_in_time limits.kind (get_or places (i - 1) d).at.start p.latest ≡ false → with_pair limits places p q k j d ≡ None
-late-pickup limits places p q d rising i k j one order within late =
-    ap (λ o. option_and_then (λ at. with_tail limits at (get_or places (j - 1) d)) (option_and_then (λ at. stepped limits at q) (option_and_then (λ at. walked limits at (map (λ e. e.at.stop) (slice_range places k (j - 1)))) o)))
-    (late-stop limits (get_or places (k - 1) d).at p (get_or places (i - 1) d).at.start late (rises-to places rising d (i - 1) (k - 1) (omega arith) (omega arith)))
+pub late-pickup : (limits : Limits) (places : List Row) (p q : Stop) (d : Row) → AreRising places → (i k j : ℕ) → 1 ≤ i → i ≤ k → k < j → j ≤ length places → is_in_time limits.kind (get_or places (i - 1) d).at.start p.latest ≡ false → with_pair limits places p q k j d ≡ None
+late-pickup limits places p q d rising i k j one order behind within late =
+    let never = late-kept limits (get_or places (k - 1) d).at p (get_or places (i - 1) d).at.start late (rises-to places rising d (i - 1) (k - 1) (omega arith) (omega arith)) in
+    pair-over limits places p k d q (k + 1) j (omega arith) (omega arith) within (walk-first limits places p k d ∙ ap (λ b. cond b (Some (driven_on (get_or places (k - 1) d).at p)) None) never)
 
 pub step-start : (limits : Limits) (a b : Progress) (s : Stop) → stepped limits a s ≡ Some b → (s.earliest ≤ b.start) × (a.start ≤ b.start)
-step-start limits a b s is = by (keeps limits (driven_on a s)) is
+step-start limits a b s is = by (is_kept limits (ride_of (driven_on a s)) s) is
   where
     by : (k : Bool) → cond k (Some (driven_on a s)) None ≡ Some b → (s.earliest ≤ b.start) × (a.start ≤ b.start)
     by true is = let same : driven_on a s ≡ b = cc in let start = ap (λ (x : Progress). x.start) same in (omega arith, omega arith)
@@ -90,14 +90,14 @@ module _ (limits : Limits) (places : List Row) (p q : Stop) (i : ℕ) (d : Row) 
           omega arith
 
   pub late-delivery : (j k : ℕ) → i < j → j ≤ k → k ≤ length places → (a : Progress) → walk_to limits places p i d j ≡ Some a → is_in_time limits.kind a.start q.latest ≡ false → with_pair limits places p q i k d ≡ None
-  unfolding walk_to
   late-delivery j k order behind within a here late = by (walk_to limits places p i d k) refl
     where
       far : j + (k - j) ≡ k
       far = omega arith
 
       by : (o : Option Progress) → walk_to limits places p i d k ≡ o → with_pair limits places p q i k d ≡ None
-      by None never = ap (λ o. option_and_then (λ at. with_tail limits at (get_or places (k - 1) d)) (option_and_then (λ at. stepped limits at q) o)) never
+      by None never = ap (λ o. option_and_then (λ at. with_stop limits at q (get_or places (k - 1) d)) o) never
       by (Some b) there =
           let rises = walk-rises j (k - j) order (omega arith) a b here (ap (walk_to limits places p i d) far ∙ there) in
-          ap (λ o. option_and_then (λ at. with_tail limits at (get_or places (k - 1) d)) (option_and_then (λ at. stepped limits at q) o)) there ∙ ap (λ o. option_and_then (λ at. with_tail limits at (get_or places (k - 1) d)) o) (late-stop limits b q a.start late rises)
+          let never = late-kept limits b q a.start late rises in
+          ap (λ o. option_and_then (λ at. with_stop limits at q (get_or places (k - 1) d)) o) there ∙ rw never refl

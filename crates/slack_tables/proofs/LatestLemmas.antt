@@ -59,10 +59,6 @@ module _ (kind : Kind) (at : ℕ → Stop) (last : ℕ) where
   IsBound i limit = (t : ℕ) → t ≤ 2 ^ 60 → GoesOnAlong kind at last i t ↔ (t ≤ limit)
 
   -- behind the last place nothing is missed
-  pub bound-last : IsBound last 18446744073709551615
-  unfolding IsBound
-  bound-last = λ t few. ((λ _. omega arith), λ _ _ k h l. absurd (omega arith))
-
   pub bound-before : (i limit start : ℕ) → kind ≡ LiLim → i < last → IsBound (i + 1) limit → (at (i + 1)).earliest ≤ start → start ≤ limit → start ≤ (at (i + 1)).latest → (at (i + 1)).latest ≤ 100000000 → stay at i ≤ start → IsBound i (min limit (at (i + 1)).latest - stay at i)
   unfolding IsBound arrival
   bound-before i limit start lilim h next early fits window late long = λ t few. (

@@ -6,7 +6,6 @@ pub mod FillLemmas
 pub mod FirstLemmas
 pub mod FrontLemmas
 pub mod InsertLemmas
-pub mod KeptLemmas
 pub mod KnownLemmas
 pub mod LateLemmas
 pub mod LatestLemmas

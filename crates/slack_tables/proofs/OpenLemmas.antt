@@ -1,9 +1,8 @@
 -- The places of a route, one after another on the way forward.
-use Rattle.std.proofs.Common.{◌≡◌, ℕ, ◌+◌, ◌^◌, ◌<◌, ◌≤◌, ◌⊎◌, true, false, eqb, List, [], ◌∷◌, ◌++◌, get_or, length, Some, refl, sym, ap, ◌∙◌, arith, add-one, subst, inl, inr, set, length-append, get_or-set_same, get_or-set_other}
+use Rattle.std.proofs.Common.{◌≡◌, ℕ, ◌+◌, ◌^◌, ◌<◌, ◌≤◌, ◌⊎◌, true, false, eqb, List, get_or, length, Some, refl, sym, ap, ◌∙◌, arith, add-one, subst, inl, inr, set, length-set, get_or-set_same, get_or-set_other}
 use Rattle.std.specs.List.{Any}
 use Rattle.std.proofs.lemmas.Bool.{cases_lt, ne_eqb, eqb-true}
-use Rattle.std.proofs.Math.ListN.{get_or-append}
-use Rattle.std.proofs.lemmas.List.{get_or_past, get_or_push}
+use Rattle.std.proofs.lemmas.List.{get_or_past}
 use Rattle.std.proofs.lemmas.List.Folds.{Any-from_list_any}
 use Rattle.std.proofs.lemmas.Map.Steps.{length-le_from_distinct_below}
 use Rattle.plan_types.specs.Limits.{IsStop, IsVisit}
@@ -52,7 +51,7 @@ at-first stops depot is = record {
 pub within-first : (depot : Stop) → IsVisit depot → IsWithin 0 (leaving depot)
 within-first depot visit = record { visit = visit; start = (let w = visit.window in let l = visit.latest in omega arith); load = omega arith; distance = omega arith }
 
-pub within-next : (k : ℕ) (a b : Progress) → IsWithin k a → IsNear a b 1 → IsWithin (k + 1) b
+pub within-next : (k : ℕ) (a b : Progress) → IsWithin k a → IsNear a b → IsWithin (k + 1) b
 within-next k a b is near = record {
   visit = near.visit;
   start = (let p = is.start in let q = near.start in omega arith);
@@ -73,32 +72,18 @@ open-is stops k a few at is =
     let small = small-within k a few is in
     record { at = at; latest_start = refl; most_load = refl; within = is; small = record { at = small; most_load = small.load } }
 
-pub open-more : (stops : ℕ → Stop) (places : List Row) (k : ℕ) (a : Progress) → AreOpen stops places → length places ≡ k → k ≤ 40003 → IsAt stops k a → IsWithin k a → AreOpen stops (places ++ open_row a ∷ [])
-open-more stops places k a opened long few at is = λ m d h. by m d (cases_lt m k) h
-  where
-    by : (m : ℕ) (d : Row) → (m < k) ⊎ (k ≤ m) → m < length (places ++ open_row a ∷ []) → IsOpen stops m (get_or (places ++ open_row a ∷ []) m d)
-    by m d (inl before) h = let lt : m < length places = omega arith in subst (IsOpen stops m) (sym (get_or-append places (open_row a ∷ []) d m lt)) (opened m d lt)
-    by m d (inr here) h =
-        let one = length-append places (open_row a ∷ []) in
-        let same : k ≡ m = omega arith in
-        let is_open : IsOpen stops m (open_row a) = subst (λ i. IsOpen stops i (open_row a)) same (open-is stops k a few at is) in
-        subst (IsOpen stops m) (sym (get_or_push places (open_row a) d m (long ∙ same))) is_open
-
-pub open-none : (stops : ℕ → Stop) → AreOpen stops []
-open-none stops = λ k d h. absurd (omega arith)
-
 -- ---- the same by index
 pub open-to-none : (stops : ℕ → Stop) (places : List Row) → AreOpenTo stops 0 places
 open-to-none stops places = record { each = λ k d h _. absurd (omega arith) }
 
-pub open-to-more : (stops : ℕ → Stop) (n : ℕ) (places : List Row) (a : Progress) (e : Row) → AreOpenTo stops n places → n < length places → n ≤ 40003 → IsAt stops n a → IsWithin n a → e ≡ open_row a → AreOpenTo stops (n + 1) (set places n e)
-open-to-more stops n places a e is there few at within made = record { each = λ k d h l. by k d (cases_lt k n) h l }
+pub open-to-more : (stops : ℕ → Stop) (n : ℕ) (places new : List Row) (a : Progress) → AreOpenTo stops n places → n ≤ 40003 → IsAt stops n a → IsWithin n a → new ≡ set places n (open_row a) → AreOpenTo stops (n + 1) new
+open-to-more stops n places new a is few at within made = subst (AreOpenTo stops (n + 1)) (sym made) (record { each = λ k d h l. by k d (cases_lt k n) h (omega (arith, length-set places n (open_row a))) })
   where
-    by : (k : ℕ) (d : Row) → (k < n) ⊎ (n ≤ k) → k < n + 1 → k < length (set places n e) → IsOpen stops k (get_or (set places n e) k d)
-    by k d (inl before) h l = subst (IsOpen stops k) (sym (get_or-set_other places n k e d (omega arith))) (is.each k d before (omega arith))
+    by : (k : ℕ) (d : Row) → (k < n) ⊎ (n ≤ k) → k < n + 1 → k < length places → IsOpen stops k (get_or (set places n (open_row a)) k d)
+    by k d (inl before) h l = subst (IsOpen stops k) (sym (get_or-set_other places n k (open_row a) d (omega arith))) (is.each k d before l)
     by k d (inr here) h l =
         let same : n ≡ k = omega arith in
-        subst (λ i. IsOpen stops i (get_or (set places n e) i d)) same (subst (IsOpen stops n) (sym (get_or-set_same places n e d there ∙ made)) (open-is stops n a few at within))
+        subst (λ i. IsOpen stops i (get_or (set places n (open_row a)) i d)) same (subst (IsOpen stops n) (sym (get_or-set_same places n (open_row a) d (omega arith))) (open-is stops n a few at within))
 
 pub open-to-all : (stops : ℕ → Stop) (n : ℕ) (places : List Row) → AreOpenTo stops n places → length places ≤ n → AreOpen stops places
 open-to-all stops n places is all = λ k d h. is.each k d (omega arith) h
@@ -113,17 +98,6 @@ at-begin stops depot a is made = subst (IsAt stops 0) (sym made) (at-first stops
 
 pub within-begin : (depot : Stop) (a : Progress) → IsVisit depot → a ≡ leaving depot → IsWithin 0 a
 within-begin depot a visit made = subst (IsWithin 0) (sym made) (within-first depot visit)
-
-pub opened-begin : (stops : ℕ → Stop) (places : List Row) → places ≡ [] → AreOpen stops places
-opened-begin stops places none = λ k d h. absurd (omega (arith, ap length none))
-
-pub opened-more : (stops : ℕ → Stop) (before places : List Row) (k : ℕ) (a : Progress) (e : Row) → AreOpen stops before → length before ≡ k → k ≤ 40003 → IsAt stops k a → IsWithin k a → e ≡ open_row a → places ≡ before ++ e ∷ [] → AreOpen stops places
-opened-more stops before places k a e opened long few at is made pushed =
-    let all : places ≡ before ++ open_row a ∷ [] = pushed ∙ ap (λ x. before ++ x ∷ []) made in
-    subst (λ xs. AreOpen stops xs) (sym all) (open-more stops before k a opened long few at is)
-
-pub longer : (before places : List Row) (k : ℕ) (e : Row) → length before ≡ k → places ≡ before ++ e ∷ [] → length places ≡ k + 1
-longer before places k e long pushed = omega (arith, ap length pushed, length-append before (e ∷ []))
 
 pub at-more : (stops : ℕ → Stop) (k : ℕ) (a b : Progress) (s : Stop) → IsAt stops k a → s ≡ stops (k + 1) → b ≡ driven_on a s → IsAt stops (k + 1) b
 at-more stops k a b s is next made = subst (IsAt stops (k + 1)) (sym made) (at-next stops k a s is next)

@@ -46,10 +46,7 @@ module _ (c : Course) (places : List Row) (table : AreKnown c places) (p : Insta
       let kind : p.kind ≡ LiLim = ap (λ q. q.kind) is ∙ lilim in
       subst (λ f. moved_along f i t k ≤ (f k).latest) (sym on) (subst (λ x. x ≤ (place p route k).latest) (moved-is p route i t k) (goes kind k h (omega (arith, long))))
 
-  -- behind the return nothing is missed, and without windows nothing either
-  pub any-at-end : (k : ℕ) → length c.stops + 1 ≤ k → (t : ℕ) → GoesOn p route k t
-  any-at-end k h t = λ lilim m j l. absurd (omega (arith, long))
-
+  -- without windows nothing is missed
   pub any-in-vrp : (k : ℕ) → c.kind ≡ Vrp → (t : ℕ) → GoesOn p route k t
   any-in-vrp k vrp t = λ lilim m j l. absurd (let e : Vrp ≡ LiLim = sym vrp ∙ (sym (ap (λ q. q.kind) is) ∙ lilim) in cc)
 

@@ -1,10 +1,10 @@
 -- The loops over the places of a table: one place after another.
-use Rattle.std.proofs.Common.{◌≡◌, ℕ, ◌+◌, ◌-◌, ◌<◌, ◌≤◌, ℤ, ◌≤ℤ◌, ◌<ℤ◌, int_lt, Bool, true, false, cond, T, w64, to_z, of_z, List, [], ◌∷◌, length, Option, Some, None, refl, sym, ◌∙◌, arith, subst}
+use Rattle.std.proofs.Common.{◌≡◌, ℕ, ◌+◌, ◌<◌, ◌≤◌, ℤ, ◌≤ℤ◌, ◌<ℤ◌, int_lt, Bool, true, false, cond, T, w64, to_z, of_z, List, length, Option, Some, None, refl, sym, ◌∙◌, arith, subst}
 use mir.Val.{SFits}
 use Rattle.std.proofs.lemmas.Int.{ints, to_z-of_z}
 use Rattle.plan_types.specs.declared.requests.Stop.{Stop}
 use Rattle.slack_tables.specs.Best.{ComesFirst, IsFirstOf}
-use Rattle.slack_tables.specs.Driven.{with_between, with_pair}
+use Rattle.slack_tables.specs.Driven.{with_single, with_pair}
 use Rattle.slack_tables.specs.Scan.{PutsSingle, AddsSingle, PutsPair, AddsPair, PutsDelivery, AddsDelivery, none_below, offered, accepted}
 use Rattle.slack_tables.specs.declared.progress.Limits.{Limits}
 use Rattle.slack_tables.specs.declared.progress.Row.{Row}
@@ -46,21 +46,21 @@ module _ (limits : Limits) (places : List Row) (s : Stop) (kept : ℕ) (d : Row)
   singles-begin below best made = subst (SinglesSoFar below (kept + 1)) (sym made) (none-yet (PutsSingle limits places s kept d) by_pickup order below (kept + 1) (λ a is lt. let behind = is.behind in omega arith))
 
   module _ (below : ℤ) (i : ℕ) (best : Best) (so : SinglesSoFar below i best) where
-    single-none : with_between limits places (i - 1) (s ∷ []) i d ≡ None → SinglesSoFar below (i + 1) best
-    single-none none = none-here (PutsSingle limits places s kept d) by_pickup order below best.bound i best.found so (λ a is here under. never-sum _ a.distance none (subst (λ k. with_between limits places (k - 1) (s ∷ []) k d ≡ Some a.distance) here is.added))
+    single-none : with_single limits places s i d ≡ None → SinglesSoFar below (i + 1) best
+    single-none none = none-here (PutsSingle limits places s kept d) by_pickup order below best.bound i best.found so (λ a is here under. never-sum _ a.distance none (subst (λ k. with_single limits places s k d ≡ Some a.distance) here is.added))
 
-    single-dear : (x : ℤ) → with_between limits places (i - 1) (s ∷ []) i d ≡ Some x → (x <ℤ best.bound → ⊥) → SinglesSoFar below (i + 1) best
-    single-dear x some dear = none-here (PutsSingle limits places s kept d) by_pickup order below best.bound i best.found so (λ a is here under. dear (subst (λ y. y <ℤ best.bound) (same-sum _ a.distance x (subst (λ k. with_between limits places (k - 1) (s ∷ []) k d ≡ Some a.distance) here is.added) some) under))
+    single-dear : (x : ℤ) → with_single limits places s i d ≡ Some x → (x <ℤ best.bound → ⊥) → SinglesSoFar below (i + 1) best
+    single-dear x some dear = none-here (PutsSingle limits places s kept d) by_pickup order below best.bound i best.found so (λ a is here under. dear (subst (λ y. y <ℤ best.bound) (same-sum _ a.distance x (subst (λ k. with_single limits places s k d ≡ Some a.distance) here is.added) some) under))
 
-    single-better : (x : ℤ) → kept < i → i < length places → with_between limits places (i - 1) (s ∷ []) i d ≡ Some x → x <ℤ best.bound → SinglesSoFar below (i + 1) (record { bound = x; found = Some (record { distance = x; pickup = i; delivery = i }) })
+    single-better : (x : ℤ) → kept < i → i < length places → with_single limits places s i d ≡ Some x → x <ℤ best.bound → SinglesSoFar below (i + 1) (record { bound = x; found = Some (record { distance = x; pickup = i; delivery = i }) })
     single-better x behind within some less =
         better-here (PutsSingle limits places s kept d) by_pickup order below best.bound i best.found (record { distance = x; pickup = i; delivery = i }) so (record { behind = behind; within = within; one = refl; added = some }) refl less
         (λ a is here under.
-        (let same = same-sum _ x a.distance some (subst (λ k. with_between limits places (k - 1) (s ∷ []) k d ≡ Some a.distance) here is.added) in
+        (let same = same-sum _ x a.distance some (subst (λ k. with_single limits places s k d ≡ Some a.distance) here is.added) in
         let one = is.one in
         first-delivery (record { distance = x; pickup = i; delivery = i }) a (omega (arith, ints)) (sym here) (omega arith)))
 
-    pub single-more : (o : Option ℤ) (next : Best) → kept < i → i < length places → o ≡ with_between limits places (i - 1) (s ∷ []) i d → next ≡ offered best o i i → SinglesSoFar below (i + 1) next
+    pub single-more : (o : Option ℤ) (next : Best) → kept < i → i < length places → o ≡ with_single limits places s i d → next ≡ offered best o i i → SinglesSoFar below (i + 1) next
     single-more None next behind within is made = subst (SinglesSoFar below (i + 1)) (sym made) (single-none (sym is))
     single-more (Some x) next behind within is made = subst (SinglesSoFar below (i + 1)) (sym made) (by (int_lt x best.bound) refl)
       where

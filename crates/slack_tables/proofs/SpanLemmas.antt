@@ -1,5 +1,5 @@
 -- What a request adds to a route at least.
-use Rattle.std.proofs.Common.{◌≡◌, ℕ, ◌+◌, ◌-◌, ◌*◌, ◌/◌, ◌^◌, ◌<◌, ◌≤◌, ◌⊎◌, Bool, true, false, cond, int_le, ℤ, pos, ◌+ℤ◌, ◌-ℤ◌, ◌≤ℤ◌, ◌<ℤ◌, w32, w64, to_z, of_z, List, [], ◌∷◌, get_or, length, Some, None, refl, sym, ap, ◌∙◌, arith, subst, inl, inr}
+use Rattle.std.proofs.Common.{◌≡◌, ℕ, ◌+◌, ◌-◌, ◌*◌, ◌/◌, ◌^◌, ◌<◌, ◌≤◌, ◌⊎◌, Bool, true, false, cond, int_le, ℤ, pos, ◌+ℤ◌, ◌-ℤ◌, ◌≤ℤ◌, ◌<ℤ◌, w32, w64, to_z, of_z, List, ◌∷◌, get_or, length, Some, None, refl, sym, ap, ◌∙◌, arith, subst, inl, inr}
 use mir.Val.{SFits}
 use Rattle.std.specs.Prelude.{unsigned_abs}
 use Rattle.std.proofs.Math.Nat.{div-mul-le_self}
@@ -12,7 +12,7 @@ use Rattle.nint_dist.specs.Distance.{distance, DistancesAreNearestRoots}
 use Rattle.slack_tables.specs.Along.{stop_on}
 use Rattle.slack_tables.specs.Best.{IsFirstOf}
 use Rattle.slack_tables.specs.Course.{Course}
-use Rattle.slack_tables.specs.Driven.{with_between, with_pair}
+use Rattle.slack_tables.specs.Driven.{with_single, with_pair}
 use Rattle.slack_tables.specs.Inside.{AreKnown}
 use Rattle.slack_tables.specs.Legs.{AreLinked, detour_of}
 use Rattle.slack_tables.specs.Ride.{ride_of, driven, is_kept, is_borne, goes_on, is_served, price, served}
@@ -26,7 +26,7 @@ use Rattle.slack_tables.specs.declared.span.Nearest.{Nearest}
 use Rattle.slack_tables.proofs.AlongLemmas.{load-next}
 use Rattle.slack_tables.proofs.DetourLemmas.{near-is, apart-is, served-price}
 use Rattle.slack_tables.proofs.SpliceLemmas.{int_le-true}
-use Rattle.slack_tables.proofs.WalkLemmas.{distance-back, single-served}
+use Rattle.slack_tables.proofs.WalkLemmas.{distance-back}
 
 -- twice a product is at most the sum of the squares
 product-ordered : (u t : ℕ) → u * (u + t) + u * (u + t) ≤ u * u + (u + t) * (u + t)
@@ -219,14 +219,14 @@ module _ (places : List Row) (depot : Stop) (span : Span) (is : IsSpan span plac
           subst Goal zero_m (let first : Goal 0 = omega (arith, ints) in first)
 
 -- ---- a single
-singles-none : (limits : Limits) (places : List Row) (s : Stop) (kept : ℕ) (below : ℤ) (d : Row) → ((i : ℕ) (x : ℤ) → 1 ≤ i → i < length places → with_between limits places (i - 1) (s ∷ []) i d ≡ Some x → below ≤ℤ x) → IsFirstOf (AddsSingle limits places s kept below d) None
+singles-none : (limits : Limits) (places : List Row) (s : Stop) (kept : ℕ) (below : ℤ) (d : Row) → ((i : ℕ) (x : ℤ) → 1 ≤ i → i < length places → with_single limits places s i d ≡ Some x → below ≤ℤ x) → IsFirstOf (AddsSingle limits places s kept below d) None
 singles-none limits places s kept below d dear = λ a is. (let behind = is.0.behind in let le = dear a.pickup a.distance (omega arith) is.0.within is.0.added in let less = is.1 in absurd (omega (arith, ints)))
 
 pub far-single : (limits : Limits) (places : List Row) (depot s : Stop) (kept : ℕ) (below : ℤ) (d : Row) (span : Span) → IsSpan span places → AreHome depot places → IsFarSingle span depot s below → IsFirstOf (AddsSingle limits places s kept below d) None
 far-single limits places depot s kept below d span is at_home dear =
     singles-none limits places s kept below d
     (λ i x one within some.
-    (let cost = served-price limits (ride_of (get_or places (i - 1) d).at) (get_or places (i - 1) d).at.stop.service (distance (get_or places (i - 1) d).at.stop s) s (distance s (get_or places i d).at.stop) (get_or places i d) x (sym (single-served limits places s i d) ∙ some) in
+    (let cost = served-price limits (ride_of (get_or places (i - 1) d).at) (get_or places (i - 1) d).at.stop.service (distance (get_or places (i - 1) d).at.stop s) s (distance s (get_or places i d).at.stop) (get_or places i d) x some in
     let next : i - 1 + 1 ≡ i = omega arith in
     let least = subst (λ k. dear.floor ≤ℤ (pos ((get_or places (i - 1) d).at.distance + distance (get_or places (i - 1) d).at.stop s + distance (get_or places k d).at.stop s) -ℤ pos (get_or places k d).at.distance)) next (detour-le places depot span is at_home s dear.near dear.nearest dear.floor dear.lowest (i - 1) d (omega arith)) in
     let back = distance-back s (get_or places i d).at.stop in
@@ -252,7 +252,7 @@ pub full-single : (limits : Limits) (places : List Row) (s : Stop) (kept : ℕ) 
 full-single limits places s kept below d span is laden over =
     singles-none limits places s kept below d
     (λ i x one within some.
-    (let light = borne limits (ride_of (get_or places (i - 1) d).at) (get_or places (i - 1) d).at.stop.service (distance (get_or places (i - 1) d).at.stop s) s (distance s (get_or places i d).at.stop) (get_or places i d) (served-fits limits (ride_of (get_or places (i - 1) d).at) (get_or places (i - 1) d).at.stop.service (distance (get_or places (i - 1) d).at.stop s) s (distance s (get_or places i d).at.stop) (get_or places i d) x (sym (single-served limits places s i d) ∙ some)) in
+    (let light = borne limits (ride_of (get_or places (i - 1) d).at) (get_or places (i - 1) d).at.stop.service (distance (get_or places (i - 1) d).at.stop s) s (distance s (get_or places i d).at.stop) (get_or places i d) (served-fits limits (ride_of (get_or places (i - 1) d).at) (get_or places (i - 1) d).at.stop.service (distance (get_or places (i - 1) d).at.stop s) s (distance s (get_or places i d).at.stop) (get_or places i d) x some) in
     let next : i - 1 + 1 ≡ i = omega arith in
     let step = subst (λ k. (get_or places k d).at.load ≡ (get_or places (i - 1) d).at.load +ℤ (get_or places k d).at.stop.demand) next (laden.step (i - 1) d (omega arith)) in
     let most = laden.most i d within in

@@ -1,16 +1,18 @@
 -- A route that goes on from a place of another one: it keeps its limits where the stops between do and the place where they join
 -- is reached in time and with few goods.
-use Rattle.std.proofs.Common.{◌≡◌, ℕ, suc, ◌+◌, ◌-◌, ◌<◌, ◌≤◌, ◌⊎◌, Bool, true, false, cond, ◌&&◌, int_le, ℤ, pos, ◌+ℤ◌, ◌-ℤ◌, ◌≤ℤ◌, List, [], ◌∷◌, get_or, length, Option, Some, None, refl, sym, ap, ◌∙◌, arith, subst, inl, inr, T}
+use Rattle.std.proofs.Common.{◌≡◌, ℕ, ◌+◌, ◌-◌, ◌<◌, ◌≤◌, ◌⊎◌, Bool, true, false, cond, ◌&&◌, int_le, ℤ, pos, ◌+ℤ◌, ◌-ℤ◌, ◌≤ℤ◌, Option, Some, None, refl, sym, ap, ◌∙◌, arith, subst, inl, inr, T}
 use Rattle.std.specs.Prelude.{MatchOption}
 use Rattle.std.specs.Option.{option_and_then}
-use Rattle.std.proofs.lemmas.Bool.{cases_lt, leb-true, leb-false}
+use Rattle.std.proofs.lemmas.Bool.{and_parts, cases_lt, leb-true, leb-false}
 use Rattle.std.proofs.lemmas.Int.{ints}
 use Rattle.plan_types.specs.declared.requests.Stop.{Stop}
 use Rattle.plan_types.specs.declared.requests.Kind.{Kind}
 use Rattle.plan_types.specs.declared.requests.Kind.TheVariants.{LiLim, Vrp}
 use Rattle.nint_dist.specs.Distance.{distance}
 use Rattle.slack_tables.specs.Along.{start_along, moved_along, load_along, length_along, GoesOnAlong}
-use Rattle.slack_tables.specs.Driven.{driven_on, is_in_time, keeps, stepped, walked, bears, with_tail}
+use Rattle.slack_tables.specs.Driven.{driven_on, stepped, with_stop}
+use Rattle.slack_tables.specs.Ride.{ride_of, is_in_time, is_kept, is_borne, price}
+use Rattle.slack_tables.specs.Inside.{IsInLimits}
 use Rattle.slack_tables.specs.Places.{IsAt, IsKnown}
 use Rattle.slack_tables.specs.declared.progress.Limits.{Limits}
 use Rattle.slack_tables.specs.declared.progress.Progress.{Progress}
@@ -31,15 +33,6 @@ in_time-true Vrp t u h lilim = absurd (cc)
 in_time-false : (kind : Kind) (t u : ℕ) → is_in_time kind t u ≡ false → (kind ≡ LiLim) × (u < t)
 in_time-false LiLim t u h = (refl, leb-false _ _ h)
 in_time-false Vrp t u h = absurd (cc)
-
--- two tests, one after the other
-record Both (a b : Bool) : Type 0 where
-  first : a ≡ true
-  second : b ≡ true
-
-and-true : (a b : Bool) → (a && b) ≡ true → Both a b
-and-true true b h = record { first = refl; second = h }
-and-true false b h = absurd (cc)
 
 and-false : (a b : Bool) → (a && b) ≡ false → (a ≡ false) ⊎ (b ≡ false)
 and-false true b h = inr h
@@ -66,15 +59,15 @@ module _ (limits : Limits) (stops : ℕ → Stop) where
     pub load : load_along stops k ≤ℤ pos limits.capacity
     pub window : limits.kind ≡ LiLim → start_along stops k ≤ (stops k).latest
 
-  pub keeps-true : (k : ℕ) (a : Progress) → IsAt stops k a → keeps limits a ≡ true → Keeps k
+  pub keeps-true : (k : ℕ) (a : Progress) → IsAt stops k a → is_kept limits (ride_of a) a.stop ≡ true → Keeps k
   keeps-true k a is h =
-      let both = and-true _ _ h in
+      let both = and_parts _ _ h in
       record {
-        load = subst (λ x. x ≤ℤ pos limits.capacity) (is.load) (int_le-true _ _ (both.first));
-        window = λ lilim. (let le : a.start ≤ a.stop.latest = in_time-true limits.kind _ _ (both.second) lilim in rw (← is.start, ← is.stop) le);
+        load = subst (λ x. x ≤ℤ pos limits.capacity) (is.load) (int_le-true _ _ (both.0));
+        window = λ lilim. (let le : a.start ≤ a.stop.latest = in_time-true limits.kind _ _ (both.1) lilim in rw (← is.start, ← is.stop) le);
       }
 
-  pub keeps-false : (k : ℕ) (a : Progress) → IsAt stops k a → keeps limits a ≡ false → Keeps k → ⊥
+  pub keeps-false : (k : ℕ) (a : Progress) → IsAt stops k a → is_kept limits (ride_of a) a.stop ≡ false → Keeps k → ⊥
   keeps-false k a is h keep = by (and-false _ _ h)
     where
       by : (int_le a.load (pos limits.capacity) ≡ false) ⊎ (is_in_time limits.kind a.start a.stop.latest ≡ false) → ⊥
@@ -84,91 +77,58 @@ module _ (limits : Limits) (stops : ℕ → Stop) where
           let reached : a.start ≤ a.stop.latest = rw (is.start, is.stop) (keep.window missed.0) in
           let after = missed.1 in absurd (omega arith)
 
-  -- one stop more
-  unfoldable pub StepIs : ℕ → Option Progress → Type 0
-  StepIs k o = MatchOption o (Keeps k → ⊥) (λ a. IsAt stops k a × Keeps k)
+  -- ---- the places up to one
+  abbrev pub In : ℕ → Type 0
+  In n = IsInLimits limits.kind limits.capacity stops n
 
-  step-is : (k : ℕ) (a : Progress) (s : Stop) → IsAt stops k a → s ≡ stops (k + 1) → StepIs (k + 1) (stepped limits a s)
-  unfolding StepIs
-  step-is k a s is next = by (keeps limits (driven_on a s)) refl
+  pub kept-none : In 0
+  kept-none = record { load = λ k h j. absurd (omega arith); window = λ lilim k h j. absurd (omega arith) }
+
+  pub kept-fewer : (m n : ℕ) → m ≤ n → In n → In m
+  kept-fewer m n le is = record { load = λ k h j. is.load k h (omega arith); window = λ lilim k h j. is.window lilim k h (omega arith) }
+
+  pub kept-here : (k n : ℕ) → 1 ≤ k → k ≤ n → In n → Keeps k
+  kept-here k n h j is = record { load = is.load k h j; window = λ lilim. is.window lilim k h j }
+
+  kept-behind : (n l : ℕ) → In n → ((k : ℕ) → n < k → k ≤ l → Keeps k) → In l
+  kept-behind n l is each = record { load = λ k h j. load-by k h j (cases_lt n k); window = λ lilim k h j. window-by lilim k h j (cases_lt n k) }
     where
-      there : IsAt stops (k + 1) (driven_on a s)
-      there = at-next stops k a s is next
+      load-by : (k : ℕ) → 1 ≤ k → k ≤ l → (n < k) ⊎ (k ≤ n) → load_along stops k ≤ℤ pos limits.capacity
+      load-by k h j (inl after) = (each k after j).load
+      load-by k h j (inr before) = is.load k h before
 
-      by : (b : Bool) → keeps limits (driven_on a s) ≡ b → MatchOption (cond b (Some (driven_on a s)) None) (Keeps (k + 1) → ⊥) (λ a. IsAt stops (k + 1) a × Keeps (k + 1))
-      by true h = (there, keeps-true (k + 1) _ there h)
-      by false h = keeps-false (k + 1) _ there h
+      window-by : limits.kind ≡ LiLim → (k : ℕ) → 1 ≤ k → k ≤ l → (n < k) ⊎ (k ≤ n) → start_along stops k ≤ (stops k).latest
+      window-by lilim k h j (inl after) = (each k after j).window lilim
+      window-by lilim k h j (inr before) = is.window lilim k h before
 
-  -- each place behind place m, up to place n
-  unfoldable pub EachKeeps : ℕ → ℕ → Type 0
-  EachKeeps m n = (k : ℕ) → m < k → k ≤ n → Keeps k
+  pub kept-more : (n : ℕ) (a : Progress) → In n → IsAt stops (n + 1) a → is_kept limits (ride_of a) a.stop ≡ true → In (n + 1)
+  kept-more n a is at keep = kept-behind n (n + 1) is (λ k h l. let e : n + 1 ≡ k = omega arith in subst Keeps e (keeps-true (n + 1) a at keep))
 
-  unfoldable pub WalkIs : ℕ → ℕ → Option Progress → Type 0
-  WalkIs m n o = MatchOption o (EachKeeps m n → ⊥) (λ a. IsAt stops n a × EachKeeps m n)
+  -- ---- a walk to place n
+  unfoldable pub WalkIs : ℕ → Option Progress → Type 0
+  WalkIs n o = MatchOption o (In n → ⊥) (λ a. IsAt stops n a × In n)
 
-  pub walk-is : (ss : List Stop) (m n : ℕ) (a : Progress) → n ≡ m + length ss → IsAt stops m a → ((k : ℕ) (d : Stop) → k < length ss → stops (m + 1 + k) ≡ get_or ss k d) → WalkIs m n (walked limits a ss)
-  unfolding WalkIs EachKeeps StepIs
-  walk-is [] m n a long is on =
-      let end : m ≡ n = omega arith in
-      (subst (λ k. IsAt stops k a) end is, λ k h l. absurd (omega arith))
-  walk-is (s ∷ ss) m n a long is on = by (stepped limits a s) (step-is m a s is here) (λ b at. walk-is ss (m + 1) n b (omega arith) at behind)
+  -- it goes on by one stop
+  pub walk-on : (n : ℕ) (o : Option Progress) (s : Stop) → WalkIs n o → s ≡ stops (n + 1) → WalkIs (n + 1) (option_and_then (λ a. stepped limits a s) o)
+  unfolding WalkIs
+  walk-on n None s never next = λ is. never (kept-fewer n (n + 1) (omega arith) is)
+  walk-on n (Some a) s is next = by (is_kept limits (ride_of (driven_on a s)) s) refl
     where
-      here : s ≡ stops (m + 1)
-      here = let none : m + 1 + 0 ≡ m + 1 = omega arith in sym (subst (λ k. stops k ≡ s) none (on 0 s (omega arith)))
+      there : IsAt stops (n + 1) (driven_on a s)
+      there = at-next stops n a s is.0 next
 
-      behind : (k : ℕ) (d : Stop) → k < length ss → stops (m + 1 + 1 + k) ≡ get_or ss k d
-      behind k d h = let more : m + 1 + suc k ≡ m + 1 + 1 + k = omega arith in subst (λ i. stops i ≡ get_or ss k d) more (on (suc k) d (omega arith))
+      by : (b : Bool) → is_kept limits (ride_of (driven_on a s)) s ≡ b → MatchOption (cond b (Some (driven_on a s)) None) (In (n + 1) → ⊥) (λ a. IsAt stops (n + 1) a × In (n + 1))
+      by true h = (there, kept-more n _ is.1 there h)
+      by false h = λ all. keeps-false (n + 1) _ there h (kept-here (n + 1) (n + 1) (omega arith) (omega arith) all)
 
-      by : (o : Option Progress) → StepIs (m + 1) o → ((b : Progress) → IsAt stops (m + 1) b → WalkIs (m + 1) n (walked limits b ss)) → WalkIs m n (option_and_then (λ b. walked limits b ss) o)
-      by None never rest = λ each. never (each (m + 1) (omega arith) (omega arith))
-      by (Some b) first rest = then (walked limits b ss) (rest b first.0)
-        where
-          then : (o : Option Progress) → WalkIs (m + 1) n o → WalkIs m n o
-          then None never = λ each. never (λ k h l. each k (omega arith) l)
-          then (Some c) is = (is.0, λ k h l. split k h l (cases_lt (m + 1) k))
-            where
-              split : (k : ℕ) → m < k → k ≤ n → (m + 1 < k) ⊎ (k ≤ m + 1) → Keeps k
-              split k h l (inl after) = is.1 k after l
-              split k h l (inr at_once) = let e : m + 1 ≡ k = omega arith in subst Keeps e first.1
+  -- a route whose length was `old` goes on to its end
+  unfoldable pub EndIs : ℕ → ℕ → Option ℤ → Type 0
+  EndIs l old o = MatchOption o (In l → ⊥) (λ added. In l × (pos (length_along stops l) ≡ pos old +ℤ added))
 
-  pub step-walk : (k : ℕ) (a : Progress) (s : Stop) → IsAt stops k a → s ≡ stops (k + 1) → WalkIs k (k + 1) (stepped limits a s)
-  unfolding WalkIs EachKeeps StepIs
-  step-walk k a s is next = by (stepped limits a s) (step-is k a s is next)
-    where
-      by : (o : Option Progress) → StepIs (k + 1) o → WalkIs k (k + 1) o
-      by None never = λ each. never (each (k + 1) (omega arith) (omega arith))
-      by (Some b) at = (at.0, λ m h l. let e : k + 1 ≡ m = omega arith in subst Keeps e at.1)
-
-  -- one walk after another
-  pub walk-then : (m n l : ℕ) (o : Option Progress) (f : Progress → Option Progress) → m ≤ n → n ≤ l → WalkIs m n o → ((a : Progress) → IsAt stops n a → WalkIs n l (f a)) → WalkIs m l (option_and_then f o)
-  unfolding WalkIs EachKeeps
-  walk-then m n l None f p q never rest = λ each. never (λ k h j. each k h (omega arith))
-  walk-then m n l (Some a) f p q is rest = both (f a) (rest a is.0)
-    where
-      both : (o : Option Progress) → WalkIs n l o → WalkIs m l o
-      both None never = λ each. never (λ k h j. each k (omega arith) j)
-      both (Some b) at = (at.0, λ k h j. split k h j (cases_lt n k))
-        where
-          split : (k : ℕ) → m < k → k ≤ l → (n < k) ⊎ (k ≤ n) → Keeps k
-          split k h j (inl after) = at.1 k after j
-          split k h j (inr before) = is.1 k h before
-
-  -- a route whose length was `old` goes on from place m to its end
-  unfoldable pub EndIs : ℕ → ℕ → ℕ → Option ℤ → Type 0
-  EndIs m l old o = MatchOption o (EachKeeps m l → ⊥) (λ added. EachKeeps m l × (pos (length_along stops l) ≡ pos old +ℤ added))
-
-  pub end-then : (m n l old : ℕ) (o : Option Progress) (f : Progress → Option ℤ) → m ≤ n → n ≤ l → WalkIs m n o → ((a : Progress) → IsAt stops n a → EndIs n l old (f a)) → EndIs m l old (option_and_then f o)
-  unfolding WalkIs EachKeeps EndIs
-  end-then m n l old None f p q never rest = λ each. never (λ k h j. each k h (omega arith))
-  end-then m n l old (Some a) f p q is rest = both (f a) (rest a is.0)
-    where
-      both : (o : Option ℤ) → EndIs n l old o → EndIs m l old o
-      both None never = λ each. never (λ k h j. each k (omega arith) j)
-      both (Some b) at = (λ k h j. split k h j (cases_lt n k), at.1)
-        where
-          split : (k : ℕ) → m < k → k ≤ l → (n < k) ⊎ (k ≤ n) → Keeps k
-          split k h j (inl after) = at.0 k after j
-          split k h j (inr before) = is.1 k h before
+  pub end-then : (n l old : ℕ) (o : Option Progress) (f : Progress → Option ℤ) → n ≤ l → WalkIs n o → ((a : Progress) → IsAt stops n a → In n → EndIs l old (f a)) → EndIs l old (option_and_then f o)
+  unfolding WalkIs EndIs
+  end-then n l old None f le never rest = λ is. never (kept-fewer n l le is)
+  end-then n l old (Some a) f le is rest = rest a is.0 is.1
 
 -- ---- the rest: place n of the old route and all behind it, at place s of the new one
 module _ (limits : Limits) (a b : ℕ → Stop) (n s rest : ℕ) (same : (k : ℕ) → b (s + k) ≡ a (n + k)) where
@@ -207,27 +167,25 @@ module _ (limits : Limits) (a b : ℕ → Stop) (n s rest : ℕ) (same : (k : �
 
   module _ (tail : Row) (known : IsKnown limits.kind a (n + rest) n tail) (late : (a n).latest ≤ 100000000) where
     -- the load there and the time there, by what the table knows of the place
-    bears-true : (at : Progress) → IsAt b s at → Keeps limits b s → bears limits at tail ≡ true → EachKeeps limits b s (s + rest)
-    unfolding EachKeeps
+    bears-true : (at : Progress) → IsAt b s at → Keeps limits b s → is_borne limits (ride_of at) tail ≡ true → (k : ℕ) → s < k → k ≤ s + rest → Keeps limits b k
     bears-true at is here h k m l =
-        let both = and-true _ _ h in
+        let both = and_parts _ _ h in
         let e = pos limits.capacity -ℤ (load_along b s -ℤ load_along a n) in
-        let light : (at.load -ℤ tail.at.load +ℤ tail.most_load) ≤ℤ pos limits.capacity = int_le-true _ _ (both.first) in
+        let light : (at.load -ℤ tail.at.load +ℤ tail.most_load) ≤ℤ pos limits.capacity = int_le-true _ _ (both.0) in
         let load_here = is.load in
         let load_tail = known.at.load in
         let most : tail.most_load ≤ℤ e = omega (arith, ints) in
         record {
           load = loads-true (pos limits.capacity) e refl ((known.most_load e).0 most) k (omega arith) l;
           window = λ lilim.
-              (let le : at.start ≤ tail.latest_start = in_time-true limits.kind _ _ (both.second) lilim in
+              (let le : at.start ≤ tail.latest_start = in_time-true limits.kind _ _ (both.1) lilim in
               let start = is.start in
               let window = here.window lilim in
               let stop : (b s).latest ≡ (a n).latest = ap (λ x. x.latest) same-here in
               goes_on-true ((known.latest_start lilim (start_along b s) (omega arith)).1 (omega arith)) lilim k m l);
         }
 
-    bears-false : (at : Progress) → IsAt b s at → Keeps limits b s → bears limits at tail ≡ false → EachKeeps limits b s (s + rest) → ⊥
-    unfolding EachKeeps
+    bears-false : (at : Progress) → IsAt b s at → Keeps limits b s → is_borne limits (ride_of at) tail ≡ false → ((k : ℕ) → s < k → k ≤ s + rest → Keeps limits b k) → ⊥
     bears-false at is here h each = by (and-false _ _ h)
       where
         start_is : at.start ≡ start_along b s
@@ -262,28 +220,30 @@ module _ (limits : Limits) (a b : ℕ → Stop) (n s rest : ℕ) (same : (k : �
         let spliced = spliced-length a b n s same rest in
         omega (arith, ints)
 
-    -- the place itself, and all behind it
-    pub join-is : (m : ℕ) (at : Progress) → m + 1 ≡ s → IsAt b m at → EndIs limits b m (s + rest) (length_along a (n + rest)) (with_tail limits at tail)
-    unfolding EndIs EachKeeps StepIs
-    join-is m at next is = by (stepped limits at tail.at.stop) (step-is limits b m at tail.at.stop is here)
+    -- a stop, then the place itself and all behind it
+    pub stop-is : (m : ℕ) (at : Progress) (stop : Stop) → m + 1 + 1 ≡ s → IsAt b m at → In limits b m → stop ≡ b (m + 1) → EndIs limits b (s + rest) (length_along a (n + rest)) (with_stop limits at stop tail)
+    unfolding EndIs
+    stop-is m at stop next is kept here = by (is_kept limits (ride_of first) stop) (is_kept limits (ride_of second) tail.at.stop) (is_borne limits (ride_of second) tail) refl refl refl
       where
-        here : tail.at.stop ≡ b (m + 1)
-        here = known.at.stop ∙ (sym same-here ∙ ap b (sym next))
+        first : Progress
+        first = driven_on at stop
 
-        by : (o : Option Progress) → StepIs limits b (m + 1) o → EndIs limits b m (s + rest) (length_along a (n + rest)) (option_and_then (λ g. cond (bears limits g tail) (Some (pos g.distance -ℤ pos tail.at.distance)) None) o)
-        by None never = λ each. never (each (m + 1) (omega arith) (omega arith))
-        by (Some g) there = test (bears limits g tail) refl
-          where
-            at-s : IsAt b s g
-            at-s = subst (λ k. IsAt b k g) next there.0
+        second : Progress
+        second = driven_on (driven_on at stop) tail.at.stop
 
-            keeps-s : Keeps limits b s
-            keeps-s = subst (Keeps limits b) next there.1
+        at-first : IsAt b (m + 1) first
+        at-first = at-next b m at stop is here
 
-            split : ((k : ℕ) → s < k → k ≤ s + rest → Keeps limits b k) → (k : ℕ) → m < k → k ≤ s + rest → (s < k) ⊎ (k ≤ s) → Keeps limits b k
-            split each k h l (inl after) = each k after l
-            split each k h l (inr first) = let e : s ≡ k = omega arith in subst (Keeps limits b) e keeps-s
+        at-second : IsAt b s second
+        at-second = subst (λ k. IsAt b k second) next (at-next b (m + 1) first tail.at.stop at-first (known.at.stop ∙ (sym same-here ∙ ap b (sym next))))
 
-            test : (t : Bool) → bears limits g tail ≡ t → EndIs limits b m (s + rest) (length_along a (n + rest)) (cond t (Some (pos g.distance -ℤ pos tail.at.distance)) None)
-            test true h = ((λ k j l. split (bears-true g at-s keeps-s h) k j l (cases_lt s k)), added-is g at-s)
-            test false h = λ each. bears-false g at-s keeps-s h (λ k j l. each k (omega arith) l)
+        all-in : is_kept limits (ride_of first) stop ≡ true → is_kept limits (ride_of second) tail.at.stop ≡ true → is_borne limits (ride_of second) tail ≡ true → In limits b (s + rest)
+        all-in g h j =
+            let to_s = kept-behind limits b (m + 1) s (kept-more limits b m first kept at-first g) (λ k p l. let e : s ≡ k = omega arith in subst (Keeps limits b) e (keeps-true limits b s second at-second h)) in
+            kept-behind limits b s (s + rest) to_s (bears-true second at-second (keeps-true limits b s second at-second h) j)
+
+        by : (k l t : Bool) → is_kept limits (ride_of first) stop ≡ k → is_kept limits (ride_of second) tail.at.stop ≡ l → is_borne limits (ride_of second) tail ≡ t → EndIs limits b (s + rest) (length_along a (n + rest)) (cond (k && (l && t)) (Some (price (ride_of at) (distance at.stop stop) (distance stop tail.at.stop) tail)) None)
+        by false l t h _ _ = λ all. keeps-false limits b (m + 1) first at-first h (kept-here limits b (m + 1) (s + rest) (omega arith) (omega arith) all)
+        by true false t _ h _ = λ all. keeps-false limits b s second at-second h (kept-here limits b s (s + rest) (omega arith) (omega arith) all)
+        by true true false _ h j = λ all. bears-false second at-second (keeps-true limits b s second at-second h) j (λ k p l. kept-here limits b k (s + rest) (omega arith) l all)
+        by true true true g h j = (all-in g h j, added-is second at-second)

@@ -11,9 +11,10 @@ use Rattle.slack_tables.specs.Along.{stay, stop_on, start_along, GoesOnAlong}
 use Rattle.slack_tables.specs.Best.{IsFirstOf}
 use Rattle.slack_tables.specs.Closed.{due_of, is_due_before, comes_late, AreTight, IsClosed, AreClosed}
 use Rattle.slack_tables.specs.Course.{Course}
-use Rattle.slack_tables.specs.Driven.{is_in_time, bears, stepped, with_tail, with_pair}
+use Rattle.slack_tables.specs.Driven.{driven_on, stepped, with_stop, with_pair}
 use Rattle.slack_tables.specs.Inside.{AreKnown}
 use Rattle.slack_tables.specs.Legs.{AreRising}
+use Rattle.slack_tables.specs.Ride.{ride_of, is_in_time, is_kept, price}
 use Rattle.slack_tables.specs.Scan.{AddsPair}
 use Rattle.slack_tables.specs.Walk.{walk_to}
 use Rattle.slack_tables.specs.declared.progress.Limits.{Limits}
@@ -65,32 +66,33 @@ module _ (limits : Limits) (places : List Row) (d : Row) (lilim : limits.kind �
       let way : distance b.stop (get_or places (k + 1) d).at.stop ≡ distance (get_or places k d).at.stop (get_or places (k + 1) d).at.stop = ap (λ s. distance s (get_or places (k + 1) d).at.stop) stop in
       omega arith
 
-  late-between : (a b : Progress) (k : ℕ) (q : Stop) → IsLateFor a k → stepped limits a q ≡ Some b → with_tail limits b (get_or places k d) ≡ None
-  late-between a b k q late is = by (stepped limits b (get_or places k d).at.stop) refl
+  late-between : (a : Progress) (k : ℕ) (q : Stop) → IsLateFor a k → with_stop limits a q (get_or places k d) ≡ None
+  late-between a k q late = by (is_kept limits (ride_of b) q) (is_kept limits (ride_of c) tail.at.stop) (int_le (c.load -ℤ tail.at.load +ℤ tail.most_load) (pos limits.capacity)) (is_in_time limits.kind c.start tail.latest_start) refl refl refl
     where
       tail : Row
       tail = get_or places k d
 
-      over : (c : Progress) → stepped limits b tail.at.stop ≡ Some c → tail.latest_start < c.start
-      over c there =
-          let first = step-after limits a b q lilim is in
-          let stop = first.0 in
-          let here = first.1 in
-          let second = step-after limits b c tail.at.stop lilim there in
-          let arrival = second.1 in
-          let in_time = second.2 in
-          let way : distance b.stop tail.at.stop ≡ distance q tail.at.stop = ap (λ s. distance s tail.at.stop) stop in
+      b : Progress
+      b = driven_on a q
+
+      c : Progress
+      c = driven_on (driven_on a q) tail.at.stop
+
+      over : is_kept limits (ride_of b) q ≡ true → is_kept limits (ride_of c) tail.at.stop ≡ true → tail.latest_start < c.start
+      over first second =
+          let here = (step-after limits a b q lilim (ap (λ k. cond k (Some b) None) first)).1 in
+          let then = step-after limits b c tail.at.stop lilim (ap (λ k. cond k (Some c) None) second) in
+          let arrival = then.1 in
+          let in_time = then.2 in
           let saved = law a.stop tail.at.stop q in
           omega arith
 
-      kept : (c : Progress) → tail.latest_start < c.start → (m l : Bool) → is_in_time limits.kind c.start tail.latest_start ≡ l → cond (m && l) (Some (pos c.distance -ℤ pos tail.at.distance)) None ≡ None
-      kept c less false l there = refl
-      kept c less true false there = refl
-      kept c less true true there = let le = leb-true _ _ (subst (λ k. is_in_time k c.start tail.latest_start ≡ true) lilim there) in absurd (omega arith)
-
-      by : (o : Option Progress) → stepped limits b tail.at.stop ≡ o → option_and_then (λ at. cond (bears limits at tail) (Some (pos at.distance -ℤ pos tail.at.distance)) None) o ≡ None
-      by None never = refl
-      by (Some c) there = kept c (over c there) (int_le (c.load -ℤ tail.at.load +ℤ tail.most_load) (pos limits.capacity)) (is_in_time limits.kind c.start tail.latest_start) refl
+      by : (l m n o : Bool) → is_kept limits (ride_of b) q ≡ l → is_kept limits (ride_of c) tail.at.stop ≡ m → is_in_time limits.kind c.start tail.latest_start ≡ o → cond (l && (m && (n && o))) (Some (price (ride_of a) (distance a.stop q) (distance q tail.at.stop) tail)) None ≡ None
+      by true true true true first second there = let less = over first second in let le = leb-true _ _ (subst (λ k. is_in_time k c.start tail.latest_start ≡ true) lilim there) in absurd (omega arith)
+      by true true true false _ _ _ = refl
+      by true true false o _ _ _ = refl
+      by true false n o _ _ _ = refl
+      by false m n o _ _ _ = refl
 
   module _ (p : Stop) (i : ℕ) (first : (a : Progress) → stepped limits (get_or places (i - 1) d).at p ≡ Some a → IsLateFor a i) where
     walk-late : (n : ℕ) (a : Progress) → i + n < length places → walk_to limits places p i d (i + 1 + n) ≡ Some a → IsLateFor a (i + n)
@@ -116,7 +118,6 @@ module _ (limits : Limits) (places : List Row) (d : Row) (lilim : limits.kind �
 
     -- no delivery behind keeps the limits
     pub closed-by : (q : Stop) (j : ℕ) → i < j → j ≤ length places → with_pair limits places p q i j d ≡ None
-    unfolding walk_to
     closed-by q j order within = by (walk_to limits places p i d j) refl
       where
         far : i + 1 + (j - (i + 1)) ≡ j
@@ -125,13 +126,9 @@ module _ (limits : Limits) (places : List Row) (d : Row) (lilim : limits.kind �
         here : i + (j - (i + 1)) ≡ j - 1
         here = omega arith
 
-        after : (a : Progress) → IsLateFor a (j - 1) → (o : Option Progress) → stepped limits a q ≡ o → option_and_then (λ at. with_tail limits at (get_or places (j - 1) d)) o ≡ None
-        after a late None never = refl
-        after a late (Some b) is = late-between a b (j - 1) q late is
-
-        by : (o : Option Progress) → walk_to limits places p i d j ≡ o → option_and_then (λ at. with_tail limits at (get_or places (j - 1) d)) (option_and_then (λ at. stepped limits at q) o) ≡ None
+        by : (o : Option Progress) → walk_to limits places p i d j ≡ o → option_and_then (λ at. with_stop limits at q (get_or places (j - 1) d)) o ≡ None
         by None never = refl
-        by (Some a) there = after a (subst (IsLateFor a) here (walk-late (j - (i + 1)) a (omega arith) (ap (walk_to limits places p i d) far ∙ there))) (stepped limits a q) refl
+        by (Some a) there = late-between a (j - 1) q (subst (IsLateFor a) here (walk-late (j - (i + 1)) a (omega arith) (ap (walk_to limits places p i d) far ∙ there)))
 
 -- ---- what the code asks
 module _ (limits : Limits) (places : List Row) (p : Stop) (i : ℕ) (are : AreTight limits.kind places) (law : DetoursSaveAtMostOne) where
@@ -204,7 +201,7 @@ closed-join limits places p m n o are rest = λ i behind before. by i behind bef
 
 -- behind a place that is started after the pickup's latest time
 pub closed-past : (limits : Limits) (places : List Row) (p : Stop) (i : ℕ) (e : Row) → AreRising places → 1 ≤ i → ((d : Row) → e ≡ get_or places (i - 1) d) → is_in_time limits.kind e.at.start p.latest ≡ false → AreClosed limits places p (i - 1) (length places)
-closed-past limits places p i e rising one is late = λ k behind before q j d _ _. late-pickup limits places p q d rising i k j one (omega arith) (omega arith) (subst (λ (e : Row). is_in_time limits.kind e.at.start p.latest ≡ false) (is d) late)
+closed-past limits places p i e rising one is late = λ k behind before q j d order last. late-pickup limits places p q d rising i k j one (omega arith) order last (subst (λ (e : Row). is_in_time limits.kind e.at.start p.latest ≡ false) (is d) late)
 
 -- ---- what is closed adds nothing
 pub open-only : (limits : Limits) (places : List Row) (p q : Stop) (kept first : ℕ) (below : ℤ) (d : Row) (o : Option Addition) → kept < first → AreClosed limits places p kept first → IsFirstOf (AddsPair limits places p q (first - 1) below d) o → IsFirstOf (AddsPair limits places p q kept below d) o

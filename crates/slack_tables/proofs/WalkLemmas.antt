@@ -1,14 +1,13 @@
 -- A vehicle on its way with a pickup on board, place after place.
-use Rattle.std.proofs.Common.{◌≡◌, ℕ, zero, suc, ◌+◌, ◌-◌, ◌^◌, ◌<◌, ◌≤◌, Bool, true, false, cond, ◌&&◌, int_lt, ℤ, pos, ◌-ℤ◌, List, [], ◌∷◌, ◌++◌, map, take, drop, get_or, length, Option, Some, None, refl, sym, ap, ◌∙◌, arith, subst}
-use Rattle.std.specs.Prelude.{All, nat_lt, slice_range, unsigned_abs}
+use Rattle.std.proofs.Common.{◌≡◌, ℕ, zero, suc, ◌+◌, ◌-◌, ◌^◌, ◌<◌, ◌≤◌, Bool, true, false, cond, int_lt, T, ℤ, pos, ◌-ℤ◌, ◌<ℤ◌, List, get_or, length, Option, Some, None, refl, sym, ap, ◌∙◌, arith, subst}
+use Rattle.std.specs.Prelude.{All, nat_lt, unsigned_abs}
 use Rattle.std.specs.Option.{option_and_then, option_map}
 use Rattle.std.proofs.lemmas.Bool.{ltb-true, ltb-false}
 use Rattle.std.proofs.lemmas.Int.{ints}
-use Rattle.std.proofs.lemmas.List.{take_more, map-append, get_or-drop, length-drop}
 use Rattle.plan_types.specs.declared.requests.Stop.{Stop}
 use Rattle.nint_dist.specs.Distance.{distance}
-use Rattle.slack_tables.specs.Driven.{bears, stepped, walked, with_tail, with_between, with_pair, IsSmallRow}
-use Rattle.slack_tables.specs.Ride.{ride_at, ride_of, driven, is_kept, is_borne, ridden, is_served, price, served, served_below, IsSmallRide, IsNearRide}
+use Rattle.slack_tables.specs.Driven.{stepped, walked, with_stop, with_single, with_pair, IsSmallRow}
+use Rattle.slack_tables.specs.Ride.{ride_at, ride_of, driven, is_kept, ridden, is_served, price, served, served_below, IsSmallRide, IsNearRide}
 use Rattle.slack_tables.specs.Legs.{AreLinked}
 use Rattle.slack_tables.specs.Scan.{offered, IsNearUnderway, picked_up, gone_on}
 use Rattle.slack_tables.specs.Walk.{walk_to, IsUnderway, IsNearWay}
@@ -29,29 +28,23 @@ distance-back a b =
     rw (x, y) refl
 
 -- ---- a ride is what a vehicle's progress is at a stop
-pub stepped-is : (limits : Limits) (r : Ride) (a s : Stop) → stepped limits (ride_at r a) s ≡ option_map (λ r. ride_at r s) (ridden limits r a.service (distance a s) s)
+stepped-is : (limits : Limits) (r : Ride) (a s : Stop) → stepped limits (ride_at r a) s ≡ option_map (λ r. ride_at r s) (ridden limits r a.service (distance a s) s)
 stepped-is limits r a s = by (is_kept limits (driven r a.service (distance a s) s) s)
   where
     by : (b : Bool) → cond b (Some (ride_at (driven r a.service (distance a s) s) s)) None ≡ option_map (λ r. ride_at r s) (cond b (Some (driven r a.service (distance a s) s)) None)
     by true = refl
     by false = refl
 
-pub served-is : (limits : Limits) (r : Ride) (a s : Stop) (tail : Row) → option_and_then (λ at. with_tail limits at tail) (stepped limits (ride_at r a) s) ≡ served limits r a.service (distance a s) s (distance s tail.at.stop) tail
-served-is limits r a s tail = by (is_kept limits first s)
+-- every price is below the greatest number
+pub served-any : (limits : Limits) (a : Progress) (s : Stop) (tail e : Row) (r : Ride) (service to from : ℕ) → r ≡ ride_of a → service ≡ a.stop.service → to ≡ distance a.stop s → from ≡ distance tail.at.stop s → e ≡ tail → r.distance + to + from ≤ 2 ^ 60 → served_below (pos 9223372036854775807) limits r service to s from e ≡ with_stop limits a s tail
+served-any limits a s tail e r service to from is_ride is_service is_to is_from is_tail few =
+    let less : price r to from e <ℤ pos 9223372036854775807 = omega (arith, ints) in
+    let back : from ≡ distance s tail.at.stop = is_from ∙ distance-back tail.at.stop s in
+    by (int_lt (price r to from e) (pos 9223372036854775807)) less.lt ∙ rw (is_ride, is_service, is_to, back, is_tail) refl
   where
-    first : Ride
-    first = driven r a.service (distance a s) s
-
-    second : Ride
-    second = driven (driven r a.service (distance a s) s) s.service (distance s tail.at.stop) tail.at.stop
-
-    after : (k : Bool) → option_and_then (λ at. cond (bears limits at tail) (Some (pos at.distance -ℤ pos tail.at.distance)) None) (cond k (Some (ride_at second tail.at.stop)) None) ≡ cond (k && is_borne limits second tail) (Some (price r (distance a s) (distance s tail.at.stop) tail)) None
-    after true = refl
-    after false = refl
-
-    by : (k : Bool) → option_and_then (λ at. with_tail limits at tail) (cond k (Some (ride_at first s)) None) ≡ cond (k && (is_kept limits second tail.at.stop && is_borne limits second tail)) (Some (price r (distance a s) (distance s tail.at.stop) tail)) None
-    by true = after (is_kept limits second tail.at.stop)
-    by false = refl
+    by : (b : Bool) → T b → cond b (served limits r service to s from e) None ≡ served limits r service to s from e
+    by true _ = refl
+    by false none = absurd none
 
 -- what costs the bound or more is not taken anyway
 pub offer-below : (best : Best) (kept : Bool) (x : ℤ) (i j : ℕ) → offered best (cond (int_lt x best.bound) (cond kept (Some x) None) None) i j ≡ offered best (cond kept (Some x) None) i j
@@ -63,45 +56,27 @@ offer-below best kept x i j = by kept (int_lt x best.bound) refl
     by true false h = rw h refl
 
 -- ---- along the places of the table
-walked-push : (limits : Limits) (at : Progress) (ss : List Stop) (s : Stop) → walked limits at (ss ++ s ∷ []) ≡ option_and_then (λ b. stepped limits b s) (walked limits at ss)
-walked-push limits at [] s = by (stepped limits at s)
-  where
-    by : (o : Option Progress) → option_and_then (λ b. Some b) o ≡ o
-    by None = refl
-    by (Some b) = refl
-walked-push limits at (t ∷ ss) s = by (stepped limits at t) (λ b. walked-push limits b ss s)
-  where
-    by : (o : Option Progress) → ((b : Progress) → walked limits b (ss ++ s ∷ []) ≡ option_and_then (λ b. stepped limits b s) (walked limits b ss)) → option_and_then (λ b. walked limits b (ss ++ s ∷ [])) o ≡ option_and_then (λ b. stepped limits b s) (option_and_then (λ b. walked limits b ss) o)
-    by None each = refl
-    by (Some b) each = each b
-
 module _ (limits : Limits) (places : List Row) (p : Stop) (i : ℕ) (d : Row) where
   pub walk-first : walk_to limits places p i d (i + 1) ≡ stepped limits (get_or places (i - 1) d).at p
   unfolding walk_to
-  walk-first =
-      let none : i + 1 - 1 - i ≡ 0 = omega arith in
-      rw none (by (stepped limits (get_or places (i - 1) d).at p))
-    where
-      by : (o : Option Progress) → option_and_then (λ at. Some at) o ≡ o
-      by None = refl
-      by (Some a) = refl
-
-  stops-more : (j : ℕ) → i < j → j ≤ length places → map (λ (e : Row). e.at.stop) (slice_range places i (j + 1 - 1)) ≡ map (λ (e : Row). e.at.stop) (slice_range places i (j - 1)) ++ (get_or places (j - 1) d).at.stop ∷ []
-  stops-more j order within =
-      let one : j + 1 - 1 - i ≡ (j - 1 - i) + 1 = omega arith in
-      let far : i + (j - 1 - i) ≡ j - 1 = omega arith in
-      let more : take ((j - 1 - i) + 1) (drop i places) ≡ take (j - 1 - i) (drop i places) ++ get_or (drop i places) (j - 1 - i) d ∷ [] = take_more (drop i places) (j - 1 - i) d (omega (arith, length-drop i places)) in
-      let last : get_or (drop i places) (j - 1 - i) d ≡ get_or places (j - 1) d = get_or-drop i places (j - 1 - i) d ∙ ap (λ k. get_or places k d) far in
-      let split : slice_range places i (j + 1 - 1) ≡ slice_range places i (j - 1) ++ get_or places (j - 1) d ∷ [] = ap (λ n. take n (drop i places)) one ∙ (more ∙ ap (λ e. take (j - 1 - i) (drop i places) ++ e ∷ []) last) in
-      ap (λ xs. map (λ (e : Row). e.at.stop) xs) split ∙ map-append (λ (e : Row). e.at.stop) (slice_range places i (j - 1)) (get_or places (j - 1) d ∷ [])
+  walk-first = let none : i + 1 - (i + 1) ≡ 0 = omega arith in ap (walked limits places p i d) none
 
   pub walk-more : (j : ℕ) → i < j → j ≤ length places → walk_to limits places p i d (j + 1) ≡ option_and_then (λ at. stepped limits at (get_or places (j - 1) d).at.stop) (walk_to limits places p i d j)
   unfolding walk_to
-  walk-more j order within = by (stepped limits (get_or places (i - 1) d).at p)
-    where
-      by : (o : Option Progress) → option_and_then (λ at. walked limits at (map (λ e. e.at.stop) (slice_range places i (j + 1 - 1)))) o ≡ option_and_then (λ at. stepped limits at (get_or places (j - 1) d).at.stop) (option_and_then (λ at. walked limits at (map (λ e. e.at.stop) (slice_range places i (j - 1)))) o)
-      by None = refl
-      by (Some at) = ap (λ ss. walked limits at ss) (stops-more j order within) ∙ walked-push limits at (map (λ (e : Row). e.at.stop) (slice_range places i (j - 1))) (get_or places (j - 1) d).at.stop
+  walk-more j order within =
+      let more : j + 1 - (i + 1) ≡ suc (j - (i + 1)) = omega arith in
+      let here : i + (j - (i + 1)) ≡ j - 1 = omega arith in
+      ap (walked limits places p i d) more ∙ ap (λ k. option_and_then (λ at. stepped limits at (get_or places k d).at.stop) (walked limits places p i d (j - (i + 1)))) here
+
+  -- the same by rides
+  pub first-ride : (before : Row) (to : ℕ) (o : Option Ride) → before ≡ get_or places (i - 1) d → to ≡ distance before.at.stop p → o ≡ ridden limits (ride_of before.at) before.at.stop.service to p → walk_to limits places p i d (i + 1) ≡ option_map (λ r. ride_at r p) o
+  first-ride before to o is_before is_to made =
+      walk-first ∙ (ap (λ (e : Row). stepped limits e.at p) (sym is_before) ∙ (stepped-is limits (ride_of before.at) before.at.stop p ∙ ap (λ o. option_map (λ r. ride_at r p) o) (sym (made ∙ rw is_to refl))))
+
+  pub next-ride : (j : ℕ) (r : Ride) (a : Stop) (e : Row) (leg : ℕ) (o : Option Ride) → i < j → j ≤ length places → walk_to limits places p i d j ≡ Some (ride_at r a) → e ≡ get_or places (j - 1) d → leg ≡ distance a e.at.stop → o ≡ ridden limits r a.service leg e.at.stop → walk_to limits places p i d (j + 1) ≡ option_map (λ r. ride_at r e.at.stop) o
+  next-ride j r a e leg o order within here is_e is_leg made =
+      walk-more j order within ∙ (ap (λ (e : Row). option_and_then (λ at. stepped limits at e.at.stop) (walk_to limits places p i d j)) (sym is_e) ∙ (ap (λ o. option_and_then (λ at. stepped limits at e.at.stop) o) here ∙
+      (stepped-is limits r a e.at.stop ∙ ap (λ o. option_map (λ r. ride_at r e.at.stop) o) (sym (made ∙ rw is_leg refl)))))
 
   -- where the vehicle can't go on, it doesn't come further
   walk-over : (j n : ℕ) → i < j → j + n ≤ length places + 1 → walk_to limits places p i d j ≡ None → walk_to limits places p i d (j + n) ≡ None
@@ -114,16 +89,13 @@ module _ (limits : Limits) (places : List Row) (p : Stop) (i : ℕ) (d : Row) wh
   module _ (q : Stop) where
     -- nor does a delivery further on keep the limits
     pub pair-over : (j k : ℕ) → i < j → j ≤ k → k ≤ length places → walk_to limits places p i d j ≡ None → with_pair limits places p q i k d ≡ None
-    unfolding walk_to
     pair-over j k order behind within never =
         let far : j + (k - j) ≡ k = omega arith in
         let there : walk_to limits places p i d k ≡ None = subst (λ m. walk_to limits places p i d m ≡ None) far (walk-over j (k - j) order (omega arith) never) in
-        ap (λ o. option_and_then (λ at. with_tail limits at (get_or places (k - 1) d)) (option_and_then (λ at. stepped limits at q) o)) there
+        ap (λ o. option_and_then (λ at. with_stop limits at q (get_or places (k - 1) d)) o) there
 
     pub pair-served : (j : ℕ) (r : Ride) (a : Stop) → walk_to limits places p i d j ≡ Some (ride_at r a) → with_pair limits places p q i j d ≡ served limits r a.service (distance a q) q (distance q (get_or places (j - 1) d).at.stop) (get_or places (j - 1) d)
-    unfolding walk_to
-    pair-served j r a here =
-        ap (λ o. option_and_then (λ at. with_tail limits at (get_or places (j - 1) d)) (option_and_then (λ at. stepped limits at q) o)) here ∙ served-is limits r a q (get_or places (j - 1) d)
+    pair-served j r a here = ap (λ o. option_and_then (λ at. with_stop limits at q (get_or places (j - 1) d)) o) here
 
 -- ---- the ways of the table
 pub linked-rises : (places : List Row) → AreLinked places → (j : ℕ) (d : Row) → 1 ≤ j → j < length places → (get_or places (j - 1) d).at.distance ≤ (get_or places j d).at.distance
@@ -139,13 +111,10 @@ linked-edge places linked j d one within =
     omega arith
 
 -- ---- the loop over the delivery's places
-pub small-place : (places : List Row) (k : ℕ) (e : Row) → All IsSmallRow places → k < length places → ((d : Row) → e ≡ get_or places k d) → IsSmallRow e
-small-place places k e small h is = subst IsSmallRow (sym (is e)) (small k e h)
-
 module _ (limits : Limits) (places : List Row) (p q : Stop) (i : ℕ) (d : Row) where
   module _ (t : Trip) (before : Row) (to onward : ℕ) (is_limits : t.limits ≡ limits) (is_p : t.pickup ≡ p) (is_before : before ≡ get_or places (i - 1) d) (is_to : to ≡ distance before.at.stop p) where
     first : walk_to limits places p i d (i + 1) ≡ option_map (λ r. ride_at r p) (ridden t.limits (ride_of before.at) before.at.stop.service to t.pickup)
-    first = walk-first limits places p i d ∙ (ap (λ (e : Row). stepped limits e.at p) (sym is_before) ∙ (stepped-is limits (ride_of before.at) before.at.stop p ∙ rw (is_to, is_limits, is_p) refl))
+    first = first-ride limits places p i d before to _ is_before is_to (rw (is_limits, is_p) refl)
 
     pub underway-begin : (on : Underway) → t.delivery ≡ q → t.across ≡ distance t.pickup t.delivery → onward ≡ distance (get_or places i d).at.stop p → Some on ≡ picked_up t before.at to onward → IsUnderway limits places p q i (i + 1) d on
     underway-begin on is_q is_across is_onward made = by (ridden t.limits (ride_of before.at) before.at.stop.service to t.pickup) refl made
@@ -181,8 +150,7 @@ module _ (limits : Limits) (places : List Row) (p q : Stop) (i : ℕ) (d : Row) 
 
   module _ (j : ℕ) (on : Underway) (order : i < j) (within : j ≤ length places) where
     walk-next : IsUnderway limits places p q i j d on → walk_to limits places p i d (j + 1) ≡ option_map (λ r. ride_at r (get_or places (j - 1) d).at.stop) (ridden limits on.ride on.service on.onward (get_or places (j - 1) d).at.stop)
-    walk-next is =
-        walk-more limits places p i d j order within ∙ (ap (λ o. option_and_then (λ at. stepped limits at (get_or places (j - 1) d).at.stop) o) is.walk ∙ (stepped-is limits on.ride is.stop (get_or places (j - 1) d).at.stop ∙ rw (is.service, is.onward) refl))
+    walk-next is = next-ride limits places p i d j on.ride is.stop (get_or places (j - 1) d) on.onward _ order within is.walk refl is.onward (rw is.service refl)
 
     pub underway-more : IsUnderway limits places p q i j d on → AreLinked places → 1 ≤ i → (to : ℕ) (next : Underway) → to ≡ distance (get_or places (j - 1) d).at.stop q → Some next ≡ gone_on limits on places j to d → IsUnderway limits places p q i (j + 1) d next
     underway-more is linked one to next is_to made = by (nat_lt j (length places)) refl (ridden limits on.ride on.service on.onward (get_or places (j - 1) d).at.stop) refl made
@@ -257,18 +225,10 @@ near-small places j d on small few one within near =
     (record { start = omega arith; load = omega arith; distance = omega arith }, omega arith)
 
 -- ---- a single
-some-is : (o : Option Progress) → option_and_then (λ at. Some at) o ≡ o
-some-is None = refl
-some-is (Some a) = refl
-
-pub single-served : (limits : Limits) (places : List Row) (s : Stop) (i : ℕ) (d : Row) → with_between limits places (i - 1) (s ∷ []) i d ≡ served limits (ride_of (get_or places (i - 1) d).at) (get_or places (i - 1) d).at.stop.service (distance (get_or places (i - 1) d).at.stop s) s (distance s (get_or places i d).at.stop) (get_or places i d)
-single-served limits places s i d =
-    ap (λ o. option_and_then (λ at. with_tail limits at (get_or places i d)) o) (some-is (stepped limits (get_or places (i - 1) d).at s)) ∙ served-is limits (ride_of (get_or places (i - 1) d).at) (get_or places (i - 1) d).at.stop s (get_or places i d)
-
-pub offered-single : (limits : Limits) (places : List Row) (s : Stop) (i : ℕ) (d : Row) (best next : Best) (before tail : Row) (to from : ℕ) → before ≡ get_or places (i - 1) d → tail ≡ get_or places i d → to ≡ distance (get_or places (i - 1) d).at.stop s → from ≡ distance tail.at.stop s → next ≡ offered best (served_below best.bound limits (ride_of before.at) before.at.stop.service to s from tail) i i → next ≡ offered best (with_between limits places (i - 1) (s ∷ []) i d) i i
+pub offered-single : (limits : Limits) (places : List Row) (s : Stop) (i : ℕ) (d : Row) (best next : Best) (before tail : Row) (to from : ℕ) → before ≡ get_or places (i - 1) d → tail ≡ get_or places i d → to ≡ distance (get_or places (i - 1) d).at.stop s → from ≡ distance tail.at.stop s → next ≡ offered best (served_below best.bound limits (ride_of before.at) before.at.stop.service to s from tail) i i → next ≡ offered best (with_single limits places s i d) i i
 offered-single limits places s i d best next before tail to from is_before is_tail is_to is_from made =
     let cheap = offer-below best (is_served limits (ride_of before.at) before.at.stop.service to s from tail) (price (ride_of before.at) to from tail) i i in
     let back : from ≡ distance s (get_or places i d).at.stop = is_from ∙ (distance-back tail.at.stop s ∙ ap (λ (e : Row). distance s e.at.stop) is_tail) in
     let same : served limits (ride_of before.at) before.at.stop.service to s from tail ≡ served limits (ride_of (get_or places (i - 1) d).at) (get_or places (i - 1) d).at.stop.service (distance (get_or places (i - 1) d).at.stop s) s (distance s (get_or places i d).at.stop) (get_or places i d) =
     ap (λ (e : Row). served limits (ride_of e.at) e.at.stop.service to s from tail) is_before ∙ (ap (λ n. served limits (ride_of (get_or places (i - 1) d).at) (get_or places (i - 1) d).at.stop.service n s from tail) is_to ∙ (ap (λ n. served limits (ride_of (get_or places (i - 1) d).at) (get_or places (i - 1) d).at.stop.service (distance (get_or places (i - 1) d).at.stop s) s n tail) back ∙ ap (λ (e : Row). served limits (ride_of (get_or places (i - 1) d).at) (get_or places (i - 1) d).at.stop.service (distance (get_or places (i - 1) d).at.stop s) s (distance s (get_or places i d).at.stop) e) is_tail)) in
-    made ∙ (cheap ∙ ap (λ o. offered best o i i) (same ∙ sym (single-served limits places s i d)))
+    made ∙ (cheap ∙ ap (λ o. offered best o i i) same)

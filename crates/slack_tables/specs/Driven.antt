@@ -1,67 +1,51 @@
--- What the code does step by step: how a vehicle goes on, as far as the limits let it.
-use Rattle.std.specs.Prelude.{ℕ, ◌+◌, ◌-◌, ◌*◌, ◌^◌, ◌≤◌, max, nat_le, ℤ, pos, ◌+ℤ◌, ◌-ℤ◌, int_le, unsigned_abs, Bool, true, ◌&&◌, List, [], ◌∷◌, slice_index_or, slice_range, map, Option, Some, None, if◌then◌else◌}
+-- A vehicle at the stops of a route, one after another, and what a request adds that is put between them: what the steps of `Ride`
+-- come to, in the words of the lemmas on routes.
+use Rattle.std.specs.Prelude.{ℕ, zero, suc, ◌+◌, ◌-◌, ◌^◌, ◌≤◌, max, ℤ, unsigned_abs, List, slice_index_or, Option, Some, None, if◌then◌else◌}
 use Rattle.std.specs.Option.{option_and_then}
 use Rattle.plan_types.specs.Limits.{IsVisit}
 use Rattle.plan_types.specs.declared.requests.Stop.{Stop}
-use Rattle.plan_types.specs.declared.requests.Kind.{Kind}
-use Rattle.plan_types.specs.declared.requests.Kind.TheVariants.{LiLim, Vrp}
 use Rattle.nint_dist.specs.Distance.{distance}
+use Rattle.slack_tables.specs.Ride.{ride_at, ride_of, driven, is_kept, served}
 use Rattle.slack_tables.specs.declared.progress.Limits.{Limits}
 use Rattle.slack_tables.specs.declared.progress.Progress.{Progress}
 use Rattle.slack_tables.specs.declared.progress.Row.{Row}
+pub use Rattle.slack_tables.specs.Ride.{is_in_time}
 
--- after the way to another stop: who arrives early waits
+-- after the way to another stop
 abbrev pub driven_on : Progress → Stop → Progress
-driven_on from s = record {
-  stop = s;
-  start = max (from.start + from.stop.service + distance from.stop s) s.earliest;
-  load = from.load +ℤ s.demand;
-  distance = from.distance + distance from.stop s;
-}
-
-abbrev pub is_in_time : Kind → ℕ → ℕ → Bool
-is_in_time LiLim start latest = nat_le start latest
-is_in_time Vrp start latest = true
-
--- the load and the start keep their limits here
-abbrev pub keeps : Limits → Progress → Bool
-keeps limits at = int_le at.load (pos limits.capacity) && is_in_time limits.kind at.start at.stop.latest
+driven_on from s = ride_at (driven (ride_of from) from.stop.service (distance from.stop s) s) s
 
 -- one stop more, if it keeps the limits
 abbrev pub stepped : Limits → Progress → Stop → Option Progress
-stepped limits from s = if keeps limits (driven_on from s) then Some (driven_on from s) else None
+stepped limits from s = if is_kept limits (ride_of (driven_on from s)) s then Some (driven_on from s) else None
 
--- and several
-abbrev pub walked : Limits → Progress → List Stop → Option Progress
-walked limits from [] = Some from
-walked limits from (s ∷ ss) = option_and_then (λ at. walked limits at ss) (stepped limits from s)
+-- a pickup behind place i - 1 of the old route, then its next n places
+abbrev pub walked : Limits → List Row → Stop → ℕ → Row → ℕ → Option Progress
+walked limits places p i d zero = stepped limits (slice_index_or places (i - 1) d).at p
+walked limits places p i d (suc n) = option_and_then (λ at. stepped limits at (slice_index_or places (i + n) d).at.stop) (walked limits places p i d n)
 
--- what is behind this place of the old route keeps its limits too
-abbrev pub bears : Limits → Progress → Row → Bool
-bears limits at tail = int_le (at.load -ℤ tail.at.load +ℤ tail.most_load) (pos limits.capacity) && is_in_time limits.kind at.start tail.latest_start
+-- the same up to place j - 2
+unfoldable pub walk_to : Limits → List Row → Stop → ℕ → Row → ℕ → Option Progress
+walk_to limits places p i d j = walked limits places p i d (j - (i + 1))
 
--- the distance added, where a place of the old route and all behind it come next
-abbrev pub with_tail : Limits → Progress → Row → Option ℤ
-with_tail limits from tail = option_and_then (λ at. if bears limits at tail then Some (pos at.distance -ℤ pos tail.at.distance) else None) (stepped limits from tail.at.stop)
+-- the distance added, where a stop comes next, and then a place of the old route and all behind it
+abbrev pub with_stop : Limits → Progress → Stop → Row → Option ℤ
+with_stop limits from s tail = served limits (ride_of from) from.stop.service (distance from.stop s) s (distance s tail.at.stop) tail
 
--- the distance added, where these stops come behind place m of the old route, and its place n and all behind it then
-abbrev pub with_between : Limits → List Row → ℕ → List Stop → ℕ → Row → Option ℤ
-with_between limits places m ss n d = option_and_then (λ at. with_tail limits at (slice_index_or places n d)) (walked limits (slice_index_or places m d).at ss)
+-- the same of a single at place i
+abbrev pub with_single : Limits → List Row → Stop → ℕ → Row → Option ℤ
+with_single limits places s i d = with_stop limits (slice_index_or places (i - 1) d).at s (slice_index_or places i d)
 
--- a pickup behind place i - 1 of the old route, its stops up to place j - 2, the delivery, and the rest
+-- and of a pair, its delivery at place j of the new route
 abbrev pub with_pair : Limits → List Row → Stop → Stop → ℕ → ℕ → Row → Option ℤ
-with_pair limits places p q i j d =
-    option_and_then (λ at. with_tail limits at (slice_index_or places (j - 1) d))
-    (option_and_then (λ at. stepped limits at q)
-    (option_and_then (λ at. walked limits at (map (λ e. e.at.stop) (slice_range places i (j - 1))))
-    (stepped limits (slice_index_or places (i - 1) d).at p)))
+with_pair limits places p q i j d = option_and_then (λ at. with_stop limits at q (slice_index_or places (j - 1) d)) (walk_to limits places p i d j)
 
--- after n stops more
-pub record IsNear (a b : Progress) (n : ℕ) : Type 0 where
+-- after one stop more
+pub record IsNear (a b : Progress) : Type 0 where
   pub visit : IsVisit b.stop
-  pub start : b.start ≤ max a.start 100000000 + n * 3828427
-  pub load : unsigned_abs b.load ≤ unsigned_abs a.load + n * 2 ^ 31
-  pub distance : b.distance ≤ a.distance + n * 2828427
+  pub start : b.start ≤ max a.start 100000000 + 3828427
+  pub load : unsigned_abs b.load ≤ unsigned_abs a.load + 2 ^ 31
+  pub distance : b.distance ≤ a.distance + 2828427
 
 -- far from where sums of starts, loads and distances would wrap
 pub record IsSmall (bound : ℕ) (a : Progress) : Type 0 where

@@ -1,5 +1,5 @@
 -- The fields of a `RouteTable`.
-use Rattle.std.specs.Prelude.{◌≡◌, ℕ, ◌+◌, ◌-◌, ◌<◌, ◌≤◌, ◌≤ℤ◌, pos, All, List, map, length, take, drop, slice_index_or, Option, MatchOption}
+use Rattle.std.specs.Prelude.{◌≡◌, ℕ, ◌+◌, ◌-◌, ◌<◌, ◌≤◌, ◌≤ℤ◌, pos, All, List, map, length, take, drop, slice_index_or}
 use Rattle.plan_types.specs.Instance.{Instance}
 use Rattle.plan_types.specs.declared.requests.Stop.{Stop}
 use Rattle.plan_types.specs.declared.requests.Kind.{Kind}
@@ -7,12 +7,11 @@ use Rattle.plan_types.specs.declared.requests.Kind.TheVariants.{LiLim}
 use Rattle.slack_tables.specs.Course.{Course, course_of}
 use Rattle.slack_tables.specs.Along.{stop_on, start_along, load_along}
 use Rattle.slack_tables.specs.Driven.{IsSmallRow}
-use Rattle.slack_tables.specs.Places.{IsAt, IsKnown}
+use Rattle.slack_tables.specs.Places.{IsKnown}
 use Rattle.slack_tables.specs.Opened.{IsWithin}
 use Rattle.slack_tables.specs.Span.{IsSpan}
 use Rattle.slack_tables.specs.declared.progress.Limits.{Limits}
 use Rattle.slack_tables.specs.declared.progress.Row.{Row}
-use Rattle.slack_tables.specs.declared.progress.Progress.{Progress}
 use Rattle.slack_tables.specs.declared.table.RouteTable.TheInside.{Inside}
 
 -- the stops between the depot's two places
@@ -34,10 +33,6 @@ course_within a = course_from a.limits a.depot a.places.items
 pub record IsInLimits (kind : Kind) (capacity : ℕ) (at : ℕ → Stop) (last : ℕ) : Type 0 where
   pub load : (k : ℕ) → 1 ≤ k → k ≤ last → load_along at k ≤ℤ pos capacity
   pub window : kind ≡ LiLim → (k : ℕ) → 1 ≤ k → k ≤ last → start_along at k ≤ (at k).latest
-
--- the vehicle came to place n and kept the limits up to there, or they are not kept
-abbrev pub IsDriven : Limits → (ℕ → Stop) → ℕ → Option Progress → Type 0
-IsDriven limits stops n o = MatchOption o (¬ IsInLimits limits.kind limits.capacity stops n) (λ at. IsInLimits limits.kind limits.capacity stops n × IsAt stops n at × IsWithin n at)
 
 -- each place tells what is known of it
 pub record AreKnown (c : Course) (places : List Row) : Type 0 where

@@ -1,7 +1,9 @@
--- How a vehicle goes on where the ways are known.
-use Rattle.std.specs.Prelude.{ℕ, ◌+◌, ◌^◌, ◌≤◌, max, ℤ, pos, ◌+ℤ◌, ◌-ℤ◌, int_le, int_lt, unsigned_abs, Bool, ◌&&◌, Option, Some, None, if◌then◌else◌}
+-- How a vehicle goes on to a stop along a way whose length is given, and what a stop adds before a place of a table: each step of the
+-- code, for the scan, for one insertion and for the building of tables.
+use Rattle.std.specs.Prelude.{ℕ, ◌+◌, ◌^◌, ◌≤◌, max, nat_le, ℤ, pos, ◌+ℤ◌, ◌-ℤ◌, int_le, int_lt, unsigned_abs, Bool, true, ◌&&◌, Option, Some, None, if◌then◌else◌}
 use Rattle.plan_types.specs.declared.requests.Stop.{Stop}
-use Rattle.slack_tables.specs.Driven.{is_in_time}
+use Rattle.plan_types.specs.declared.requests.Kind.{Kind}
+use Rattle.plan_types.specs.declared.requests.Kind.TheVariants.{LiLim, Vrp}
 use Rattle.slack_tables.specs.declared.progress.Limits.{Limits}
 use Rattle.slack_tables.specs.declared.progress.Progress.{Progress}
 use Rattle.slack_tables.specs.declared.progress.Row.{Row}
@@ -17,6 +19,10 @@ ride_of a = record { start = a.start; load = a.load; distance = a.distance }
 -- after the service where the vehicle is and the way to another stop: who arrives early waits
 abbrev pub driven : Ride → ℕ → ℕ → Stop → Ride
 driven r service leg s = record { start = max (r.start + service + leg) s.earliest; load = r.load +ℤ s.demand; distance = r.distance + leg }
+
+abbrev pub is_in_time : Kind → ℕ → ℕ → Bool
+is_in_time LiLim start latest = nat_le start latest
+is_in_time Vrp start latest = true
 
 -- the load and the start keep their limits at this stop
 abbrev pub is_kept : Limits → Ride → Stop → Bool

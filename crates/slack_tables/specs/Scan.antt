@@ -1,9 +1,9 @@
 -- What a scan over the places of a table looks for.
-use Rattle.std.specs.Prelude.{◌^◌, nat_lt, slice_index_or, ◌≡◌, ℕ, ◌+◌, ◌-◌, ◌<◌, ◌≤◌, ℤ, ◌≤ℤ◌, ◌<ℤ◌, List, [], ◌∷◌, length, Option, Some, None, int_lt, if◌then◌else◌}
+use Rattle.std.specs.Prelude.{◌^◌, nat_lt, slice_index_or, ◌≡◌, ℕ, ◌+◌, ◌-◌, ◌<◌, ◌≤◌, ℤ, ◌≤ℤ◌, ◌<ℤ◌, List, length, Option, Some, None, int_lt, if◌then◌else◌}
 use Rattle.std.specs.Option.{option_map}
 use Rattle.plan_types.specs.declared.requests.Stop.{Stop}
 use Rattle.nint_dist.specs.Distance.{distance}
-use Rattle.slack_tables.specs.Driven.{with_between, with_pair}
+use Rattle.slack_tables.specs.Driven.{with_single, with_pair}
 use Rattle.slack_tables.specs.Ride.{ride_of, ridden, served_below, IsSmallRide}
 use Rattle.slack_tables.specs.declared.progress.Limits.{Limits}
 use Rattle.slack_tables.specs.declared.progress.Progress.{Progress}
@@ -18,7 +18,7 @@ pub record PutsSingle (limits : Limits) (places : List Row) (s : Stop) (kept : �
   pub behind : kept < a.pickup
   pub within : a.pickup < length places
   pub one : a.delivery ≡ a.pickup
-  pub added : with_between limits places (a.pickup - 1) (s ∷ []) a.pickup d ≡ Some a.distance
+  pub added : with_single limits places s a.pickup d ≡ Some a.distance
 
 -- and it adds less than the bound
 abbrev pub Under : (Addition → Type 0) → ℤ → Addition → Type 0

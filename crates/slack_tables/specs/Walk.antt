@@ -1,16 +1,14 @@
 -- A vehicle that goes on along the places of a table with a pickup on board.
-use Rattle.std.specs.Prelude.{◌≡◌, ℕ, ◌+◌, ◌-◌, ◌*◌, ◌^◌, ◌≤◌, unsigned_abs, List, map, slice_index_or, slice_range, Option, Some}
-use Rattle.std.specs.Option.{option_and_then}
+use Rattle.std.specs.Prelude.{◌≡◌, ℕ, ◌+◌, ◌-◌, ◌*◌, ◌^◌, ◌≤◌, unsigned_abs, List, slice_index_or, Some}
 use Rattle.plan_types.specs.Limits.{IsVisit}
 use Rattle.plan_types.specs.declared.requests.Stop.{Stop}
 use Rattle.nint_dist.specs.Distance.{distance}
-use Rattle.slack_tables.specs.Driven.{stepped, walked}
 use Rattle.slack_tables.specs.Ride.{ride_at}
 use Rattle.slack_tables.specs.declared.progress.Limits.{Limits}
-use Rattle.slack_tables.specs.declared.progress.Progress.{Progress}
 use Rattle.slack_tables.specs.declared.progress.Row.{Row}
 use Rattle.slack_tables.specs.declared.scan.Trip.{Trip}
 use Rattle.slack_tables.specs.declared.scan.Underway.{Underway}
+unfoldable pub use Rattle.slack_tables.specs.Driven.{walk_to}
 
 -- a pair's stops, and the way from the one to the other
 pub record IsTrip (t : Trip) : Type 0 where
@@ -18,10 +16,6 @@ pub record IsTrip (t : Trip) : Type 0 where
   pub delivery : IsVisit t.delivery
   pub across : t.across ≡ distance t.pickup t.delivery
   pub bound : t.across ≤ 2 ^ 32
-
--- the pickup behind place i - 1, then the places up to j - 2
-unfoldable pub walk_to : Limits → List Row → Stop → ℕ → Row → ℕ → Option Progress
-walk_to limits places p i d j = option_and_then (λ at. walked limits at (map (λ e. e.at.stop) (slice_range places i (j - 1)))) (stepped limits (slice_index_or places (i - 1) d).at p)
 
 -- before place j - 1 of the table, with the pickup on board
 pub record IsUnderway (limits : Limits) (places : List Row) (p q : Stop) (i j : ℕ) (d : Row) (on : Underway) : Type 0 where

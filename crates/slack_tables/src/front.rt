@@ -5,11 +5,11 @@
 //! that the table may have (`ways`). The table has to be of this problem: where the numbers are the same, so
 //! are the stops.
 
-ghost use Rattle.std.specs.Prelude.{◌≡◌, ℕ, List, ◌+◌, ◌<◌, ◌≤◌, length};
+ghost use Rattle.std.specs.Prelude.{◌≡◌, ℕ, List, ◌+◌, ◌<◌, ◌≤◌, length, slice_set};
 ghost use Rattle.plan_types.specs.Instance.{Instance};
 ghost use Rattle.route_sched.specs.Route.{place};
 ghost use Rattle.slack_tables.specs.Front.{IsFront, HasCome, KnowsFronts};
-ghost use Rattle.slack_tables.specs.Opened.{AreOpenTo};
+ghost use Rattle.slack_tables.specs.Opened.{open_row, AreOpenTo};
 
 use crate::progress::{Progress, Row};
 use crate::table::{leaving, open_row};
@@ -45,7 +45,6 @@ pub(crate) fn behind_front(problem: &Problem, known: &[Row], front: usize) -> Pr
 
 /// Gives the places of so many stops what the table tells of them, but nothing of what is behind.
 pub(crate) fn copy_front(places: &mut [Row], known: &[Row], front: usize)
-    requires places { front + 1 < length places.old }
     requires known { 0 < front → front + 1 < length known.now }
     requires few { front ≤ 40001 }
     ensures len { length places.new ≡ length places.old }
@@ -54,6 +53,16 @@ pub(crate) fn copy_front(places: &mut [Row], known: &[Row], front: usize)
         → AreOpenTo (place p route) (front + 1) places.new }
 {
     for k in 0..front {
-        places[k + 1] = open_row(known[k + 1].at);
+        put(places, k + 1, known[k + 1].at);
+    }
+}
+
+/// Notes where the vehicle is at a place, with nothing known of what is behind it, if there is room for the place.
+#[inline(always)]
+pub(crate) fn put(places: &mut [Row], place: usize, at: Progress)
+    ensures { places.new ≡ slice_set places.old place (open_row at) }
+{
+    if place < places.len() {
+        places[place] = open_row(at);
     }
 }

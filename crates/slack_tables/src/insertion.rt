@@ -1,12 +1,18 @@
 //! What putting the stops of a request at given places of a route adds to it.
 
-ghost use Rattle.std.specs.Prelude.{◌≡◌, ◌+◌, ◌-◌, ◌^◌, ◌<◌, ◌≤◌, All, [], ◌∷◌, length};
+ghost use Rattle.std.specs.Prelude.{◌≡◌, ◌+◌, ◌-◌, ◌^◌, ◌<◌, ◌≤◌, All, length};
 ghost use Rattle.plan_types.specs.Limits.{IsVisit};
 ghost use Rattle.slack_tables.specs.declared.progress.Row.{Row};
-ghost use Rattle.slack_tables.specs.Driven.{with_between, with_pair, IsSmallRow};
+ghost use Rattle.slack_tables.specs.Driven.{with_single, with_pair, IsSmallRow};
 
-use crate::progress::{Limits, Row, join, step, walk};
+use crate::legs::{leg_at, small_row};
+use crate::progress::{Limits, Row};
+use crate::ride::{Detour, ride_of, ride_on, serve_below};
+use nint_dist::dist;
 use plan_types::Stop;
+
+// No price is as high.
+const ANY_PRICE: i64 = i64::MAX;
 
 /// The distance added by one stop, put behind place `i - 1`.
 pub(crate) fn single_added(limits: Limits, places: &[Row], stop: &Stop, i: usize) -> Option<i64>
@@ -14,12 +20,24 @@ pub(crate) fn single_added(limits: Limits, places: &[Row], stop: &Stop, i: usize
     requires stop { IsVisit stop.now }
     requires from_one { 1 ≤ i }
     requires within { i < length places.now }
-    ensures { (d : Row) → result ≡ with_between limits places.now (i - 1) (stop.now ∷ []) i d }
+    ensures { (d : Row) → result ≡ with_single limits places.now stop.now i d }
 {
-    let Some(at) = step(limits, &places[i - 1].at, stop) else {
-        return None;
+    let before = small_row(places, i - 1);
+    let tail = small_row(places, i);
+    let detour = Detour {
+        to: leg_at(places, i - 1, stop),
+        from: leg_at(places, i, stop),
     };
-    join(limits, &at, &places[i])
+    let service = before.at.stop.service;
+    serve_below(
+        ANY_PRICE,
+        limits,
+        &ride_of(&before.at),
+        service,
+        detour,
+        stop,
+        tail,
+    )
 }
 
 /// The distance added by a pickup behind place `i - 1` and its delivery at place `j` of the new route.
@@ -40,14 +58,27 @@ pub(crate) fn pair_added(
     requires within { j ≤ length places.now }
     ensures { (d : Row) → result ≡ with_pair limits places.now pickup.now delivery.now i j d }
 {
-    let Some(at) = step(limits, &places[i - 1].at, pickup) else {
-        return None;
+    let before = &small_row(places, i - 1).at;
+    let to = leg_at(places, i - 1, pickup);
+    let mut stop = *pickup;
+    let mut ride = ride_on(limits, &ride_of(before), before.stop.service, to, pickup)?;
+    for k in i..j - 1 {
+        let next = &small_row(places, k).at.stop;
+        ride = ride_on(limits, &ride, stop.service, leg_at(places, k, &stop), next)?;
+        stop = *next;
+    }
+    let detour = Detour {
+        to: u64::from(dist(&stop, delivery)),
+        from: leg_at(places, j - 1, delivery),
     };
-    let Some(at) = walk(limits, at, &places[i..j - 1]) else {
-        return None;
-    };
-    let Some(at) = step(limits, &at, delivery) else {
-        return None;
-    };
-    join(limits, &at, &places[j - 1])
+    let tail = small_row(places, j - 1);
+    serve_below(
+        ANY_PRICE,
+        limits,
+        &ride,
+        stop.service,
+        detour,
+        delivery,
+        tail,
+    )
 }

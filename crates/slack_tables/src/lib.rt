@@ -7,11 +7,11 @@
 //!
 //! Modules, in reading order:
 //! - `table`: the table, and the passes that fill it.
-//! - `progress`: how a vehicle goes on from place to place, and what it must keep.
+//! - `progress`, `ride`: where a vehicle is and what it must keep there, and how it goes on, for all below.
 //! - `slack`: the backward pass, which gives each place its latest start and its greatest load.
 //! - `insertion`: what one insertion adds (`try_insert`).
-//! - `scan`: the best of all insertions (`best_places`), with `closed`, `legs` and `ride`, which leave out
-//!   places by times, by prices from below, and drive along known ways.
+//! - `scan`: the best of all insertions (`best_places`), with `closed` and `legs`, which leave out places by
+//!   times and by prices from below.
 //! - `request`, `span`: the ways of a request that no route has a part in, and bounds by which a whole scan is left out.
 //! - `front`, `ways`: what is taken from a table of a route that differs little.
 //!

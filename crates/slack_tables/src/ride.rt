@@ -1,11 +1,17 @@
-//! How a vehicle goes on along places whose ways are known, so that no distance is computed. Prices are
-//! compared before limits.
+//! How a vehicle goes on, from stop to stop and between the places of a table: for the building of tables, for
+//! one insertion and for the scan.
+//!
+//! A ride is a vehicle's progress without the stop where it is, so who knows the ways computes no distance.
+//! Prices are compared before limits.
 
 ghost use Rattle.std.specs.Prelude.{◌≡◌, ◌≤◌, ◌+◌, ◌^◌, unsigned_abs, IfSome};
-ghost use Rattle.slack_tables.specs.Driven.{IsSmallRow};
+ghost use Rattle.plan_types.specs.Limits.{IsVisit};
+ghost use Rattle.slack_tables.specs.Driven.{driven_on, IsNear, IsSmall, IsSmallRow};
+ghost use Rattle.slack_tables.specs.Legs.{AreLinked};
 ghost use Rattle.slack_tables.specs.Ride.{ride_of, driven, is_kept, ridden, is_borne, goes_on, is_served, price, served_below, IsSmallRide, IsNearRide};
 
 use crate::progress::{Limits, Progress, Row, difference, is_in_time, load_behind, moved_load};
+use crate::ways::way;
 use plan_types::Stop;
 
 /// When and with what a vehicle is somewhere, and how far it has come.
@@ -43,8 +49,27 @@ pub(crate) fn drive(from: &Ride, service: u32, leg: u64, to: &Stop) -> Ride
     }
 }
 
-// Whether the load and the start keep their limits at this stop.
-fn is_kept(limits: Limits, ride: &Ride, stop: &Stop) -> bool
+/// The same along the way between the two stops, which is taken from `known` where that has it behind its place `seen`.
+#[inline(always)]
+pub(crate) fn driven_on(known: &[Row], seen: usize, from: &Progress, stop: &Stop) -> Progress
+    requires known { AreLinked known.now }
+    requires from { IsSmall (2 ^ 58) from.now }
+    requires to { IsVisit stop.now }
+    ensures value { result ≡ driven_on from.now stop.now }
+    ensures near { IsNear from.now result }
+{
+    let way = way(known, seen, &from.stop, stop);
+    let ride = drive(&ride_of(from), from.stop.service, way, stop);
+    Progress {
+        stop: *stop,
+        start: ride.start,
+        load: ride.load,
+        distance: ride.distance,
+    }
+}
+
+/// Whether the load and the start keep their limits at this stop.
+pub(crate) fn is_kept(limits: Limits, ride: &Ride, stop: &Stop) -> bool
     ensures { result ≡ is_kept limits ride.now stop.now }
 {
     ride.load <= i64::from(limits.capacity)

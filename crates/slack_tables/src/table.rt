@@ -7,7 +7,7 @@
 //! the only times that mean something.
 
 ghost use Rattle.std.specs.Prelude.{◌≡◌, ◌↔◌, ◌+◌, ◌-◌, ◌<◌, ◌≤◌, ℕ, Some, true, IsSome, IsTrue, IfOk, OnOk, OnErr, length, slice_index_or};
-ghost use Rattle.plan_types.specs.Limits.{IsStop};
+ghost use Rattle.plan_types.specs.Limits.{IsStop, IsVisit};
 ghost use Rattle.plan_types.specs.declared.requests.Stop.{Stop};
 ghost use Rattle.plan_types.specs.Request.{IsRequest};
 ghost use Rattle.plan_types.specs.Instance.{IsInstance, stop_at};
@@ -17,14 +17,15 @@ ghost use Rattle.slack_tables.specs.Insertion.{request_named, KeepsLimits};
 ghost use Rattle.slack_tables.specs.declared.progress.Row.{Row};
 ghost use Rattle.slack_tables.specs.Opened.{leaving, open_row, AreOpen};
 ghost use Rattle.slack_tables.specs.Front.{KnowsFronts};
-ghost use Rattle.slack_tables.specs.Inside.{limits_of, IsInLimits, IsDriven, IsMade};
+ghost use Rattle.slack_tables.specs.Inside.{limits_of, AreKnown, IsMade};
 ghost use Rattle.slack_tables.specs.Legs.{AreLinked};
 
-use crate::front::{behind_front, copy_front, same_front};
+use crate::front::{behind_front, copy_front, put, same_front};
 use crate::insertion::{pair_added, single_added};
 use crate::legs::small_row;
-use crate::progress::{Limits, Progress, Row, driven_on, keeps};
+use crate::progress::{Limits, Progress, Row};
 use crate::request::RequestWays;
+use crate::ride::{driven_on, is_kept, ride_of};
 use crate::scan::{Addition, best_pair, best_single, rules_out_single};
 use crate::slack::fill_slack;
 use crate::span::Span;
@@ -77,7 +78,6 @@ impl RouteTable {
         ensures course { IfOk result (λ table. table ≡ course_of problem.now route.now) }
         ensures route { IfOk result (λ table. route_of table ≡ route.now) }
     {
-        numbers_are_below_the_next();
         let mut places = Vec::with_capacity(alloc, route.len() + 2)?;
         remake(&mut places, problem, &[], route)?;
         let span = Span::of(places.as_slice());
@@ -105,7 +105,7 @@ impl RouteTable {
         ensures route { OnOk result (route_of self.new ≡ route.now) }
         ensures refused { OnErr result (self.new ≡ self.old) }
     {
-        remake(&mut self.places, problem, near.places.as_slice(), route)?;
+        remake(&mut self.places, problem, near.rows(), route)?;
         self.limits = limits_of(problem);
         self.depot = problem.depot;
         self.span = Span::of(self.places.as_slice());
@@ -130,7 +130,7 @@ impl RouteTable {
         ensures kept { IfOk result (λ o. (IsSome o) ↔ KeepsLimits problem.now route.now) }
     {
         let RouteTable { mut places, .. } = self;
-        if !remake_kept(&mut places, problem, near.places.as_slice(), route)? {
+        if !remake(&mut places, problem, near.rows(), route)? {
             return Ok(None);
         }
         let span = Span::of(places.as_slice());
@@ -149,7 +149,18 @@ impl RouteTable {
         requires route { AreLiveOnce problem.now route.now }
         ensures { (result ≡ true) ↔ KeepsLimits problem.now route.now }
     {
-        keeps_limits(problem, self.places.as_slice(), route)
+        stops_are_few(problem, route);
+        drive_route(&mut [], problem, self.rows(), route)
+    }
+
+    // What is known of each place, by which routes that differ little are driven too.
+    #[inline(always)]
+    fn rows(&self) -> &[Row]
+        ensures known { AreKnown self.now result.now }
+        ensures linked { AreLinked result.now }
+        ensures fronts { (p : Instance) → IsCourseIn p self.now → KnowsFronts p result.now }
+    {
+        self.places.as_slice()
     }
 
     /// How many stops the route has.
@@ -168,7 +179,7 @@ impl RouteTable {
             → result.now ≡ place p route index }
         ensures placed { IsPlaced result.now }
     {
-        let places = self.places.as_slice();
+        let places = self.rows();
         &small_row(places, index).at.stop
     }
 
@@ -188,7 +199,7 @@ impl RouteTable {
         ensures { (p : Instance) (route : List ℕ) → course_of p route ≡ self.now
             → result ≡ start p route place }
     {
-        let places = self.places.as_slice();
+        let places = self.rows();
         row_at(places, place).at.start
     }
 
@@ -200,7 +211,7 @@ impl RouteTable {
         ensures { (p : Instance) (route : List ℕ) → course_of p route ≡ self.now
             → IsLimitOfStarts p route place result }
     {
-        let places = self.places.as_slice();
+        let places = self.rows();
         if place + 1 == places.len() {
             return None;
         }
@@ -216,7 +227,7 @@ impl RouteTable {
         ensures { (p : Instance) (route : List ℕ) → course_of p route ≡ self.now
             → result ≡ load p route place }
     {
-        let places = self.places.as_slice();
+        let places = self.rows();
         load_at(row_at(places, place))
     }
 
@@ -225,7 +236,7 @@ impl RouteTable {
         ensures { (p : Instance) (route : List ℕ) → course_of p route ≡ self.now
             → result ≡ route_length p route }
     {
-        let places = self.places.as_slice();
+        let places = self.rows();
         row_at(places, places.len() - 1).at.distance
     }
 
@@ -244,7 +255,7 @@ impl RouteTable {
             (inserted r i j (route_of self.now)) result) }
     {
         requests_are_found_by_stop();
-        let places = self.places.as_slice();
+        let places = self.rows();
         match live_request(problem, name) {
             Request::Single(stop) => single_added(self.limits, places, stop, i as usize),
             Request::Pair(pickup, delivery) => {
@@ -320,7 +331,7 @@ impl RouteTable {
             → IsBestAddition p (route_of self.now) request.now kept below result }
     {
         requests_are_found_by_stop();
-        let places = self.places.as_slice();
+        let places = self.rows();
         match request {
             Request::Single(stop) => {
                 best_single(self.limits, places, stop, kept as usize, below)
@@ -352,42 +363,8 @@ fn load_at(place: &Row) -> i64
     place.at.load
 }
 
-// The places of a route that keeps the limits, in place of those that stand there.
+// Makes these the places of another route, if it keeps the limits.
 fn remake(
-    places: &mut Vec<Row>,
-    problem: &Problem,
-    known: &[Row],
-    route: &[u32],
-) -> Result<(), OutOfMemory>
-    requires known { AreLinked known.now }
-    requires fronts { KnowsFronts problem.now known.now }
-    requires route { AreLiveOnce problem.now route.now }
-    requires limits { KeepsLimits problem.now route.now }
-    ensures made { OnOk result (IsMade problem.now route.now places.new.items) }
-    ensures refused { OnErr result (places.new.items ≡ places.old.items) }
-{
-    numbers_are_below_the_next();
-    places.resize(route.len() + 2, open_row(leaving(&problem.depot)))?;
-    fill(places.as_mut_slice(), problem, known, route);
-    Ok(())
-}
-
-// What is known of each place of a route that keeps the limits.
-fn fill(places: &mut [Row], problem: &Problem, known: &[Row], route: &[u32])
-    requires known { AreLinked known.now }
-    requires fronts { KnowsFronts problem.now known.now }
-    requires route { AreLiveOnce problem.now route.now }
-    requires limits { KeepsLimits problem.now route.now }
-    requires count { length places.old ≡ length route.now + 2 }
-    requires few { length route.now ≤ 40001 }
-    ensures { IsMade problem.now route.now places.new }
-{
-    drive_route(places, problem, known, route);
-    fill_slack(problem.kind, places);
-}
-
-// The places of a route in place of those that stand there, if it keeps the limits.
-fn remake_kept(
     places: &mut Vec<Row>,
     problem: &Problem,
     known: &[Row],
@@ -398,14 +375,15 @@ fn remake_kept(
     requires route { AreLiveOnce problem.now route.now }
     ensures kept { IfOk result (λ kept. (kept ≡ true) ↔ KeepsLimits problem.now route.now) }
     ensures made { IfOk result (λ kept. kept ≡ true → IsMade problem.now route.now places.new.items) }
+    ensures refused { OnErr result (places.new.items ≡ places.old.items) }
 {
-    numbers_are_below_the_next();
+    stops_are_few(problem, route);
     places.resize(route.len() + 2, open_row(leaving(&problem.depot)))?;
-    Ok(fill_kept(places.as_mut_slice(), problem, known, route))
+    Ok(fill(places.as_mut_slice(), problem, known, route))
 }
 
 // What is known of each place of a route, if it keeps the limits.
-fn fill_kept(places: &mut [Row], problem: &Problem, known: &[Row], route: &[u32]) -> bool
+fn fill(places: &mut [Row], problem: &Problem, known: &[Row], route: &[u32]) -> bool
     requires known { AreLinked known.now }
     requires fronts { KnowsFronts problem.now known.now }
     requires route { AreLiveOnce problem.now route.now }
@@ -414,89 +392,61 @@ fn fill_kept(places: &mut [Row], problem: &Problem, known: &[Row], route: &[u32]
     ensures kept { (result ≡ true) ↔ KeepsLimits problem.now route.now }
     ensures made { result ≡ true → IsMade problem.now route.now places.new }
 {
-    drive_route(places, problem, known, route);
-    if !are_kept(limits_of(problem), places) {
+    if !drive_route(places, problem, known, route) {
         return false;
     }
     fill_slack(problem.kind, places);
     true
 }
 
-// Whether each place behind the depot keeps the limits.
-fn are_kept(limits: Limits, places: &[Row]) -> bool
-    ensures { (stops : ℕ → Stop) → AreOpen stops places.now
-        → (result ≡ true) ↔ IsInLimits limits.kind limits.capacity stops (length places.now - 1) }
+// Whether a route keeps the limits. Its places, as far as there is room for them, are noted as the vehicle comes
+// to them, with nothing known of what is behind.
+fn drive_route(places: &mut [Row], problem: &Problem, known: &[Row], route: &[u32]) -> bool
+    requires known { AreLinked known.now }
+    requires fronts { KnowsFronts problem.now known.now }
+    requires route { AreLiveOnce problem.now route.now }
+    requires count { length places.old ≤ length route.now + 2 }
+    requires few { length route.now ≤ 40001 }
+    ensures kept { (result ≡ true) ↔ KeepsLimits problem.now route.now }
+    ensures opened { result ≡ true → AreOpen (place problem.now route.now) places.new }
 {
-    for k in 1..places.len() {
-        if !keeps(limits, &row_at(places, k).at) {
+    let limits = limits_of(problem);
+    let front = same_front(known, route);
+    put(places, 0, leaving(&problem.depot));
+    copy_front(places, known, front);
+    let mut at = behind_front(problem, known, front);
+    let mut seen = front;
+    for k in front..route.len() + 1 {
+        seen = place_seen(known, seen, &at.stop);
+        at = driven_on(known, seen, &at, stop_behind(problem, route, k));
+        if !is_kept(limits, &ride_of(&at), &at.stop) {
             return false;
         }
+        put(places, k + 1, at);
     }
     true
 }
 
-// The places of a route as the vehicle comes to them, with nothing known of what is behind.
-fn drive_route(places: &mut [Row], problem: &Problem, known: &[Row], route: &[u32])
-    requires known { AreLinked known.now }
-    requires fronts { KnowsFronts problem.now known.now }
+// The stop behind place `k` of a route, which is the depot behind the last one.
+fn stop_behind<'a>(problem: &'a Problem, route: &[u32], k: usize) -> &'a Stop
     requires route { AreLiveOnce problem.now route.now }
-    requires count { length places.old ≡ length route.now + 2 }
-    requires few { length route.now ≤ 40001 }
-    ensures { AreOpen (place problem.now route.now) places.new }
+    requires within { k ≤ length route.now }
+    ensures stop { result.now ≡ place problem.now route.now (k + 1) }
+    ensures visit { IsVisit result.now }
 {
-    let front = same_front(known, route);
-    places[0] = open_row(leaving(&problem.depot));
-    copy_front(places, known, front);
-    let mut at = behind_front(problem, known, front);
-    let mut seen = front;
-    for k in front..route.len() {
-        let stop = live_stop(problem, route[k]);
-        at = driven_on(known, seen, &at, stop);
-        seen = place_seen(known, seen, stop);
-        places[k + 1] = open_row(at);
+    if k == route.len() {
+        return &problem.depot;
     }
-    places[route.len() + 1] = open_row(driven_on(known, seen, &at, &problem.depot));
+    live_stop(problem, route[k])
 }
 
-// Whether a route keeps the limits.
-fn keeps_limits(problem: &Problem, known: &[Row], route: &[u32]) -> bool
-    requires known { AreLinked known.now }
-    requires fronts { KnowsFronts problem.now known.now }
-    requires route { AreLiveOnce problem.now route.now }
-    ensures { (result ≡ true) ↔ KeepsLimits problem.now route.now }
+// The law that a route has at most as many stops as there are numbers.
+fn stops_are_few(problem: &Problem, route: &[u32])
+    requires { AreLiveOnce problem.now route.now }
+    ensures { length route.now ≤ 40001 }
 {
     numbers_are_below_the_next();
-    let limits = limits_of(problem);
-    match drive_stops(problem, known, route) {
-        Some(last) => {
-            let seen = known.len().saturating_sub(2);
-            keeps(limits, &driven_on(known, seen, &last, &problem.depot))
-        }
-        None => false,
-    }
-}
-
-// Where the vehicle is at the last stop of a route, if it keeps the limits up to there.
-fn drive_stops(problem: &Problem, known: &[Row], route: &[u32]) -> Option<Progress>
-    requires known { AreLinked known.now }
-    requires fronts { KnowsFronts problem.now known.now }
-    requires route { AreLiveOnce problem.now route.now }
-    requires few { length route.now ≤ 40001 }
-    ensures { IsDriven (limits_of problem.now) (place problem.now route.now) (length route.now) result }
-{
-    let limits = limits_of(problem);
-    let front = same_front(known, route);
-    let mut at = behind_front(problem, known, front);
-    let mut seen = front;
-    for k in front..route.len() {
-        let stop = live_stop(problem, route[k]);
-        at = driven_on(known, seen, &at, stop);
-        if !keeps(limits, &at) {
-            return None;
-        }
-        seen = place_seen(known, seen, stop);
-    }
-    Some(at)
+    let _kind = problem.kind;
 }
 
 // The request of a live name.

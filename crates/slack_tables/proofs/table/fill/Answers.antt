@@ -7,28 +7,30 @@ use Rattle.slack_tables.proofs.table.fill.Goals as goal
 
 pub fill_slack-requires-clause-timely : goal.fill_slack-requires-clause-timely
 fill_slack-requires-clause-timely c =
-    let p = c.args.problem.now in
     let valid : IsInstance c.args.problem.now = subst (λ q. IsInstance q) c.problem.view_is c.problem.invariant.valid in
+    let kept = c.if-not-drive_route.false in
     let long : length c.drive_route.new.places ≡ length c.args.route.now + 2 = c.drive_route.auto.places ∙ c.requires.count in
-    subst (λ q. EachIsTimely q.kind c.drive_route.new.places) (sym c.problem.view_is) (route_timely p c.args.route.now valid c.requires.limits c.drive_route.new.places c.drive_route.ensures long)
+    subst (λ q. EachIsTimely q.kind c.drive_route.new.places) (sym c.problem.view_is) (route_timely c.args.problem.now c.args.route.now valid (c.drive_route.ensures.kept.0 kept) c.drive_route.new.places (c.drive_route.ensures.opened kept) long)
 
 pub fill_slack-requires-clause-last : goal.fill_slack-requires-clause-last
 fill_slack-requires-clause-last c =
-    let p = c.args.problem.now in
     let valid : IsInstance c.args.problem.now = subst (λ q. IsInstance q) c.problem.view_is c.problem.invariant.valid in
+    let kept = c.if-not-drive_route.false in
     let long : length c.drive_route.new.places ≡ length c.args.route.now + 2 = c.drive_route.auto.places ∙ c.requires.count in
-    route_may_end p c.args.route.now valid c.requires.limits c.drive_route.new.places c.drive_route.ensures long
+    route_may_end c.args.problem.now c.args.route.now valid (c.drive_route.ensures.kept.0 kept) c.drive_route.new.places (c.drive_route.ensures.opened kept) long
 
-pub returns : goal.returns
-returns c =
-    let p = c.args.problem.now in
+pub returns-clause-made : goal.returns-clause-made
+returns-clause-made c = λ _.
+    (let p = c.args.problem.now in
     let route = c.args.route.now in
     let valid : IsInstance c.args.problem.now = subst (λ q. IsInstance q) c.problem.view_is c.problem.invariant.valid in
     let old = c.drive_route.new.places in
     let new = c.fill_slack.new.places in
+    let kept = c.drive_route.ensures.kept.0 c.if-not-drive_route.false in
+    let opened = c.drive_route.ensures.opened c.if-not-drive_route.false in
     let long : length c.drive_route.new.places ≡ length c.args.route.now + 2 = c.drive_route.auto.places ∙ c.requires.count in
     let filled : IsFilled c.args.problem.now.kind c.drive_route.new.places c.fill_slack.new.places = subst (λ q. IsFilled q.kind c.drive_route.new.places c.fill_slack.new.places) c.problem.view_is c.fill_slack.ensures in
     record {
-      known = known-as p route valid c.requires.limits old c.drive_route.ensures long new c.fill_slack.auto.places c.requires.few filled _ refl;
-      course = course-is p route valid c.requires.limits old c.drive_route.ensures long new c.fill_slack.auto.places c.requires.few filled (open_row (leaving c.args.problem.now.depot));
-    }
+      known = known-as p route valid kept old opened long new c.fill_slack.auto.places c.requires.few filled _ refl;
+      course = course-is p route valid kept old opened long new c.fill_slack.auto.places c.requires.few filled (open_row (leaving c.args.problem.now.depot));
+    })

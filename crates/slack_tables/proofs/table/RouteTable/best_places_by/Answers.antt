@@ -1,4 +1,4 @@
-use Rattle.std.proofs.Common.{◌∙◌, w64, to_z, of_z, List, Some, sym, ap, subst}
+use Rattle.std.proofs.Common.{◌∙◌, w64, to_z, of_z, Some, sym, ap, subst}
 use mir.Val.{SFits}
 use Rattle.std.proofs.lemmas.Int.{to_z-of_z}
 use Rattle.plan_types.specs.Request.{IsRequest}
@@ -6,15 +6,10 @@ use Rattle.plan_types.specs.declared.requests.Request.TheVariants.{Single, Pair}
 use Rattle.slack_tables.specs.RequestFloors.{IsAcross}
 use Rattle.slack_tables.specs.Best.{IsFirstOf, IsBestAddition}
 use Rattle.slack_tables.specs.Course.{Course, route_of}
-use Rattle.std.specs.Prelude.{All}
-use Rattle.slack_tables.specs.Driven.{IsSmallRow}
-use Rattle.slack_tables.specs.Inside.{AreKnown, course_within}
-use Rattle.slack_tables.specs.Legs.{AreLinked, AreRising}
 use Rattle.slack_tables.specs.Scan.{AddsSingle, AddsPair}
 use Rattle.slack_tables.specs.Opened.{leaving, open_row}
-use Rattle.slack_tables.specs.declared.progress.Row.{Row}
 use Rattle.slack_tables.proofs.InsertLemmas.{limits_of}
-use Rattle.slack_tables.proofs.BestLemmas.{single-best, pair-best, linked, rising}
+use Rattle.slack_tables.proofs.BestLemmas.{single-best, pair-best, rising}
 use Rattle.slack_tables.specs.Closed.{AreTight}
 use Rattle.slack_tables.proofs.TightLemmas.{tight}
 use Rattle.slack_tables.proofs.table.RouteTable.best_places_by.Goals as goal
@@ -31,43 +26,29 @@ pub best_pair-requires-clause-delivery : goal.best_pair-requires-clause-delivery
 best_pair-requires-clause-delivery c =
     let valid : IsRequest (Pair c.in-Pair.pickup c.in-Pair.delivery) = subst (λ r. IsRequest r) c.in-Pair.is c.requires.request in valid.1.visit
 
-pub best_pair-requires-clause-ways : goal.best_pair-requires-clause-ways
-best_pair-requires-clause-ways c =
-    let table : AreKnown c.args.self.now c.self.inside.places.items = subst (λ q. AreKnown q c.self.inside.places.items) c.self.view_is c.self.invariant.0 in
-    subst (λ xs. AreLinked xs) (sym c.as_slice-places.ensures.value) (linked c.args.self.now c.self.inside.places.items table)
-
 pub best_pair-requires-clause-rising : goal.best_pair-requires-clause-rising
-best_pair-requires-clause-rising c =
-    let table : AreKnown c.args.self.now c.self.inside.places.items = subst (λ q. AreKnown q c.self.inside.places.items) c.self.view_is c.self.invariant.0 in
-    subst (λ xs. AreRising xs) (sym c.as_slice-places.ensures.value) (rising c.args.self.now c.self.inside.places.items table)
+best_pair-requires-clause-rising c = rising c.args.self.now c.rows-places.result.now c.rows-places.ensures.known
 
 pub best_pair-requires-clause-tight : goal.best_pair-requires-clause-tight
-best_pair-requires-clause-tight c = subst (λ xs. AreTight c.self.inside.limits.kind xs) (sym c.as_slice-places.ensures.value) (tight (course_within c.self.inside) c.self.inside.places.items c.self.invariant.0)
+best_pair-requires-clause-tight c = subst (λ (q : Course). AreTight q.kind c.rows-places.result.now) (sym c.self.view_is) (tight c.args.self.now c.rows-places.result.now c.rows-places.ensures.known)
 
 pub returns-in-Single : goal.returns-in-Single
 returns-in-Single c = λ p name valid is named.
-    (let table : AreKnown c.args.self.now c.self.inside.places.items = subst (λ q. AreKnown q c.self.inside.places.items) c.self.view_is c.self.invariant.0 in
-    let d = open_row (leaving c.in-Single.stop) in
+    (let d = open_row (leaving c.in-Single.stop) in
     let fits : SFits w64 c.args.below = record { sfits = c.ranges.below.sfits } in
-    let first = subst (λ x. IsFirstOf (AddsSingle (limits_of c.args.self.now) c.self.inside.places.items c.in-Single.stop c.args.kept x (open_row (leaving c.in-Single.stop))) c.best_single.result) (to_z-of_z w64 c.args.below fits)
-    (subst (λ (xs : List Row). IsFirstOf (AddsSingle (limits_of c.args.self.now) xs c.in-Single.stop c.args.kept (to_z w64 (of_z w64 c.args.below)) (open_row (leaving c.in-Single.stop))) c.best_single.result) c.as_slice-places.ensures.value
-    (subst (λ (q : Course). IsFirstOf (AddsSingle (limits_of q) c.as_slice-places.result.now c.in-Single.stop c.args.kept (to_z w64 (of_z w64 c.args.below)) (open_row (leaving c.in-Single.stop))) c.best_single.result) c.self.view_is (c.best_single.ensures d))) in
+    let first = subst (λ x. IsFirstOf (AddsSingle (limits_of c.args.self.now) c.rows-places.result.now c.in-Single.stop c.args.kept x (open_row (leaving c.in-Single.stop))) c.best_single.result) (to_z-of_z w64 c.args.below fits)
+    (subst (λ (q : Course). IsFirstOf (AddsSingle (limits_of q) c.rows-places.result.now c.in-Single.stop c.args.kept (to_z w64 (of_z w64 c.args.below)) (open_row (leaving c.in-Single.stop))) c.best_single.result) c.self.view_is (c.best_single.ensures d)) in
     subst (λ r. IsBestAddition p (route_of c.args.self.now) r c.args.kept c.args.below c.best_single.result) (sym c.in-Single.is)
-    (single-best p c.args.self.now c.self.inside.places.items table valid is c.requests_are_found_by_stop.ensures name c.args.kept c.args.below d c.in-Single.stop c.best_single.result (named ∙ ap (λ r. Some r) c.in-Single.is) first))
+    (single-best p c.args.self.now c.rows-places.result.now c.rows-places.ensures.known valid is c.requests_are_found_by_stop.ensures name c.args.kept c.args.below d c.in-Single.stop c.best_single.result (named ∙ ap (λ r. Some r) c.in-Single.is) first))
 
 pub returns-in-Pair : goal.returns-in-Pair
 returns-in-Pair c = λ p name valid is named.
-    (let table : AreKnown c.args.self.now c.self.inside.places.items = subst (λ q. AreKnown q c.self.inside.places.items) c.self.view_is c.self.invariant.0 in
-    let d = open_row (leaving c.in-Pair.pickup) in
+    (let d = open_row (leaving c.in-Pair.pickup) in
     let fits : SFits w64 c.args.below = record { sfits = c.ranges.below.sfits } in
-    let first = subst (λ x. IsFirstOf (AddsPair (limits_of c.args.self.now) c.self.inside.places.items c.in-Pair.pickup c.in-Pair.delivery c.args.kept x (open_row (leaving c.in-Pair.pickup))) c.best_pair.result) (to_z-of_z w64 c.args.below fits)
-    (subst (λ (xs : List Row). IsFirstOf (AddsPair (limits_of c.args.self.now) xs c.in-Pair.pickup c.in-Pair.delivery c.args.kept (to_z w64 (of_z w64 c.args.below)) (open_row (leaving c.in-Pair.pickup))) c.best_pair.result) c.as_slice-places.ensures.value
-    (subst (λ (q : Course). IsFirstOf (AddsPair (limits_of q) c.as_slice-places.result.now c.in-Pair.pickup c.in-Pair.delivery c.args.kept (to_z w64 (of_z w64 c.args.below)) (open_row (leaving c.in-Pair.pickup))) c.best_pair.result) c.self.view_is (c.best_pair.ensures d))) in
+    let first = subst (λ x. IsFirstOf (AddsPair (limits_of c.args.self.now) c.rows-places.result.now c.in-Pair.pickup c.in-Pair.delivery c.args.kept x (open_row (leaving c.in-Pair.pickup))) c.best_pair.result) (to_z-of_z w64 c.args.below fits)
+    (subst (λ (q : Course). IsFirstOf (AddsPair (limits_of q) c.rows-places.result.now c.in-Pair.pickup c.in-Pair.delivery c.args.kept (to_z w64 (of_z w64 c.args.below)) (open_row (leaving c.in-Pair.pickup))) c.best_pair.result) c.self.view_is (c.best_pair.ensures d)) in
     subst (λ r. IsBestAddition p (route_of c.args.self.now) r c.args.kept c.args.below c.best_pair.result) (sym c.in-Pair.is)
-    (pair-best p c.args.self.now c.self.inside.places.items table valid is c.requests_are_found_by_stop.ensures name c.args.kept c.args.below d c.in-Pair.pickup c.in-Pair.delivery c.best_pair.result (named ∙ ap (λ r. Some r) c.in-Pair.is) first))
-
-pub best_pair-requires-clause-places : goal.best_pair-requires-clause-places
-best_pair-requires-clause-places c = subst (λ xs. All IsSmallRow xs) (sym c.as_slice-places.ensures.value) c.self.invariant.0.small
+    (pair-best p c.args.self.now c.rows-places.result.now c.rows-places.ensures.known valid is c.requests_are_found_by_stop.ensures name c.args.kept c.args.below d c.in-Pair.pickup c.in-Pair.delivery c.best_pair.result (named ∙ ap (λ r. Some r) c.in-Pair.is) first))
 
 pub best_pair-requires-clause-across : goal.best_pair-requires-clause-across
 best_pair-requires-clause-across c = (subst (λ r. IsAcross r c.args.ways.now) c.in-Pair.is c.requires.ways.across).0

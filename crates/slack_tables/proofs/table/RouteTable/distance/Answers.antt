@@ -1,5 +1,4 @@
-use Rattle.std.proofs.Common.{◌∙◌, ◌-◌, List, get_or, length, ap, subst}
-use Rattle.slack_tables.specs.Inside.{AreKnown}
+use Rattle.std.proofs.Common.{◌∙◌, ap}
 use Rattle.slack_tables.specs.Opened.{leaving, open_row}
 use Rattle.slack_tables.specs.declared.progress.Row.{Row}
 use Rattle.slack_tables.proofs.ReadLemmas.{length-read}
@@ -7,6 +6,5 @@ use Rattle.slack_tables.proofs.table.RouteTable.distance.Goals as goal
 
 pub returns : goal.returns
 returns c = λ p route is.
-    (let table : AreKnown c.args.self.now c.self.inside.places.items = subst (λ q. AreKnown q c.self.inside.places.items) c.self.view_is c.self.invariant.0 in
-    let d = open_row (leaving c.self.inside.depot) in
-    ap (λ (e : Row). e.at.distance) (c.row_at.ensures d) ∙ (ap (λ (xs : List Row). (get_or xs (length xs - 1) d).at.distance) c.as_slice-places.ensures.value ∙ length-read c.args.self.now c.self.inside.places.items table p route is d))
+    (let d = open_row (leaving c.args.self.now.depot) in
+    ap (λ (e : Row). e.at.distance) (c.row_at.ensures d) ∙ length-read c.args.self.now c.rows-places.result.now c.rows-places.ensures.known p route is d)

@@ -1,28 +1,17 @@
-use Rattle.std.proofs.Common.{◌∙◌, ap, subst, sym}
+use Rattle.std.proofs.Common.{◌∙◌, ap, subst}
 use Rattle.plan_types.specs.Instance.{IsInstance}
 use Rattle.slack_tables.specs.Course.{route_of}
-use Rattle.slack_tables.specs.Inside.{limits_of, course_from, AreKnown}
-use Rattle.slack_tables.specs.Front.{KnowsFronts}
-use Rattle.slack_tables.specs.Legs.{AreLinked}
-use Rattle.slack_tables.proofs.BestLemmas.{linked}
-use Rattle.slack_tables.proofs.FrontLemmas.{knows-fronts}
+use Rattle.slack_tables.specs.Inside.{limits_of, course_from}
 use Rattle.slack_tables.proofs.TableLemmas.{numbers-are}
 use Rattle.slack_tables.proofs.table.RouteTable.remade.Goals as goal
-
-pub remake_kept-requires-clause-known : goal.remake_kept-requires-clause-known
-remake_kept-requires-clause-known c =
-    let table : AreKnown c.args.near.now c.near.inside.places.items = subst (λ q. AreKnown q c.near.inside.places.items) c.near.view_is c.near.invariant.0 in
-    subst (λ xs. AreLinked xs) (sym c.as_slice.ensures.value) (linked c.args.near.now c.near.inside.places.items table)
-
-pub remake_kept-requires-clause-fronts : goal.remake_kept-requires-clause-fronts
-remake_kept-requires-clause-fronts c =
-    let table : AreKnown c.args.near.now c.near.inside.places.items = subst (λ q. AreKnown q c.near.inside.places.items) c.near.view_is c.near.invariant.0 in
-    subst (λ xs. KnowsFronts c.args.problem.now xs) (sym c.as_slice.ensures.value) (knows-fronts c.args.problem.now c.args.near.now c.near.inside.places.items table c.requires.near)
 
 pub returns-clause-route : goal.returns-clause-route
 returns-clause-route c =
     let valid : IsInstance c.args.problem.now = subst (λ q. IsInstance q) c.problem.view_is c.problem.invariant.valid in
-    let made = c.in_ok-remake_kept.ensures.made c.if-not-branch.false in
-    let items = c.remake_kept.new.places.items in
+    let made = c.in_ok-remake.ensures.made c.if-not-branch.false in
+    let items = c.remake.new.places.items in
     let course = ap (λ l. course_from l c.problem.inside.depot items) c.limits_of.ensures.value ∙ (ap (λ q. course_from (limits_of c.args.problem.now) q.depot items) c.problem.view_is ∙ made.course) in
     ap (λ course. route_of course) course ∙ numbers-are c.args.problem.now c.args.route.now valid c.requires.route
+
+pub remake-requires-clause-fronts : goal.remake-requires-clause-fronts
+remake-requires-clause-fronts c = c.rows.ensures.fronts c.args.problem.now c.requires.near

@@ -1,0 +1,14 @@
+use Rattle.std.proofs.Common.{subst, sym}
+use Rattle.slack_tables.specs.Inside.{AreKnown}
+use Rattle.slack_tables.proofs.BestLemmas.{linked}
+use Rattle.slack_tables.proofs.FrontLemmas.{knows-fronts}
+use Rattle.slack_tables.proofs.table.RouteTable.rows.Goals as goal
+
+pub returns-clause-known : goal.returns-clause-known
+returns-clause-known c = subst (λ xs. AreKnown c.args.self.now xs) (sym c.as_slice.ensures.value) (subst (λ q. AreKnown q c.self.inside.places.items) c.self.view_is c.self.invariant.0)
+
+pub returns-clause-linked : goal.returns-clause-linked
+returns-clause-linked c = linked c.args.self.now _ (returns-clause-known c)
+
+pub returns-clause-fronts : goal.returns-clause-fronts
+returns-clause-fronts c = λ p is. knows-fronts p c.args.self.now _ (returns-clause-known c) is
