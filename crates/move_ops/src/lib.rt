@@ -65,5 +65,6 @@ pub use laws::{
     limits_are_rules, plans_pass_without_pins, relocations_never_cost_more,
     requests_keep_their_places,
 };
+pub use lists::{has_stop, of_vehicle};
 pub use plan_moves::{best_insertion, exchange, insert_at, remove, two_opt_star};
 pub use tables::Tables;
