@@ -4,9 +4,10 @@ ghost use Rattle.command_core.specs.Refusing.{is_vehicle, add_refusal, withdraw_
 
 use crate::commands::Command;
 use crate::limits::{MAX_ANNEAL_COUNT, MAX_COUNT, MAX_DEVIATION, MAX_STEPS, is_demand, is_spot};
-use crate::lists::{is_feasible, is_planned, of_vehicle};
+use crate::lists::{is_feasible, is_planned};
 use crate::refusals::Refusal;
 use crate::states::{Job, State};
+use move_ops::of_vehicle;
 use plan_audit::{passes_are_local, plans_are_local};
 use plan_types::Problem;
 use plan_types::limits::MAX_STOP_NUMBER;
@@ -93,7 +94,7 @@ fn withdraw_refusal(job: &Job, name: u32) -> Option<Refusal>
 fn pin_refusal(job: &Job, vehicle: u32, stops: u32) -> Option<Refusal>
     ensures { result ≡ pin_refusal job.now vehicle stops }
 {
-    let route = of_vehicle(job.plan.routes.as_slice(), vehicle);
+    let route = of_vehicle(job.plan.routes.as_slice(), u64::from(vehicle));
     if !is_vehicle(&job.problem, vehicle) || route.len() < stops as usize {
         return Some(Refusal::NoSuchPlace);
     }

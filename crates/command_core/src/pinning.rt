@@ -7,9 +7,9 @@ ghost use Rattle.command_core.specs.Refusing.{is_vehicle, job_refusal};
 
 use crate::changes::JobChange;
 use crate::commands::Command;
-use crate::lists::of_vehicle;
 use crate::refusals::Refusal;
 use crate::states::Job;
+use move_ops::of_vehicle;
 use plan_types::Route;
 use std::alloc::Global;
 
@@ -19,7 +19,7 @@ pub(crate) fn pin(alloc: Global, job: &Job, vehicle: u32, stops: u32) -> Result<
     ensures ok { IfOk result (λ change. job_with change job.now ≡ pinned job.now vehicle stops) }
     ensures err { IfErr result (λ r. r ≡ Refusal.OutOfMemory) }
 {
-    let route = of_vehicle(job.plan.routes.as_slice(), vehicle);
+    let route = of_vehicle(job.plan.routes.as_slice(), u64::from(vehicle));
     let mut front = Route::with_capacity(alloc, stops as usize)?;
     front.extend_from_slice(&route[..stops as usize])?;
     with_pin(job, vehicle, front)

@@ -13,6 +13,7 @@
 //! - `lists`, `insert`, `removal`, `swap`: routes and pins by vehicle, and the stops of new routes.
 //! - `pairing`, `tour`, `tours`, `changes`: a route with its table, and what is asked of a new one.
 //! - `seats`, `naming`: where to look for a stop, and the request of a name.
+//! - `facts`: what is known of a problem that is only handed on.
 //! - `tables`: the best insertion, by a table for each vehicle.
 //! - `laws`: what the best insertion is, and that a request which is taken out has one, without code.
 //!
@@ -44,6 +45,7 @@
 
 mod changes;
 mod draft;
+mod facts;
 mod insert;
 mod laws;
 mod lists;
@@ -63,5 +65,6 @@ pub use laws::{
     limits_are_rules, plans_pass_without_pins, relocations_never_cost_more,
     requests_keep_their_places,
 };
+pub use lists::{has_stop, of_vehicle};
 pub use plan_moves::{best_insertion, exchange, insert_at, remove, two_opt_star};
 pub use tables::Tables;

@@ -7,7 +7,7 @@ ghost use Rattle.move_ops.specs.Insertion.{of_vehicle};
 use plan_types::Route;
 
 /// What this vehicle has, its route or its pin; nothing where there is no such vehicle.
-pub(crate) fn of_vehicle(lists: &[Route], vehicle: u64) -> &[u32]
+pub fn of_vehicle(lists: &[Route], vehicle: u64) -> &[u32]
     ensures { result.now ≡ of_vehicle lists.now vehicle }
 {
     if vehicle == 0 {
@@ -21,7 +21,7 @@ pub(crate) fn of_vehicle(lists: &[Route], vehicle: u64) -> &[u32]
 
 /// Whether one of the lists has the stop.
 #[tactic(auto, using(crate::proofs::Times::has_stop_more))]
-pub(crate) fn has_stop(lists: &[Route], number: u32) -> bool
+pub fn has_stop(lists: &[Route], number: u32) -> bool
     ensures { result ≡ has_stop lists.now number }
 {
     for list in lists {

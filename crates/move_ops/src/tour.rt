@@ -9,6 +9,7 @@ ghost use Rattle.move_ops.specs.Tables.{AreTablesIn};
 ghost use Rattle.move_ops.specs.Changes.{IsTourIfFeasible};
 ghost use Rattle.plan_types.specs.Instance.{Instance};
 
+use crate::facts::problem_keeps_limits;
 use crate::pairing::are_paired;
 use plan_types::{OutOfMemory, Problem};
 use slack_tables::RouteTable;
@@ -81,8 +82,7 @@ impl Tour {
         requires once { AreLiveOnce problem.now route.now }
         ensures { result ≡ feasible_alone problem.now route.now }
     {
-        // That the problem keeps its limits is known where a field of it is read.
-        let _fleet = problem.fleet;
+        problem_keeps_limits(problem);
         self.table.keeps_limits(problem, route) && are_paired(problem, route)
     }
 
@@ -99,8 +99,7 @@ impl Tour {
         requires pairs { are_paired problem.now route.now ≡ true }
         ensures { IfOk result (λ o. IsTourIfFeasible problem.now route.now o) }
     {
-        // That the problem keeps its limits is known where a field of it is read.
-        let _fleet = problem.fleet;
+        problem_keeps_limits(problem);
         let Tour { mut stops, table } = self;
         let Some(table) = table.remade(problem, &near.table, route)? else {
             return Ok(None);
@@ -122,8 +121,7 @@ impl Tour {
         requires pairs { are_paired problem.now route.now ≡ true }
         ensures { IfOk result (λ o. IsTourIfFeasible problem.now route.now o) }
     {
-        // That the problem keeps its limits is known where a field of it is read.
-        let _fleet = problem.fleet;
+        problem_keeps_limits(problem);
         if !near.table.keeps_limits(problem, route) {
             return Ok(None);
         }

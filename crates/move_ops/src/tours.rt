@@ -7,6 +7,7 @@ ghost use Rattle.move_ops.specs.Drafts.{AreIdleBehind};
 ghost use Rattle.move_ops.specs.Kept.{AreSeats};
 ghost use Rattle.move_ops.specs.Tables.{plan_of, tables_of};
 
+use crate::facts::problem_keeps_limits;
 use crate::lists::is_in;
 use crate::seats::seat;
 use crate::tour::Tour;
@@ -27,8 +28,7 @@ pub(crate) fn tours_of(
     passes_are_local();
     plans_are_local();
     tests_say_feasible();
-    // That the problem keeps its limits is known where a field of it is read.
-    let _fleet = problem.fleet;
+    problem_keeps_limits(problem);
     let mut tours = Vec::with_capacity(alloc, routes.len())?;
     for route in routes {
         tours.push(Tour::build(alloc, problem, route.as_slice())?)?;

@@ -2,7 +2,6 @@
 ghost use Rattle.std.specs.Prelude.{◌≡◌, ◌≤◌, not, IfOk, OnOk, length, slice_get};
 ghost use Rattle.std.specs.Option.{option_and_then};
 ghost use Rattle.route_sched.specs.Cost.{is_planned};
-ghost use Rattle.move_ops.specs.Insertion.{of_vehicle};
 ghost use Rattle.move_ops.specs.Moves.{is_movable};
 ghost use Rattle.move_ops.specs.Drafts.{draft_of, IsDraftOf};
 ghost use Rattle.seeded_search.specs.Names.{name_where};
@@ -10,7 +9,7 @@ ghost use Rattle.seeded_search.specs.Steps.{movable_names, unplanned_names, used
 ghost use Rattle.seeded_search.specs.Working.{AreListsOf};
 
 use move_ops::Draft;
-use plan_types::{OutOfMemory, Pins, Problem, Route};
+use plan_types::{OutOfMemory, Pins, Problem};
 use std::alloc::Global;
 
 /// Names of requests, rising.
@@ -125,17 +124,4 @@ pub(crate) fn used_vehicles(alloc: Global, draft: &Draft) -> Result<Vec<u64>, Ou
         }
     }
     Ok(used)
-}
-
-/// What this vehicle has; nothing where there is no such vehicle.
-pub(crate) fn of_vehicle(lists: &[Route], vehicle: u64) -> &[u32]
-    ensures { result.now ≡ of_vehicle lists.now vehicle }
-{
-    if vehicle == 0 {
-        return &[];
-    }
-    match lists.get((vehicle - 1) as usize) {
-        Some(route) => route.as_slice(),
-        None => &[],
-    }
 }

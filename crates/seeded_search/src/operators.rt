@@ -10,9 +10,9 @@ ghost use Rattle.seeded_search.specs.Working.{AreListsOf};
 ghost use Rattle.seeded_search.specs.Steps.{candidate, drawn, movable_names, placed_all, relocated, exchanged_by, crossed_by, cut_by, recreated_by};
 
 use crate::draws::{drawn, picked, picked_vehicle, place};
-use crate::lists::{Lists, of_vehicle, used_vehicles};
+use crate::lists::{Lists, used_vehicles};
 use crate::pick;
-use move_ops::Draft;
+use move_ops::{Draft, of_vehicle};
 use plan_audit::passes_are_local;
 use plan_types::{OutOfMemory, Pins, Problem};
 use std::alloc::Global;

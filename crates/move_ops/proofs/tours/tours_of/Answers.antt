@@ -1,5 +1,4 @@
 use Rattle.std.proofs.Common.{ℕ, List, [], sym, subst, arith}
-use Rattle.plan_types.specs.Instance.{IsInstance}
 use Rattle.route_sched.specs.Route.{AreLiveOnce}
 use Rattle.slack_tables.specs.Insertion.{KeepsLimits}
 use Rattle.move_ops.proofs.Asked.{route_once, route_keeps}
@@ -14,6 +13,5 @@ build-requires-clause-route c =
 pub build-requires-clause-limits : goal.build-requires-clause-limits
 build-requires-clause-limits c =
     let p = c.args.problem.now in
-    let valid : IsInstance p = subst (λ q. IsInstance q) c.problem.view_is c.problem.invariant.valid in
     subst (λ (l : List ℕ). KeepsLimits p l) (sym c.as_slice.ensures)
-    (route_keeps c.passes_are_local.ensures c.plans_are_local.ensures c.tests_say_feasible.ensures p [] c.args.routes.now c.requires c.loop-route.route-index c.route-item.result c.route-item.is (omega arith) valid)
+    (route_keeps c.passes_are_local.ensures c.plans_are_local.ensures c.tests_say_feasible.ensures p [] c.args.routes.now c.requires c.loop-route.route-index c.route-item.result c.route-item.is (omega arith) c.problem_keeps_limits.ensures)

@@ -1,16 +1,13 @@
-use Rattle.std.proofs.Common.{rules, ◌≡◌, ◌∙◌, true, false, sym, subst}
-use Rattle.plan_types.specs.Instance.{IsInstance}
+use Rattle.std.proofs.Common.{rules, ◌≡◌, ◌∙◌, true, false, sym}
 use Rattle.move_ops.proofs.Fitting.{paired}
 use Rattle.move_ops.proofs.tour.Tour.build_if_feasible.Goals as goal
 
 pub returns-then-not-keeps_limits : goal.returns-then-not-keeps_limits
 returns-then-not-keeps_limits c =
-    let valid : IsInstance c.args.problem.now = subst (λ q. IsInstance q) c.problem.view_is c.problem.invariant.valid in
     let broken : c.keeps_limits.result ≡ false = search rules in
-    sym (paired c.args.problem.now valid c.args.route.now c.keeps_limits.result c.requires.pairs c.keeps_limits.ensures) ∙ broken
+    sym (paired c.args.problem.now c.problem_keeps_limits.ensures c.args.route.now c.keeps_limits.result c.requires.pairs c.keeps_limits.ensures) ∙ broken
 
 pub returns : goal.returns
 returns c =
-    let valid : IsInstance c.args.problem.now = subst (λ q. IsInstance q) c.problem.view_is c.problem.invariant.valid in
     let kept : c.keeps_limits.result ≡ true = search rules in
-    (sym (paired c.args.problem.now valid c.args.route.now c.keeps_limits.result c.requires.pairs c.keeps_limits.ensures) ∙ kept, c.in_ok-build.ensures.course, c.in_ok-build.ensures.route)
+    (sym (paired c.args.problem.now c.problem_keeps_limits.ensures c.args.route.now c.keeps_limits.result c.requires.pairs c.keeps_limits.ensures) ∙ kept, c.in_ok-build.ensures.course, c.in_ok-build.ensures.route)

@@ -1,5 +1,4 @@
-use Rattle.std.proofs.Common.{rules, ◌≡◌, ◌∙◌, true, false, subst}
-use Rattle.plan_types.specs.Instance.{IsInstance}
+use Rattle.std.proofs.Common.{rules, ◌≡◌, ◌∙◌, true, false}
 use Rattle.move_ops.proofs.Fitting.{within_limits, outside_limits}
 use Rattle.move_ops.proofs.tour.Tour.is_feasible.Goals as goal
 
@@ -10,6 +9,5 @@ returns-then-keeps_limits c =
 
 pub returns-else-keeps_limits : goal.returns-else-keeps_limits
 returns-else-keeps_limits c =
-    let valid : IsInstance c.args.problem.now = subst (λ q. IsInstance q) c.problem.view_is c.problem.invariant.valid in
     let broken : c.keeps_limits.result ≡ false = search rules in
-    broken ∙ outside_limits c.args.problem.now valid c.args.route.now c.keeps_limits.result broken c.keeps_limits.ensures
+    broken ∙ outside_limits c.args.problem.now c.problem_keeps_limits.ensures c.args.route.now c.keeps_limits.result broken c.keeps_limits.ensures

@@ -1,5 +1,4 @@
 use Rattle.std.proofs.Common.{rules, ◌≡◌, Option, Some, None, subst}
-use Rattle.plan_types.specs.Instance.{IsInstance}
 use Rattle.slack_tables.specs.Course.{Course}
 use Rattle.move_ops.specs.Changes.{IsTourIfFeasible}
 use Rattle.move_ops.proofs.Touring.{tour_if_feasible}
@@ -8,15 +7,13 @@ use Rattle.move_ops.proofs.tour.Tour.remade_if_feasible.Goals as goal
 pub returns-in_default : goal.returns-in_default
 returns-in_default c =
     let p = c.args.problem.now in
-    let valid : IsInstance c.args.problem.now = subst (λ q. IsInstance q) c.problem.view_is c.problem.invariant.valid in
     let told = c.in_ok-table.ensures in
     let none : c.in_ok-table.field-0 ≡ None = search rules in
-    subst (λ (o : Option Course). IsTourIfFeasible p c.args.route.now o) none (tour_if_feasible p valid c.args.route.now c.requires.pairs c.in_ok-table.field-0 told.kept told.course told.route)
+    subst (λ (o : Option Course). IsTourIfFeasible p c.args.route.now o) none (tour_if_feasible p c.problem_keeps_limits.ensures c.args.route.now c.requires.pairs c.in_ok-table.field-0 told.kept told.course told.route)
 
 pub returns : goal.returns
 returns c =
     let p = c.args.problem.now in
-    let valid : IsInstance c.args.problem.now = subst (λ q. IsInstance q) c.problem.view_is c.problem.invariant.valid in
     let told = c.in_ok-table.ensures in
     let some : c.in_ok-table.field-0 ≡ Some c.in-Some.table = search rules in
-    subst (λ (o : Option Course). IsTourIfFeasible p c.args.route.now o) some (tour_if_feasible p valid c.args.route.now c.requires.pairs c.in_ok-table.field-0 told.kept told.course told.route)
+    subst (λ (o : Option Course). IsTourIfFeasible p c.args.route.now o) some (tour_if_feasible p c.problem_keeps_limits.ensures c.args.route.now c.requires.pairs c.in_ok-table.field-0 told.kept told.course told.route)
