@@ -28,7 +28,7 @@ use Rattle.slack_tables.specs.Insertion.{KeepsLimits, ArePlaces, inserted}
 use Rattle.slack_tables.specs.declared.scan.Addition.{Addition}
 use Rattle.move_ops.specs.Insertion.{Insertion, is_no_later, of_vehicle, are_places, is_place_of, insertions_of, insertions, best_insertion, cost_with, is_no_worse}
 use Rattle.move_ops.specs.Laws.{IsBest, BestInsertionsAreLeast, BestInsertionsAreUnique}
-use Rattle.move_ops.specs.Choosing.{opens, bound_beside, bound_of, place_found, found_at, IsBestAmong, IsBestAmongThese, IsLoose, IsShort, HasIdle, IsBetterBelow, IsBetter}
+use Rattle.move_ops.specs.Choosing.{opens, bound_beside, bound_of, place_found, found_at, IsBestAmong, IsBestAmongThese, IsLoose, HasIdle, IsBetterBelow, IsBetter}
 use Rattle.move_ops.specs.declared.tables.Found.{Found}
 use Rattle.move_ops.proofs.Times.{none_some, some_same, times}
 use Rattle.move_ops.proofs.Inserting.{numbers_of, nowhere, passes_where_feasible}

@@ -7,7 +7,6 @@ use Rattle.plan_types.specs.Instance.{Instance}
 use Rattle.plan_types.specs.Laws.{NamedAreFound, RequestsStandByName}
 use Rattle.plan_types.specs.declared.plans.Cost.{Cost}
 use Rattle.plan_types.specs.declared.requests.Request.{Request}
-use Rattle.route_sched.specs.Cost.{unplanned_count}
 use Rattle.route_sched.specs.Route.{AreLiveOnce, IsPlan}
 use Rattle.plan_audit.specs.Locality.{PassesAreLocal, PlansAreLocal, TestsSayFeasible}
 use Rattle.plan_audit.specs.Passes.{feasible_alone}

@@ -1,5 +1,5 @@
 -- The best insertion so far, on the way over the vehicles.
-use Rattle.std.specs.Prelude.{◌≡◌, ◌⊎◌, ℕ, ◌+◌, ◌≤◌, ◌<◌, ℤ, pos, ◌+ℤ◌, ◌≤ℤ◌, ◌<ℤ◌, nat_lt, ◌==◌, Bool, true, false, not, ◌&&◌, List, length, slice_get, Option, Some, None, nat_eq, IfSome, MatchOption, if◌then◌else◌}
+use Rattle.std.specs.Prelude.{◌≡◌, ◌⊎◌, ℕ, ◌≤◌, ◌<◌, ℤ, pos, ◌+ℤ◌, ◌≤ℤ◌, ◌<ℤ◌, nat_lt, ◌==◌, Bool, true, false, not, ◌&&◌, List, length, slice_get, Option, Some, None, nat_eq, IfSome, MatchOption, if◌then◌else◌}
 use Rattle.std.specs.List.{Contains}
 use Rattle.std.specs.Map.{lookup}
 use Rattle.std.specs.Option.{option_map, option_or}

@@ -19,6 +19,7 @@ ghost use Rattle.move_ops.specs.Refreshing.{fresh_of, AreWithin};
 ghost use Rattle.move_ops.specs.Tables.{plan_of, AreVehicles};
 ghost use Rattle.move_ops.specs.Choosing.{opens, bound_of, place_found, IsAsked, IsBestAmongThese, IsLookedAt, IsLoose, bound_beside, IsBetter, IsEntryOf, IsNamed, IsReach, IsShort};
 
+use crate::facts::problem_keeps_limits;
 use crate::laws::{best_insertions_are_least, best_insertions_are_unique};
 use crate::lists::of_vehicle;
 use crate::tour::Tour;
@@ -125,8 +126,7 @@ impl Tables {
     {
         passes_are_local();
         plans_are_local();
-        // That the problem keeps its limits is known where a field of it is read.
-        let _fleet = problem.fleet;
+        problem_keeps_limits(problem);
         let alloc = *self.tables.allocator();
         let fresh = fresh_tables(alloc, problem, plan.routes.as_slice(), vehicles)?;
         self.replace(fresh);
@@ -159,8 +159,7 @@ fn fresh_tables(
     passes_are_local();
     plans_are_local();
     tests_say_feasible();
-    // That the problem keeps its limits is known where a field of it is read.
-    let _fleet = problem.fleet;
+    problem_keeps_limits(problem);
     let mut fresh = Vec::with_capacity(alloc, vehicles.len())?;
     for vehicle in vehicles {
         let route = of_vehicle(routes, u64::from(*vehicle));

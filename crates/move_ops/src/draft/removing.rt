@@ -21,6 +21,7 @@ ghost use Rattle.std.specs.Option.{option_map};
 ghost use Rattle.move_ops.specs.Drafts.{draft_of, base_of, IsDraftOf, IsMade};
 
 use super::Draft;
+use crate::facts::problem_keeps_limits;
 use crate::lists::is_in;
 use crate::naming::request_named;
 use crate::removal::keep_others;
@@ -83,8 +84,7 @@ impl Draft {
         ensures { self.new ≡ self.old }
     {
         requests_are_found_by_stop();
-        // That the problem keeps its limits is known where a field of it is read.
-        let _fleet = problem.fleet;
+        problem_keeps_limits(problem);
         for name in names {
             if let Some(request) = request_named(problem, *name) {
                 self.clear_request(&request);

@@ -1,6 +1,6 @@
 use mir.Val.{SFits}
 use Rattle.std.proofs.lemmas.Int.{to_z-of_z}
-use Rattle.std.proofs.Common.{◌≡◌, ◌+◌, rules, w64, true, false, Some, refl, sym, ap, ◌∙◌, arith, subst}
+use Rattle.std.proofs.Common.{◌≡◌, ◌+◌, rules, w64, true, false, refl, sym, ◌∙◌, arith, subst}
 use Rattle.move_ops.specs.Insertion.{of_vehicle}
 use Rattle.move_ops.specs.Tables.{plan_of}
 use Rattle.move_ops.specs.Choosing.{IsBestAmongThese, IsLoose, IsNamedOrUpTo}

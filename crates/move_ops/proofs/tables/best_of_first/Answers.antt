@@ -3,7 +3,7 @@ use Rattle.slack_tables.specs.Course.{route_of}
 use Rattle.move_ops.specs.Choosing.{IsBestAmongThese, IsBetter, IsNamed}
 use Rattle.move_ops.specs.Insertion.{of_vehicle}
 use Rattle.move_ops.specs.Tables.{plan_of}
-use Rattle.move_ops.proofs.Asked.{course_at, entry_at, named_idle, named_more, none_yet, pin_fits, request_valid}
+use Rattle.move_ops.proofs.Asked.{course_at, entry_at, named_idle, named_more, pin_fits, request_valid}
 use Rattle.move_ops.proofs.tables.best_of_first.Goals as goal
 use Rattle.move_ops.proofs.tables.best_of_first.Goals.{then-stop_count-ne0, else-stop_count-ne0}
 

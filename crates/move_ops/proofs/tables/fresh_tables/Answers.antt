@@ -20,7 +20,7 @@ build-requires-clause-route c =
 pub build-requires-clause-limits : goal.build-requires-clause-limits
 build-requires-clause-limits c =
     let p = c.args.problem.now in
-    let valid : IsInstance p = subst (λ q. IsInstance q) c.problem.view_is c.problem.invariant.valid in
+    let valid : IsInstance p = c.problem_keeps_limits.ensures in
     let v = c.from.result in
     let here : v ≡ get_or c.args.vehicles.now c.loop-vehicle.vehicle-index 0 = search rules in
     let within : (1 ≤ v) × (v ≤ p.fleet) = subst (λ (n : ℕ). (1 ≤ n) × (n ≤ p.fleet)) (sym here) (All-get_or (λ (n : ℕ). (1 ≤ n) × (n ≤ p.fleet)) c.args.vehicles.now c.loop-vehicle.vehicle-index 0 (omega arith) c.requires.vehicles) in

@@ -1,4 +1,4 @@
-use Rattle.std.proofs.Common.{rules, ◌≡◌, ◌∙◌, Some, nat_eq, get_or, ap, subst}
+use Rattle.std.proofs.Common.{rules, ◌≡◌, ◌∙◌, Some, nat_eq, get_or, ap}
 use Rattle.std.specs.Map.{lookup}
 use Rattle.plan_types.specs.Instance.{IsInstance}
 use Rattle.route_sched.specs.Cost.{has_stop}
@@ -11,7 +11,7 @@ clear_request-requires c =
     let p = c.args.problem.now in
     let names = c.args.names.now in
     let k = c.loop-name.name-index in
-    let valid : IsInstance c.args.problem.now = subst (λ q. IsInstance q) c.problem.view_is c.problem.invariant.valid in
+    let valid : IsInstance c.args.problem.now = c.problem_keeps_limits.ensures in
     let at : lookup (nat_eq (get_or c.args.names.now c.loop-name.name-index 0)) c.args.problem.now.requests ≡ Some c.in-Some.request = search rules in
     λ n some. ap (λ (d : Drafted). has_stop (draft_of d) n) c.loop-name.invariant
     ∙ c.requires n (named_stop c.requests_are_found_by_stop.ensures p valid names (get_or names k 0) c.in-Some.request (has_item names k c.loop-name-test.true) at n some)

@@ -1,7 +1,7 @@
-use Rattle.std.proofs.Common.{rules, ◌≡◌, ◌-◌, List, set, refl, sym, ap, ◌∙◌, arith}
+use Rattle.std.proofs.Common.{rules, ◌≡◌, ◌-◌, set, refl, ap, ◌∙◌, arith}
 use Rattle.plan_types.specs.declared.plans.Cost.{Cost}
 use Rattle.route_sched.specs.Cost.{cost_of}
-use Rattle.slack_tables.specs.Course.{Course, course_of}
+use Rattle.slack_tables.specs.Course.{course_of}
 use Rattle.move_ops.specs.Drafts.{Drafted, undone}
 use Rattle.move_ops.proofs.Drafting.{changed}
 use Rattle.move_ops.proofs.Putting.{within_tours, has_places, given_once, given_keeps, given_small, given_unplanned, plan_new, tables_new, passes_new, plan_cost}

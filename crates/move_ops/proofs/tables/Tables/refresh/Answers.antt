@@ -31,7 +31,7 @@ pub returns-clause-plan : goal.returns-clause-plan
 returns-clause-plan c =
     let p = c.args.problem.now in
     let routes = c.args.plan.now.routes in
-    let valid : IsInstance p = subst (λ q. IsInstance q) c.problem.view_is c.problem.invariant.valid in
+    let valid : IsInstance p = c.problem_keeps_limits.ensures in
     let fleet = fleet_of c.passes_are_local.ensures p [] routes c.requires.pass in
     let made : c.in_ok-fresh.fresh.items ≡ map (fresh_of p routes) c.args.vehicles.now = search rules in
     let new : c.replace.new.self ≡ replaced c.args.self.now c.in_ok-fresh.fresh.items = search rules in
