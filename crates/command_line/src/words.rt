@@ -141,6 +141,9 @@ static KIND_WORDS: [&str; 2] = ["lilim", "vrp"];
 
 static MODE_WORDS: [&str; 1] = ["strict"];
 
+// A command that is being made. What adds to it takes what came of the step before, so that `?` stands in few places.
+type CommandResult<'a> = Result<Command<'a>, OutOfMemory>;
+
 /// Reads the words of the command line, the program's name first. `lines` is what help says of the lines that `run` reads.
 ///
 /// # Errors
@@ -167,65 +170,24 @@ pub fn read_words<'a, S: AsStr>(
 fn bad_words(alloc: Global, matches: &ArgMatches<'_>) -> Result<Error, OutOfMemory>
     ensures { IfOk result (λ error. kind_of error ≡ ErrorKind.InvalidValue) }
 {
+    let kinds = kind_names();
     match matches.subcommand_name() {
-        Some("load") => bad_load(alloc),
-        Some("solves") => bad_solves(alloc),
-        Some("draw") => bad_draw(alloc),
-        Some("timetable") => bad_timetable(alloc),
-        _ => bad_solve(alloc),
+        Some("load") => refused(load_command(alloc, kinds), "planner load", BAD_SEED),
+        Some("solves") => refused(solves_command(alloc, kinds), "planner solves", BAD_TASKS),
+        Some("draw") => refused(draw_command(alloc), "planner draw", BAD_DRAWING),
+        Some("timetable") => refused(timetable_command(alloc), "planner timetable", BAD_TIMETABLE),
+        _ => refused(solve_command(alloc, kinds), "planner solve", BAD_STEPS),
     }
 }
 
-fn bad_load(alloc: Global) -> Result<Error, OutOfMemory>
-    ensures { IfOk result (λ error. kind_of error ≡ ErrorKind.InvalidValue) }
-{
-    refused(load_command(alloc, kind_names())?, "planner load", BAD_SEED)
-}
-
-fn bad_solves(alloc: Global) -> Result<Error, OutOfMemory>
-    ensures { IfOk result (λ error. kind_of error ≡ ErrorKind.InvalidValue) }
-{
-    refused(
-        solves_command(alloc, kind_names())?,
-        "planner solves",
-        BAD_TASKS,
-    )
-}
-
-fn bad_draw(alloc: Global) -> Result<Error, OutOfMemory>
-    ensures { IfOk result (λ error. kind_of error ≡ ErrorKind.InvalidValue) }
-{
-    refused(draw_command(alloc)?, "planner draw", BAD_DRAWING)
-}
-
-fn bad_timetable(alloc: Global) -> Result<Error, OutOfMemory>
-    ensures { IfOk result (λ error. kind_of error ≡ ErrorKind.InvalidValue) }
-{
-    refused(
-        timetable_command(alloc)?,
-        "planner timetable",
-        BAD_TIMETABLE,
-    )
-}
-
-fn bad_solve(alloc: Global) -> Result<Error, OutOfMemory>
-    ensures { IfOk result (λ error. kind_of error ≡ ErrorKind.InvalidValue) }
-{
-    refused(
-        solve_command(alloc, kind_names())?,
-        "planner solve",
-        BAD_STEPS,
-    )
-}
-
 // The error that says why the words of a command are refused, with the command's usage under this name.
-fn refused(command: Command<'_>, name: &str, why: &str) -> Result<Error, OutOfMemory>
+fn refused(command: CommandResult<'_>, name: &str, why: &str) -> Result<Error, OutOfMemory>
     ensures { IfOk result (λ error. kind_of error ≡ ErrorKind.InvalidValue) }
 {
-    command.bin_name(name)?.error(ErrorKind::InvalidValue, why)
+    command?.bin_name(name)?.error(ErrorKind::InvalidValue, why)
 }
 
-fn planner_command<'a>(alloc: Global, lines: &'a str) -> Result<Command<'a>, OutOfMemory>
+fn planner_command<'a>(alloc: Global, lines: &'a str) -> CommandResult<'a>
     ensures { IfOk result IsPlannerCommand }
 {
     let kinds = kind_names();
@@ -233,58 +195,58 @@ fn planner_command<'a>(alloc: Global, lines: &'a str) -> Result<Command<'a>, Out
         .about(ABOUT)
         .version(VERSION)
         .after_help(STATUSES);
-    let planner = with_solution_commands(alloc, planner, kinds)?;
-    let planner = with_search_commands(alloc, planner, kinds)?;
+    let planner = with_solution_commands(alloc, Ok(planner), kinds);
+    let planner = with_search_commands(alloc, planner, kinds);
     with_store_commands(alloc, planner, kinds, mode_names(), lines)
 }
 
 // The command with those that take a solution.
 fn with_solution_commands<'a>(
     alloc: Global,
-    above: Command<'a>,
+    above: CommandResult<'a>,
     kinds: &'a [&'a str],
-) -> Result<Command<'a>, OutOfMemory>
-    ensures { (a : App) → app_of above.entry ≡ a
+) -> CommandResult<'a>
+    ensures { (a : App) → IfOk above.entry (λ old. app_of old ≡ a)
         → IfOk result (λ new. app_of new ≡ with_solution_apps kinds.entry a) }
 {
-    let audit = paths_command(alloc, "audit", AUDIT_ABOUT, AUDIT_ANSWERS, kinds)?;
-    let above = with_command(above, audit)?;
-    let above = with_command(above, audits_command(alloc, kinds)?)?;
-    let explain = paths_command(alloc, "explain", EXPLAIN_ABOUT, EXPLAIN_ANSWERS, kinds)?;
-    let above = with_command(above, explain)?;
-    let above = with_command(above, timetable_command(alloc)?)?;
-    with_command(above, draw_command(alloc)?)
+    let audit = paths_command(alloc, "audit", AUDIT_ABOUT, AUDIT_ANSWERS, kinds);
+    let above = with_command(above, audit);
+    let above = with_command(above, audits_command(alloc, kinds));
+    let explain = paths_command(alloc, "explain", EXPLAIN_ABOUT, EXPLAIN_ANSWERS, kinds);
+    let above = with_command(above, explain);
+    let above = with_command(above, timetable_command(alloc));
+    with_command(above, draw_command(alloc))
 }
 
 // The command with those that make a solution.
 fn with_search_commands<'a>(
     alloc: Global,
-    above: Command<'a>,
+    above: CommandResult<'a>,
     kinds: &'a [&'a str],
-) -> Result<Command<'a>, OutOfMemory>
-    ensures { (a : App) → app_of above.entry ≡ a
+) -> CommandResult<'a>
+    ensures { (a : App) → IfOk above.entry (λ old. app_of old ≡ a)
         → IfOk result (λ new. app_of new ≡ with_search_apps kinds.entry a) }
 {
-    let above = with_command(above, solve_command(alloc, kinds)?)?;
-    with_command(above, solves_command(alloc, kinds)?)
+    let above = with_command(above, solve_command(alloc, kinds));
+    with_command(above, solves_command(alloc, kinds))
 }
 
 // The command with those that make or change a store.
 fn with_store_commands<'a>(
     alloc: Global,
-    above: Command<'a>,
+    above: CommandResult<'a>,
     kinds: &'a [&'a str],
     modes: &'a [&'a str],
     lines: &'a str,
-) -> Result<Command<'a>, OutOfMemory>
-    ensures { (a : App) → app_of above.entry ≡ a
+) -> CommandResult<'a>
+    ensures { (a : App) → IfOk above.entry (λ old. app_of old ≡ a)
         → IfOk result (λ new. app_of new ≡ with_store_apps kinds.entry modes.entry a) }
 {
-    let format = store_command(alloc, "format", FORMAT_ABOUT, FORMAT_ANSWERS)?;
-    let above = with_command(above, format)?;
-    let above = with_command(above, load_command(alloc, kinds)?)?;
-    let above = with_command(above, run_command(alloc, modes, lines)?)?;
-    with_command(above, upgrade_command(alloc)?)
+    let format = store_command(alloc, "format", FORMAT_ABOUT, FORMAT_ANSWERS);
+    let above = with_command(above, format);
+    let above = with_command(above, load_command(alloc, kinds));
+    let above = with_command(above, run_command(alloc, modes, lines));
+    with_command(above, upgrade_command(alloc))
 }
 
 // The words that name a kind of instance.
@@ -314,70 +276,66 @@ fn store_command<'a>(
     name: &'a str,
     about: &'a str,
     answers: &'a str,
-) -> Result<Command<'a>, OutOfMemory>
+) -> CommandResult<'a>
     ensures { IfOk result (IsLeafCommand (store_app name.entry.now)) }
 {
-    let command = bare_command(alloc, name, about, answers);
+    let command = Ok(bare_command(alloc, name, about, answers));
     with_word(command, word(alloc, "STORE", "The file of the store"))
 }
 
-fn run_command<'a>(
-    alloc: Global,
-    modes: &'a [&'a str],
-    lines: &'a str,
-) -> Result<Command<'a>, OutOfMemory>
+fn run_command<'a>(alloc: Global, modes: &'a [&'a str], lines: &'a str) -> CommandResult<'a>
     ensures { IfOk result (IsLeafCommand (run_app modes.entry)) }
 {
-    let command = bare_command(alloc, "run", RUN_ABOUT, lines);
-    let command = with_word(command, word(alloc, "STORE", "The file of the store"))?;
+    let command = Ok(bare_command(alloc, "run", RUN_ABOUT, lines));
+    let command = with_word(command, word(alloc, "STORE", "The file of the store"));
     with_word(command, mode_word(alloc, modes))
 }
 
-fn load_command<'a>(alloc: Global, kinds: &'a [&'a str]) -> Result<Command<'a>, OutOfMemory>
+fn load_command<'a>(alloc: Global, kinds: &'a [&'a str]) -> CommandResult<'a>
     ensures { IfOk result (IsLeafCommand (load_app kinds.entry)) }
 {
-    let command = bare_command(alloc, "load", LOAD_ABOUT, LOAD_ANSWERS);
-    let command = with_word(command, word(alloc, "STORE", "The file of the store"))?;
-    let command = with_word(command, kind_word(alloc, kinds))?;
-    let command = with_word(command, instance_word(alloc))?;
+    let command = Ok(bare_command(alloc, "load", LOAD_ABOUT, LOAD_ANSWERS));
+    let command = with_word(command, word(alloc, "STORE", "The file of the store"));
+    let command = with_word(command, kind_word(alloc, kinds));
+    let command = with_word(command, instance_word(alloc));
     with_word(command, seed_word(alloc))
 }
 
-fn upgrade_command<'a>(alloc: Global) -> Result<Command<'a>, OutOfMemory>
+fn upgrade_command<'a>(alloc: Global) -> CommandResult<'a>
     ensures { IfOk result (IsLeafCommand upgrade_app) }
 {
-    let command = bare_command(alloc, "upgrade", UPGRADE_ABOUT, UPGRADE_ANSWERS);
-    let command = with_word(command, word(alloc, "OLD", "The file of the old store"))?;
+    let command = Ok(bare_command(alloc, "upgrade", UPGRADE_ABOUT, UPGRADE_ANSWERS));
+    let command = with_word(command, word(alloc, "OLD", "The file of the old store"));
     with_word(command, word(alloc, "NEW", "The file of the new store"))
 }
 
-fn timetable_command<'a>(alloc: Global) -> Result<Command<'a>, OutOfMemory>
+fn timetable_command<'a>(alloc: Global) -> CommandResult<'a>
     ensures { IfOk result (IsLeafCommand timetable_app) }
 {
-    let command = bare_command(alloc, "timetable", TIMETABLE_ABOUT, TIMETABLE_ANSWERS);
+    let command = Ok(bare_command(alloc, "timetable", TIMETABLE_ABOUT, TIMETABLE_ANSWERS));
     with_plan_words(alloc, command, second_word(alloc), tabs_word(alloc))
 }
 
-fn draw_command<'a>(alloc: Global) -> Result<Command<'a>, OutOfMemory>
+fn draw_command<'a>(alloc: Global) -> CommandResult<'a>
     ensures { IfOk result (IsLeafCommand draw_app) }
 {
-    let command = bare_command(alloc, "draw", DRAW_ABOUT, DRAW_ANSWERS);
+    let command = Ok(bare_command(alloc, "draw", DRAW_ABOUT, DRAW_ANSWERS));
     with_plan_words(alloc, command, drawn_word(alloc), route_word(alloc))
 }
 
 // The command with the words that name a store or a solution: `STORE|KIND`, a second one, `SOLUTION` and a last one.
 fn with_plan_words<'a>(
     alloc: Global,
-    command: Command<'a>,
+    command: CommandResult<'a>,
     second: Arg<'a>,
     last: Arg<'a>,
-) -> Result<Command<'a>, OutOfMemory>
-    ensures { (a : App) (r q : Rule) → IsLeafCommand a command.entry → IsWord r second.entry
+) -> CommandResult<'a>
+    ensures { (a : App) (r q : Rule) → IfOk command.entry (IsLeafCommand a) → IsWord r second.entry
         → IsWord q last.entry → IfOk result (IsLeafCommand (with_plan_rules a r q)) }
 {
-    let command = with_word(command, word(alloc, "STORE|KIND", "A store, or a format"))?;
-    let command = with_word(command, second)?;
-    let command = with_word(command, solution_word(alloc))?;
+    let command = with_word(command, word(alloc, "STORE|KIND", "A store, or a format"));
+    let command = with_word(command, second);
+    let command = with_word(command, solution_word(alloc));
     with_word(command, last)
 }
 
@@ -388,12 +346,12 @@ fn paths_command<'a>(
     about: &'a str,
     answers: &'a str,
     kinds: &'a [&'a str],
-) -> Result<Command<'a>, OutOfMemory>
+) -> CommandResult<'a>
     ensures { IfOk result (IsLeafCommand (paths_app name.entry.now kinds.entry)) }
 {
-    let command = bare_command(alloc, name, about, answers);
-    let command = with_word(command, kind_word(alloc, kinds))?;
-    let command = with_word(command, instance_word(alloc))?;
+    let command = Ok(bare_command(alloc, name, about, answers));
+    let command = with_word(command, kind_word(alloc, kinds));
+    let command = with_word(command, instance_word(alloc));
     with_word(
         command,
         word(
@@ -404,35 +362,35 @@ fn paths_command<'a>(
     )
 }
 
-fn audits_command<'a>(alloc: Global, kinds: &'a [&'a str]) -> Result<Command<'a>, OutOfMemory>
+fn audits_command<'a>(alloc: Global, kinds: &'a [&'a str]) -> CommandResult<'a>
     ensures { IfOk result (IsLeafCommand (audits_app kinds.entry)) }
 {
-    let command = bare_command(alloc, "audits", AUDITS_ABOUT, AUDITS_ANSWERS);
-    let command = with_word(command, kind_word(alloc, kinds))?;
+    let command = Ok(bare_command(alloc, "audits", AUDITS_ABOUT, AUDITS_ANSWERS));
+    let command = with_word(command, kind_word(alloc, kinds));
     with_word(command, list_word(alloc))
 }
 
-fn solve_command<'a>(alloc: Global, kinds: &'a [&'a str]) -> Result<Command<'a>, OutOfMemory>
+fn solve_command<'a>(alloc: Global, kinds: &'a [&'a str]) -> CommandResult<'a>
     ensures { IfOk result (IsLeafCommand (solve_app kinds.entry)) }
 {
-    let command = bare_command(alloc, "solve", SOLVE_ABOUT, SOLVE_ANSWERS);
-    let command = with_word(command, kind_word(alloc, kinds))?;
-    let command = with_word(command, instance_word(alloc))?;
-    let command = with_word(command, word(alloc, "STEPS", "How many steps are made"))?;
-    let command = with_word(command, seed_word(alloc))?;
+    let command = Ok(bare_command(alloc, "solve", SOLVE_ABOUT, SOLVE_ANSWERS));
+    let command = with_word(command, kind_word(alloc, kinds));
+    let command = with_word(command, instance_word(alloc));
+    let command = with_word(command, word(alloc, "STEPS", "How many steps are made"));
+    let command = with_word(command, seed_word(alloc));
     with_word(command, deviation_word(alloc))
 }
 
-fn solves_command<'a>(alloc: Global, kinds: &'a [&'a str]) -> Result<Command<'a>, OutOfMemory>
+fn solves_command<'a>(alloc: Global, kinds: &'a [&'a str]) -> CommandResult<'a>
     ensures { IfOk result (IsLeafCommand (solves_app kinds.entry)) }
 {
-    let command = bare_command(alloc, "solves", SOLVES_ABOUT, SOLVES_ANSWERS);
-    let command = with_word(command, kind_word(alloc, kinds))?;
-    let command = with_word(command, list_word(alloc))?;
+    let command = Ok(bare_command(alloc, "solves", SOLVES_ABOUT, SOLVES_ANSWERS));
+    let command = with_word(command, kind_word(alloc, kinds));
+    let command = with_word(command, list_word(alloc));
     let command = with_word(
         command,
         word(alloc, "STEPS", "How many steps are made of each"),
-    )?;
+    );
     with_word(command, seed_word(alloc))
 }
 
@@ -522,19 +480,20 @@ fn word<'a>(alloc: Global, name: &'a str, help: &'a str) -> Arg<'a>
 }
 
 // The command with one more word.
-fn with_word<'a>(command: Command<'a>, word: Arg<'a>) -> Result<Command<'a>, OutOfMemory>
-    ensures { (a : App) (r : Rule) → IsLeafCommand a command.entry → IsWord r word.entry
+fn with_word<'a>(command: CommandResult<'a>, word: Arg<'a>) -> CommandResult<'a>
+    ensures { (a : App) (r : Rule) → IfOk command.entry (IsLeafCommand a) → IsWord r word.entry
         → IfOk result (IsLeafCommand (with_rule a r)) }
 {
-    command.arg(word)
+    command?.arg(word)
 }
 
 // The command with one more subcommand.
-fn with_command<'a>(above: Command<'a>, command: Command<'a>) -> Result<Command<'a>, OutOfMemory>
-    ensures { (a b : App) → app_of above.entry ≡ a → IsLeafCommand b command.entry
+fn with_command<'a>(above: CommandResult<'a>, command: CommandResult<'a>) -> CommandResult<'a>
+    ensures { (a b : App) → IfOk above.entry (λ old. app_of old ≡ a)
+        → IfOk command.entry (IsLeafCommand b)
         → IfOk result (λ new. app_of new ≡ with_subcommand a b.top) }
 {
-    above.subcommand(command)
+    above?.subcommand(command?)
 }
 
 // `None` where a word is missing or names no kind, or no number.

@@ -3,11 +3,10 @@
 ghost use Rattle.std.specs.Prelude.{◌≡◌, ◌+◌, ◌<◌, ◌^◌, true};
 ghost use Rattle.plan_audit.specs.Passes.{passes};
 
-use crate::builders::{FOUR, Given, is_passing, pins_of, plan_of, problem_of};
-use crate::walks::{Example, Walk, both, first_broken, found};
+use crate::builders::{FOUR, Given, case_of, is_passing, problem_of};
+use crate::walks::{Example, Walk, both, found, is_found};
 use anneal_search::{anneal_step, draw, ordered};
-use plan_types::{OutOfMemory, Pins, Plan, Problem};
-use seeded_search::Found;
+use plan_types::{Pins, Plan, Problem};
 use std::alloc::Global;
 use std::test::Fail;
 
@@ -24,7 +23,8 @@ const DRAWS: [(u32, usize, usize, u32); 6] = [
 fn draws(rt: HostRuntime) {
     for (word, things, number, rest) in DRAWS {
         let drawn = draw(word, things);
-        assert!(rt; drawn.number == number && drawn.rest == rest);
+        assert!(rt; drawn.number == number);
+        assert!(rt; drawn.rest == rest);
     }
 }
 
@@ -162,7 +162,9 @@ const TRACES: [Example; 8] = [
 
 #[test]
 fn traces(rt: HostRuntime) -> Result<(), Fail> {
-    assert_eq!(rt; first_broken(rt.alloc(), &TRACES)?, None);
+    for example in &TRACES {
+        assert!(rt; is_found(rt.alloc(), example)?);
+    }
     Ok(())
 }
 
@@ -229,7 +231,9 @@ const BY_HAND: [Example; 7] = [
 
 #[test]
 fn steps_by_hand(rt: HostRuntime) -> Result<(), Fail> {
-    assert_eq!(rt; first_broken(rt.alloc(), &BY_HAND)?, None);
+    for example in &BY_HAND {
+        assert!(rt; is_found(rt.alloc(), example)?);
+    }
     Ok(())
 }
 
@@ -277,43 +281,39 @@ const ORDERS: [Order; 9] = [
 
 // Whether the word picks the order; it is none where the problem has no first stop.
 fn is_ordered(alloc: Global, order: &Order) -> Result<bool, Fail> {
-    let (given, word, names, expected) = *order;
-    let problem = problem_of(alloc, given)?;
+    let problem = problem_of(alloc, order.0)?;
+    is_order_of(alloc, &problem, order)
+}
+
+fn is_order_of(alloc: Global, problem: &Problem, order: &Order) -> Result<bool, Fail> {
+    let (_, word, names, expected) = *order;
     if problem.stop(1).is_none() {
         return Ok(false);
     }
-    Ok(ordered(alloc, &problem, word, names)?.as_slice() == expected)
-}
-
-// The place of the first order that does not hold.
-fn first_unordered(alloc: Global, orders: &[Order]) -> Result<Option<usize>, Fail> {
-    for index in 0..orders.len() {
-        if !is_ordered(alloc, &orders[index])? {
-            return Ok(Some(index));
-        }
-    }
-    Ok(None)
+    Ok(ordered(alloc, problem, word, names)?.as_slice() == expected)
 }
 
 #[test]
 fn orders(rt: HostRuntime) -> Result<(), Fail> {
-    assert_eq!(rt; first_unordered(rt.alloc(), &ORDERS)?, None);
+    for order in &ORDERS {
+        assert!(rt; is_ordered(rt.alloc(), order)?);
+    }
     Ok(())
 }
 
-// What two steps from this one on find, one by one.
+// The routes of both plans that two steps from this one on find, one by one.
 fn step_by_step(
     alloc: Global,
     problem: &Problem,
     pins: &Pins,
     plan: &Plan,
     step: u64,
-) -> Result<Found, OutOfMemory>
+) -> Result<Vec<u32>, Fail>
     requires passing { passes problem.now pins.now.routes plan.now.routes ≡ true }
     requires step { step + 1 < 2 ^ 60 }
 {
     let first = anneal_step(alloc, problem, pins, plan, plan, 40, 1, step)?;
-    anneal_step(
+    let second = anneal_step(
         alloc,
         problem,
         pins,
@@ -322,26 +322,35 @@ fn step_by_step(
         40,
         1,
         step + 1,
-    )
+    )?;
+    both(alloc, &second)
 }
 
 // Whether two steps from this one on find what one does and then the next.
-fn goes_on(alloc: Global, problem: &Problem, step: u64) -> Result<bool, Fail> {
-    let pins = pins_of(alloc, &[])?;
-    let plan = plan_of(alloc, BUILT)?;
-    if step >= (1 << 60) - 1 || !is_passing(alloc, problem, &pins, &plan)? {
+fn goes_on(
+    alloc: Global,
+    problem: &Problem,
+    pins: &Pins,
+    plan: &Plan,
+    step: u64,
+) -> Result<bool, Fail> {
+    if step >= (1 << 60) - 1 || !is_passing(alloc, problem, pins, plan)? {
         return Ok(false);
     }
-    let one_by_one = step_by_step(alloc, problem, &pins, &plan, step)?;
-    let at_once = found(alloc, problem, &[], BUILT, Walk::Anneal(40, 1, (step, 2)))?;
-    Ok(both(alloc, &one_by_one)? == at_once)
+    let one_by_one = step_by_step(alloc, problem, pins, plan, step)?;
+    let at_once = found(alloc, problem, pins, plan, Walk::Anneal(40, 1, (step, 2)))?;
+    Ok(one_by_one == at_once)
+}
+
+fn goes_on_from(alloc: Global, step: u64) -> Result<bool, Fail> {
+    let case = case_of(alloc, CUSTOMERS, &[], BUILT)?;
+    goes_on(alloc, &case.problem, &case.pins, &case.plan, step)
 }
 
 #[test]
 fn steps_go_on_where_others_end(rt: HostRuntime) -> Result<(), Fail> {
-    let problem = problem_of(rt.alloc(), CUSTOMERS)?;
-    assert!(rt; goes_on(rt.alloc(), &problem, 0)?);
-    assert!(rt; goes_on(rt.alloc(), &problem, (1 << 32) - 1)?);
-    assert!(rt; goes_on(rt.alloc(), &problem, (1 << 60) - 2)?);
+    assert!(rt; goes_on_from(rt.alloc(), 0)?);
+    assert!(rt; goes_on_from(rt.alloc(), (1 << 32) - 1)?);
+    assert!(rt; goes_on_from(rt.alloc(), (1 << 60) - 2)?);
     Ok(())
 }

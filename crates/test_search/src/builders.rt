@@ -8,9 +8,9 @@ use std::alloc::Global;
 use std::test::Fail;
 
 /// The latest time that a window may have.
-pub(crate) const ANY_TIME: u32 = 100_000_000;
+const ANY_TIME: u32 = 100_000_000;
 
-pub(crate) fn stop_at(number: u32, place: (i32, i32), demand: i32, latest: u32) -> Stop {
+fn stop_at(number: u32, place: (i32, i32), demand: i32, latest: u32) -> Stop {
     Stop {
         number,
         x: place.0,
@@ -110,6 +110,18 @@ fn six_pairs(alloc: Global, fleet: u32) -> Result<Problem, Fail> {
     Ok(problem)
 }
 
+// 65 pairs, 64 at the depot and one at (3, 4), in one route, and one more at (3, 4), with a fleet of one that carries one of them.
+fn pairs_at_the_depot(alloc: Global) -> Result<Problem, Fail> {
+    let depot = stop_at(0, (0, 0), 0, 1_000);
+    let mut problem = Problem::new(alloc, Kind::LiLim, depot, 1, 1)?;
+    for pair in 0..66 {
+        let place = if pair < 64 { (0, 0) } else { (3, 4) };
+        let pickup = stop_at(2 * pair + 1, place, 1, 1_000);
+        problem.put(Request::Pair(pickup, stop_at(2 * pair + 2, place, -1, 1_000)))?;
+    }
+    Ok(problem)
+}
+
 /// The problem of an example.
 #[derive(Clone, Copy)]
 pub(crate) enum Given {
@@ -120,6 +132,10 @@ pub(crate) enum Given {
     Opposite(Kind),
     /// Six pairs, with a fleet of so many.
     SixPairs(u32),
+    /// So many customers on a grid, with a fleet of one.
+    Grid(u32),
+    /// Pairs at the depot, and two at (3, 4).
+    PairsAtTheDepot,
 }
 
 /// Four customers, with a fleet of four.
@@ -149,6 +165,8 @@ pub(crate) fn problem_of(alloc: Global, given: Given) -> Result<Problem, Fail> {
         Given::ThreePairs => three_pairs(alloc),
         Given::Opposite(kind) => opposite(alloc, kind),
         Given::SixPairs(fleet) => six_pairs(alloc, fleet),
+        Given::Grid(customers) => grid(alloc, customers, 1_000_000, 1),
+        Given::PairsAtTheDepot => pairs_at_the_depot(alloc),
     }
 }
 
@@ -204,10 +222,41 @@ pub(crate) fn plan_of(alloc: Global, stops: &[u32]) -> Result<Plan, Fail> {
     Ok(Plan { routes })
 }
 
-/// These pins, each ended by a 0.
-pub(crate) fn pins_of(alloc: Global, stops: &[u32]) -> Result<Pins, Fail> {
-    let routes = lists_of(alloc, stops)?;
-    Ok(Pins { routes })
+/// A problem, pins and a plan.
+#[derive(Drop)]
+pub(crate) struct Case {
+    pub problem: Problem,
+    pub pins: Pins,
+    pub plan: Plan,
+}
+
+/// The case of these pins and routes, each ended by a 0.
+pub(crate) fn case_of(
+    alloc: Global,
+    given: Given,
+    pins: &[u32],
+    plan: &[u32],
+) -> Result<Case, Fail> {
+    let routes = lists_of(alloc, pins)?;
+    let plan = plan_of(alloc, plan)?;
+    let problem = problem_of(alloc, given)?;
+    Ok(Case {
+        problem,
+        pins: Pins { routes },
+        plan,
+    })
+}
+
+/// The case of a fleet of one, which visits stops 1 to `stops`, and no pins.
+pub(crate) fn case_of_one_route(alloc: Global, given: Given, stops: u32) -> Result<Case, Fail> {
+    let plan = one_route(alloc, stops, 1)?;
+    let problem = problem_of(alloc, given)?;
+    let routes = Routes::new(alloc);
+    Ok(Case {
+        problem,
+        pins: Pins { routes },
+        plan,
+    })
 }
 
 /// The stops of the routes, each route ended by a 0.

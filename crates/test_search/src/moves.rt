@@ -2,9 +2,7 @@
 ghost use Rattle.std.specs.Prelude.{◌≡◌, true};
 ghost use Rattle.plan_audit.specs.Passes.{passes};
 
-use crate::builders::{
-    FOUR, FOUR_BY_ONE, FOUR_BY_TWO, Given, is_passing, pins_of, plan_of, problem_of, stops_of,
-};
+use crate::builders::{FOUR, FOUR_BY_ONE, FOUR_BY_TWO, Given, case_of, is_passing, stops_of};
 use move_ops::{exchange, insert_at, remove, two_opt_star};
 use plan_types::{OutOfMemory, Pins, Plan, Problem};
 use std::alloc::Global;
@@ -344,36 +342,51 @@ fn after(
     }
 }
 
-// What the example's move makes of its plan.
-fn told(alloc: Global, example: &Example) -> Result<Vec<u32>, Fail> {
-    let (given, pins, plan, made, _) = *example;
-    let problem = problem_of(alloc, given)?;
-    let pins = pins_of(alloc, pins)?;
-    let plan = plan_of(alloc, plan)?;
-    after(alloc, &problem, &pins, &plan, made)
+// Whether the example's move makes its plan.
+fn is_made(alloc: Global, example: &Example) -> Result<bool, Fail> {
+    let (given, pins, plan, made, expected) = *example;
+    Ok(told(alloc, given, pins, plan, made)?.as_slice() == expected)
 }
 
-// The place of the first example that does not hold.
-fn first_broken(alloc: Global, examples: &[Example]) -> Result<Option<usize>, Fail> {
-    for index in 0..examples.len() {
-        let example = &examples[index];
-        if told(alloc, example)?.as_slice() != example.4 {
-            return Ok(Some(index));
-        }
-    }
-    Ok(None)
+fn told(
+    alloc: Global,
+    given: Given,
+    pins: &[u32],
+    plan: &[u32],
+    made: Move,
+) -> Result<Vec<u32>, Fail> {
+    let case = case_of(alloc, given, pins, plan)?;
+    after(alloc, &case.problem, &case.pins, &case.plan, made)
 }
 
 #[test]
-fn requests_put_in_and_taken_out(rt: HostRuntime) -> Result<(), Fail> {
-    assert_eq!(rt; first_broken(rt.alloc(), &INSERTIONS)?, None);
-    assert_eq!(rt; first_broken(rt.alloc(), &REMOVALS)?, None);
+fn requests_put_in(rt: HostRuntime) -> Result<(), Fail> {
+    for example in &INSERTIONS {
+        assert!(rt; is_made(rt.alloc(), example)?);
+    }
     Ok(())
 }
 
 #[test]
-fn routes_rearranged(rt: HostRuntime) -> Result<(), Fail> {
-    assert_eq!(rt; first_broken(rt.alloc(), &CROSSINGS)?, None);
-    assert_eq!(rt; first_broken(rt.alloc(), &EXCHANGES)?, None);
+fn requests_taken_out(rt: HostRuntime) -> Result<(), Fail> {
+    for example in &REMOVALS {
+        assert!(rt; is_made(rt.alloc(), example)?);
+    }
+    Ok(())
+}
+
+#[test]
+fn routes_crossed(rt: HostRuntime) -> Result<(), Fail> {
+    for example in &CROSSINGS {
+        assert!(rt; is_made(rt.alloc(), example)?);
+    }
+    Ok(())
+}
+
+#[test]
+fn requests_exchanged(rt: HostRuntime) -> Result<(), Fail> {
+    for example in &EXCHANGES {
+        assert!(rt; is_made(rt.alloc(), example)?);
+    }
     Ok(())
 }

@@ -1,6 +1,7 @@
 //! The words of the search's steps, and what steps find.
-use crate::builders::{FOUR, Given, is_passing, pins_of, plan_of, problem_of};
-use crate::walks::{Example, Walk, both, first_broken, found};
+use crate::builders::{FOUR, Given, case_of, is_passing};
+use crate::walks::{Example, Walk, both, found_from, is_found};
+use plan_types::{Pins, Plan, Problem};
 use seeded_search::{pick, search_step, words};
 use std::alloc::Global;
 use std::test::Fail;
@@ -80,17 +81,28 @@ fn picks(rt: HostRuntime) {
     assert_eq!(rt; pick(0, u32::MAX), 0);
 }
 
+// What the first step finds; nothing where the plan doesn't pass.
+fn first_found(
+    alloc: Global,
+    problem: &Problem,
+    pins: &Pins,
+    plan: &Plan,
+) -> Result<Vec<u32>, Fail> {
+    if !is_passing(alloc, problem, pins, plan)? {
+        return Ok(Vec::new(alloc));
+    }
+    both(
+        alloc,
+        &search_step(alloc, problem, pins, plan, plan, 0, 0, 0)?,
+    )
+}
+
 // Whether the first step finds the better plan, as incumbent and working plan.
 fn is_bettered(alloc: Global) -> Result<bool, Fail> {
-    let problem = problem_of(alloc, FOUR)?;
-    let plan = plan_of(alloc, &[1, 0, 2, 3, 0, 4, 0, 0])?;
-    let pins = pins_of(alloc, &[])?;
-    if !is_passing(alloc, &problem, &pins, &plan)? {
-        return Ok(false);
-    }
-    let found = search_step(alloc, &problem, &pins, &plan, &plan, 0, 0, 0)?;
+    let case = case_of(alloc, FOUR, &[], &[1, 0, 2, 3, 0, 4, 0, 0])?;
+    let found = first_found(alloc, &case.problem, &case.pins, &case.plan)?;
     let better = [1, 0, 0, 4, 2, 3, 0, 0, 1, 0, 0, 4, 2, 3, 0, 0];
-    Ok(both(alloc, &found)?.as_slice() == better.as_slice())
+    Ok(found.as_slice() == better.as_slice())
 }
 
 #[test]
@@ -144,22 +156,28 @@ const EXAMPLES: [Example; 6] = [
 
 #[test]
 fn steps(rt: HostRuntime) -> Result<(), Fail> {
-    assert_eq!(rt; first_broken(rt.alloc(), &EXAMPLES)?, None);
+    for example in &EXAMPLES {
+        assert!(rt; is_found(rt.alloc(), example)?);
+    }
     Ok(())
 }
 
 // Whether two steps from this one on find what one does and then the next.
 fn goes_on(alloc: Global, first: u64) -> Result<bool, Fail> {
-    let problem = problem_of(alloc, FOUR)?;
     let plan = [1, 0, 0, 4, 2, 3, 0, 0];
-    let begun = found(alloc, &problem, &[], &plan, Walk::Search(0, (first, 1)))?;
+    let begun = found_from(alloc, FOUR, &[], &plan, Walk::Search(0, (first, 1)))?;
     let (Some(best), Some(work)) = (begun.get(..8), begun.get(8..)) else {
         return Ok(false);
     };
+    Ok(best == work && goes_on_from(alloc, first, &plan, best)?)
+}
+
+// Whether the second of two steps finds from what the first one found what both find at once.
+fn goes_on_from(alloc: Global, first: u64, plan: &[u32], begun: &[u32]) -> Result<bool, Fail> {
     let next = Walk::Search(0, (first.saturating_add(1), 1));
-    let ended = found(alloc, &problem, &[], best, next)?;
-    let at_once = found(alloc, &problem, &[], &plan, Walk::Search(0, (first, 2)))?;
-    Ok(best == work && ended == at_once)
+    let ended = found_from(alloc, FOUR, &[], begun, next)?;
+    let at_once = found_from(alloc, FOUR, &[], plan, Walk::Search(0, (first, 2)))?;
+    Ok(ended == at_once)
 }
 
 #[test]

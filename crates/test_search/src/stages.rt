@@ -1,8 +1,9 @@
 //! The stages of annealing, by hand: `anneal_stages`.
 
-use crate::builders::{Given, is_passing, pins_of, plan_of, problem_of};
+use crate::builders::{Given, case_of, is_passing};
 use anneal_stages::{boundary, hundredths, share, stage_of};
 use plan_audit::passes_are_local;
+use plan_types::{Pins, Plan, Problem};
 use std::alloc::Global;
 use std::test::Fail;
 
@@ -42,15 +43,24 @@ fn steps_have_their_stage(rt: HostRuntime) {
 }
 
 // The share of a plan's mean leg; none where the plan doesn't pass.
-fn share_of(alloc: Global, stops: &[u32], hundredths: u32) -> Result<Option<u32>, Fail> {
+fn share_of(
+    alloc: Global,
+    problem: &Problem,
+    pins: &Pins,
+    plan: &Plan,
+    hundredths: u32,
+) -> Result<Option<u32>, Fail> {
     passes_are_local();
-    let problem = problem_of(alloc, TWO)?;
-    let pins = pins_of(alloc, &[])?;
-    let plan = plan_of(alloc, stops)?;
-    if !is_passing(alloc, &problem, &pins, &plan)? {
+    if !is_passing(alloc, problem, pins, plan)? {
         return Ok(None);
     }
-    Ok(Some(share(&problem, &plan, hundredths)))
+    Ok(Some(share(problem, plan, hundredths)))
+}
+
+// The share of the mean leg of the one route of both.
+fn share_of_two(alloc: Global, hundredths: u32) -> Result<Option<u32>, Fail> {
+    let case = case_of(alloc, TWO, &[], &[1, 2, 0])?;
+    share_of(alloc, &case.problem, &case.pins, &case.plan, hundredths)
 }
 
 /// Hundredths, and so many of the mean leg.
@@ -59,7 +69,7 @@ const SHARES: [(u32, u32); 4] = [(100, 10), (122, 12), (3, 0), (4_000_000_000, 4
 #[test]
 fn shares_are_hundredths_of_the_mean_leg(rt: HostRuntime) -> Result<(), Fail> {
     for (hundredths, share) in SHARES {
-        assert!(rt; share_of(rt.alloc(), &[1, 2, 0], hundredths)? == Some(share));
+        assert!(rt; share_of_two(rt.alloc(), hundredths)? == Some(share));
     }
     Ok(())
 }

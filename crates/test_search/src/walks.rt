@@ -2,7 +2,7 @@
 ghost use Rattle.std.specs.Prelude.{◌≡◌, true};
 ghost use Rattle.plan_audit.specs.Passes.{passes};
 
-use crate::builders::{Given, is_passing, pins_of, plan_of, problem_of, stops_of};
+use crate::builders::{Given, case_of, is_passing, stops_of};
 use anneal_search::anneal_steps;
 use plan_types::{OutOfMemory, Pins, Plan, Problem};
 use seeded_search::{Found, search_steps};
@@ -62,34 +62,33 @@ fn steps_of(
 pub(crate) fn found(
     alloc: Global,
     problem: &Problem,
-    pins: &[u32],
-    plan: &[u32],
+    pins: &Pins,
+    plan: &Plan,
     walk: Walk,
 ) -> Result<Vec<u32>, Fail> {
-    let pins = pins_of(alloc, pins)?;
-    let plan = plan_of(alloc, plan)?;
-    if !is_passing(alloc, problem, &pins, &plan)? {
+    if !is_passing(alloc, problem, pins, plan)? {
         return Ok(Vec::new(alloc));
     }
-    match steps_of(alloc, problem, &pins, &plan, walk)? {
+    match steps_of(alloc, problem, pins, plan, walk)? {
         Some(found) => both(alloc, &found),
         None => Ok(Vec::new(alloc)),
     }
 }
 
+/// The same from these routes of a problem, each ended by a 0, behind pins.
+pub(crate) fn found_from(
+    alloc: Global,
+    given: Given,
+    pins: &[u32],
+    plan: &[u32],
+    walk: Walk,
+) -> Result<Vec<u32>, Fail> {
+    let case = case_of(alloc, given, pins, plan)?;
+    found(alloc, &case.problem, &case.pins, &case.plan, walk)
+}
+
 /// Whether the example's steps find its routes.
 pub(crate) fn is_found(alloc: Global, example: &Example) -> Result<bool, Fail> {
     let (given, pins, plan, walk, expected) = *example;
-    let problem = problem_of(alloc, given)?;
-    Ok(found(alloc, &problem, pins, plan, walk)?.as_slice() == expected)
-}
-
-/// The place of the first example that does not hold.
-pub(crate) fn first_broken(alloc: Global, examples: &[Example]) -> Result<Option<usize>, Fail> {
-    for index in 0..examples.len() {
-        if !is_found(alloc, &examples[index])? {
-            return Ok(Some(index));
-        }
-    }
-    Ok(None)
+    Ok(found_from(alloc, given, pins, plan, walk)?.as_slice() == expected)
 }

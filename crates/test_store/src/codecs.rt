@@ -47,13 +47,6 @@ fn one_byte_may_be_no_state(rt: HostRuntime) {
 }
 
 #[test]
-fn a_state_that_is_cut_is_truncated(rt: HostRuntime) {
-    for len in 0..LOADED.len() {
-        assert!(rt; fault(rt.alloc(), &LOADED[..len]) == Some(CodecFault::Truncated));
-    }
-}
-
-#[test]
 fn a_state_of_version_1_that_is_cut_is_truncated(rt: HostRuntime) {
     for len in 0..LOADED_V1.len() {
         assert!(rt; fault_v1(rt.alloc(), &LOADED_V1[..len]) == Some(CodecFault::Truncated));
@@ -61,31 +54,10 @@ fn a_state_of_version_1_that_is_cut_is_truncated(rt: HostRuntime) {
 }
 
 #[test]
-fn one_byte_more_is_a_bad_field(rt: HostRuntime) {
-    let mut more = [0; 96];
-    more[..95].copy_from_slice(&LOADED);
-    assert!(rt; fault(rt.alloc(), &more) == Some(CodecFault::BadField));
-}
-
-#[test]
 fn a_route_of_four_billion_stops_is_truncated(rt: HostRuntime) {
     let mut long = LOADED;
     long[87..91].copy_from_slice(&[255; 4]);
     assert!(rt; fault(rt.alloc(), &long) == Some(CodecFault::Truncated));
-}
-
-#[test]
-fn a_working_route_of_four_billion_stops_is_truncated(rt: HostRuntime) {
-    let mut long = LOADED;
-    long[91..].copy_from_slice(&[255; 4]);
-    assert!(rt; fault(rt.alloc(), &long) == Some(CodecFault::Truncated));
-}
-
-#[test]
-fn a_pin_over_an_empty_route_is_a_bad_field(rt: HostRuntime) {
-    let mut pinned = LOADED;
-    pinned[86] = 1;
-    assert!(rt; fault(rt.alloc(), &pinned) == Some(CodecFault::BadField));
 }
 
 // Why the loaded state is none with this demand, and these bytes of vehicles and working routes in place of the last twelve.
@@ -102,34 +74,12 @@ fn fault_of_plan(alloc: Global, demand: u8, end: &[u8]) -> Option<CodecFault> {
 const PLANNED: [u8; 20] = [0, 0, 0, 0, 0, 0, 0, 1, 0, 0, 0, 1, 0, 0, 0, 1, 0, 0, 0, 1];
 
 #[test]
-fn a_plan_passes(rt: HostRuntime) -> Result<(), Fail> {
-    let mut bytes = Vec::new(rt.alloc());
-    bytes.extend_from_slice(&LOADED[..83])?;
-    bytes.extend_from_slice(&PLANNED)?;
-    assert!(rt;
-        matches!(
-            decode_state(rt.alloc(), bytes.as_slice()),
-            Ok(State::Loaded(_))
-        )
-    );
-    Ok(())
-}
-
-#[test]
 fn plans_are_judged(rt: HostRuntime) {
     let overloaded = fault_of_plan(rt.alloc(), 11, &PLANNED);
     assert!(rt; overloaded == Some(CodecFault::PlanRefused(6)));
     let work = [0, 0, 0, 0, 0, 0, 0, 0, 0, 0, 0, 2, 0, 0, 0, 1, 0, 0, 0, 1];
     let work_twice = fault_of_plan(rt.alloc(), 6, &work);
     assert!(rt; work_twice == Some(CodecFault::PlanRefused(2)));
-}
-
-#[test]
-fn a_stop_stands_once(rt: HostRuntime) {
-    let twice = [
-        0, 0, 0, 0, 0, 0, 0, 2, 0, 0, 0, 1, 0, 0, 0, 1, 0, 0, 0, 2, 0, 0, 0, 1, 0, 0, 0, 1,
-    ];
-    assert!(rt; fault_of_plan(rt.alloc(), 6, &twice) == Some(CodecFault::PlanRefused(2)));
 }
 
 // A pair of the same goods, planned, with the pickup pinned.

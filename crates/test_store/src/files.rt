@@ -102,21 +102,6 @@ fn a_new_file_has_no_hole(rt: HostRuntime) -> Result<(), Fail> {
     Ok(fs::remove_file(&rt, path)?)
 }
 
-#[test]
-fn a_file_is_one_devices_at_a_time(rt: HostRuntime) -> Result<(), Fail> {
-    let path = "used.disk";
-    let mut device = FileDevice::create(&rt, path, 3, Unknown)?;
-    write_sector(&rt, &mut device, 0, &[7; 512])?;
-    assert!(rt; fault_at(&rt, path) == Some(FileFault::InUse));
-    assert!(rt; fault_of_making(&rt, path, 1) == Some(FileFault::InUse));
-    // The file that is in use was neither cut nor written.
-    assert!(rt; read_sector(&rt, &mut device, 0) == Some([7; 512]));
-    assert!(rt; file_len(&rt, path)? == 1536);
-    drop(device);
-    assert!(rt; fault_at(&rt, path).is_none());
-    Ok(fs::remove_file(&rt, path)?)
-}
-
 // Why there is no device at this path.
 fn fault_at(rt: &HostRuntime, path: &str) -> Option<FileFault> {
     FileDevice::at(rt, path, Unknown).err()

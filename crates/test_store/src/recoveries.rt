@@ -1,10 +1,8 @@
 //! Sessions over a store: commands, stops and recovery.
 
-use crate::builders::{
-    LOADED, SECTORS, empty_store, header, loaded_store, open, sector_of, write_sector,
-};
+use crate::builders::{LOADED, SECTORS, empty_store, loaded_store, open};
 use checkpoint::{Place, StoreFault, commit_record};
-use command_core::{Command, Refusal, Spot, State};
+use command_core::{Command, Refusal, State};
 use recover::{Denial, Session};
 use sector_disk::{MemDevice, Sectors};
 use state_codec::{CodecFault, decode_state};
@@ -64,17 +62,6 @@ fn calls_of_each_command(rt: HostRuntime) -> Result<(), Fail> {
     Ok(())
 }
 
-#[test]
-fn search_steps_are_repeated(rt: HostRuntime) -> Result<(), Fail> {
-    let mut session = open(rt.alloc(), loaded_store(rt.alloc())?)?.session;
-    session.apply(rt.alloc(), Command::Search(256));
-    let mut device = session.close();
-    device.crash(&[3, 1, 4, 1, 5, 9, 2, 6]);
-    let opened = open(rt.alloc(), device)?;
-    assert!(rt; opened.replayed == 256 && counts(opened.session.state()) == (256, 1));
-    Ok(())
-}
-
 // The loaded state, a plan of it and 256 search steps, as commands.
 fn commands(alloc: Global) -> Result<Vec<Command>, Fail> {
     let mut commands = Vec::new(alloc);
@@ -95,32 +82,6 @@ fn a_run_answers_each_command(rt: HostRuntime) -> Result<(), Fail> {
     Ok(())
 }
 
-// An add that is stopped between its write and its sync, and how many requests are there then.
-fn stopped_add(alloc: Global, choices: &[u32]) -> Result<usize, Fail> {
-    let mut device = loaded_store(alloc)?;
-    // The sync of the opening finishes, and the write.
-    device.fuse(2);
-    let mut session = open(alloc, device)?.session;
-    let spot = Spot {
-        x: 1,
-        y: 1,
-        earliest: 0,
-        latest: 9,
-        service: 0,
-    };
-    session.apply(alloc, Command::Add1 { demand: 1, spot });
-    let mut device = session.close();
-    device.crash(choices);
-    Ok(counts(open(alloc, device)?.session.state()).1)
-}
-
-#[test]
-fn an_add_may_be_lost_or_kept(rt: HostRuntime) -> Result<(), Fail> {
-    assert_eq!(rt; stopped_add(rt.alloc(), &[0, 0, 0])?, 1);
-    assert_eq!(rt; stopped_add(rt.alloc(), &[0, 0, 1])?, 2);
-    Ok(())
-}
-
 // A session after so many searches of one step.
 fn searched(alloc: Global, times: u32) -> Result<Session<MemDevice>, Fail> {
     let mut session = open(alloc, loaded_store(alloc)?)?.session;
@@ -128,15 +89,6 @@ fn searched(alloc: Global, times: u32) -> Result<Session<MemDevice>, Fail> {
         session.apply(alloc, Command::Search(1));
     }
     Ok(session)
-}
-
-#[test]
-fn a_full_journal_becomes_a_snapshot(rt: HostRuntime) -> Result<(), Fail> {
-    let mut session = searched(rt.alloc(), 256)?;
-    assert!(rt; answer(rt.alloc(), &mut session, Command::Search(1)) == (Ok(()), 523));
-    let opened = open(rt.alloc(), session.close())?;
-    assert!(rt; opened.replayed == 0 && counts(opened.session.state()) == (257, 1));
-    Ok(())
 }
 
 // What annealing makes of a store goes into it as a snapshot, with four calls, and is not made again.
@@ -166,14 +118,6 @@ fn a_session_breaks_with_its_device(rt: HostRuntime) -> Result<(), Fail> {
     assert!(rt; failed == (Err(Denial::DeviceFault), 8) && session.is_broken());
     let next = answer(rt.alloc(), &mut session, Command::Search(1));
     assert!(rt; next == (Err(Denial::Broken), 8));
-    Ok(())
-}
-
-#[test]
-fn a_broken_session_is_opened_again(rt: HostRuntime) -> Result<(), Fail> {
-    let (session, _failed) = broken(rt.alloc())?;
-    let opened = open(rt.alloc(), session.close())?;
-    assert!(rt; !opened.session.is_broken());
     Ok(())
 }
 
@@ -212,17 +156,5 @@ fn an_empty_state_refuses(rt: HostRuntime) -> Result<(), Fail> {
     let checkpoint = answer(rt.alloc(), &mut session, Command::Checkpoint);
     assert!(rt; checkpoint == (Err(no_instance), 7));
     assert!(rt; no_instance.name() == "NoInstance");
-    Ok(())
-}
-
-#[test]
-fn the_last_sequence_is_spent(rt: HostRuntime) -> Result<(), Fail> {
-    let mut device = MemDevice::new(rt.alloc(), SECTORS)?;
-    write_sector(&rt, &mut device, 0, &header(2, 1 << 60, 95))?;
-    write_sector(&rt, &mut device, 258, &sector_of(&LOADED))?;
-    let mut session = open(rt.alloc(), device)?.session;
-    let checkpoint = answer(rt.alloc(), &mut session, Command::Checkpoint);
-    assert!(rt; checkpoint == (Err(Denial::Spent), 3));
-    assert!(rt; answer(rt.alloc(), &mut session, Command::Build) == (Ok(()), 5));
     Ok(())
 }

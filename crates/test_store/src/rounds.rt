@@ -56,14 +56,6 @@ fn searches(alloc: Global, counts: [u16; 2]) -> Result<Vec<Command>, Fail> {
     Ok(commands)
 }
 
-fn annealings(alloc: Global, counts: [u32; 2]) -> Result<Vec<Command>, Fail> {
-    let mut commands = Vec::new(alloc);
-    for count in counts {
-        commands.push(Command::Anneal(count))?;
-    }
-    Ok(commands)
-}
-
 // After so many more finished calls every call fails, and each sector takes what is synced.
 fn halt_after(alloc: Global, calls: u64) -> Option<Halt> {
     Some(Halt {
@@ -121,28 +113,6 @@ fn uncut(alloc: Global) -> Result<Vec<u8>, Fail> {
 #[test]
 fn rounds_cut_a_search(rt: HostRuntime) -> Result<(), Fail> {
     assert!(rt; cut(rt.alloc())? == uncut(rt.alloc())?);
-    Ok(())
-}
-
-// The same by annealing: each command is a snapshot, of four calls.
-fn annealed_in_rounds(alloc: Global) -> Result<Vec<u8>, Fail> {
-    let mut rounds = Vec::new(alloc);
-    rounds.push(round(load_and_build(alloc)?, None))?;
-    rounds.push(round(annealings(alloc, [300, 44])?, halt_after(alloc, 4)))?;
-    rounds.push(round(annealings(alloc, [256, 88])?, None))?;
-    let rounds = run_all(alloc, empty_store(alloc)?, rounds)?;
-    Ok(encode_state(alloc, rounds.session.state())?)
-}
-
-fn annealed_at_once(alloc: Global) -> Result<Vec<u8>, Fail> {
-    let built = state_after(alloc, State::Empty, &load_and_build(alloc)?)?;
-    let state = state_after(alloc, built, &[Command::Anneal(644)])?;
-    Ok(encode_state(alloc, &state)?)
-}
-
-#[test]
-fn rounds_cut_an_annealing(rt: HostRuntime) -> Result<(), Fail> {
-    assert!(rt; annealed_in_rounds(rt.alloc())? == annealed_at_once(rt.alloc())?);
     Ok(())
 }
 

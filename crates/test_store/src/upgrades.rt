@@ -1,15 +1,10 @@
 //! Stores of version 1 that are taken over.
 
-use crate::builders::{
-    LOADED, LOADED_V1, SECTORS, empty_store, header, open, sector_of, write_sector,
-};
+use crate::builders::{LOADED_V1, SECTORS, empty_store, header, sector_of, write_sector};
 use checkpoint::{FormatFault, StoreFault};
-use command_core::State;
-use plan_audit::passes_are_local;
-use recover::{Session, UpgradeFault, upgrade};
-use route_sched::plan_cost;
-use sector_disk::{MemDevice, SECTOR_SIZE, Sectors};
-use state_codec::{CodecFault, encode_state};
+use recover::{UpgradeFault, upgrade};
+use sector_disk::{MemDevice, Sectors};
+use state_codec::CodecFault;
 use std::alloc::Global;
 use std::process::Abort;
 use std::test::Fail;
@@ -33,30 +28,6 @@ fn store_v1(rt: &(impl Abort + AllocGlobal), second: &[u8]) -> Result<MemDevice,
     Ok(device)
 }
 
-// The loaded state after both: 256 steps made, and the route [1] in the plan and in the working plan.
-fn searched() -> [u8; 103] {
-    let mut bytes = [0; 103];
-    bytes[..83].copy_from_slice(&LOADED[..83]);
-    bytes[16] = 1;
-    bytes[90] = 1;
-    bytes[94] = 1;
-    bytes[98] = 1;
-    bytes[102] = 1;
-    bytes
-}
-
-// Requests left out, vehicles that count, and the distance.
-fn cost(state: &State) -> (u64, u64, u64) {
-    passes_are_local();
-    match state {
-        State::Empty => (0, 0, 0),
-        State::Loaded(job) => {
-            let cost = plan_cost(&job.problem, &job.plan);
-            (cost.unplanned, cost.vehicles, cost.distance)
-        }
-    }
-}
-
 #[test]
 fn an_upgrade_takes_one_call_and_six(rt: HostRuntime) -> Result<(), Fail> {
     let mut old = store_v1(&rt, &SEARCH)?;
@@ -64,29 +35,6 @@ fn an_upgrade_takes_one_call_and_six(rt: HostRuntime) -> Result<(), Fail> {
     let place = upgrade(rt.alloc(), &mut old, &mut new)?;
     assert!(rt; (place.sequence, place.used) == (1, 0));
     assert!(rt; (old.calls(), new.calls()) == (5, 6));
-    Ok(())
-}
-
-#[test]
-fn an_upgraded_store_opens_with_the_state(rt: HostRuntime) -> Result<(), Fail> {
-    let mut old = store_v1(&rt, &SEARCH)?;
-    let mut new = MemDevice::new(rt.alloc(), SECTORS)?;
-    upgrade(rt.alloc(), &mut old, &mut new)?;
-    let opened = open(rt.alloc(), new)?;
-    assert!(rt; opened.replayed == 0 && cost(opened.session.state()) == (0, 0, 10));
-    let bytes = encode_state(rt.alloc(), opened.session.state())?;
-    assert!(rt; bytes.as_slice() == searched().as_slice());
-    Ok(())
-}
-
-#[test]
-fn the_old_store_stays(rt: HostRuntime) -> Result<(), Fail> {
-    let mut old = store_v1(&rt, &SEARCH)?;
-    let mut new = MemDevice::new(rt.alloc(), SECTORS)?;
-    upgrade(rt.alloc(), &mut old, &mut new)?;
-    assert!(rt; upgrade(rt.alloc(), &mut old, &mut new).is_ok());
-    let opened = Session::open(rt.alloc(), old);
-    assert!(rt; matches!(opened, Err((StoreFault::BadVersion, _))));
     Ok(())
 }
 
@@ -122,30 +70,6 @@ fn what_is_no_old_store_is_refused(rt: HostRuntime) -> Result<(), Fail> {
     let bad_version = Some(UpgradeFault::Old(StoreFault::BadVersion));
     let store = empty_store(rt.alloc())?;
     assert!(rt; tried(rt.alloc(), store, SECTORS)? == (bad_version, 1, 0));
-    Ok(())
-}
-
-// The loaded state with the last number of version 1 as its next one.
-fn last_numbered() -> [u8; SECTOR_SIZE] {
-    let mut front = LOADED_V1;
-    front[24..26].copy_from_slice(&4000u16.to_be_bytes());
-    sector_of(&front)
-}
-
-// A store whose next number is the last one of version 1, and whose second record adds a stop or two.
-fn store_of_many(rt: &(impl Abort + AllocGlobal), kind: u8) -> Result<MemDevice, Fail> {
-    let mut device = store_v1(rt, &[0, 0, 0, 0, 0, 0, 0, 1, 0, 0, 0, 1, kind])?;
-    write_sector(rt, &mut device, 530, &last_numbered())?;
-    Ok(device)
-}
-
-#[test]
-fn an_old_store_has_numbers_up_to_4000(rt: HostRuntime) -> Result<(), Fail> {
-    let single = store_of_many(&rt, 2)?;
-    assert!(rt; tried(rt.alloc(), single, SECTORS)? == (None, 1, 6));
-    let pair = store_of_many(&rt, 1)?;
-    let bad_field = UpgradeFault::Old(StoreFault::Codec(CodecFault::BadField));
-    assert!(rt; tried(rt.alloc(), pair, SECTORS)? == (Some(bad_field), 1, 0));
     Ok(())
 }
 

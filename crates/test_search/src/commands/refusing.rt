@@ -3,7 +3,7 @@ ghost use Rattle.std.specs.Prelude.{◌≡◌, ◌≤◌, ◌^◌};
 
 use super::{Step, after, command, loaded};
 use crate::builders::Given;
-use command_core::{Job, Refusal, State, apply, check};
+use command_core::{Command, Job, Refusal, State, apply, check};
 use std::alloc::Global;
 use std::test::Fail;
 
@@ -19,9 +19,12 @@ const OF_COUNTS: [(Step, Option<Refusal>); 6] = [
 
 // The refusal that `check` and `apply` both tell.
 fn refusal(alloc: Global, state: &State, step: Step) -> Option<Refusal> {
-    let command = command(step);
-    let told = check(state, &command).err()?;
-    let same = apply(alloc, state, &command).err()?;
+    refusal_by_both(alloc, state, &command(step))
+}
+
+fn refusal_by_both(alloc: Global, state: &State, command: &Command) -> Option<Refusal> {
+    let told = check(state, command).err()?;
+    let same = apply(alloc, state, command).err()?;
     if told == same { Some(told) } else { None }
 }
 

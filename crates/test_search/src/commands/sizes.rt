@@ -1,11 +1,11 @@
 //! Large states, and copies of states.
-ghost use Rattle.std.specs.Prelude.{◌≡◌, true};
+ghost use Rattle.std.specs.Prelude.{◌≡◌, true, IfOk};
 ghost use Rattle.plan_audit.specs.Passes.{passes};
 
 use super::{Step, after, applied, loaded};
 use crate::builders::{Given, grid, is_passing, one_route};
-use command_core::{Command, Job, State, unplanned_names};
-use plan_types::Plan;
+use command_core::{Command, Job, Refusal, State, unplanned_names};
+use plan_types::{Pins, Plan, Problem};
 use std::alloc::Global;
 use std::test::Fail;
 
@@ -25,12 +25,20 @@ fn with_plans(job: Job, plan: Plan, work: Plan) -> Job
     Job::from_parts(problem, pins, plan, work, deviation, seed, steps)
 }
 
-// The job with this plan; the empty state where it does not pass.
-fn with_plan(alloc: Global, job: Job, plan: Plan) -> Result<State, Fail> {
-    if !is_passing(alloc, &job.problem, &job.pins, &plan)? {
-        return Ok(State::Empty);
+// A copy of a plan that passes.
+fn passing_copy(alloc: Global, problem: &Problem, pins: &Pins, plan: &Plan) -> Result<Plan, Fail>
+    ensures plan { IfOk result (λ _. passes problem.now pins.now.routes plan.now.routes ≡ true) }
+    ensures copy { IfOk result (λ copy. passes problem.now pins.now.routes copy.routes ≡ true) }
+{
+    if !is_passing(alloc, problem, pins, plan)? {
+        return Err(Refusal::NoInstance.into());
     }
-    let work = plan.copy()?;
+    Ok(plan.copy()?)
+}
+
+// The job with this plan, where it passes.
+fn with_plan(alloc: Global, job: Job, plan: Plan) -> Result<State, Fail> {
+    let work = passing_copy(alloc, &job.problem, &job.pins, &plan)?;
     Ok(State::Loaded(with_plans(job, plan, work)))
 }
 
@@ -92,16 +100,32 @@ fn of_forty_thousand_stops(rt: HostRuntime) -> Result<(), Fail> {
     Ok(())
 }
 
-// Whether a copy of a pinned plan shows what the state does.
-fn is_copied(alloc: Global) -> Result<bool, Fail> {
+// A state with a pinned plan.
+fn pinned(alloc: Global) -> Result<State, Fail> {
     let begun = loaded(alloc, Given::Pairs)?;
-    let state = after(alloc, begun, &[Step::Build, Step::Pin(1, 4)])?;
-    let copy = state.copy()?;
-    Ok(format!(in alloc; "{copy:?}")? == format!(in alloc; "{state:?}")?)
+    after(alloc, begun, &[Step::Build, Step::Pin(1, 4)])
+}
+
+fn shown(alloc: Global, state: &State) -> Result<String, Fail> {
+    Ok(format!(in alloc; "{state:?}")?)
+}
+
+fn shown_of_a_copy(alloc: Global, state: &State) -> Result<String, Fail> {
+    shown(alloc, &state.copy()?)
+}
+
+// Whether a copy of the state shows what the state does.
+fn is_copied(alloc: Global, state: &State) -> Result<bool, Fail> {
+    let copied = shown_of_a_copy(alloc, state)?;
+    Ok(copied.as_str() == shown(alloc, state)?.as_str())
+}
+
+fn is_pinned_copied(alloc: Global) -> Result<bool, Fail> {
+    is_copied(alloc, &pinned(alloc)?)
 }
 
 #[test]
 fn of_a_copy(rt: HostRuntime) -> Result<(), Fail> {
-    assert!(rt; is_copied(rt.alloc())?);
+    assert!(rt; is_pinned_copied(rt.alloc())?);
     Ok(())
 }

@@ -5,12 +5,9 @@ ghost use Rattle.route_sched.specs.Cost.{is_planned};
 ghost use Rattle.plan_audit.specs.Passes.{passes};
 ghost use Rattle.move_ops.specs.Insertion.{request_named};
 
-use crate::builders::{
-    FOUR, FOUR_BY_ONE, Given, grid, is_passing, one_route, pins_of, plan_of, problem_of, stop_at,
-    stops_of,
-};
+use crate::builders::{FOUR, FOUR_BY_ONE, Given, case_of, case_of_one_route, is_passing};
 use move_ops::{Draft, Tables, best_insertion, plans_pass_without_pins};
-use plan_types::{Kind, Pins, Plan, Problem, Request};
+use plan_types::{Kind, Pins, Plan, Problem};
 use std::alloc::Global;
 use std::test::Fail;
 
@@ -23,17 +20,15 @@ const NOT_ASKED: Insertion = (0, 0, 0);
 fn best(
     alloc: Global,
     problem: &Problem,
-    pins: &[u32],
-    plan: &[u32],
+    pins: &Pins,
+    plan: &Plan,
     name: u32,
 ) -> Result<Option<Insertion>, Fail> {
-    let pins = pins_of(alloc, pins)?;
-    let plan = plan_of(alloc, plan)?;
-    if !is_passing(alloc, problem, &pins, &plan)? {
+    if !is_passing(alloc, problem, pins, plan)? {
         return Ok(Some(NOT_ASKED));
     }
-    let answer = best_insertion(alloc, problem, &pins, &plan, name)?;
-    if answer == best_by_tables(alloc, problem, &pins, &plan, name)? {
+    let answer = best_insertion(alloc, problem, pins, plan, name)?;
+    if answer == best_by_tables(alloc, problem, pins, plan, name)? {
         return Ok(answer);
     }
     Ok(Some(NOT_ASKED))
@@ -136,8 +131,8 @@ const EXAMPLES: [Example; 11] = [
 // Whether the example's place is the best.
 fn is_best(alloc: Global, example: &Example) -> Result<bool, Fail> {
     let (given, pins, plan, name, place) = *example;
-    let problem = problem_of(alloc, given)?;
-    Ok(best(alloc, &problem, pins, plan, name)? == place)
+    let case = case_of(alloc, given, pins, plan)?;
+    Ok(best(alloc, &case.problem, &case.pins, &case.plan, name)? == place)
 }
 
 #[test]
@@ -148,47 +143,28 @@ fn best_places(rt: HostRuntime) -> Result<(), Fail> {
     Ok(())
 }
 
-// The best place of the last stop behind one route of all others.
-fn place_in_the_largest_route(alloc: Global) -> Result<Option<Insertion>, Fail> {
-    let problem = grid(alloc, 40_000, 1_000_000, 1)?;
-    let plan = one_route(alloc, 39_999, 1)?;
-    let pins = pins_of(alloc, &[])?;
-    if !is_passing(alloc, &problem, &pins, &plan)? {
-        return Ok(Some(NOT_ASKED));
-    }
-    Ok(best_insertion(alloc, &problem, &pins, &plan, 40_000)?)
+// The best places of a request in one route of so many stops.
+fn best_in_one_route(
+    alloc: Global,
+    given: Given,
+    stops: u32,
+    name: u32,
+) -> Result<Option<Insertion>, Fail> {
+    let case = case_of_one_route(alloc, given, stops)?;
+    best(alloc, &case.problem, &case.pins, &case.plan, name)
 }
 
 #[test]
 fn a_place_in_the_largest_route(rt: HostRuntime) -> Result<(), Fail> {
     // Between the last stops of the row before, (198, 198) and (199, 198).
-    let place = place_in_the_largest_route(rt.alloc())?;
+    let place = best_in_one_route(rt.alloc(), Given::Grid(40_000), 39_999, 40_000)?;
     assert!(rt; place == Some((1, 39_800, 39_800)));
     Ok(())
 }
 
-// 65 pairs, 64 at the depot and one at (3, 4), in one route, and one more at (3, 4), with a fleet of one that carries one of them.
-fn pairs_at_the_depot(alloc: Global) -> Result<Problem, Fail> {
-    let depot = stop_at(0, (0, 0), 0, 1_000);
-    let mut problem = Problem::new(alloc, Kind::LiLim, depot, 1, 1)?;
-    for pair in 0..66 {
-        let place = if pair < 64 { (0, 0) } else { (3, 4) };
-        let pickup = stop_at(2 * pair + 1, place, 1, 1_000);
-        problem.put(Request::Pair(pickup, stop_at(2 * pair + 2, place, -1, 1_000)))?;
-    }
-    Ok(problem)
-}
-
-// The best places of the last pair in the one route.
-fn places_in_a_long_route(alloc: Global) -> Result<Option<Insertion>, Fail> {
-    let problem = pairs_at_the_depot(alloc)?;
-    let plan = stops_of(alloc, &one_route(alloc, 130, 1)?.routes)?;
-    best(alloc, &problem, &[], plan.as_slice(), 131)
-}
-
 #[test]
 fn the_places_of_a_pair_in_a_long_route(rt: HostRuntime) -> Result<(), Fail> {
-    let place = places_in_a_long_route(rt.alloc())?;
+    let place = best_in_one_route(rt.alloc(), Given::PairsAtTheDepot, 130, 131)?;
     assert!(rt; place == Some((1, 129, 130)));
     Ok(())
 }

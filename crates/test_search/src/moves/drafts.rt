@@ -3,7 +3,7 @@ ghost use Rattle.std.specs.Prelude.{◌≡◌, true, OnOk};
 ghost use Rattle.plan_audit.specs.Passes.{passes};
 ghost use Rattle.move_ops.specs.Drafts.{IsDraftOf};
 
-use crate::builders::{FOUR, Given, is_passing, pins_of, plan_of, problem_of, stops_of};
+use crate::builders::{FOUR, Given, case_of, is_passing, stops_of};
 use move_ops::Draft;
 use plan_types::{OutOfMemory, Pins, Plan, Problem};
 use std::alloc::Global;
@@ -45,9 +45,13 @@ fn edited(
 {
     let is_made = make(draft, problem, pins, made)?;
     let distance = draft.cost(problem, pins).distance.min(1_000) as u32;
-    let mut stops = stops_of(alloc, &draft.plan(alloc)?.routes)?;
+    let mut stops = stops_of_draft(alloc, draft)?;
     stops.extend_from_slice(&[u32::from(is_made), distance])?;
     Ok(stops)
+}
+
+fn stops_of_draft(alloc: Global, draft: &Draft) -> Result<Vec<u32>, Fail> {
+    stops_of(alloc, &draft.plan(alloc)?.routes)
 }
 
 /// A problem, a plan, an edit, whether it is taken then, and what is told.
@@ -113,34 +117,51 @@ const EXAMPLES: [Example; 8] = [
     ),
 ];
 
-// What the edit makes of a draft of the plan, and then its routes once it is dropped, perhaps after it was taken.
-fn told(
+// What the edit makes of a draft, and then its routes once it is dropped, perhaps after it was taken.
+fn left(
     alloc: Global,
+    draft: &mut Draft,
     problem: &Problem,
-    plan: &Plan,
+    pins: &Pins,
     made: Edit,
     is_taken: bool,
-) -> Result<Vec<u32>, Fail> {
-    let pins = pins_of(alloc, &[])?;
-    if !is_passing(alloc, problem, &pins, plan)? {
-        return Ok(Vec::new(alloc));
-    }
-    let mut draft = Draft::build(alloc, problem, &pins, plan)?;
-    let mut stops = edited(alloc, &mut draft, problem, &pins, made)?;
+) -> Result<Vec<u32>, Fail>
+    requires { IsDraftOf problem.now pins.now.routes draft.old }
+{
+    let mut stops = edited(alloc, draft, problem, pins, made)?;
     if is_taken {
         draft.take();
     }
     draft.drop_draft();
-    stops.extend_from_slice(&stops_of(alloc, &draft.plan(alloc)?.routes)?)?;
+    stops.extend_from_slice(&stops_of_draft(alloc, draft)?)?;
     Ok(stops)
+}
+
+// The same of a draft of the plan.
+fn told(
+    alloc: Global,
+    problem: &Problem,
+    pins: &Pins,
+    plan: &Plan,
+    made: Edit,
+    is_taken: bool,
+) -> Result<Vec<u32>, Fail> {
+    if !is_passing(alloc, problem, pins, plan)? {
+        return Ok(Vec::new(alloc));
+    }
+    let mut draft = Draft::build(alloc, problem, pins, plan)?;
+    left(alloc, &mut draft, problem, pins, made, is_taken)
+}
+
+fn told_of(alloc: Global, example: &Example) -> Result<Vec<u32>, Fail> {
+    let (given, plan, made, is_taken, _) = *example;
+    let case = case_of(alloc, given, &[], plan)?;
+    told(alloc, &case.problem, &case.pins, &case.plan, made, is_taken)
 }
 
 // Whether the example's edit is told.
 fn is_edited(alloc: Global, example: &Example) -> Result<bool, Fail> {
-    let (given, plan, made, is_taken, expected) = *example;
-    let problem = problem_of(alloc, given)?;
-    let plan = plan_of(alloc, plan)?;
-    Ok(told(alloc, &problem, &plan, made, is_taken)?.as_slice() == expected)
+    Ok(told_of(alloc, example)?.as_slice() == example.4)
 }
 
 #[test]

@@ -4,9 +4,9 @@ ghost use Rattle.plan_audit.specs.Passes.{has, passes};
 ghost use Rattle.move_ops.specs.Insertion.{of_vehicle};
 ghost use Rattle.move_ops.specs.Tables.{AreVehicles, DifferOnlyAt};
 
-use crate::builders::{FOUR, Given, is_passing, pins_of, plan_of, problem_of};
+use crate::builders::{FOUR, Given, case_of, is_passing, plan_of};
 use move_ops::{Tables, plans_pass_without_pins};
-use plan_types::{Plan, Problem, Route};
+use plan_types::{Pins, Plan, Problem, Route};
 use std::alloc::Global;
 use std::test::Fail;
 
@@ -14,21 +14,19 @@ use std::test::Fail;
 fn is_refreshed(
     alloc: Global,
     problem: &Problem,
-    before: &[u32],
-    after: &[u32],
+    pins: &Pins,
+    before: &Plan,
+    after: &Plan,
     vehicles: &[u32],
 ) -> Result<bool, Fail> {
     plans_pass_without_pins();
-    let pins = pins_of(alloc, &[])?;
-    let before = plan_of(alloc, before)?;
-    let after = plan_of(alloc, after)?;
-    if !is_passing(alloc, problem, &pins, &before)? {
+    if !is_passing(alloc, problem, pins, before)? {
         return Ok(false);
     }
-    if !is_passing(alloc, problem, &pins, &after)? {
+    if !is_passing(alloc, problem, pins, after)? {
         return Ok(false);
     }
-    refreshes(alloc, problem, &before, &after, vehicles)
+    refreshes(alloc, problem, before, after, vehicles)
 }
 
 fn refreshes(
@@ -140,8 +138,16 @@ const EXAMPLES: [Example; 5] = [
 // Whether the example's tables are built anew.
 fn is_built_anew(alloc: Global, example: &Example) -> Result<bool, Fail> {
     let (given, before, after, vehicles) = *example;
-    let problem = problem_of(alloc, given)?;
-    is_refreshed(alloc, &problem, before, after, vehicles)
+    let after = plan_of(alloc, after)?;
+    let case = case_of(alloc, given, &[], before)?;
+    is_refreshed(
+        alloc,
+        &case.problem,
+        &case.pins,
+        &case.plan,
+        &after,
+        vehicles,
+    )
 }
 
 #[test]

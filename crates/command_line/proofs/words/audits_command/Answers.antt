@@ -6,5 +6,5 @@ use Rattle.command_line.proofs.words.audits_command.Goals as goal
 
 pub returns : goal.returns
 returns c =
-    let one = c.in_ok-command.ensures (new_app (codes "audits")) (kind_rule c.args.kinds) c.bare_command-command.ensures c.kind_word.ensures in
-    c.with_word-2.ensures (kind_app (codes "audits") c.args.kinds) (word_rule (codes "LIST")) one c.list_word.ensures
+    let one = c.with_word-command.ensures (new_app (codes "audits")) (kind_rule c.args.kinds) c.bare_command.ensures c.kind_word.ensures in
+    c.with_word.ensures (kind_app (codes "audits") c.args.kinds) (word_rule (codes "LIST")) one c.list_word.ensures

@@ -6,9 +6,9 @@ use Rattle.command_line.proofs.words.load_command.Goals as goal
 
 pub returns : goal.returns
 returns c =
-    let one = c.in_ok-command.ensures (new_app (codes "load")) (word_rule (codes "STORE")) c.bare_command-command.ensures c.word.ensures in
+    let one = c.with_word-command.ensures (new_app (codes "load")) (word_rule (codes "STORE")) c.bare_command.ensures c.word.ensures in
     let store = with_rule (new_app (codes "load")) (word_rule (codes "STORE")) in
-    let two = c.in_ok-command-2.ensures store (kind_rule c.args.kinds) one c.kind_word.ensures in
+    let two = c.with_word-command-2.ensures store (kind_rule c.args.kinds) one c.kind_word.ensures in
     let kind = with_rule store (kind_rule c.args.kinds) in
-    let three = c.in_ok-command-3.ensures kind (word_rule (codes "INSTANCE")) two c.instance_word.ensures in
-    c.with_word-4.ensures (with_rule kind (word_rule (codes "INSTANCE"))) (new_rule (codes "SEED")) three c.seed_word.ensures
+    let three = c.with_word-command-3.ensures kind (word_rule (codes "INSTANCE")) two c.instance_word.ensures in
+    c.with_word.ensures (with_rule kind (word_rule (codes "INSTANCE"))) (new_rule (codes "SEED")) three c.seed_word.ensures

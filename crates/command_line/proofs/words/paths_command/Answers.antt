@@ -7,6 +7,6 @@ use Rattle.command_line.proofs.words.paths_command.Goals as goal
 pub returns : goal.returns
 returns c =
     let kind = kind_app c.args.name.now c.args.kinds in
-    let one = c.in_ok-command.ensures (new_app c.args.name.now) (kind_rule c.args.kinds) c.bare_command-command.ensures c.kind_word.ensures in
-    let two = c.in_ok-command-2.ensures kind (word_rule (codes "INSTANCE")) one c.instance_word.ensures in
-    c.with_word-3.ensures (with_rule kind (word_rule (codes "INSTANCE"))) (word_rule (codes "SOLUTION")) two c.word.ensures
+    let one = c.with_word-command.ensures (new_app c.args.name.now) (kind_rule c.args.kinds) c.bare_command.ensures c.kind_word.ensures in
+    let two = c.with_word-command-2.ensures kind (word_rule (codes "INSTANCE")) one c.instance_word.ensures in
+    c.with_word.ensures (with_rule kind (word_rule (codes "INSTANCE"))) (word_rule (codes "SOLUTION")) two c.word.ensures

@@ -17,7 +17,7 @@ returns c =
     let none_is : app_of c.after_help-planner.result ≡ versioned_app (codes "planner") =
     ap app_of_fields c.after_help-planner.ensures ∙ (ap app_of_fields c.version.ensures ∙ ap (on_top (λ (s : Shape). record s { has_version = true })) new_is) in
     let taking = with_solution_apps names (versioned_app (codes "planner")) in
-    let one = c.in_ok-planner.ensures (versioned_app (codes "planner")) none_is in
-    let two = c.in_ok-planner-2.ensures taking one in
+    let one = c.with_solution_commands-planner.ensures (versioned_app (codes "planner")) none_is in
+    let two = c.with_search_commands-planner.ensures taking one in
     IfOk-weaker c.with_store_commands.result _ _ (λ (command : Command) (is : app_of command ≡ planner_app names modes). record { names = names; kinds = kinds; mode_names = modes; modes = named; app = is })
     (c.with_store_commands.ensures (with_search_apps names taking) two)

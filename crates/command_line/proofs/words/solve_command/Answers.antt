@@ -7,10 +7,10 @@ use Rattle.command_line.proofs.words.solve_command.Goals as goal
 pub returns : goal.returns
 returns c =
     let kind = kind_app (codes "solve") c.args.kinds in
-    let one = c.in_ok-command.ensures (new_app (codes "solve")) (kind_rule c.args.kinds) c.bare_command-command.ensures c.kind_word.ensures in
-    let two = c.in_ok-command-2.ensures kind (word_rule (codes "INSTANCE")) one c.instance_word.ensures in
+    let one = c.with_word-command.ensures (new_app (codes "solve")) (kind_rule c.args.kinds) c.bare_command.ensures c.kind_word.ensures in
+    let two = c.with_word-command-2.ensures kind (word_rule (codes "INSTANCE")) one c.instance_word.ensures in
     let instance = with_rule kind (word_rule (codes "INSTANCE")) in
-    let three = c.in_ok-command-3.ensures instance (word_rule (codes "STEPS")) two c.word.ensures in
+    let three = c.with_word-command-3.ensures instance (word_rule (codes "STEPS")) two c.word.ensures in
     let steps = with_rule instance (word_rule (codes "STEPS")) in
-    let four = c.in_ok-command-4.ensures steps (new_rule (codes "SEED")) three c.seed_word.ensures in
-    c.with_word-5.ensures (with_rule steps (new_rule (codes "SEED"))) (new_rule (codes "DEVIATION")) four c.deviation_word.ensures
+    let four = c.with_word-command-4.ensures steps (new_rule (codes "SEED")) three c.seed_word.ensures in
+    c.with_word.ensures (with_rule steps (new_rule (codes "SEED"))) (new_rule (codes "DEVIATION")) four c.deviation_word.ensures

@@ -6,4 +6,4 @@ use Rattle.command_line.proofs.words.store_command.Goals as goal
 
 pub returns : goal.returns
 returns c =
-    c.with_word.ensures (new_app c.args.name.now) (word_rule (codes "STORE")) c.bare_command-command.ensures c.word.ensures
+    c.with_word.ensures (new_app c.args.name.now) (word_rule (codes "STORE")) c.bare_command.ensures c.word.ensures

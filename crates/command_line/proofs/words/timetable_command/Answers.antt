@@ -4,4 +4,4 @@ use Rattle.clap.specs.Words.{new_app, new_rule}
 use Rattle.command_line.proofs.words.timetable_command.Goals as goal
 
 pub returns : goal.returns
-returns c = c.with_plan_words.ensures (new_app (codes "timetable")) (new_rule (codes "tabs|INSTANCE")) (new_rule (codes "tabs")) c.bare_command-command.ensures c.second_word.ensures c.tabs_word.ensures
+returns c = c.with_plan_words.ensures (new_app (codes "timetable")) (new_rule (codes "tabs|INSTANCE")) (new_rule (codes "tabs")) c.bare_command.ensures c.second_word.ensures c.tabs_word.ensures

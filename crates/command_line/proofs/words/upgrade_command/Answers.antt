@@ -6,5 +6,5 @@ use Rattle.command_line.proofs.words.upgrade_command.Goals as goal
 
 pub returns : goal.returns
 returns c =
-    let one = c.in_ok-command.ensures (new_app (codes "upgrade")) (word_rule (codes "OLD")) c.bare_command-command.ensures c.word.ensures in
-    c.with_word-2.ensures (with_rule (new_app (codes "upgrade")) (word_rule (codes "OLD"))) (word_rule (codes "NEW")) one c.word-2.ensures
+    let one = c.with_word-command.ensures (new_app (codes "upgrade")) (word_rule (codes "OLD")) c.bare_command.ensures c.word.ensures in
+    c.with_word.ensures (with_rule (new_app (codes "upgrade")) (word_rule (codes "OLD"))) (word_rule (codes "NEW")) one c.word-2.ensures

@@ -7,5 +7,5 @@ pub returns : goal.returns
 returns c = λ a is.
     let names = c.args.kinds in
     let solve = with_subcommand a (solve_app names).top in
-    let one = c.in_ok-above.ensures a (solve_app names) is c.in_ok-solve_command.ensures in
-    c.with_command-2.ensures solve (solves_app names) one c.in_ok-solves_command.ensures
+    let one = c.with_command-above.ensures a (solve_app names) is c.solve_command.ensures in
+    c.with_command.ensures solve (solves_app names) one c.solves_command.ensures

@@ -11,8 +11,8 @@ returns c = λ a is.
     let audits = with_subcommand audit (audits_app names).top in
     let explain = with_subcommand audits (paths_app (codes "explain") names).top in
     let timetable = with_subcommand explain timetable_app.top in
-    let one = c.in_ok-above.ensures a (paths_app (codes "audit") names) is c.in_ok-audit.ensures in
-    let two = c.in_ok-above-2.ensures audit (audits_app names) one c.in_ok-audits_command.ensures in
-    let three = c.in_ok-above-3.ensures audits (paths_app (codes "explain") names) two c.in_ok-explain.ensures in
-    let four = c.in_ok-above-4.ensures explain timetable_app three c.in_ok-timetable_command.ensures in
-    c.with_command-5.ensures timetable draw_app four c.in_ok-draw_command.ensures
+    let one = c.with_command-above.ensures a (paths_app (codes "audit") names) is c.paths_command-audit.ensures in
+    let two = c.with_command-above-2.ensures audit (audits_app names) one c.audits_command.ensures in
+    let three = c.with_command-above-3.ensures audits (paths_app (codes "explain") names) two c.paths_command-explain.ensures in
+    let four = c.with_command-above-4.ensures explain timetable_app three c.timetable_command.ensures in
+    c.with_command.ensures timetable draw_app four c.draw_command.ensures

@@ -10,7 +10,7 @@ returns c = λ a is.
     let format = with_subcommand a (store_app (codes "format")).top in
     let load = with_subcommand format (load_app names).top in
     let run = with_subcommand load (run_app c.args.modes).top in
-    let one = c.in_ok-above.ensures a (store_app (codes "format")) is c.in_ok-format.ensures in
-    let two = c.in_ok-above-2.ensures format (load_app names) one c.in_ok-load_command.ensures in
-    let three = c.in_ok-above-3.ensures load (run_app c.args.modes) two c.in_ok-run_command.ensures in
-    c.with_command-4.ensures run upgrade_app three c.in_ok-upgrade_command.ensures
+    let one = c.with_command-above.ensures a (store_app (codes "format")) is c.store_command-format.ensures in
+    let two = c.with_command-above-2.ensures format (load_app names) one c.load_command.ensures in
+    let three = c.with_command-above-3.ensures load (run_app c.args.modes) two c.run_command.ensures in
+    c.with_command.ensures run upgrade_app three c.upgrade_command.ensures
