@@ -1,0 +1,41 @@
+//! Builds a plan by best insertion, makes steps in memory, and prints what it costs then: `search|anneal KIND INSTANCE STEPS SEED DEVIATION`.
+use kit::Global;
+use move_ops::Draft;
+use plan_types::{Pins, Plan, Problem, Route, Routes};
+
+fn empty(problem: &Problem) -> Routes {
+    let mut routes = Routes::new(Global);
+    for _ in 0..problem.fleet {
+        routes.push(Route::new(Global)).unwrap();
+    }
+    routes
+}
+
+fn built(problem: &Problem, pins: &Pins) -> Plan {
+    let plan = Plan { routes: empty(problem) };
+    let mut draft = Draft::build(Global, problem, pins, &plan).unwrap();
+    let names: Vec<u32> = problem.requests.keys().copied().collect();
+    for name in names {
+        draft.place(problem, pins, name).unwrap();
+    }
+    draft.plan(Global).unwrap()
+}
+
+fn main() {
+    let words: Vec<String> = std::env::args().skip(1).collect();
+    let number = |index: usize| words[index].parse::<u64>().unwrap();
+    let text = std::fs::read(&words[2]).unwrap();
+    let problem = match words[1].as_str() {
+        "lilim" => instance_read::read_lilim(Global, &text).unwrap(),
+        _ => instance_read::read_vrp(Global, &text).unwrap(),
+    };
+    let pins = Pins { routes: empty(&problem) };
+    let plan = built(&problem, &pins);
+    let steps = match words[0].as_str() {
+        "anneal" => anneal_search::anneal_steps,
+        _ => seeded_search::search_steps,
+    };
+    let found = steps(Global, &problem, &pins, &plan, &plan, number(5) as u32, number(4), 0, number(3)).unwrap();
+    let cost = route_sched::plan_cost(&problem, &found.plan);
+    println!("cost {} {} {}", cost.unplanned, cost.vehicles, cost.distance);
+}
