@@ -54,7 +54,45 @@ pub(crate) enum Example {
     WideLoad,
     /// The same over another load.
     SecondLoad,
+    /// What the old store of an upgrade stands for.
+    Old,
 }
+
+impl Example {
+    fn steps(self) -> &'static [Step] {
+        match self {
+            Example::Five => FIVE,
+            Example::WideLoad => WIDE_LOAD,
+            Example::SecondLoad => SECOND_LOAD,
+            Example::Old => OLD,
+        }
+    }
+}
+
+/// One command of an example.
+#[derive(Clone, Copy)]
+enum Step {
+    LoadOne,
+    LoadPairs,
+    Build,
+    Search(u16),
+    Add,
+    Checkpoint,
+}
+
+const FIVE: &[Step] = &[
+    Step::LoadOne,
+    Step::Build,
+    Step::Search(3),
+    Step::Add,
+    Step::Checkpoint,
+];
+
+const WIDE_LOAD: &[Step] = &[Step::LoadPairs];
+
+const SECOND_LOAD: &[Step] = &[Step::LoadOne, Step::LoadPairs];
+
+const OLD: &[Step] = &[Step::LoadOne, Step::Build, Step::Search(256)];
 
 /// What is answered for what can't be: a state that is refused, a store that can't be made or opened.
 pub(crate) fn failed() -> io::Error {
@@ -63,31 +101,22 @@ pub(crate) fn failed() -> io::Error {
 
 /// The commands of an example.
 pub(crate) fn commands_of(alloc: Global, example: Example) -> io::Result<Vec<Command>> {
-    match example {
-        Example::Five => five_commands(alloc),
-        Example::WideLoad => one_command(alloc, load_pairs(alloc)?),
-        Example::SecondLoad => two_commands(alloc, load_one(alloc)?, load_pairs(alloc)?),
-    }
-}
-
-fn one_command(alloc: Global, command: Command) -> io::Result<Vec<Command>> {
     let mut commands = Vec::new(alloc);
-    commands.push(command)?;
-    Ok(commands)
-}
-
-fn two_commands(alloc: Global, first: Command, second: Command) -> io::Result<Vec<Command>> {
-    let mut commands = one_command(alloc, first)?;
-    commands.push(second)?;
-    Ok(commands)
-}
-
-fn five_commands(alloc: Global) -> io::Result<Vec<Command>> {
-    let mut commands = two_commands(alloc, load_one(alloc)?, Command::Build)?;
-    for command in [Command::Search(3), added(), Command::Checkpoint] {
-        commands.push(command)?;
+    for step in example.steps() {
+        commands.push(command_of(alloc, *step)?)?;
     }
     Ok(commands)
+}
+
+fn command_of(alloc: Global, step: Step) -> io::Result<Command> {
+    match step {
+        Step::LoadOne => load_one(alloc),
+        Step::LoadPairs => load_pairs(alloc),
+        Step::Build => Ok(Command::Build),
+        Step::Search(count) => Ok(Command::Search(count)),
+        Step::Add => Ok(added()),
+        Step::Checkpoint => Ok(Command::Checkpoint),
+    }
 }
 
 // One more customer.
@@ -140,20 +169,45 @@ fn text_of_pairs(alloc: Global) -> io::Result<Vec<u8>> {
     Ok(text)
 }
 
-/// The states before these commands and after each, as bytes.
-pub(crate) fn states_of(alloc: Global, commands: &[Command]) -> io::Result<Vec<Vec<u8>>> {
+/// The states before the commands of an example and after each, as bytes.
+pub(crate) fn states_of(alloc: Global, example: Example) -> io::Result<Vec<Vec<u8>>> {
     let mut states = Vec::new(alloc);
-    let mut state = noted(alloc, State::Empty, &mut states)?;
-    for command in commands {
-        state = noted(alloc, applied(alloc, &state, command)?, &mut states)?;
-    }
+    add_states(alloc, &commands_of(alloc, example)?, &mut states)?;
     Ok(states)
 }
 
-// The state, whose bytes are the last ones now.
-fn noted(alloc: Global, state: State, states: &mut Vec<Vec<u8>>) -> io::Result<State> {
-    states.push(encode_state(alloc, &state)?)?;
-    Ok(state)
+fn add_states(alloc: Global, commands: &[Command], states: &mut Vec<Vec<u8>>) -> io::Result<()> {
+    let mut state = State::Empty;
+    note_each(alloc, &mut state, commands, states)
+}
+
+fn note_each(
+    alloc: Global,
+    state: &mut State,
+    commands: &[Command],
+    states: &mut Vec<Vec<u8>>,
+) -> io::Result<()> {
+    note(alloc, state, states)?;
+    for command in commands {
+        advance(alloc, state, command)?;
+        note(alloc, state, states)?;
+    }
+    Ok(())
+}
+
+fn note(alloc: Global, state: &State, states: &mut Vec<Vec<u8>>) -> io::Result<()> {
+    Ok(states.push(encode_state(alloc, state)?)?)
+}
+
+/// Makes of the state the one after a command that is accepted.
+pub(crate) fn advance(alloc: Global, state: &mut State, command: &Command) -> io::Result<()> {
+    *state = applied(alloc, state, command)?;
+    Ok(())
+}
+
+/// The state as bytes.
+pub(crate) fn bytes_of(alloc: Global, state: &State) -> io::Result<Vec<u8>> {
+    Ok(encode_state(alloc, state)?)
 }
 
 /// The state after a command that is accepted.

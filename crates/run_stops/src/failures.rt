@@ -1,10 +1,9 @@
 //! Runs in which one call of the device fails, and what opening gives then.
 
-use crate::examples::{Example, commands_of, failed, load_one};
-use crate::stops::{Ended, fresh, open, opened_state, place_of, states_of_example};
+use crate::examples::{Example, commands_of, failed, load_one, states_of};
+use crate::stops::{Ended, built, fresh, open, opened_state, place_of};
 use crate::tables::print_row;
 use checkpoint::StoreFault;
-use command_core::Command;
 use recover::Session;
 use sector_disk::MemDevice;
 use std::alloc::Global;
@@ -27,10 +26,10 @@ pub(crate) fn print_failures<R: Print>(rt: &R, alloc: Global) -> io::Result<()> 
 // The five commands with each call of the device failing once, reads counted: a sync and two reads for opening, four calls for a
 // snapshot, two for a record.
 fn row_of(alloc: Global, call: u64) -> io::Result<[u64; 5]> {
-    let (openings, session) = opened_with_a_failed_call(alloc, call)?;
     let commands = commands_of(alloc, Example::Five)?;
+    let (openings, session) = opened_with_a_failed_call(alloc, call)?;
     let ended = Ended::of(alloc, session, commands, &[])?;
-    let states = states_of_example(alloc, Example::Five)?;
+    let states = states_of(alloc, Example::Five)?;
     Ok(numbers_of(openings, &ended, &states))
 }
 
@@ -61,17 +60,15 @@ fn settled(alloc: Global) -> io::Result<[u64; 2]> {
     let (first, mut device) = opened_state(alloc, built_without_a_sync(alloc)?)?;
     device.crash(&[]);
     let (second, _) = opened_state(alloc, device)?;
-    let states = states_of_example(alloc, Example::Five)?;
+    let states = states_of(alloc, Example::Five)?;
     Ok([place_of(&states, &first), place_of(&states, &second)])
 }
 
 // The device behind a load and a build whose sync fails.
 fn built_without_a_sync(alloc: Global) -> io::Result<MemDevice> {
+    let load = load_one(alloc)?;
     let mut device = fresh(alloc)?;
     // Three calls of opening, four of the load, and the write of the record.
     device.fail_once(8);
-    let mut session = open(alloc, device)?.session;
-    let _ = session.apply(alloc, load_one(alloc)?);
-    let _ = session.apply(alloc, Command::Build);
-    Ok(session.close())
+    built(alloc, device, load)
 }

@@ -53,20 +53,40 @@ fn has_other_version(image: &[u8], i: u32) -> bool {
     sector.starts_with(b"PDRSTORE") && !sector.starts_with(MAGIC)
 }
 
-// The commands of the records of a sequence, with the sectors behind them looked through.
-fn journal_of(alloc: Global, image: &[u8], sequence: u64) -> Result<Vec<Command>, StoreFault> {
-    let mut commands = Vec::new(alloc);
-    let mut is_led = true;
+// The sector of the record of this index, behind both headers.
+fn sector_of_record(image: &[u8], index: u32) -> [u8; 512] {
+    sector_of(image, index.saturating_add(2))
+}
+
+// The record of this index, where its sector holds one of the sequence.
+fn record_of(image: &[u8], sequence: u64, index: u32) -> Option<Command> {
+    decode_record(&sector_of_record(image, index), sequence, index)
+}
+
+// How many records of a sequence there are, with the sectors behind them looked through.
+fn used_of(image: &[u8], sequence: u64) -> Result<u32, StoreFault> {
+    let mut used = 0;
     for index in 0..256 {
-        let sector = sector_of(image, 2 + index);
-        match decode_record(&sector, sequence, index) {
-            Some(command) if is_led => commands.push(command)?,
-            _ => {
-                is_led = false;
-                if number_in(&sector[..8]) >= sequence {
-                    return Err(StoreFault::Codec(CodecFault::BadField));
-                }
-            }
+        if used == index && record_of(image, sequence, index).is_some() {
+            used = index + 1;
+        } else if number_in(&sector_of_record(image, index)[..8]) >= sequence {
+            return Err(StoreFault::Codec(CodecFault::BadField));
+        }
+    }
+    Ok(used)
+}
+
+// The commands of so many records.
+fn journal_of(
+    alloc: Global,
+    image: &[u8],
+    sequence: u64,
+    used: u32,
+) -> Result<Vec<Command>, StoreFault> {
+    let mut commands = Vec::new(alloc);
+    for index in 0..used {
+        if let Some(command) = record_of(image, sequence, index) {
+            commands.push(command)?;
         }
     }
     Ok(commands)
@@ -101,9 +121,9 @@ fn state_of(alloc: Global, image: &[u8], sequence: u64, length: u64) -> Result<S
 /// What the image holds, or why it holds nothing.
 pub(crate) fn held(alloc: Global, image: &[u8]) -> Result<Loaded, StoreFault> {
     let (sequence, length) = latest_header_of(image)?;
+    let used = used_of(image, sequence)?;
+    let commands = journal_of(alloc, image, sequence, used)?;
     let state = state_of(alloc, image, sequence, length)?;
-    let commands = journal_of(alloc, image, sequence)?;
-    let used = u32::try_from(commands.len()).unwrap_or(u32::MAX);
     Ok(Loaded {
         state,
         commands,

@@ -31,16 +31,20 @@ pub(crate) fn print_readings<R: Print>(rt: &R, alloc: Global) -> io::Result<()> 
     for calls in 0..17 {
         print_row(rt, calls, &row_of_small_runs(alloc, calls)?)?;
     }
-    let state = wide_state(alloc)?;
+    print_wide_readings(rt, alloc, &wide_state(alloc)?)
+}
+
+// The same of stores with this state.
+fn print_wide_readings<R: Print>(rt: &R, alloc: Global, state: &State) -> io::Result<()> {
     println!(rt; "a format over a store stopped, by finished calls: images with nothing, others")?;
     for calls in 0..6 {
-        print_row(rt, calls, &row_of_formats(alloc, &state, calls)?)?;
+        print_row(rt, calls, &row_of_formats(alloc, state, calls)?)?;
     }
     println!(rt;
         "a snapshot stopped with every second sector kept, by finished calls: its sequence"
     )?;
     for calls in 0..4 {
-        print_row(rt, calls, &[stopped_snapshot(alloc, &state, calls)?.0])?;
+        print_row(rt, calls, &[stopped_snapshot(alloc, state, calls)?.0])?;
     }
     Ok(())
 }
@@ -78,7 +82,7 @@ fn stopped_small_run(alloc: Global, calls: u64, choice: u32) -> io::Result<Held>
         return Err(failed());
     }
     device.crash(&choices_of(alloc, &[0, 1, 2, 3, 4], choice)?);
-    agreed(alloc, device)
+    agreed(alloc, &mut device)
 }
 
 // A format over a store with a record, stopped when so many calls have finished, for each choice of the headers and of the first record.
@@ -98,7 +102,7 @@ fn stopped_format(alloc: Global, state: &State, calls: u64, choice: u32) -> io::
         return Err(failed());
     }
     device.crash(&choices_of(alloc, &[0, 1, 2], choice)?);
-    agreed(alloc, device)
+    agreed(alloc, &mut device)
 }
 
 // A store of this state, and a record.
@@ -124,7 +128,7 @@ fn stopped_snapshot(alloc: Global, state: &State, calls: u64) -> io::Result<Held
         return Err(failed());
     }
     device.crash(&every_second(alloc)?);
-    agreed(alloc, device)
+    agreed(alloc, &mut device)
 }
 
 fn every_second(alloc: Global) -> io::Result<Vec<u32>> {
@@ -136,13 +140,22 @@ fn every_second(alloc: Global) -> io::Result<Vec<u32>> {
 }
 
 // Where the store stands by both readings, which say the same.
-fn agreed(alloc: Global, mut device: MemDevice) -> io::Result<Held> {
-    let image = image_of(alloc, &mut device)?;
-    let fast = load_latest(alloc, &mut device);
-    if !are_told_alike(alloc, &held(alloc, &image), &fast)? {
+fn agreed(alloc: Global, device: &mut MemDevice) -> io::Result<Held> {
+    let slow = read_plainly(alloc, device)?;
+    let fast = read_quickly(alloc, device)?;
+    if slow.text.as_str() != fast.text.as_str() {
         return Err(failed());
     }
-    held_of(fast)
+    Ok(fast.held)
+}
+
+fn read_plainly(alloc: Global, device: &mut MemDevice) -> io::Result<Described> {
+    let image = image_of(alloc, device)?;
+    told(alloc, &held(alloc, &image))
+}
+
+fn read_quickly(alloc: Global, device: &mut MemDevice) -> io::Result<Described> {
+    told(alloc, &load_latest(alloc, device))
 }
 
 // The bytes that reads give.
@@ -154,17 +167,21 @@ fn image_of(alloc: Global, device: &mut MemDevice) -> io::Result<Vec<u8>> {
     Ok(image)
 }
 
-fn are_told_alike(
-    alloc: Global,
-    slow: &Result<Loaded, StoreFault>,
-    fast: &Result<Loaded, StoreFault>,
-) -> io::Result<bool> {
-    let slow = format!(in alloc; "{slow:?}")?;
-    let fast = format!(in alloc; "{fast:?}")?;
-    Ok(slow.as_str() == fast.as_str())
+/// What a reading gave.
+#[derive(Drop)]
+struct Described {
+    held: Held,
+    /// All of it, in words.
+    text: String,
 }
 
-fn held_of(loaded: Result<Loaded, StoreFault>) -> io::Result<Held> {
+fn told(alloc: Global, loaded: &Result<Loaded, StoreFault>) -> io::Result<Described> {
+    let held = held_of(loaded)?;
+    let text = format!(in alloc; "{loaded:?}")?;
+    Ok(Described { held, text })
+}
+
+fn held_of(loaded: &Result<Loaded, StoreFault>) -> io::Result<Held> {
     match loaded {
         Ok(loaded) => Ok((loaded.place.sequence, loaded.place.used)),
         Err(StoreFault::NotFormatted) => Ok((0, 0)),

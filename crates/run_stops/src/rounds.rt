@@ -1,12 +1,12 @@
 //! Lists of rounds by a generator: what each round leaves is what the fold over rounds allows.
 
-use crate::examples::{applied, failed, load_three};
-use crate::stops::{SECTORS, fresh, open};
+use crate::examples::{advance, applied, bytes_of, failed, load_three};
+use crate::stops::{SECTORS, fresh, opened_state};
 use crate::tables::{count, print_row};
 use command_core::{Command, Spot, State, check};
-use recover::{Denial, Halt, Round, Run, Session, run_round, run_rounds};
+use recover::{Denial, Halt, Round, Run, run_round, run_rounds};
 use sector_disk::MemDevice;
-use state_codec::{decode_state, encode_state};
+use state_codec::decode_state;
 use std::alloc::Global;
 use std::io;
 
@@ -48,8 +48,14 @@ impl Random {
 
 // A command: some are refused, by the state that they meet.
 fn command_of(alloc: Global, random: &mut Random) -> io::Result<Command> {
-    Ok(match random.below(12) {
-        0 => load_three(alloc)?,
+    match random.below(12) {
+        0 => load_three(alloc),
+        kind => Ok(short_command(random, kind)),
+    }
+}
+
+fn short_command(random: &mut Random, kind: u16) -> Command {
+    match kind {
         1 | 2 => Command::Build,
         3 | 4 | 5 => Command::Search(random.below(65)),
         6 => Command::Deviation(random.number_below(20)),
@@ -58,7 +64,7 @@ fn command_of(alloc: Global, random: &mut Random) -> io::Result<Command> {
         9 => Command::Withdraw(random.number_below(5)),
         10 => added(random),
         _ => Command::Checkpoint,
-    })
+    }
 }
 
 fn added(random: &mut Random) -> Command {
@@ -76,14 +82,20 @@ fn added(random: &mut Random) -> Command {
 
 // Up to five commands; of the first round a load stands before them.
 fn commands_of(alloc: Global, random: &mut Random, place: u64) -> io::Result<Vec<Command>> {
+    let loads = u16::from(place == 0);
     let mut commands = Vec::new(alloc);
-    if place == 0 {
-        commands.push(load_three(alloc)?)?;
-    }
-    for _ in 0..random.below(6) {
-        commands.push(command_of(alloc, random)?)?;
+    for index in 0..random.below(6).saturating_add(loads) {
+        commands.push(next_command(alloc, random, index < loads)?)?;
     }
     Ok(commands)
+}
+
+fn next_command(alloc: Global, random: &mut Random, is_load: bool) -> io::Result<Command> {
+    if is_load {
+        load_three(alloc)
+    } else {
+        command_of(alloc, random)
+    }
 }
 
 // Of four rounds three are stopped, after any number of calls that their commands may make, with any choice for each sector.
@@ -116,19 +128,22 @@ struct Left {
 }
 
 // Carries out a round, and opens the device to see what it left.
-fn left_by(alloc: Global, device: MemDevice, round: Round) -> io::Result<(Left, MemDevice)> {
-    match run_round(alloc, device, round) {
-        Ok((run, device)) => left_of(alloc, &run, open(alloc, device)?.session),
+fn left_by(
+    alloc: Global,
+    device: MemDevice,
+    list: u64,
+    place: u64,
+) -> io::Result<(Left, MemDevice)> {
+    match run_round(alloc, device, round_of(alloc, list, place)?) {
+        Ok((run, device)) => left_of(alloc, &run, device),
         Err(_) => Err(failed()),
     }
 }
 
-fn left_of(alloc: Global, run: &Run, session: Session<MemDevice>) -> io::Result<(Left, MemDevice)> {
-    let left = Left {
-        state: encode_state(alloc, session.state())?,
-        answers: answers_of(alloc, run)?,
-    };
-    Ok((left, session.close()))
+fn left_of(alloc: Global, run: &Run, device: MemDevice) -> io::Result<(Left, MemDevice)> {
+    let (state, device) = opened_state(alloc, device)?;
+    let answers = answers_of(alloc, run)?;
+    Ok((Left { state, answers }, device))
 }
 
 fn answers_of(alloc: Global, run: &Run) -> io::Result<Vec<Result<(), Denial>>> {
@@ -165,7 +180,7 @@ impl Outcome {
 }
 
 fn is_left(alloc: Global, state: &State, left: &Left) -> io::Result<bool> {
-    Ok(encode_state(alloc, state)?.as_slice() == left.state.as_slice())
+    Ok(bytes_of(alloc, state)?.as_slice() == left.state.as_slice())
 }
 
 // What a round left that began from this state.
@@ -178,25 +193,30 @@ fn outcome_of(
 ) -> io::Result<Outcome> {
     let commands = commands_of(alloc, &mut Random::of_round(list, place), place)?;
     match decode_state(alloc, begun) {
-        Ok(begun) if left.answers.len() == commands.len() => repeated(
-            alloc, begun, &commands, left,
-        ),
-        _ => Ok(Outcome::Other),
+        Ok(mut state) => repeated(alloc, &mut state, &commands, left),
+        Err(_) => Ok(Outcome::Other),
     }
 }
 
 // Its commands are applied once more, by their answers.
-fn repeated(alloc: Global, begun: State, commands: &[Command], left: &Left) -> io::Result<Outcome> {
-    let mut state = begun;
+fn repeated(
+    alloc: Global,
+    state: &mut State,
+    commands: &[Command],
+    left: &Left,
+) -> io::Result<Outcome> {
+    if left.answers.len() != commands.len() {
+        return Ok(Outcome::Other);
+    }
     for (command, answer) in commands.iter().zip(&left.answers) {
         match answer {
-            Ok(()) => state = applied(alloc, &state, command)?,
-            Err(Denial::DeviceFault) => return broken_off(alloc, &state, command, left),
-            Err(Denial::Core(refusal)) if check(&state, command) == Err(*refusal) => {}
+            Ok(()) => advance(alloc, state, command)?,
+            Err(Denial::DeviceFault) => return broken_off(alloc, state, command, left),
+            Err(Denial::Core(refusal)) if check(state, command) == Err(*refusal) => {}
             Err(_) => return Ok(Outcome::Other),
         }
     }
-    Ok(if is_left(alloc, &state, left)? {
+    Ok(if is_left(alloc, state, left)? {
         Outcome::Whole
     } else {
         Outcome::Other
@@ -208,10 +228,14 @@ fn broken_off(alloc: Global, state: &State, command: &Command, left: &Left) -> i
     if is_left(alloc, state, left)? {
         return Ok(Outcome::Without);
     }
-    if is_left(alloc, &applied(alloc, state, command)?, left)? {
+    if is_left_with(alloc, state, command, left)? {
         return Ok(Outcome::With);
     }
     Ok(Outcome::Other)
+}
+
+fn is_left_with(alloc: Global, state: &State, command: &Command, left: &Left) -> io::Result<bool> {
+    is_left(alloc, &applied(alloc, state, command)?, left)
 }
 
 // How many rounds a list has, 1..=8.
@@ -219,32 +243,61 @@ fn len_of(list: u64) -> u64 {
     u64::from(Random::of_round(list, 63).below(8)).saturating_add(1)
 }
 
+/// A store between two rounds.
+#[derive(Drop)]
+struct Store {
+    /// Its state, as bytes.
+    state: Vec<u8>,
+    device: MemDevice,
+}
+
 // Carries out the rounds of a list one by one, counts their outcomes, and gives the state that is left.
 fn add_list(alloc: Global, list: u64, counts: &mut [u64]) -> io::Result<Vec<u8>> {
-    let mut device = fresh(alloc)?;
-    let mut state = encode_state(alloc, &State::Empty)?;
+    let mut store = begun(alloc)?;
     for place in 0..len_of(list) {
-        let (left, next) = left_by(alloc, device, round_of(alloc, list, place)?)?;
-        count(
-            counts,
-            outcome_of(alloc, list, place, &state, &left)?.place(),
-        );
-        state = left.state;
-        device = next;
+        store = add_round(alloc, store, list, place, counts)?;
     }
-    Ok(state)
+    Ok(store.state)
+}
+
+fn begun(alloc: Global) -> io::Result<Store> {
+    let state = bytes_of(alloc, &State::Empty)?;
+    let device = fresh(alloc)?;
+    Ok(Store { state, device })
+}
+
+fn add_round(
+    alloc: Global,
+    begun: Store,
+    list: u64,
+    place: u64,
+    counts: &mut [u64],
+) -> io::Result<Store> {
+    let Store { state, device } = begun;
+    let (left, device) = left_by(alloc, device, list, place)?;
+    let outcome = outcome_of(alloc, list, place, &state, &left)?;
+    count(counts, outcome.place());
+    Ok(Store {
+        state: left.state,
+        device,
+    })
 }
 
 // The state that `run_rounds` leaves of all rounds of a list.
 fn left_by_all(alloc: Global, list: u64) -> io::Result<Vec<u8>> {
+    let rounds = rounds_of(alloc, list)?;
+    match run_rounds(alloc, fresh(alloc)?, rounds) {
+        Ok(rounds) => bytes_of(alloc, rounds.session.state()),
+        Err(_) => Err(failed()),
+    }
+}
+
+fn rounds_of(alloc: Global, list: u64) -> io::Result<Vec<Round>> {
     let mut rounds = Vec::new(alloc);
     for place in 0..len_of(list) {
         rounds.push(round_of(alloc, list, place)?)?;
     }
-    match run_rounds(alloc, fresh(alloc)?, rounds) {
-        Ok(rounds) => Ok(encode_state(alloc, rounds.session.state())?),
-        Err(_) => Err(failed()),
-    }
+    Ok(rounds)
 }
 
 /// Prints whether each round of 200 lists left what the fold allows, and how many lists left at once what they left one by one.
@@ -258,12 +311,18 @@ pub(crate) fn print_rounds<R: Print>(rt: &R, alloc: Global) -> io::Result<()> {
 fn row_of_lists(alloc: Global) -> io::Result<[u64; 5]> {
     let mut counts = [0; 5];
     for list in 0..LISTS {
-        if add_list(alloc, list, &mut counts)? == left_by_all(alloc, list)? {
+        if is_left_the_same(alloc, list, &mut counts)? {
             count(&mut counts, 4);
         }
     }
     let [whole, without, with, other, same] = counts;
     Ok([met(whole), met(without), met(with), met(other), same])
+}
+
+// Whether the rounds of a list leave one by one what they leave at once.
+fn is_left_the_same(alloc: Global, list: u64, counts: &mut [u64]) -> io::Result<bool> {
+    let one_by_one = add_list(alloc, list, counts)?;
+    Ok(one_by_one == left_by_all(alloc, list)?)
 }
 
 // 1 where it was met.

@@ -1,12 +1,11 @@
 //! Runs that are stopped, and what opening their device gives.
 
-use crate::examples::{Example, commands_of, failed, states_of};
+use crate::examples::{Example, bytes_of, commands_of, failed, states_of};
 use crate::tables::print_row;
 use checkpoint::format;
 use command_core::Command;
 use recover::{Denial, Opened, Reply, Session};
 use sector_disk::MemDevice;
-use state_codec::encode_state;
 use std::alloc::Global;
 use std::io;
 
@@ -71,19 +70,13 @@ fn print_table<R: Print>(rt: &R, alloc: Global, table: &Table) -> io::Result<()>
 
 // What the stops after so many calls come to.
 fn row_of(alloc: Global, table: &Table, calls: u64) -> io::Result<[u64; 5]> {
-    let states = states_of_example(alloc, table.example)?;
+    let states = states_of(alloc, table.example)?;
     let mut tally = Tally::default();
     for choice in 0..table.choices {
-        let choices = choices_of(alloc, table.written, choice)?;
-        let ended = stopped(alloc, table.example, calls, &choices)?;
+        let ended = stopped(alloc, table, calls, choice)?;
         tally.add(&ended, &states);
     }
     Ok(tally.row())
-}
-
-/// The states before the commands of an example and after each.
-pub(crate) fn states_of_example(alloc: Global, example: Example) -> io::Result<Vec<Vec<u8>>> {
-    states_of(alloc, &commands_of(alloc, example)?)
 }
 
 /// A device with a new store.
@@ -106,8 +99,17 @@ pub(crate) fn open(alloc: Global, device: MemDevice) -> io::Result<Opened<MemDev
 /// The state that opening gives, as bytes, and the device behind it.
 pub(crate) fn opened_state(alloc: Global, device: MemDevice) -> io::Result<(Vec<u8>, MemDevice)> {
     let session = open(alloc, device)?.session;
-    let bytes = encode_state(alloc, session.state())?;
-    Ok((bytes, session.close()))
+    let bytes = bytes_of(alloc, session.state());
+    let device = session.close();
+    Ok((bytes?, device))
+}
+
+/// The device behind a load and a build, whatever they are answered.
+pub(crate) fn built(alloc: Global, device: MemDevice, load: Command) -> io::Result<MemDevice> {
+    let mut session = open(alloc, device)?.session;
+    let _ = session.apply(alloc, load);
+    let _ = session.apply(alloc, Command::Build);
+    Ok(session.close())
 }
 
 /// Which contents a stop leaves: of each of these sectors the first or the second, as the digits of `choice` have it, and of all others
@@ -145,10 +147,10 @@ impl Ended {
         commands: Vec<Command>,
         choices: &[u32],
     ) -> io::Result<Ended> {
-        let replies = session.run(alloc, commands)?.replies;
+        let run = session.run(alloc, commands);
         let mut device = session.close();
         device.crash(choices);
-        Ended::with(alloc, &replies, &open(alloc, device)?)
+        Ended::with(alloc, &run?.replies, &open(alloc, device)?)
     }
 
     fn with(alloc: Global, replies: &[Reply], opened: &Opened<MemDevice>) -> io::Result<Ended> {
@@ -156,7 +158,7 @@ impl Ended {
             acknowledged: count_of(replies, Ok(())),
             faults: count_of(replies, Err(Denial::DeviceFault)),
             refused: count_of(replies, Err(Denial::Broken)),
-            bytes: encode_state(alloc, opened.session.state())?,
+            bytes: bytes_of(alloc, opened.session.state())?,
             replayed: opened.replayed,
         })
     }
@@ -186,8 +188,16 @@ fn is_state(states: &[Vec<u8>], number: u64, bytes: &[u8]) -> bool {
     }
 }
 
-// Runs an example over a new store whose device fails once so many calls have finished behind its opening, and stops it then.
-fn stopped(alloc: Global, example: Example, calls: u64, choices: &[u32]) -> io::Result<Ended> {
+// Runs the example over a new store whose device fails once so many calls have finished behind its opening, and stops it then.
+fn stopped(alloc: Global, table: &Table, calls: u64, choice: u32) -> io::Result<Ended> {
+    let choices = choices_of(alloc, table.written, choice)?;
+    let commands = commands_of(alloc, table.example)?;
+    let session = fused(alloc, calls)?;
+    Ended::of(alloc, session, commands, &choices)
+}
+
+// A new store, opened, whose device fails once so many calls have finished behind that.
+fn fused(alloc: Global, calls: u64) -> io::Result<Session<MemDevice>> {
     let mut device = fresh(alloc)?;
     if calls == 0 {
         // With no call left the reads of opening would fail as well. They and the sync before them are three calls.
@@ -195,8 +205,7 @@ fn stopped(alloc: Global, example: Example, calls: u64, choices: &[u32]) -> io::
     } else {
         device.fuse(calls.saturating_add(1));
     }
-    let session = open(alloc, device)?.session;
-    Ended::of(alloc, session, commands_of(alloc, example)?, choices)
+    Ok(open(alloc, device)?.session)
 }
 
 /// How the choices of a stop opened.

@@ -1,13 +1,11 @@
 //! A store of version 1 that is taken over: stopped at each call, and with each call failing once.
 
-use crate::examples::{failed, load_one, load_three, states_of};
-use crate::stops::{SECTORS, choices_of, fresh, open};
+use crate::examples::{Example, bytes_of, failed, load_three, states_of};
+use crate::stops::{SECTORS, built, choices_of, fresh};
 use crate::tables::{count, print_row};
 use checkpoint::StoreFault;
-use command_core::Command;
-use recover::{Session, UpgradeFault, upgrade};
+use recover::{Opened, Session, UpgradeFault, upgrade};
 use sector_disk::{MemDevice, Sectors};
-use state_codec::encode_state;
 use std::alloc::Global;
 use std::io;
 
@@ -42,19 +40,28 @@ const WRITTEN: [usize; 4] = [0, 1, 2, 4354];
 /// Prints what stops and failing calls leave of an upgrade.
 pub(crate) fn print_upgrades<R: Print>(rt: &R, alloc: Global) -> io::Result<()> {
     let state = its_state(alloc)?;
+    print_stopped_upgrades(rt, alloc, &state)?;
+    print_failing_upgrades(rt, alloc, &state)
+}
+
+fn print_stopped_upgrades<R: Print>(rt: &R, alloc: Global, state: &[u8]) -> io::Result<()> {
     println!(rt;
         "an upgrade stopped, by calls of the new device: how often the state, NotFormatted, another; the old one's state"
     )?;
     for calls in 0..=6 {
-        print_row(rt, calls, &row_of_stops(alloc, calls, &state)?)?;
+        print_row(rt, calls, &row_of_stops(alloc, calls, state)?)?;
     }
+    Ok(())
+}
+
+fn print_failing_upgrades<R: Print>(rt: &R, alloc: Global, state: &[u8]) -> io::Result<()> {
     println!(rt; "an upgrade, by the call of the old device that fails once, and once more")?;
     for call in 0..4 {
-        print_failed(rt, call, &failed_call_of_old(alloc, call, &state)?)?;
+        print_failed(rt, call, &failed_call_of_old(alloc, call, state)?)?;
     }
     println!(rt; "by the call of the new device")?;
     for call in 0..7 {
-        print_failed(rt, call, &failed_call_of_new(alloc, call, &state)?)?;
+        print_failed(rt, call, &failed_call_of_new(alloc, call, state)?)?;
     }
     Ok(())
 }
@@ -82,11 +89,7 @@ fn old_store(alloc: Global) -> io::Result<MemDevice> {
 
 // The state that it stands for, as bytes.
 fn its_state(alloc: Global) -> io::Result<Vec<u8>> {
-    let mut commands = Vec::new(alloc);
-    commands.push(load_one(alloc)?)?;
-    commands.push(Command::Build)?;
-    commands.push(Command::Search(256))?;
-    match states_of(alloc, &commands)?.pop() {
+    match states_of(alloc, Example::Old)?.pop() {
         Some(state) => Ok(state),
         None => Err(failed()),
     }
@@ -94,10 +97,8 @@ fn its_state(alloc: Global) -> io::Result<Vec<u8>> {
 
 // A device with another store of the version that is written: a snapshot of sequence 2 and a record.
 fn other_store(alloc: Global) -> io::Result<MemDevice> {
-    let mut session = open(alloc, fresh(alloc)?)?.session;
-    let _ = session.apply(alloc, load_three(alloc)?);
-    let _ = session.apply(alloc, Command::Build);
-    Ok(session.close())
+    let load = load_three(alloc)?;
+    built(alloc, fresh(alloc)?, load)
 }
 
 /// What opening a device gives.
@@ -123,16 +124,22 @@ impl Outcome {
 // What opening it gives, where this is the state.
 fn outcome_of(alloc: Global, device: MemDevice, state: &[u8]) -> io::Result<Outcome> {
     match Session::open(alloc, device) {
-        Ok(opened) => {
-            let bytes = encode_state(alloc, opened.session.state())?;
-            if opened.replayed == 0 && bytes.as_slice() == state {
-                Ok(Outcome::State)
-            } else {
-                Ok(Outcome::Other)
-            }
-        }
+        Ok(opened) => outcome_of_opened(alloc, &opened, state),
         Err((StoreFault::NotFormatted, _)) => Ok(Outcome::NotFormatted),
         Err(_) => Ok(Outcome::Other),
+    }
+}
+
+fn outcome_of_opened(
+    alloc: Global,
+    opened: &Opened<MemDevice>,
+    state: &[u8],
+) -> io::Result<Outcome> {
+    let bytes = bytes_of(alloc, opened.session.state())?;
+    if opened.replayed == 0 && bytes.as_slice() == state {
+        Ok(Outcome::State)
+    } else {
+        Ok(Outcome::Other)
     }
 }
 
@@ -159,24 +166,35 @@ fn tried(alloc: Global, old: &mut MemDevice, new: &mut MemDevice) -> Option<Upgr
 fn row_of_stops(alloc: Global, calls: u64, state: &[u8]) -> io::Result<[u64; 4]> {
     let mut row = [0; 4];
     for choice in 0..16 {
-        let choices = choices_of(alloc, &WRITTEN, choice)?;
-        let (old, new) = stopped(alloc, calls, &choices)?;
-        count(&mut row, outcome_of(alloc, new, state)?.place());
-        if stands_for(alloc, old, state)? {
-            count(&mut row, 3);
-        }
+        add_stop(alloc, calls, choice, state, &mut row)?;
     }
     Ok(row)
 }
 
-// Both devices behind an upgrade that stopped with these choices once so many calls of the new one had finished.
-fn stopped(alloc: Global, calls: u64, choices: &[u32]) -> io::Result<(MemDevice, MemDevice)> {
+fn add_stop(
+    alloc: Global,
+    calls: u64,
+    choice: u32,
+    state: &[u8],
+    row: &mut [u64],
+) -> io::Result<()> {
+    let (old, new) = stopped(alloc, calls, choice)?;
+    count(row, outcome_of(alloc, new, state)?.place());
+    if stands_for(alloc, old, state)? {
+        count(row, 3);
+    }
+    Ok(())
+}
+
+// Both devices behind an upgrade that stopped with this choice once so many calls of the new one had finished.
+fn stopped(alloc: Global, calls: u64, choice: u32) -> io::Result<(MemDevice, MemDevice)> {
+    let choices = choices_of(alloc, &WRITTEN, choice)?;
     let mut old = old_store(alloc)?;
     let mut new = other_store(alloc)?;
     new.fuse(calls);
     let _ = tried(alloc, &mut old, &mut new);
-    old.crash(choices);
-    new.crash(choices);
+    old.crash(&choices);
+    new.crash(&choices);
     Ok((old, new))
 }
 
@@ -187,24 +205,25 @@ type Tries = (&'static str, &'static str, bool);
 fn failed_call_of_old(alloc: Global, call: u64, state: &[u8]) -> io::Result<Tries> {
     let mut old = old_store(alloc)?;
     old.fail_once(call);
-    tried_twice(alloc, old, MemDevice::new(alloc, SECTORS)?, state)
+    tried_twice(alloc, &mut old, MemDevice::new(alloc, SECTORS)?, state)
 }
 
 // Six calls of the new device.
 fn failed_call_of_new(alloc: Global, call: u64, state: &[u8]) -> io::Result<Tries> {
+    let mut old = old_store(alloc)?;
     let mut new = other_store(alloc)?;
     new.fail_once(call);
-    tried_twice(alloc, old_store(alloc)?, new, state)
+    tried_twice(alloc, &mut old, new, state)
 }
 
 fn tried_twice(
     alloc: Global,
-    mut old: MemDevice,
+    old: &mut MemDevice,
     mut new: MemDevice,
     state: &[u8],
 ) -> io::Result<Tries> {
-    let first = answered(tried(alloc, &mut old, &mut new));
-    let second = answered(tried(alloc, &mut old, &mut new));
+    let first = answered(tried(alloc, old, &mut new));
+    let second = answered(tried(alloc, old, &mut new));
     Ok((first, second, has_state(alloc, new, state)?))
 }
 

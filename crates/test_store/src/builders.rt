@@ -77,8 +77,14 @@ pub fn empty_store(alloc: Global) -> Result<MemDevice, Fail> {
 /// A store of the loaded state.
 pub fn loaded_store(alloc: Global) -> Result<MemDevice, Fail> {
     let mut device = MemDevice::new(alloc, SECTORS)?;
-    format_with(alloc, &mut device, &decode_state(alloc, &LOADED)?)?;
+    format_loaded(alloc, &mut device)?;
     Ok(device)
+}
+
+fn format_loaded(alloc: Global, device: &mut MemDevice) -> Result<(), Fail> {
+    let state = decode_state(alloc, &LOADED)?;
+    format_with(alloc, device, &state)?;
+    Ok(())
 }
 
 pub fn open(alloc: Global, device: MemDevice) -> Result<Opened<MemDevice>, Fail> {

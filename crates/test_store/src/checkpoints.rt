@@ -4,11 +4,11 @@ use crate::builders::{
     LOADED_V1, SECTORS, empty_store, header, read_sector, sector_of, write_sector,
 };
 use checkpoint::{
-    FormatFault, Place, StoreFault, commit_record, commit_snapshot, format, format_with,
+    FormatFault, Loaded, Place, StoreFault, commit_record, commit_snapshot, format, format_with,
     load_latest, load_latest_v1,
 };
 use command_core::{Command, State};
-use sector_disk::{MemDevice, Sectors};
+use sector_disk::{DeviceFault, MemDevice, Sectors};
 use state_codec::CodecFault;
 use std::alloc::Global;
 use std::process::Abort;
@@ -23,12 +23,20 @@ fn fault(alloc: Global, device: &mut MemDevice) -> Option<StoreFault> {
     load_latest(alloc, device).err()
 }
 
+// The place that a format of a device gives which has a sector more than it needs, its calls, and why it holds no store then.
+fn formatted(alloc: Global) -> Result<(Place, u64, Option<StoreFault>), Fail> {
+    let mut device = MemDevice::new(alloc, SECTORS + 1)?;
+    let place = format(alloc, &mut device)?;
+    let calls = device.calls();
+    Ok((place, calls, fault(alloc, &mut device)))
+}
+
 #[test]
 fn a_format_takes_six_calls(rt: HostRuntime) -> Result<(), Fail> {
-    let mut device = MemDevice::new(rt.alloc(), SECTORS + 1)?;
-    let place = format(rt.alloc(), &mut device)?;
-    assert!(rt; (place.sequence, place.used, device.calls()) == (1, 0, 6));
-    assert!(rt; fault(rt.alloc(), &mut device).is_none());
+    let (place, calls, fault) = formatted(rt.alloc())?;
+    assert!(rt; place == FIRST);
+    assert!(rt; calls == 6);
+    assert!(rt; fault.is_none());
     Ok(())
 }
 
@@ -58,9 +66,12 @@ fn tried(
 
 #[test]
 fn a_small_device_is_not_called(rt: HostRuntime) -> Result<(), Fail> {
-    let too_small = [Some(FormatFault::TooSmall); 2];
-    assert!(rt; tried(rt.alloc(), 801)? == (too_small, NO_STORE, 0));
-    assert!(rt; tried(rt.alloc(), 8449)? == (too_small, NO_STORE, 0));
+    for sectors in [801, 8449] {
+        let (refused, fault, calls) = tried(rt.alloc(), sectors)?;
+        assert!(rt; refused == [Some(FormatFault::TooSmall); 2]);
+        assert!(rt; fault == NO_STORE);
+        assert!(rt; calls == 0);
+    }
     Ok(())
 }
 
@@ -78,12 +89,22 @@ fn stopped_format(
     Ok((stopped, fault(alloc, &mut device)))
 }
 
+/// After how many calls it is stopped, whether what was not synced is kept, and why there is no store then.
+const STOPPED: [(u64, u32, Option<StoreFault>); 6] = [
+    (3, 0, NO_STORE),
+    (3, 1, NO_STORE),
+    (4, 0, NO_STORE),
+    (4, 1, None),
+    (5, 0, NO_STORE),
+    (5, 1, None),
+];
+
 #[test]
-fn a_format_that_is_stopped_with_its_header(rt: HostRuntime) -> Result<(), Fail> {
-    let stopped = Some(FormatFault::DeviceFault);
-    for finished in 4..6 {
-        assert!(rt; stopped_format(rt.alloc(), finished, 0)? == (stopped, NO_STORE));
-        assert!(rt; stopped_format(rt.alloc(), finished, 1)? == (stopped, None));
+fn a_format_that_is_stopped_around_its_header(rt: HostRuntime) -> Result<(), Fail> {
+    for (finished, kept, wanted) in STOPPED {
+        let (stopped, fault) = stopped_format(rt.alloc(), finished, kept)?;
+        assert!(rt; stopped == Some(FormatFault::DeviceFault));
+        assert!(rt; fault == wanted);
     }
     Ok(())
 }
@@ -115,30 +136,35 @@ const FIRST: Place = Place {
 // A store with two records, and where its journal goes on.
 fn with_records(rt: &(impl Abort + AllocGlobal)) -> Result<(MemDevice, Place), Fail> {
     let mut device = empty_store(rt.alloc())?;
-    let place = commit_search(rt, &mut device, FIRST)?;
-    let place = commit_pin(rt, &mut device, place)?;
+    let place = commit_two(rt, &mut device)?;
     Ok((device, place))
+}
+
+fn commit_two(rt: &impl Abort, device: &mut MemDevice) -> Result<Place, StoreFault> {
+    let place = commit_search(rt, device, FIRST)?;
+    commit_pin(rt, device, place)
 }
 
 #[test]
 fn records_follow_one_another(rt: HostRuntime) -> Result<(), Fail> {
-    let (device, place) = with_records(&rt)?;
-    assert!(rt; (place.sequence, place.used, device.calls()) == (1, 2, 10));
-    Ok(())
-}
-
-#[test]
-fn a_record_is_written_to_its_sector(rt: HostRuntime) -> Result<(), Fail> {
-    let (mut device, _place) = with_records(&rt)?;
+    let (mut device, place) = with_records(&rt)?;
+    assert!(rt; place.sequence == 1);
+    assert!(rt; place.used == 2);
+    assert!(rt; device.calls() == 10);
     let wanted = sector_of(b"\x00\x00\x00\x00\x00\x00\x00\x01\x00\x00\x00\x00\x07\x01\x00");
     assert!(rt; read_sector(&rt, &mut device, 2) == Some(wanted));
     Ok(())
 }
 
+// What the device holds.
+fn held_by(alloc: Global, mut device: MemDevice) -> Result<Loaded, Fail> {
+    Ok(load_latest(alloc, &mut device)?)
+}
+
 #[test]
 fn records_are_loaded(rt: HostRuntime) -> Result<(), Fail> {
-    let (mut device, place) = with_records(&rt)?;
-    let loaded = load_latest(rt.alloc(), &mut device)?;
+    let (device, place) = with_records(&rt)?;
+    let loaded = held_by(rt.alloc(), device)?;
     assert!(rt; loaded.place == place);
     let commands = loaded.commands.as_slice();
     assert!(rt; matches!(commands, [Command::Search(256), Command::Pin(1, 2)]));
@@ -159,23 +185,27 @@ fn commit_empty(
 // A store with a record, then a snapshot, and where its journal goes on.
 fn with_snapshot(rt: &(impl Abort + AllocGlobal)) -> Result<(MemDevice, Place), Fail> {
     let mut device = empty_store(rt.alloc())?;
-    let place = commit_search(rt, &mut device, FIRST)?;
-    let place = commit_empty(rt, &mut device, place)?;
+    let place = commit_both(rt, &mut device)?;
     Ok((device, place))
 }
 
-#[test]
-fn a_snapshot_has_its_sequence(rt: HostRuntime) -> Result<(), Fail> {
-    let (device, place) = with_snapshot(&rt)?;
-    assert!(rt; (place.sequence, place.used, device.calls()) == (2, 0, 12));
-    Ok(())
+fn commit_both(
+    rt: &(impl Abort + AllocGlobal),
+    device: &mut MemDevice,
+) -> Result<Place, StoreFault> {
+    let place = commit_search(rt, device, FIRST)?;
+    commit_empty(rt, device, place)
 }
 
 #[test]
 fn a_record_of_the_old_sequence_is_left(rt: HostRuntime) -> Result<(), Fail> {
-    let (mut device, place) = with_snapshot(&rt)?;
-    let loaded = load_latest(rt.alloc(), &mut device)?;
-    assert!(rt; loaded.place == place && loaded.commands.is_empty());
+    let (device, place) = with_snapshot(&rt)?;
+    assert!(rt; place.sequence == 2);
+    assert!(rt; place.used == 0);
+    assert!(rt; device.calls() == 12);
+    let loaded = held_by(rt.alloc(), device)?;
+    assert!(rt; loaded.place == place);
+    assert!(rt; loaded.commands.is_empty());
     Ok(())
 }
 
@@ -196,26 +226,31 @@ fn a_sequence_above_the_last_one_is_not_valid(rt: HostRuntime) -> Result<(), Fai
     Ok(())
 }
 
-// A device with the loaded state, whose header has this version and whose next number is this one.
-fn device_v1(rt: &(impl Abort + AllocGlobal), version: u32, next: u16) -> Result<MemDevice, Fail> {
-    let mut device = MemDevice::new(rt.alloc(), 802)?;
-    write_sector(rt, &mut device, 0, &header(version, 2, 75))?;
+// Writes the loaded state, by a header of this version and with this next number, and a record of this kind, of zeros.
+fn write_v1(
+    rt: &impl Abort,
+    device: &mut MemDevice,
+    version: u32,
+    next: u16,
+    kind: u8,
+) -> Result<(), DeviceFault> {
+    write_sector(rt, device, 0, &header(version, 2, 75))?;
     let mut snapshot = sector_of(&LOADED_V1);
     snapshot[24..26].copy_from_slice(&next.to_be_bytes());
-    write_sector(rt, &mut device, 258, &snapshot)?;
-    Ok(device)
+    write_sector(rt, device, 258, &snapshot)?;
+    let record = sector_of(&[0, 0, 0, 0, 0, 0, 0, 2, 0, 0, 0, 0, kind]);
+    write_sector(rt, device, 2, &record)
 }
 
-// Why it is no store where its journal has a record of this kind, of zeros.
+// Why a device of that is no store.
 fn fault_v1(
     rt: &(impl Abort + AllocGlobal),
     version: u32,
     next: u16,
     kind: u8,
 ) -> Result<Option<StoreFault>, Fail> {
-    let mut device = device_v1(rt, version, next)?;
-    let record = sector_of(&[0, 0, 0, 0, 0, 0, 0, 2, 0, 0, 0, 0, kind]);
-    write_sector(rt, &mut device, 2, &record)?;
+    let mut device = MemDevice::new(rt.alloc(), 802)?;
+    write_v1(rt, &mut device, version, next, kind)?;
     Ok(load_latest_v1(rt.alloc(), &mut device).err())
 }
 

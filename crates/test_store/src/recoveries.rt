@@ -2,8 +2,8 @@
 
 use crate::builders::{LOADED, SECTORS, empty_store, loaded_store, open};
 use checkpoint::{Place, StoreFault, commit_record};
-use command_core::{Command, Refusal, State};
-use recover::{Denial, Session};
+use command_core::{Command, Job, Refusal, State};
+use recover::{Denial, Run, Session};
 use sector_disk::{MemDevice, Sectors};
 use state_codec::{CodecFault, decode_state};
 use std::alloc::Global;
@@ -12,9 +12,14 @@ use std::test::Fail;
 // The command that leads to the loaded state.
 fn load(alloc: Global) -> Result<Command, Fail> {
     match decode_state(alloc, &LOADED)? {
-        State::Loaded(job) => Ok(Command::Load(job.problem.copy()?, 0)),
+        State::Loaded(job) => Ok(load_of(job)),
         State::Empty => Err(StoreFault::NotFormatted.into()),
     }
+}
+
+fn load_of(job: Job) -> Command {
+    let Job { problem, .. } = job;
+    Command::Load(problem, 0)
 }
 
 // Why the device is not opened, and how many calls have finished.
@@ -52,16 +57,6 @@ fn opening_takes_one_call(rt: HostRuntime) -> Result<(), Fail> {
     Ok(())
 }
 
-#[test]
-fn calls_of_each_command(rt: HostRuntime) -> Result<(), Fail> {
-    let load = load(rt.alloc())?;
-    let mut session = open(rt.alloc(), empty_store(rt.alloc())?)?.session;
-    assert!(rt; answer(rt.alloc(), &mut session, load) == (Ok(()), 11));
-    assert!(rt; answer(rt.alloc(), &mut session, Command::Build) == (Ok(()), 13));
-    assert!(rt; answer(rt.alloc(), &mut session, Command::Search(256)) == (Ok(()), 15));
-    Ok(())
-}
-
 // The loaded state, a plan of it and 256 search steps, as commands.
 fn commands(alloc: Global) -> Result<Vec<Command>, Fail> {
     let mut commands = Vec::new(alloc);
@@ -71,13 +66,22 @@ fn commands(alloc: Global) -> Result<Vec<Command>, Fail> {
     Ok(commands)
 }
 
+// What a new store answers to them.
+fn run(alloc: Global) -> Result<Run, Fail> {
+    let commands = commands(alloc)?;
+    let mut session = open(alloc, empty_store(alloc)?)?.session;
+    let run = session.run(alloc, commands);
+    drop(session);
+    Ok(run?)
+}
+
 #[test]
 fn a_run_answers_each_command(rt: HostRuntime) -> Result<(), Fail> {
-    let mut session = open(rt.alloc(), empty_store(rt.alloc())?)?.session;
-    let run = session.run(rt.alloc(), commands(rt.alloc())?)?;
+    let run = run(rt.alloc())?;
     assert_eq!(rt; run.replies.len(), 3);
     for (reply, calls) in run.replies.iter().zip([11, 13, 15]) {
-        assert!(rt; (reply.answer, reply.calls) == (Ok(()), calls));
+        assert!(rt; reply.answer == Ok(()));
+        assert!(rt; reply.calls == calls);
     }
     Ok(())
 }
@@ -91,14 +95,21 @@ fn searched(alloc: Global, times: u32) -> Result<Session<MemDevice>, Fail> {
     Ok(session)
 }
 
+// How many steps opening repeats, and the steps and requests of the state.
+fn opened_counts(alloc: Global, device: MemDevice) -> Result<(u64, (u64, usize)), Fail> {
+    let opened = open(alloc, device)?;
+    Ok((opened.replayed, counts(opened.session.state())))
+}
+
 // What annealing makes of a store goes into it as a snapshot, with four calls, and is not made again.
 #[test]
 fn annealing_becomes_a_snapshot(rt: HostRuntime) -> Result<(), Fail> {
     let mut session = searched(rt.alloc(), 2)?;
     assert!(rt; answer(rt.alloc(), &mut session, Command::Anneal(3)) == (Ok(()), 15));
     assert!(rt; answer(rt.alloc(), &mut session, Command::Search(4)) == (Ok(()), 17));
-    let opened = open(rt.alloc(), session.close())?;
-    assert!(rt; opened.replayed == 4 && counts(opened.session.state()) == (9, 1));
+    let (replayed, counts) = opened_counts(rt.alloc(), session.close())?;
+    assert!(rt; replayed == 4);
+    assert!(rt; counts == (9, 1));
     Ok(())
 }
 
@@ -115,7 +126,8 @@ fn broken(alloc: Global) -> Result<(Session<MemDevice>, (Result<(), Denial>, u64
 #[test]
 fn a_session_breaks_with_its_device(rt: HostRuntime) -> Result<(), Fail> {
     let (mut session, failed) = broken(rt.alloc())?;
-    assert!(rt; failed == (Err(Denial::DeviceFault), 8) && session.is_broken());
+    assert!(rt; failed == (Err(Denial::DeviceFault), 8));
+    assert!(rt; session.is_broken());
     let next = answer(rt.alloc(), &mut session, Command::Search(1));
     assert!(rt; next == (Err(Denial::Broken), 8));
     Ok(())
@@ -128,10 +140,10 @@ fn refused_of(alloc: Global, sectors: u64) -> Result<Option<(StoreFault, u64)>, 
 
 #[test]
 fn what_is_no_store_is_refused(rt: HostRuntime) -> Result<(), Fail> {
-    assert!(rt; refused_of(rt.alloc(), 801)? == Some((StoreFault::NotFormatted, 0)));
-    assert!(rt; refused_of(rt.alloc(), 802)? == Some((StoreFault::NotFormatted, 1)));
-    assert!(rt; refused_of(rt.alloc(), 8449)? == Some((StoreFault::NotFormatted, 1)));
-    assert!(rt; refused_of(rt.alloc(), 8450)? == Some((StoreFault::NotFormatted, 1)));
+    for (sectors, calls) in [(801, 0), (802, 1), (8449, 1), (8450, 1)] {
+        let refused = refused_of(rt.alloc(), sectors)?;
+        assert!(rt; refused == Some((StoreFault::NotFormatted, calls)));
+    }
     Ok(())
 }
 

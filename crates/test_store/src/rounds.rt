@@ -32,43 +32,64 @@ DEPOT_SECTION
 EOF
 ";
 
-fn load(alloc: Global) -> Result<Command, Fail> {
-    Ok(Command::Load(read_vrp(alloc, THREE)?, 0))
+/// What a round does.
+#[derive(Clone, Copy)]
+enum Step {
+    Load,
+    Build,
+    Search(u16),
 }
 
-fn round(commands: Vec<Command>, stop: Option<Halt>) -> Round {
-    Round { commands, stop }
+fn command_of(alloc: Global, step: Step) -> Result<Command, Fail> {
+    match step {
+        Step::Load => Ok(Command::Load(read_vrp(alloc, THREE)?, 0)),
+        Step::Build => Ok(Command::Build),
+        Step::Search(count) => Ok(Command::Search(count)),
+    }
 }
 
-// A load, and the plan that is built.
-fn load_and_build(alloc: Global) -> Result<Vec<Command>, Fail> {
+fn commands_of(alloc: Global, steps: &[Step]) -> Result<Vec<Command>, Fail> {
     let mut commands = Vec::new(alloc);
-    commands.push(load(alloc)?)?;
-    commands.push(Command::Build)?;
-    Ok(commands)
-}
-
-fn searches(alloc: Global, counts: [u16; 2]) -> Result<Vec<Command>, Fail> {
-    let mut commands = Vec::new(alloc);
-    for count in counts {
-        commands.push(Command::Search(count))?;
+    for step in steps {
+        commands.push(command_of(alloc, *step)?)?;
     }
     Ok(commands)
 }
 
-// After so many more finished calls every call fails, and each sector takes what is synced.
-fn halt_after(alloc: Global, calls: u64) -> Option<Halt> {
-    Some(Halt {
-        calls,
-        choices: Vec::new(alloc),
-    })
+/// What a round does, and after how many more finished calls every call fails. Each sector takes what is synced then.
+type Given = (&'static [Step], Option<u64>);
+
+const BEGIN: Given = (&[Step::Load, Step::Build], None);
+
+const IN_ROUNDS: [Given; 3] = [
+    BEGIN,
+    (&[Step::Search(256), Step::Search(44)], Some(2)),
+    (&[Step::Search(256), Step::Search(88)], None),
+];
+
+const AT_ONCE: [Step; 5] = [
+    Step::Load,
+    Step::Build,
+    Step::Search(256),
+    Step::Search(256),
+    Step::Search(88),
+];
+
+fn round_of(alloc: Global, given: Given) -> Result<Round, Fail> {
+    let commands = commands_of(alloc, given.0)?;
+    let choices = Vec::new(alloc);
+    let stop = match given.1 {
+        Some(calls) => Some(Halt { calls, choices }),
+        None => None,
+    };
+    Ok(Round { commands, stop })
 }
 
-fn three_rounds(alloc: Global) -> Result<Vec<Round>, Fail> {
+fn rounds_of(alloc: Global, all: &[Given]) -> Result<Vec<Round>, Fail> {
     let mut rounds = Vec::new(alloc);
-    rounds.push(round(load_and_build(alloc)?, None))?;
-    rounds.push(round(searches(alloc, [256, 44])?, halt_after(alloc, 2)))?;
-    rounds.push(round(searches(alloc, [256, 88])?, None))?;
+    for given in all {
+        rounds.push(round_of(alloc, *given)?)?;
+    }
     Ok(rounds)
 }
 
@@ -79,40 +100,46 @@ fn run_all(alloc: Global, device: MemDevice, rounds: Vec<Round>) -> Result<Round
     }
 }
 
+// Rounds over an empty store.
+fn run_over_none(alloc: Global, all: &[Given]) -> Result<Rounds, Fail> {
+    let rounds = rounds_of(alloc, all)?;
+    run_all(alloc, empty_store(alloc)?, rounds)
+}
+
+fn bytes_of(alloc: Global, state: &State) -> Result<Vec<u8>, Fail> {
+    Ok(encode_state(alloc, state)?)
+}
+
+// The state that the three rounds leave.
+fn cut(alloc: Global) -> Result<Vec<u8>, Fail> {
+    let rounds = run_over_none(alloc, &IN_ROUNDS)?;
+    bytes_of(alloc, rounds.session.state())
+}
+
 // The state after commands, without a store.
-fn state_after(alloc: Global, begun: State, commands: &[Command]) -> Result<State, Fail> {
-    let mut state = begun;
+fn state_after(alloc: Global, commands: &[Command]) -> Result<State, Fail> {
+    let mut state = State::Empty;
     for command in commands {
         state = apply(alloc, &state, command)?;
     }
     Ok(state)
 }
 
-// 600 steps from the plan that is built, without a store.
-fn searched(alloc: Global) -> Result<State, Fail> {
-    let built = state_after(alloc, State::Empty, &load_and_build(alloc)?)?;
-    let most = state_after(alloc, built, &searches(alloc, [256, 256])?)?;
-    state_after(alloc, most, &[Command::Search(88)])
-}
-
-fn run_three(alloc: Global) -> Result<Rounds, Fail> {
-    run_all(alloc, empty_store(alloc)?, three_rounds(alloc)?)
-}
-
-// The state that the three rounds leave.
-fn cut(alloc: Global) -> Result<Vec<u8>, Fail> {
-    let rounds = run_three(alloc)?;
-    Ok(encode_state(alloc, rounds.session.state())?)
-}
-
 // The state after as many steps at once.
 fn uncut(alloc: Global) -> Result<Vec<u8>, Fail> {
-    Ok(encode_state(alloc, &searched(alloc)?)?)
+    let commands = commands_of(alloc, &AT_ONCE)?;
+    bytes_of(alloc, &state_after(alloc, &commands)?)
+}
+
+// Whether both are the same.
+fn is_cut_alike(alloc: Global) -> Result<bool, Fail> {
+    let cut = cut(alloc)?;
+    Ok(cut == uncut(alloc)?)
 }
 
 #[test]
 fn rounds_cut_a_search(rt: HostRuntime) -> Result<(), Fail> {
-    assert!(rt; cut(rt.alloc())? == uncut(rt.alloc())?);
+    assert!(rt; is_cut_alike(rt.alloc())?);
     Ok(())
 }
 
@@ -126,7 +153,7 @@ fn are_answered(run: &Run, answers: [Result<(), Denial>; 2]) -> bool {
 
 #[test]
 fn a_stop_breaks_a_round_off(rt: HostRuntime) -> Result<(), Fail> {
-    let rounds = run_three(rt.alloc())?;
+    let rounds = run_over_none(rt.alloc(), &IN_ROUNDS)?;
     assert_eq!(rt; rounds.runs.len(), 3);
     let broken_off = Err(Denial::DeviceFault);
     for (run, last) in rounds.runs.iter().zip([Ok(()), broken_off, Ok(())]) {
@@ -138,7 +165,7 @@ fn a_stop_breaks_a_round_off(rt: HostRuntime) -> Result<(), Fail> {
 #[test]
 fn a_round_alone(rt: HostRuntime) -> Result<(), Fail> {
     let alloc = rt.alloc();
-    let only = round(load_and_build(alloc)?, None);
+    let only = round_of(alloc, BEGIN)?;
     let (run, device) = run_one(alloc, empty_store(alloc)?, only)?;
     assert_eq!(rt; run.replies.len(), 2);
     // Six calls of the format, one of the opening, four of the load and two of the build.
@@ -149,7 +176,7 @@ fn a_round_alone(rt: HostRuntime) -> Result<(), Fail> {
 #[test]
 fn no_rounds_leave_the_state(rt: HostRuntime) -> Result<(), Fail> {
     let alloc = rt.alloc();
-    let rounds = run_all(alloc, empty_store(alloc)?, Vec::new(alloc))?;
+    let rounds = run_over_none(alloc, &[])?;
     assert!(rt; rounds.runs.is_empty());
     assert!(rt; matches!(rounds.session.state(), State::Empty));
     Ok(())
@@ -166,8 +193,7 @@ fn refused(alloc: Global, device: MemDevice, rounds: Vec<Round>) -> Option<(Roun
 #[test]
 fn rounds_over_no_store(rt: HostRuntime) -> Result<(), Fail> {
     let alloc = rt.alloc();
-    let mut rounds = Vec::new(alloc);
-    rounds.push(round(Vec::new(alloc), halt_after(alloc, 2)))?;
+    let rounds = rounds_of(alloc, &[(&[], Some(2))])?;
     let not_formatted = RoundsFault::Open(StoreFault::NotFormatted);
     let device = MemDevice::new(alloc, SECTORS)?;
     assert!(rt; refused(alloc, device, rounds) == Some((not_formatted, 1)));
