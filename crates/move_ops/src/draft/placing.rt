@@ -15,6 +15,7 @@ ghost use Rattle.move_ops.specs.Insertion.{best_insertion, is_place_of, put_in, 
 ghost use Rattle.route_sched.specs.Route.{AreLiveOnce};
 ghost use Rattle.slack_tables.specs.Insertion.{KeepsLimits};
 ghost use Rattle.move_ops.specs.Logged.{HasRoute};
+ghost use Rattle.move_ops.specs.Refreshing.{AreWithin};
 ghost use Rattle.move_ops.specs.Drafts.{undone, draft_of, base_of, IsDraftOf, IsMade, placed};
 
 use super::Draft;
@@ -30,6 +31,9 @@ use plan_types::{
     requests_are_found_by_stop, requests_stand_by_name,
 };
 use std::mem;
+
+// A plan that is built changes every vehicle: then none goes before the others.
+const MOST_FIRST: usize = 16;
 
 impl Draft {
     /// Puts a request into the draft where it is best. Without such a place, or where the name is of no live and unplanned request, the
@@ -98,10 +102,27 @@ impl Draft {
             return None;
         }
         let kept = pins.routes.as_slice();
-        match best_of(problem, kept, &self.tours, self.reach(), &self.log, request) {
+        match best_of(
+            problem,
+            kept,
+            &self.tours,
+            self.reach(),
+            self.first_asked(),
+            request,
+        ) {
             Some(found) => Some(found.place()),
             None => None,
         }
+    }
+
+    // The vehicles that a best insertion asks first: those that were changed, as long as they are few.
+    fn first_asked(&self) -> &[(u32, Tour)]
+        ensures { AreWithin (length self.now.tours) result.now }
+    {
+        if self.log.len() > MOST_FIRST {
+            return &[];
+        }
+        self.log.as_slice()
     }
 
     // Whether a live request can be put in there: it is unplanned, the place is one behind the pin, and the result passes.
