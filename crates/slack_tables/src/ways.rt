@@ -58,9 +58,13 @@ fn stands_at(stop: &Stop, other: &Stop) -> bool
 // How far a stop is looked for. A route that a move changed has most stops where they were or a few places on.
 const AHEAD: usize = 8;
 
-/// The first place from `seen` on where the table has the stop, or `seen` itself where it is not among the next few.
+/// The place from `seen` on where the table has the stop, mostly the next one, or `seen` itself where it is not among the next few.
 #[inline(always)]
 pub(crate) fn place_seen(places: &[Row], seen: usize, stop: &Stop) -> usize {
+    let next = seen.saturating_add(1);
+    if next < places.len() && places[next].at.stop.number == stop.number {
+        return next;
+    }
     let end = places.len().min(seen.saturating_add(AHEAD));
     for k in seen..end {
         if places[k].at.stop.number == stop.number {
