@@ -137,7 +137,8 @@ IsEnded line = (piece : List ℕ) × HasNoFeed piece × (line ≡ ended piece)
 abbrev pub ends_at_feed : List ℕ → Bool
 ends_at_feed text = slice_index_or text (length text - 1) 0 == 10
 
--- A line was read, with its line feed if it has one, and told before anything else was read of the list. There may be none.
+-- A line was read, with its line feed if it has one, and then the files that it names, before anything else was read of the list. Nothing is
+-- said of when its answer was written. There may be no line.
 abbrev pub IsTakenLine : Kind → List ℕ → List ℕ → List FileRead → List FileRead → List ℕ → ℕ → Type 0
 IsTakenLine k path line was now text status = AreTold (IsAudited k) (lines_of line) ((path, Ok line) ∷ was) now text status
 

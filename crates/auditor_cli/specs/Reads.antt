@@ -2,11 +2,11 @@
 use Rattle.std.specs.Prelude.{◌≡◌, ℕ, List, ◌∷◌, ◌++◌, Result}
 use Rattle.std.specs.declared.io.ErrorKind.{ErrorKind}
 
--- a file by its path, and its bytes or what kind of error it was
+-- a file by its path, and the bytes that were moved, all of its bytes or one line, or what kind of error it was
 abbrev pub FileEntry : Type 0
 FileEntry = List ℕ × Result (List ℕ) ErrorKind
 
--- what reading a file gave
+-- what a read gave: the whole of a file, or a line of one that is read by lines
 abbrev pub FileRead : Type 0
 FileRead = FileEntry
 
@@ -14,7 +14,7 @@ FileRead = FileEntry
 abbrev pub FileWrite : Type 0
 FileWrite = FileEntry
 
--- the file of this path was read, once, and no other
+-- one read was made, of the file of this path
 abbrev pub IsRead : List ℕ → List FileRead → List FileRead → Type 0
 IsRead path was now = (given : Result (List ℕ) ErrorKind) × (now ≡ (path, given) ∷ was)
 
@@ -22,6 +22,6 @@ IsRead path was now = (given : Result (List ℕ) ErrorKind) × (now ≡ (path, g
 abbrev pub IsGrown : List FileEntry → List FileEntry → Type 0
 IsGrown was now = (later : List FileEntry) × (now ≡ later ++ was)
 
--- this file was read first, and others behind it
+-- the first read was one of this file, whatever was read behind it
 abbrev pub IsReadFirst : List ℕ → List FileRead → List FileRead → Type 0
 IsReadFirst path was now = (given : Result (List ℕ) ErrorKind) × IsGrown ((path, given) ∷ was) now

@@ -26,9 +26,9 @@
 //! - `audit_text`: line and status are those of the first fault or of the verdict on what the texts spell; the
 //!   status is 0 exactly where both spell a value and the solution keeps the rules, serves every request, keeps the
 //!   fleet and prints the distance that it drives (`SaysSound`)
-//! - `audit_words`, of words without hyphen that ask for something (`EndsWith`): which files were read, each once and in which order;
-//!   what was written to the output and to the errors, and the status that goes with it, but for an answer that could not be
-//!   printed; of words that ask for more than an audit one line on the errors and status 64
+//! - `audit_words`, of words without hyphen that ask for something (`EndsWith`): which files were read, and in which order, of a
+//!   list the list first; what was written to the output and to the errors, and the status that goes with it, but for an answer
+//!   that could not be printed; of words that ask for more than an audit one line on the errors and status 64
 //! - `audits_read` (`TellsList`): of each line what `audit` tells of that pair alone, behind a pass also how its cost compares with
 //!   the best-known one that the line names; or `bad line`; the greatest status. The lines are those of all bytes that were read, and
 //!   the files of a line were read before the next line was. Behind them a list that can't be read on is told

@@ -10,7 +10,8 @@ use Rattle.checkpoint.specs.Refused.{OnCalls}
 use Rattle.checkpoint.specs.Stores.{IsUnformatted}
 
 module _ {D : Type 0} (on : sectors.Ghosts D) where
-  -- Where the device was called, it has at each moment no store or one with Y, as IsInFormat tells; after Ok each image has Y, and is `written`.
+  -- Where the device was called: at each moment from the second finished call on it has no store or one with Y, as IsInFormat tells; of the
+  -- moments before nothing is said. After Ok each image has Y, and is `written`.
   pub record Formats {T : Type 0} (result : Result T FormatFault) (Y : List ℕ → Type 0) (written : List ℕ) (old new : D) : Type 0 where
     pub moments : OnCalls result (During on old new (IsInFormat (IsUnformatted version_2) Y))
     pub after : OnOk result (Each on new Y)

@@ -19,8 +19,9 @@
 //!
 //! The format is this project's own. `specs/Layouts.antt` and `specs/Headers.antt` have the sectors and the header's bytes,
 //! `specs/Stores.antt` what an image stores as bytes, `specs/Holds.antt` the state, commands and place that it holds,
-//! `specs/Holdless.antt` why it holds nothing, `specs/Moments.antt` what a stop leaves within a call, `specs/Written.antt` which
-//! sectors a change writes, with which bytes.
+//! `specs/Holdless.antt` why it holds nothing, `specs/Moments.antt` what a stop leaves within a call, `specs/Making.antt` what a
+//! format makes, `specs/Written.antt` which sectors a change writes, with which bytes, `specs/Places.antt` the places that
+//! changes lead to.
 //!
 //! Proved:
 //! - An image holds at most one state, list of commands and place, never beside a cause to hold nothing, and of these

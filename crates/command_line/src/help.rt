@@ -12,9 +12,9 @@ pub(crate) const STATUSES: &str =
     0   done; of an audit: the solution keeps all rules\n  \
     1   the solution breaks a rule, requests stay unplanned, or `run strict` ended at a refusal\n  \
     2   a text or a store is refused\n  \
-    3   a file or a device failed, or an answer could not be written\n  \
+    3   a file or a device failed, is in use or stands there already, or an answer could not be written\n  \
     4   there was no memory\n  \
-    64  the words ask for nothing that planner does";
+    64  the words ask for nothing that planner does, or `upgrade` names one file twice";
 
 pub(crate) const AUDIT_ABOUT: &str =
     "Says whether a solution keeps the rules, and the first rule that it breaks";

@@ -164,7 +164,7 @@ impl Draft {
         self.tours[index].stops()
     }
 
-    /// The table of a vehicle's route in the draft. Vehicles count from 1.
+    /// The table of a vehicle's route in the draft. There has to be such a vehicle: they count from 1 to as many as the draft has.
     #[inline(always)]
     pub fn table(&self, vehicle: u64) -> &RouteTable
         requires from_one { 1 ≤ vehicle }

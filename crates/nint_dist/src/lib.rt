@@ -13,8 +13,9 @@
 //! `(d + 1/2)^2 = d*d + d + 1/4`, the nearest whole number is the least `d` with `s <= d * (d + 1)`; an exact
 //! half never occurs.
 //!
-//! How the root is taken: a table and two steps of Newton's method guess it, and two short loops mend the
-//! guess upward and downward. Proofs rest on the loops alone, so the guess may be wrong and costs time only.
+//! How the root is taken: of a number below 2^22 a table guesses it, of a greater one a table and two steps of
+//! Newton's method, and two short loops mend the guess upward and downward. Proofs rest on the loops alone, so
+//! the guess may be wrong and costs time only.
 //!
 //! Proved:
 //! - `nint_root` is that least `d`, for each `u64`, and so is `dist` for the squared distance: both say it as

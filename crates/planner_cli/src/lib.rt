@@ -23,11 +23,11 @@
 //! Said by `specs/Program.antt`, and word by word by `Drawn.antt`, `Solving.antt`, `SolvedList.antt`, `Formatting.antt`, `Foretold.antt`,
 //! `Loading.antt`, `Running.antt`, `Timetabled.antt` and `Upgrading.antt`, which statuses by `Statuses.antt`; of the words of an audit
 //! by the files of `auditor_cli`. Proved:
-//! - `run_words`, of words without hyphen that ask for something (`EndsWith`): which files were read, each once and in which
-//!   order (`AreReadFor`); that none but `solves` makes a file beside a store (`AreMadeFor`); what was written to the output and
-//!   to the errors, and the status that goes with it, from what these files gave (`Does`), but for an answer that could not be
-//!   printed; that the input is read by `run` alone. Of words that ask for nothing (`TellsUsage`): no file is read or made, help
-//!   goes to the output alone, a mistake to the errors alone
+//! - `run_words`, of words without hyphen that ask for something (`EndsWith`): which files were read, and in which order, of a
+//!   list the list first (`AreReadFor`); that none but `solves` makes a file beside a store (`AreMadeFor`); what was written to
+//!   the output and to the errors, and the status that goes with it, from what these files gave (`Does`), but for an answer that
+//!   could not be printed; that the input is read by `run` alone. Of words that ask for nothing (`TellsUsage`): no file is read
+//!   or made, help goes to the output alone, a mistake to the errors alone
 //! - `draw_read` (`TellsDrawn`), `solve_read` (`TellsTask`): the picture; the text of a solution, or why there is none
 //! - `solves_read` (`SolvesList`): of each line what was written where, which is what `solve` prints, or why nothing was; the
 //!   audit of what was written, or what it leaves out; the greatest status

@@ -52,10 +52,10 @@ faults_after_commit (Err fault) faults = faults_of_commit fault faults
 
 module _ {D : Type 0} (on : sectors.Ghosts D) where
   -- A commit of so many calls from one state to another: what a stop leaves within it, and what each image holds after Ok.
-  pub record Leads {T E : Type 0} (result : Result T E) (steps : ℕ) (state next : State) (behind : Place) (old new : D) : Type 0 where
+  pub record CommitsState {T E : Type 0} (result : Result T E) (steps : ℕ) (state next : State) (behind : Place) (old new : D) : Type 0 where
     pub moments : Throughout on.clock on.possible_since old new (IsInStep state next (on.calls old) steps)
     pub after : OnOk result (AllHold (on.possible new) next behind)
 
   -- and that it is one, where the device is honest and all its images held the state at this place
-  abbrev pub LeadsFrom : {T E : Type 0} → Result T E → ℕ → State → State → Place → Place → D → D → Type 0
-  LeadsFrom result steps state next place behind old new = on.honest new → AllHold (on.possible old) state place → Leads result steps state next behind old new
+  abbrev pub CommitsStateFrom : {T E : Type 0} → Result T E → ℕ → State → State → Place → Place → D → D → Type 0
+  CommitsStateFrom result steps state next place behind old new = on.honest new → AllHold (on.possible old) state place → CommitsState result steps state next behind old new

@@ -10,7 +10,7 @@ ghost use Rattle.checkpoint.specs.Places.{behind_record, behind_snapshot};
 ghost use Rattle.state_codec.specs.Limits.{IsRecorded};
 ghost use Rattle.state_codec.specs.declared.version.Version.TheVariants.{Two};
 ghost use Rattle.recover.specs.Applying.{is_snapshot_due, calls_of, place_after, spent};
-ghost use Rattle.recover.specs.Committing.{IsOfChange, LeadsFrom, LeavesDevice, cause, faults_after_commit};
+ghost use Rattle.recover.specs.Committing.{IsOfChange, CommitsStateFrom, LeavesDevice, cause, faults_after_commit};
 
 use checkpoint::{Place, RECORDS, StoreFault, commit_record, commit_snapshot};
 use command_core::{Command, State};
@@ -86,7 +86,7 @@ fn as_record<D: Sectors>(
     ensures called { Calls D.Sectors (more result 2) (faults_after_commit result)
         device.old device.new }
     ensures leads { (state : State) → AreAccepted state (command.now ∷ [])
-        → LeadsFrom D.Sectors result 2 state (effect state command.now)
+        → CommitsStateFrom D.Sectors result 2 state (effect state command.now)
         place (behind_record place) device.old device.new }
 {
     match commit_record(device, place, command) {
@@ -110,7 +110,7 @@ fn as_snapshot<D: Sectors>(
     ensures place { IfOk result (λ next. next ≡ behind_snapshot place) }
     ensures called { Calls D.Sectors (more result 4) (faults_after_commit result)
         device.old device.new }
-    ensures leads { (state : State) → LeadsFrom D.Sectors result 4 state next.now
+    ensures leads { (state : State) → CommitsStateFrom D.Sectors result 4 state next.now
         place (behind_snapshot place) device.old device.new }
 {
     match commit_snapshot(alloc, device, place, next) {
@@ -140,7 +140,7 @@ pub(crate) fn commit<D: Sectors>(
         (faults_after_commit result) device.old device.new }
     ensures leads { (state : State) → AreAccepted state (command.now ∷ [])
         → next.now ≡ effect state command.now
-        → LeadsFrom D.Sectors result (calls_of place command.now) state next.now
+        → CommitsStateFrom D.Sectors result (calls_of place command.now) state next.now
         place (place_after place command.now) device.old device.new }
 {
     if has_record(command) && place.used < RECORDS {

@@ -23,7 +23,8 @@ pub record OneMore {T E : Type 0} (result : Result T E) (before after : ℕ) : T
 abbrev pub more : {T E : Type 0} → Result T E → ℕ → ℕ → ℕ → Type 0
 more result n before after = OnOk result (after ≡ before + n)
 
--- What calls keep of a device, whatever they answer: its length, the counts of finished and of failed calls, and that it is honest only where it was.
+-- What calls keep of a device, whatever they answer: its length, and that it is honest only where it was. The counts of finished and of
+-- failed calls go on.
 pub record IsCalled {D : Type 0} (len calls faults : D → ℕ) (honest : D → Type 0) (finish : ℕ → ℕ → Type 0) (faults_then : ℕ → ℕ) (old new : D) : Type 0 where
   pub same_len : len new ≡ len old
   pub finished : finish (calls old) (calls new)

@@ -16,9 +16,10 @@
 //!
 //! The model is this project's own, and the usual one of a disk with a write cache: a sector is old or new after a stop,
 //! never a mixture within it, and a successful sync makes all earlier writes durable. `specs/Model.antt` and
-//! `specs/History.antt` say it, `specs/Sectors.antt` what a call's clauses name, `specs/Memory.antt` and
-//! `specs/FileRecord.antt` the two devices, `specs/Laws.antt` the laws. `specs/Told.antt` says what calls of the system come to
-//! as reads, writes and syncs, `specs/Opening.antt` what they come to as a file is opened.
+//! `specs/History.antt` say it, `specs/Sectors.antt` what a call's clauses name, `specs/Calls.antt` what calls do one after
+//! another and what a commit is, `specs/Memory.antt` and `specs/FileRecord.antt` the two devices, `specs/Laws.antt` the laws.
+//! `specs/Told.antt` says what calls of the system come to as reads, writes and syncs, `specs/Opening.antt` what they come to
+//! as a file is opened.
 //!
 //! Proved:
 //! - A `MemDevice` is always honest. What a stop may leave of it is exactly what the model allows: `crash` leaves such an

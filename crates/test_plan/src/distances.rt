@@ -20,10 +20,29 @@ fn stop_at(x: i32, y: i32) -> Stop
     }
 }
 
+/// The nearest roots of numbers: of the least ones, and where roots pass 2,048, up to which short numbers go.
+const ROOTS: [(u64, u64); 15] = [
+    (0, 0),
+    (1, 1),
+    (2, 1),
+    (3, 2),
+    (6, 2),
+    (7, 3),
+    (12, 3),
+    (13, 4),
+    (4_190_209, 2_047),
+    (4_192_256, 2_047),
+    (4_192_257, 2_048),
+    (4_194_303, 2_048),
+    (4_194_304, 2_048),
+    (4_196_352, 2_048),
+    (4_196_353, 2_049),
+];
+
 #[test]
 fn rounds_to_the_nearest(rt: HostRuntime) {
-    for (s, root) in [(0, 0), (2, 1), (6, 2), (7, 3), (12, 3), (13, 4)] {
-        assert_eq!(rt; nint_root(s), root, "the root of {s}");
+    for (s, root) in &ROOTS {
+        assert_eq!(rt; nint_root(*s), *root, "the root of {s}");
     }
     assert_eq!(rt; nint_root(u64::MAX), 1 << 32);
 }

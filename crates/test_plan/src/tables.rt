@@ -432,3 +432,45 @@ fn tells_what_is_known_of_a_place(rt: HostRuntime) -> Result<(), Fail> {
     }
     Ok(())
 }
+
+// The number of the stop at a place.
+fn number_at(table: &RouteTable, place: usize) -> Option<u32> {
+    if place > table.stop_count() + 1 {
+        return None;
+    }
+    Some(table.stop(place).number)
+}
+
+/// The depot, the stops on the line, and the depot again.
+const NUMBERS: [u32; 5] = [0, 1, 2, 3, 0];
+
+#[test]
+fn tells_the_stops(rt: HostRuntime) -> Result<(), Fail> {
+    let problem = long_line(rt.alloc())?;
+    let table = table_of(rt.alloc(), &problem, &[1, 2, 3])?;
+    for (place, number) in NUMBERS.iter().enumerate() {
+        let told = number_at(&table, place);
+        assert!(rt; told == Some(*number), "at {place}");
+    }
+    Ok(())
+}
+
+/// A place, a reach, and whether the route over the line is seen to be beyond it: its stops lie from (10, 0) to (30, 0).
+const BEYOND: [((i32, i32), u32, bool); 4] = [
+    ((100, 0), 69, true),
+    ((100, 0), 70, false),
+    ((20, 55), 54, true),
+    ((20, 55), 55, false),
+];
+
+#[test]
+fn sees_routes_beyond_a_reach(rt: HostRuntime) -> Result<(), Fail> {
+    let problem = long_line(rt.alloc())?;
+    let table = table_of(rt.alloc(), &problem, &[1, 2, 3])?;
+    for (place, reach, want) in &BEYOND {
+        let center = stop_at(12, *place, 0, 100, 0);
+        let beyond = table.is_beyond(&center, *reach);
+        assert!(rt; beyond == *want, "{reach}");
+    }
+    Ok(())
+}

@@ -2,7 +2,7 @@ use Rattle.std.proofs.Common.{rules, ◌≡◌, ℕ, sym, subst}
 use Rattle.checkpoint.specs.declared.places.Place.{Place}
 use Rattle.checkpoint.specs.Places.{behind_snapshot}
 use Rattle.recover.specs.Applying.{calls_of, place_after}
-use Rattle.recover.specs.Committing.{Leads}
+use Rattle.recover.specs.Committing.{CommitsState}
 use Rattle.recover.proofs.commits.commit.Goals as goal
 
 pub returns-clause-leads : goal.returns-clause-leads
@@ -15,5 +15,5 @@ returns-clause-leads g c state accepted same honest all =
     let next = c.args.next.now in
     let four : calls_of place command ≡ 4 = search rules in
     let behind : place_after place command ≡ behind_snapshot place = search rules in
-    subst (λ (n : ℕ). Leads d c.as_snapshot.result n state next (place_after place command) start end) (sym four)
-    (subst (λ (p : Place). Leads d c.as_snapshot.result 4 state next p start end) (sym behind) (c.as_snapshot.ensures.leads state honest all))
+    subst (λ (n : ℕ). CommitsState d c.as_snapshot.result n state next (place_after place command) start end) (sym four)
+    (subst (λ (p : Place). CommitsState d c.as_snapshot.result 4 state next p start end) (sym behind) (c.as_snapshot.ensures.leads state honest all))
