@@ -9,7 +9,7 @@ use Rattle.std.specs.Option.{option_map, option_map_or, option_or}
 use Rattle.std.proofs.lemmas.Bool.{cases_lt, and_from, and_parts, eq-eqb, eqb-true, ltb-true, lt-ltb, leb-true, le-leb}
 use Rattle.std.proofs.lemmas.Bool.Decides.{eqb_tells, leb_tells}
 use Rattle.std.proofs.lemmas.Int.{ints, by_lt_z}
-use Rattle.std.proofs.lemmas.List.{take-append-drop}
+use Rattle.std.proofs.lemmas.List.{length-map, take-append-drop}
 use Rattle.std.proofs.lemmas.Option.{slice_get-get_or}
 use Rattle.plan_types.specs.Cost.{BelowTells, AtMostTells, CostsAreTotal, CostsAreTransitive, BelowThenAtMost, AtMostThenBelow, BelowIsAtMost}
 use Rattle.plan_types.specs.Instance.{Instance, IsInstance}
@@ -24,7 +24,9 @@ use Rattle.plan_audit.specs.Locality.{PassesAreLocal, TestsSayFeasible}
 use Rattle.plan_audit.specs.Passes.{feasible_alone, passes}
 use Rattle.plan_audit.specs.Rules.{item_at}
 use Rattle.slack_tables.specs.Best.{Adds, ComesFirst, IsBestAddition}
-use Rattle.slack_tables.specs.Insertion.{KeepsLimits, ArePlaces, inserted}
+use Rattle.slack_tables.specs.Course.{Course, route_of, IsCourseIn}
+use Rattle.slack_tables.specs.FitsNowhere.{FitsNowhere}
+use Rattle.slack_tables.specs.Insertion.{request_named, KeepsLimits, ArePlaces, inserted}
 use Rattle.slack_tables.specs.declared.scan.Addition.{Addition}
 use Rattle.move_ops.specs.Insertion.{Insertion, is_no_later, of_vehicle, are_places, is_place_of, insertions_of, insertions, best_insertion, cost_with, is_no_worse}
 use Rattle.move_ops.specs.Laws.{IsBest, BestInsertionsAreLeast, BestInsertionsAreUnique}
@@ -197,6 +199,18 @@ still p route r kept v best below loose empty = by (bound_of v false best) refl
     by : (o : Option ℤ) → bound_of v false best ≡ o → IsBetterBelow p route r kept v false best best o
     by None is = refl
     by (Some b) is = (None, (λ a adds. empty a (record { places = adds.places; behind = adds.behind; added = adds.added; cheaper = (let le = loose v (omega arith) b is in let less = adds.cheaper in omega (arith, ints)) })), refl)
+
+-- so it is at a vehicle with stops of which a look tells that the request fits nowhere
+pub passed_over : (p : Instance) (r : Request) (c : Course) (kept v : ℕ) (best : Option Found) (below : ℤ) → IsInstance p → IsCourseIn p c → request_named p (request_name r) ≡ Some r → (length c.stops ≡ 0 → ⊥)
+    → FitsNowhere c r below → IsLoose v best below → IsBetter p (route_of c) r kept v best best
+passed_over p r c kept v best below valid course named stops out loose =
+    let long = length-map c.stops (λ s. s.number) in
+    let some : eqb (length (route_of c)) 0 ≡ false = elim (eqb_tells (length (route_of c)) 0) [
+      | inl t ↦ absurd (stops (let none = t.1 in omega arith))
+      | inr t ↦ t.0
+    ] in
+    subst (λ o. IsBetterBelow p (route_of c) r kept v o best best (bound_of v o best)) (sym (used_opens p.kind (route_of c) some))
+    (still p (route_of c) r kept v best below loose (out p (request_name r) kept valid course named))
 
 no_stops : (xs ys : List ℕ) → length xs ≡ 0 → length ys ≡ 0 → xs ≡ ys
 no_stops [] [] none also = refl
