@@ -15,7 +15,7 @@ use Rattle.plan_types.specs.declared.requests.Kind.{Kind}
 use Rattle.text_lines.specs.Lines.{HasNoFeed, lines_of}
 use Rattle.text_lines.proofs.LawProofs.{end_at_feeds}
 use Rattle.text_lines.proofs.PieceLemmas.{lines_nil}
-use Rattle.auditor_cli.specs.Listed.{AreTold, IsAudited, IsEnded, IsTakenLine, TellsLines, TellsTaken, ends_at_feed}
+use Rattle.auditor_cli.specs.Listed.{AreTold, IsAudited, IsEnded, IsTakenLine, TellsLines, TellsList, ends_at_feed}
 use Rattle.auditor_cli.specs.Reads.{FileRead, IsGrown, IsReadFirst}
 use Rattle.auditor_cli.specs.Telling.{TellsUnread, unread_line, unread_status}
 use Rattle.auditor_cli.proofs.ListLemmas.{grown_twice}
@@ -137,7 +137,7 @@ module _ (k : Kind) (path : List ℕ) (was : List FileRead) (before : Option (Li
 
     -- what ends without a line feed was read and told
     pub at_end : (last : List ℕ) (s : ℕ) → HasNoFeed last → TellsLines (IsAudited k) (lines_of last) ((path, Ok last) ∷ next) later now after s
-        → TellsTaken k path was later before after (max n s)
+        → TellsList k path was later before after (max n s)
     at_end last s none told = (
       so_far.text ++ told.0,
       inl (record {
@@ -153,7 +153,7 @@ module _ (k : Kind) (path : List ℕ) (was : List FileRead) (before : Option (Li
 
     -- it can't be read on
     pub broken_off : (error : ErrorKind) (status : ℕ) → later ≡ (path, Err error) ∷ next → status ≡ max n (unread_status error) → Appends now after (unread_line path error)
-        → TellsTaken k path was later before after status
+        → TellsList k path was later before after status
     broken_off error status noted is written = (
       so_far.text ++ unread_line path error,
       inr (record {
@@ -174,7 +174,7 @@ module _ (k : Kind) (path : List ℕ) (was : List FileRead) (before : Option (Li
 
 -- it can't be opened
 pub unopened : (k : Kind) (path : List ℕ) (was now : List FileRead) (before after : Option (List ℕ)) (error : ErrorKind) (status : ℕ) → now ≡ (path, Err error) ∷ was → TellsUnread path error before after status
-    → TellsTaken k path was now before after status
+    → TellsList k path was now before after status
 unopened k path was now before after error status noted told =
     broken_off k path was before was now before after 0 (nothing_taken k path was before) error status noted (told.0 ∙ most) told.1
   where

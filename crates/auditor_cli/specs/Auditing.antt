@@ -9,7 +9,7 @@ use Rattle.text_lines.specs.Lines.{ended}
 use Rattle.auditor_cli.specs.Behind.{TellsBehind}
 use Rattle.auditor_cli.specs.Explained.{TellsExplained}
 use Rattle.auditor_cli.specs.Files.{AreReadInTurn, TellsFiles}
-use Rattle.auditor_cli.specs.Listed.{TellsList, list_path}
+use Rattle.auditor_cli.specs.Listed.{TellsList}
 use Rattle.auditor_cli.specs.Reads.{FileRead, IsReadFirst}
 use Rattle.auditor_cli.specs.Telling.{TellsAudit, example_instance, example_solution}
 
@@ -25,7 +25,7 @@ seen files output errors = record { files = files; output = output; errors = err
 -- which files a word reads, also where an answer can't be printed
 abbrev pub AreReadFor : Asked → List FileRead → List FileRead → Type 0
 AreReadFor (audit paths) was now = AreReadInTurn paths.instance paths.solution was now
-AreReadFor (audits kind list) was now = IsReadFirst (list_path list) was now
+AreReadFor (audits kind list) was now = IsReadFirst list was now
 AreReadFor (explain paths) was now = AreReadInTurn paths.instance paths.solution was now
 AreReadFor _ was now = now ≡ was
 

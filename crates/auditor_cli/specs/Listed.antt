@@ -2,7 +2,7 @@
 use Rattle.std.specs.Prelude.{◌≡◌, ◌⊎◌, ℕ, ◌-◌, ◌==◌, ◌&&◌, ◌||◌, not, Bool, if◌then◌else◌, List, [], ◌∷◌, ◌++◌, All, length, slice_index_or, take, drop, codes, Option, Some, None, Ok, Err, max, option_and_then, option_map}
 use Rattle.std.specs.Io.KnownBytes.{Appends}
 use Rattle.std.specs.List.{concat, flat_map, position_or_len}
-use Rattle.std.specs.Str.{IsUtf8, bytes_eq}
+use Rattle.std.specs.Str.{IsUtf8}
 use Rattle.std.specs.declared.io.ErrorKind.{ErrorKind}
 use Rattle.plan_types.specs.declared.requests.Kind.{Kind}
 use Rattle.text_lines.specs.Lines.{HasNoFeed, ended, lines_of}
@@ -11,10 +11,6 @@ use Rattle.auditor_cli.specs.Compared.{IsComparedAnswer}
 use Rattle.auditor_cli.specs.Files.{IsToldOfFiles, IsToldOfFilesBy}
 use Rattle.auditor_cli.specs.Reads.{FileRead}
 use Rattle.auditor_cli.specs.Telling.{TellsUnread, unread_line, unread_status}
-
--- `-` is standard input
-abbrev pub list_path : List ℕ → List ℕ
-list_path list = if bytes_eq list (codes "-") then codes "/dev/stdin" else list
 
 abbrev pub is_tab : ℕ → Bool
 is_tab b = b == 9
@@ -72,7 +68,7 @@ module _ {S : Type 0} (IsToldOf : List ℕ → S → S → List ℕ → ℕ → 
     TellsNoList path was now before after status = (error : ErrorKind) × (now ≡ noted (path, Err error) was) × TellsUnread path error before after status
 
     abbrev pub TellsListBy : List ℕ → S → S → Option (List ℕ) → Option (List ℕ) → ℕ → Type 0
-    TellsListBy list was now before after status = TellsTextOf (list_path list) was now before after status ⊎ TellsNoList (list_path list) was now before after status
+    TellsListBy path was now before after status = TellsTextOf path was now before after status ⊎ TellsNoList path was now before after status
 
 -- ---- the list of `audits`
 
@@ -169,8 +165,5 @@ pub record IsBrokenOff (k : Kind) (path : List ℕ) (was now : List FileRead) (t
 abbrev pub IsTaken : Kind → List ℕ → List FileRead → List FileRead → List ℕ → ℕ → Type 0
 IsTaken k path was now text status = IsTakenWhole k path was now text status ⊎ IsBrokenOff k path was now text status
 
-abbrev pub TellsTaken : Kind → List ℕ → List FileRead → List FileRead → Option (List ℕ) → Option (List ℕ) → ℕ → Type 0
-TellsTaken k path was now before after status = (text : List ℕ) × IsTaken k path was now text status × Appends before after text
-
 abbrev pub TellsList : Kind → List ℕ → List FileRead → List FileRead → Option (List ℕ) → Option (List ℕ) → ℕ → Type 0
-TellsList k list was now before after status = TellsTaken k (list_path list) was now before after status
+TellsList k path was now before after status = (text : List ℕ) × IsTaken k path was now text status × Appends before after text

@@ -59,6 +59,6 @@ pub use auditing::audit_words;
 pub use example::audit_example;
 pub use explained::{Explanation, explain_read, tell_explanation};
 pub use files::{HostFiles, HostNewFiles, ReadFiles, WriteFiles};
-pub use listed::{audits_read, greater, list_path, pair_of, tell_bad_line};
+pub use listed::{audits_read, greater, pair_of, tell_bad_line};
 pub use telling::{status_of, tell_audit, tell_unread, tell_unwritten, write_line};
 pub use usage::{command_words, tell_usage};

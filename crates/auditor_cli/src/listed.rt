@@ -3,7 +3,7 @@ ghost use Rattle.std.specs.Prelude.{◌≡◌, ◌≤◌, IfOk, MatchOption, cod
 ghost use Rattle.std.specs.List.{position_or_len};
 ghost use Rattle.std.specs.Io.KnownBytes.{Appends};
 ghost use Rattle.text_lines.specs.Lines.{ended};
-ghost use Rattle.auditor_cli.specs.Listed.{ComparesNone, IsAudited, IsComparedLine, IsComparedPair, IsPair, NamesNone, TellsLine, TellsLines, TellsList, TellsTaken, compared_parts, cut, ends_at_feed, is_path, is_tab, list_path, parts_of};
+ghost use Rattle.auditor_cli.specs.Listed.{ComparesNone, IsAudited, IsComparedLine, IsComparedPair, IsPair, NamesNone, TellsLine, TellsLines, TellsList, compared_parts, cut, ends_at_feed, is_path, is_tab, parts_of};
 ghost use Rattle.auditor_cli.specs.Reads.{IsGrown, IsReadFirst};
 ghost use Rattle.auditor_cli.specs.Telling.{unread_line, unread_status};
 
@@ -38,14 +38,13 @@ pub fn audits_read<F: ReadFiles, W: Write>(
     output: &mut W,
 ) -> io::Result<u8>
     ensures status { IfOk result (λ status. status ≤ 4) }
-    ensures reads { IsReadFirst (list_path list.now) (F.reads files.old) (F.reads files.new) }
+    ensures reads { IsReadFirst list.now (F.reads files.old) (F.reads files.new) }
     ensures told { IfOk result (TellsList kind list.now (F.reads files.old) (F.reads files.new)
         (W.contents output.old) (W.contents output.new)) }
 {
-    let path = list_path(list);
-    match files.open(path) {
-        Ok(opened) => audit_opened(alloc, kind, path, opened, files, output),
-        Err(error) => tell_unread(output, path, error.kind()),
+    match files.open(list) {
+        Ok(opened) => audit_opened(alloc, kind, list, opened, files, output),
+        Err(error) => tell_unread(output, list, error.kind()),
     }
 }
 
@@ -60,7 +59,7 @@ fn audit_opened<F: ReadFiles, W: Write>(
 ) -> io::Result<u8>
     ensures status { IfOk result (λ status. status ≤ 4) }
     ensures reads { IsReadFirst path.now (F.reads files.old) (F.reads files.new) }
-    ensures told { IfOk result (TellsTaken kind path.now (F.reads files.old) (F.reads files.new)
+    ensures told { IfOk result (TellsList kind path.now (F.reads files.old) (F.reads files.new)
         (W.contents output.old) (W.contents output.new)) }
 {
     let mut opened = opened;
@@ -100,13 +99,6 @@ fn ends_at_feed(text: &[u8]) -> bool
     ensures { result ≡ ends_at_feed text.now }
 {
     matches!(text, [.., b'\n'])
-}
-
-/// The path by which the list is read.
-pub fn list_path(list: &str) -> &str
-    ensures { result.now ≡ list_path list.now }
-{
-    if list == "-" { "/dev/stdin" } else { list }
 }
 
 // Audits the pair that each line names, and tells it before it goes on.

@@ -31,8 +31,9 @@ const MARKS: usize = 64;
 
 // Which rests the names leave.
 fn marks_of(names: &[u32]) -> [bool; MARKS]
-    ensures len { length result ≡ 64 }
-    ensures marks { (n : ℕ) → has names.now n ≡ true → slice_index_or result (n % 64) false ≡ true }
+    ensures len { length result ≡ MARKS }
+    ensures marks { (n : ℕ) → has names.now n ≡ true
+        → slice_index_or result (n % MARKS) false ≡ true }
 {
     let mut marks = [false; MARKS];
     for name in names {
@@ -43,9 +44,9 @@ fn marks_of(names: &[u32]) -> [bool; MARKS]
 
 // Whether the stop is of one of the named requests. Most are of none, which a mark tells without a look at the names.
 fn is_of_named(problem: &Problem, names: &[u32], marks: &[bool; MARKS], stop: u32) -> bool
-    requires len { length marks.now ≡ 64 }
+    requires len { length marks.now ≡ MARKS }
     requires marks { (n : ℕ) → has names.now n ≡ true
-        → slice_index_or marks.now (n % 64) false ≡ true }
+        → slice_index_or marks.now (n % MARKS) false ≡ true }
     ensures { result ≡ is_of_named problem.now names.now stop }
 {
     match problem.name_of(stop) {

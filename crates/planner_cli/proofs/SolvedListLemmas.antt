@@ -1,6 +1,5 @@
 -- What is told of a list of instances.
-use Rattle.std.proofs.Common.{◌≡◌, ◌∙◌, ℕ, List, [], ◌∷◌, Option, Some, None, Result, refl, ap}
-use Rattle.std.specs.declared.io.ErrorKind.{ErrorKind}
+use Rattle.std.proofs.Common.{◌≡◌, ℕ, List, [], ◌∷◌, Option, Some, None, refl, ap}
 use Rattle.std.specs.Io.KnownBytes.{Appends}
 use Rattle.plan_types.specs.declared.requests.Kind.{Kind}
 use Rattle.command_text.specs.Answers.{line}
@@ -8,10 +7,6 @@ use Rattle.auditor_cli.specs.Reads.{FileRead, FileWrite}
 use Rattle.planner_cli.specs.Solving.{unplanned_line}
 use Rattle.planner_cli.specs.SolvedList.{FilesDone, IsAuditOf, IsToldPlan, TellsPlaced, with_read}
 use Rattle.auditor_cli.specs.declared.answer.AuditAnswer.{AuditAnswer}
-
--- a file was read by this path
-pub read_by : (p path : List ℕ) (given : Result (List ℕ) ErrorKind) (was now : List FileRead) → p ≡ path → now ≡ (p, given) ∷ was → now ≡ (path, given) ∷ was
-read_by p path given was now same e = e ∙ ap (λ (x : List ℕ). (x, given) ∷ was) same
 
 abbrev pub the_done : List FileRead → List FileWrite → FilesDone
 the_done reads writes = record { reads = reads; writes = writes }

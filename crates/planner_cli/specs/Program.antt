@@ -11,7 +11,7 @@ use Rattle.planner_cli.specs.Drawn.{DrawsStore, TellsDrawn}
 use Rattle.auditor_cli.specs.Explained.{TellsExplained}
 use Rattle.auditor_cli.specs.Files.{AreReadInTurn, TellsFiles}
 use Rattle.planner_cli.specs.Formatting.{FormatsStore}
-use Rattle.auditor_cli.specs.Listed.{TellsList, list_path}
+use Rattle.auditor_cli.specs.Listed.{TellsList}
 use Rattle.planner_cli.specs.Loading.{TellsLoad}
 use Rattle.auditor_cli.specs.Reads.{FileRead, FileWrite, IsGrown, IsRead, IsReadFirst}
 use Rattle.planner_cli.specs.Running.{RunsStore}
@@ -62,12 +62,12 @@ done_in w = record { reads = w.files; writes = w.new_files }
 abbrev pub AreReadFor : Asked → List FileRead → List FileRead → Type 0
 AreReadFor built_in was now = now ≡ was
 AreReadFor (audit paths) was now = AreReadInTurn paths.instance paths.solution was now
-AreReadFor (audits kind list) was now = IsReadFirst (list_path list) was now
+AreReadFor (audits kind list) was now = IsReadFirst list was now
 AreReadFor (explain paths) was now = AreReadInTurn paths.instance paths.solution was now
 AreReadFor (draw paths route) was now = AreReadInTurn paths.instance paths.solution was now
 AreReadFor (draw_store store) was now = now ≡ was
 AreReadFor (solve task) was now = IsRead task.instance was now
-AreReadFor (solves tasks) was now = IsReadFirst (list_path tasks.list) was now
+AreReadFor (solves tasks) was now = IsReadFirst tasks.list was now
 AreReadFor (format store) was now = now ≡ was
 AreReadFor (load asked) was now = IsRead asked.instance was now
 AreReadFor (run store is_strict) was now = now ≡ was

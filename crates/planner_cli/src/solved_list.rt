@@ -4,15 +4,15 @@
 //! nothing. A plan is audited before it is written, so that what is written can be told.
 ghost use Rattle.std.specs.Prelude.{◌≤◌, IfOk};
 ghost use Rattle.command_line.specs.Asked.{tasks_of};
-ghost use Rattle.auditor_cli.specs.Listed.{TellsLine, TellsLines, list_path};
+ghost use Rattle.auditor_cli.specs.Listed.{TellsLine, TellsLines};
 ghost use Rattle.auditor_cli.specs.Reads.{IsGrown, IsReadFirst};
 ghost use Rattle.planner_cli.specs.SolvedList.{Finds, HasStatus, IsAuditOf, IsSolvedLine, Places, PlacesAudited, SolvesList, TellsOfTask, TellsPlaced, files_done};
 
 use crate::solved::{tell_fault, tell_unplanned};
 use auditor_cli::status::{BROKEN, DONE};
 use auditor_cli::{
-    AuditAnswer, ReadFiles, WriteFiles, audit_text, greater, list_path, pair_of, tell_bad_line,
-    tell_unread, tell_unwritten, write_line,
+    AuditAnswer, ReadFiles, WriteFiles, audit_text, greater, pair_of, tell_bad_line, tell_unread,
+    tell_unwritten, write_line,
 };
 use command_line::Tasks;
 use plan_solve::{SolveFault, Solved, solve};
@@ -32,18 +32,16 @@ pub(crate) fn solves_read<F: ReadFiles, N: WriteFiles, W: Write>(
     output: &mut W,
 ) -> io::Result<u8>
     ensures status { IfOk result (λ status. status ≤ 4) }
-    ensures reads { IsReadFirst (list_path tasks.entry.list.now)
-        (F.reads files.old) (F.reads files.new) }
+    ensures reads { IsReadFirst tasks.entry.list.now (F.reads files.old) (F.reads files.new) }
     ensures makes { IsGrown (N.writes new_files.old) (N.writes new_files.new) }
     ensures told { IfOk result (SolvesList (tasks_of tasks.entry)
         (files_done F.reads N.writes files.old new_files.old)
         (files_done F.reads N.writes files.new new_files.new)
         (W.contents output.old) (W.contents output.new)) }
 {
-    let path = list_path(tasks.list);
-    match files.read(path) {
+    match files.read(tasks.list) {
         Ok(text) => solve_lines(alloc, tasks, Lines::new(&text), files, new_files, output),
-        Err(error) => tell_unread(output, path, error.kind()),
+        Err(error) => tell_unread(output, tasks.list, error.kind()),
     }
 }
 

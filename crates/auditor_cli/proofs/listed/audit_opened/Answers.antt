@@ -3,7 +3,7 @@ use Rattle.std.proofs.Common.{◌≡◌, ◌∙◌, ◌∷◌, Err, Ok, ap, fals
 use Rattle.std.specs.IoError.{error_kind}
 use Rattle.std.proofs.lemmas.Result.{IfOk-weaker}
 use Rattle.text_lines.specs.Lines.{lines_of}
-use Rattle.auditor_cli.specs.Listed.{IsAudited, TellsTaken, ends_at_feed}
+use Rattle.auditor_cli.specs.Listed.{IsAudited, TellsList, ends_at_feed}
 use Rattle.auditor_cli.proofs.ListLemmas.{lines_as, read_as}
 use Rattle.auditor_cli.proofs.TakenLemmas.{IsSoFar, at_end, broken_off, ended_line, first_on, first_read, one_more, unended_rest}
 use Rattle.auditor_cli.proofs.listed.audit_opened.Goals as goal
@@ -61,7 +61,7 @@ returns-then-not-ends_at_feed-clause-told g c =
     read_as (IsAudited k) (lines_of line) mid ((path, Ok line) ∷ next) later now after status c.in-Ok.ensures.noted
     (lines_as (IsAudited k) c.new.result (lines_of line) mid later now after status are c.in_ok-status.ensures.told) in
     let unended : ends_at_feed line ≡ false = search rules in
-    subst (TellsTaken k path was later before after) c.greater-greatest.ensures.value
+    subst (TellsList k path was later before after) c.greater-greatest.ensures.value
     (at_end k path was before next later now after c.loop.greatest c.loop.invariant.0 line status (unended_rest line c.in-Ok.ensures.line unended) told)
 
 pub loop-preserved : goal.loop-preserved

@@ -4,21 +4,17 @@ use Rattle.std.specs.IoError.{error_kind}
 use Rattle.std.proofs.lemmas.Result.{IfOk-weaker}
 use Rattle.text_lines.specs.Lines.{lines_of}
 use Rattle.command_line.specs.Asked.{tasks_of}
-use Rattle.auditor_cli.specs.Listed.{list_path}
 use Rattle.auditor_cli.specs.Reads.{IsGrown}
 use Rattle.planner_cli.specs.SolvedList.{IsSolvedLine}
 use Rattle.auditor_cli.specs.Telling.{TellsUnread}
 use Rattle.auditor_cli.proofs.ListLemmas.{lines_as, read_as}
-use Rattle.planner_cli.proofs.SolvedListLemmas.{done_as, read_by, the_done}
+use Rattle.planner_cli.proofs.SolvedListLemmas.{done_as, the_done}
 use Rattle.planner_cli.proofs.solved_list.solves_read.Goals as goal
 
 pub returns-in-Ok-clause-reads : goal.returns-in-Ok-clause-reads
 returns-in-Ok-clause-reads g c =
-    let was = g.F.ReadFiles.reads c.args.files.now in
-    let mid = g.F.ReadFiles.reads c.read.new.self in
     let now = g.F.ReadFiles.reads c.solve_lines.new.files in
-    let e = read_by _ (list_path c.args.tasks.list.now) (Ok c.in-Ok.text.items) was mid c.list_path-path.ensures c.in-Ok.ensures in
-    (Ok c.in-Ok.text.items, subst (λ x. IsGrown x now) e c.solve_lines.ensures.reads)
+    (Ok c.in-Ok.text.items, subst (λ x. IsGrown x now) c.in-Ok.ensures c.solve_lines.ensures.reads)
 
 pub returns-in-Ok-clause-told : goal.returns-in-Ok-clause-told
 returns-in-Ok-clause-told g c =
@@ -30,7 +26,7 @@ returns-in-Ok-clause-told g c =
     let now = the_done (g.F.ReadFiles.reads c.solve_lines.new.files) (g.N.WriteFiles.writes c.solve_lines.new.new_files) in
     let made = g.N.WriteFiles.writes c.args.new_files.now in
     let text = c.in-Ok.text.items in
-    let e = done_as was mid made (list_path c.args.tasks.list.now, Ok text) (read_by _ (list_path c.args.tasks.list.now) (Ok text) was mid c.list_path-path.ensures c.in-Ok.ensures) in
+    let e = done_as was mid made (c.args.tasks.list.now, Ok text) c.in-Ok.ensures in
     let are : c.new.result ≡ lines_of text = c.new.ensures.lines ∙ ap lines_of c.deref.ensures.value in
     IfOk-weaker c.solve_lines.result _ _
     (λ status told. inl (
@@ -41,11 +37,7 @@ returns-in-Ok-clause-told g c =
     c.solve_lines.ensures.told
 
 pub returns-in-Err-clause-reads : goal.returns-in-Err-clause-reads
-returns-in-Err-clause-reads g c =
-    let was = g.F.ReadFiles.reads c.args.files.now in
-    let now = g.F.ReadFiles.reads c.read.new.self in
-    let error = error_kind c.in-Err.error in
-    (Err error, ([], read_by _ (list_path c.args.tasks.list.now) (Err error) was now c.list_path-path.ensures c.in-Err.ensures))
+returns-in-Err-clause-reads g c = (Err (error_kind c.in-Err.error), ([], c.in-Err.ensures))
 
 pub returns-in-Err-clause-makes : goal.returns-in-Err-clause-makes
 returns-in-Err-clause-makes g c = ([], refl)
@@ -58,10 +50,10 @@ returns-in-Err-clause-told g c =
     let now = g.F.ReadFiles.reads c.read.new.self in
     let made = g.N.WriteFiles.writes c.args.new_files.now in
     let error = error_kind c.in-Err.error in
-    let path = list_path c.args.tasks.list.now in
+    let path = c.args.tasks.list.now in
     IfOk-weaker c.tell_unread.result _ _
     (λ status told. inr (
       error,
-      done_as was now made (path, Err error) (read_by _ path (Err error) was now c.list_path-path.ensures c.in-Err.ensures),
-      subst (λ kind. TellsUnread path kind before after status) c.kind.ensures (subst (λ p. TellsUnread p c.kind.result before after status) c.list_path-path.ensures told),
+      done_as was now made (path, Err error) c.in-Err.ensures,
+      subst (λ kind. TellsUnread path kind before after status) c.kind.ensures told,
     )) c.tell_unread.ensures
