@@ -1,5 +1,5 @@
 //! The words of the command line, and what is told of those that ask for nothing: help, or a mistake.
-ghost use Rattle.std.specs.Prelude.{◌≡◌, ◌≢◌, IfOk};
+ghost use Rattle.std.specs.Prelude.{◌≡◌, ◌≢◌, ◌⊎◌, IfErr, IfOk};
 ghost use Rattle.clap.specs.Words.{kind_of};
 ghost use Rattle.command_line.specs.Asked.{usage_status_of};
 
@@ -35,8 +35,11 @@ pub fn tell_usage<W: Write, E: Write>(
     }
 }
 
-/// The words of the command line, the program's name first, or the status that tells why there are none.
-pub fn command_words<R: Env + Eprint + AllocGlobal>(rt: &R) -> Result<Vec<String>, u8> {
+/// The words of the command line, the program's name first, or the status that tells why there are none: want of memory, or a word that
+/// is not UTF-8 text.
+pub fn command_words<R: Env + Eprint + AllocGlobal>(rt: &R) -> Result<Vec<String>, u8>
+    ensures { IfErr result (λ status. (status ≡ 4) ⊎ (status ≡ 64)) }
+{
     match env::args(rt) {
         Ok(words) => words.collect(rt.alloc()).map_err(|_| OUT_OF_MEMORY),
         Err(error) if error.kind() == io::ErrorKind::OutOfMemory => Err(OUT_OF_MEMORY),

@@ -5,8 +5,8 @@
 //! clauses alone, and what is said of an input is said of each text that they gave piece by piece. A slice of bytes is a source
 //! that never fails.
 ghost use Rattle.std.specs.Prelude.{◌≡◌, ◌<◌, ◌≤◌, [], ℕ, List, Option, Bool, true, false, None, Some, IfOk, IfSome, IsNone, OnErr, length, take};
-ghost use Rattle.std.specs.Io.{ReadsAtMost};
-ghost use Rattle.std.specs.Io.KnownBytes.{Appends, Keeps, ReadConsumes};
+ghost use Rattle.std.specs.Io.{ReadsAtMost, WritesAtMost};
+ghost use Rattle.std.specs.Io.KnownBytes.{Appends, Keeps, ReadConsumes, WriteAppends};
 ghost use Rattle.command_serving.specs.Streams.{Flushes, GaveText, Origin, Puts, ReadsSome, Stream, WritesSome, WritesUpTo, began_with, left_behind};
 
 use crate::log::Log;
@@ -219,11 +219,21 @@ impl<W: Write> Sink for Watched<W> {
 impl<W: Write> Write for Watched<W> {
     ghost contents = { λ w. W.contents w.inner };
 
-    fn write(&mut self, buf: &[u8]) -> io::Result<usize> {
+    fn write(&mut self, buf: &[u8]) -> io::Result<usize>
+        ensures bound { WritesAtMost result buf.now }
+        ensures bytes { WriteAppends (W.contents self.old.inner) (W.contents self.new.inner)
+            result buf.now }
+        ensures has_failed { self.new.has_failed ≡ self.old.has_failed }
+        ensures log { self.new.log ≡ self.old.log }
+    {
         self.inner.write(buf)
     }
 
-    fn flush(&mut self) -> io::Result<()> {
+    fn flush(&mut self) -> io::Result<()>
+        ensures bytes { Keeps (W.contents self.old.inner) (W.contents self.new.inner) }
+        ensures has_failed { self.new.has_failed ≡ self.old.has_failed }
+        ensures log { self.new.log ≡ self.old.log }
+    {
         self.inner.flush()
     }
 }

@@ -1,7 +1,7 @@
 //! A writer that lets no answer follow a refusal.
 ghost use Rattle.std.specs.Prelude.{◌≡◌, ◌++◌, bytes_eq, ◌∷◌, ◌||◌, ℕ, List, Option, [], false, true, None, OnErr, OnOk};
 ghost use Rattle.std.specs.Io.{WritesAtMost};
-ghost use Rattle.std.specs.Io.KnownBytes.{WriteAppends};
+ghost use Rattle.std.specs.Io.KnownBytes.{Keeps, WriteAppends};
 ghost use Rattle.command_serving.specs.Streams.{Flushes, Puts, began_with};
 ghost use Rattle.command_serving.specs.Strict.{Follows, HasNoLine, IsLastLine, IsLastLineBehind, TellsLast, is_stopped, stop_of};
 
@@ -212,13 +212,21 @@ impl<W: Write> Write for Strict<W> {
         ensures bytes { WriteAppends (W.contents self.old.writer.inner)
             (W.contents self.new.writer.inner) result buf.now }
         ensures since { self.new.before ≡ self.old.before }
+        ensures has_failed { self.new.writer.has_failed ≡ self.old.writer.has_failed }
+        ensures log { self.new.writer.log ≡ self.old.writer.log }
     {
         let len = self.writer.inner.write(buf)?;
         self.last_lines.take_all(&buf[..len]);
         Ok(len)
     }
 
-    fn flush(&mut self) -> io::Result<()> {
+    fn flush(&mut self) -> io::Result<()>
+        ensures bytes { Keeps (W.contents self.old.writer.inner) (W.contents self.new.writer.inner) }
+        ensures since { self.new.before ≡ self.old.before }
+        ensures told { self.new.told ≡ self.old.told }
+        ensures has_failed { self.new.writer.has_failed ≡ self.old.writer.has_failed }
+        ensures log { self.new.writer.log ≡ self.old.writer.log }
+    {
         self.writer.inner.flush()
     }
 }

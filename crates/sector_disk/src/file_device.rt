@@ -105,6 +105,7 @@ impl<S: Start, F: FileCalls> FileDevice<S, F> {
         ensures file { self.new.file ≡ self.old.file }
         ensures sectors { self.new.sectors ≡ self.old.sectors }
         ensures calls { self.new.calls ≡ self.old.calls }
+        ensures cause { self.new.cause ≡ cause }
     {
         self.faults = self.faults.saturating_add(1);
         self.cause = cause;
@@ -112,7 +113,9 @@ impl<S: Start, F: FileCalls> FileDevice<S, F> {
     }
 
     /// What the system said of the call that failed last; none where no call failed, or the count of calls was spent.
-    pub fn cause(&self) -> Option<io::Error> {
+    pub fn cause(&self) -> Option<io::Error>
+        ensures { result ≡ self.now.cause }
+    {
         self.cause
     }
 }

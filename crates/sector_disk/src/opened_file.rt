@@ -171,6 +171,7 @@ impl OpenedFile {
     /// The file alone, whose lock stays.
     pub fn into_file(self) -> File
         requires locked { IsTrue self.is_locked }
+        ensures { result ≡ self.file }
     {
         self.file
     }
