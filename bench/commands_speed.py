@@ -3,6 +3,7 @@
 
 The problems are made here: pairs on a square that grows with their number, with time windows, and room for the stop that is added. The store
 stands in memory (/dev/shm) where FOLDER names no other place, so that its syncs cost next to nothing. Of short commands the fastest of some counts.
+Each stop that is added takes a further number, of which there are 40,000.
 
     bench/commands_speed.py [--folder FOLDER] STOPS..
 """
@@ -60,6 +61,8 @@ class Session:
         for text in self.process.stdout:
             if text == b"ok\n":
                 break
+            if text.startswith((b"no ", b"fault ")):
+                raise SystemExit(f"{line.split()[0]} was answered {text.decode().strip()}")
             told.append(text.decode().strip())
         return told, time.perf_counter() - begin
 
