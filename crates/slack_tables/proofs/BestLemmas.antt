@@ -28,8 +28,6 @@ first-same C D to from (Some b) first = (to b first.0, λ a is. first.1 a (from 
 added-once : (p : Instance) (old new : List ℕ) (o : Option ℤ) (x : ℤ) → IsAdded p old new o → IsAdded p old new (Some x) → o ≡ Some x
 added-once p old new None x never is = absurd (never is.0)
 added-once p old new (Some y) x is it =
-    let one = is.1 in
-    let two = it.1 in
     let same : y ≡ x = omega (arith, ints) in
     ap (λ z. Some z) same
 
@@ -57,7 +55,6 @@ module _ (p : Instance) (c : Course) (places : List Row) (table : AreKnown c pla
       from : (a : Addition) → Adds p (route_of c) (Single s) kept below a → AddsSingle (limits_of c) places s kept below d a
       from a adds =
           let are = adds.places in
-          let most = are.1 in
           let count = long in (
             record {
               behind = adds.behind;
@@ -88,7 +85,6 @@ module _ (p : Instance) (c : Course) (places : List Row) (table : AreKnown c pla
       from : (a : Addition) → Adds p (route_of c) (Pair s t) kept below a → AddsPair (limits_of c) places s t kept below d a
       from a adds =
           let are = adds.places in
-          let most = are.2 in
           let count = long in (
             record {
               behind = adds.behind;
@@ -102,18 +98,14 @@ module _ (p : Instance) (c : Course) (places : List Row) (table : AreKnown c pla
 -- each place of a table tells how far the next one is
 pub linked : (c : Course) (places : List Row) → AreKnown c places → AreLinked places
 linked c places table = λ k d h.
-    let long = table.long in
     let here = (table.known k d (omega arith)).at in
     let next = (table.known (k + 1) d h).at in
-    let far = here.distance in
-    let further = next.distance in
     let way : distance (get_or places k d).at.stop (get_or places (k + 1) d).at.stop ≡ distance (stop_on c k) (stop_on c (k + 1)) = rw (here.stop, next.stop) refl in
     omega (arith, length-next (stop_on c) k)
 
 -- nobody is at a place before the one ahead of it
 pub rising : (c : Course) (places : List Row) → AreKnown c places → AreRising places
 rising c places table = λ k d h.
-    let long = table.long in
     let here = (table.known k d (omega arith)).at.start in
     let next = (table.known (k + 1) d h).at.start in
     omega (arith, start-next (stop_on c) k)

@@ -73,7 +73,6 @@ limits-to p route nothing keeps = record {
         let end : length route + 1 ≡ k = omega arith in
         let due : (place p route (length route + 1)).latest ≡ p.depot.latest = ap (λ s. s.latest) back in
         let is = start-is p route (length route + 1) in
-        let le = keeps.return lilim in
         subst (λ k. start_along (place p route) k ≤ (place p route k).latest) end (omega arith)
 
 pub limits-from : (p : Instance) (route : List ℕ) → IsInLimits p.kind p.capacity (place p route) (length route + 1) → KeepsLimits p route

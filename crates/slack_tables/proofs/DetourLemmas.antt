@@ -64,7 +64,6 @@ module _ (limits : Limits) (places : List Row) (p q : Stop) (i : ℕ) (d : Row) 
       let there : i + 0 + 1 - 1 ≡ i = omega arith in
       let here : i + 0 ≡ i = omega arith in
       let way : distance b.stop (get_or places (i + 0 + 1 - 1) d).at.stop ≡ distance p (get_or places i d).at.stop = rw (there, first.0) refl in
-      let start = first.1 in
       let same : (get_or places (i + 0) d).at.distance ≡ (get_or places i d).at.distance = ap (λ k. (get_or places k d).at.distance) here in
       let stop' : a.stop ≡ (get_or places (i + 0) d).at.stop = stop ∙ ap (λ k. (get_or places k d).at.stop) (there ∙ sym here) in
       (stop', omega arith)))
@@ -77,7 +76,6 @@ module _ (limits : Limits) (places : List Row) (p q : Stop) (i : ℕ) (d : Row) 
       let next : i + n + 1 ≡ i + suc n = omega arith in
       let way : distance b.stop (get_or places (i + suc n + 1 - 1) d).at.stop ≡ distance (get_or places (i + n) d).at.stop (get_or places (i + suc n) d).at.stop = rw (there, known.0) refl in
       let link = subst (λ k. (get_or places k d).at.distance ≡ (get_or places (i + n) d).at.distance + distance (get_or places (i + n) d).at.stop (get_or places k d).at.stop) next (linked (i + n) d (omega arith)) in
-      let before_far = known.1 in
       let stop' : a.stop ≡ (get_or places (i + suc n) d).at.stop = stop ∙ ap (λ k. (get_or places k d).at.stop) there in
       (stop', omega arith)))
 
@@ -96,7 +94,6 @@ module _ (limits : Limits) (places : List Row) (p q : Stop) (i : ℕ) (d : Row) 
       (λ a here cost.
       (let first = at-first a here in
       let there : i + 1 - 1 ≡ i = omega arith in
-      let start = first.1 in
       let way : distance a.stop q ≡ distance p q = rw (first.0) refl in
       let tail : (get_or places (i + 1 - 1) d).at.distance ≡ (get_or places i d).at.distance = ap (λ k. (get_or places k d).at.distance) there in
       let back : distance q (get_or places (i + 1 - 1) d).at.stop ≡ distance (get_or places i d).at.stop q = ap (λ k. distance q (get_or places k d).at.stop) there ∙ distance-back q (get_or places i d).at.stop in
@@ -112,7 +109,6 @@ module _ (limits : Limits) (places : List Row) (p q : Stop) (i : ℕ) (d : Row) 
       let known = at-place (m - i) a (omega arith) (subst (λ k. walk_to limits places p i d k ≡ Some a) far here) in
       let stop : a.stop ≡ (get_or places m d).at.stop = known.0 ∙ ap (λ k. (get_or places k d).at.stop) same in
       let distance_there : (get_or places (i + (m - i)) d).at.distance ≡ (get_or places m d).at.distance = ap (λ k. (get_or places k d).at.distance) same in
-      let start = known.1 in
       let there : m + 2 - 1 ≡ m + 1 = omega arith in
       let way : distance a.stop q ≡ distance (get_or places m d).at.stop q = rw stop refl in
       let tail : (get_or places (m + 2 - 1) d).at.distance ≡ (get_or places (m + 1) d).at.distance = ap (λ k. (get_or places k d).at.distance) there in
@@ -124,7 +120,6 @@ module _ (limits : Limits) (places : List Row) (p q : Stop) (i : ℕ) (d : Row) 
   first-reach on is =
       let first = at-first _ is.walk in
       let stop = first.0 in
-      let far = first.1 in
       let there : i + 1 - 1 ≡ i = omega arith in
       let onward : on.onward ≡ distance p (get_or places i d).at.stop = is.onward ∙ (ap (λ s. distance s (get_or places (i + 1 - 1) d).at.stop) stop ∙ ap (λ k. distance p (get_or places k d).at.stop) there) in
       omega arith

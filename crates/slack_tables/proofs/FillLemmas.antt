@@ -45,8 +45,6 @@ timely-same kind a b c d p q timely = record {
 module _ (kind : Kind) (old new : List Row) (k : ℕ) (e : Row) (timely : EachIsTimely kind old) (is : IsFilledFrom kind old new (k + 1)) (d₀ : Row) (is_made : e ≡ row_before kind (get_or new k d₀) (get_or new (k + 1) d₀)) where
   made : (d : Row) → e ≡ row_before kind (get_or new k d) (get_or new (k + 1) d)
   made d =
-      let within = is.within in
-      let long : length new ≡ length old = is.long in
       let this : get_or new k d₀ ≡ get_or new k d = get_or_default new k d₀ d (omega arith) in
       let next : get_or new (k + 1) d₀ ≡ get_or new (k + 1) d = get_or_default new (k + 1) d₀ d (omega arith) in
       is_made ∙ (ap (λ x. row_before kind x (get_or new (k + 1) d₀)) this ∙ ap (λ x. row_before kind (get_or new k d) x) next)
@@ -62,7 +60,6 @@ module _ (kind : Kind) (old new : List Row) (k : ℕ) (e : Row) (timely : EachIs
 
   fits : (d : Row) → kind ≡ LiLim → e.at.start ≤ e.latest_start
   fits d lilim =
-      let within = is.within in
       let both : IsTimely kind (get_or new k d) (get_or new (k + 1) d) = timely-same kind _ _ _ _ (ap (λ x. x.at) (was d)) (is.here d) (timely k d (omega arith)) in
       subst (λ x. x.at.start ≤ x.latest_start) (sym (made d)) (limit_before kind (get_or new k d) (get_or new (k + 1) d) lilim both (is.limit d lilim))
 

@@ -23,13 +23,9 @@ first-delivery a b le same before = record { distance = le; pickup = λ _. omega
 -- there is one first
 one-first : (a b : Addition) → ComesFirst a b → ComesFirst b a → a ≡ b
 one-first a b p q =
-    let le = p.distance in
-    let ge = q.distance in
     let distance : a.distance ≡ b.distance = omega (arith, ints) in
-    let before = p.pickup distance in
     let behind = q.pickup (sym distance) in
     let pickup : a.pickup ≡ b.pickup = omega arith in
-    let nearer = p.delivery distance pickup in
     let further = q.delivery (sym distance) (sym pickup) in
     let delivery : a.delivery ≡ b.delivery = omega arith in
     rw (distance, pickup, delivery) refl
@@ -76,8 +72,6 @@ module _ (Is : Addition → Type 0) (key : Addition → ℕ) (order : (a b : Add
   before-first below bound n None found a so less is lt under = absurd (so.1 a is lt under)
   before-first below bound n (Some b) found a so less is lt under =
       let first = so.4 a is lt under in
-      let le = first.distance in
-      let same = so.0 in
       first-less found a (omega (arith, ints))
 
   pub better-here : (below bound : ℤ) (n : ℕ) (best : Option Addition) (found : Addition) → SoFar below n bound best → Is found → key found ≡ n → found.distance <ℤ bound → ((a : Addition) → Is a → key a ≡ n → a.distance <ℤ bound → ComesFirst found a) → SoFar below (n + 1) found.distance (Some found)

@@ -43,7 +43,6 @@ module _ (p : Instance) (c : Course) (places : List Row) (table : AreKnown c pla
   -- the number at a place of the route is that of the table
   same-number : (k : ℕ) → k < n → get_or route k 0 ≡ get_or (route_of c) k 0
   same-number k h =
-      let long = table.long in
       let stop : (get_or places (k + 1) d).at.stop ≡ stop_on c (k + 1) = (table.known (k + 1) d (omega arith)).at.stop in
       let next : stop_on c (k + 1) ≡ get_or c.stops k c.depot = ap (stop_on c) (add-one k) in
       let read : get_or (route_of c) k c.depot.number ≡ (get_or c.stops k c.depot).number = get_or-map (λ (s : Stop). s.number) c.stops k c.depot c.depot.number (omega arith) in
@@ -60,7 +59,6 @@ module _ (p : Instance) (c : Course) (places : List Row) (table : AreKnown c pla
 
   has-come : HasCome p route n (get_or places n d).at
   has-come =
-      let long = table.long in
       record {
         at = at-same (stop_on c) (place p route) n same-place (get_or places n d).at ((table.known n d (omega arith)).at);
         within = table.within n d (omega arith);

@@ -47,13 +47,11 @@ module _ (c : Course) (places : List Row) (table : AreKnown c places) (b : ℕ �
   -- a stop at place j of the new route, then place n of the table and all behind it
   rest-is : (j n l : ℕ) (d : Row) (at : Progress) (s : Stop) → 1 ≤ j → n ≤ length c.stops + 1 → l ≡ j + 1 + (length c.stops + 1 - n) → b j ≡ s → ((k : ℕ) → b (j + 1 + k) ≡ stop_on c (n + k)) → IsAt b (j - 1) at → In (limits_of c) b (j - 1) → IsEnd l (with_stop (limits_of c) at s (get_or places n d))
   rest-is j n l d at s one h end here same is kept =
-      let long = table.long in
       let rest = length c.stops + 1 - n in
       let back : j - 1 + 1 ≡ j = omega arith in
       let total : n + rest ≡ length c.stops + 1 = omega arith in
       let known : IsKnown c.kind (stop_on c) (n + rest) n (get_or places n d) = subst (λ q. IsKnown c.kind (stop_on c) q n (get_or places n d)) (sym total) (table.known n d (omega arith)) in
       let small : IsSmallRow (get_or places n d) = table.small n d (omega arith) in
-      let due = small.at.visit.latest in
       let late : (get_or places n d).at.stop.latest ≡ (stop_on c n).latest = ap (λ s. s.latest) (known.at.stop) in
       let is_end = stop-is (limits_of c) (stop_on c) b n (j + 1) rest same (get_or places n d) known (omega arith) (j - 1) at s (omega arith) is kept (sym here ∙ ap b (sym back)) in
       subst (λ q. EndIs (limits_of c) b l (length_along (stop_on c) q) (with_stop (limits_of c) at s (get_or places n d))) total
@@ -72,7 +70,6 @@ module _ (c : Course) (places : List Row) (table : AreKnown c places) (b : ℕ �
       subst (λ k. WalkIs (limits_of c) b k (walked (limits_of c) places p i d 0)) here
       (walk-on (limits_of c) b (i - 1) (Some (get_or places (i - 1) d).at) p (front-at (i - 1) front (omega arith) d, front-in (i - 1) front (omega arith)) (sym (ap b same ∙ first)))
   walked-is i (suc n) p d one most front first middle =
-      let long = table.long in
       let next : i + n + 1 ≡ i + suc n = omega arith in
       let there : i + n + 1 ≡ i + 1 + n = omega arith in
       subst (λ k. WalkIs (limits_of c) b k (walked (limits_of c) places p i d (suc n))) next
@@ -166,7 +163,6 @@ module _ (p : Instance) (c : Course) (places : List Row) (table : AreKnown c pla
       let own : stop_numbered p s.number ≡ s = stands p name (Single s) s law valid named stop.0 (single-found s) in
       let new = insert (route_of c) (i - 1) s.number in
       let one = are.0 in
-      let most = are.1 in
       let fits : i - 1 ≤ length (route_of c) = omega arith in
       let end = single-is c places table (place p new) i s d one (omega (arith, long))
       (λ k h. insert-before p (route_of c) (i - 1) s.number k fits h ∙ at-course k)
@@ -185,7 +181,6 @@ module _ (p : Instance) (c : Course) (places : List Row) (table : AreKnown c pla
       let new = insert (insert (route_of c) (i - 1) s.number) (j - 1) t.number in
       let one = are.0 in
       let order = are.1 in
-      let most = are.2 in
       let fits : i - 1 ≤ length (route_of c) = omega arith in
       let longer : length (insert (route_of c) (i - 1) s.number) ≡ length (route_of c) + 1 = length-insert (route_of c) (i - 1) s.number fits in
       let fits_inner : j - 1 ≤ length (insert (route_of c) (i - 1) s.number) = omega arith in

@@ -46,18 +46,12 @@ module _ (kind : Kind) (capacity : ℕ) (stops : ℕ → Stop) (last : ℕ) (lim
         let a = opened k d (omega arith) in
         let b = opened (k + 1) d (omega arith) in
         let service : (get_or old k d).at.stop.service ≡ (stops k).service = ap (λ s. s.service) (a.at.stop) in
-        let here = a.at.distance in
-        let there = b.at.distance in
         omega (arith, length-next stops k)
 
     pub timely : EachIsTimely kind old
     timely k d h =
         let a = opened k d (omega arith) in
         let b = opened (k + 1) d h in
-        let far = a.at.distance in
-        let near = b.at.distance in
-        let bound = b.small.at.distance in
-        let service = a.small.at.visit.service in
         record {
           way = omega (arith, length-next stops k);
           short = omega arith;
@@ -68,8 +62,6 @@ module _ (kind : Kind) (capacity : ℕ) (stops : ℕ → Stop) (last : ℕ) (lim
     pub last_may_start : LastMayStart old
     last_may_start d =
         let e = opened (length old - 1) d (omega arith) in
-        let start = e.small.at.start in
-        let limit = e.latest_start in
         omega arith
 
     module _ (new : List Row) (filled : IsFilled kind old new) where

@@ -19,7 +19,6 @@ rises-by : (places : List Row) → AreRising places → (d : Row) (n k : ℕ) �
 rises-by places rising d zero k h = let same : k + 0 ≡ k = omega arith in subst (λ m. (get_or places k d).at.start ≤ (get_or places m d).at.start) (sym same) (omega arith)
 rises-by places rising d (suc n) k h =
     let before = rises-by places rising d n k (omega arith) in
-    let step = rising (k + n) d (omega arith) in
     let next : k + suc n ≡ k + n + 1 = omega arith in
     subst (λ m. (get_or places k d).at.start ≤ (get_or places m d).at.start) (sym next) (omega arith)
 
@@ -70,7 +69,6 @@ module _ (limits : Limits) (places : List Row) (p q : Stop) (i : ℕ) (d : Row) 
   walk-rises : (j n : ℕ) → i < j → j + n ≤ length places + 1 → (a b : Progress) → walk_to limits places p i d j ≡ Some a → walk_to limits places p i d (j + n) ≡ Some b → a.start ≤ b.start
   walk-rises j zero order within a b here there =
       let same : j + 0 ≡ j = omega arith in
-      let one : Some a ≡ Some b = sym here ∙ (sym (ap (walk_to limits places p i d) same) ∙ there) in
       let is : a ≡ b = cc in
       let start = ap (λ (x : Progress). x.start) is in
       omega arith
@@ -85,7 +83,6 @@ module _ (limits : Limits) (places : List Row) (p q : Stop) (i : ℕ) (d : Row) 
       by : (o : Option Progress) → walk_to limits places p i d (j + n) ≡ o → ((e : Progress) → walk_to limits places p i d (j + n) ≡ Some e → a.start ≤ e.start) → a.start ≤ b.start
       by None never _ = absurd (let none : None ≡ Some b = sym (ap (λ o. option_and_then (λ at. stepped limits at (get_or places (j + n - 1) d).at.stop) o) never) ∙ last in cc)
       by (Some e) before each =
-          let so_far = each e before in
           let step = (step-start limits e b (get_or places (j + n - 1) d).at.stop (sym (ap (λ o. option_and_then (λ at. stepped limits at (get_or places (j + n - 1) d).at.stop) o) before) ∙ last)).1 in
           omega arith
 

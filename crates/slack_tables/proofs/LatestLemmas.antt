@@ -64,7 +64,6 @@ module _ (kind : Kind) (at : ℕ → Stop) (last : ℕ) where
   bound-before i limit start lilim h next early fits window late long = λ t few. (
     (λ goes.
         let both = goes_on-next i t lilim h goes in
-        let here : arrival at i t ≤ (at (i + 1)).latest = both.0 in
         let there : arrival at i t ≤ limit = (next (arrival at i t) (omega arith)).0 both.1 in
         omega arith),
     (λ less.

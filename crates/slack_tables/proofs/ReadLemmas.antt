@@ -32,7 +32,6 @@ module _ (c : Course) (places : List Row) (table : AreKnown c places) (p : Insta
 
   pub length-read : (d : Row) → (get_or places (length places - 1) d).at.distance ≡ route_length p route
   length-read d =
-      let count = table.long in
       let end : length places - 1 ≡ length route + 1 = omega (arith, long) in
       (table.known (length places - 1) d (omega arith)).at.distance ∙ (ap (λ f. length_along f (length places - 1)) on ∙ (ap (length_along (place p route)) end ∙ sym (length-is p route)))
 
@@ -65,7 +64,6 @@ module _ (c : Course) (places : List Row) (table : AreKnown c places) (p : Insta
       by : (u : ℕ) → GoesOnAlong c.kind (stop_on c) (length c.stops + 1) k u → (2 ^ 60 < u) ⊎ (u ≤ 2 ^ 60) → u ≤ (get_or places k d).latest_start
       by u goes (inr few) = (known.latest_start lilim u few).0 goes
       by u goes (inl much) =
-          let count = table.long in
           let there = (table.known (k + 1) d (omega arith)).at.stop in
           let due : (stop_on c (k + 1)).latest ≤ 100000000 = subst (λ s. s.latest ≤ 100000000) there ((table.small (k + 1) d (omega arith)).at.visit.latest) in
           let late : u ≤ moved_along (stop_on c) k u (k + 1) = arrival-late (stop_on c) k u in

@@ -57,7 +57,6 @@ module _ (limits : Limits) (places : List Row) (s : Stop) (kept : ℕ) (d : Row)
         better-here (PutsSingle limits places s kept d) by_pickup order below best.bound i best.found (record { distance = x; pickup = i; delivery = i }) so (record { behind = behind; within = within; one = refl; added = some }) refl less
         (λ a is here under.
         (let same = same-sum _ x a.distance some (subst (λ k. with_single limits places s k d ≡ Some a.distance) here is.added) in
-        let one = is.one in
         first-delivery (record { distance = x; pickup = i; delivery = i }) a (omega (arith, ints)) (sym here) (omega arith)))
 
     pub single-more : (o : Option ℤ) (next : Best) → kept < i → i < length places → o ≡ with_single limits places s i d → next ≡ offered best o i i → SinglesSoFar below (i + 1) next
@@ -103,9 +102,6 @@ module _ (limits : Limits) (places : List Row) (p q : Stop) (i : ℕ) (d : Row) 
         by : (b : Bool) → int_lt x best.bound ≡ b → DeliveriesSoFar below (j + 1) (cond b (record { bound = x; found = Some (record { distance = x; pickup = i; delivery = j }) }) best)
         by true h = delivery-better x order within (sym is) (int_lt-true x best.bound h)
         by false h = delivery-dear x (sym is) (int_lt-false x best.bound h)
-
-  pub deliveries-end : (below : ℤ) (j : ℕ) (best : Best) → DeliveriesSoFar below j best → length places < j → IsFirstOf (AddsDelivery limits places p q i below d) best.found
-  deliveries-end below j best so end = all-seen (PutsDelivery limits places p q i d) by_delivery order_here below best.bound j best.found so (λ a is. let within = is.within in omega arith)
 
   -- or where none of the rest adds less
   pub deliveries-stop : (below : ℤ) (j : ℕ) (best : Best) → DeliveriesSoFar below j best → ((k : ℕ) (x : ℤ) → j ≤ k → k ≤ length places → with_pair limits places p q i k d ≡ Some x → best.bound ≤ℤ x) → IsFirstOf (AddsDelivery limits places p q i below d) best.found

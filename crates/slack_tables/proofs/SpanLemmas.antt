@@ -55,7 +55,6 @@ along-le a b x y c e short part reach = by (cases_lt e c)
 -- the two directions
 pub ways-le : (x y e : ℕ) → x * x + y * y ≤ e * (e + 1) → ((x * 251 + y * 50) / 256 ≤ e) × ((x * 213 + y * 142) / 256 ≤ e)
 ways-le x y e reach =
-    let flat = div-mul-le_self (x * 251 + y * 50) 256 in
     let steep = div-mul-le_self (x * 213 + y * 142) 256 in (
       along-le 251 50 x y ((x * 251 + y * 50) / 256) e (omega arith) (omega arith) reach,
       along-le 213 142 x y ((x * 213 + y * 142) / 256) e (omega arith) (omega arith) reach,
@@ -172,7 +171,6 @@ module _ (places : List Row) (depot : Stop) (span : Span) (is : IsSpan span plac
           let from = far 1 (omega arith) (omega arith) in
           let to : near.home ≤ distance (get_or places 0 d).at.stop s = subst (λ (t : Stop). near.home ≤ distance t s) (sym (at_home.first d)) nearest.home in
           let edge = is.ends.first d in
-          let le = floor.tips in
           subst (λ k. x ≤ℤ detour_of places s k d) zero_m (let first : x ≤ℤ detour_of places s 0 d = omega (arith, ints) in first)
 
   -- what a pair adds whose stops come side by side behind place m
@@ -215,7 +213,6 @@ module _ (places : List Row) (depot : Stop) (span : Span) (is : IsSpan span plac
           let from = far_q 1 (omega arith) (omega arith) in
           let to : to_p.home ≤ distance (get_or places 0 d).at.stop p = subst (λ (t : Stop). to_p.home ≤ distance t p) (sym (at_home.first d)) near_p.home in
           let edge = is.ends.first d in
-          let le = floor.first in
           subst Goal zero_m (let first : Goal 0 = omega (arith, ints) in first)
 
 -- ---- a single
@@ -230,7 +227,6 @@ far-single limits places depot s kept below d span is at_home dear =
     let next : i - 1 + 1 ≡ i = omega arith in
     let least = subst (λ k. dear.floor ≤ℤ (pos ((get_or places (i - 1) d).at.distance + distance (get_or places (i - 1) d).at.stop s + distance (get_or places k d).at.stop s) -ℤ pos (get_or places k d).at.distance)) next (detour-le places depot span is at_home s dear.near dear.nearest dear.floor dear.lowest (i - 1) d (omega arith)) in
     let back = distance-back s (get_or places i d).at.stop in
-    let le = dear.dear in
     omega (arith, ints)))
 
 -- what a served stop brings on board fits
@@ -282,7 +278,6 @@ far-pair limits places depot p q kept below d span linked is at_home dear = λ a
             let first = subst (λ k. dear.floor_p ≤ℤ (pos ((get_or places (i - 1) d).at.distance + distance (get_or places (i - 1) d).at.stop p + distance (get_or places k d).at.stop p) -ℤ pos (get_or places k d).at.distance)) next (detour-le places depot span is at_home p dear.to_p dear.nearest_p dear.floor_p dear.lowest_p (i - 1) d (omega arith)) in
             let second = detour-le places depot span is at_home q dear.to_q dear.nearest_q dear.floor_q dear.lowest_q (j - 2) d (omega arith) in
             let way = distance-back p (get_or places i d).at.stop in
-            let le = dear.apart in
             omega (arith, ints)
 
 -- ---- the span of the first stop alone

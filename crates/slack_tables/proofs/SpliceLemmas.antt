@@ -45,7 +45,6 @@ at-next stops k a s is next =
     let service : a.stop.service ≡ (stops k).service = ap (λ x. x.service) (is.stop) in
     let early : s.earliest ≡ (stops (k + 1)).earliest = ap (λ x. x.earliest) next in
     let start = is.start in
-    let far = is.distance in
     record {
       stop = next;
       start = omega (arith, start-next stops k);
@@ -172,16 +171,11 @@ module _ (limits : Limits) (a b : ℕ → Stop) (n s rest : ℕ) (same : (k : �
         let both = and_parts _ _ h in
         let e = pos limits.capacity -ℤ (load_along b s -ℤ load_along a n) in
         let light : (at.load -ℤ tail.at.load +ℤ tail.most_load) ≤ℤ pos limits.capacity = int_le-true _ _ (both.0) in
-        let load_here = is.load in
-        let load_tail = known.at.load in
         let most : tail.most_load ≤ℤ e = omega (arith, ints) in
         record {
           load = loads-true (pos limits.capacity) e refl ((known.most_load e).0 most) k (omega arith) l;
           window = λ lilim.
               (let le : at.start ≤ tail.latest_start = in_time-true limits.kind _ _ (both.1) lilim in
-              let start = is.start in
-              let window = here.window lilim in
-              let stop : (b s).latest ≡ (a n).latest = ap (λ x. x.latest) same-here in
               goes_on-true ((known.latest_start lilim (start_along b s) (omega arith)).1 (omega arith)) lilim k m l);
         }
 
@@ -198,8 +192,6 @@ module _ (limits : Limits) (a b : ℕ → Stop) (n s rest : ℕ) (same : (k : �
         by : (int_le (at.load -ℤ tail.at.load +ℤ tail.most_load) (pos limits.capacity) ≡ false) ⊎ (is_in_time limits.kind at.start tail.latest_start ≡ false) → ⊥
         by (inl over) =
             let e = pos limits.capacity -ℤ (load_along b s -ℤ load_along a n) in
-            let load_here = is.load in
-            let load_tail = known.at.load in
             let most : tail.most_load ≤ℤ e = (known.most_load e).1 (loads-back (pos limits.capacity) e refl (λ k h l. split k h l (cases_lt s k))) in
             let light : (at.load -ℤ tail.at.load +ℤ tail.most_load) ≤ℤ pos limits.capacity = omega (arith, ints) in
             int_le-false _ _ over light
@@ -209,14 +201,11 @@ module _ (limits : Limits) (a b : ℕ → Stop) (n s rest : ℕ) (same : (k : �
             let stop : (b s).latest ≡ (a n).latest = ap (λ x. x.latest) same-here in
             let goes = goes_on-back (λ k h l. (each k h l).window kind.0) in
             let le = (known.latest_start kind.0 (start_along b s) (omega arith)).0 goes in
-            let after = kind.1 in
             absurd (omega arith)
 
     -- by how much the new route is longer
     added-is : (at : Progress) → IsAt b s at → pos (length_along b (s + rest)) ≡ pos (length_along a (n + rest)) +ℤ (pos at.distance -ℤ pos tail.at.distance)
     added-is at is =
-        let far = is.distance in
-        let near = known.at.distance in
         let spliced = spliced-length a b n s same rest in
         omega (arith, ints)
 

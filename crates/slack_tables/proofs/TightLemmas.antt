@@ -33,13 +33,11 @@ use Rattle.slack_tables.proofs.WalkLemmas.{walk-first, walk-more, distance-back}
 pub tight : (c : Course) (places : List Row) → AreKnown c places → AreTight c.kind places
 unfolding IsBound
 tight c places table = λ lilim k d h.
-    let long = table.long in
     let here = table.known k d (omega arith) in
     let next = table.known (k + 1) d h in
     let start = start-next (stop_on c) k in
     let visit = (table.small (k + 1) d h).at.visit in
     let late : (get_or places (k + 1) d).at.stop.latest ≡ (stop_on c (k + 1)).latest = ap (λ (s : Stop). s.latest) (next.at.stop) in
-    let few = visit.latest in
     let latest : (stop_on c (k + 1)).latest ≤ 100000000 = omega arith in
     let window = table.limits.window lilim (k + 1) (omega arith) (omega arith) in
     let fits : start_along (stop_on c) (k + 1) ≤ (get_or places (k + 1) d).latest_start = (next.latest_start lilim (start_along (stop_on c) (k + 1)) (omega arith)).0 (goes_on c.kind c.capacity (stop_on c) (length c.stops + 1) table.limits (k + 1)) in
@@ -59,8 +57,6 @@ module _ (limits : Limits) (places : List Row) (d : Row) (lilim : limits.kind �
   late-on a b k within late is =
       let after = step-after limits a b (get_or places k d).at.stop lilim is in
       let stop = after.0 in
-      let arrival = after.1 in
-      let in_time = after.2 in
       let next = are lilim k d within in
       let service : b.stop.service ≡ (get_or places k d).at.stop.service = ap (λ (s : Stop). s.service) stop in
       let way : distance b.stop (get_or places (k + 1) d).at.stop ≡ distance (get_or places k d).at.stop (get_or places (k + 1) d).at.stop = ap (λ s. distance s (get_or places (k + 1) d).at.stop) stop in
@@ -80,10 +76,7 @@ module _ (limits : Limits) (places : List Row) (d : Row) (lilim : limits.kind �
 
       over : is_kept limits (ride_of b) q ≡ true → is_kept limits (ride_of c) tail.at.stop ≡ true → tail.latest_start < c.start
       over first second =
-          let here = (step-after limits a b q lilim (ap (λ k. cond k (Some b) None) first)).1 in
           let then = step-after limits b c tail.at.stop lilim (ap (λ k. cond k (Some c) None) second) in
-          let arrival = then.1 in
-          let in_time = then.2 in
           let saved = law a.stop tail.at.stop q in
           omega arith
 
@@ -177,7 +170,6 @@ module _ (limits : Limits) (places : List Row) (p : Stop) (i : ℕ) (are : AreTi
               let same : due_of next ≡ due_of (get_or places i d) = ap due_of (is_next d) in
               let service : a.stop.service ≡ p.service = ap (λ (s : Stop). s.service) stop in
               let way : distance a.stop (get_or places i d).at.stop ≡ distance (get_or places i d).at.stop p = ap (λ s. distance s (get_or places i d).at.stop) stop ∙ distance-back p (get_or places i d).at.stop in
-              let le_way = is_from d in
               omega arith
           by false false _ _ neither = absurd (cc)
 

@@ -144,8 +144,6 @@ module _ (limits : Limits) (places : List Row) (p q : Stop) (i : ℕ) (d : Row) 
   near-begin on near =
       let start = near.ride.start in
       let load = near.ride.load in
-      let far = near.ride.distance in
-      let onward = near.onward in
       record { start = omega arith; load = omega arith; distance = omega arith; to_delivery = near.to_delivery }
 
   module _ (j : ℕ) (on : Underway) (order : i < j) (within : j ≤ length places) where
@@ -191,10 +189,6 @@ module _ (limits : Limits) (places : List Row) (p q : Stop) (i : ℕ) (d : Row) 
             let rises = linked-rises places linked j d (omega arith) (ltb-true _ _ more) in
             let start = is.start in
             let load = is.load in
-            let far = is.distance in
-            let start' = near.start in
-            let load' = near.load in
-            let far' = near.distance in
             record { start = omega arith; load = omega arith; distance = omega arith; to_delivery = omega arith }
 
     -- where the vehicle does not go on, there is no further place of the delivery
@@ -221,7 +215,6 @@ near-small places j d on small few one within near =
     let place = (small (j - 1) d (omega arith)).at.distance in
     let start = near.start in
     let load = near.load in
-    let far = near.distance in
     (record { start = omega arith; load = omega arith; distance = omega arith }, omega arith)
 
 -- ---- a single

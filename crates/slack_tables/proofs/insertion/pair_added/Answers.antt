@@ -17,12 +17,7 @@ loop-k-init c = record {
       let small = c.small_row.ensures.small.at in
       let start = small.start in
       let load = small.load in
-      let far = small.distance in
-      let leg = c.leg_at-to.ensures.bound in
       let near = subst (λ r. IsNearRide r c.leg_at-to.result c.in_ok-ride.ride) c.ride_of.ensures c.in_ok-ride.ensures.near in
-      let start' = near.start in
-      let load' = near.load in
-      let far' = near.distance in
       record { start = omega arith; load = omega arith; distance = omega arith };
 }
 
@@ -42,15 +37,10 @@ loop-k-preserved c =
           next-ride c.args.limits c.args.places.now c.args.pickup.now c.args.i d (c.loop-k.k + 1) c.loop-k.ride c.loop-k.stop next _ _ (omega arith) (omega arith) (c.loop-k.invariant.walk d) (place ∙ ap (λ k. get_or c.args.places.now k d) here) (c.leg_at.ensures.value d ∙ (ap (λ (e : Row). distance e.at.stop c.loop-k.stop) (sym place) ∙ distance-back c.small_row-in-loop-k.result.now.at.stop c.loop-k.stop)) c.ride_on-in-loop-k.ensures.value ∙ ap (λ o. option_map (λ r. ride_at r c.small_row-in-loop-k.result.now.at.stop) o) c.in_ok-ride-2.was);
       visit = c.small_row-in-loop-k.ensures.small.at.visit;
       near =
-          let leg = c.leg_at.ensures.bound in
           let before = c.loop-k.invariant.near in
           let start = before.start in
           let load = before.load in
-          let far = before.distance in
           let near = c.in_ok-ride-2.ensures.near in
-          let start' = near.start in
-          let load' = near.load in
-          let far' = near.distance in
           record { start = omega arith; load = omega arith; distance = omega arith };
     }
 
@@ -64,12 +54,8 @@ returns-in_err-ride-2 c = λ d.
 pub returns : goal.returns
 returns c = λ d.
     (let order = c.requires.order in
-    let last = c.loop-k.auto.k-end (omega arith) in
     let end : c.loop-k.k + 1 ≡ c.args.j = omega arith in
     let walk = subst (λ j. walk_to c.args.limits c.args.places.now c.args.pickup.now c.args.i d j ≡ Some (ride_at c.loop-k.ride c.loop-k.stop)) end (c.loop-k.invariant.walk d) in
-    let far = c.loop-k.invariant.near.distance in
-    let to = c.dist.ensures.bound in
     let way = c.from.ensures ∙ c.dist.ensures.value in
-    let from = c.leg_at-2.ensures.bound in
     c.serve_below.ensures ∙ (served-any c.args.limits (ride_at c.loop-k.ride c.loop-k.stop) c.args.delivery.now (get_or c.args.places.now (c.args.j - 1) d) _ _ _ _ _ refl refl way (c.leg_at-2.ensures.value d) (c.small_row-tail.ensures.place d) (omega arith)
     ∙ sym (pair-served c.args.limits c.args.places.now c.args.pickup.now c.args.i d c.args.delivery.now c.args.j c.loop-k.ride c.loop-k.stop walk)))

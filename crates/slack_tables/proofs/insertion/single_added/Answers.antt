@@ -8,8 +8,5 @@ use Rattle.slack_tables.proofs.insertion.single_added.Goals as goal
 pub returns : goal.returns
 returns c = λ d.
     (let before = c.small_row-before.ensures.place d in
-    let to = c.leg_at.ensures.bound in
-    let from = c.leg_at-2.ensures.bound in
-    let small = c.small_row-before.ensures.small.at.distance in
     let far = ap (λ (r : Ride). r.distance) c.ride_of.ensures in
     c.serve_below.ensures ∙ served-any c.args.limits (get_or c.args.places.now (c.args.i - 1) d).at c.args.stop.now (get_or c.args.places.now c.args.i d) _ _ _ _ _ (c.ride_of.ensures ∙ ap (λ (e : Row). ride_of e.at) before) (ap (λ (e : Row). e.at.stop.service) before) (c.leg_at.ensures.value d) (c.leg_at-2.ensures.value d) (c.small_row-tail.ensures.place d) (omega arith))

@@ -25,7 +25,6 @@ loop-j-init c = record {
 pub serve_below-distance-requires-clause-at : goal.serve_below-distance-requires-clause-at
 serve_below-distance-requires-clause-at c =
     let within = c.loop-j.invariant.within in
-    let order = c.loop-j.invariant.order in
     (near-small c.args.places.now c.loop-j.j c.small_row-tail.result.now c.loop-j.on c.requires.places c.requires.few (omega arith) within (c.loop-j.invariant.near c.small_row-tail.result.now)).0
 
 pub serve_below-distance-requires-clause-to : goal.serve_below-distance-requires-clause-to
@@ -34,32 +33,25 @@ serve_below-distance-requires-clause-to c = let to = (c.loop-j.invariant.near c.
 pub go_on-requires-clause-ride : goal.go_on-requires-clause-ride
 go_on-requires-clause-ride c =
     let within = c.loop-j.invariant.within in
-    let order = c.loop-j.invariant.order in
     let small = (near-small c.args.places.now c.loop-j.j c.small_row-tail.result.now c.loop-j.on c.requires.places c.requires.few (omega arith) within (c.loop-j.invariant.near c.small_row-tail.result.now)).0 in
     let start = small.start in
     let load = small.load in
-    let far = small.distance in
     record { start = omega arith; load = omega arith; distance = omega arith }
 
 pub go_on-requires-clause-onward : goal.go_on-requires-clause-onward
 go_on-requires-clause-onward c =
     let within = c.loop-j.invariant.within in
-    let order = c.loop-j.invariant.order in
     let onward = (near-small c.args.places.now c.loop-j.j c.small_row-tail.result.now c.loop-j.on c.requires.places c.requires.few (omega arith) within (c.loop-j.invariant.near c.small_row-tail.result.now)).1 in
     omega arith
 
 pub overflow_add-reach : goal.overflow_add-reach
 overflow_add-reach c =
     let near = near-small c.args.places.now (c.args.i + 1) c.small_row-next.result.now c.args.first c.requires.places c.requires.few (omega arith) (omega arith) (c.requires.near c.small_row-next.result.now) in
-    let far = near.0.distance in
-    let onward = near.1 in
     search rules
 
 pub is_hopeless-requires-clause-reach : goal.is_hopeless-requires-clause-reach
 is_hopeless-requires-clause-reach c =
     let near = near-small c.args.places.now (c.args.i + 1) c.small_row-next.result.now c.args.first c.requires.places c.requires.few (omega arith) (omega arith) (c.requires.near c.small_row-next.result.now) in
-    let far = near.0.distance in
-    let onward = near.1 in
     omega arith
 
 pub returns-then-is_hopeless : goal.returns-then-is_hopeless

@@ -22,7 +22,6 @@ best_at-requires-clause-least c = least-later c.args.places.now c.args.trip.now.
 pub loop-i-preserved : goal.loop-i-preserved
 loop-i-preserved c =
     let bound : SFits w64 c.loop-i.best.bound = search rules in
-    let one = c.requires.from_one in
     let behind = c.loop-i.invariant.behind in
     let here : c.loop-i.i ≡ c.loop-i.i + 1 - 1 = omega arith in
     record {
@@ -40,7 +39,5 @@ returns c = λ d.
 pub returns-then-is_past : goal.returns-then-is_past
 returns-then-is_past c = λ d.
     (let below : SFits w64 c.args.below = record { sfits = c.ranges.below.sfits } in
-    let one = c.requires.from_one in
-    let behind = c.loop-i.invariant.behind in
     subst (λ x. IsFirstOf (AddsPair c.args.trip.now.limits c.args.places.now c.args.trip.now.pickup c.args.trip.now.delivery (c.args.first - 1) x d) c.loop-i.best.found) (to_z-of_z w64 c.args.below below)
     (pairs-stop c.args.trip.now.limits c.args.places.now c.args.trip.now.pickup c.args.trip.now.delivery (c.args.first - 1) d _ c.loop-i.i c.loop-i.best (c.loop-i.invariant.best d) (λ k j h o l. c.is_past.ensures c.if-is_past.true k (omega arith) (omega arith) c.args.trip.now.delivery j d o l)))

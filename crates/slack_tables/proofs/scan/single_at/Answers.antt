@@ -1,4 +1,4 @@
-use Rattle.std.proofs.Common.{◌≡◌, ◌∙◌, ◌-◌, ◌≤ℤ◌, ℤ, w64, to_z, of_z, rules, get_or, arith, subst, ap}
+use Rattle.std.proofs.Common.{◌≡◌, ◌∙◌, ◌-◌, ◌≤ℤ◌, w64, rules, get_or, arith, subst, ap}
 use mir.Val.{SFits}
 use Rattle.std.proofs.lemmas.Int.{ints, to_z-of_z}
 use Rattle.nint_dist.specs.Distance.{distance}
@@ -6,16 +6,12 @@ use Rattle.slack_tables.specs.Ride.{ride_of, price, served_below}
 use Rattle.slack_tables.specs.declared.progress.Row.{Row}
 use Rattle.slack_tables.specs.declared.ride.Ride.{Ride}
 use Rattle.slack_tables.proofs.DetourLemmas.{served-dear}
-use Rattle.slack_tables.proofs.ScanLemmas.{bits-below}
-use Rattle.slack_tables.proofs.SpliceLemmas.{int_le-true}
 use Rattle.slack_tables.proofs.scan.single_at.Goals as goal
 
 pub returns-then-price-below : goal.returns-then-price-below
 returns-then-price-below c = λ d.
     (let below : SFits w64 c.args.below = record { sfits = c.ranges.below.sfits } in
-    let value = c.price.ensures in
     let fits : SFits w64 c.price.result = search rules in
-    let le = bits-below c.args.below _ below (subst (λ (x : ℤ). to_z w64 (of_z w64 c.args.below) ≤ℤ x) (to_z-of_z w64 c.price.result fits) (int_le-true _ _ c.if-price-below.true)) in
     let start = ap (λ (r : Ride). r.distance) c.ride_of-ride.ensures in
     let before = ap (λ (e : Row). e.at.distance) (c.small_row-before.ensures.place d) in
     let end = ap (λ (e : Row). e.at.distance) (c.small_row-tail.ensures.place d) in
@@ -27,7 +23,6 @@ returns-then-price-below-2 c = λ d.
     (let below : SFits w64 c.args.below = record { sfits = c.ranges.below.sfits } in
     let value = c.price-2.ensures in
     let fits : SFits w64 c.price-2.result = search rules in
-    let le = bits-below c.args.below _ below (subst (λ (x : ℤ). to_z w64 (of_z w64 c.args.below) ≤ℤ x) (to_z-of_z w64 c.price-2.result fits) (int_le-true _ _ c.if-price-below-2.true)) in
     let start = ap (λ (r : Ride). r.distance) c.ride_of-ride.ensures in
     let before = ap (λ (e : Row). e.at.distance) (c.small_row-before.ensures.place d) in
     let end = ap (λ (e : Row). e.at.distance) (c.small_row-tail.ensures.place d) in

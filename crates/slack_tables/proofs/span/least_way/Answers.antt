@@ -6,6 +6,4 @@ pub returns-clause-below : goal.returns-clause-below
 returns-clause-below c = λ e reach.
     (let sides = sides-le c.args.dx c.args.dy c.max-long.result c.min-short.result e (λ less. (omega (arith, c.max-long.ensures), omega (arith, c.min-short.ensures))) (λ more. (omega (arith, c.max-long.ensures), omega (arith, c.min-short.ensures))) reach in
     let le = ways-le c.max-long.result c.min-short.result e sides in
-    let flat = le.0 in
-    let steep = le.1 in
     omega (arith, c.max.ensures))

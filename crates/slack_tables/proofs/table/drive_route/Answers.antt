@@ -40,7 +40,6 @@ loop-k-preserved c =
     let stops = place p c.args.route.now in
     let k = c.loop-k.k in
     let is = c.loop-k.invariant in
-    let few = c.requires.few in
     let at = at-more stops k _ _ _ is.come.at c.stop_behind.ensures.stop c.driven_on-at.ensures.value in
     let within = within-next k _ _ is.come.within c.driven_on-at.ensures.near in
     let keep : is_kept (limits_of p) (ride_of c.driven_on-at.result) c.driven_on-at.result.stop ≡ true = search rules in
@@ -53,13 +52,10 @@ loop-k-preserved c =
 pub returns-clause-kept : goal.returns-clause-kept
 returns-clause-kept c =
     let p = c.args.problem.now in
-    let front = c.same_front-front.ensures.within in
-    let end = c.loop-k.auto.k-end (omega arith) in
     let last : c.loop-k.k ≡ length c.args.route.now + 1 = omega arith in
     (λ _. limits-from p c.args.route.now (subst (λ n. IsInLimits p.kind p.capacity (place p c.args.route.now) n) last c.loop-k.invariant.come.kept), λ _. refl)
 
 pub returns-clause-opened : goal.returns-clause-opened
 returns-clause-opened c = λ _.
     (let long = c.loop-k.invariant.long in
-    let count = c.requires.count in
     open-to-all (place c.args.problem.now c.args.route.now) (c.loop-k.k + 1) _ c.loop-k.invariant.opened (omega arith))

@@ -8,10 +8,6 @@ use Rattle.slack_tables.proofs.span.Span.begun.Goals as goal
 pub returns-clause-within : goal.returns-clause-within
 returns-clause-within c =
     let first = c.small_row-first.ensures.small.at.visit in
-    let low_x = first.x.0 in
-    let high_x = first.x.1 in
-    let low_y = first.y.0 in
-    let high_y = first.y.1 in
     let load = c.small_row-end.ensures.small.at.load in
     let tips = c.tips.ensures.small in
     let fx : SFits w32 c.small_row-first.result.now.at.stop.x = record { sfits = omega (arith, ints) } in

@@ -10,8 +10,6 @@ returns-clause-floor c =
     let fits : SFits w64 c.min.result = search rules in
     let value = c.min.ensures.value in
     let inner = c.inner.ensures.value in
-    let few = c.inner.ensures.small in
-    let outer = c.difference.ensures in
     subst (λ x. IsFloor c.args.self.now c.args.near.now x) (sym (to_z-of_z w64 c.min.result fits))
     (record { inside = omega (arith, ints, clamps); tips = omega (arith, ints, clamps) })
 
@@ -20,10 +18,4 @@ returns-clause-small c =
     let fits : SFits w64 c.min.result = search rules in
     let value = c.min.ensures.value in
     let inner = c.inner.ensures.value in
-    let few = c.inner.ensures.small in
-    let outer = c.difference.ensures in
-    let longest = c.requires.small.longest in
-    let tips = c.requires.small.tips in
-    let inside = c.requires.inside in
-    let home = c.requires.home in
     subst (λ x. unsigned_abs x ≤ 2 ^ 53) (sym (to_z-of_z w64 c.min.result fits)) (omega (arith, ints, clamps))

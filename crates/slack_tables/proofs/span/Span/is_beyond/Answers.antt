@@ -1,6 +1,5 @@
-use Rattle.std.proofs.Common.{w32, rules, ◌≤ℤ◌, ◌-ℤ◌, ◌≤◌, subst, sym, arith}
+use Rattle.std.proofs.Common.{w32, rules, ◌≤ℤ◌, subst, sym, arith}
 use mir.Val.{SFits}
-use Rattle.std.specs.Prelude.{unsigned_abs}
 use Rattle.std.proofs.lemmas.Bool.{ltb-true}
 use Rattle.std.proofs.lemmas.Int.{ints, to_z-of_z}
 use Rattle.slack_tables.proofs.SpanLemmas.{apart-le}
@@ -16,8 +15,6 @@ returns c = λ tells s inside.
     let y : SFits w32 c.args.center.now.y = search rules in
     let dx = c.gap-dx.ensures.below s.x (subst (λ z. z ≤ℤ s.x) (sym (to_z-of_z w32 c.args.self.now.west w)) inside.west) (subst (λ z. s.x ≤ℤ z) (sym (to_z-of_z w32 c.args.self.now.east e)) inside.east) in
     let dy = c.gap-dy.ensures.below s.y (subst (λ z. z ≤ℤ s.y) (sym (to_z-of_z w32 c.args.self.now.south so)) inside.south) (subst (λ z. s.y ≤ℤ z) (sym (to_z-of_z w32 c.args.self.now.north n)) inside.north) in
-    let across : c.gap-dx.result ≤ unsigned_abs (s.x -ℤ c.args.center.now.x) = rw (← to_z-of_z w32 c.args.center.now.x x) dx in
-    let along : c.gap-dy.result ≤ unsigned_abs (s.y -ℤ c.args.center.now.y) = rw (← to_z-of_z w32 c.args.center.now.y y) dy in
     let near = apart-le c.distances_are_nearest_roots.ensures c.args.center.now s c.gap-dx.result c.gap-dy.result c.longer_side.result c.longer_side.ensures.below (omega (arith, ints)) (omega (arith, ints)) in
     let far = ltb-true c.from.result c.longer_side.result tells in
     omega (arith, c.from.ensures))

@@ -8,8 +8,6 @@ use Rattle.slack_tables.proofs.span.Span.is_far_pair.Goals as goal
 pub returns-then-floor-below : goal.returns-then-floor-below
 returns-then-floor-below c = λ near depot floors.
     (let below : SFits w64 c.args.below = record { sfits = c.ranges.below.sfits } in
-    let p_small = c.floor.ensures.small in
-    let q_small = c.floor-2.ensures.small in
     let first : SFits w64 c.floor.result = search rules in
     let second : SFits w64 c.floor-2.result = search rules in
     let sum : SFits w64 (c.floor.result +ℤ c.floor-2.result) = search rules in

@@ -8,7 +8,6 @@ use Rattle.slack_tables.proofs.span.Span.is_far_single.Goals as goal
 pub returns : goal.returns
 returns c = λ dear depot near.
     (let below : SFits w64 c.args.below = record { sfits = c.ranges.below.sfits } in
-    let small = c.floor.ensures.small in
     let floor : SFits w64 c.floor.result = search rules in
     record {
       near = record { inside = c.least_inside-inside.result; home = c.args.home };

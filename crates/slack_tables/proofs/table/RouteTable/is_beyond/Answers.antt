@@ -12,7 +12,5 @@ returns c = λ tells p route is k low high.
     let d = open_row (leaving c.self.inside.depot) in
     let span = c.self.invariant.1 in
     let long = long-on p route c.args.self.now is in
-    let count = table.long in
-    let all = span.all in
     subst (λ s. c.args.reach < distance c.args.center.now s) (stop-read c.args.self.now c.self.inside.places.items table p route is k d (omega arith))
     (c.is_beyond.ensures tells _ (span.within.inside k d low (omega arith))))
