@@ -20,14 +20,6 @@ use Rattle.move_ops.proofs.Fitting.{route_limits}
 use Rattle.move_ops.proofs.Changing.{said_feasible, passes_where_feasible}
 use Rattle.move_ops.proofs.Collecting.{all_changes, all_within, judged}
 
-pub few_tours : PassesAreLocal → (p : Instance) (pins : List (List ℕ)) (d : Drafted) → IsDraftOf p pins d → length d.tours ≤ 40000
-few_tours local p pins d is =
-    let e = (parts local p pins (draft_of d) (is.draft)).fleet in
-    let f = (is.valid).fleet in
-    let most = f.1 in
-    let g = length-map d.tours route_of in
-    omega arith
-
 -- the vehicles of changes are among those that have tours
 pub vehicles_within : (tours : List Course) (cs : List Change) → AllByRecursion (λ c. (1 ≤ c.vehicle) × (c.vehicle ≤ length (map route_of tours))) cs → All (λ (c : Change). (1 ≤ c.vehicle) × (c.vehicle ≤ length tours)) cs
 vehicles_within tours cs within =

@@ -67,8 +67,6 @@ pub entry_at : (n : ℕ) (entries : List (ℕ × Course)) (j : ℕ) (d : ℕ × 
 entry_at n entries j d v all below is =
     let at = slice_get-get_or entries j d below in
     let w = within_at n entries j (get_or entries j d) all at in
-    let low = w.0 in
-    let high = w.1 in
     (at, omega arith, omega arith, omega arith)
 
 pub idle_more : (routes : List (List ℕ)) (k : ℕ) → HasIdle routes k → HasIdle routes (k + 1)
@@ -79,10 +77,6 @@ module _ (law : NamedAreFound) (stand : RequestsStandByName) (local : PassesAreL
     (p : Instance) (pins : List (List ℕ)) (courses : List Course) (r : Request) (asked : IsAsked p pins courses r) where
   pub request_valid : IsRequest r
   request_valid = valid_request p.requests (request_name r) r (asked.valid.valid) (asked.named)
-
-  -- of no vehicles nothing is found
-  pub none_yet : (These : ℕ → Type 0) → ((v : ℕ) → These v → ⊥) → IsBestAmongThese p pins (plan_of courses) r These None
-  none_yet These none = λ y c these. none y.0 these
 
   pub said_otherwise : (These Others : ℕ → Type 0) → ((u : ℕ) → These u → Others u) → ((u : ℕ) → Others u → These u) → (best : Option Found)
       → IsBestAmongThese p pins (plan_of courses) r These best → IsBestAmongThese p pins (plan_of courses) r Others best
@@ -199,7 +193,6 @@ module _ (law : NamedAreFound) (stand : RequestsStandByName) (local : PassesAreL
                 let last : was.place ≡ n = (let h = was.below in omega arith) in
                 let one : was.entry ≡ e = some_same was.entry e (sym was.at ∙ (ap (slice_get entries) last ∙ at)) in
                 let here : u ≡ k + 1 = sym was.same ∙ (ap (λ (x : ℕ × Course). x.0) one ∙ same) in
-                let long = was.some in
                 let f = ap (λ w. length (of_vehicle (plan_of courses) w)) here in
                 let g = empty_at none in
                 omega arith)

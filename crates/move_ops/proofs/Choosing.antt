@@ -179,19 +179,6 @@ pub used_opens : (kind : Kind) (route : List ℕ) → (length route == 0) ≡ fa
 used_opens LiLim route some = some
 used_opens Vrp route some = refl
 
--- a bound of a vehicle is one of each further one
-pub beside_falls : (v u : ℕ) (f : Found) → v ≤ u → bound_beside u f ≤ℤ bound_beside v f
-beside_falls v u f le = elim (leb_tells (suc u) f.vehicle) [
-  | inl t ↦ elim (leb_tells (suc v) f.vehicle) [
-    | inl s ↦ rw t.0 rw s.0 omega (arith, ints)
-    | inr s ↦ absurd (let more = s.1 in let less = t.1 in omega arith)
-  ]
-  | inr t ↦ elim (leb_tells (suc v) f.vehicle) [
-    | inl s ↦ rw t.0 rw s.0 omega (arith, ints)
-    | inr s ↦ rw t.0 rw s.0 omega (arith, ints)
-  ]
-]
-
 -- where nothing adds less than a greater bound, the best so far stays
 pub still : (p : Instance) (route : List ℕ) (r : Request) (kept v : ℕ) (best : Option Found) (below : ℤ) → IsLoose v best below → ((a : Addition) → Adds p route r kept below a → ⊥) → IsBetterBelow p route r kept v false best best (bound_of v false best)
 still p route r kept v best below loose empty = by (bound_of v false best) refl
@@ -255,7 +242,6 @@ module _ (law : NamedAreFound) (stand : RequestsStandByName) (local : PassesAreL
   first_ahead v o a b first = by_lt_z {P = Ahead p routes r (v, a.pickup, a.delivery) o a.distance (v, b.pickup, b.delivery) o b.distance} a.distance b.distance
       (λ less. inr (refl, inl less))
       (λ more. (
-      let le = first.distance in
       let same : a.distance ≡ b.distance = omega (arith, ints) in
       let pickup = first.pickup same in
       inr (

@@ -67,7 +67,6 @@ module _ (test : List ℕ → Bool) where
   each_passes old new [] long all within there = refl
   each_passes old new (c ∷ ds) long all within there =
       let low = within.0.0 in
-      let high = within.0.1 in
       and_from (test c.route) (list_all (λ d. test d.route) ds) (ap test there.0 ∙ test_at new (c.vehicle - 1) (of_vehicle new c.vehicle) all (at_vehicle new c.vehicle low (omega arith))) (each_passes old new ds long all within.1 there.1)
 
   pub judged : (old new : List (List ℕ)) (cs : List Change) → AreChanges old new cs → length new ≡ length old → list_all test old ≡ true → list_all (λ c. test c.route) cs ≡ list_all test new

@@ -112,7 +112,6 @@ module _ (p : Instance) (routes : List (List ℕ)) (r : Request) where
   distance_with : (x : Insertion) (o : Bool) (d : ℤ) → IsPriced x o d → pos (cost_with p routes r x).distance ≡ pos (total_length p routes) +ℤ d
   distance_with x o d is =
       let e = replaced (route_length p) routes x.0 (new_route x) (is.from) (is.within) in
-      let f = is.added in
       omega (arith, ints)
 
   used_with : (x : Insertion) (o : Bool) (d : ℤ) → IsPriced x o d → (cost_with p routes r x).vehicles ≡ vehicle_count p.kind routes + cond o 1 0

@@ -51,12 +51,6 @@ module _ (routes others : List (List ℕ)) (r : Request) (outside : (n : ℕ) �
       ap (λ h. h || (has_stop routes b.number || false)) (stays a.number (apart a.number (let e = one_here a.number a.number refl in omega arith)))
       ∙ ap (λ h. has_stop others a.number || (h || false)) (stays b.number (apart b.number (let e = one_here b.number b.number refl in omega arith)))
 
-  left : List (List ℕ) → ℕ × Request → ℕ
-  left lists e = cond (not (is_planned lists e.1)) 1 0
-
-  counted : List (List ℕ) → List (ℕ × Request) → ℕ
-  counted lists es = count_by (λ e. not (is_planned lists e.1)) es
-
   counted_more : (lists : List (List ℕ)) (e : ℕ × Request) (es : List (ℕ × Request)) → count_by (λ d. not (is_planned lists d.1)) (e ∷ es) ≡ cond (not (is_planned lists e.1)) 1 0 + count_by (λ d. not (is_planned lists d.1)) es
   counted_more lists e es = sum_by-cons (λ (d : ℕ × Request). cond (not (is_planned lists d.1)) 1 0) e es
 
@@ -117,21 +111,6 @@ module _ (below : StopsAreBelowNext) (local : PassesAreLocal) (p : Instance) (va
   plan_small pins routes good =
       let is = parts local p pins routes good in
       let e = few_stops routes (is.plan) in
-      let f = is.fleet in
       let g = valid.fleet in
-      let low = g.0 in
-      let most = g.1 in
       let h = total_few routes in
       omega arith
-
--- the count one request on
-pub count_next : (test : ℕ × Request → Bool) (es : List (ℕ × Request)) (k n : ℕ) (b : Bool) → b ≡ option_map_or test (slice_get es k) false → k < length es → n ≡ count_by test (take k es)
-    → ◌≡◌ {A = ℕ} (n + cond b 1 0) (count_by test (take (k + 1) es))
-count_next test es k n b told below so_far = elim (slice_get_cases es k).1 [
-  | inl t ↦ go t.0 t.1 t.3 b (told ∙ ap (λ o. option_map_or test o false) t.2)
-  | inr past ↦ absurd (let h = past.0 in omega arith)
-]
-  where
-    go : (e : ℕ × Request) → k < length es → get_or es k e ≡ e → (b : Bool) → b ≡ test e → ◌≡◌ {A = ℕ} (n + cond b 1 0) (count_by test (take (k + 1) es))
-    go e less at true is = let h = count_by_more_yes test es k e less (ap test at ∙ sym is) in omega arith
-    go e less at false is = let h = count_by_more_no test es k e less (ap test at ∙ sym is) in omega arith

@@ -133,22 +133,10 @@ vehicle_route tours (suc k) c some below at = let e : suc k - 1 ≡ k = omega ar
     go (t ∷ tours) zero below at = ap route_of at
     go (t ∷ tours) (suc k) below at = go tours k (omega arith) at
 
-pub vehicle_none : (tours : List Course) (v : ℕ) → (v ≡ 0 → ⊥) → length tours ≤ v - 1 → ◌≡◌ {A = List ℕ} [] (of_vehicle (plan_of tours) v)
-vehicle_none tours zero some out = absurd (some refl)
-vehicle_none tours (suc k) some out = let e : suc k - 1 ≡ k = omega arith in go tours k (omega arith)
-  where
-    go : (tours : List Course) (k : ℕ) → length tours ≤ k → ◌≡◌ {A = List ℕ} [] (unwrap_or (slice_get (plan_of tours) k) [])
-    go [] k out = refl
-    go (t ∷ tours) zero out = absurd (omega arith)
-    go (t ∷ tours) (suc k) out = go tours k (omega arith)
-
 -- ---- the log gets shorter
 pub within_front : (n : ℕ) (log : List (ℕ × Course)) (v : ℕ) (c : Course) → AreWithin n (log ++ (v, c) ∷ []) → AreWithin n log × ((1 ≤ v) × (v ≤ n))
 within_front n [] v c all = (tt, all.0)
 within_front n (e ∷ log) v c all = let rest = within_front n log v c all.1 in ((all.0, rest.0), rest.1)
-
-pub undone_back : (tours new : List Course) (log less : List (ℕ × Course)) (v : ℕ) (c : Course) → log ≡ less ++ (v, c) ∷ [] → new ≡ set tours (v - 1) c → undone new less ≡ undone tours log
-undone_back tours new log less v c is is_new = ap (λ l. undone l less) is_new ∙ (sym (undone_more tours less v c) ∙ ap (undone tours) (sym is))
 
 pub undone_none : (tours : List Course) (log : List (ℕ × Course)) → length log ≡ 0 → undone tours log ≡ tours
 undone_none tours [] none = refl
@@ -172,22 +160,6 @@ module _ (old new : Drafted) (none : length new.log ≡ 0) (pinned : new.pinned 
       pinned = subst (λ (m : List Bool). (n : ℕ) → n < length m → get_or m n false ≡ has_stop pins n) (sym pinned) (is.pinned);
       cost = cost ∙ (is.base_cost ∙ ap (λ (t : List Course). cost_of p (plan_of t)) (sym dropped_tours));
       base_cost = base_cost ∙ (is.base_cost ∙ ap (λ (t : List Course). cost_of p (plan_of t)) (sym back));
-    }
-
-  module _ (same : new.tours ≡ old.tours) where
-    pub taken_tours : undone new.tours new.log ≡ old.tours
-    taken_tours = new_undone ∙ same
-
-    pub taken : (p : Instance) (pins : List (List ℕ)) → new.cost ≡ old.cost → new.base_cost ≡ old.cost → IsDraftOf p pins old → IsDraftOf p pins new
-    taken p pins cost base_cost is = record {
-      valid = is.valid;
-      base = subst (λ (t : List Course). passes p pins (plan_of t) ≡ true) (sym taken_tours) (is.draft);
-      draft = subst (λ (t : List Course). passes p pins (plan_of t) ≡ true) (sym same) (is.draft);
-      base_tables = subst (AreTablesIn p) (sym taken_tours) (is.tables);
-      tables = subst (AreTablesIn p) (sym same) (is.tables);
-      pinned = subst (λ (m : List Bool). (n : ℕ) → n < length m → get_or m n false ≡ has_stop pins n) (sym pinned) (is.pinned);
-      cost = cost ∙ (is.cost ∙ ap (λ (t : List Course). cost_of p (plan_of t)) (sym same));
-      base_cost = base_cost ∙ (is.cost ∙ ap (λ (t : List Course). cost_of p (plan_of t)) (sym taken_tours));
     }
 
 -- ---- what a vehicle had in the base
@@ -226,18 +198,7 @@ module _ (p : Instance) (pins : List (List ℕ)) (old new : Drafted) (is : IsDra
     base_cost = base_cost ∙ (is.base_cost ∙ ap (λ (t : List Course). cost_of p (plan_of t)) (sym back));
   }
 
--- a list of which the first ones are replaced, and one more
-pub next_set : (ys old : List Course) (x : Course) → length ys < length old → set (ys ++ drop (length ys) old) (length ys) x ≡ (ys ++ x ∷ []) ++ drop (length (ys ++ x ∷ [])) old
-next_set [] [] x below = absurd (omega arith)
-next_set [] (o ∷ old) x below = refl
-next_set (y ∷ ys) [] x below = absurd (omega arith)
-next_set (y ∷ ys) (o ∷ old) x below = ap (λ l. y ∷ l) (next_set ys old x (omega arith))
-
 -- ---- the stops of tours
-pub tours_more : (tours : List Course) (k n : ℕ) (d : Course) → k < length tours → has_stop (plan_of (drop k tours)) n ≡ has (route_of (get_or tours k d)) n || has_stop (plan_of (drop (k + 1) tours)) n
-tours_more tours k n d below =
-    ap (λ (l : List Course). has_stop (plan_of l) n) (drop_more tours k d below) ∙ list_any-append (nat_eq n) (route_of (get_or tours k d)) (concat (plan_of (drop (k + 1) tours)))
-
 true_or : (a b : Bool) → a ≡ true → (a || b) ≡ true
 true_or a b h = rw h refl
 
@@ -258,22 +219,11 @@ tables_with p tours k tour are is =
     ∙ (map_set (course_of p) (plan_of tours) k (route_of tour)
     ∙ (ap (λ l. set l k (course_of p (route_of tour))) are ∙ ap (λ t. set tours k t) is))
 
-pub sum_tours : (p : Instance) (tours : List Course) → total_length p (plan_of tours) ≡ sum_by (λ t. route_length p (route_of t)) tours
-sum_tours p [] = refl
-sum_tours p (t ∷ tours) =
-    sum_by-cons (route_length p) (route_of t) (plan_of tours) ∙ (ap (λ k. route_length p (route_of t) + k) (sum_tours p tours) ∙ sym (sum_by-cons (λ (c : Course). route_length p (route_of c)) t tours))
-
 -- ---- stops that no route has any more
 pub unseat_first : (n x : ℕ) (seats : List ℕ) → x < length seats → slice_get (set seats x 0) n ≡ Some 0 → (n ≡ x) ⊎ (slice_get seats n ≡ Some 0)
 unseat_first n x seats within at = elim (eqb_tells n x) [
   | inl t ↦ inl t.1
   | inr t ↦ inr (sym (get_set_other seats x n 0 t.1) ∙ at)
-]
-
-pub seats_without : (old new : List ℕ) (routes : List (List ℕ)) (x : ℕ) → AreSeats old routes → has_stop routes x ≡ false → ((n : ℕ) → slice_get new n ≡ Some 0 → (n ≡ x) ⊎ (slice_get old n ≡ Some 0)) → AreSeats new routes
-seats_without old new routes x are gone told n at = elim (told n at) [
-  | inl here ↦ ap (has_stop routes) here ∙ gone
-  | inr there ↦ are n there
 ]
 
 gone_in : (keep : ℕ → Bool) (n : ℕ) → keep n ≡ false → (xs : List ℕ) → has (filter keep xs) n ≡ false

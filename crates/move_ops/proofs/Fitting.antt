@@ -231,7 +231,6 @@ module _ (found : NamedAreFound) (stand : RequestsStandByName) (p : Instance) (v
     apart n m here own is =
         let partner = pickup_partner n m is in
         let also = partner_numbers r m n (sym (partner_own m own) ∙ partner) in
-        let none = free n also in
         omega arith
 
     whole_new : (new : List ℕ) → ((n : ℕ) → times n new ≡ times n old + times n (numbers_of r)) → has_whole_pairs p old ≡ true → has_whole_pairs p new ≡ true
@@ -241,8 +240,6 @@ module _ (found : NamedAreFound) (stand : RequestsStandByName) (p : Instance) (v
         partner_there n some m is = elim (cases_lt 0 (times n (numbers_of r))) [
           | inl own ↦ (let h = partner_numbers r n m (sym (partner_own n own) ∙ is) in let e = each m in omega arith)
           | inr other ↦ (
-              let e = each n in
-              let f = each m in
               let h = had_often old m (whole_there old (partner_at p n) m is (times_by_all (λ n. option_map_or (has old) (partner_at p n) true) old n whole (omega arith))) in
               omega arith)
         ]
@@ -279,9 +276,6 @@ module _ (found : NamedAreFound) (stand : RequestsStandByName) (p : Instance) (v
       ])
       (λ q is. (
       let told = pickup_first (Pair a b) b.number q (sym (pickup_own found stand p valid name (Pair a b) named old free b.number finish) ∙ is) in
-      let low = places.0 in
-      let order = places.1 in
-      let high = places.2 in
       subst (λ (m : ℕ). times m (drop (j - 1) (insert old (i - 1) a.number)) ≡ 0) told.1 (drop_past a.number (i - 1) (j - 1) old (omega arith) (omega arith) (free a.number start))))
 
   module _ (name : ℕ) (r : Request) (named : lookup (nat_eq name) p.requests ≡ Some r) (old : List ℕ) (free : (n : ℕ) → 1 ≤ times n (numbers_of r) → times n old ≡ 0) (i j : ℕ) (places : ArePlaces r (length old) i j)

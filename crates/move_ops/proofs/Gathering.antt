@@ -100,16 +100,6 @@ module _ (routes : List (List ℕ)) (stop : ℕ) (before : List ℕ) where
 
 -- ---- those of a request's stops
 module _ (routes : List (List ℕ)) where
-  pub noted_single : (s : Stop) (before after : List ℕ) → Notes routes (λ n. n ≡ s.number) before after → Notes routes (λ n. IsSome (stop_in n (Single s))) before after
-  noted_single s before after is = record {
-    within = is.within;
-    stays = is.stays;
-    found = λ v n some had. elim (eqb_tells s.number n) [
-      | inl t ↦ is.found v n (sym t.1) had
-      | inr t ↦ false_true (rw t.0 at some)
-    ];
-  }
-
   pub noted_pair : (a b : Stop) (before mid after : List ℕ) → Notes routes (λ n. n ≡ a.number) before mid → Notes routes (λ n. n ≡ b.number) mid after → Notes routes (λ n. IsSome (stop_in n (Pair a b))) before after
   noted_pair a b before mid after one two = record {
     within = λ all. two.within (one.within all);
@@ -142,13 +132,6 @@ module _ (routes : List (List ℕ)) where
       found = λ v n named had. (let q = asked_of n named in is.found v n (subst (λ (x : Request). IsSome (stop_in n x)) (some_same q.0 r (sym q.1 ∙ at)) q.2) had);
     }
 
-    pub noted_nothing : lookup (nat_eq name) p.requests ≡ None → (before : List ℕ) → Notes routes (λ n. is_of_named p (name ∷ []) n ≡ true) before before
-    noted_nothing none before = record {
-      within = λ all. all;
-      stays = λ v h. h;
-      found = λ v n named had. (let q = asked_of n named in absurd (none_some q.0 (sym none ∙ q.1)));
-    }
-
   -- ---- those of the names so far
   module _ (p : Instance) where
     first_or_later : (name : ℕ) (rest : List ℕ) (n : ℕ) → is_of_named p (name ∷ rest) n ≡ true → (is_of_named p (name ∷ []) n ≡ true) ⊎ (is_of_named p rest n ≡ true)
@@ -171,19 +154,6 @@ module _ (routes : List (List ℕ)) where
         | inl now ↦ inl (is.found v n now had)
         | inr then ↦ inr then
       ]
-    ]
-
-    none_left : (n : ℕ) → is_of_named p [] n ≡ true → false ≡ true
-    none_left n = by (name_at p n)
-      where
-        by : (o : Option ℕ) → option_map_or (has []) o false ≡ true → false ≡ true
-        by None h = h
-        by (Some k) h = h
-
-    pub found_all : (names left vs : List ℕ) → left ≡ [] → FoundSoFar names left vs → AreVehiclesOf routes (λ n. is_of_named p names n ≡ true) vs
-    found_all names left vs none so_far v n named had = elim (so_far v n named had) [
-      | inl there ↦ there
-      | inr later ↦ false_true (none_left n (subst (λ (l : List ℕ). is_of_named p l n ≡ true) none later))
     ]
 
 -- ---- the changes of these vehicles
@@ -218,10 +188,8 @@ module _ (f : List ℕ → List ℕ) (old : List (List ℕ)) where
   ]
   reached (v ∷ vs) cur k below all told =
       let long = length-set cur (v - 1) (f (of_vehicle old v)) in
-      let low = all.0.0 in
       reached vs (with_route cur v (f (of_vehicle old v))) k (omega arith) all.1 (elim (eqb_tells (k + 1) v) [
         | inl t ↦ (
-            let is = t.1 in
             let e : v - 1 ≡ k = omega arith in
             inr (subst (λ (j : ℕ). slice_get (set cur j (f (of_vehicle old v))) k ≡ Some (f (of_vehicle old v))) (sym e) (get_set cur k (f (of_vehicle old v)) below) ∙ ap (λ (u : ℕ). Some (f (of_vehicle old u))) (sym t.1)))
         | inr t ↦ elim told [

@@ -112,9 +112,6 @@ nowhere routes (Pair a b) free n some =
 
 module _ (found : NamedAreFound) (local : PassesAreLocal) (p : Instance) (pins routes : List (List ℕ)) (valid : IsInstance p) (good : passes p pins routes ≡ true)
     (name : ℕ) (r : Request) (named : lookup (nat_eq name) p.requests ≡ Some r) (free : is_planned routes r ≡ false) (v i j : ℕ) (from : 1 ≤ v) (within : v ≤ length routes) where
-  new : List ℕ
-  new = inserted r i j (of_vehicle routes v)
-
   plan : IsPlan p routes
   plan = (parts local p pins routes good).plan
 

@@ -22,13 +22,6 @@ use Rattle.move_ops.proofs.Costs.{unplanned_same}
 use Rattle.move_ops.proofs.Crossing.{same_times, first_asked, second_asked, crossed_answer}
 use Rattle.move_ops.proofs.Drafting.{plan_with}
 
--- one change more
-pub routes_more : (tours new : List Course) (cs : List Change) (k : ℕ) (x : Change) (tour : Course) → x ≡ get_or cs k x → k < length cs → route_of tour ≡ x.route → new ≡ set tours (x.vehicle - 1) tour
-    → with_routes (plan_of new) (drop (k + 1) cs) ≡ with_routes (plan_of tours) (drop k cs)
-routes_more tours new cs k x tour is below of_tour is_new =
-    ap (λ (l : List (List ℕ)). with_routes l (drop (k + 1) cs)) (ap plan_of is_new ∙ (plan_with tours (x.vehicle - 1) tour ∙ ap (λ (l : List ℕ). set (plan_of tours) (x.vehicle - 1) l) of_tour))
-    ∙ ap (with_routes (plan_of tours)) (ap (λ (y : Change). y ∷ drop (k + 1) cs) is ∙ sym (drop_more cs k x below))
-
 -- what is answered passes
 passing_some : (p : Instance) (pins routes given : List (List ℕ)) → passing p pins routes ≡ Some given → passes p pins given ≡ true
 passing_some p pins routes given at = by (passes p pins routes) refl

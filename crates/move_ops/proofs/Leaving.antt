@@ -199,10 +199,8 @@ module _ (found : NamedAreFound) (by_name : RequestsStandByName) (p : Instance) 
   none_of names name m q at among out = elim (eqb_tells (times m (numbers_of q)) 0) [
     | inl t ↦ t.1
     | inr t ↦ absurd (
-        let apart_from = t.1 in
         let named = is_named found by_name p valid name m q at (omega arith) in
         let it : is_of_named p names m ≡ true = ap (λ o. option_map_or (has names) o false) named ∙ among in
-        let k : true ≡ false = sym it ∙ out in
         cc)
   ]
 

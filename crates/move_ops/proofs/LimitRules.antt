@@ -51,7 +51,6 @@ module _ (p : Instance) (route : List ℕ) where
       let behind : i ≡ length route + 1 = subst (λ (l : List ℕ). i ≡ length l + 1) same late.3 in
       let above : p.depot.latest < start p route i = subst (λ (l : List ℕ). p.depot.latest < start p l i) same late.5 in
       let behind_last : p.depot.latest < start p route (length route + 1) = subst (λ (j : ℕ). p.depot.latest < start p route j) behind above in
-      let most = limits.return broken.0 in
       omega arith
 
   keeps_limits : IsInstance p → ((r i n : ℕ) → (IsOverloaded p (route ∷ []) r i n → ⊥) × (IsLate p (route ∷ []) r i n → ⊥) × (IsLateReturn p (route ∷ []) r i n → ⊥)) → KeepsLimits p route

@@ -60,7 +60,6 @@ set_below : (tours : List Course) (log : List (ℕ × Course)) (n v : ℕ) (c : 
 set_below tours [] n v c from all none = refl
 set_below tours (e ∷ log) n v c from all none =
     let parts = or_false (eqb e.0 v) (is_logged log v) none in
-    let low = all.0.0 in
     let apart : e.0 ≡ v → ⊥ = λ same. elim (eqb_tells e.0 v) [ inl t ↦ absurd (let k : true ≡ false = sym (t.0) ∙ parts.0 in cc) | inr t ↦ t.1 same ] in
     ap (λ l. set l (e.0 - 1) e.1) (set_below tours log n v c from all.1 parts.1)
     ∙ sym (set_apart (undone tours log) (v - 1) (e.0 - 1) c e.1 (λ same. apart (omega arith)))
@@ -163,7 +162,6 @@ distinct_once (e ∷ log) once = (apart_from log e.0 once.0, distinct_once log o
 apart_zero : (n : ℕ) (log : List (ℕ × Course)) → AreWithin n log → AllByRecursion (λ u. eqb 0 u ≡ false) (map (λ e. e.0) log)
 apart_zero n [] all = tt
 apart_zero n (e ∷ log) all =
-    let low = all.0.0 in
     (elim (eqb_tells 0 e.0) [ inl t ↦ (let h = t.1 in absurd (omega arith)) | inr t ↦ t.0 ], apart_zero n log all.1)
 
 below_all : (n : ℕ) (log : List (ℕ × Course)) → AreWithin n log → (q : ℕ) → list_any (eqb q) (map (λ e. e.0) log) ≡ true → q < n + 1

@@ -135,12 +135,8 @@ of_places (Single s) kept stops x there =
 of_places (Pair c d) kept stops x there =
     let t = of_flat_map (seconds stops) (range_with_len (kept + 1) (stops + 1 - kept)) x there in
     let range = of_range (kept + 1) (stops + 1 - kept) t.0 t.1 in
-    let low = range.0 in
-    let high = range.1 in
     let u = of_map (paired t.0) (range_with_len (t.0 + 1) (stops + 2 - t.0)) x t.2 in
     let second = of_range (t.0 + 1) (stops + 2 - t.0) u.0 u.1 in
-    let low2 = second.0 in
-    let high2 = second.1 in
     subst (λ (y : ℕ × ℕ). (ltb kept y.0 && (ltb y.0 y.1 && leb y.1 (stops + 2))) ≡ true) u.2
     (and_from (ltb kept t.0) (ltb t.0 u.0 && leb u.0 (stops + 2)) (lt-ltb kept t.0 (omega arith))
     (and_from (ltb t.0 u.0) (leb u.0 (stops + 2)) (lt-ltb t.0 u.0 (omega arith)) (le-leb u.0 (stops + 2) (omega arith))))
@@ -163,7 +159,6 @@ module _ (pins routes : List (List ℕ)) (r : Request) where
       let t = of_flat_map at_vehicle (range_with_len 1 (length routes)) x there in
       let range = of_range 1 (length routes) t.0 t.1 in
       let low = range.0 in
-      let high = range.1 in
       let u = of_map (placed t.0) (places_in r (length (of_vehicle pins t.0)) (length (of_vehicle routes t.0))) x t.2 in
       subst (λ (z : Insertion). is_place_of pins routes r z ≡ true) u.2
       (and_from (leb 1 t.0) (leb t.0 (length routes) && are_places r (length (of_vehicle pins t.0)) (length (of_vehicle routes t.0)) u.0.0 u.0.1) (le-leb 1 t.0 low)

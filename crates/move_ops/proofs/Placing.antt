@@ -63,7 +63,6 @@ module _ (law : NamedAreFound) (stand : RequestsStandByName) (local : PassesAreL
         let h = fit.within in
         let e = (parts local p pins routes good).fleet in
         let f = valid.fleet in
-        let most = f.1 in
         omega arith
 
     pub is_put : IsPut p pins routes r x

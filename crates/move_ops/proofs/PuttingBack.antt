@@ -178,7 +178,6 @@ module _ (keep : ℕ → Bool) (pins routes : List (List ℕ)) (pinned : KeepsPi
           ap (λ (i : ℕ). insert (filter keep route) i s.number) e
           ∙ one_back keep s.number route k gone stop (λ j m there apart. others m (λ e. apart (
           let seat = once (suc w) (suc j) (route, at, there ∙ ap (λ (n : ℕ). Some n) e) in
-          let f = seat.1 in
           omega arith)))
 
       single_old : IsOldPlace (Single s) (suc w, suc k, suc k)

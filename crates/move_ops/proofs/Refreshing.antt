@@ -112,13 +112,10 @@ module _ (p : Instance) (routes : List (List ℕ)) where
         | inl t ↦ (
             let low = within.0.0 in
             let high = within.0.1 in
-            let same = t.1 in
             let at : i ≡ v - 1 = omega arith in
             let route : get_or routes i [] ≡ of_vehicle routes v = ap (λ (k : ℕ). get_or routes k []) at ∙ get_or_from_slice_get routes (v - 1) (of_vehicle routes v) [] (at_vehicle routes v low high) in
             inr (get_or-set_at tables (v - 1) i (course_of p (of_vehicle routes v)) d at (omega arith) ∙ ap (course_of p) (sym route)))
         | inr t ↦ (
-            let low = within.0.0 in
-            let apart = t.1 in
             elim (due i d below) [
               | inl had ↦ inl (let h : has vs (i + 1) ≡ true = rw t.0 at had in h)
               | inr done ↦ inr (get_or-set_other tables (v - 1) i (course_of p (of_vehicle routes v)) d (omega arith) ∙ done)

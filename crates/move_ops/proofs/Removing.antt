@@ -91,7 +91,6 @@ unpinned pins routes r movable n pinned = elim (eqb_tells (times n (numbers_of r
   | inl t ↦ t.1
   | inr t ↦ (
       let free = not_true (is_planned pins r) (and_parts (is_planned routes r) (not (is_planned pins r)) movable).1 in
-      let apart = t.1 in
       let h = nowhere pins r free n (omega arith) in
       absurd (omega arith))
 ]

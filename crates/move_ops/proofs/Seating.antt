@@ -15,6 +15,3 @@ seats_more old new routes k stops within is before none kept = λ n at.
     (let out : has (get_or routes k []) n ≡ false = subst (λ s. has s n ≡ false) is (none n at) in
     let same : has_stop (drop k routes) n ≡ has_stop (drop (k + 1) routes) n = has_stop_more routes k n within ∙ ap (λ b. b || has_stop (drop (k + 1) routes) n) out in
     sym same ∙ before n (kept n at))
-
-pub seats_all : (seats : List ℕ) (routes : List (List ℕ)) (k : ℕ) → drop k routes ≡ [] → AreSeatsTo seats routes k → AreSeats seats routes
-seats_all seats routes k end to = λ n at. sym (to n at) ∙ ap (λ rs. has_stop rs n) end

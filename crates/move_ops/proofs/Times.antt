@@ -41,13 +41,6 @@ stands_once_more n i [] at = absurd (none_some n at)
 stands_once_more n zero (x ∷ xs) at = let e = one_here n x (sym (some_same x n at)) in omega arith
 stands_once_more n (suc i) (x ∷ xs) at = let h = stands_once_more n i xs at in omega arith
 
-pub place_of : (n : ℕ) (xs : List ℕ) → 1 ≤ times n xs → (i : ℕ) × (slice_get xs i ≡ Some n)
-place_of n [] some = absurd (omega arith)
-place_of n (x ∷ xs) some = elim (eqb_tells n x) [
-  | inl t ↦ (zero, ap Some (sym t.1))
-  | inr t ↦ (let e = none_here n x t.0 in let f = place_of n xs (omega arith) in (suc f.0, f.1))
-]
-
 -- distinct numbers are those that stand once
 none_of : (x : ℕ) (xs : List ℕ) → AllByRecursion (λ y. nat_eq x y ≡ false) xs → times x xs ≡ 0
 none_of x [] apart = refl

@@ -40,13 +40,6 @@ tours_more p cs k x tours more t at below course route is before = subst (AreTou
   courses = courses_more p tours x.vehicle t (ap (course_of p) route ∙ sym course) before.courses;
 })
 
-pub tours_all : (p : Instance) (cs : List Change) (k : ℕ) (tours : List (ℕ × Course)) → drop k cs ≡ [] → AreToursTo p cs k tours → AreToursOf p cs tours
-tours_all p cs k tours end to = record { changes = sym (append_none (changes_of tours)) ∙ (ap (λ l. changes_of tours ++ l) (sym end) ∙ to.changes); courses = to.courses }
-  where
-    append_none : (l : List Change) → l ++ [] ≡ l
-    append_none [] = refl
-    append_none (c ∷ l) = ap (λ m. c ∷ m) (append_none l)
-
 -- a test of those left
 pub all_more : (test : Change → Bool) (cs : List Change) (k : ℕ) (x : Change) → x ≡ get_or cs k x → k < length cs → test x ≡ true → list_all test (drop (k + 1) cs) ≡ list_all test (drop k cs)
 all_more test cs k x at below t =

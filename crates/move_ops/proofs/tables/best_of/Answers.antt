@@ -22,8 +22,6 @@ loop-k-init c =
 
 pub loop-k-preserved-then-has_idle : goal.loop-k-preserved-then-has_idle
 loop-k-preserved-then-has_idle c =
-    let few = c.if-stop_count-eq0.true in
-    let count = c.stop_count.ensures.count in
     record {
       best = one_skipped c.requests_are_found_by_stop.ensures c.requests_stand_by_name.ensures c.passes_are_local.ensures c.tests_say_feasible.ensures c.costs_compare_part_by_part.ensures.below_tells
           c.costs_compare_part_by_part.ensures.at_most_tells c.costs_are_in_order.ensures.total c.costs_are_in_order.ensures.transitive c.costs_are_in_order.ensures.below_then_at_most
@@ -58,8 +56,6 @@ look_at-below-requires-clause-pin c =
 
 pub loop-k-preserved : goal.loop-k-preserved
 loop-k-preserved c =
-    let few = c.stop_count.ensures.few in
-    let count = c.stop_count.ensures.count in
     record {
       best = one_more c.requests_are_found_by_stop.ensures c.requests_stand_by_name.ensures c.passes_are_local.ensures c.tests_say_feasible.ensures c.costs_compare_part_by_part.ensures.below_tells
           c.costs_compare_part_by_part.ensures.at_most_tells c.costs_are_in_order.ensures.total c.costs_are_in_order.ensures.transitive c.costs_are_in_order.ensures.below_then_at_most

@@ -35,13 +35,10 @@ loop-j-preserved c =
     let v = c.from-vehicle.result in
     let below : c.loop-j.j < length c.args.first.now = search rules in
     let e = entry_at (length c.args.tables.now) c.args.first.now c.loop-j.j c.index-first-j.result v c.requires.first below c.from-vehicle.ensures in
-    let few = c.stop_count.ensures.few in
-    let count = c.stop_count.ensures.count in
     let table = c.index-tables-index.result in
     record {
       best = elim c.if-stop_count-ne0.branch [
         | then-stop_count-ne0 w ↦ (
-            let some = w.if-stop_count-ne0 in
             subst (IsBestAmongThese c.args.problem.now c.args.pins.now (plan_of c.args.tables.now) c.args.request.now (IsNamed (plan_of c.args.tables.now) c.args.first.now (c.loop-j.j + 1))) (sym w.best-is)
             (named_more c.requests_are_found_by_stop.ensures c.requests_stand_by_name.ensures c.passes_are_local.ensures c.tests_say_feasible.ensures c.costs_compare_part_by_part.ensures.below_tells
             c.costs_compare_part_by_part.ensures.at_most_tells c.costs_are_in_order.ensures.total c.costs_are_in_order.ensures.transitive c.costs_are_in_order.ensures.below_then_at_most
@@ -49,7 +46,6 @@ loop-j-preserved c =
             (v - 1) table c.index-tables-index.is e.3 c.args.first.now c.loop-j.j (get_or c.args.first.now c.loop-j.j c.index-first-j.result) e.0 e.1 (omega arith) (of_vehicle c.args.pins.now (v - 1 + 1)) refl (omega arith) c.loop-j.best w.look_past.new.best c.loop-j.invariant.best
             (subst (λ u. IsBetter c.args.problem.now (route_of table) c.args.request.now (length (of_vehicle c.args.pins.now u)) u c.loop-j.best w.look_past.new.best) e.2 w.look_past.ensures.better)))
         | else-stop_count-ne0 w ↦ (
-            let none = w.if-stop_count-ne0 in
             subst (IsBestAmongThese c.args.problem.now c.args.pins.now (plan_of c.args.tables.now) c.args.request.now (IsNamed (plan_of c.args.tables.now) c.args.first.now (c.loop-j.j + 1))) (sym w.best-is)
             (named_idle c.requests_are_found_by_stop.ensures c.requests_stand_by_name.ensures c.passes_are_local.ensures c.tests_say_feasible.ensures c.costs_compare_part_by_part.ensures.below_tells
             c.costs_compare_part_by_part.ensures.at_most_tells c.costs_are_in_order.ensures.total c.costs_are_in_order.ensures.transitive c.costs_are_in_order.ensures.below_then_at_most

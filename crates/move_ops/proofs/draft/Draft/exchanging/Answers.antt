@@ -22,7 +22,6 @@ are_all_feasible-requires-clause-once c =
 
 pub are_all_feasible-requires-clause-within : goal.are_all_feasible-requires-clause-within
 are_all_feasible-requires-clause-within c =
-    let p = c.args.problem.now in
     let d = c.args.self.now in
     let routes = draft_of d in
     let r = c.in-Some.first in

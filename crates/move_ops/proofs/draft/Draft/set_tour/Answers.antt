@@ -19,8 +19,6 @@ push_reserved-requires c =
     let view : c.self.inside.log.items ≡ c.args.self.now.log = search rules in
     let none : is_logged old.log.items c.args.vehicle ≡ false = ap (λ (l : List (ℕ × Course)). is_logged l c.args.vehicle) view ∙ not_logged c.entry_of.result c.args.self.now.log c.args.vehicle c.entry_of.ensures first in
     let few = room_left (length old.tours.items) old.log.items c.args.vehicle c.requires.from_one within c.self.invariant.within c.self.invariant.once none in
-    let room = c.self.invariant.room in
-    let long : length old.log.items ≡ vec_len old.log = search rules in
     omega arith
 
 pub invariant_of-self : goal.invariant_of-self

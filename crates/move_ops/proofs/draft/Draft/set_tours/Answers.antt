@@ -21,9 +21,6 @@ overflow_sub-driven c =
     let rest : into_iter_items c.loop-vehicle.vehicle-iterator ≡ (c.in-Some.vehicle, c.in-Some.tour) ∷ into_iter_items c.next.new.self = search rules in
     let all : AreWithin (length old.tours) ((c.in-Some.vehicle, c.in-Some.tour) ∷ into_iter_items c.next.new.self) = subst (AreWithin (length old.tours)) rest inv.within in
     let part = length_within p old.tours c.in-Some.vehicle all.0.0 all.0.1 in
-    let gone = c.from-driven-in-loop-vehicle-2.ensures in
-    let here = c.distance_of.ensures in
-    let so_far = inv.driven in
     omega arith
 
 pub loop-vehicle-preserved : goal.loop-vehicle-preserved
@@ -39,15 +36,10 @@ loop-vehicle-preserved c =
     let all : AreWithin (length old.tours) ((c.in-Some.vehicle, c.in-Some.tour) ∷ into_iter_items c.next.new.self) = subst (AreWithin (length old.tours)) rest inv.within in
     let courses : AreCourses p ((c.in-Some.vehicle, c.in-Some.tour) ∷ into_iter_items c.next.new.self) = subst (AreCourses p) rest inv.courses in
     let long = ap length made.tours ∙ length-set old.tours (v - 1) tour in
-    let part = length_within p old.tours v all.0.0 all.0.1 in
     let moved = length_moved p old.tours c.set_tour.new.self.tours v tour made.tours all.0.0 all.0.1 in
-    let gone = c.from-driven-in-loop-vehicle-2.ensures in
-    let here = c.distance_of.ensures in
-    let told = c.from-driven-in-loop-vehicle.ensures in
     let table : c.table.result.now ≡ tour = search rules in
     let is_course : IsCourseIn p tour = courses.0 in
     let there = c.distance.ensures p (route_of tour) (is_course ∙ sym table) in
-    let so_far = inv.driven in
     let few = inv.few in
     let more = length-append c.loop-vehicle.yielded ((v, tour) ∷ []) in
     record {

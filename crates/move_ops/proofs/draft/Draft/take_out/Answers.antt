@@ -10,9 +10,7 @@ pub overflow_add-unplanned : goal.overflow_add-unplanned
 overflow_add-unplanned c =
     let cost : c.self.inside.cost ≡ c.args.self.now.cost = search rules in
     let held = ap (λ (k : Cost). k.unplanned) cost in
-    let e = c.requires.change.unplanned in
     let f = few_left_out c.args.problem.now c.requires.is.valid (with_routes (draft_of c.args.self.now) (changes_of c.args.tours.items)) in
-    let g = c.distinct_count.ensures.count in
     omega arith
 
 pub clear_named-requires : goal.clear_named-requires

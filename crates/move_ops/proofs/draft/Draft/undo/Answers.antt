@@ -34,8 +34,6 @@ swap-tried-requires c =
     let below : c.args.entry < length old.log.items = search rules in
     let at = slice_get_read old.log.items (length old.log.items) c.args.entry c.remove-vehicle.result refl below c.remove-vehicle.ensures.value in
     let parts = within_without (length old.tours.items) old.log.items c.args.entry c.remove-vehicle.result at c.self.invariant.within in
-    let low = parts.1.0 in
-    let high = parts.1.1 in
     omega arith
 
 pub invariant_of-self : goal.invariant_of-self

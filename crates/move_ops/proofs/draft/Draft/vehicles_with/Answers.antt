@@ -18,7 +18,6 @@ overflow_sub-result c =
     let kind : p.kind ≡ LiLim = search rules in
     let now : c.args.now ≡ used_count (plan_of tours) = c.requires.now ∙ (ap (λ (l : List Course). vehicle_count p.kind (plan_of l)) viewed ∙ ap (λ (k : Kind). vehicle_count k (plan_of tours)) kind) in
     let le = used_part tours v c.requires.from_one within c.index-old.result.now c.index-old.ensures in
-    let told = c.used.ensures in
     omega arith
 
 pub returns-in-LiLim : goal.returns-in-LiLim
@@ -34,6 +33,4 @@ returns-in-LiLim c =
     let after : vehicle_count p.kind (with_route (plan_of c.args.self.now.tours) v new) ≡ used_count (with_route (plan_of tours) v new) =
     ap (λ (l : List Course). vehicle_count p.kind (with_route (plan_of l) v new)) viewed ∙ ap (λ (k : Kind). vehicle_count k (with_route (plan_of tours) v new)) kind in
     let f = used_with tours v c.requires.from_one within c.index-old.result.now c.index-old.ensures new in
-    let before = c.used.ensures in
-    let here = c.used-in-LiLim.ensures in
     omega arith

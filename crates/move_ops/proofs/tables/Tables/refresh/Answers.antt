@@ -12,7 +12,6 @@ pub replace-requires : goal.replace-requires
 replace-requires c =
     let p = c.args.problem.now in
     let fleet = fleet_of c.passes_are_local.ensures p [] c.args.plan.now.routes c.requires.pass in
-    let e = c.requires.others.long in
     let f = length-map c.args.self.now route_of in
     let n : length c.args.self.now ≡ p.fleet = omega arith in
     let made : c.in_ok-fresh.fresh.items ≡ map (fresh_of p c.args.plan.now.routes) c.args.vehicles.now = search rules in
