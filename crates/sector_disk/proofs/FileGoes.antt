@@ -11,7 +11,7 @@ use Rattle.sector_disk.specs.MemoryLaws.{whole_sectors}
 use Rattle.sector_disk.specs.FileRecord.{Entry, events_in, file_history, AnswersAsModel, all_inside}
 use Rattle.sector_disk.specs.FileCalls.{read_entry, write_entry, sync_entry}
 use Rattle.sector_disk.specs.FileLaws.{file_reads_possible}
-use Rattle.sector_disk.proofs.Goes.{GoesOn, WriteCase, SyncCase, finishes, shows, syncs, sync_shows, write_seen, write_contents, write_within, write_moments, sync_seen, sync_durable, sync_contents, sync_moments}
+use Rattle.sector_disk.proofs.Goes.{GoesOn, WriteCase, SyncCase, finishes, shows, syncs, sync_shows, Writes, Syncs, write_means, sync_means}
 
 module _ (n after : ℕ) (start : Disk) (shown : ℕ → List ℕ) (old new : List Entry) (sectors : after ≡ n) where
   -- what was honest after one entry more was so before it
@@ -19,13 +19,6 @@ module _ (n after : ℕ) (start : Disk) (shown : ℕ → List ℕ) (old new : Li
   honest_before entry more honest = subst (λ (l : List Entry). AnswersAsModel n start shown l) more (subst (λ (m : ℕ). AnswersAsModel m start shown new) sectors honest)
 
   module _ (calls new_calls : ℕ) where
-    pub unchanged_goes : new ≡ old → new_calls ≡ calls → GoesOn (file_history n start shown old calls) (file_history after start shown new new_calls) []
-    unchanged_goes same counted = record { sectors = sectors; start = refl; events = ap (events_in shown) same ∙ sym (append-nil (events_in shown old)); calls = omega (arith, counted) }
-
-    pub read_goes : (ok : Bool) (first : ℕ) (bytes : List ℕ) → new ≡ read_entry ok first bytes ∷ old → new_calls ≡ calls → GoesOn (file_history n start shown old calls) (file_history after start shown new new_calls) []
-    read_goes true first bytes more counted = record { sectors = sectors; start = refl; events = ap (events_in shown) more; calls = omega (arith, counted) }
-    read_goes false first bytes more counted = record { sectors = sectors; start = refl; events = ap (events_in shown) more; calls = omega (arith, counted) }
-
     pub write_goes : (ok : Bool) (first : ℕ) (bytes : List ℕ) → new ≡ write_entry ok first bytes ∷ old → new_calls ≡ (if ok then calls + 1 else calls)
         → WriteCase (file_history n start shown old calls) (file_history after start shown new new_calls) first bytes ok
     write_goes true first bytes more counted =
@@ -44,18 +37,6 @@ module _ (n after : ℕ) (start : Disk) (shown : ℕ → List ℕ) (old new : Li
   pub possible_before : (entry : Entry) (calls : ℕ) → new ≡ entry ∷ old → IsTrue (all_inside (512 * n) old) → AnswersAsModel after start shown new
       → MayLeaveIn (file_history n start shown old calls) (seen_in (file_history n start shown old calls))
   possible_before entry calls more inside honest = file_reads_possible n start shown old (honest_before entry more honest).0 inside
-
-pub record Writes {T E : Type 0} (old new : History) (first : ℕ) (bytes : List ℕ) (result : Result T E) : Type 0 where
-  pub seen : OnOk result (seen_in new ≡ written first bytes (seen_in old))
-  pub contents : AddsContents result first bytes (MayLeaveIn old) (MayLeaveIn new)
-  pub within : OnOk result ((t : ℕ) (image : List ℕ) → t ≤ clock_in old → Reached first bytes (MayLeaveIn old) image → MayHaveLeftIn new t old.calls image)
-  pub moments : Elapses (clock_in old) (clock_in new) (MayHaveLeftIn old) (MayHaveLeftIn new) old.calls new.calls (Reached first bytes (MayLeaveIn old)) (MayLeaveIn new)
-
-pub record Syncs {T E : Type 0} (old new : History) (result : Result T E) : Type 0 where
-  pub seen : OnOk result (seen_in new ≡ seen_in old)
-  pub durable : OnOk result (Only (seen_in old) (MayLeaveIn new))
-  pub contents : OnErr result (SameImages (MayLeaveIn old) (MayLeaveIn new))
-  pub moments : Elapses (clock_in old) (clock_in new) (MayHaveLeftIn old) (MayHaveLeftIn new) old.calls new.calls (MayLeaveIn old) (MayLeaveIn new)
 
 -- what a write or a sync of a file means, for an honest file: the clauses of a device
 module _ {T E : Type 0} (n after : ℕ) (start : Disk) (shown : ℕ → List ℕ) (old new : List Entry) (sectors : after ≡ n) (calls new_calls : ℕ) (result : Result T E) (inside : IsTrue (all_inside (512 * n) old)) (honest : AnswersAsModel after start shown new)
@@ -76,19 +57,9 @@ module _ {T E : Type 0} (n after : ℕ) (start : Disk) (shown : ℕ → List ℕ
     pub file_writes : Writes before now first bytes result
     file_writes =
         let possible = possible_before n after start shown old new sectors (write_entry (is_ok result) first bytes) calls more inside honest in
-        let case = write_goes n after start shown old new sectors calls new_calls (is_ok result) first bytes more counted in record {
-          seen = write_seen before now first bytes size within possible result case;
-          contents = write_contents before now first bytes size within possible result case;
-          within = write_within before now first bytes size within possible result case;
-          moments = write_moments before now first bytes size within possible result case;
-        }
+        write_means before now first bytes size within possible result (write_goes n after start shown old new sectors calls new_calls (is_ok result) first bytes more counted)
 
   pub file_syncs : new ≡ sync_entry (is_ok result) ∷ old → Syncs before now result
   file_syncs more =
       let possible = possible_before n after start shown old new sectors (sync_entry (is_ok result)) calls more inside honest in
-      let case = sync_goes n after start shown old new sectors calls new_calls (is_ok result) more counted in record {
-        seen = sync_seen before now possible result case;
-        durable = sync_durable before now possible result case;
-        contents = sync_contents before now possible result case;
-        moments = sync_moments before now possible result case;
-      }
+      sync_means before now possible result (sync_goes n after start shown old new sectors calls new_calls (is_ok result) more counted)

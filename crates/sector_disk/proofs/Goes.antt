@@ -63,9 +63,6 @@ elapses old new more on within each = record {
 pub unchanged_images : (old new : History) → GoesOn old new [] → SameImages (MayLeaveIn old) (MayLeaveIn new)
 unchanged_images old new on = record { nothing_else = may_leave old new [] on; keeps = may_leave_new old new [] on }
 
-pub unchanged_seen : (old new : History) → GoesOn old new [] → seen_in new ≡ seen_in old
-unchanged_seen old new on = ap (λ (d : Disk). d.seen) (disk_is old new [] on)
-
 pub unchanged_moments : (old new : History) → GoesOn old new [] → (within : List ℕ → Type 0) → ((image : List ℕ) → MayLeaveIn old image → within image)
     → Elapses (clock_in old) (clock_in new) (MayHaveLeftIn old) (MayHaveLeftIn new) old.calls new.calls within (MayLeaveIn new)
 unchanged_moments old new on within is_within = elapses old new [] on within (λ j m image le count is. inl (count_of j m count, is_within image (image_of j image is)))
@@ -181,14 +178,20 @@ pub data WriteCase (old new : History) (first : ℕ) (bytes : List ℕ) : Bool �
   nothing : GoesOn old new [] → WriteCase old new first bytes false
   shows : (image : List ℕ) → GoesOn old new (sectors_from first bytes (length bytes / 512) ++ Show image ∷ []) → WriteCase old new first bytes false
 
+pub record Writes {T E : Type 0} (old new : History) (first : ℕ) (bytes : List ℕ) (result : Result T E) : Type 0 where
+  pub seen : OnOk result (seen_in new ≡ written first bytes (seen_in old))
+  pub contents : AddsContents result first bytes (MayLeaveIn old) (MayLeaveIn new)
+  pub within : OnOk result ((t : ℕ) (image : List ℕ) → t ≤ clock_in old → Reached first bytes (MayLeaveIn old) image → MayHaveLeftIn new t old.calls image)
+  pub moments : Elapses (clock_in old) (clock_in new) (MayHaveLeftIn old) (MayHaveLeftIn new) old.calls new.calls (Reached first bytes (MayLeaveIn old)) (MayLeaveIn new)
+
 module _ {T E : Type 0} (old new : History) (first : ℕ) (bytes : List ℕ) (whole : length bytes ≡ 512 * (length bytes / 512)) (inside : first + length bytes / 512 ≤ old.sectors) (possible : MayLeaveIn old (seen_in old)) where
-  pub write_seen : (result : Result T E) → WriteCase old new first bytes (is_ok result) → OnOk result (seen_in new ≡ written first bytes (seen_in old))
+  write_seen : (result : Result T E) → WriteCase old new first bytes (is_ok result) → OnOk result (seen_in new ≡ written first bytes (seen_in old))
   write_seen (Ok x) (finishes on) = done_seen old first bytes whole inside possible new on
   write_seen (Err e) (tears on) = tt
   write_seen (Err e) (nothing on) = tt
   write_seen (Err e) (shows image on) = tt
 
-  pub write_contents : (result : Result T E) → WriteCase old new first bytes (is_ok result) → AddsContents result first bytes (MayLeaveIn old) (MayLeaveIn new)
+  write_contents : (result : Result T E) → WriteCase old new first bytes (is_ok result) → AddsContents result first bytes (MayLeaveIn old) (MayLeaveIn new)
   write_contents (Ok x) (finishes on) = record {
     nothing_else = ended_else old first bytes whole inside possible new (Finish first bytes) (λ d i. refl) on;
     keeps = λ image is. ended_all old first bytes whole inside possible new (Finish first bytes) (λ d i. refl) on image (is_before old first bytes image is);
@@ -210,17 +213,20 @@ module _ {T E : Type 0} (old new : History) (first : ℕ) (bytes : List ℕ) (wh
     all = λ ok. absurd (false≢true ok);
   }
 
-  pub write_within : (result : Result T E) → WriteCase old new first bytes (is_ok result) → OnOk result ((t : ℕ) (image : List ℕ) → t ≤ clock_in old → Reached first bytes (MayLeaveIn old) image → MayHaveLeftIn new t old.calls image)
+  write_within : (result : Result T E) → WriteCase old new first bytes (is_ok result) → OnOk result ((t : ℕ) (image : List ℕ) → t ≤ clock_in old → Reached first bytes (MayLeaveIn old) image → MayHaveLeftIn new t old.calls image)
   write_within (Ok x) (finishes on) = ended_within old first bytes whole inside possible new (Finish first bytes) (λ d i. refl) on
   write_within (Err e) (tears on) = tt
   write_within (Err e) (nothing on) = tt
   write_within (Err e) (shows image on) = tt
 
-  pub write_moments : (result : Result T E) → WriteCase old new first bytes (is_ok result) → Elapses (clock_in old) (clock_in new) (MayHaveLeftIn old) (MayHaveLeftIn new) old.calls new.calls (Reached first bytes (MayLeaveIn old)) (MayLeaveIn new)
+  write_moments : (result : Result T E) → WriteCase old new first bytes (is_ok result) → Elapses (clock_in old) (clock_in new) (MayHaveLeftIn old) (MayHaveLeftIn new) old.calls new.calls (Reached first bytes (MayLeaveIn old)) (MayLeaveIn new)
   write_moments (Ok x) (finishes on) = ended_moments old first bytes whole inside possible new (Finish first bytes) (λ d i. refl) on
   write_moments (Err e) (tears on) = torn_moments old first bytes whole inside possible new on
   write_moments (Err e) (nothing on) = unchanged_moments old new on (Reached first bytes (MayLeaveIn old)) (is_before old first bytes)
   write_moments (Err e) (shows image on) = ended_moments old first bytes whole inside possible new (Show image) (λ d i. refl) on
+
+  pub write_means : (result : Result T E) → WriteCase old new first bytes (is_ok result) → Writes old new first bytes result
+  write_means result case = record { seen = write_seen result case; contents = write_contents result case; within = write_within result case; moments = write_moments result case }
 
 -- what a sync may have come to
 pub data SyncCase (old new : History) : Bool → Type 0 where
@@ -228,18 +234,24 @@ pub data SyncCase (old new : History) : Bool → Type 0 where
   no_sync : GoesOn old new [] → SyncCase old new false
   sync_shows : (image : List ℕ) → GoesOn old new (Show image ∷ []) → SyncCase old new false
 
+pub record Syncs {T E : Type 0} (old new : History) (result : Result T E) : Type 0 where
+  pub seen : OnOk result (seen_in new ≡ seen_in old)
+  pub durable : OnOk result (Only (seen_in old) (MayLeaveIn new))
+  pub contents : OnErr result (SameImages (MayLeaveIn old) (MayLeaveIn new))
+  pub moments : Elapses (clock_in old) (clock_in new) (MayHaveLeftIn old) (MayHaveLeftIn new) old.calls new.calls (MayLeaveIn old) (MayLeaveIn new)
+
 module _ {T E : Type 0} (old new : History) (possible : MayLeaveIn old (seen_in old)) where
-  pub sync_seen : (result : Result T E) → SyncCase old new (is_ok result) → OnOk result (seen_in new ≡ seen_in old)
+  sync_seen : (result : Result T E) → SyncCase old new (is_ok result) → OnOk result (seen_in new ≡ seen_in old)
   sync_seen (Ok x) (syncs on) = ap (λ (d : Disk). d.seen) (disk_is old new (Sync ∷ []) on)
   sync_seen (Err e) (no_sync on) = tt
   sync_seen (Err e) (sync_shows image on) = tt
 
-  pub sync_durable : (result : Result T E) → SyncCase old new (is_ok result) → OnOk result (Only (seen_in old) (MayLeaveIn new))
+  sync_durable : (result : Result T E) → SyncCase old new (is_ok result) → OnOk result (Only (seen_in old) (MayLeaveIn new))
   sync_durable (Ok x) (syncs on) = λ image is. settled_only old.sectors (seen_in old) image possible.size (may_leave old new (Sync ∷ []) on image is)
   sync_durable (Err e) (no_sync on) = tt
   sync_durable (Err e) (sync_shows image on) = tt
 
-  pub sync_contents : (result : Result T E) → SyncCase old new (is_ok result) → OnErr result (SameImages (MayLeaveIn old) (MayLeaveIn new))
+  sync_contents : (result : Result T E) → SyncCase old new (is_ok result) → OnErr result (SameImages (MayLeaveIn old) (MayLeaveIn new))
   sync_contents (Ok x) (syncs on) = tt
   sync_contents (Err e) (no_sync on) = unchanged_images old new on
   sync_contents (Err e) (sync_shows shown on) = record {
@@ -247,7 +259,7 @@ module _ {T E : Type 0} (old new : History) (possible : MayLeaveIn old (seen_in 
     keeps = λ image is. may_leave_new old new (Show shown ∷ []) on image (record { size = is.size; each = is.each });
   }
 
-  pub sync_moments : (result : Result T E) → SyncCase old new (is_ok result) → Elapses (clock_in old) (clock_in new) (MayHaveLeftIn old) (MayHaveLeftIn new) old.calls new.calls (MayLeaveIn old) (MayLeaveIn new)
+  sync_moments : (result : Result T E) → SyncCase old new (is_ok result) → Elapses (clock_in old) (clock_in new) (MayHaveLeftIn old) (MayHaveLeftIn new) old.calls new.calls (MayLeaveIn old) (MayLeaveIn new)
   sync_moments (Ok x) (syncs on) = elapses old new (Sync ∷ []) on (MayLeaveIn old) at
     where
       at : (j m : ℕ) (image : List ℕ) → j ≤ 1 → m + finished (drop j (Sync ∷ [])) ≡ old.calls + 1 → IsImage old.sectors (run (disk_in old) (take j (Sync ∷ []))) image
@@ -263,3 +275,6 @@ module _ {T E : Type 0} (old new : History) (possible : MayLeaveIn old (seen_in 
       at zero m image le count is = inl (omega arith, is)
       at (suc zero) m image le count is = inr (omega (arith, count, on.calls), may_leave_new old new (Show shown ∷ []) on image is)
       at (suc (suc j)) m image le count is = absurd (omega arith)
+
+  pub sync_means : (result : Result T E) → SyncCase old new (is_ok result) → Syncs old new result
+  sync_means result case = record { seen = sync_seen result case; durable = sync_durable result case; contents = sync_contents result case; moments = sync_moments result case }

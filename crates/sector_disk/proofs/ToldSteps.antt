@@ -108,9 +108,6 @@ module _ (way : Way) (old new : List Noted) (start : ℕ) where
     pub begins : (n : ℕ) → answered new ≡ (moved_call way start n, bytes) ∷ answered old → told_by new ≡ so_far (told_by old).entries way start bytes n
     begins n more = ap told_in more ∙ after_moved way (told_by old) start n bytes ∙ ap (λ (g : Option Transfer). by_going moved_on (told_by old).entries g way start bytes n) none
 
-    pub fails : (kind : ErrorKind) → answered new ≡ (failed_call way start kind, bytes) ∷ answered old → told_by new ≡ done (told_by old).entries (failed way start bytes)
-    fails kind more = ap told_in more ∙ after_failed way (told_by old) start kind bytes ∙ ap (λ (g : Option Transfer). by_going stopped (told_by old).entries g way start bytes 0) none
-
   -- a further one, for what is left
   module _ (entries : List Entry) (bytes piece : List ℕ) (at : ℕ) (is : told_by old ≡ so_far entries way start bytes at) (more : at < length bytes) (rest : length piece ≡ length (drop at bytes)) where
     pub goes_further : (n : ℕ) → answered new ≡ (moved_call way (start + at) n, piece) ∷ answered old → told_by new ≡ so_far entries way start (take at bytes ++ piece) (at + n)
@@ -130,9 +127,6 @@ write_finishes first bytes = ap (λ (k : ℕ). (WriteFinished k, bytes)) (first_
 
 pub write_fails : (first : ℕ) (bytes : List ℕ) → failed Writes (first * 512) bytes ≡ write_entry false first bytes
 write_fails first bytes = ap (λ (k : ℕ). (WriteFailed k, bytes)) (first_is first)
-
-pub read_finishes : (first : ℕ) (bytes : List ℕ) → finished Reads (first * 512) bytes ≡ read_entry true first bytes
-read_finishes first bytes = ap (λ (k : ℕ). (ReadGave k, bytes)) (first_is first)
 
 -- a buffer behind a read into what is left of it
 pub put_rest : (at : ℕ) (xs ys : List ℕ) → put_mid at (length xs - at) xs ys ≡ take at xs ++ ys
