@@ -7,15 +7,13 @@ use Rattle.move_ops.proofs.plan_moves.best_insertion.Goals as goal
 
 pub best-requires-clause-request : goal.best-requires-clause-request
 best-requires-clause-request c =
-    let found : lookup (nat_eq c.args.name) c.args.problem.now.requests ≡ Some c.in-Some.request.now = search rules in
-    named_request c.args.problem.now c.in_ok-draft.ensures.is.valid c.args.name c.in-Some.request.now found
+    named_request c.args.problem.now c.in_ok-draft.ensures.is.valid c.args.name c.in-Some.request.now (search rules)
 
 pub returns : goal.returns
 returns c =
     let p = c.args.problem.now in
     let pins = c.args.pins.now.routes in
     let r = c.in-Some.request.now in
-    let found : lookup (nat_eq c.args.name) p.requests ≡ Some r = search rules in
     c.best.ensures.best
     ∙ (ap (λ (l : List (List ℕ)). best_insertion p pins l (request_name r)) c.in_ok-draft.ensures.draft
-    ∙ ap (best_insertion p pins c.args.plan.now.routes) (named_so p c.in_ok-draft.ensures.is.valid c.args.name r found))
+    ∙ ap (best_insertion p pins c.args.plan.now.routes) (named_so p c.in_ok-draft.ensures.is.valid c.args.name r (search rules)))

@@ -10,8 +10,7 @@ use Rattle.move_ops.proofs.tables.best_of_first.Goals.{then-stop_count-ne0, else
 pub look_past-requires-clause-course : goal.look_past-requires-clause-course
 look_past-requires-clause-course c =
     let v = c.from-vehicle.result in
-    let below : c.loop-j.j < length c.args.first.now = search rules in
-    let e = entry_at (length c.args.tables.now) c.args.first.now c.loop-j.j c.index-first-j.result v c.requires.first below c.from-vehicle.ensures in
+    let e = entry_at (length c.args.tables.now) c.args.first.now c.loop-j.j c.index-first-j.result v c.requires.first (search rules) c.from-vehicle.ensures in
     course_at c.args.tables.now (v - 1) c.index-tables-index.result c.index-tables-index.is e.3 c.args.problem.now c.requires.asked.tables
 
 pub look_past-requires-clause-valid : goal.look_past-requires-clause-valid
@@ -23,8 +22,7 @@ look_past-requires-clause-valid c =
 pub look_past-requires-clause-pin : goal.look_past-requires-clause-pin
 look_past-requires-clause-pin c =
     let v = c.from-vehicle.result in
-    let below : c.loop-j.j < length c.args.first.now = search rules in
-    let e = entry_at (length c.args.tables.now) c.args.first.now c.loop-j.j c.index-first-j.result v c.requires.first below c.from-vehicle.ensures in
+    let e = entry_at (length c.args.tables.now) c.args.first.now c.loop-j.j c.index-first-j.result v c.requires.first (search rules) c.from-vehicle.ensures in
     pin_fits c.requests_are_found_by_stop.ensures c.requests_stand_by_name.ensures c.passes_are_local.ensures c.tests_say_feasible.ensures c.costs_compare_part_by_part.ensures.below_tells
     c.costs_compare_part_by_part.ensures.at_most_tells c.costs_are_in_order.ensures.total c.costs_are_in_order.ensures.transitive c.costs_are_in_order.ensures.below_then_at_most
     c.costs_are_in_order.ensures.at_most_then_below c.costs_are_in_order.ensures.below_is_at_most c.args.problem.now c.args.pins.now c.args.tables.now c.args.request.now c.requires.asked
@@ -33,8 +31,7 @@ look_past-requires-clause-pin c =
 pub loop-j-preserved : goal.loop-j-preserved
 loop-j-preserved c =
     let v = c.from-vehicle.result in
-    let below : c.loop-j.j < length c.args.first.now = search rules in
-    let e = entry_at (length c.args.tables.now) c.args.first.now c.loop-j.j c.index-first-j.result v c.requires.first below c.from-vehicle.ensures in
+    let e = entry_at (length c.args.tables.now) c.args.first.now c.loop-j.j c.index-first-j.result v c.requires.first (search rules) c.from-vehicle.ensures in
     let table = c.index-tables-index.result in
     record {
       best = elim c.if-stop_count-ne0.branch [
@@ -57,5 +54,4 @@ loop-j-preserved c =
 
 pub returns-clause-best : goal.returns-clause-best
 returns-clause-best c =
-    let end : c.loop-j.j ≡ length c.args.first.now = search rules in
-    subst (λ n. IsBestAmongThese c.args.problem.now c.args.pins.now (plan_of c.args.tables.now) c.args.request.now (IsNamed (plan_of c.args.tables.now) c.args.first.now n) c.loop-j.best) end c.loop-j.invariant.best
+    subst (λ n. IsBestAmongThese c.args.problem.now c.args.pins.now (plan_of c.args.tables.now) c.args.request.now (IsNamed (plan_of c.args.tables.now) c.args.first.now n) c.loop-j.best) (search rules) c.loop-j.invariant.best

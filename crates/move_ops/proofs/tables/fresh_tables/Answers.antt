@@ -9,8 +9,7 @@ pub build-requires-clause-route : goal.build-requires-clause-route
 build-requires-clause-route c =
     let p = c.args.problem.now in
     let v = c.from.result in
-    let here : v ≡ get_or c.args.vehicles.now c.loop-vehicle.vehicle-index 0 = search rules in
-    let within : (1 ≤ v) × (v ≤ p.fleet) = subst (λ (n : ℕ). (1 ≤ n) × (n ≤ p.fleet)) (sym here) (All-get_or (λ (n : ℕ). (1 ≤ n) × (n ≤ p.fleet)) c.args.vehicles.now c.loop-vehicle.vehicle-index 0 (omega arith) c.requires.vehicles) in
+    let within : (1 ≤ v) × (v ≤ p.fleet) = subst (λ (n : ℕ). (1 ≤ n) × (n ≤ p.fleet)) (sym (search rules)) (All-get_or (λ (n : ℕ). (1 ≤ n) × (n ≤ p.fleet)) c.args.vehicles.now c.loop-vehicle.vehicle-index 0 (omega arith) c.requires.vehicles) in
     let low = within.0 in
     let fleet = fleet_of c.passes_are_local.ensures p [] c.args.routes.now c.requires.pass in
     route_once c.passes_are_local.ensures c.plans_are_local.ensures c.tests_say_feasible.ensures p [] c.args.routes.now c.requires.pass (v - 1) c.of_vehicle-route.result.now
@@ -21,8 +20,7 @@ build-requires-clause-limits c =
     let p = c.args.problem.now in
     let valid : IsInstance p = c.problem_keeps_limits.ensures in
     let v = c.from.result in
-    let here : v ≡ get_or c.args.vehicles.now c.loop-vehicle.vehicle-index 0 = search rules in
-    let within : (1 ≤ v) × (v ≤ p.fleet) = subst (λ (n : ℕ). (1 ≤ n) × (n ≤ p.fleet)) (sym here) (All-get_or (λ (n : ℕ). (1 ≤ n) × (n ≤ p.fleet)) c.args.vehicles.now c.loop-vehicle.vehicle-index 0 (omega arith) c.requires.vehicles) in
+    let within : (1 ≤ v) × (v ≤ p.fleet) = subst (λ (n : ℕ). (1 ≤ n) × (n ≤ p.fleet)) (sym (search rules)) (All-get_or (λ (n : ℕ). (1 ≤ n) × (n ≤ p.fleet)) c.args.vehicles.now c.loop-vehicle.vehicle-index 0 (omega arith) c.requires.vehicles) in
     let low = within.0 in
     let fleet = fleet_of c.passes_are_local.ensures p [] c.args.routes.now c.requires.pass in
     route_keeps c.passes_are_local.ensures c.plans_are_local.ensures c.tests_say_feasible.ensures p [] c.args.routes.now c.requires.pass (v - 1) c.of_vehicle-route.result.now

@@ -11,10 +11,9 @@ loop-front-preserved c =
     let k = c.loop-front.front - 1 in
     let within = c.loop-front.invariant.within in
     let t = c.index-tours-front.result in
-    let next : c.loop-front.front ≡ k + 1 = omega arith in
     let long = stops_long tours k t c.index-tours-front.is (omega arith) in
     let at = ap length (route_at tours k t c.index-tours-front.is (omega arith)) in
     record {
       within = omega arith;
-      idle = idle_before (plan_of tours) k (subst (λ n. AreIdleBehind n (plan_of tours)) next c.loop-front.invariant.idle) (omega arith);
+      idle = idle_before (plan_of tours) k (subst (λ n. AreIdleBehind n (plan_of tours)) (omega arith) c.loop-front.invariant.idle) (omega arith);
     }

@@ -10,12 +10,10 @@ use Rattle.move_ops.proofs.draft.Draft.best.Goals as goal
 
 pub best_of-requires-clause-reach : goal.best_of-requires-clause-reach
 best_of-requires-clause-reach c =
-    let tours : c.deref.result.now ≡ c.args.self.now.tours = search rules in
-    subst (λ (t : List Course). IsReach (plan_of t) c.reach.result) (sym tours) c.reach.ensures.reach
+    subst (λ (t : List Course). IsReach (plan_of t) c.reach.result) (sym (search rules)) c.reach.ensures.reach
 
 pub returns-in-Some-clause-put : goal.returns-in-Some-clause-put
 returns-in-Some-clause-put c =
     let is = c.requires.is in
-    let best : best_insertion c.args.problem.now c.args.pins.now.routes (draft_of c.args.self.now) (request_name c.args.request.now) ≡ Some c.place.result = search rules in
     best_put c.requests_are_found_by_stop.ensures c.requests_stand_by_name.ensures c.passes_are_local.ensures c.tests_say_feasible.ensures c.numbers_are_below_the_next.ensures.stops c.best_insertions_are_least.ensures
-    c.args.problem.now c.args.pins.now.routes (draft_of c.args.self.now) is.valid is.draft c.args.request.now c.requires.request c.place.result best
+    c.args.problem.now c.args.pins.now.routes (draft_of c.args.self.now) is.valid is.draft c.args.request.now c.requires.request c.place.result (search rules)

@@ -11,29 +11,23 @@ pub is_feasible-requires-clause-once : goal.is_feasible-requires-clause-once
 is_feasible-requires-clause-once c =
     let p = c.args.problem.now in
     let routes = draft_of c.args.self.now in
-    let free : is_planned routes c.args.request.now ≡ false = search rules in
     let place : is_place_of c.args.pins.now.routes routes c.args.request.now c.args.place ≡ true = search rules in
-    let route : inserted c.args.request.now c.args.place.1 c.args.place.2 (of_vehicle routes c.args.place.0) ≡ c.deref-2.result.now = search rules in
-    subst (AreLiveOnce p) route
+    subst (AreLiveOnce p) (search rules)
     (asked_once c.requests_are_found_by_stop.ensures c.requests_stand_by_name.ensures c.passes_are_local.ensures c.tests_say_feasible.ensures c.numbers_are_below_the_next.ensures.stops
-    p c.args.pins.now.routes routes c.requires.is.valid c.requires.is.draft c.args.request.now c.requires.request c.args.place free place)
+    p c.args.pins.now.routes routes c.requires.is.valid c.requires.is.draft c.args.request.now c.requires.request c.args.place (search rules) place)
 
 pub returns-clause-put : goal.returns-clause-put
 returns-clause-put c =
     let p = c.args.problem.now in
     let routes = draft_of c.args.self.now in
-    let free : is_planned routes c.args.request.now ≡ false = search rules in
     let place : is_place_of c.args.pins.now.routes routes c.args.request.now c.args.place ≡ true = search rules in
-    let route : c.deref-2.result.now ≡ inserted c.args.request.now c.args.place.1 c.args.place.2 (of_vehicle routes c.args.place.0) = search rules in
     feasible_put c.requests_are_found_by_stop.ensures c.requests_stand_by_name.ensures c.passes_are_local.ensures c.tests_say_feasible.ensures c.numbers_are_below_the_next.ensures.stops
-    p c.args.pins.now.routes routes c.requires.is.valid c.requires.is.draft c.args.request.now c.requires.request c.args.place free place c.is_feasible.result (c.is_feasible.ensures ∙ ap (feasible_alone p) route)
+    p c.args.pins.now.routes routes c.requires.is.valid c.requires.is.draft c.args.request.now c.requires.request c.args.place (search rules) place c.is_feasible.result (c.is_feasible.ensures ∙ ap (feasible_alone p) (search rules))
 
 pub returns-clause-none : goal.returns-clause-none
 returns-clause-none c =
     let p = c.args.problem.now in
     let routes = draft_of c.args.self.now in
-    let free : is_planned routes c.args.request.now ≡ false = search rules in
     let place : is_place_of c.args.pins.now.routes routes c.args.request.now c.args.place ≡ true = search rules in
-    let route : c.deref-2.result.now ≡ inserted c.args.request.now c.args.place.1 c.args.place.2 (of_vehicle routes c.args.place.0) = search rules in
     not_put c.requests_are_found_by_stop.ensures c.requests_stand_by_name.ensures c.passes_are_local.ensures c.tests_say_feasible.ensures c.numbers_are_below_the_next.ensures.stops
-    p c.args.pins.now.routes routes c.requires.is.valid c.requires.is.draft c.args.request.now c.requires.request c.args.place free place c.is_feasible.result (c.is_feasible.ensures ∙ ap (feasible_alone p) route)
+    p c.args.pins.now.routes routes c.requires.is.valid c.requires.is.draft c.args.request.now c.requires.request c.args.place (search rules) place c.is_feasible.result (c.is_feasible.ensures ∙ ap (feasible_alone p) (search rules))

@@ -12,6 +12,5 @@ clear_request-requires c =
     let names = c.args.names.now in
     let k = c.loop-name.name-index in
     let valid : IsInstance c.args.problem.now = c.problem_keeps_limits.ensures in
-    let at : lookup (nat_eq (get_or c.args.names.now c.loop-name.name-index 0)) c.args.problem.now.requests ≡ Some c.in-Some.request = search rules in
     λ n some. ap (λ (d : Drafted). has_stop (draft_of d) n) c.loop-name.invariant
-    ∙ c.requires n (named_stop c.requests_are_found_by_stop.ensures p valid names (get_or names k 0) c.in-Some.request (has_item names k c.loop-name-test.true) at n some)
+    ∙ c.requires n (named_stop c.requests_are_found_by_stop.ensures p valid names (get_or names k 0) c.in-Some.request (has_item names k c.loop-name-test.true) (search rules) n some)

@@ -6,7 +6,5 @@ use Rattle.move_ops.proofs.draft.Draft.drop_draft.Goals as goal
 pub returns-clause-is : goal.returns-clause-is
 returns-clause-is c =
     let new = c.self-2.inside in
-    let none : length new.log.items ≡ 0 = search rules in
-    let back : undone new.tours.items new.log.items ≡ undone c.args.self.now.tours c.args.self.now.log = search rules in
     let base_cost : new.base_cost ≡ c.args.self.now.base_cost = search rules in
-    λ p pins is. dropped c.args.self.now (record { tours = new.tours.items; log = new.log.items; pinned = new.pinned.items; cost = new.base_cost; base_cost = new.base_cost }) none (search rules) back p pins base_cost base_cost is
+    λ p pins is. dropped c.args.self.now (record { tours = new.tours.items; log = new.log.items; pinned = new.pinned.items; cost = new.base_cost; base_cost = new.base_cost }) (search rules) (search rules) (search rules) p pins base_cost base_cost is

@@ -14,22 +14,17 @@ returns-then-index-vehicle c =
     let log = c.args.self.now.log in
     let k = c.loop-entry.entry in
     let x = c.index.result.now in
-    let view : c.self.inside.log.items ≡ c.args.self.now.log = search rules in
-    let below : c.loop-entry.entry < length c.args.self.now.log = search rules in
-    let at : x ≡ get_or log k x = subst (λ (l : List (ℕ × Course)). c.index.result.now ≡ get_or l c.loop-entry.entry c.index.result.now) view c.index.ensures in
-    (x.1, slice_get_read log (length log) k x refl below at ∙ ap (λ (v : ℕ). Some (v, x.1)) c.if-index-vehicle.true)
+    let at : x ≡ get_or log k x = subst (λ (l : List (ℕ × Course)). c.index.result.now ≡ get_or l c.loop-entry.entry c.index.result.now) (search rules) c.index.ensures in
+    (x.1, slice_get_read log (length log) k x refl (search rules) at ∙ ap (λ (v : ℕ). Some (v, x.1)) c.if-index-vehicle.true)
 
 pub loop-entry-preserved : goal.loop-entry-preserved
 loop-entry-preserved c =
     let log = c.args.self.now.log in
     let k = c.loop-entry.entry in
     let x = c.index.result.now in
-    let view : c.self.inside.log.items ≡ c.args.self.now.log = search rules in
-    let below : c.loop-entry.entry < length c.args.self.now.log = search rules in
-    let at : x ≡ get_or log k x = subst (λ (l : List (ℕ × Course)). c.index.result.now ≡ get_or l c.loop-entry.entry c.index.result.now) view c.index.ensures in
-    logged_later log k c.args.vehicle x at below c.if-index-vehicle.false ∙ c.loop-entry.invariant
+    let at : x ≡ get_or log k x = subst (λ (l : List (ℕ × Course)). c.index.result.now ≡ get_or l c.loop-entry.entry c.index.result.now) (search rules) c.index.ensures in
+    logged_later log k c.args.vehicle x at (search rules) c.if-index-vehicle.false ∙ c.loop-entry.invariant
 
 pub returns : goal.returns
 returns c =
-    let all : length c.args.self.now.log ≤ c.loop-entry.entry = search rules in
-    sym c.loop-entry.invariant ∙ ap (λ (l : List (ℕ × Course)). is_logged l c.args.vehicle) (drop_all c.loop-entry.entry c.args.self.now.log all)
+    sym c.loop-entry.invariant ∙ ap (λ (l : List (ℕ × Course)). is_logged l c.args.vehicle) (drop_all c.loop-entry.entry c.args.self.now.log (search rules))

@@ -14,11 +14,8 @@ are_all_feasible-requires-clause-once c =
     let p = c.args.problem.now in
     let r = c.in-Some.first in
     let s = c.in-Some-request_named.second in
-    let first : lookup (nat_eq c.args.a) p.requests ≡ Some r = search rules in
-    let second : lookup (nat_eq c.args.b) p.requests ≡ Some s = search rules in
-    let can : are_exchangeable c.args.pins.now.routes (draft_of c.args.self.now) r s ≡ true = search rules in
     changes_once c.requests_are_found_by_stop.ensures c.passes_are_local.ensures c.plans_are_local.ensures c.tests_say_feasible.ensures p c.args.pins.now.routes c.args.self.now c.requires
-    c.args.a c.args.b c.if-a-b.false r s first second can c.in_ok-changes.changes.items c.in_ok-changes.ensures c.deref-2.result.now c.deref-2.ensures.value
+    c.args.a c.args.b c.if-a-b.false r s (search rules) (search rules) (search rules) c.in_ok-changes.changes.items c.in_ok-changes.ensures c.deref-2.result.now c.deref-2.ensures.value
 
 pub are_all_feasible-requires-clause-within : goal.are_all_feasible-requires-clause-within
 are_all_feasible-requires-clause-within c =
@@ -37,35 +34,23 @@ returns-then-not-are_all_feasible-clause-routes c =
     let p = c.args.problem.now in
     let r = c.in-Some.first in
     let s = c.in-Some-request_named.second in
-    let first : lookup (nat_eq c.args.a) p.requests ≡ Some r = search rules in
-    let second : lookup (nat_eq c.args.b) p.requests ≡ Some s = search rules in
-    let can : are_exchangeable c.args.pins.now.routes (draft_of c.args.self.now) r s ≡ true = search rules in
-    let fails : c.are_all_feasible.result ≡ false = search rules in
     exchange_is c.requests_are_found_by_stop.ensures c.passes_are_local.ensures c.plans_are_local.ensures c.tests_say_feasible.ensures p c.args.pins.now.routes c.args.self.now c.requires
-    c.args.a c.args.b c.if-a-b.false r s first second can c.in_ok-changes.changes.items c.in_ok-changes.ensures c.deref-2.result.now c.deref-2.ensures.value false (sym fails ∙ c.are_all_feasible.ensures)
+    c.args.a c.args.b c.if-a-b.false r s (search rules) (search rules) (search rules) c.in_ok-changes.changes.items c.in_ok-changes.ensures c.deref-2.result.now c.deref-2.ensures.value false (sym (search rules) ∙ c.are_all_feasible.ensures)
 
 pub returns-clause-routes : goal.returns-clause-routes
 returns-clause-routes c =
     let p = c.args.problem.now in
     let r = c.in-Some.first in
     let s = c.in-Some-request_named.second in
-    let first : lookup (nat_eq c.args.a) p.requests ≡ Some r = search rules in
-    let second : lookup (nat_eq c.args.b) p.requests ≡ Some s = search rules in
-    let can : are_exchangeable c.args.pins.now.routes (draft_of c.args.self.now) r s ≡ true = search rules in
-    let holds : c.are_all_feasible.result ≡ true = search rules in
     let are : AreChanges (draft_of c.args.self.now) (map (map (counterpart r s)) (draft_of c.args.self.now)) c.in_ok-changes.changes.items = c.in_ok-changes.ensures in
     ap (λ (l : List (List ℕ)). Some l) are.plan
     ∙ exchange_is c.requests_are_found_by_stop.ensures c.passes_are_local.ensures c.plans_are_local.ensures c.tests_say_feasible.ensures p c.args.pins.now.routes c.args.self.now c.requires
-    c.args.a c.args.b c.if-a-b.false r s first second can c.in_ok-changes.changes.items c.in_ok-changes.ensures c.deref-2.result.now c.deref-2.ensures.value true (sym holds ∙ c.are_all_feasible.ensures)
+    c.args.a c.args.b c.if-a-b.false r s (search rules) (search rules) (search rules) c.in_ok-changes.changes.items c.in_ok-changes.ensures c.deref-2.result.now c.deref-2.ensures.value true (sym (search rules) ∙ c.are_all_feasible.ensures)
 
 pub returns-clause-change : goal.returns-clause-change
 returns-clause-change c =
     let p = c.args.problem.now in
     let r = c.in-Some.first in
     let s = c.in-Some-request_named.second in
-    let first : lookup (nat_eq c.args.a) p.requests ≡ Some r = search rules in
-    let second : lookup (nat_eq c.args.b) p.requests ≡ Some s = search rules in
-    let can : are_exchangeable c.args.pins.now.routes (draft_of c.args.self.now) r s ≡ true = search rules in
-    let holds : c.are_all_feasible.result ≡ true = search rules in
     exchange_made c.requests_are_found_by_stop.ensures c.passes_are_local.ensures c.plans_are_local.ensures c.tests_say_feasible.ensures p c.args.pins.now.routes c.args.self.now c.requires
-    c.args.a c.args.b c.if-a-b.false r s first second can c.in_ok-changes.changes.items c.in_ok-changes.ensures c.deref-2.result.now c.deref-2.ensures.value c.requests_stand_by_name.ensures (sym holds ∙ c.are_all_feasible.ensures)
+    c.args.a c.args.b c.if-a-b.false r s (search rules) (search rules) (search rules) c.in_ok-changes.changes.items c.in_ok-changes.ensures c.deref-2.result.now c.deref-2.ensures.value c.requests_stand_by_name.ensures (sym (search rules) ∙ c.are_all_feasible.ensures)

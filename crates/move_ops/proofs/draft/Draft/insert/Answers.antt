@@ -7,8 +7,7 @@ use Rattle.move_ops.proofs.draft.Draft.insert.Goals as goal
 
 pub can_be_put-requires-clause-request : goal.can_be_put-requires-clause-request
 can_be_put-requires-clause-request c =
-    let found : lookup (nat_eq c.args.name) c.args.problem.now.requests ≡ Some c.in-Some.request = search rules in
-    named_request c.args.problem.now c.requires.valid c.args.name c.in-Some.request found
+    named_request c.args.problem.now c.requires.valid c.args.name c.in-Some.request (search rules)
 
 pub returns-then-not-branch : goal.returns-then-not-branch
 returns-then-not-branch c =
@@ -16,10 +15,8 @@ returns-then-not-branch c =
     let pins = c.args.pins.now.routes in
     let routes = draft_of c.args.self.now in
     let r = c.in-Some.request in
-    let found : lookup (nat_eq c.args.name) p.requests ≡ Some r = search rules in
-    let cannot : c.in_ok-can_be_put.field-0 ≡ false = search rules in
     was_not_made (put_in p pins routes c.args.name c.args.place) c.args.self.now
-    (put_named p c.requires.valid c.args.name r found pins routes c.args.place None (c.in_ok-can_be_put.ensures.none cannot))
+    (put_named p c.requires.valid c.args.name r (search rules) pins routes c.args.place None (c.in_ok-can_be_put.ensures.none (search rules)))
 
 pub returns : goal.returns
 returns c =
@@ -27,8 +24,6 @@ returns c =
     let pins = c.args.pins.now.routes in
     let routes = draft_of c.args.self.now in
     let r = c.in-Some.request in
-    let found : lookup (nat_eq c.args.name) p.requests ≡ Some r = search rules in
-    let can : c.in_ok-can_be_put.field-0 ≡ true = search rules in
     let new = with_request_at routes r c.args.place in
     was_made (put_in p pins routes c.args.name c.args.place) new c.args.self.now c.put.new.self
-    (put_named p c.requires.valid c.args.name r found pins routes c.args.place (Some new) (c.in_ok-can_be_put.ensures.put can).there) c.in_ok-put.ensures.draft
+    (put_named p c.requires.valid c.args.name r (search rules) pins routes c.args.place (Some new) (c.in_ok-can_be_put.ensures.put (search rules)).there) c.in_ok-put.ensures.draft

@@ -32,14 +32,10 @@ returns-clause-is c =
     let p = c.args.problem.now in
     let new = c.self.inside in
     let plan : plan_of new.tours.items ≡ with_routes (draft_of c.args.self.now) (changes_of c.args.tours.items) = search rules in
-    let tables : AreTablesIn p new.tours.items = search rules in
-    let back : undone new.tours.items new.log.items ≡ undone c.args.self.now.tours c.args.self.now.log = search rules in
     let cost : Cost = record { unplanned = c.args.unplanned; vehicles = c.set_tours-vehicles.result.0; distance = c.set_tours-vehicles.result.1 } in
     let left : c.args.unplanned ≡ unplanned_count p (plan_of new.tours.items) = c.requires.change.unplanned ∙ ap (unplanned_count p) (sym plan) in
-    let used : c.set_tours-vehicles.result.0 ≡ vehicle_count p.kind (plan_of new.tours.items) = search rules in
-    let driven : c.set_tours-vehicles.result.1 ≡ total_length p (plan_of new.tours.items) = search rules in
     changed p c.args.pins.now.routes c.args.self.now (record { tours = new.tours.items; log = new.log.items; pinned = new.pinned.items; cost = cost; base_cost = new.base_cost })
-    c.requires.is back (search rules) (search rules)
+    c.requires.is (search rules) (search rules) (search rules)
     (subst (λ (l : List (List ℕ)). passes p c.args.pins.now.routes l ≡ true) (sym plan) c.requires.change.passes)
-    tables
-    (same_cost cost (cost_of p (plan_of new.tours.items)) left used driven)
+    (search rules)
+    (same_cost cost (cost_of p (plan_of new.tours.items)) left (search rules) (search rules))

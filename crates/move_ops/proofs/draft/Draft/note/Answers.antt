@@ -10,10 +10,8 @@ returns-then-vehicle-eq0 c =
 
 pub returns-then-is_among : goal.returns-then-is_among
 returns-then-is_among c =
-    let from : 1 ≤ c.vehicle_of-vehicle.result = omega arith in
-    let among : has c.args.vehicles.now.items c.vehicle_of-vehicle.result ≡ true =
-    ap (λ l. has l c.vehicle_of-vehicle.result) (sym c.deref.ensures.value) ∙ (sym c.is_among.ensures ∙ c.if-is_among.true) in
-    noted_old (draft_of c.args.self.now) c.args.stop c.args.vehicles.now.items c.requires c.vehicle_of-vehicle.result (c.vehicle_of-vehicle.ensures.0 from) among
+    let among : has c.args.vehicles.now.items c.vehicle_of-vehicle.result ≡ true = cc in
+    noted_old (draft_of c.args.self.now) c.args.stop c.args.vehicles.now.items c.requires c.vehicle_of-vehicle.result (c.vehicle_of-vehicle.ensures.0 (omega arith)) among
 
 pub returns : goal.returns
 returns c =

@@ -7,7 +7,6 @@ use Rattle.move_ops.proofs.draft.Draft.note_named.Goals as goal
 
 pub returns-in-Some : goal.returns-in-Some
 returns-in-Some c =
-    let at : lookup (nat_eq c.args.name) c.args.problem.now.requests ≡ Some c.in-Some.request = search rules in
     on_ok_weaker c.note_request.result
-    (noted_named (draft_of c.args.self.now) c.requests_stand_by_name.ensures c.args.problem.now c.requires.valid c.args.name c.in-Some.request at c.args.vehicles.now.items c.note_request.new.vehicles.items)
+    (noted_named (draft_of c.args.self.now) c.requests_stand_by_name.ensures c.args.problem.now c.requires.valid c.args.name c.in-Some.request (search rules) c.args.vehicles.now.items c.note_request.new.vehicles.items)
     c.note_request.ensures

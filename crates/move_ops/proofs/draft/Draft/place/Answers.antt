@@ -8,22 +8,17 @@ use Rattle.move_ops.proofs.draft.Draft.place.Goals as goal
 
 pub best-requires-clause-request : goal.best-requires-clause-request
 best-requires-clause-request c =
-    let found : lookup (nat_eq c.args.name) c.args.problem.now.requests ≡ Some c.in-Some.request = search rules in
-    named_request c.args.problem.now c.requires.valid c.args.name c.in-Some.request found
+    named_request c.args.problem.now c.requires.valid c.args.name c.in-Some.request (search rules)
 
 pub returns-in-Some-best-clause-draft : goal.returns-in-Some-best-clause-draft
 returns-in-Some-best-clause-draft c =
     let p = c.args.problem.now in
     let r = c.in-Some.request in
-    let found : lookup (nat_eq c.args.name) p.requests ≡ Some r = search rules in
-    let best : best_insertion p c.args.pins.now.routes (draft_of c.args.self.now) (request_name r) ≡ Some c.in-Some-best.place = search rules in
     subst (λ (l : List (List ℕ)). OnOk c.put.result (draft_of c.put.new.self ≡ l))
-    (placed_named p c.requires.valid c.args.name r found c.args.pins.now.routes (draft_of c.args.self.now) c.in-Some-best.place best c.in-Some-best.ensures.put) c.put.ensures.draft
+    (placed_named p c.requires.valid c.args.name r (search rules) c.args.pins.now.routes (draft_of c.args.self.now) c.in-Some-best.place (search rules) c.in-Some-best.ensures.put) c.put.ensures.draft
 
 pub returns-in-None-clause-draft : goal.returns-in-None-clause-draft
 returns-in-None-clause-draft c =
     let p = c.args.problem.now in
     let r = c.in-Some.request in
-    let found : lookup (nat_eq c.args.name) p.requests ≡ Some r = search rules in
-    let none : None ≡ best_insertion p c.args.pins.now.routes (draft_of c.args.self.now) (request_name r) = search rules in
-    stays_named p c.requires.valid c.args.name r found c.args.pins.now.routes (draft_of c.args.self.now) none
+    stays_named p c.requires.valid c.args.name r (search rules) c.args.pins.now.routes (draft_of c.args.self.now) (search rules)

@@ -7,20 +7,6 @@ use Rattle.move_ops.proofs.Drafting.{changed}
 use Rattle.move_ops.proofs.Putting.{within_tours, has_places, given_once, given_keeps, given_small, given_unplanned, plan_new, tables_new, passes_new, plan_cost}
 use Rattle.move_ops.proofs.draft.Draft.put.Goals as goal
 
-pub put_into-requires : goal.put_into-requires
-put_into-requires c =
-    let tv : c.self.inside.tours.items ≡ c.args.self.now.tours = search rules in
-    has_places c.args.problem.now c.args.pins.now.routes c.args.self.now c.requires.is c.args.request.now c.args.place c.requires.put c.self.inside.tours.items tv c.route.result.now c.route.ensures
-
-pub overflow_sub-unplanned : goal.overflow_sub-unplanned
-overflow_sub-unplanned c =
-    let tv : c.self.inside.tours.items ≡ c.args.self.now.tours = search rules in
-    let count = given_unplanned c.args.problem.now c.args.pins.now.routes c.args.self.now c.requires.is c.args.request.now c.args.place c.requires.put c.self.inside.tours.items tv c.route.result.now c.route.ensures
-    c.put_into.new.new.items c.in_ok-put_into.ensures c.put_into.new.new.items refl in
-    let held : c.self.inside.cost ≡ c.args.self.now.cost = search rules in
-    let left = ap (λ (k : Cost). k.unplanned) held in
-    omega arith
-
 pub overflow_cast-vehicle : goal.overflow_cast-vehicle
 overflow_cast-vehicle c = let low = c.requires.put.few in omega arith
 
@@ -29,26 +15,7 @@ set_route-requires-clause-from_one c = c.requires.put.from
 
 pub set_route-requires-clause-within : goal.set_route-requires-clause-within
 set_route-requires-clause-within c =
-    let tv : c.self.inside.tours.items ≡ c.args.self.now.tours = search rules in
-    within_tours c.args.problem.now c.args.pins.now.routes c.args.self.now c.requires.is c.args.request.now c.args.place c.requires.put c.self.inside.tours.items tv c.route.result.now c.route.ensures
-
-pub set_route-requires-clause-route : goal.set_route-requires-clause-route
-set_route-requires-clause-route c =
-    let tv : c.self.inside.tours.items ≡ c.args.self.now.tours = search rules in
-    given_once c.args.problem.now c.args.pins.now.routes c.args.self.now c.requires.is c.args.request.now c.args.place c.requires.put c.self.inside.tours.items tv c.route.result.now c.route.ensures
-    c.put_into.new.new.items c.in_ok-put_into.ensures c.deref.result.now c.deref.ensures.value
-
-pub set_route-requires-clause-limits : goal.set_route-requires-clause-limits
-set_route-requires-clause-limits c =
-    let tv : c.self.inside.tours.items ≡ c.args.self.now.tours = search rules in
-    given_keeps c.args.problem.now c.args.pins.now.routes c.args.self.now c.requires.is c.args.request.now c.args.place c.requires.put c.self.inside.tours.items tv c.route.result.now c.route.ensures
-    c.put_into.new.new.items c.in_ok-put_into.ensures c.deref.result.now c.deref.ensures.value
-
-pub set_route-requires-clause-small : goal.set_route-requires-clause-small
-set_route-requires-clause-small c =
-    let tv : c.self.inside.tours.items ≡ c.args.self.now.tours = search rules in
-    given_small c.args.problem.now c.args.pins.now.routes c.args.self.now c.requires.is c.args.request.now c.args.place c.requires.put c.self.inside.tours.items tv c.route.result.now c.route.ensures
-    c.put_into.new.new.items c.in_ok-put_into.ensures c.deref.result.now c.deref.ensures.value
+    within_tours c.args.problem.now c.args.pins.now.routes c.args.self.now c.requires.is c.args.request.now c.args.place c.requires.put c.self.inside.tours.items (search rules) c.route.result.now c.route.ensures
 
 pub set_route-requires-clause-unplanned : goal.set_route-requires-clause-unplanned
 set_route-requires-clause-unplanned c =
@@ -83,9 +50,8 @@ returns-clause-is c =
 pub returns-clause-draft : goal.returns-clause-draft
 returns-clause-draft c =
     let p = c.args.problem.now in
-    let tv : c.self.inside.tours.items ≡ c.args.self.now.tours = search rules in
     let new = c.self-2.inside in
     let is_set = c.in_ok-self-inside.ensures.set in
     let tours : new.tours.items ≡ set c.self.inside.tours.items (c.args.place.0 - 1) (course_of p c.deref.result.now) = ap (λ (d : Drafted). d.tours) c.self-2.view_is ∙ is_set.tours in
-    plan_new p c.args.pins.now.routes c.args.self.now c.requires.is c.args.request.now c.args.place c.requires.put c.self.inside.tours.items tv c.route.result.now c.route.ensures
+    plan_new p c.args.pins.now.routes c.args.self.now c.requires.is c.args.request.now c.args.place c.requires.put c.self.inside.tours.items (search rules) c.route.result.now c.route.ensures
     c.put_into.new.new.items c.in_ok-put_into.ensures c.deref.result.now c.deref.ensures.value is_set.stops new.tours.items tours

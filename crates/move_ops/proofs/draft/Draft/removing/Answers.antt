@@ -10,26 +10,22 @@ use Rattle.move_ops.proofs.draft.Draft.removing.Goals as goal
 
 pub tours_without-requires-clause-once : goal.tours_without-requires-clause-once
 tours_without-requires-clause-once c =
-    let movable : list_all (is_movable_name c.args.problem.now c.args.pins.now.routes (draft_of c.args.self.now)) c.args.names.now ≡ true = search rules in
     removals_once c.requests_are_found_by_stop.ensures c.requests_stand_by_name.ensures c.passes_are_local.ensures c.plans_are_local.ensures c.tests_say_feasible.ensures c.args.problem.now c.args.pins.now.routes c.args.self.now c.requires
-    c.args.names.now movable c.in_ok-vehicles.vehicles.items c.deref.result.now c.deref.ensures.value c.in_ok-vehicles.ensures.within c.in_ok-vehicles.ensures.found
+    c.args.names.now (search rules) c.in_ok-vehicles.vehicles.items c.deref.result.now c.deref.ensures.value c.in_ok-vehicles.ensures.within c.in_ok-vehicles.ensures.found
 
 pub tours_without-requires-clause-pairs : goal.tours_without-requires-clause-pairs
 tours_without-requires-clause-pairs c =
-    let movable : list_all (is_movable_name c.args.problem.now c.args.pins.now.routes (draft_of c.args.self.now)) c.args.names.now ≡ true = search rules in
     removals_paired c.requests_are_found_by_stop.ensures c.requests_stand_by_name.ensures c.passes_are_local.ensures c.plans_are_local.ensures c.tests_say_feasible.ensures c.args.problem.now c.args.pins.now.routes c.args.self.now c.requires
-    c.args.names.now movable c.in_ok-vehicles.vehicles.items c.deref.result.now c.deref.ensures.value c.in_ok-vehicles.ensures.within c.in_ok-vehicles.ensures.found
+    c.args.names.now (search rules) c.in_ok-vehicles.vehicles.items c.deref.result.now c.deref.ensures.value c.in_ok-vehicles.ensures.within c.in_ok-vehicles.ensures.found
 
 pub returns-clause-routes : goal.returns-clause-routes
 returns-clause-routes c =
-    let movable : list_all (is_movable_name c.args.problem.now c.args.pins.now.routes (draft_of c.args.self.now)) c.args.names.now ≡ true = search rules in
     IfOk-weaker c.tours_without.result _ _
     (removal_routes c.requests_are_found_by_stop.ensures c.requests_stand_by_name.ensures c.passes_are_local.ensures c.plans_are_local.ensures c.tests_say_feasible.ensures c.args.problem.now c.args.pins.now.routes c.args.self.now c.requires
-    c.args.names.now movable c.in_ok-vehicles.vehicles.items c.deref.result.now c.deref.ensures.value c.in_ok-vehicles.ensures.within c.in_ok-vehicles.ensures.found (λ (ts : Vec (ℕ × Course) Global). ts.items)) c.tours_without.ensures.tours
+    c.args.names.now (search rules) c.in_ok-vehicles.vehicles.items c.deref.result.now c.deref.ensures.value c.in_ok-vehicles.ensures.within c.in_ok-vehicles.ensures.found (λ (ts : Vec (ℕ × Course) Global). ts.items)) c.tours_without.ensures.tours
 
 pub returns-clause-tours : goal.returns-clause-tours
 returns-clause-tours c =
-    let movable : list_all (is_movable_name c.args.problem.now c.args.pins.now.routes (draft_of c.args.self.now)) c.args.names.now ≡ true = search rules in
     IfOk-weaker c.tours_without.result _ _
     (removal_tours c.requests_are_found_by_stop.ensures c.requests_stand_by_name.ensures c.passes_are_local.ensures c.plans_are_local.ensures c.tests_say_feasible.ensures c.args.problem.now c.args.pins.now.routes c.args.self.now c.requires
-    c.args.names.now movable c.in_ok-vehicles.vehicles.items c.deref.result.now c.deref.ensures.value c.in_ok-vehicles.ensures.within c.in_ok-vehicles.ensures.found (λ (ts : Vec (ℕ × Course) Global). ts.items)) c.tours_without.ensures.tours
+    c.args.names.now (search rules) c.in_ok-vehicles.vehicles.items c.deref.result.now c.deref.ensures.value c.in_ok-vehicles.ensures.within c.in_ok-vehicles.ensures.found (λ (ts : Vec (ℕ × Course) Global). ts.items)) c.tours_without.ensures.tours

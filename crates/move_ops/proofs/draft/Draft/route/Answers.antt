@@ -4,6 +4,4 @@ use Rattle.move_ops.proofs.draft.Draft.route.Goals as goal
 
 pub returns : goal.returns
 returns c =
-    let at : c.index.result.now ≡ get_or c.args.self.now.tours (c.args.vehicle - 1) c.index.result.now = search rules in
-    let below : c.args.vehicle - 1 < length c.args.self.now.tours = search rules in
-    c.stops.ensures ∙ vehicle_route c.args.self.now.tours c.args.vehicle c.index.result.now c.if-vehicle-eq0.false below at
+    c.stops.ensures ∙ vehicle_route c.args.self.now.tours c.args.vehicle c.index.result.now c.if-vehicle-eq0.false (search rules) (search rules)

@@ -9,15 +9,11 @@ use Rattle.move_ops.proofs.draft.Draft.set_route.Goals as goal
 
 pub index-requires : goal.index-requires
 index-requires c =
-    let view : c.self.inside.log.items ≡ c.args.self.now.log = search rules in
-    let len : length c.self.inside.log.items ≡ vec_len c.self.inside.log = search rules in
-    subst (λ (n : ℕ). c.in-Some.entry < n) len (in_log c.args.problem.now c.args.self.now c.self.inside c.self.invariant view c.requires.base c.args.vehicle c.in-Some.entry c.requires.within c.in-Some.ensures.0 c.in-Some.ensures.1)
+    subst (λ (n : ℕ). c.in-Some.entry < n) (search rules) (in_log c.args.problem.now c.args.self.now c.self.inside c.self.invariant (search rules) c.requires.base c.args.vehicle c.in-Some.entry c.requires.within c.in-Some.ensures.0 c.in-Some.ensures.1)
 
 pub index-requires-then-eq : goal.index-requires-then-eq
 index-requires-then-eq c =
-    let view : c.self.inside.log.items ≡ c.args.self.now.log = search rules in
-    let len : length c.self.inside.log.items ≡ vec_len c.self.inside.log = search rules in
-    subst (λ (n : ℕ). c.in-Some.entry < n) len (in_log c.args.problem.now c.args.self.now c.self.inside c.self.invariant view c.requires.base c.args.vehicle c.in-Some.entry c.requires.within c.in-Some.ensures.0 c.in-Some.ensures.1)
+    subst (λ (n : ℕ). c.in-Some.entry < n) (search rules) (in_log c.args.problem.now c.args.self.now c.self.inside c.self.invariant (search rules) c.requires.base c.args.vehicle c.in-Some.entry c.requires.within c.in-Some.ensures.0 c.in-Some.ensures.1)
 
 pub undo-requires : goal.undo-requires
 undo-requires c =
@@ -26,30 +22,26 @@ undo-requires c =
 
 pub cost_with-cost-requires-clause-course : goal.cost_with-cost-requires-clause-course
 cost_with-cost-requires-clause-course c =
-    let view : c.self.inside.log.items ≡ c.args.self.now.log = search rules in
-    read_course c.args.problem.now c.args.self.now c.self.inside c.self.invariant view c.requires.base c.args.vehicle c.in-Some.entry c.requires.within c.in-Some.ensures.0 c.in-Some.ensures.1 c.index-then-eq.result.now c.index-then-eq.ensures
+    read_course c.args.problem.now c.args.self.now c.self.inside c.self.invariant (search rules) c.requires.base c.args.vehicle c.in-Some.entry c.requires.within c.in-Some.ensures.0 c.in-Some.ensures.1 c.index-then-eq.result.now c.index-then-eq.ensures
 
 pub cost_with-cost-requires-clause-small : goal.cost_with-cost-requires-clause-small
 cost_with-cost-requires-clause-small c =
-    let view : c.self.inside.log.items ≡ c.args.self.now.log = search rules in
     let route : c.stops.result.now ≡ c.args.route.now = search rules in
-    let plan = same_plan c.args.problem.now c.args.self.now c.self.inside c.self.invariant view c.requires.base c.args.vehicle c.in-Some.entry c.requires.within c.in-Some.ensures.0 c.in-Some.ensures.1
+    let plan = same_plan c.args.problem.now c.args.self.now c.self.inside c.self.invariant (search rules) c.requires.base c.args.vehicle c.in-Some.entry c.requires.within c.in-Some.ensures.0 c.in-Some.ensures.1
     c.index.result.now c.index.ensures c.stops.result.now c.args.route.now c.stops.ensures route c.index-then-eq.result.now c.index-then-eq.ensures c.from.result c.from.ensures in
     subst (λ (l : List (List ℕ)). total_length c.args.problem.now l ≤ 2 ^ 63) (sym plan) c.requires.small
 
 pub cost_with-cost-requires-clause-unplanned : goal.cost_with-cost-requires-clause-unplanned
 cost_with-cost-requires-clause-unplanned c =
-    let view : c.self.inside.log.items ≡ c.args.self.now.log = search rules in
     let route : c.stops.result.now ≡ c.args.route.now = search rules in
-    let plan = same_plan c.args.problem.now c.args.self.now c.self.inside c.self.invariant view c.requires.base c.args.vehicle c.in-Some.entry c.requires.within c.in-Some.ensures.0 c.in-Some.ensures.1
+    let plan = same_plan c.args.problem.now c.args.self.now c.self.inside c.self.invariant (search rules) c.requires.base c.args.vehicle c.in-Some.entry c.requires.within c.in-Some.ensures.0 c.in-Some.ensures.1
     c.index.result.now c.index.ensures c.stops.result.now c.args.route.now c.stops.ensures route c.index-then-eq.result.now c.index-then-eq.ensures c.from.result c.from.ensures in
     c.requires.unplanned ∙ ap (unplanned_count c.args.problem.now) (sym plan)
 
 pub returns-then-eq-clause-cost : goal.returns-then-eq-clause-cost
 returns-then-eq-clause-cost c =
-    let view : c.self.inside.log.items ≡ c.args.self.now.log = search rules in
     let route : c.stops.result.now ≡ c.args.route.now = search rules in
-    let plan = same_plan c.args.problem.now c.args.self.now c.self.inside c.self.invariant view c.requires.base c.args.vehicle c.in-Some.entry c.requires.within c.in-Some.ensures.0 c.in-Some.ensures.1
+    let plan = same_plan c.args.problem.now c.args.self.now c.self.inside c.self.invariant (search rules) c.requires.base c.args.vehicle c.in-Some.entry c.requires.within c.in-Some.ensures.0 c.in-Some.ensures.1
     c.index.result.now c.index.ensures c.stops.result.now c.args.route.now c.stops.ensures route c.index-then-eq.result.now c.index-then-eq.ensures c.from.result c.from.ensures in
     c.cost_with-cost.ensures ∙ ap (cost_of c.args.problem.now) plan
 

@@ -15,24 +15,19 @@ pub push_reserved-requires : goal.push_reserved-requires
 push_reserved-requires c =
     let old = c.self.inside in
     let within : c.args.vehicle ≤ length old.tours.items = search rules in
-    let first : is_none c.entry_of.result ≡ true = search rules in
-    let view : c.self.inside.log.items ≡ c.args.self.now.log = search rules in
-    let none : is_logged old.log.items c.args.vehicle ≡ false = ap (λ (l : List (ℕ × Course)). is_logged l c.args.vehicle) view ∙ not_logged c.entry_of.result c.args.self.now.log c.args.vehicle c.entry_of.ensures first in
+    let none : is_logged old.log.items c.args.vehicle ≡ false = ap (λ (l : List (ℕ × Course)). is_logged l c.args.vehicle) (search rules) ∙ not_logged c.entry_of.result c.args.self.now.log c.args.vehicle c.entry_of.ensures (search rules) in
     let few = room_left (length old.tours.items) old.log.items c.args.vehicle c.requires.from_one within c.self.invariant.within c.self.invariant.once none in
     omega arith
 
 pub invariant_of-self : goal.invariant_of-self
 invariant_of-self c =
     let old = c.self.inside in
-    let seat_len : length old.seats.items ≡ old.seats.len = search rules in
     let seated : c.deref_mut.result.now ≡ old.seats.items = search rules in
     let new : c.swap-old.new.tours.items ≡ set old.tours.items (c.args.vehicle - 1) c.args.tour = search rules in
-    let held : (with_items old.seats c.seat.new.seats).items ≡ c.seat.new.seats = with_items_is old.seats c.seat.new.seats (c.seat.ensures.len ∙ (ap length seated ∙ seat_len)) in
+    let held : (with_items old.seats c.seat.new.seats).items ≡ c.seat.new.seats = with_items_is old.seats c.seat.new.seats (c.seat.ensures.len ∙ (ap length seated ∙ (search rules))) in
     let within : c.args.vehicle ≤ length old.tours.items = search rules in
     let front = c.front_with-self-inside.ensures in
-    let first : is_none c.entry_of.result ≡ true = search rules in
-    let view : c.self.inside.log.items ≡ c.args.self.now.log = search rules in
-    let none : is_logged old.log.items c.args.vehicle ≡ false = ap (λ (l : List (ℕ × Course)). is_logged l c.args.vehicle) view ∙ not_logged c.entry_of.result c.args.self.now.log c.args.vehicle c.entry_of.ensures first in
+    let none : is_logged old.log.items c.args.vehicle ≡ false = ap (λ (l : List (ℕ × Course)). is_logged l c.args.vehicle) (search rules) ∙ not_logged c.entry_of.result c.args.self.now.log c.args.vehicle c.entry_of.ensures (search rules) in
     let log : c.push_reserved.new.self.items ≡ old.log.items ++ (c.args.vehicle, c.swap-old.result) ∷ [] = search rules in
     kept_with old _ c.args.vehicle c.args.tour c.seat.new.seats c.self.invariant new held (λ n at. ap (λ l. has l n) (sym c.stops.ensures) ∙ c.seat.ensures.stops n at)
     (λ n at. ap (λ l. slice_get l n) (sym seated) ∙ c.seat.ensures.others n at) c.requires.from_one within front.front front.vehicle front.least
@@ -42,10 +37,9 @@ invariant_of-self c =
 pub invariant_of-self-else-is_first : goal.invariant_of-self-else-is_first
 invariant_of-self-else-is_first c =
     let old = c.self.inside in
-    let seat_len : length old.seats.items ≡ old.seats.len = search rules in
     let seated : c.deref_mut.result.now ≡ old.seats.items = search rules in
     let new : c.swap-old.new.tours.items ≡ set old.tours.items (c.args.vehicle - 1) c.args.tour = search rules in
-    let held : (with_items old.seats c.seat.new.seats).items ≡ c.seat.new.seats = with_items_is old.seats c.seat.new.seats (c.seat.ensures.len ∙ (ap length seated ∙ seat_len)) in
+    let held : (with_items old.seats c.seat.new.seats).items ≡ c.seat.new.seats = with_items_is old.seats c.seat.new.seats (c.seat.ensures.len ∙ (ap length seated ∙ (search rules))) in
     let within : c.args.vehicle ≤ length old.tours.items = search rules in
     let front = c.front_with-self-inside.ensures in
     kept_with old _ c.args.vehicle c.args.tour c.seat.new.seats c.self.invariant new held (λ n at. ap (λ l. has l n) (sym c.stops.ensures) ∙ c.seat.ensures.stops n at)
@@ -60,9 +54,5 @@ returns-then-is_first-clause-base c =
 pub returns-else-is_first-clause-base : goal.returns-else-is_first-clause-base
 returns-else-is_first-clause-base c =
     let old = c.self.inside in
-    let new : c.swap-old.new.tours.items ≡ set old.tours.items (c.args.vehicle - 1) c.args.tour = search rules in
-    let some : is_some c.entry_of.result ≡ true = search rules in
-    let view : c.self.inside.log.items ≡ c.args.self.now.log = search rules in
-    let had : is_logged old.log.items c.args.vehicle ≡ true = ap (λ (l : List (ℕ × Course)). is_logged l c.args.vehicle) view ∙ logged c.entry_of.result c.args.self.now.log c.args.vehicle c.entry_of.ensures some in
-    let all : undone old.tours.items old.log.items ≡ undone c.args.self.now.tours c.args.self.now.log = search rules in
-    ap (λ (l : List Course). undone l old.log.items) new ∙ (undone_same old.tours.items old.log.items c.args.vehicle c.args.tour had ∙ all)
+    let had : is_logged old.log.items c.args.vehicle ≡ true = ap (λ (l : List (ℕ × Course)). is_logged l c.args.vehicle) (search rules) ∙ logged c.entry_of.result c.args.self.now.log c.args.vehicle c.entry_of.ensures (search rules) in
+    ap (λ (l : List Course). undone l old.log.items) (search rules) ∙ (undone_same old.tours.items old.log.items c.args.vehicle c.args.tour had ∙ (search rules))

@@ -37,9 +37,8 @@ loop-vehicle-preserved c =
     let courses : AreCourses p ((c.in-Some.vehicle, c.in-Some.tour) ∷ into_iter_items c.next.new.self) = subst (AreCourses p) rest inv.courses in
     let long = ap length made.tours ∙ length-set old.tours (v - 1) tour in
     let moved = length_moved p old.tours c.set_tour.new.self.tours v tour made.tours all.0.0 all.0.1 in
-    let table : c.table.result.now ≡ tour = search rules in
     let is_course : IsCourseIn p tour = courses.0 in
-    let there = c.distance.ensures p (route_of tour) (is_course ∙ sym table) in
+    let there = c.distance.ensures p (route_of tour) (is_course ∙ sym (search rules)) in
     let few = inv.few in
     let more = length-append c.loop-vehicle.yielded ((v, tour) ∷ []) in
     record {

@@ -15,5 +15,4 @@ overflow_add-unplanned c =
 
 pub clear_named-requires : goal.clear_named-requires
 clear_named-requires c =
-    let plan : draft_of c.install.new.self ≡ with_routes (draft_of c.args.self.now) (changes_of c.args.tours.items) = search rules in
-    named_gone c.args.problem.now c.args.names.now (draft_of c.args.self.now) (draft_of c.install.new.self) (plan ∙ c.requires.names)
+    named_gone c.args.problem.now c.args.names.now (draft_of c.args.self.now) (draft_of c.install.new.self) ((search rules) ∙ c.requires.names)

@@ -30,7 +30,6 @@ returns-in-LiLim c =
     let within : v ≤ length tours = subst (λ (l : List Course). v ≤ length l) viewed c.requires.within in
     let kind : p.kind ≡ LiLim = search rules in
     let now : c.args.now ≡ used_count (plan_of tours) = c.requires.now ∙ (ap (λ (l : List Course). vehicle_count p.kind (plan_of l)) viewed ∙ ap (λ (k : Kind). vehicle_count k (plan_of tours)) kind) in
-    let after : vehicle_count p.kind (with_route (plan_of c.args.self.now.tours) v new) ≡ used_count (with_route (plan_of tours) v new) =
-    ap (λ (l : List Course). vehicle_count p.kind (with_route (plan_of l) v new)) viewed ∙ ap (λ (k : Kind). vehicle_count k (with_route (plan_of tours) v new)) kind in
+    let after : vehicle_count p.kind (with_route (plan_of c.args.self.now.tours) v new) ≡ used_count (with_route (plan_of tours) v new) = search rules in
     let f = used_with tours v c.requires.from_one within c.index-old.result.now c.index-old.ensures new in
     omega arith

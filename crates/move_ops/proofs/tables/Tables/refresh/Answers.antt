@@ -13,9 +13,7 @@ replace-requires c =
     let p = c.args.problem.now in
     let fleet = fleet_of c.passes_are_local.ensures p [] c.args.plan.now.routes c.requires.pass in
     let f = length-map c.args.self.now route_of in
-    let n : length c.args.self.now ≡ p.fleet = omega arith in
-    let made : c.in_ok-fresh.fresh.items ≡ map (fresh_of p c.args.plan.now.routes) c.args.vehicles.now = search rules in
-    subst (AreWithin (length c.args.self.now)) (sym made) (vehicles_within p c.args.plan.now.routes (length c.args.self.now) c.args.vehicles.now n (recursion_from_All (λ v. (1 ≤ v) × (v ≤ p.fleet)) c.args.vehicles.now c.requires.vehicles))
+    subst (AreWithin (length c.args.self.now)) (sym (search rules)) (vehicles_within p c.args.plan.now.routes (length c.args.self.now) c.args.vehicles.now (omega arith) (recursion_from_All (λ v. (1 ≤ v) × (v ≤ p.fleet)) c.args.vehicles.now c.requires.vehicles))
 
 pub returns-clause-tables : goal.returns-clause-tables
 returns-clause-tables c =

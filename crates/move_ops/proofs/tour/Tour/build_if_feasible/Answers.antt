@@ -4,10 +4,8 @@ use Rattle.move_ops.proofs.tour.Tour.build_if_feasible.Goals as goal
 
 pub returns-then-not-keeps_limits : goal.returns-then-not-keeps_limits
 returns-then-not-keeps_limits c =
-    let broken : c.keeps_limits.result ≡ false = search rules in
-    sym (paired c.args.problem.now c.problem_keeps_limits.ensures c.args.route.now c.keeps_limits.result c.requires.pairs c.keeps_limits.ensures) ∙ broken
+    sym (paired c.args.problem.now c.problem_keeps_limits.ensures c.args.route.now c.keeps_limits.result c.requires.pairs c.keeps_limits.ensures) ∙ (search rules)
 
 pub returns : goal.returns
 returns c =
-    let kept : c.keeps_limits.result ≡ true = search rules in
-    (sym (paired c.args.problem.now c.problem_keeps_limits.ensures c.args.route.now c.keeps_limits.result c.requires.pairs c.keeps_limits.ensures) ∙ kept, c.in_ok-build.ensures.course, c.in_ok-build.ensures.route)
+    (sym (paired c.args.problem.now c.problem_keeps_limits.ensures c.args.route.now c.keeps_limits.result c.requires.pairs c.keeps_limits.ensures) ∙ (search rules), c.in_ok-build.ensures.course, c.in_ok-build.ensures.route)

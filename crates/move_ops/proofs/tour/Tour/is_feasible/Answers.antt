@@ -4,8 +4,7 @@ use Rattle.move_ops.proofs.tour.Tour.is_feasible.Goals as goal
 
 pub returns-then-keeps_limits : goal.returns-then-keeps_limits
 returns-then-keeps_limits c =
-    let kept : c.keeps_limits.result ≡ true = search rules in
-    within_limits c.args.problem.now c.args.route.now c.are_paired.result c.keeps_limits.result c.are_paired.ensures kept c.keeps_limits.ensures
+    within_limits c.args.problem.now c.args.route.now c.are_paired.result c.keeps_limits.result c.are_paired.ensures (search rules) c.keeps_limits.ensures
 
 pub returns-else-keeps_limits : goal.returns-else-keeps_limits
 returns-else-keeps_limits c =
