@@ -17,9 +17,8 @@ returns-in-Some-clause-chosen c =
     let content = c.in-Some.content.now in
     let whole : length content ≡ 512 * 1 = omega (arith, c.in-Some.ensures.size) in
     let inside : 512 * index + 512 * 1 ≤ length image = omega (arith, c.requires) in
-    let at : index ≡ index + 0 = omega arith in
     ap (sector index) c.put.ensures
-    ∙ ap (λ (n : ℕ). sector n (written index content image)) at
+    ∙ ap (λ (n : ℕ). sector n (written index content image)) (omega arith)
     ∙ sector-written_inside index 1 content image whole inside 0 (omega arith)
     ∙ take_all 512 content (omega (arith, c.in-Some.ensures.size))
     ∙ sym (chosen_later (sector index image) since c.args.choice c.count_for.result c.count_for.ensures.count content (omega (arith, c.if-number-eq0.false)) c.in-Some.ensures.content)

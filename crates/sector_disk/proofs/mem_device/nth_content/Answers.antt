@@ -16,8 +16,7 @@ loop-call-preserved c =
     let rest = filter_rest c.args.calls.now c.loop-call.call-index c.call-item.result c.loop-call-test.true c.args.sector in
     let o = content_of c.args.sector (call_of (get_or c.args.calls.now c.loop-call.call-index c.call-item.result)) in
     let at : option_copied c.content_for.result ≡ o = c.content_for.ensures.content ∙ ap (λ (e : Kept). content_of c.args.sector (call_of e)) c.call-item.is in
-    let so_far : slice_get (cons_option o after) left ≡ slice_get (filter_map (content_of c.args.sector) (map call_of c.args.calls.now)) c.args.number =
-    ap (λ (l : List (List ℕ)). slice_get l left) (sym rest) ∙ c.loop-call.invariant in
+    let so_far : slice_get (cons_option o after) left ≡ slice_get (filter_map (content_of c.args.sector) (map call_of c.args.calls.now)) c.args.number = cc in
     elim c.match-content_for.branch [
       | in-Some+else-left-eq0 w ↦ (let some : o ≡ Some w.in-Some.content.now = sym at ∙ ap option_copied w.in-Some.is in
           let more : 0 < left = omega (arith, w.if-left-eq0.false) in

@@ -12,8 +12,7 @@ loop-at-preserved c =
     let at = c.loop-at.at in
     let n = c.in_ok-at-2.field-0 in
     let inside : at ≤ length old = c.loop-at.invariant.0 in
-    let size : length piece ≡ length old - at = search rules in
-    let rest : length piece ≡ length (drop at old) = size ∙ sym (length-drop at old) in
+    let rest : length piece ≡ length (drop at old) = (search rules) ∙ sym (length-drop at old) in
     let gone = goes_further Reads c.loop-at.noted.calls c.read_some-in-loop-at.new.noted.calls (c.args.first * 512) entries old piece at c.loop-at.invariant.1 c.loop-at-test.true rest n c.in_ok-at-2.ensures.noted in (
       subst (λ (xs : List ℕ). at + n ≤ length xs) (sym (put_rest at old piece)) (omega (arith, length-append (take at old) piece, length-take-le at old inside, c.in_ok-at-2.ensures.inside)),
       subst (λ (xs : List ℕ). told_by c.read_some-in-loop-at.new.noted.calls ≡ so_far entries Reads (c.args.first * 512) xs (at + n)) (sym (put_rest at old piece)) gone,

@@ -40,14 +40,3 @@ loop-at-preserved c =
       omega (arith, c.in_ok-at-2.ensures.inside, ap length (between_to_end bytes at (length bytes) (omega arith)), length-drop at bytes, c.loop-at-test.true),
       subst (λ (xs : List ℕ). told_by c.write_some-in-loop-at.new.noted.calls ≡ so_far entries Writes (c.args.first * 512) xs (at + n)) (take-append-drop at bytes) gone,
     )
-
-pub returns-clause-entries : goal.returns-clause-entries
-returns-clause-entries c =
-    let bytes = c.args.bytes.now in
-    let entries = (told_by c.args.noted.now.calls).entries in
-    ap (λ (told : Told). told.entries) (c.loop-at.invariant.1 ∙ whole entries Writes (c.args.first * 512) bytes c.loop-at.at c.loop-at-test.false)
-    ∙ ap (λ (entry : Entry). entry ∷ entries) (write_finishes c.args.first bytes)
-
-pub returns-clause-settled : goal.returns-clause-settled
-returns-clause-settled c =
-    ap (λ (told : Told). told.going) (c.loop-at.invariant.1 ∙ whole (told_by c.args.noted.now.calls).entries Writes (c.args.first * 512) c.args.bytes.now c.loop-at.at c.loop-at-test.false)

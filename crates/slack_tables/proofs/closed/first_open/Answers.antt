@@ -15,10 +15,9 @@ loop-i-init c = record {
 pub loop-i-preserved : goal.loop-i-preserved
 loop-i-preserved c =
     let behind = c.loop-i.invariant.behind in
-    let here : c.loop-i.i ≡ c.loop-i.i + 1 - 1 = omega arith in
     record {
       behind = omega arith;
-      to = λ d. subst (λ k. c.side_at-from.result ≤ distance (get_or c.args.places.now k d).at.stop c.args.pickup.now) here (c.side_at-from.ensures.value d);
+      to = λ d. subst (λ k. c.side_at-from.result ≤ distance (get_or c.args.places.now k d).at.stop c.args.pickup.now) (omega arith) (c.side_at-from.ensures.value d);
       bound = c.side_at-from.ensures.bound;
       closed = closed-more c.args.limits c.args.places.now c.args.pickup.now c.args.kept c.loop-i.i c.loop-i.invariant.closed (c.is_closed.ensures c.if-not-is_closed.false);
     }

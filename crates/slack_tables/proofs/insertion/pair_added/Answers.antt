@@ -33,8 +33,7 @@ loop-k-preserved c =
     record {
       walk = λ d.
           (let place = c.small_row-in-loop-k.ensures.place d in
-          let here : c.loop-k.k ≡ c.loop-k.k + 1 - 1 = omega arith in
-          next-ride c.args.limits c.args.places.now c.args.pickup.now c.args.i d (c.loop-k.k + 1) c.loop-k.ride c.loop-k.stop next _ _ (omega arith) (omega arith) (c.loop-k.invariant.walk d) (place ∙ ap (λ k. get_or c.args.places.now k d) here) (c.leg_at.ensures.value d ∙ (ap (λ (e : Row). distance e.at.stop c.loop-k.stop) (sym place) ∙ distance-back c.small_row-in-loop-k.result.now.at.stop c.loop-k.stop)) c.ride_on-in-loop-k.ensures.value ∙ ap (λ o. option_map (λ r. ride_at r c.small_row-in-loop-k.result.now.at.stop) o) c.in_ok-ride-2.was);
+          next-ride c.args.limits c.args.places.now c.args.pickup.now c.args.i d (c.loop-k.k + 1) c.loop-k.ride c.loop-k.stop next _ _ (omega arith) (omega arith) (c.loop-k.invariant.walk d) (place ∙ ap (λ k. get_or c.args.places.now k d) (omega arith)) (c.leg_at.ensures.value d ∙ (ap (λ (e : Row). distance e.at.stop c.loop-k.stop) (sym place) ∙ distance-back c.small_row-in-loop-k.result.now.at.stop c.loop-k.stop)) c.ride_on-in-loop-k.ensures.value ∙ ap (λ o. option_map (λ r. ride_at r c.small_row-in-loop-k.result.now.at.stop) o) c.in_ok-ride-2.was);
       visit = c.small_row-in-loop-k.ensures.small.at.visit;
       near =
           let before = c.loop-k.invariant.near in
@@ -47,15 +46,13 @@ loop-k-preserved c =
 pub returns-in_err-ride-2 : goal.returns-in_err-ride-2
 returns-in_err-ride-2 c = λ d.
     (let place = c.small_row-in-loop-k.ensures.place d in
-    let here : c.loop-k.k ≡ c.loop-k.k + 1 - 1 = omega arith in
-    let never = next-ride c.args.limits c.args.places.now c.args.pickup.now c.args.i d (c.loop-k.k + 1) c.loop-k.ride c.loop-k.stop c.small_row-in-loop-k.result.now _ _ (omega arith) (omega arith) (c.loop-k.invariant.walk d) (place ∙ ap (λ k. get_or c.args.places.now k d) here) (c.leg_at.ensures.value d ∙ (ap (λ (e : Row). distance e.at.stop c.loop-k.stop) (sym place) ∙ distance-back c.small_row-in-loop-k.result.now.at.stop c.loop-k.stop)) c.ride_on-in-loop-k.ensures.value ∙ ap (λ o. option_map (λ r. ride_at r c.small_row-in-loop-k.result.now.at.stop) o) c.in_err-ride-2.was in
+    let never = next-ride c.args.limits c.args.places.now c.args.pickup.now c.args.i d (c.loop-k.k + 1) c.loop-k.ride c.loop-k.stop c.small_row-in-loop-k.result.now _ _ (omega arith) (omega arith) (c.loop-k.invariant.walk d) (place ∙ ap (λ k. get_or c.args.places.now k d) (omega arith)) (c.leg_at.ensures.value d ∙ (ap (λ (e : Row). distance e.at.stop c.loop-k.stop) (sym place) ∙ distance-back c.small_row-in-loop-k.result.now.at.stop c.loop-k.stop)) c.ride_on-in-loop-k.ensures.value ∙ ap (λ o. option_map (λ r. ride_at r c.small_row-in-loop-k.result.now.at.stop) o) c.in_err-ride-2.was in
     c.from_residual-in_err-ride-2.ensures ∙ sym (pair-over c.args.limits c.args.places.now c.args.pickup.now c.args.i d c.args.delivery.now (c.loop-k.k + 1 + 1) c.args.j (omega arith) (omega arith) c.requires.within never))
 
 pub returns : goal.returns
 returns c = λ d.
     (let order = c.requires.order in
-    let end : c.loop-k.k + 1 ≡ c.args.j = omega arith in
-    let walk = subst (λ j. walk_to c.args.limits c.args.places.now c.args.pickup.now c.args.i d j ≡ Some (ride_at c.loop-k.ride c.loop-k.stop)) end (c.loop-k.invariant.walk d) in
+    let walk = subst (λ j. walk_to c.args.limits c.args.places.now c.args.pickup.now c.args.i d j ≡ Some (ride_at c.loop-k.ride c.loop-k.stop)) (omega arith) (c.loop-k.invariant.walk d) in
     let way = c.from.ensures ∙ c.dist.ensures.value in
     c.serve_below.ensures ∙ (served-any c.args.limits (ride_at c.loop-k.ride c.loop-k.stop) c.args.delivery.now (get_or c.args.places.now (c.args.j - 1) d) _ _ _ _ _ refl refl way (c.leg_at-2.ensures.value d) (c.small_row-tail.ensures.place d) (omega arith)
     ∙ sym (pair-served c.args.limits c.args.places.now c.args.pickup.now c.args.i d c.args.delivery.now c.args.j c.loop-k.ride c.loop-k.stop walk)))

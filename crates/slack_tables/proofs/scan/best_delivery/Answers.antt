@@ -61,10 +61,9 @@ returns-then-is_hopeless c = λ d.
     let bound : SFits w64 c.loop-j.best.bound = search rules in
     let served = subst (λ x. c.serve_below-distance.result ≡ served_below x c.args.trip.now.limits c.loop-j.on.ride c.loop-j.on.service c.loop-j.on.to_delivery c.args.trip.now.delivery c.leg_at.result c.small_row-tail.result.now) (to_z-of_z w64 c.loop-j.best.bound bound) c.serve_below-distance.ensures in
     let below : SFits w64 c.args.below = record { sfits = c.ranges.below.sfits } in
-    let next_bound : SFits w64 c.offer.new.self.bound = search rules in
     let so = delivery-more c.args.trip.now.limits c.args.places.now c.args.trip.now.pickup c.args.trip.now.delivery c.args.i d _ c.loop-j.j c.loop-j.best (c.loop-j.invariant.best d) _ c.offer.new.self order within refl
     (offered-here c.args.trip.now.limits c.args.places.now c.args.trip.now.pickup c.args.trip.now.delivery c.args.i d c.loop-j.j c.loop-j.on order within (c.loop-j.invariant.underway d) c.loop-j.best c.offer.new.self c.small_row-tail.result.now c.leg_at.result (c.small_row-tail.ensures.place d) (c.leg_at.ensures.value d ∙ ap (λ (e : Row). distance e.at.stop c.args.trip.now.delivery) (sym (c.small_row-tail.ensures.place d))) (c.offer.ensures ∙ ap (λ o. offered c.loop-j.best o c.args.i c.loop-j.j) served)) in
-    let dear = bits-below c.offer.new.self.bound _ next_bound (c.is_hopeless.ensures.dear c.if-is_hopeless.true) in
+    let dear = bits-below c.offer.new.self.bound _ (search rules) (c.is_hopeless.ensures.dear c.if-is_hopeless.true) in
     let rest = dear-behind c.args.trip.now.limits c.args.places.now c.args.trip.now.pickup c.args.trip.now.delivery c.args.i d c.requires.ways c.args.least.now c.requires.least c.offer.new.self.bound (c.loop-j.j - 1) _ _ (omega arith) (c.is_hopeless.ensures.within c.if-is_hopeless.true) (let far = first-reach c.args.trip.now.limits c.args.places.now c.args.trip.now.pickup c.args.trip.now.delivery c.args.i d c.requires.ways c.args.first (c.requires.underway d) in omega arith) (ap (λ (e : Row). e.at.distance) (c.small_row-next.ensures.place d)) dear in
     subst (λ x. IsFirstOf (AddsDelivery c.args.trip.now.limits c.args.places.now c.args.trip.now.pickup c.args.trip.now.delivery c.args.i x d) c.offer.new.self.found) (to_z-of_z w64 c.args.below below)
     (deliveries-stop c.args.trip.now.limits c.args.places.now c.args.trip.now.pickup c.args.trip.now.delivery c.args.i d _ (c.loop-j.j + 1) c.offer.new.self so (λ k x h l some. rest k x (omega arith) l some)))

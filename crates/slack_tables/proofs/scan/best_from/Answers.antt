@@ -23,10 +23,9 @@ pub loop-i-preserved : goal.loop-i-preserved
 loop-i-preserved c =
     let bound : SFits w64 c.loop-i.best.bound = search rules in
     let behind = c.loop-i.invariant.behind in
-    let here : c.loop-i.i ≡ c.loop-i.i + 1 - 1 = omega arith in
     record {
       behind = omega arith;
-      to = λ d. subst (λ k. c.least_leg_at-from.result ≤ distance (get_or c.args.places.now k d).at.stop c.args.trip.now.pickup) here (c.least_leg_at-from.ensures.value d);
+      to = λ d. subst (λ k. c.least_leg_at-from.result ≤ distance (get_or c.args.places.now k d).at.stop c.args.trip.now.pickup) (omega arith) (c.least_leg_at-from.ensures.value d);
       bound = c.least_leg_at-from.ensures.bound;
       best = λ d. pair-more c.args.trip.now.limits c.args.places.now c.args.trip.now.pickup c.args.trip.now.delivery (c.args.first - 1) d _ c.loop-i.i c.loop-i.best (c.loop-i.invariant.best d) _ _ (omega arith) (subst (λ x. IsFirstOf (AddsDelivery c.args.trip.now.limits c.args.places.now c.args.trip.now.pickup c.args.trip.now.delivery c.loop-i.i x d) c.best_at.result) (to_z-of_z w64 c.loop-i.best.bound bound) (c.best_at.ensures d)) c.accept.ensures;
     }

@@ -19,11 +19,10 @@ loop-i-init c = record {
 pub loop-i-preserved : goal.loop-i-preserved
 loop-i-preserved c =
     let behind = c.loop-i.invariant.behind in
-    let here : c.loop-i.i ≡ c.loop-i.i + 1 - 1 = omega arith in
     let bound : SFits w64 c.loop-i.best.bound = search rules in
     record {
       behind = omega arith;
-      to = λ d. subst (λ k. c.side_at-from.result ≤ distance (get_or c.args.places.now k d).at.stop c.args.stop.now) here (c.side_at-from.ensures.value d);
+      to = λ d. subst (λ k. c.side_at-from.result ≤ distance (get_or c.args.places.now k d).at.stop c.args.stop.now) (omega arith) (c.side_at-from.ensures.value d);
       bound = c.side_at-from.ensures.bound;
       best = λ d.
           (let served = subst (λ x. c.single_at-distance.result ≡ served_single x c.args.limits c.args.places.now c.args.stop.now c.loop-i.i d) (to_z-of_z w64 c.loop-i.best.bound bound) (c.single_at-distance.ensures d) in

@@ -7,5 +7,4 @@ loop-k-init c = filled-none c.args.kind c.args.places.now (omega arith) c.requir
 
 pub loop-k-preserved : goal.loop-k-preserved
 loop-k-preserved c =
-    let next : c.loop-k.k ≡ c.loop-k.k - 1 + 1 = omega arith in
-    filled-more c.args.kind c.args.places.now c.loop-k.places (c.loop-k.k - 1) _ c.requires.timely (subst (λ k. IsFilledFrom c.args.kind c.args.places.now c.loop-k.places k) next c.loop-k.invariant) _ c.row_before.ensures
+    filled-more c.args.kind c.args.places.now c.loop-k.places (c.loop-k.k - 1) _ c.requires.timely (subst (λ k. IsFilledFrom c.args.kind c.args.places.now c.loop-k.places k) (omega arith) c.loop-k.invariant) _ c.row_before.ensures

@@ -42,18 +42,16 @@ loop-k-preserved c =
     let is = c.loop-k.invariant in
     let at = at-more stops k _ _ _ is.come.at c.stop_behind.ensures.stop c.driven_on-at.ensures.value in
     let within = within-next k _ _ is.come.within c.driven_on-at.ensures.near in
-    let keep : is_kept (limits_of p) (ride_of c.driven_on-at.result) c.driven_on-at.result.stop ≡ true = search rules in
     record {
       long = ap length c.put-in-loop-k.ensures ∙ (length-set c.loop-k.places (c.loop-k.k + 1) _ ∙ is.long);
       opened = open-to-more stops (c.loop-k.k + 1) c.loop-k.places _ _ is.opened (omega arith) at within c.put-in-loop-k.ensures;
-      come = record { at = at; within = within; kept = kept-more (limits_of p) stops k c.driven_on-at.result is.come.kept at keep };
+      come = record { at = at; within = within; kept = kept-more (limits_of p) stops k c.driven_on-at.result is.come.kept at (search rules) };
     }
 
 pub returns-clause-kept : goal.returns-clause-kept
 returns-clause-kept c =
     let p = c.args.problem.now in
-    let last : c.loop-k.k ≡ length c.args.route.now + 1 = omega arith in
-    (λ _. limits-from p c.args.route.now (subst (λ n. IsInLimits p.kind p.capacity (place p c.args.route.now) n) last c.loop-k.invariant.come.kept), λ _. refl)
+    (λ _. limits-from p c.args.route.now (subst (λ n. IsInLimits p.kind p.capacity (place p c.args.route.now) n) (omega arith) c.loop-k.invariant.come.kept), λ _. refl)
 
 pub returns-clause-opened : goal.returns-clause-opened
 returns-clause-opened c = λ _.

@@ -14,9 +14,7 @@ denied g c honest =
     let d = c.args.self.now in
     let new = c.fail-in-Err.new.self in
     let entries = g.F.FileCalls.entries in
-    let counted : new.calls ≡ (if is_ok c.fail-in-Err.result then d.calls + 1 else d.calls) = search rules in
-    let more : entries new.file ≡ sync_entry (is_ok c.fail-in-Err.result) ∷ entries d.file = search rules in
-    file_syncs d.sectors new.sectors g.S.Start.disk g.S.Start.shown (entries d.file) (entries new.file) c.fail-in-Err.ensures.sectors d.calls new.calls c.fail-in-Err.result d.inside honest counted more
+    file_syncs d.sectors new.sectors g.S.Start.disk g.S.Start.shown (entries d.file) (entries new.file) c.fail-in-Err.ensures.sectors d.calls new.calls c.fail-in-Err.result d.inside honest (search rules) (search rules)
 
 pub returns-in-Err-clause-contents : goal.returns-in-Err-clause-contents
 returns-in-Err-clause-contents g c = λ honest. (denied g c honest).contents
@@ -29,8 +27,7 @@ done : (g : given.Over) (c : goal.After-self-2-1 g) → AnswersAsModel c.args.se
 done g c honest =
     let d = c.args.self.now in
     let entries = g.F.FileCalls.entries in
-    let more : entries c.sync.new.self ≡ sync_entry true ∷ entries d.file = search rules in
-    file_syncs d.sectors d.sectors g.S.Start.disk g.S.Start.shown (entries d.file) (entries c.sync.new.self) refl d.calls (d.calls + 1) (Ok tt) d.inside honest refl more
+    file_syncs d.sectors d.sectors g.S.Start.disk g.S.Start.shown (entries d.file) (entries c.sync.new.self) refl d.calls (d.calls + 1) (Ok tt) d.inside honest refl (search rules)
 
 pub returns-clause-reads : goal.returns-clause-reads
 returns-clause-reads g c = λ honest. (done g c honest).seen

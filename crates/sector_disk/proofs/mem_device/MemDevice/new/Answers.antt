@@ -6,5 +6,4 @@ use Rattle.sector_disk.proofs.mem_device.MemDevice.new.Goals as goal
 pub returns-clause-only : goal.returns-clause-only
 returns-clause-only c =
     let start = c.in_ok-vec.field-0.items in
-    let whole : length start % 512 ≡ 0 = search rules in
-    only_start start (map call_of c.new.result.items) (ap (map call_of) c.new.ensures.items) whole
+    only_start start (map call_of c.new.result.items) (ap (map call_of) c.new.ensures.items) (search rules)

@@ -7,5 +7,4 @@ use Rattle.sector_disk.proofs.mem_device.MemDevice.try_sync.Goals as goal
 pub invariant_of-self-2 : goal.invariant_of-self-2
 invariant_of-self-2 c =
     let d = c.args.self.now in
-    let more : map call_of c.keep_sync.new.history.items ≡ map call_of d.history.items ++ Synced ∷ [] = search rules in
-    record { kept = keeps d.start.items d.image.items d.image.items d.history.items c.keep_sync.new.history.items Synced d.kept more refl refl }
+    record { kept = keeps d.start.items d.image.items d.image.items d.history.items c.keep_sync.new.history.items Synced d.kept (search rules) refl refl }

@@ -12,8 +12,7 @@ invariant_of-self-then-refused-2 c =
     let d = c.args.self.now in
     let inside : 512 * c.args.first + length c.args.bytes.now ≤ length d.start.items = omega (arith, c.requires.inside, whole_sectors (length d.start.items) d.kept.whole) in
     let fit = is_run_from (length d.start.items) c.args.first (length c.args.bytes.now) c.requires.some c.requires.whole inside in
-    let more : map call_of c.keep_write.new.history.items ≡ map call_of d.history.items ++ Tore c.args.first c.args.bytes.now ∷ [] = search rules in
-    record { kept = keeps d.start.items d.image.items d.image.items d.history.items c.keep_write.new.history.items (Tore c.args.first c.args.bytes.now) d.kept more fit refl }
+    record { kept = keeps d.start.items d.image.items d.image.items d.history.items c.keep_write.new.history.items (Tore c.args.first c.args.bytes.now) d.kept (search rules) fit refl }
 
 pub put-requires : goal.put-requires
 put-requires c =
@@ -25,7 +24,5 @@ invariant_of-self-2 c =
     let d = c.args.self.now in
     let inside : 512 * c.args.first + length c.args.bytes.now ≤ length d.start.items = omega (arith, c.requires.inside, whole_sectors (length d.start.items) d.kept.whole) in
     let fit = is_run_from (length d.start.items) c.args.first (length c.args.bytes.now) c.requires.some c.requires.whole inside in
-    let more : map call_of c.keep_write.new.history.items ≡ map call_of d.history.items ++ Wrote c.args.first c.args.bytes.now ∷ [] = search rules in
-    let size : length c.put.new.image ≡ d.image.len = search rules in
-    let same = take_at c.put.new.image (drop (length c.put.new.image) d.image.items) d.image.len size ∙ c.put.ensures ∙ ap (written c.args.first c.args.bytes.now) c.deref_mut.ensures.value in
-    record { kept = keeps d.start.items d.image.items _ d.history.items c.keep_write.new.history.items (Wrote c.args.first c.args.bytes.now) d.kept more fit same }
+    let same = take_at c.put.new.image (drop (length c.put.new.image) d.image.items) d.image.len (search rules) ∙ c.put.ensures ∙ ap (written c.args.first c.args.bytes.now) c.deref_mut.ensures.value in
+    record { kept = keeps d.start.items d.image.items _ d.history.items c.keep_write.new.history.items (Wrote c.args.first c.args.bytes.now) d.kept (search rules) fit same }

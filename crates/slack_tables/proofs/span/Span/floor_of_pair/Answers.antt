@@ -6,6 +6,5 @@ use Rattle.slack_tables.proofs.span.Span.floor_of_pair.Goals as goal
 
 pub returns : goal.returns
 returns c =
-    let fits : SFits w64 c.min.result = search rules in
-    subst (λ x. IsFloorOfPair c.args.self.now c.args.pickup.now c.args.delivery.now c.args.across x) (sym (to_z-of_z w64 c.min.result fits))
+    subst (λ x. IsFloorOfPair c.args.self.now c.args.pickup.now c.args.delivery.now c.args.across x) (sym (to_z-of_z w64 c.min.result (search rules)))
     (record { inside = omega (arith, ints, clamps); first = omega (arith, ints, clamps); last = omega (arith, ints, clamps) })

@@ -8,10 +8,7 @@ use Rattle.slack_tables.proofs.span.Span.is_far_pair.Goals as goal
 pub returns-then-floor-below : goal.returns-then-floor-below
 returns-then-floor-below c = λ near depot floors.
     (let below : SFits w64 c.args.below = record { sfits = c.ranges.below.sfits } in
-    let first : SFits w64 c.floor.result = search rules in
-    let second : SFits w64 c.floor-2.result = search rules in
-    let sum : SFits w64 (c.floor.result +ℤ c.floor-2.result) = search rules in
-    let same : to_z w64 (of_z w64 (to_z w64 (of_z w64 c.floor.result) +ℤ to_z w64 (of_z w64 c.floor-2.result))) ≡ c.floor.result +ℤ c.floor-2.result = rw (to_z-of_z w64 c.floor.result first, to_z-of_z w64 c.floor-2.result second) (to_z-of_z w64 (c.floor.result +ℤ c.floor-2.result) sum) in
+    let same : to_z w64 (of_z w64 (to_z w64 (of_z w64 c.floor.result) +ℤ to_z w64 (of_z w64 c.floor-2.result))) ≡ c.floor.result +ℤ c.floor-2.result = rw (to_z-of_z w64 c.floor.result (search rules), to_z-of_z w64 c.floor-2.result (search rules)) (to_z-of_z w64 (c.floor.result +ℤ c.floor-2.result) (search rules)) in
     let beside : SFits w64 c.floor_of_pair.result = search rules in
     record {
       to_p = record { inside = c.least_inside-pickup_inside.result; home = c.args.ways.now.home };

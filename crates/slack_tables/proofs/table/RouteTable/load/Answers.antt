@@ -9,5 +9,4 @@ use Rattle.slack_tables.proofs.table.RouteTable.load.Goals as goal
 pub returns : goal.returns
 returns c = λ p route is.
     (let d = open_row (leaving c.args.self.now.depot) in
-    let fits : SFits w64 c.load_at.result = search rules in
-    to_z-of_z w64 c.load_at.result fits ∙ (c.load_at.ensures ∙ (ap (λ (e : Row). e.at.load) (c.row_at.ensures d) ∙ load-read c.args.self.now c.rows-places.result.now c.rows-places.ensures.known p route is c.args.place d c.requires)))
+    to_z-of_z w64 c.load_at.result (search rules) ∙ (c.load_at.ensures ∙ (ap (λ (e : Row). e.at.load) (c.row_at.ensures d) ∙ load-read c.args.self.now c.rows-places.result.now c.rows-places.ensures.known p route is c.args.place d c.requires)))
