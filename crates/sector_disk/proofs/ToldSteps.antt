@@ -122,9 +122,6 @@ module _ (way : Way) (old new : List Noted) (start : ℕ) where
 first_is : (first : ℕ) → first * 512 / 512 ≡ first
 first_is first = mul-div_cancel first (omega arith)
 
-pub write_finishes : (first : ℕ) (bytes : List ℕ) → finished Writes (first * 512) bytes ≡ write_entry true first bytes
-write_finishes first bytes = ap (λ (k : ℕ). (WriteFinished k, bytes)) (first_is first)
-
 pub write_fails : (first : ℕ) (bytes : List ℕ) → failed Writes (first * 512) bytes ≡ write_entry false first bytes
 write_fails first bytes = ap (λ (k : ℕ). (WriteFailed k, bytes)) (first_is first)
 

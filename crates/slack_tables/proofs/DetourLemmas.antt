@@ -120,16 +120,14 @@ module _ (limits : Limits) (places : List Row) (p q : Stop) (i : ℕ) (d : Row) 
   first-reach on is =
       let first = at-first _ is.walk in
       let stop = first.0 in
-      let there : i + 1 - 1 ≡ i = omega arith in
-      let onward : on.onward ≡ distance p (get_or places i d).at.stop = is.onward ∙ (ap (λ s. distance s (get_or places (i + 1 - 1) d).at.stop) stop ∙ ap (λ k. distance p (get_or places k d).at.stop) there) in
+      let onward : on.onward ≡ distance p (get_or places i d).at.stop = is.onward ∙ (ap (λ s. distance s (get_or places (i + 1 - 1) d).at.stop) stop ∙ ap (λ k. distance p (get_or places k d).at.stop) (omega arith)) in
       omega arith
 
   module _ (least : List ℤ) (is : AreLeast i least places q) (bound : ℤ) where
     -- each delivery further on comes to the bound
     pub dear-behind : (k far base : ℕ) → i ≤ k → k < length least → far ≤ reach → base ≡ (get_or places i d).at.distance → bound ≤ℤ ((pos far -ℤ pos base) +ℤ get_or least k (pos 0)) → (j : ℕ) (x : ℤ) → k + 2 ≤ j → j ≤ length places → with_pair limits places p q i j d ≡ Some x → bound ≤ℤ x
     dear-behind k far base order known is_far is_base hopeless j x behind last some =
-        let back : j - 2 + 2 ≡ j = omega arith in
-        let cost = apart-is (j - 2) x (omega arith) (omega arith) (subst (λ n. with_pair limits places p q i n d ≡ Some x) (sym back) some) in
+        let cost = apart-is (j - 2) x (omega arith) (omega arith) (subst (λ n. with_pair limits places p q i n d ≡ Some x) (sym (omega arith)) some) in
         let le = is.lower k (j - 2) d order known (omega arith) (omega arith) in
         omega (arith, ints)
 
@@ -145,13 +143,11 @@ module _ (limits : Limits) (places : List Row) (p q : Stop) (i : ℕ) (d : Row) 
 
         by : (j < i + 2) ⊎ (i + 2 ≤ j) → bound ≤ℤ x
         by (inl here) =
-            let same : j ≡ i + 1 = omega arith in
-            let cost = near-is x (subst (λ n. with_pair limits places p q i n d ≡ Some x) same some) in
+            let cost = near-is x (subst (λ n. with_pair limits places p q i n d ≡ Some x) (omega arith) some) in
             let same_start = start in
             let same_base = base in
             omega (arith, ints)
         by (inr further) =
             let back = distance-back (get_or places i d).at.stop p in
             let same_start = start in
-            let far : before.at.distance + to + onward ≤ reach = omega arith in
-            dear-behind i (before.at.distance + to + onward) next.at.distance (omega arith) known far base apart j x further last some
+            dear-behind i (before.at.distance + to + onward) next.at.distance (omega arith) known (omega arith) base apart j x further last some

@@ -48,12 +48,11 @@ module _ (c : Course) (places : List Row) (table : AreKnown c places) (b : ℕ �
   rest-is : (j n l : ℕ) (d : Row) (at : Progress) (s : Stop) → 1 ≤ j → n ≤ length c.stops + 1 → l ≡ j + 1 + (length c.stops + 1 - n) → b j ≡ s → ((k : ℕ) → b (j + 1 + k) ≡ stop_on c (n + k)) → IsAt b (j - 1) at → In (limits_of c) b (j - 1) → IsEnd l (with_stop (limits_of c) at s (get_or places n d))
   rest-is j n l d at s one h end here same is kept =
       let rest = length c.stops + 1 - n in
-      let back : j - 1 + 1 ≡ j = omega arith in
       let total : n + rest ≡ length c.stops + 1 = omega arith in
       let known : IsKnown c.kind (stop_on c) (n + rest) n (get_or places n d) = subst (λ q. IsKnown c.kind (stop_on c) q n (get_or places n d)) (sym total) (table.known n d (omega arith)) in
       let small : IsSmallRow (get_or places n d) = table.small n d (omega arith) in
       let late : (get_or places n d).at.stop.latest ≡ (stop_on c n).latest = ap (λ s. s.latest) (known.at.stop) in
-      let is_end = stop-is (limits_of c) (stop_on c) b n (j + 1) rest same (get_or places n d) known (omega arith) (j - 1) at s (omega arith) is kept (sym here ∙ ap b (sym back)) in
+      let is_end = stop-is (limits_of c) (stop_on c) b n (j + 1) rest same (get_or places n d) known (omega arith) (j - 1) at s (omega arith) is kept (sym here ∙ ap b (sym (omega arith))) in
       subst (λ q. EndIs (limits_of c) b l (length_along (stop_on c) q) (with_stop (limits_of c) at s (get_or places n d))) total
       (subst (λ q. EndIs (limits_of c) b q (length_along (stop_on c) (n + rest)) (with_stop (limits_of c) at s (get_or places n d))) (sym end) is_end)
 
@@ -65,22 +64,17 @@ module _ (c : Course) (places : List Row) (table : AreKnown c places) (b : ℕ �
   walked-is : (i n : ℕ) (p : Stop) (d : Row) → 1 ≤ i → i + n ≤ length c.stops + 1 → ((k : ℕ) → k ≤ i - 1 → b k ≡ stop_on c k) → b i ≡ p → ((k : ℕ) → k < n → b (i + 1 + k) ≡ stop_on c (i + k)) → WalkIs (limits_of c) b (i + n) (walked (limits_of c) places p i d n)
   unfolding WalkIs
   walked-is i zero p d one most front first middle =
-      let here : i - 1 + 1 ≡ i + 0 = omega arith in
-      let same : i - 1 + 1 ≡ i = omega arith in
-      subst (λ k. WalkIs (limits_of c) b k (walked (limits_of c) places p i d 0)) here
-      (walk-on (limits_of c) b (i - 1) (Some (get_or places (i - 1) d).at) p (front-at (i - 1) front (omega arith) d, front-in (i - 1) front (omega arith)) (sym (ap b same ∙ first)))
+      subst (λ k. WalkIs (limits_of c) b k (walked (limits_of c) places p i d 0)) (omega arith)
+      (walk-on (limits_of c) b (i - 1) (Some (get_or places (i - 1) d).at) p (front-at (i - 1) front (omega arith) d, front-in (i - 1) front (omega arith)) (sym (ap b (omega arith) ∙ first)))
   walked-is i (suc n) p d one most front first middle =
-      let next : i + n + 1 ≡ i + suc n = omega arith in
-      let there : i + n + 1 ≡ i + 1 + n = omega arith in
-      subst (λ k. WalkIs (limits_of c) b k (walked (limits_of c) places p i d (suc n))) next
+      subst (λ k. WalkIs (limits_of c) b k (walked (limits_of c) places p i d (suc n))) (omega arith)
       (walk-on (limits_of c) b (i + n) (walked (limits_of c) places p i d n) (get_or places (i + n) d).at.stop (walked-is i n p d one (omega arith) front first (λ k h. middle k (omega arith)))
-      ((table.known (i + n) d (omega arith)).at.stop ∙ sym (ap b there ∙ middle n (omega arith))))
+      ((table.known (i + n) d (omega arith)).at.stop ∙ sym (ap b (omega arith) ∙ middle n (omega arith))))
 
   pub pair-is : (i j : ℕ) (p q : Stop) (d : Row) → 1 ≤ i → i < j → j ≤ length c.stops + 2 → ((k : ℕ) → k ≤ i - 1 → b k ≡ stop_on c k) → b i ≡ p → ((k : ℕ) → i + 1 + k < j → b (i + 1 + k) ≡ stop_on c (i + k)) → b j ≡ q → ((k : ℕ) → b (j + 1 + k) ≡ stop_on c (j - 1 + k)) → IsEnd (length c.stops + 3) (with_pair (limits_of c) places p q i j d)
   unfolding walk_to
   pair-is i j p q d one order most front first middle second behind =
-      let far : i + (j - (i + 1)) ≡ j - 1 = omega arith in
-      let walk = subst (λ k. WalkIs (limits_of c) b k (walked (limits_of c) places p i d (j - (i + 1)))) far (walked-is i (j - (i + 1)) p d one (omega arith) front first (λ k h. middle k (omega arith))) in
+      let walk = subst (λ k. WalkIs (limits_of c) b k (walked (limits_of c) places p i d (j - (i + 1)))) (omega arith) (walked-is i (j - (i + 1)) p d one (omega arith) front first (λ k h. middle k (omega arith))) in
       end-then (limits_of c) b (j - 1) (length c.stops + 3) _ _ (λ at. with_stop (limits_of c) at q (get_or places (j - 1) d)) (omega arith) walk
       (λ at is kept. rest-is j (j - 1) (length c.stops + 3) d at q (omega arith) (omega arith) (omega arith) second behind is kept)
 

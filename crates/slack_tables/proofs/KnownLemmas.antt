@@ -34,9 +34,8 @@ module _ (kind : Kind) (capacity : ℕ) (stops : ℕ → Stop) (last : ℕ) (lim
   -- the schedule's own start goes on
   pub goes_on : (k : ℕ) → GoesOnAlong kind stops last k (start_along stops k)
   goes_on k = λ lilim j h l.
-      let far : j ≡ k + (j - k) = omega arith in
       let spliced : start_along stops (k + (j - k)) ≡ moved_along stops k (start_along stops k) (k + (j - k)) = spliced-start stops stops k k (λ i. refl) (j - k) in
-      let same : start_along stops j ≡ moved_along stops k (start_along stops k) j = subst (λ i. start_along stops i ≡ moved_along stops k (start_along stops k) i) (sym far) spliced in
+      let same : start_along stops j ≡ moved_along stops k (start_along stops k) j = subst (λ i. start_along stops i ≡ moved_along stops k (start_along stops k) i) (sym (omega arith)) spliced in
       let le = limits.window lilim j (omega arith) l in
       omega arith
 

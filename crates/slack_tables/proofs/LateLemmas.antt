@@ -24,8 +24,7 @@ rises-by places rising d (suc n) k h =
 
 pub rises-to : (places : List Row) → AreRising places → (d : Row) (k m : ℕ) → k ≤ m → m < length places → (get_or places k d).at.start ≤ (get_or places m d).at.start
 rises-to places rising d k m h l =
-    let far : k + (m - k) ≡ m = omega arith in
-    subst (λ n. (get_or places k d).at.start ≤ (get_or places n d).at.start) far (rises-by places rising d (m - k) k (omega arith))
+    subst (λ n. (get_or places k d).at.start ≤ (get_or places n d).at.start) (omega arith) (rises-by places rising d (m - k) k (omega arith))
 
 late-too : (kind : Kind) (t u latest : ℕ) → t ≤ u → is_in_time kind t latest ≡ false → is_in_time kind u latest ≡ true → ⊥
 late-too LiLim t u latest le late there = let after = leb-false _ _ late in let before = leb-true _ _ there in absurd (omega arith)

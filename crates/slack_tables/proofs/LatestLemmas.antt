@@ -34,8 +34,7 @@ moved-behind at i t (suc n) =
 
 pub moved-from : (at : ℕ → Stop) (i t k : ℕ) → i < k → moved_along at i t k ≡ moved_along at (i + 1) (arrival at i t) k
 moved-from at i t k h =
-    let some : k ≡ i + 1 + (k - (i + 1)) = omega arith in
-    subst (λ m. moved_along at i t m ≡ moved_along at (i + 1) (arrival at i t) m) (sym some) (moved-behind at i t (k - (i + 1)))
+    subst (λ m. moved_along at i t m ≡ moved_along at (i + 1) (arrival at i t) m) (sym (omega arith)) (moved-behind at i t (k - (i + 1)))
 
 module _ (kind : Kind) (at : ℕ → Stop) (last : ℕ) where
   -- a start goes on where the next one is in time and goes on

@@ -45,10 +45,9 @@ module _ (places : List Row) (s : Stop) (k : ℕ) (least : List ℤ) (x y : ℤ)
       by : (k < m) ⊎ (m ≤ k) → y ≤ℤ detour_of places s m d
       by (inl after) = let le = is.lower (k + 1) m d (omega arith) within (omega arith) l in omega (arith, ints, clamps)
       by (inr first) =
-          let same : k ≡ m = omega arith in
           let le = detour d in
           let here : y ≤ℤ detour_of places s k d = omega (arith, ints, clamps) in
-          subst (λ n. y ≤ℤ detour_of places s n d) same here
+          subst (λ n. y ≤ℤ detour_of places s n d) (omega arith) here
 
   pub least-more : unsigned_abs x ≤ 2 ^ 60 → AreLeastFrom places s k (set least k y)
   least-more small = record {
@@ -60,16 +59,14 @@ module _ (places : List Row) (s : Stop) (k : ℕ) (least : List ℤ) (x y : ℤ)
       lower-by : (i m : ℕ) (d : Row) → k ≤ i → i < length (set least k y) → i ≤ m → m + 1 < length places → (k < i) ⊎ (i ≤ k) → get_or (set least k y) i (pos 0) ≤ℤ detour_of places s m d
       lower-by i m d h l n r (inl after) = subst (λ z. z ≤ℤ detour_of places s m d) (sym (other i (omega arith))) (is.lower i m d (omega arith) (omega (arith, length-set least k y)) n r)
       lower-by i m d h l n r (inr first) =
-          let same : k ≡ i = omega arith in
-          subst (λ n. get_or (set least k y) n (pos 0) ≤ℤ detour_of places s m d) same (subst (λ z. z ≤ℤ detour_of places s m d) (sym here) (lower-here m d (omega arith) r))
+          subst (λ n. get_or (set least k y) n (pos 0) ≤ℤ detour_of places s m d) (omega arith) (subst (λ z. z ≤ℤ detour_of places s m d) (sym here) (lower-here m d (omega arith) r))
 
       small-by : (i : ℕ) → k ≤ i → i < length (set least k y) → (k < i) ⊎ (i ≤ k) → unsigned_abs (get_or (set least k y) i (pos 0)) ≤ 2 ^ 60
       small-by i h l (inl after) = subst (λ z. unsigned_abs z ≤ 2 ^ 60) (sym (other i (omega arith))) (is.small i (omega arith) (omega (arith, length-set least k y)))
       small-by i h l (inr first) =
-          let same : k ≡ i = omega arith in
           let next_small = is.small (k + 1) (omega arith) within in
           let small_here : unsigned_abs y ≤ 2 ^ 60 = omega (arith, ints, clamps) in
-          subst (λ n. unsigned_abs (get_or (set least k y) n (pos 0)) ≤ 2 ^ 60) same (subst (λ z. unsigned_abs z ≤ 2 ^ 60) (sym here) small_here)
+          subst (λ n. unsigned_abs (get_or (set least k y) n (pos 0)) ≤ 2 ^ 60) (omega arith) (subst (λ z. unsigned_abs z ≤ 2 ^ 60) (sym here) small_here)
 
 pub least-from : (places : List Row) (s : Stop) (first : ℕ) (least : List ℤ) → AreLeastFrom places s first least → AreLeast first least places s
 least-from places s first least is = record { lower = λ k m d f h l r. is.lower k m d f h l r; small = λ k f h. is.small k f h }

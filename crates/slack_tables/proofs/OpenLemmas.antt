@@ -82,8 +82,7 @@ open-to-more stops n places new a is few at within made = subst (AreOpenTo stops
     by : (k : ℕ) (d : Row) → (k < n) ⊎ (n ≤ k) → k < n + 1 → k < length places → IsOpen stops k (get_or (set places n (open_row a)) k d)
     by k d (inl before) h l = subst (IsOpen stops k) (sym (get_or-set_other places n k (open_row a) d (omega arith))) (is.each k d before l)
     by k d (inr here) h l =
-        let same : n ≡ k = omega arith in
-        subst (λ i. IsOpen stops i (get_or (set places n (open_row a)) i d)) same (subst (IsOpen stops n) (sym (get_or-set_same places n (open_row a) d (omega arith))) (open-is stops n a few at within))
+        subst (λ i. IsOpen stops i (get_or (set places n (open_row a)) i d)) (omega arith) (subst (IsOpen stops n) (sym (get_or-set_same places n (open_row a) d (omega arith))) (open-is stops n a few at within))
 
 pub open-to-all : (stops : ℕ → Stop) (n : ℕ) (places : List Row) → AreOpenTo stops n places → length places ≤ n → AreOpen stops places
 open-to-all stops n places is all = λ k d h. is.each k d (omega arith) h

@@ -103,10 +103,8 @@ span-more places k old new before here some is is_before is_here inside wider ed
     longest-by : (m : ℕ) (d : Row) → 1 ≤ m → m + 1 < k + 1 → (m + 1 < k) ⊎ (k ≤ m + 1) → edge_of (get_or places m d) (get_or places (m + 1) d) ≤ℤ new.longest
     longest-by m d h l (inl less) = let le = is.longest m d h less in omega (arith, ints)
     longest-by m d h l (inr more) =
-        let same : k ≡ m + 1 = omega arith in
-        let back : k - 1 ≡ m = omega arith in
-        subst (λ (e : Row). edge_of e (get_or places (m + 1) d) ≤ℤ new.longest) (is_before d ∙ ap (λ n. get_or places n d) back)
-        (subst (λ (e : Row). edge_of before e ≤ℤ new.longest) (is_here d ∙ ap (λ n. get_or places n d) same) edge)
+        subst (λ (e : Row). edge_of e (get_or places (m + 1) d) ≤ℤ new.longest) (is_before d ∙ ap (λ n. get_or places n d) (omega arith))
+        (subst (λ (e : Row). edge_of before e ≤ℤ new.longest) (is_here d ∙ ap (λ n. get_or places n d) (omega arith)) edge)
 
 pub ends-same : (old new : Span) (places : List Row) → new.tips ≡ old.tips → new.load ≡ old.load → AreEnds old places → AreEnds new places
 ends-same old new places tips load ends = record {
@@ -267,14 +265,12 @@ far-pair limits places depot p q kept below d span linked is at_home dear = λ a
 
         by : (j < i + 2) ⊎ (i + 2 ≤ j) → below ≤ℤ x
         by (inl here) =
-            let same : j ≡ i + 1 = omega arith in
-            let cost = near-is limits places p q i d linked x (subst (λ n. with_pair limits places p q i n d ≡ Some x) same some) in
+            let cost = near-is limits places p q i d linked x (subst (λ n. with_pair limits places p q i n d ≡ Some x) (omega arith) some) in
             let least = subst (λ k. dear.beside ≤ℤ (pos ((get_or places (i - 1) d).at.distance + distance (get_or places (i - 1) d).at.stop p + distance p q + distance (get_or places k d).at.stop q) -ℤ pos (get_or places k d).at.distance)) next (beside-le places depot span is at_home p q dear.to_p dear.to_q dear.nearest_p dear.nearest_q dear.across dear.between dear.beside dear.lowest (i - 1) d (omega arith)) in
             let le = dear.near in
             omega (arith, ints)
         by (inr further) =
-            let back : j - 2 + 2 ≡ j = omega arith in
-            let cost = apart-is limits places p q i d linked (j - 2) x (omega arith) (omega arith) (subst (λ n. with_pair limits places p q i n d ≡ Some x) (sym back) some) in
+            let cost = apart-is limits places p q i d linked (j - 2) x (omega arith) (omega arith) (subst (λ n. with_pair limits places p q i n d ≡ Some x) (sym (omega arith)) some) in
             let first = subst (λ k. dear.floor_p ≤ℤ (pos ((get_or places (i - 1) d).at.distance + distance (get_or places (i - 1) d).at.stop p + distance (get_or places k d).at.stop p) -ℤ pos (get_or places k d).at.distance)) next (detour-le places depot span is at_home p dear.to_p dear.nearest_p dear.floor_p dear.lowest_p (i - 1) d (omega arith)) in
             let second = detour-le places depot span is at_home q dear.to_q dear.nearest_q dear.floor_q dear.lowest_q (j - 2) d (omega arith) in
             let way = distance-back p (get_or places i d).at.stop in

@@ -137,32 +137,28 @@ module _ (limits : Limits) (a b : ℕ → Stop) (n s rest : ℕ) (same : (k : �
   -- the loads there are the old ones and a difference
   loads-true : (c e : ℤ) → e ≡ c -ℤ (load_along b s -ℤ load_along a n) → ((m : ℕ) → n ≤ m → m ≤ n + rest → load_along a m ≤ℤ e) → (k : ℕ) → s ≤ k → k ≤ s + rest → load_along b k ≤ℤ c
   loads-true c e is old k h l =
-      let far : k ≡ s + (k - s) = omega arith in
-      let spliced : load_along b k +ℤ load_along a n ≡ load_along a (n + (k - s)) +ℤ load_along b s = subst (λ i. load_along b i +ℤ load_along a n ≡ load_along a (n + (k - s)) +ℤ load_along b s) (sym far) (spliced-load a b n s same (k - s)) in
+      let spliced : load_along b k +ℤ load_along a n ≡ load_along a (n + (k - s)) +ℤ load_along b s = subst (λ i. load_along b i +ℤ load_along a n ≡ load_along a (n + (k - s)) +ℤ load_along b s) (sym (omega arith)) (spliced-load a b n s same (k - s)) in
       let le = old (n + (k - s)) (omega arith) (omega arith) in
       omega (arith, ints)
 
   loads-back : (c e : ℤ) → e ≡ c -ℤ (load_along b s -ℤ load_along a n) → ((k : ℕ) → s ≤ k → k ≤ s + rest → load_along b k ≤ℤ c) → (m : ℕ) → n ≤ m → m ≤ n + rest → load_along a m ≤ℤ e
   loads-back c e is new m h l =
-      let far : m ≡ n + (m - n) = omega arith in
-      let spliced : load_along b (s + (m - n)) +ℤ load_along a n ≡ load_along a m +ℤ load_along b s = subst (λ i. load_along b (s + (m - n)) +ℤ load_along a n ≡ load_along a i +ℤ load_along b s) (sym far) (spliced-load a b n s same (m - n)) in
+      let spliced : load_along b (s + (m - n)) +ℤ load_along a n ≡ load_along a m +ℤ load_along b s = subst (λ i. load_along b (s + (m - n)) +ℤ load_along a n ≡ load_along a i +ℤ load_along b s) (sym (omega arith)) (spliced-load a b n s same (m - n)) in
       let le = new (s + (m - n)) (omega arith) (omega arith) in
       omega (arith, ints)
 
   -- the rest is on time exactly where its first start goes on
   goes_on-true : GoesOnAlong limits.kind a (n + rest) n (start_along b s) → limits.kind ≡ LiLim → (k : ℕ) → s < k → k ≤ s + rest → start_along b k ≤ (b k).latest
   goes_on-true goes lilim k h l =
-      let far : k ≡ s + (k - s) = omega arith in
       let le = goes lilim (n + (k - s)) (omega arith) (omega arith) in
       let le' : start_along b (s + (k - s)) ≤ (b (s + (k - s))).latest = rw (spliced-start a b n s same (k - s), same (k - s)) le in
-      subst (λ i. start_along b i ≤ (b i).latest) (sym far) le'
+      subst (λ i. start_along b i ≤ (b i).latest) (sym (omega arith)) le'
 
   goes_on-back : ((k : ℕ) → s < k → k ≤ s + rest → start_along b k ≤ (b k).latest) → GoesOnAlong limits.kind a (n + rest) n (start_along b s)
   goes_on-back each = λ lilim k h l.
-      let far : k ≡ n + (k - n) = omega arith in
       let le = each (s + (k - n)) (omega arith) (omega arith) in
       let le' : moved_along a n (start_along b s) (n + (k - n)) ≤ (a (n + (k - n))).latest = rw (← spliced-start a b n s same (k - n), ← same (k - n)) le in
-      subst (λ i. moved_along a n (start_along b s) i ≤ (a i).latest) (sym far) le'
+      subst (λ i. moved_along a n (start_along b s) i ≤ (a i).latest) (sym (omega arith)) le'
 
   module _ (tail : Row) (known : IsKnown limits.kind a (n + rest) n tail) (late : (a n).latest ≤ 100000000) where
     -- the load there and the time there, by what the table knows of the place

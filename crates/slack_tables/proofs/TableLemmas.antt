@@ -45,8 +45,7 @@ module _ (p : Instance) (route : List ℕ) (valid : IsInstance p) (keeps : Keeps
         let rest_long : length (take (length new - 2) (drop 1 new)) ≡ length route = omega (arith, length-take (length new - 2) (drop 1 new), length-drop 1 new) in
         let read : get_or (stops_within new) i p.depot ≡ (get_or rest i d).at.stop = get_or-map (λ (e : Row). e.at.stop) rest i d p.depot (omega arith) in
         let there : get_or rest i d ≡ get_or new (1 + i) d = get_or-take (length new - 2) (drop 1 new) i d (omega arith) ∙ get_or_after_one new i d in
-        let next : 1 + i ≡ suc i = omega arith in
-        let stop : (get_or new (1 + i) d).at.stop ≡ place p route (suc i) = (known-at (1 + i) d (omega arith)).at.stop ∙ ap (place p route) next in
+        let stop : (get_or new (1 + i) d).at.stop ≡ place p route (suc i) = (known-at (1 + i) d (omega arith)).at.stop ∙ ap (place p route) (omega arith) in
         let far : get_or (map (stop_numbered p) route) i p.depot ≡ place p route (suc i) = sym (place-on p route (suc i)) in
         read ∙ (ap (λ e. e.at.stop) there ∙ (stop ∙ sym far))
 

@@ -91,8 +91,7 @@ module _ (limits : Limits) (places : List Row) (d : Row) (lilim : limits.kind �
     walk-late : (n : ℕ) (a : Progress) → i + n < length places → walk_to limits places p i d (i + 1 + n) ≡ Some a → IsLateFor a (i + n)
     walk-late zero a within is =
         let none : i + 1 + 0 ≡ i + 1 = omega arith in
-        let same : i + 0 ≡ i = omega arith in
-        subst (IsLateFor a) (sym same) (first a (sym (walk-first limits places p i d) ∙ (sym (ap (walk_to limits places p i d) none) ∙ is)))
+        subst (IsLateFor a) (sym (omega arith)) (first a (sym (walk-first limits places p i d) ∙ (sym (ap (walk_to limits places p i d) none) ∙ is)))
     walk-late (suc n) a within is = by (walk_to limits places p i d (i + 1 + n)) refl (λ b before. walk-late n b (omega arith) before)
       where
         next : i + 1 + suc n ≡ i + 1 + n + 1
@@ -104,10 +103,8 @@ module _ (limits : Limits) (places : List Row) (d : Row) (lilim : limits.kind �
         by : (o : Option Progress) → walk_to limits places p i d (i + 1 + n) ≡ o → ((b : Progress) → walk_to limits places p i d (i + 1 + n) ≡ Some b → IsLateFor b (i + n)) → IsLateFor a (i + suc n)
         by None never _ = absurd (let none : None ≡ Some a = sym (ap (λ o. option_and_then (λ at. stepped limits at (get_or places (i + 1 + n - 1) d).at.stop) o) never) ∙ last in cc)
         by (Some b) before late =
-            let here : i + 1 + n - 1 ≡ i + n = omega arith in
-            let there : i + n + 1 ≡ i + suc n = omega arith in
             let step : stepped limits b (get_or places (i + 1 + n - 1) d).at.stop ≡ Some a = sym (ap (λ o. option_and_then (λ at. stepped limits at (get_or places (i + 1 + n - 1) d).at.stop) o) before) ∙ last in
-            subst (IsLateFor a) there (late-on b a (i + n) (omega arith) (late b before) (sym (ap (λ k. stepped limits b (get_or places k d).at.stop) here) ∙ step))
+            subst (IsLateFor a) (omega arith) (late-on b a (i + n) (omega arith) (late b before) (sym (ap (λ k. stepped limits b (get_or places k d).at.stop) (omega arith)) ∙ step))
 
     -- no delivery behind keeps the limits
     pub closed-by : (q : Stop) (j : ℕ) → i < j → j ≤ length places → with_pair limits places p q i j d ≡ None

@@ -82,16 +82,14 @@ module _ (limits : Limits) (places : List Row) (p : Stop) (i : ℕ) (d : Row) wh
   walk-over : (j n : ℕ) → i < j → j + n ≤ length places + 1 → walk_to limits places p i d j ≡ None → walk_to limits places p i d (j + n) ≡ None
   walk-over j zero order within never = let same : j + 0 ≡ j = omega arith in ap (walk_to limits places p i d) same ∙ never
   walk-over j (suc n) order within never =
-      let next : j + suc n ≡ (j + n) + 1 = omega arith in
       let before : walk_to limits places p i d (j + n) ≡ None = walk-over j n order (omega arith) never in
-      ap (walk_to limits places p i d) next ∙ (walk-more (j + n) (omega arith) (omega arith) ∙ ap (λ o. option_and_then (λ at. stepped limits at (get_or places (j + n - 1) d).at.stop) o) before)
+      ap (walk_to limits places p i d) (omega arith) ∙ (walk-more (j + n) (omega arith) (omega arith) ∙ ap (λ o. option_and_then (λ at. stepped limits at (get_or places (j + n - 1) d).at.stop) o) before)
 
   module _ (q : Stop) where
     -- nor does a delivery further on keep the limits
     pub pair-over : (j k : ℕ) → i < j → j ≤ k → k ≤ length places → walk_to limits places p i d j ≡ None → with_pair limits places p q i k d ≡ None
     pair-over j k order behind within never =
-        let far : j + (k - j) ≡ k = omega arith in
-        let there : walk_to limits places p i d k ≡ None = subst (λ m. walk_to limits places p i d m ≡ None) far (walk-over j (k - j) order (omega arith) never) in
+        let there : walk_to limits places p i d k ≡ None = subst (λ m. walk_to limits places p i d m ≡ None) (omega arith) (walk-over j (k - j) order (omega arith) never) in
         ap (λ o. option_and_then (λ at. with_stop limits at q (get_or places (k - 1) d)) o) there
 
     pub pair-served : (j : ℕ) (r : Ride) (a : Stop) → walk_to limits places p i d j ≡ Some (ride_at r a) → with_pair limits places p q i j d ≡ served limits r a.service (distance a q) q (distance q (get_or places (j - 1) d).at.stop) (get_or places (j - 1) d)
@@ -123,13 +121,12 @@ module _ (limits : Limits) (places : List Row) (p q : Stop) (i : ℕ) (d : Row) 
         by None _ made = absurd (cc)
         by (Some r) is made =
             let same : on ≡ record { ride = r; service = t.pickup.service; to_delivery = t.across; onward = onward } = cc in
-            let here : i + 1 - 1 ≡ i = omega arith in
             record {
               stop = p;
               walk = first ∙ (ap (λ o. option_map (λ r. ride_at r p) o) is ∙ ap (λ (w : Underway). Some (ride_at w.ride p)) (sym same));
               service = ap (λ w. w.service) same ∙ ap (λ (x : Stop). x.service) is_p;
               to_delivery = ap (λ w. w.to_delivery) same ∙ (is_across ∙ rw (is_p, is_q) refl);
-              onward = ap (λ w. w.onward) same ∙ (is_onward ∙ (distance-back (get_or places i d).at.stop p ∙ ap (λ k. distance p (get_or places k d).at.stop) (sym here)));
+              onward = ap (λ w. w.onward) same ∙ (is_onward ∙ (distance-back (get_or places i d).at.stop p ∙ ap (λ k. distance p (get_or places k d).at.stop) (sym (omega arith))));
             }
 
     -- where the pickup exceeds a limit, there is no place for the delivery
@@ -158,14 +155,13 @@ module _ (limits : Limits) (places : List Row) (p q : Stop) (i : ℕ) (d : Row) 
         by true _ None _ made = absurd (cc)
         by true more (Some r) ride made =
             let same : next ≡ record { ride = r; service = (get_or places (j - 1) d).at.stop.service; to_delivery = to; onward = (get_or places j d).at.distance - (get_or places (j - 1) d).at.distance } = cc in
-            let here : j + 1 - 1 ≡ j = omega arith in
             let lt : j < length places = ltb-true _ _ more in
             record {
               stop = (get_or places (j - 1) d).at.stop;
               walk = walk-next is ∙ (ap (λ o. option_map (λ r. ride_at r (get_or places (j - 1) d).at.stop) o) ride ∙ ap (λ (w : Underway). Some (ride_at w.ride (get_or places (j - 1) d).at.stop)) (sym same));
               service = ap (λ w. w.service) same;
               to_delivery = ap (λ w. w.to_delivery) same ∙ is_to;
-              onward = ap (λ w. w.onward) same ∙ (linked-edge places linked j d (omega arith) lt ∙ ap (λ k. distance (get_or places (j - 1) d).at.stop (get_or places k d).at.stop) (sym here));
+              onward = ap (λ w. w.onward) same ∙ (linked-edge places linked j d (omega arith) lt ∙ ap (λ k. distance (get_or places (j - 1) d).at.stop (get_or places k d).at.stop) (sym (omega arith)));
             }
 
     pub not-last : (to : ℕ) (next : Underway) → Some next ≡ gone_on limits on places j to d → j < length places

@@ -1,4 +1,4 @@
-use Rattle.std.proofs.Common.{◌≡◌, ◌+◌, ◌-◌, ◌≤◌, get_or, arith, subst}
+use Rattle.std.proofs.Common.{◌≤◌, get_or, arith, subst}
 use Rattle.nint_dist.specs.Distance.{distance}
 use Rattle.slack_tables.specs.Closed.{AreClosed}
 use Rattle.slack_tables.proofs.TightLemmas.{closed-more, closed-join}

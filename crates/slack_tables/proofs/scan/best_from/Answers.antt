@@ -1,4 +1,4 @@
-use Rattle.std.proofs.Common.{w64, rules, arith, subst, ◌≡◌, ◌+◌, ◌-◌, ◌≤◌, get_or}
+use Rattle.std.proofs.Common.{w64, rules, arith, subst, ◌-◌, ◌≤◌, get_or}
 use mir.Val.{SFits}
 use Rattle.std.proofs.lemmas.Int.{to_z-of_z}
 use Rattle.nint_dist.specs.Distance.{distance}

@@ -1,4 +1,4 @@
-use Rattle.std.proofs.Common.{◌≡◌, ◌+◌, ◌-◌, arith, subst}
+use Rattle.std.proofs.Common.{◌-◌, arith, subst}
 use Rattle.slack_tables.proofs.FillLemmas.{IsFilledFrom, filled-none, filled-more}
 use Rattle.slack_tables.proofs.slack.fill_slack.Goals as goal
 

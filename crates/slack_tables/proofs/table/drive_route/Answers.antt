@@ -1,4 +1,4 @@
-use Rattle.std.proofs.Common.{◌≡◌, ◌∙◌, ◌+◌, length, refl, sym, ap, subst, arith, rules, true, false}
+use Rattle.std.proofs.Common.{◌≡◌, ◌∙◌, ◌+◌, length, refl, sym, ap, subst, arith, rules, false}
 use Rattle.std.proofs.Math.ListN.{length-set}
 use Rattle.route_sched.specs.Route.{place}
 use Rattle.slack_tables.specs.Inside.{limits_of, IsInLimits}

@@ -1,4 +1,4 @@
-use Rattle.std.proofs.Common.{w32, w64, rules, subst, sym, arith}
+use Rattle.std.proofs.Common.{w32, rules, subst, sym, arith}
 use mir.Val.{SFits}
 use Rattle.std.proofs.lemmas.Int.{ints}
 use Rattle.slack_tables.specs.Span.{IsInside, IsSmallSpan}

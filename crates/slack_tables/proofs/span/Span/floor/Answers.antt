@@ -1,6 +1,5 @@
 use Rattle.std.proofs.Common.{w64, rules, subst, sym, arith, ◌≤◌, ◌^◌}
 use Rattle.std.specs.Prelude.{unsigned_abs}
-use mir.Val.{SFits}
 use Rattle.std.proofs.lemmas.Int.{ints, clamps, to_z-of_z}
 use Rattle.slack_tables.specs.Span.{IsFloor}
 use Rattle.slack_tables.proofs.span.Span.floor.Goals as goal

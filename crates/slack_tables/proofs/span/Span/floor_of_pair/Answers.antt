@@ -1,5 +1,4 @@
 use Rattle.std.proofs.Common.{w64, rules, subst, sym, arith}
-use mir.Val.{SFits}
 use Rattle.std.proofs.lemmas.Int.{ints, clamps, to_z-of_z}
 use Rattle.slack_tables.specs.Span.{IsFloorOfPair}
 use Rattle.slack_tables.proofs.span.Span.floor_of_pair.Goals as goal

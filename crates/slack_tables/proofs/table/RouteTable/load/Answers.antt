@@ -1,5 +1,4 @@
 use Rattle.std.proofs.Common.{rules, w64, ◌∙◌, ap}
-use mir.Val.{SFits}
 use Rattle.std.proofs.lemmas.Int.{to_z-of_z}
 use Rattle.slack_tables.specs.Opened.{leaving, open_row}
 use Rattle.slack_tables.specs.declared.progress.Row.{Row}
