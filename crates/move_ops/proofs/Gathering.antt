@@ -242,16 +242,6 @@ named_changes p names old vs within found =
     ]))
 
 -- ---- those of two requests' stops
-pub none_within : (routes : List (List ℕ)) → AreIn routes []
-none_within routes = All-from_recursion (λ (v : ℕ). (1 ≤ v) × (v ≤ length routes)) [] tt
-
-pub noted_both : (routes : List (List ℕ)) (r s : Request) (before mid after : List ℕ) → Notes routes (λ n. IsSome (stop_in n r)) before mid → Notes routes (λ n. IsSome (stop_in n s)) mid after
-    → AreVehiclesOf routes (λ n. IsSome (stop_in n r) ⊎ IsSome (stop_in n s)) after
-noted_both routes r s before mid after one two v n asked had = elim asked [
-  | inl first ↦ two.stays v (one.found v n first had)
-  | inr second ↦ two.found v n second had
-]
-
 in_single : (s : Stop) (n : ℕ) → n ≡ s.number → IsSome (stop_in n (Single s))
 in_single s n is = rw (eq-eqb s.number n (sym is)) (search rules)
 

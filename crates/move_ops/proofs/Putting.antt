@@ -78,9 +78,6 @@ module _ (p : Instance) (pins : List (List ℕ)) (d : Drafted) (is : IsDraftOf p
   pub within_tours : x.0 ≤ length tours
   within_tours = let h = put.within in let e = length-map d.tours route_of in let f = ap length has_tours in omega arith
 
-  pub has_places : are_places r 0 (length old) x.1 x.2 ≡ true
-  has_places = subst (λ (l : List ℕ). are_places r 0 (length l) x.1 x.2 ≡ true) (sym old_is) put.places
-
   module _ (route : List ℕ) (is_route : route ≡ inserted r x.1 x.2 old) (given : List ℕ) (is_given : given ≡ route) where
     route_is : route ≡ inserted r x.1 x.2 (of_vehicle (draft_of d) x.0)
     route_is = is_route ∙ ap (inserted r x.1 x.2) old_is
@@ -90,15 +87,6 @@ module _ (p : Instance) (pins : List (List ℕ)) (d : Drafted) (is : IsDraftOf p
 
     plan_given : with_request_at (draft_of d) r x ≡ with_route (plan_of tours) x.0 given
     plan_given = ap (with_route (draft_of d) x.0) given_is ∙ ap (λ (l : List Course). with_route (plan_of l) x.0 given) (sym has_tours)
-
-    pub given_once : AreLiveOnce p given
-    given_once = subst (AreLiveOnce p) given_is put.once
-
-    pub given_keeps : KeepsLimits p given
-    given_keeps = subst (KeepsLimits p) given_is put.keeps
-
-    pub given_small : total_length p (with_route (plan_of tours) x.0 given) ≤ 2 ^ 63
-    given_small = subst (λ (l : List (List ℕ)). total_length p l ≤ 2 ^ 63) plan_given put.small
 
     pub given_unplanned : d.cost.unplanned ≡ unplanned_count p (with_route (plan_of tours) x.0 given) + 1
     given_unplanned = ap (λ c. c.unplanned) is.cost ∙ (put.unplanned ∙ ap (λ (l : List (List ℕ)). unplanned_count p l + 1) plan_given)

@@ -4,7 +4,7 @@ use Rattle.route_sched.specs.Cost.{cost_of}
 use Rattle.slack_tables.specs.Course.{course_of}
 use Rattle.move_ops.specs.Drafts.{Drafted, undone}
 use Rattle.move_ops.proofs.Drafting.{changed}
-use Rattle.move_ops.proofs.Putting.{within_tours, has_places, given_once, given_keeps, given_small, given_unplanned, plan_new, tables_new, passes_new, plan_cost}
+use Rattle.move_ops.proofs.Putting.{within_tours, given_unplanned, plan_new, tables_new, passes_new, plan_cost}
 use Rattle.move_ops.proofs.draft.Draft.put.Goals as goal
 
 pub overflow_cast-vehicle : goal.overflow_cast-vehicle
