@@ -1,11 +1,9 @@
 -- How many requests a plan leaves out when one is put in, and that no plan is too long to be summed.
-use Rattle.std.proofs.Common.{◌≡◌, ℕ, ◌+◌, ◌*◌, ◌^◌, ◌<◌, ◌≤◌, ◌||◌, not, Bool, true, false, cond, List, [], ◌∷◌, length, length-append, take, get_or, slice_get, Some, refl, sym, ap, ◌∙◌, inl, inr, arith, nat_eq}
+use Rattle.std.proofs.Common.{◌≡◌, ℕ, ◌+◌, ◌*◌, ◌^◌, ◌≤◌, ◌||◌, not, true, false, cond, List, [], ◌∷◌, length, length-append, Some, refl, sym, ap, ◌∙◌, inl, inr, arith, nat_eq}
 use Rattle.std.specs.List.{concat, count_by}
 use Rattle.std.specs.Map.{lookup}
-use Rattle.std.specs.Option.{option_map_or}
-use Rattle.std.proofs.lemmas.Option.{slice_get_cases}
 use Rattle.std.proofs.lemmas.Bool.Decides.{eqb_tells}
-use Rattle.std.proofs.lemmas.List.Sums.{sum_by-cons, count_by_more_yes, count_by_more_no}
+use Rattle.std.proofs.lemmas.List.Sums.{sum_by-cons}
 use Rattle.std.proofs.lemmas.Map.Steps.{length-le_from_distinct_below}
 use Rattle.plan_types.specs.Instance.{Instance, IsInstance, numbers_among}
 use Rattle.plan_types.specs.Laws.{StopsAreBelowNext}

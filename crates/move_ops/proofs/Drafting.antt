@@ -8,10 +8,6 @@ use Rattle.std.proofs.lemmas.List.{drop_more, length-set}
 use Rattle.std.proofs.lemmas.List.Folds.{list_any-append}
 use Rattle.route_sched.specs.Cost.{has_stop}
 use Rattle.plan_audit.specs.Passes.{has}
-use Rattle.std.specs.List.{sum_by}
-use Rattle.std.proofs.lemmas.List.Sums.{sum_by-cons}
-use Rattle.route_sched.specs.Cost.{total_length}
-use Rattle.route_sched.specs.Schedule.{route_length}
 use Rattle.slack_tables.specs.Course.{Course, course_of, route_of}
 use Rattle.move_ops.specs.Insertion.{of_vehicle}
 use Rattle.move_ops.specs.Moves.{is_of_named, without_named}

@@ -20,7 +20,7 @@ use Rattle.move_ops.specs.Insertion.{of_vehicle, with_route}
 use Rattle.move_ops.specs.Moves.{counterpart, is_of_named, without_named}
 use Rattle.move_ops.specs.Changes.{with_routes, AreChanges, AreIn, AreVehiclesOf, IsVehicleWith, Notes}
 use Rattle.move_ops.specs.declared.changes.Change.{Change}
-use Rattle.move_ops.proofs.Times.{none_some, some_same, times, times-append, at_most_once}
+use Rattle.move_ops.proofs.Times.{some_same, times, times-append, at_most_once}
 use Rattle.move_ops.proofs.Inserting.{in_numbers}
 use Rattle.move_ops.proofs.Replacing.{get_set, get_set_other, at_vehicle}
 use Rattle.move_ops.proofs.Fitting.{had_often}

@@ -1,26 +1,22 @@
 -- Changes of a draft.
-use Rattle.std.proofs.Common.{◌≡◌, ℕ, ◌+◌, ◌-◌, ◌<◌, ◌≤◌, ◌&&◌, not, Bool, true, false, cond, eqb, leb, List, [], ◌∷◌, length, drop, set, get_or, Some, None, refl, sym, ap, subst, ◌∙◌}
+use Rattle.std.proofs.Common.{◌≡◌, ℕ, ◌≤◌, ◌&&◌, not, Bool, true, false, cond, eqb, leb, List, [], ◌∷◌, length, Some, None, refl, sym, ap, subst, ◌∙◌}
 use Rattle.std.specs.List.{concat}
 use Rattle.std.proofs.lemmas.Bool.{and_parts, leb-true}
-use Rattle.std.proofs.lemmas.List.{drop_more}
 use Rattle.std.proofs.lemmas.List.Elements.{All-from_recursion}
 use Rattle.plan_types.specs.Instance.{Instance}
 use Rattle.route_sched.specs.Route.{AreLiveOnce}
-use Rattle.slack_tables.specs.Course.{Course, route_of}
 use Rattle.slack_tables.specs.Insertion.{KeepsLimits}
 use Rattle.plan_audit.specs.Locality.{PassesAreLocal, TestsSayFeasible}
 use Rattle.plan_audit.specs.Passes.{feasible_alone, passes}
 use Rattle.move_ops.specs.Insertion.{of_vehicle, with_route, passing}
 use Rattle.move_ops.specs.Moves.{is_cut, joined, with_ends_exchanged, crossed}
-use Rattle.move_ops.specs.Tables.{plan_of}
-use Rattle.move_ops.specs.Changes.{with_routes, IsChange}
+use Rattle.move_ops.specs.Changes.{IsChange}
 use Rattle.move_ops.specs.Drafts.{Drafted, draft_of, IsDraftOf}
 use Rattle.move_ops.specs.declared.changes.Change.{Change}
 use Rattle.move_ops.proofs.Times.{none_some, some_same, times}
 use Rattle.move_ops.proofs.Fitting.{route_limits}
 use Rattle.move_ops.proofs.Costs.{unplanned_same}
 use Rattle.move_ops.proofs.Crossing.{same_times, first_asked, second_asked, crossed_answer}
-use Rattle.move_ops.proofs.Drafting.{plan_with}
 
 -- what is answered passes
 passing_some : (p : Instance) (pins routes given : List (List ℕ)) → passing p pins routes ≡ Some given → passes p pins given ≡ true

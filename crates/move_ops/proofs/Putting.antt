@@ -1,19 +1,18 @@
 -- A draft with a request put in where it can be put.
 use Rattle.std.proofs.Common.{◌≡◌, ℕ, ◌+◌, ◌-◌, ◌≤◌, cond, Bool, true, false, List, length, set, Option, Some, None, refl, sym, ap, subst, ◌∙◌, arith, nat_eq}
-use Rattle.std.specs.Prelude.{◌^◌, MatchOption, []}
+use Rattle.std.specs.Prelude.{MatchOption, []}
 use Rattle.std.specs.Map.{lookup}
 use Rattle.std.proofs.lemmas.List.{length-map}
 use Rattle.plan_types.specs.Instance.{Instance, IsInstance}
 use Rattle.plan_types.specs.Laws.{NamedAreFound, RequestsStandByName, StopsAreBelowNext}
 use Rattle.plan_types.specs.Request.{request_name}
 use Rattle.plan_types.specs.declared.requests.Request.{Request}
-use Rattle.route_sched.specs.Cost.{unplanned_count, total_length}
-use Rattle.route_sched.specs.Route.{AreLiveOnce}
+use Rattle.route_sched.specs.Cost.{unplanned_count}
 use Rattle.slack_tables.specs.Course.{Course, course_of, route_of}
-use Rattle.slack_tables.specs.Insertion.{inserted, KeepsLimits}
+use Rattle.slack_tables.specs.Insertion.{inserted}
 use Rattle.plan_audit.specs.Locality.{PassesAreLocal, TestsSayFeasible}
 use Rattle.plan_audit.specs.Passes.{passes}
-use Rattle.move_ops.specs.Insertion.{Insertion, request_named, of_vehicle, with_request_at, with_route, insertions, insertions_of, are_places, best_insertion, put_in}
+use Rattle.move_ops.specs.Insertion.{Insertion, request_named, of_vehicle, with_request_at, with_route, insertions, insertions_of, best_insertion, put_in}
 use Rattle.move_ops.specs.Laws.{BestInsertionsAreLeast, IsBest}
 use Rattle.move_ops.specs.Tables.{plan_of, AreTablesIn}
 use Rattle.move_ops.specs.Drafts.{Drafted, draft_of, IsDraftOf, IsMade, placed}

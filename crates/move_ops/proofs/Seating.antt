@@ -2,7 +2,6 @@
 use Rattle.std.proofs.Common.{◌≡◌, ◌∙◌, ℕ, ◌+◌, ◌<◌, ◌||◌, false, Some, List, [], drop, get_or, length, slice_get, sym, ap, subst}
 use Rattle.plan_audit.specs.Passes.{has}
 use Rattle.route_sched.specs.Cost.{has_stop}
-use Rattle.move_ops.specs.Kept.{AreSeats}
 use Rattle.move_ops.proofs.Times.{has_stop_more}
 
 -- a number without a seat is a stop of the routes from this one on, or of none

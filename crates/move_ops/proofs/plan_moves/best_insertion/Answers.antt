@@ -1,5 +1,4 @@
-use Rattle.std.proofs.Common.{rules, ◌≡◌, ◌∙◌, ℕ, List, Some, nat_eq, ap}
-use Rattle.std.specs.Map.{lookup}
+use Rattle.std.proofs.Common.{rules, ◌∙◌, ℕ, List, ap}
 use Rattle.plan_types.specs.Request.{request_name}
 use Rattle.move_ops.specs.Insertion.{best_insertion}
 use Rattle.move_ops.proofs.Putting.{named_request, named_so}

@@ -1,4 +1,4 @@
-use Rattle.std.proofs.Common.{rules, ◌≡◌, ◌-◌, ◌<◌, ◌+◌, length, get_or, refl, sym, ap, subst, arith}
+use Rattle.std.proofs.Common.{rules, ◌-◌, ◌+◌, length, get_or, refl, sym, ap, subst, arith}
 use Rattle.slack_tables.specs.Course.{route_of}
 use Rattle.move_ops.specs.Choosing.{IsBestAmongThese, IsBetter, IsNamed}
 use Rattle.move_ops.specs.Insertion.{of_vehicle}

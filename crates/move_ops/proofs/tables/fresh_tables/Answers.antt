@@ -1,4 +1,4 @@
-use Rattle.std.proofs.Common.{rules, ◌≡◌, ◌≤◌, ◌-◌, ℕ, [], sym, subst, arith, get_or}
+use Rattle.std.proofs.Common.{rules, ◌≤◌, ◌-◌, ℕ, [], sym, subst, arith}
 use Rattle.std.proofs.lemmas.List.Elements.{All-get_or}
 use Rattle.plan_types.specs.Instance.{IsInstance}
 use Rattle.move_ops.proofs.Asked.{route_once, route_keeps}

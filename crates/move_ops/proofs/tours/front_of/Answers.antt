@@ -1,4 +1,4 @@
-use Rattle.std.proofs.Common.{◌≡◌, ◌+◌, ◌-◌, length, subst, ap, arith}
+use Rattle.std.proofs.Common.{◌-◌, length, subst, ap, arith}
 use Rattle.move_ops.specs.Drafts.{AreIdleBehind}
 use Rattle.move_ops.specs.Tables.{plan_of}
 use Rattle.move_ops.proofs.Asked.{route_at, stops_long}

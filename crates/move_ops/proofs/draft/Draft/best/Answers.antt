@@ -1,9 +1,7 @@
-use Rattle.std.proofs.Common.{rules, ◌≡◌, Some, List, sym, subst}
-use Rattle.plan_types.specs.Request.{request_name}
+use Rattle.std.proofs.Common.{rules, List, sym, subst}
 use Rattle.slack_tables.specs.Course.{Course}
 use Rattle.move_ops.specs.Choosing.{IsReach}
 use Rattle.move_ops.specs.Drafts.{draft_of}
-use Rattle.move_ops.specs.Insertion.{best_insertion}
 use Rattle.move_ops.specs.Tables.{plan_of}
 use Rattle.move_ops.proofs.Putting.{best_put}
 use Rattle.move_ops.proofs.draft.Draft.best.Goals as goal

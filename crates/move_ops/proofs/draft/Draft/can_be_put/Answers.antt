@@ -1,9 +1,8 @@
-use Rattle.std.proofs.Common.{rules, ◌≡◌, true, false, ap, subst, ◌∙◌}
-use Rattle.route_sched.specs.Cost.{is_planned}
+use Rattle.std.proofs.Common.{rules, ◌≡◌, true, ap, subst, ◌∙◌}
 use Rattle.route_sched.specs.Route.{AreLiveOnce}
 use Rattle.plan_audit.specs.Passes.{feasible_alone}
 use Rattle.move_ops.specs.Drafts.{draft_of}
-use Rattle.move_ops.specs.Insertion.{inserted, is_place_of, of_vehicle}
+use Rattle.move_ops.specs.Insertion.{is_place_of}
 use Rattle.move_ops.proofs.Placing.{asked_once, feasible_put, not_put}
 use Rattle.move_ops.proofs.draft.Draft.can_be_put.Goals as goal
 

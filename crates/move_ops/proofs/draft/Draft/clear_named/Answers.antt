@@ -1,5 +1,4 @@
-use Rattle.std.proofs.Common.{rules, ◌≡◌, ◌∙◌, Some, nat_eq, get_or, ap}
-use Rattle.std.specs.Map.{lookup}
+use Rattle.std.proofs.Common.{rules, ◌∙◌, get_or, ap}
 use Rattle.plan_types.specs.Instance.{IsInstance}
 use Rattle.route_sched.specs.Cost.{has_stop}
 use Rattle.move_ops.specs.Drafts.{Drafted, draft_of}

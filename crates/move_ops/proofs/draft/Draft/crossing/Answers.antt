@@ -1,8 +1,6 @@
-use Rattle.std.proofs.Common.{rules, ◌≡◌, ◌∷◌, [], ℕ, List, true, false, Some, refl, sym, ap, subst, ◌∙◌}
+use Rattle.std.proofs.Common.{rules, ◌≡◌, ◌∷◌, [], List, true, false, Some, refl, sym, ap, subst, ◌∙◌}
 use Rattle.route_sched.specs.Route.{AreLiveOnce}
 use Rattle.plan_audit.specs.Passes.{feasible_alone}
-use Rattle.move_ops.specs.Insertion.{of_vehicle}
-use Rattle.move_ops.specs.Moves.{joined}
 use Rattle.move_ops.specs.Changes.{with_routes}
 use Rattle.move_ops.specs.Drafts.{draft_of}
 use Rattle.move_ops.specs.declared.changes.Change.{Change}

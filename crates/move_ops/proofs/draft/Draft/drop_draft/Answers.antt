@@ -1,5 +1,4 @@
-use Rattle.std.proofs.Common.{rules, ◌≡◌, length}
-use Rattle.move_ops.specs.Drafts.{undone}
+use Rattle.std.proofs.Common.{rules, ◌≡◌}
 use Rattle.move_ops.proofs.Drafting.{dropped}
 use Rattle.move_ops.proofs.draft.Draft.drop_draft.Goals as goal
 

@@ -1,7 +1,6 @@
-use Rattle.std.proofs.Common.{rules, ◌≡◌, ◌≤◌, length, ℕ, List, true, false, All, Some, map, nat_eq, sym, ap, subst, ◌∙◌}
-use Rattle.std.specs.Map.{lookup}
+use Rattle.std.proofs.Common.{rules, ◌≡◌, ◌≤◌, length, ℕ, List, true, false, All, Some, map, sym, ap, subst, ◌∙◌}
 use Rattle.slack_tables.specs.Course.{Course}
-use Rattle.move_ops.specs.Moves.{are_exchangeable, counterpart}
+use Rattle.move_ops.specs.Moves.{counterpart}
 use Rattle.move_ops.specs.Changes.{AreChanges}
 use Rattle.move_ops.specs.Drafts.{Drafted, draft_of}
 use Rattle.move_ops.specs.declared.changes.Change.{Change}

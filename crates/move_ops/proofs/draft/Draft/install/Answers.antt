@@ -4,13 +4,13 @@ use Rattle.std.proofs.lemmas.List.{length-map}
 use Rattle.std.proofs.lemmas.List.Elements.{recursion_from_All}
 use Rattle.move_ops.specs.declared.changes.Change.{Change}
 use Rattle.move_ops.proofs.Touring.{within_from}
-use Rattle.route_sched.specs.Cost.{cost_of, unplanned_count, vehicle_count, total_length}
+use Rattle.route_sched.specs.Cost.{cost_of, unplanned_count}
 use Rattle.plan_types.specs.declared.plans.Cost.{Cost}
 use Rattle.plan_audit.specs.Passes.{passes}
 use Rattle.slack_tables.specs.Course.{route_of}
 use Rattle.move_ops.specs.Changes.{changes_of, with_routes}
-use Rattle.move_ops.specs.Tables.{plan_of, AreTablesIn}
-use Rattle.move_ops.specs.Drafts.{undone, draft_of}
+use Rattle.move_ops.specs.Tables.{plan_of}
+use Rattle.move_ops.specs.Drafts.{draft_of}
 use Rattle.move_ops.proofs.Costs.{same_cost}
 use Rattle.move_ops.proofs.Counting.{plan_small}
 use Rattle.move_ops.proofs.Drafting.{changed}

@@ -1,4 +1,4 @@
-use Rattle.std.proofs.Common.{◌≡◌, ◌≤◌, true, sym, ap, ◌∙◌, arith}
+use Rattle.std.proofs.Common.{◌≡◌, ◌≤◌, true, arith}
 use Rattle.plan_audit.specs.Passes.{has}
 use Rattle.move_ops.specs.Drafts.{draft_of}
 use Rattle.move_ops.proofs.Gathering.{noted_none, noted_old, noted_new}

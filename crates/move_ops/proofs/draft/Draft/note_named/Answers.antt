@@ -1,5 +1,4 @@
-use Rattle.std.proofs.Common.{rules, ◌≡◌, Some, nat_eq}
-use Rattle.std.specs.Map.{lookup}
+use Rattle.std.proofs.Common.{rules}
 use Rattle.std.proofs.lemmas.Result.{on_ok_weaker}
 use Rattle.move_ops.specs.Drafts.{draft_of}
 use Rattle.move_ops.proofs.Gathering.{noted_named}

@@ -1,7 +1,4 @@
-use Rattle.std.proofs.Common.{rules, ◌≡◌, ℕ, List, None, Some, OnOk, nat_eq, subst}
-use Rattle.std.specs.Map.{lookup}
-use Rattle.plan_types.specs.Request.{request_name}
-use Rattle.move_ops.specs.Insertion.{best_insertion}
+use Rattle.std.proofs.Common.{rules, ◌≡◌, ℕ, List, OnOk, subst}
 use Rattle.move_ops.specs.Drafts.{draft_of}
 use Rattle.move_ops.proofs.Putting.{named_request, placed_named, stays_named}
 use Rattle.move_ops.proofs.draft.Draft.place.Goals as goal

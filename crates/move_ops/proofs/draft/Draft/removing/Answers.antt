@@ -1,10 +1,7 @@
-use Rattle.std.proofs.Common.{rules, ◌≡◌, ℕ, Vec, true}
-use Rattle.std.specs.List.{list_all}
+use Rattle.std.proofs.Common.{rules, ℕ, Vec}
 use Rattle.std.specs.declared.alloc.Global.{Global}
 use Rattle.std.proofs.lemmas.Result.{IfOk-weaker}
 use Rattle.slack_tables.specs.Course.{Course}
-use Rattle.move_ops.specs.Moves.{is_movable_name}
-use Rattle.move_ops.specs.Drafts.{draft_of}
 use Rattle.move_ops.proofs.TakenOut.{removals_once, removals_paired, removal_routes, removal_tours}
 use Rattle.move_ops.proofs.draft.Draft.removing.Goals as goal
 

@@ -1,4 +1,4 @@
-use Rattle.std.proofs.Common.{rules, ◌≡◌, ◌<◌, ◌-◌, length, get_or, ◌∙◌}
+use Rattle.std.proofs.Common.{rules, ◌∙◌}
 use Rattle.move_ops.proofs.Drafting.{vehicle_route}
 use Rattle.move_ops.proofs.draft.Draft.route.Goals as goal
 

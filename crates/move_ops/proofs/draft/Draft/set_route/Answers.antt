@@ -1,5 +1,4 @@
 use Rattle.std.proofs.Common.{rules, ◌≡◌, ◌∙◌, ◌-◌, ◌<◌, ◌≤◌, ◌^◌, ℕ, List, length, set, sym, ap, subst}
-use Rattle.std.specs.Vec.{vec_len}
 use Rattle.route_sched.specs.Cost.{cost_of, total_length, unplanned_count}
 use Rattle.slack_tables.specs.Course.{Course, route_of}
 use Rattle.move_ops.specs.Drafts.{Drafted, draft_of}

@@ -1,6 +1,5 @@
 use Rattle.std.proofs.Common.{rules, ◌≡◌, ◌≤◌, ◌-◌, ◌++◌, ◌∷◌, [], ℕ, List, true, false, length, set, slice_get, ◌∙◌, refl, sym, ap, subst, arith}
-use Rattle.std.specs.Option.{is_none, is_some}
-use Rattle.std.specs.Vec.{vec_len, with_items}
+use Rattle.std.specs.Vec.{with_items}
 use Rattle.std.proofs.lemmas.List.{with_items_is}
 use Rattle.slack_tables.specs.Course.{Course}
 use Rattle.plan_audit.specs.Passes.{has}

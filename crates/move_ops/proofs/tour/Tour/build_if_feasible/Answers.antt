@@ -1,4 +1,4 @@
-use Rattle.std.proofs.Common.{rules, ◌≡◌, ◌∙◌, true, false, sym}
+use Rattle.std.proofs.Common.{rules, ◌∙◌, sym}
 use Rattle.move_ops.proofs.Fitting.{paired}
 use Rattle.move_ops.proofs.tour.Tour.build_if_feasible.Goals as goal
 

@@ -1,4 +1,4 @@
-use Rattle.std.proofs.Common.{rules, ◌≡◌, ◌∙◌, true, false}
+use Rattle.std.proofs.Common.{rules, ◌≡◌, ◌∙◌, false}
 use Rattle.move_ops.proofs.Fitting.{within_limits, outside_limits}
 use Rattle.move_ops.proofs.tour.Tour.is_feasible.Goals as goal
 
