@@ -1,17 +1,13 @@
 -- What a call of a file means for its images.
-use Rattle.std.proofs.Common.{◌≡◌, ℕ, ◌+◌, ◌*◌, ◌/◌, ◌%◌, ◌≤◌, Bool, true, false, List, [], ◌∷◌, length, refl, sym, ◌∙◌, ap, subst, arith, if◌then◌else◌, IsTrue, Result, is_ok}
-use Rattle.std.specs.Prelude.{OnOk, OnErr}
-use Rattle.std.proofs.lemmas.List.{append-nil}
-use Rattle.sector_disk.specs.Image.{written}
+use Rattle.std.proofs.Common.{◌≡◌, ℕ, ◌+◌, ◌*◌, ◌/◌, ◌%◌, ◌≤◌, Bool, true, false, List, [], ◌∷◌, length, refl, ap, subst, arith, if◌then◌else◌, IsTrue, Result, is_ok}
 use Rattle.sector_disk.specs.Model.{Disk, Finish, Show, sectors_from}
 use Rattle.sector_disk.specs.ModelLaws.{finished-append, finished-sectors_from}
-use Rattle.sector_disk.specs.Sectors.{Reached, AddsContents, Only, SameImages, Elapses}
-use Rattle.sector_disk.specs.History.{History, MayLeaveIn, seen_in, clock_in, MayHaveLeftIn}
+use Rattle.sector_disk.specs.History.{History, MayLeaveIn, seen_in}
 use Rattle.sector_disk.specs.MemoryLaws.{whole_sectors}
 use Rattle.sector_disk.specs.FileRecord.{Entry, events_in, file_history, AnswersAsModel, all_inside}
-use Rattle.sector_disk.specs.FileCalls.{read_entry, write_entry, sync_entry}
+use Rattle.sector_disk.specs.FileCalls.{write_entry, sync_entry}
 use Rattle.sector_disk.specs.FileLaws.{file_reads_possible}
-use Rattle.sector_disk.proofs.Goes.{GoesOn, WriteCase, SyncCase, finishes, shows, syncs, sync_shows, Writes, Syncs, write_means, sync_means}
+use Rattle.sector_disk.proofs.Goes.{WriteCase, SyncCase, finishes, shows, syncs, sync_shows, Writes, Syncs, write_means, sync_means}
 
 module _ (n after : ℕ) (start : Disk) (shown : ℕ → List ℕ) (old new : List Entry) (sectors : after ≡ n) where
   -- what was honest after one entry more was so before it

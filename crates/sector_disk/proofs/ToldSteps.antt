@@ -11,8 +11,8 @@ use Rattle.std.specs.declared.io.ErrorKind.{ErrorKind}
 use Rattle.sector_disk.specs.declared.system_call.SystemCall.{SystemCall}
 use Rattle.sector_disk.specs.declared.system_call.SystemCall.TheVariants.{ReadAt, ReadAtFailed, WriteAt, WriteAtFailed}
 use Rattle.sector_disk.specs.SystemCalls.{Noted, answered}
-use Rattle.sector_disk.specs.FileRecord.{Entry, ReadGave, WriteFinished, WriteFailed}
-use Rattle.sector_disk.specs.FileCalls.{read_entry, write_entry}
+use Rattle.sector_disk.specs.FileRecord.{Entry, WriteFailed}
+use Rattle.sector_disk.specs.FileCalls.{write_entry}
 use Rattle.sector_disk.specs.Told.{Way, Reads, Writes, Transfer, Told, finished, failed, is_same, goes_on, moved_on, stopped, by_going, after, told_in, told_by}
 
 -- a read or a write of which so many bytes have moved

@@ -1,4 +1,4 @@
-use Rattle.std.proofs.Common.{◌≡◌, ◌+◌, ◌-◌, ◌*◌, ◌≤◌, length, take, drop, sym, ◌∙◌, subst, rules, arith, List, ℕ}
+use Rattle.std.proofs.Common.{◌≡◌, ◌+◌, ◌*◌, ◌≤◌, length, take, drop, sym, ◌∙◌, subst, rules, arith, List, ℕ}
 use Rattle.std.proofs.lemmas.List.{length-append, length-take-le, length-drop}
 use Rattle.sector_disk.specs.Told.{Reads, told_by}
 use Rattle.sector_disk.proofs.ToldSteps.{so_far, goes_further, put_rest}

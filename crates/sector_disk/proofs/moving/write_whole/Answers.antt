@@ -6,7 +6,7 @@ use Rattle.std.specs.IoError.{error_kind}
 use Rattle.sector_disk.specs.Told.{Writes, Told, failed, told_by}
 use Rattle.sector_disk.specs.FileRecord.{Entry}
 use Rattle.sector_disk.specs.FileCalls.{write_entry}
-use Rattle.sector_disk.proofs.ToldSteps.{so_far, whole, begins, goes_further, fails_further, moved_call, failed_call, write_fails}
+use Rattle.sector_disk.proofs.ToldSteps.{so_far, begins, goes_further, fails_further, moved_call, failed_call, write_fails}
 use Rattle.sector_disk.proofs.moving.write_whole.Goals as goal
 
 pub loop-at-init : goal.loop-at-init

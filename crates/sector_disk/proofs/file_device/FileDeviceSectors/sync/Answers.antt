@@ -1,6 +1,5 @@
-use Rattle.std.proofs.Common.{◌≡◌, ◌+◌, ◌∷◌, true, is_ok, refl, rules, Ok, if◌then◌else◌}
+use Rattle.std.proofs.Common.{◌+◌, refl, rules, Ok}
 use Rattle.sector_disk.specs.declared.sectors.DeviceFault.{DeviceFault}
-use Rattle.sector_disk.specs.FileCalls.{sync_entry}
 use Rattle.sector_disk.specs.FileDevice.{history_of}
 use Rattle.sector_disk.specs.FileRecord.{AnswersAsModel, file_history}
 use Rattle.sector_disk.proofs.FileGoes.{file_syncs}

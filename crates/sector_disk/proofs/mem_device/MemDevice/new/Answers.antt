@@ -1,4 +1,4 @@
-use Rattle.std.proofs.Common.{◌≡◌, ◌%◌, length, map, ap, rules}
+use Rattle.std.proofs.Common.{map, ap, rules}
 use Rattle.sector_disk.specs.Kept.{call_of}
 use Rattle.sector_disk.proofs.Contents.{only_start}
 use Rattle.sector_disk.proofs.mem_device.MemDevice.new.Goals as goal

@@ -1,6 +1,5 @@
-use Rattle.std.proofs.Common.{◌≡◌, ◌∷◌, ◌++◌, [], map, refl, rules}
+use Rattle.std.proofs.Common.{refl, rules}
 use Rattle.sector_disk.specs.Memory.{Synced}
-use Rattle.sector_disk.specs.Kept.{call_of}
 use Rattle.sector_disk.proofs.Keeps.{keeps}
 use Rattle.sector_disk.proofs.mem_device.MemDevice.try_sync.Goals as goal
 

@@ -1,9 +1,8 @@
-use Rattle.std.proofs.Common.{◌≡◌, ◌+◌, ◌*◌, ◌≤◌, ◌∷◌, ◌++◌, [], length, drop, map, refl, rules, ap, arith, ◌∙◌}
+use Rattle.std.proofs.Common.{◌+◌, ◌*◌, ◌≤◌, length, drop, refl, rules, ap, arith, ◌∙◌}
 use Rattle.std.proofs.lemmas.List.{take_at}
 use Rattle.sector_disk.specs.Image.{written}
 use Rattle.sector_disk.specs.Memory.{Wrote, Tore}
 use Rattle.sector_disk.specs.MemoryLaws.{whole_sectors}
-use Rattle.sector_disk.specs.Kept.{call_of}
 use Rattle.sector_disk.proofs.Keeps.{keeps, image_size, is_run_from}
 use Rattle.sector_disk.proofs.mem_device.MemDevice.try_write.Goals as goal
 
