@@ -45,67 +45,54 @@ impl Svg {
         ensures { OnOk result (self.new ≡ self.old ++ chart_text problem.now last routes.now) }
     {
         let first = problem.depot.earliest;
-        self.put_ticks(first, last, 30 * routes.len() as u128)?;
+        self.put_ticks(first, last, 30 * routes.len() as u128);
         self.put_bars(alloc, problem, last, routes)?;
         self.put_times_rows(alloc, problem, last, routes)
     }
 
     // The axis.
     #[tactic(auto, unfolding(crate::specs::Days::ticks_text))]
-    fn put_ticks(&mut self, first: u32, last: u64, height: u128) -> Result<(), OutOfMemory>
-        ensures { OnOk result (self.new ≡ self.old ++ ticks_text first last height) }
+    fn put_ticks(&mut self, first: u32, last: u64, height: u128)
+        ensures { self.new ≡ self.old ++ ticks_text first last height }
     {
         let step = tick_step(20, last.saturating_sub(u64::from(first)));
-        self.put(Text::Ticks)?;
-        self.put_each_tick(first, last, height, step)?;
-        self.put(Text::GroupEnd)
+        self.put(Text::Ticks);
+        self.put_each_tick(first, last, height, step);
+        self.put(Text::GroupEnd);
     }
 
-    fn put_each_tick(
-        &mut self,
-        first: u32,
-        last: u64,
-        height: u128,
-        step: u64,
-    ) -> Result<(), OutOfMemory>
+    fn put_each_tick(&mut self, first: u32, last: u64, height: u128, step: u64)
         requires { 1 ≤ step }
-        ensures { OnOk result (self.new ≡ self.old
-            ++ flat_map (nth_tick first last height step) (range_with_len 0 14)) }
+        ensures { self.new ≡ self.old
+            ++ flat_map (nth_tick first last height step) (range_with_len 0 14) }
     {
         for n in 0..14u64 {
             let ticks = u64::from(first).div_ceil(step) as u128 + n as u128;
-            self.put_tick(first, last, height, step as u128 * ticks)?;
+            self.put_tick(first, last, height, step as u128 * ticks);
         }
-        Ok(())
     }
 
     // A line down all rows, with its time above.
     #[tactic(auto, unfolding(crate::specs::Days::tick_text))]
-    fn put_tick(
-        &mut self,
-        first: u32,
-        last: u64,
-        height: u128,
-        time: u128,
-    ) -> Result<(), OutOfMemory>
-        ensures { OnOk result (self.new ≡ self.old ++ tick_text first last height time) }
+    fn put_tick(&mut self, first: u32, last: u64, height: u128, time: u128)
+        ensures { self.new ≡ self.old ++ tick_text first last height time }
     {
         if time > last as u128 {
-            return Ok(());
+            return;
         }
         let x = across(first, last, time as u64);
-        self.put_tick_line(x, height)?;
-        self.put_text(Text::TickTime, x, time)
+        self.put_tick_line(x, height);
+        self.put_text(Text::TickTime, x, time);
     }
 
     #[tactic(auto, unfolding(crate::specs::Days::tick_line))]
-    fn put_tick_line(&mut self, x: u128, height: u128) -> Result<(), OutOfMemory>
-        ensures { OnOk result (self.new ≡ self.old ++ tick_line x height) }
+    fn put_tick_line(&mut self, x: u128, height: u128)
+        ensures { self.new ≡ self.old ++ tick_line x height }
     {
-        self.put(Text::TickLine)?;
-        self.put_attribute(Text::X, x)?;
-        self.put_attribute(Text::Height, height)?;
-        self.put(Text::Close)
+        self.put(Text::TickLine);
+        self.put_attribute(Text::X, x);
+        self.put_attribute(Text::Height, height);
+        self.put(Text::Close);
     }
 
     #[tactic(auto, unfolding(crate::specs::Days::bars_text))]
@@ -120,23 +107,24 @@ impl Svg {
         ensures { OnOk result (self.new ≡ self.old ++ bars_text problem.now last routes.now) }
     {
         let height = 30 * routes.len() as u128;
-        self.put_chart_head(problem.depot.earliest, last, height)?;
+        self.put_chart_head(problem.depot.earliest, last, height);
         self.put_each_day(alloc, problem, routes)?;
-        self.put(Text::End)
+        self.put(Text::End);
+        Ok(())
     }
 
     #[tactic(auto, unfolding(crate::specs::Days::chart_head))]
-    fn put_chart_head(&mut self, first: u32, last: u64, height: u128) -> Result<(), OutOfMemory>
-        ensures { OnOk result (self.new ≡ self.old ++ chart_head first last height) }
+    fn put_chart_head(&mut self, first: u32, last: u64, height: u128)
+        ensures { self.new ≡ self.old ++ chart_head first last height }
     {
-        self.put_attribute(Text::Chart, height)?;
-        self.put_named(Text::ChartBox, first as u128)?;
+        self.put_attribute(Text::Chart, height);
+        self.put_named(Text::ChartBox, first as u128);
         self.put_named(
             Text::ChartWidth,
             last.saturating_sub(u64::from(first)) as u128,
-        )?;
-        self.put_attribute(Text::Blank, height)?;
-        self.put(Text::Open)
+        );
+        self.put_attribute(Text::Blank, height);
+        self.put(Text::Open);
     }
 
     #[tactic(auto, unfolding(crate::specs::Days::times_rows))]
@@ -150,9 +138,10 @@ impl Svg {
         requires { All (AreLiveOnce problem.now) routes.now }
         ensures { OnOk result (self.new ≡ self.old ++ times_rows problem.now last routes.now) }
     {
-        self.put(Text::Times)?;
+        self.put(Text::Times);
         self.put_each_times_row(alloc, problem, last, routes)?;
-        self.put(Text::GroupEnd)
+        self.put(Text::GroupEnd);
+        Ok(())
     }
 
     fn put_each_times_row(
@@ -185,34 +174,34 @@ impl Svg {
         ensures { OnOk result (self.new ≡ self.old ++ times_row problem.now last index route.now) }
     {
         let visits = visits(alloc, problem, route)?;
-        self.put_named(Text::Day, 1116 + 30 * index as u128)?;
-        self.put(Text::DayOpen)?;
-        self.put_times(problem.depot.earliest, last, &visits)?;
-        self.put(Text::GroupEnd)
+        self.put_named(Text::Day, 1116 + 30 * index as u128);
+        self.put(Text::DayOpen);
+        self.put_times(problem.depot.earliest, last, &visits);
+        self.put(Text::GroupEnd);
+        Ok(())
     }
 
     // The times of the visits, each where it covers none before.
-    fn put_times(&mut self, first: u32, last: u64, visits: &[Visit]) -> Result<(), OutOfMemory>
-        ensures { OnOk result (self.new ≡ self.old ++ times_text first last 0 visits.now) }
+    fn put_times(&mut self, first: u32, last: u64, visits: &[Visit])
+        ensures { self.new ≡ self.old ++ times_text first last 0 visits.now }
     {
         let mut free = 0;
         for visit in visits {
             let x = across(first, last, visit.start);
             if free <= x {
-                self.put_time(x, visit)?;
+                self.put_time(x, visit);
                 free = x + u128::from(time_room(visit));
             }
         }
-        Ok(())
     }
 
     // A stop, and when service starts there.
     #[tactic(auto, unfolding(crate::specs::Days::time_text))]
-    fn put_time(&mut self, x: u128, visit: &Visit) -> Result<(), OutOfMemory>
-        ensures { OnOk result (self.new ≡ self.old ++ time_text x visit.now) }
+    fn put_time(&mut self, x: u128, visit: &Visit)
+        ensures { self.new ≡ self.old ++ time_text x visit.now }
     {
-        self.put_text(Text::TimeStop, x, visit.stop.number as u128)?;
-        self.put_text(Text::TimeStart, x, visit.start as u128)
+        self.put_text(Text::TimeStop, x, visit.stop.number as u128);
+        self.put_text(Text::TimeStart, x, visit.start as u128);
     }
 
     fn put_each_day(
@@ -243,74 +232,74 @@ impl Svg {
         ensures { OnOk result (self.new ≡ self.old ++ day_text problem.now index route.now) }
     {
         let visits = visits(alloc, problem, route)?;
-        self.put_named(Text::Day, 30 * index as u128)?;
-        self.put(Text::DayOpen)?;
-        self.put_visits(problem.depot.earliest, &visits)?;
-        self.put(Text::GroupEnd)
+        self.put_named(Text::Day, 30 * index as u128);
+        self.put(Text::DayOpen);
+        self.put_visits(problem.depot.earliest, &visits);
+        self.put(Text::GroupEnd);
+        Ok(())
     }
 
-    fn put_visits(&mut self, first: u32, visits: &[Visit]) -> Result<(), OutOfMemory>
-        ensures { OnOk result (self.new ≡ self.old ++ visits_text first 0 visits.now) }
+    fn put_visits(&mut self, first: u32, visits: &[Visit])
+        ensures { self.new ≡ self.old ++ visits_text first 0 visits.now }
     {
         let mut start = u64::from(first);
         let mut service = 0;
         for visit in visits {
-            self.put_visit(start, service, visit)?;
+            self.put_visit(start, service, visit);
             start = visit.start;
             service = visit.stop.service;
         }
-        Ok(())
     }
 
     #[tactic(auto, unfolding(crate::specs::Days::visit_text))]
-    fn put_visit(&mut self, start: u64, service: u32, visit: &Visit) -> Result<(), OutOfMemory>
-        ensures { OnOk result (self.new ≡ self.old
-            ++ visit_text (start + service) visit.now) }
+    fn put_visit(&mut self, start: u64, service: u32, visit: &Visit)
+        ensures { self.new ≡ self.old
+            ++ visit_text (start + service) visit.now }
     {
-        self.put_work(start as u128 + service as u128, visit)?;
-        self.put_window(&visit.stop)?;
-        self.put_late(visit)
+        self.put_work(start as u128 + service as u128, visit);
+        self.put_window(&visit.stop);
+        self.put_late(visit);
     }
 
     // Driving, waiting and service.
     #[tactic(auto, unfolding(crate::specs::Days::work_text))]
-    fn put_work(&mut self, leave: u128, visit: &Visit) -> Result<(), OutOfMemory>
+    fn put_work(&mut self, leave: u128, visit: &Visit)
         requires { leave ≤ 2 ^ 65 }
-        ensures { OnOk result (self.new ≡ self.old ++ work_text leave visit.now) }
+        ensures { self.new ≡ self.old ++ work_text leave visit.now }
     {
         let leg = visit.leg as u128;
         let start = visit.start as u128;
         let arrival = leave + leg;
         let wait = start.saturating_sub(arrival);
         let service = visit.stop.service as u128;
-        self.put_bar(Text::Drive, leave, leg)?;
-        self.put_bar(Text::Wait, arrival, wait)?;
-        self.put_bar(Text::Serve, start, service)
+        self.put_bar(Text::Drive, leave, leg);
+        self.put_bar(Text::Wait, arrival, wait);
+        self.put_bar(Text::Serve, start, service);
     }
 
     // The window of a stop; the depot's is the chart's whole width.
     #[tactic(auto, unfolding(crate::specs::Days::window_text))]
-    fn put_window(&mut self, stop: &Stop) -> Result<(), OutOfMemory>
-        ensures { OnOk result (self.new ≡ self.old ++ window_text stop.now) }
+    fn put_window(&mut self, stop: &Stop)
+        ensures { self.new ≡ self.old ++ window_text stop.now }
     {
         if stop.number == 0 {
-            return Ok(());
+            return;
         }
         let width = stop.latest.saturating_sub(stop.earliest);
-        self.put_bar(Text::Window, stop.earliest as u128, width as u128)
+        self.put_bar(Text::Window, stop.earliest as u128, width as u128);
     }
 
     // How much too late the service starts.
     #[tactic(auto, unfolding(crate::specs::Days::late_text))]
-    fn put_late(&mut self, visit: &Visit) -> Result<(), OutOfMemory>
-        ensures { OnOk result (self.new ≡ self.old ++ late_text visit.now) }
+    fn put_late(&mut self, visit: &Visit)
+        ensures { self.new ≡ self.old ++ late_text visit.now }
     {
         let latest = u64::from(visit.stop.latest);
         self.put_bar(
             Text::Late,
             latest as u128,
             visit.start.saturating_sub(latest) as u128,
-        )
+        );
     }
 }
 

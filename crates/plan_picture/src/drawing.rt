@@ -30,8 +30,8 @@ pub fn draw(
     let kept = kept_routes(alloc, problem, routes)?;
     let mut svg = Svg::new(alloc);
     svg.put_whole(alloc, problem, &kept, verdict)?;
-    svg.put(Text::End)?;
-    Ok(svg.into_vec())
+    svg.put(Text::End);
+    svg.into_vec()
 }
 
 /// The picture of one route alone, larger: its stops fill the map. Routes count from 1; `None` where there is none with this number.
@@ -54,8 +54,8 @@ pub fn draw_route(
     };
     let mut svg = Svg::new(alloc);
     svg.put_route(alloc, problem, &kept, verdict, number, route)?;
-    svg.put(Text::End)?;
-    Ok(Some(svg.into_vec()))
+    svg.put(Text::End);
+    Ok(Some(svg.into_vec()?))
 }
 
 fn broken_at(verdict: Verdict) -> Broken
@@ -82,9 +82,9 @@ impl Svg {
     {
         let stops = known_stops(alloc, problem)?;
         let left = unserved(alloc, routes, &stops)?;
-        self.put_sized_head(problem, routes.len())?;
+        self.put_sized_head(problem, routes.len());
         self.put_title(alloc, problem, routes, verdict, 0)?;
-        self.put_unserved_count(left.len())?;
+        self.put_unserved_count(left.len());
         self.put_drawn(alloc, problem, &stops, 1, routes, verdict)
     }
 
@@ -105,7 +105,7 @@ impl Svg {
             ++ route_text problem.now routes.now verdict number route.now) }
     {
         let stops = stops_along(alloc, problem, route.as_slice())?;
-        self.put_sized_head(problem, 1)?;
+        self.put_sized_head(problem, 1);
         self.put_title(alloc, problem, routes, verdict, number)?;
         self.put_drawn(
             alloc,
@@ -118,14 +118,14 @@ impl Svg {
     }
 
     // The head of a picture with so many rows.
-    fn put_sized_head(&mut self, problem: &Problem, rows: usize) -> Result<(), OutOfMemory>
-        ensures { OnOk result (self.new ≡ self.old ++ sized_head problem.now rows) }
+    fn put_sized_head(&mut self, problem: &Problem, rows: usize)
+        ensures { self.new ≡ self.old ++ sized_head problem.now rows }
     {
         let grid = grid_of(problem.kind, rows);
         self.put_head(
             problem.kind,
             1130 + u128::from(grid.pitch) * grid.rows as u128,
-        )
+        );
     }
 
     // The map and the table of these stops and routes, the first of which has the number `first`.

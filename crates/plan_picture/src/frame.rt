@@ -9,14 +9,14 @@ ghost use Rattle.plan_picture.specs.Frame.{apart, bounds_at, bounds_of, framed, 
 use plan_types::Stop;
 
 /// A place of the picture.
-#[derive(Clone, Copy, Debug, PartialEq, Eq)]
+#[derive(Clone, Copy)]
 pub(crate) struct Point {
     pub x: u128,
     pub y: u128,
 }
 
 /// The least and the greatest coordinates of stops.
-#[derive(Clone, Copy, Debug, PartialEq, Eq)]
+#[derive(Clone, Copy)]
 pub(crate) struct Bounds {
     pub left: i32,
     pub right: i32,
@@ -25,7 +25,7 @@ pub(crate) struct Bounds {
 }
 
 /// How coordinates become places: the corner from which they count, and by what they are multiplied.
-#[derive(Clone, Copy, Debug, PartialEq, Eq)]
+#[derive(Clone, Copy)]
 pub(crate) struct Frame {
     pub left: i32,
     pub top: i32,

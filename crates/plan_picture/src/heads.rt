@@ -17,38 +17,38 @@ use std::alloc::Global;
 impl Svg {
     /// Appends the size of the picture, its shapes, and what they mean.
     #[tactic(auto, unfolding(crate::specs::Heads::head_text))]
-    pub(crate) fn put_head(&mut self, kind: Kind, height: u128) -> Result<(), OutOfMemory>
-        ensures { OnOk result (self.new ≡ self.old ++ head_text kind height) }
+    pub(crate) fn put_head(&mut self, kind: Kind, height: u128)
+        ensures { self.new ≡ self.old ++ head_text kind height }
     {
-        self.put_attribute(Text::Head, height)?;
-        self.put_style()?;
-        self.put_shapes()?;
-        self.put_key(kind)
+        self.put_attribute(Text::Head, height);
+        self.put_style();
+        self.put_shapes();
+        self.put_key(kind);
     }
 
     #[tactic(auto, unfolding(crate::specs::Heads::style_text))]
-    fn put_style(&mut self) -> Result<(), OutOfMemory>
-        ensures { OnOk result (self.new ≡ self.old ++ style_text) }
+    fn put_style(&mut self)
+        ensures { self.new ≡ self.old ++ style_text }
     {
-        self.put(Text::LineStyle)?;
-        self.put(Text::TextStyle)?;
-        self.put(Text::BarStyle)
+        self.put(Text::LineStyle);
+        self.put(Text::TextStyle);
+        self.put(Text::BarStyle);
     }
 
     #[tactic(auto, unfolding(crate::specs::Heads::shapes_text))]
-    fn put_shapes(&mut self) -> Result<(), OutOfMemory>
-        ensures { OnOk result (self.new ≡ self.old ++ shapes_text) }
+    fn put_shapes(&mut self)
+        ensures { self.new ≡ self.old ++ shapes_text }
     {
-        self.put(Text::ArrowShape)?;
-        self.put(Text::DepotShape)?;
-        self.put(Text::PairShapes)?;
-        self.put(Text::RingShapes)?;
-        self.put(Text::Paper)
+        self.put(Text::ArrowShape);
+        self.put(Text::DepotShape);
+        self.put(Text::PairShapes);
+        self.put(Text::RingShapes);
+        self.put(Text::Paper);
     }
 
     // What the marks and the bars mean.
-    fn put_key(&mut self, kind: Kind) -> Result<(), OutOfMemory>
-        ensures { OnOk result (self.new ≡ self.old ++ key_text kind) }
+    fn put_key(&mut self, kind: Kind)
+        ensures { self.new ≡ self.old ++ key_text kind }
     {
         match kind {
             Kind::LiLim => self.put_pair_key(),
@@ -57,12 +57,12 @@ impl Svg {
     }
 
     #[tactic(auto, unfolding(crate::specs::Heads::pair_key))]
-    fn put_pair_key(&mut self) -> Result<(), OutOfMemory>
-        ensures { OnOk result (self.new ≡ self.old ++ pair_key) }
+    fn put_pair_key(&mut self)
+        ensures { self.new ≡ self.old ++ pair_key }
     {
-        self.put(Text::PairKey)?;
-        self.put(Text::PairWords)?;
-        self.put(Text::BarKey)
+        self.put(Text::PairKey);
+        self.put(Text::PairWords);
+        self.put(Text::BarKey);
     }
 
     /// Appends the verdict, and which route is drawn, 0 for all.
@@ -79,28 +79,29 @@ impl Svg {
         ensures { OnOk result (self.new ≡ self.old
             ++ title_text problem.now routes.now verdict number) }
     {
-        self.put(title_head(verdict))?;
-        self.put_scope(number, routes.len())?;
+        self.put(title_head(verdict));
+        self.put_scope(number, routes.len());
         self.put_verdict(alloc, problem, routes, verdict)?;
-        self.put(Text::TextEnd)
+        self.put(Text::TextEnd);
+        Ok(())
     }
 
-    fn put_scope(&mut self, number: u64, all: usize) -> Result<(), OutOfMemory>
-        ensures { OnOk result (self.new ≡ self.old ++ scope_text number all) }
+    fn put_scope(&mut self, number: u64, all: usize)
+        ensures { self.new ≡ self.old ++ scope_text number all }
     {
         if number == 0 {
-            return Ok(());
+            return;
         }
-        self.put_one_route(number, all)
+        self.put_one_route(number, all);
     }
 
     #[tactic(auto, unfolding(crate::specs::Heads::one_route))]
-    fn put_one_route(&mut self, number: u64, all: usize) -> Result<(), OutOfMemory>
-        ensures { OnOk result (self.new ≡ self.old ++ one_route number all) }
+    fn put_one_route(&mut self, number: u64, all: usize)
+        ensures { self.new ≡ self.old ++ one_route number all }
     {
-        self.put_named(Text::OneRoute, number as u128)?;
-        self.put_named(Text::OfRoutes, all as u128)?;
-        self.put(Text::OfPlan)
+        self.put_named(Text::OneRoute, number as u128);
+        self.put_named(Text::OfRoutes, all as u128);
+        self.put(Text::OfPlan);
     }
 
     fn put_verdict(
@@ -115,7 +116,10 @@ impl Svg {
             ++ verdict_text problem.now routes.now verdict) }
     {
         match verdict {
-            Verdict::Pass(cost) => self.put_cost(problem.kind, cost),
+            Verdict::Pass(cost) => {
+                self.put_cost(problem.kind, cost);
+                Ok(())
+            }
             Verdict::Broken {
                 rule,
                 route,
@@ -126,20 +130,20 @@ impl Svg {
     }
 
     #[tactic(auto, unfolding(crate::specs::Heads::cost_text))]
-    fn put_cost(&mut self, kind: Kind, cost: Cost) -> Result<(), OutOfMemory>
-        ensures { OnOk result (self.new ≡ self.old ++ cost_text kind cost) }
+    fn put_cost(&mut self, kind: Kind, cost: Cost)
+        ensures { self.new ≡ self.old ++ cost_text kind cost }
     {
-        self.put_named(Text::Unplanned, cost.unplanned as u128)?;
-        self.put_vehicles(kind, cost.vehicles)?;
-        self.put_named(Text::Distance, cost.distance as u128)
+        self.put_named(Text::Unplanned, cost.unplanned as u128);
+        self.put_vehicles(kind, cost.vehicles);
+        self.put_named(Text::Distance, cost.distance as u128);
     }
 
-    fn put_vehicles(&mut self, kind: Kind, vehicles: u64) -> Result<(), OutOfMemory>
-        ensures { OnOk result (self.new ≡ self.old ++ vehicles_text kind vehicles) }
+    fn put_vehicles(&mut self, kind: Kind, vehicles: u64)
+        ensures { self.new ≡ self.old ++ vehicles_text kind vehicles }
     {
         match kind {
             Kind::LiLim => self.put_named(Text::Vehicles, vehicles as u128),
-            Kind::Vrp => Ok(()),
+            Kind::Vrp => {}
         }
     }
 
@@ -158,19 +162,19 @@ impl Svg {
         ensures { OnOk result (self.new ≡ self.old
             ++ broken_text problem.now routes.now rule route place stop) }
     {
-        self.put_named(Text::BrokenRule, rule as u128)?;
-        self.put(rule_name(rule))?;
-        self.put_broken_place(route, place, stop)?;
+        self.put_named(Text::BrokenRule, rule as u128);
+        self.put(rule_name(rule));
+        self.put_broken_place(route, place, stop);
         self.put_figures_of(alloc, problem, routes, rule, route, place, stop)
     }
 
     #[tactic(auto, unfolding(crate::specs::Heads::broken_place))]
-    fn put_broken_place(&mut self, route: u64, place: u64, stop: u32) -> Result<(), OutOfMemory>
-        ensures { OnOk result (self.new ≡ self.old ++ broken_place route place stop) }
+    fn put_broken_place(&mut self, route: u64, place: u64, stop: u32)
+        ensures { self.new ≡ self.old ++ broken_place route place stop }
     {
-        self.put_some(Text::BrokenRoute, route as u128)?;
-        self.put_some(Text::BrokenPlace, place as u128)?;
-        self.put_some(Text::BrokenStop, stop as u128)
+        self.put_some(Text::BrokenRoute, route as u128);
+        self.put_some(Text::BrokenPlace, place as u128);
+        self.put_some(Text::BrokenStop, stop as u128);
     }
 
     fn put_figures_of(
@@ -188,53 +192,40 @@ impl Svg {
             ++ figures_of problem.now routes.now rule route place stop) }
     {
         if rule == 3 || rule == 4 || rule == 5 {
-            return self.put_partner(problem, stop);
-        }
-        if rule == 6 || rule == 7 || rule == 8 {
+            self.put_partner(problem, stop);
+        } else if rule == 6 || rule == 7 || rule == 8 {
             let visit = visit_told(alloc, problem, routes, route, place)?;
-            return self.put_visit_told(problem, rule, visit);
-        }
-        if rule == 9 {
-            return self.put_fleet(problem, routes);
-        }
-        if rule == 11 {
-            return self.put_named(Text::Driven, total_distance(problem, routes));
+            self.put_visit_told(problem, rule, visit);
+        } else if rule == 9 {
+            self.put_fleet(problem, routes);
+        } else if rule == 11 {
+            self.put_named(Text::Driven, total_distance(problem, routes));
         }
         Ok(())
     }
 
     // The other stop of a pair.
-    fn put_partner(&mut self, problem: &Problem, stop: u32) -> Result<(), OutOfMemory>
-        ensures { OnOk result (self.new ≡ self.old ++ partner_figures problem.now stop) }
+    fn put_partner(&mut self, problem: &Problem, stop: u32)
+        ensures { self.new ≡ self.old ++ partner_figures problem.now stop }
     {
         match problem.partner_of(stop) {
             Some(partner) => self.put_named(Text::Partner, partner as u128),
-            None => Ok(()),
+            None => {}
         }
     }
 
-    fn put_visit_told(
-        &mut self,
-        problem: &Problem,
-        rule: u32,
-        visit: Option<Visit>,
-    ) -> Result<(), OutOfMemory>
-        ensures { OnOk result (self.new ≡ self.old
-            ++ option_map_or (visit_figures problem.now rule) visit []) }
+    fn put_visit_told(&mut self, problem: &Problem, rule: u32, visit: Option<Visit>)
+        ensures { self.new ≡ self.old
+            ++ option_map_or (visit_figures problem.now rule) visit [] }
     {
         match visit {
             Some(visit) => self.put_visit_figures(problem, rule, &visit),
-            None => Ok(()),
+            None => {}
         }
     }
 
-    fn put_visit_figures(
-        &mut self,
-        problem: &Problem,
-        rule: u32,
-        visit: &Visit,
-    ) -> Result<(), OutOfMemory>
-        ensures { OnOk result (self.new ≡ self.old ++ visit_figures problem.now rule visit.now) }
+    fn put_visit_figures(&mut self, problem: &Problem, rule: u32, visit: &Visit)
+        ensures { self.new ≡ self.old ++ visit_figures problem.now rule visit.now }
     {
         match rule {
             6 => self.put_load_figures(problem, visit),
@@ -244,40 +235,40 @@ impl Svg {
     }
 
     #[tactic(auto, unfolding(crate::specs::Heads::load_figures))]
-    fn put_load_figures(&mut self, problem: &Problem, visit: &Visit) -> Result<(), OutOfMemory>
-        ensures { OnOk result (self.new ≡ self.old ++ load_figures problem.now visit.now) }
+    fn put_load_figures(&mut self, problem: &Problem, visit: &Visit)
+        ensures { self.new ≡ self.old ++ load_figures problem.now visit.now }
     {
-        self.put(Text::Load)?;
-        self.put_signed(visit.load)?;
-        self.put_named(Text::Capacity, problem.capacity as u128)
+        self.put(Text::Load);
+        self.put_signed(visit.load);
+        self.put_named(Text::Capacity, problem.capacity as u128);
     }
 
     #[tactic(auto, unfolding(crate::specs::Heads::start_figures))]
-    fn put_start_figures(&mut self, text: Text, visit: &Visit) -> Result<(), OutOfMemory>
-        ensures { OnOk result (self.new ≡ self.old ++ start_figures text visit.now) }
+    fn put_start_figures(&mut self, text: Text, visit: &Visit)
+        ensures { self.new ≡ self.old ++ start_figures text visit.now }
     {
-        self.put_named(text, visit.start as u128)?;
-        self.put_named(Text::Latest, visit.stop.latest as u128)
+        self.put_named(text, visit.start as u128);
+        self.put_named(Text::Latest, visit.stop.latest as u128);
     }
 
     #[tactic(auto, unfolding(crate::specs::Heads::fleet_figures))]
-    fn put_fleet(&mut self, problem: &Problem, routes: &[Route]) -> Result<(), OutOfMemory>
-        ensures { OnOk result (self.new ≡ self.old ++ fleet_figures problem.now routes.now) }
+    fn put_fleet(&mut self, problem: &Problem, routes: &[Route])
+        ensures { self.new ≡ self.old ++ fleet_figures problem.now routes.now }
     {
-        self.put_named(Text::Used, used_count(routes) as u128)?;
-        self.put_named(Text::Fleet, problem.fleet as u128)
+        self.put_named(Text::Used, used_count(routes) as u128);
+        self.put_named(Text::Fleet, problem.fleet as u128);
     }
 
     /// Appends how many stops are in no route, if any.
     #[tactic(auto, unfolding(crate::specs::Heads::unserved_text))]
-    pub(crate) fn put_unserved_count(&mut self, count: usize) -> Result<(), OutOfMemory>
-        ensures { OnOk result (self.new ≡ self.old ++ unserved_text count) }
+    pub(crate) fn put_unserved_count(&mut self, count: usize)
+        ensures { self.new ≡ self.old ++ unserved_text count }
     {
         if count == 0 {
-            return Ok(());
+            return;
         }
-        self.put_named(Text::Unserved, count as u128)?;
-        self.put(Text::TextEnd)
+        self.put_named(Text::Unserved, count as u128);
+        self.put(Text::TextEnd);
     }
 }
 

@@ -12,7 +12,7 @@ use plan_types::{OutOfMemory, Problem, Route, Stop};
 use std::alloc::Global;
 
 /// A part of the map.
-#[derive(Clone, Copy, Debug, PartialEq, Eq)]
+#[derive(Clone, Copy)]
 pub(crate) struct Area {
     pub left: u128,
     pub right: u128,
@@ -21,7 +21,7 @@ pub(crate) struct Area {
 }
 
 /// Half the width and half the height of a number, and how far it is from the middle of its mark, in quarters of the unit.
-#[derive(Clone, Copy, Debug, PartialEq, Eq)]
+#[derive(Clone, Copy)]
 pub(crate) struct Extent {
     pub across: u32,
     pub down: u32,
@@ -29,7 +29,7 @@ pub(crate) struct Extent {
 }
 
 /// What takes a place on the map.
-#[derive(Clone, Copy, Debug, PartialEq, Eq)]
+#[derive(Clone, Copy)]
 pub(crate) enum LabelKind {
     /// The mark of a stop or of the depot.
     Mark,
@@ -40,7 +40,7 @@ pub(crate) enum LabelKind {
 }
 
 /// A mark or a number, and where it stands.
-#[derive(Clone, Copy, Debug, PartialEq, Eq)]
+#[derive(Clone, Copy)]
 pub(crate) struct Label {
     pub kind: LabelKind,
     pub number: u64,

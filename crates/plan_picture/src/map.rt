@@ -15,7 +15,7 @@ use route_sched::Visit;
 use std::alloc::Global;
 
 /// What is broken: the number of a route and that of a stop, 0 for none.
-#[derive(Clone, Copy, Debug, PartialEq, Eq)]
+#[derive(Clone, Copy)]
 pub(crate) struct Broken {
     pub route: u64,
     pub stop: u32,
@@ -78,8 +78,8 @@ impl Svg {
         ensures { OnOk result (self.new ≡ self.old
             ++ under_text problem.now frame.now stops.now first routes.now broken) }
     {
-        self.put_opening(frame)?;
-        self.put_pairs(problem, frame, stops)?;
+        self.put_opening(frame);
+        self.put_pairs(problem, frame, stops);
         self.put_lines(alloc, problem, frame, broken, first, routes)
     }
 
@@ -101,78 +101,62 @@ impl Svg {
     {
         let left = unserved(alloc, routes, stops)?;
         let labels = labels(alloc, problem, frame, first, routes, stops)?;
-        self.put_marks(problem, frame, stops)?;
-        self.put_rings(frame, stops, &left, broken)?;
-        self.put_labels(frame, &labels)
-    }
-
-    #[tactic(auto, unfolding(crate::specs::Map::opening_text))]
-    fn put_opening(&mut self, frame: &Frame) -> Result<(), OutOfMemory>
-        ensures { OnOk result (self.new ≡ self.old ++ opening_text frame.now) }
-    {
-        self.put_named(Text::Map, frame.width)?;
-        self.put_named(Text::Blank, frame.height)?;
-        self.put_attribute(Text::Letters, frame.unit as u128)?;
-        self.put(Text::Open)
-    }
-
-    #[tactic(auto, unfolding(crate::specs::Map::pairs_text))]
-    fn put_pairs(
-        &mut self,
-        problem: &Problem,
-        frame: &Frame,
-        stops: &[Stop],
-    ) -> Result<(), OutOfMemory>
-        ensures { OnOk result (self.new ≡ self.old ++ pairs_text problem.now frame.now stops.now) }
-    {
-        self.put(Text::Pairs)?;
-        self.put_each_pair(problem, frame, stops)?;
-        self.put(Text::GroupEnd)
-    }
-
-    fn put_each_pair(
-        &mut self,
-        problem: &Problem,
-        frame: &Frame,
-        stops: &[Stop],
-    ) -> Result<(), OutOfMemory>
-        ensures { OnOk result (self.new ≡ self.old
-            ++ flat_map (pair_text problem.now frame.now stops.now) stops.now) }
-    {
-        for stop in stops {
-            self.put_pair(problem, frame, stops, stop)?;
-        }
+        self.put_marks(problem, frame, stops);
+        self.put_rings(frame, stops, &left, broken);
+        self.put_labels(frame, &labels);
         Ok(())
     }
 
+    #[tactic(auto, unfolding(crate::specs::Map::opening_text))]
+    fn put_opening(&mut self, frame: &Frame)
+        ensures { self.new ≡ self.old ++ opening_text frame.now }
+    {
+        self.put_named(Text::Map, frame.width);
+        self.put_named(Text::Blank, frame.height);
+        self.put_attribute(Text::Letters, frame.unit as u128);
+        self.put(Text::Open);
+    }
+
+    #[tactic(auto, unfolding(crate::specs::Map::pairs_text))]
+    fn put_pairs(&mut self, problem: &Problem, frame: &Frame, stops: &[Stop])
+        ensures { self.new ≡ self.old ++ pairs_text problem.now frame.now stops.now }
+    {
+        self.put(Text::Pairs);
+        self.put_each_pair(problem, frame, stops);
+        self.put(Text::GroupEnd);
+    }
+
+    fn put_each_pair(&mut self, problem: &Problem, frame: &Frame, stops: &[Stop])
+        ensures { self.new ≡ self.old
+            ++ flat_map (pair_text problem.now frame.now stops.now) stops.now }
+    {
+        for stop in stops {
+            self.put_pair(problem, frame, stops, stop);
+        }
+    }
+
     // A delivery is joined with its pickup.
-    fn put_pair(
-        &mut self,
-        problem: &Problem,
-        frame: &Frame,
-        stops: &[Stop],
-        stop: &Stop,
-    ) -> Result<(), OutOfMemory>
-        ensures { OnOk result (self.new ≡ self.old
-            ++ pair_text problem.now frame.now stops.now stop.now) }
+    fn put_pair(&mut self, problem: &Problem, frame: &Frame, stops: &[Stop], stop: &Stop)
+        ensures { self.new ≡ self.old
+            ++ pair_text problem.now frame.now stops.now stop.now }
     {
         let Some(number) = problem.pickup_of(stop.number) else {
-            return Ok(());
+            return;
         };
         match stop_among(number, stops) {
             Some(pickup) => self.put_join(frame, pickup, stop),
-            None => Ok(()),
+            None => {}
         }
     }
 
     #[tactic(auto, unfolding(crate::specs::Map::join_text))]
-    fn put_join(&mut self, frame: &Frame, start: &Stop, end: &Stop) -> Result<(), OutOfMemory>
-        ensures { OnOk result (self.new ≡ self.old ++ join_text frame.now start.now end.now) }
+    fn put_join(&mut self, frame: &Frame, start: &Stop, end: &Stop)
+        ensures { self.new ≡ self.old ++ join_text frame.now start.now end.now }
     {
-        self.put(Text::Leg)?;
-        self.put_at(frame.point(start))?;
-        self.put_at(frame.point(end))?;
-        self.put(Text::LineEnd)
+        self.put(Text::Leg);
+        self.put_at(frame.point(start));
+        self.put_at(frame.point(end));
+        self.put(Text::LineEnd);
     }
 
     #[tactic(auto, unfolding(crate::specs::Map::lines_text))]
@@ -190,9 +174,10 @@ impl Svg {
         ensures { OnOk result (self.new ≡ self.old
             ++ lines_text problem.now frame.now broken first routes.now) }
     {
-        self.put(Text::Legs)?;
+        self.put(Text::Legs);
         self.put_each_line(alloc, problem, frame, broken, first, routes)?;
-        self.put(Text::GroupEnd)
+        self.put(Text::GroupEnd);
+        Ok(())
     }
 
     fn put_each_line(
@@ -232,201 +217,163 @@ impl Svg {
             ++ line_text problem.now frame.now broken number route.now) }
     {
         let visits = visits(alloc, problem, route)?;
-        self.put_line_head(broken, number)?;
-        self.put_legs(frame, &problem.depot, &visits)?;
-        self.put(Text::GroupEnd)
-    }
-
-    #[tactic(auto, unfolding(crate::specs::Map::line_head))]
-    fn put_line_head(&mut self, broken: u64, number: u64) -> Result<(), OutOfMemory>
-        ensures { OnOk result (self.new ≡ self.old ++ line_head broken number) }
-    {
-        self.put(Text::Route)?;
-        self.put_broken(broken, number)?;
-        self.put_colour(Text::Stroke, number)?;
-        self.put(Text::Open)
-    }
-
-    fn put_legs(&mut self, frame: &Frame, depot: &Stop, visits: &[Visit]) -> Result<(), OutOfMemory>
-        ensures { OnOk result (self.new ≡ self.old
-            ++ legs_text frame.now depot.now visits.now) }
-    {
-        let mut last = *depot;
-        for visit in visits {
-            self.put_leg(frame, &last, &visit.stop)?;
-            last = visit.stop;
-        }
+        self.put_line_head(broken, number);
+        self.put_legs(frame, &problem.depot, &visits);
+        self.put(Text::GroupEnd);
         Ok(())
     }
 
+    #[tactic(auto, unfolding(crate::specs::Map::line_head))]
+    fn put_line_head(&mut self, broken: u64, number: u64)
+        ensures { self.new ≡ self.old ++ line_head broken number }
+    {
+        self.put(Text::Route);
+        self.put_broken(broken, number);
+        self.put_colour(Text::Stroke, number);
+        self.put(Text::Open);
+    }
+
+    fn put_legs(&mut self, frame: &Frame, depot: &Stop, visits: &[Visit])
+        ensures { self.new ≡ self.old
+            ++ legs_text frame.now depot.now visits.now }
+    {
+        let mut last = *depot;
+        for visit in visits {
+            self.put_leg(frame, &last, &visit.stop);
+            last = visit.stop;
+        }
+    }
+
     #[tactic(auto, unfolding(crate::specs::Map::leg_text))]
-    fn put_leg(&mut self, frame: &Frame, start: &Stop, end: &Stop) -> Result<(), OutOfMemory>
-        ensures { OnOk result (self.new ≡ self.old ++ leg_text frame.now start.now end.now) }
+    fn put_leg(&mut self, frame: &Frame, start: &Stop, end: &Stop)
+        ensures { self.new ≡ self.old ++ leg_text frame.now start.now end.now }
     {
         let from = frame.point(start);
         let to = frame.point(end);
-        self.put(leg_head(start, end))?;
-        self.put_at(from)?;
-        self.put_arrow(frame, &from, &to)?;
-        self.put_at(to)?;
-        self.put(Text::LineEnd)
+        self.put(leg_head(start, end));
+        self.put_at(from);
+        self.put_arrow(frame, &from, &to);
+        self.put_at(to);
+        self.put(Text::LineEnd);
     }
 
     // The place of a leg's arrow, where the leg is long enough.
-    fn put_arrow(&mut self, frame: &Frame, from: &Point, to: &Point) -> Result<(), OutOfMemory>
+    fn put_arrow(&mut self, frame: &Frame, from: &Point, to: &Point)
         requires near { from.now.x ≤ 2 ^ 70 }
         requires high { from.now.y ≤ 2 ^ 70 }
         requires end_near { to.now.x ≤ 2 ^ 70 }
         requires end_high { to.now.y ≤ 2 ^ 70 }
-        ensures { OnOk result (self.new ≡ self.old ++ arrow_text frame.now from.now to.now) }
+        ensures { self.new ≡ self.old ++ arrow_text frame.now from.now to.now }
     {
         if has_arrow(frame, from, to) {
-            self.put_at(from.on_the_way(to))
-        } else {
-            Ok(())
+            self.put_at(from.on_the_way(to));
         }
     }
 
     #[tactic(auto, unfolding(crate::specs::Map::marks_text))]
-    fn put_marks(
-        &mut self,
-        problem: &Problem,
-        frame: &Frame,
-        stops: &[Stop],
-    ) -> Result<(), OutOfMemory>
-        ensures { OnOk result (self.new ≡ self.old ++ marks_text problem.now frame.now stops.now) }
+    fn put_marks(&mut self, problem: &Problem, frame: &Frame, stops: &[Stop])
+        ensures { self.new ≡ self.old ++ marks_text problem.now frame.now stops.now }
     {
-        self.put_mark(Text::DepotMark, frame, &problem.depot)?;
-        self.put_under_marks(problem, frame, stops)?;
-        self.put_over_marks(problem, frame, stops)
+        self.put_mark(Text::DepotMark, frame, &problem.depot);
+        self.put_under_marks(problem, frame, stops);
+        self.put_over_marks(problem, frame, stops);
     }
 
-    fn put_under_marks(
-        &mut self,
-        problem: &Problem,
-        frame: &Frame,
-        stops: &[Stop],
-    ) -> Result<(), OutOfMemory>
-        ensures { OnOk result (self.new ≡ self.old
-            ++ flat_map (under_mark problem.now frame.now) stops.now) }
+    fn put_under_marks(&mut self, problem: &Problem, frame: &Frame, stops: &[Stop])
+        ensures { self.new ≡ self.old
+            ++ flat_map (under_mark problem.now frame.now) stops.now }
     {
         for stop in stops {
-            self.put_under_mark(problem, frame, stop)?;
+            self.put_under_mark(problem, frame, stop);
         }
-        Ok(())
     }
 
-    fn put_over_marks(
-        &mut self,
-        problem: &Problem,
-        frame: &Frame,
-        stops: &[Stop],
-    ) -> Result<(), OutOfMemory>
-        ensures { OnOk result (self.new ≡ self.old
-            ++ flat_map (over_mark problem.now frame.now) stops.now) }
+    fn put_over_marks(&mut self, problem: &Problem, frame: &Frame, stops: &[Stop])
+        ensures { self.new ≡ self.old
+            ++ flat_map (over_mark problem.now frame.now) stops.now }
     {
         for stop in stops {
-            self.put_over_mark(problem, frame, stop)?;
+            self.put_over_mark(problem, frame, stop);
         }
-        Ok(())
     }
 
-    fn put_under_mark(
-        &mut self,
-        problem: &Problem,
-        frame: &Frame,
-        stop: &Stop,
-    ) -> Result<(), OutOfMemory>
-        ensures { OnOk result (self.new ≡ self.old ++ under_mark problem.now frame.now stop.now) }
+    fn put_under_mark(&mut self, problem: &Problem, frame: &Frame, stop: &Stop)
+        ensures { self.new ≡ self.old ++ under_mark problem.now frame.now stop.now }
     {
         if is_delivery(problem, stop) {
-            return Ok(());
+            return;
         }
-        self.put_mark(under_shape(problem, stop), frame, stop)
+        self.put_mark(under_shape(problem, stop), frame, stop);
     }
 
-    fn put_over_mark(
-        &mut self,
-        problem: &Problem,
-        frame: &Frame,
-        stop: &Stop,
-    ) -> Result<(), OutOfMemory>
-        ensures { OnOk result (self.new ≡ self.old ++ over_mark problem.now frame.now stop.now) }
+    fn put_over_mark(&mut self, problem: &Problem, frame: &Frame, stop: &Stop)
+        ensures { self.new ≡ self.old ++ over_mark problem.now frame.now stop.now }
     {
         if is_delivery(problem, stop) {
-            return self.put_mark(Text::DeliveryMark, frame, stop);
+            self.put_mark(Text::DeliveryMark, frame, stop);
         }
-        Ok(())
     }
 
     // A shape where the stop stands, with the stop's number as its title.
     #[tactic(auto, unfolding(crate::specs::Map::mark_text))]
-    fn put_mark(&mut self, shape: Text, frame: &Frame, stop: &Stop) -> Result<(), OutOfMemory>
-        ensures { OnOk result (self.new ≡ self.old ++ mark_text shape frame.now stop.now) }
+    fn put_mark(&mut self, shape: Text, frame: &Frame, stop: &Stop)
+        ensures { self.new ≡ self.old ++ mark_text shape frame.now stop.now }
     {
-        self.put_placed(shape, frame.point(stop))?;
-        self.put_named(Text::MarkTitle, stop.number as u128)?;
-        self.put(Text::MarkEnd)
+        self.put_placed(shape, frame.point(stop));
+        self.put_named(Text::MarkTitle, stop.number as u128);
+        self.put(Text::MarkEnd);
     }
 
     #[tactic(auto, unfolding(crate::specs::Map::rings_text))]
-    fn put_rings(
-        &mut self,
-        frame: &Frame,
-        stops: &[Stop],
-        left: &[Stop],
-        broken: u32,
-    ) -> Result<(), OutOfMemory>
-        ensures { OnOk result (self.new ≡ self.old
-            ++ rings_text frame.now stops.now left.now broken) }
+    fn put_rings(&mut self, frame: &Frame, stops: &[Stop], left: &[Stop], broken: u32)
+        ensures { self.new ≡ self.old
+            ++ rings_text frame.now stops.now left.now broken }
     {
-        self.put_unserved(frame, left)?;
-        self.put_ring(frame, stops, broken)
+        self.put_unserved(frame, left);
+        self.put_ring(frame, stops, broken);
     }
 
-    fn put_unserved(&mut self, frame: &Frame, left: &[Stop]) -> Result<(), OutOfMemory>
-        ensures { OnOk result (self.new ≡ self.old
-            ++ flat_map (mark_text Text.UnservedMark frame.now) left.now) }
+    fn put_unserved(&mut self, frame: &Frame, left: &[Stop])
+        ensures { self.new ≡ self.old
+            ++ flat_map (mark_text Text.UnservedMark frame.now) left.now }
     {
         for stop in left {
-            self.put_mark(Text::UnservedMark, frame, stop)?;
+            self.put_mark(Text::UnservedMark, frame, stop);
         }
-        Ok(())
     }
 
-    fn put_ring(&mut self, frame: &Frame, stops: &[Stop], number: u32) -> Result<(), OutOfMemory>
-        ensures { OnOk result (self.new ≡ self.old ++ ring_text frame.now stops.now number) }
+    fn put_ring(&mut self, frame: &Frame, stops: &[Stop], number: u32)
+        ensures { self.new ≡ self.old ++ ring_text frame.now stops.now number }
     {
         match stop_among(number, stops) {
             Some(stop) => self.put_mark(Text::BrokenMark, frame, stop),
-            None => Ok(()),
+            None => {}
         }
     }
 
     #[tactic(auto, unfolding(crate::specs::Map::labels_text))]
-    fn put_labels(&mut self, frame: &Frame, labels: &[Label]) -> Result<(), OutOfMemory>
-        ensures { OnOk result (self.new ≡ self.old ++ labels_text frame.now labels.now) }
+    fn put_labels(&mut self, frame: &Frame, labels: &[Label])
+        ensures { self.new ≡ self.old ++ labels_text frame.now labels.now }
     {
-        self.put(Text::Labels)?;
-        self.put_each_label(frame, labels)?;
-        self.put(Text::MapEnd)
+        self.put(Text::Labels);
+        self.put_each_label(frame, labels);
+        self.put(Text::MapEnd);
     }
 
-    fn put_each_label(&mut self, frame: &Frame, labels: &[Label]) -> Result<(), OutOfMemory>
-        ensures { OnOk result (self.new ≡ self.old
-            ++ flat_map (label_text frame.now) labels.now) }
+    fn put_each_label(&mut self, frame: &Frame, labels: &[Label])
+        ensures { self.new ≡ self.old
+            ++ flat_map (label_text frame.now) labels.now }
     {
         for label in labels {
-            self.put_label(frame, label)?;
+            self.put_label(frame, label);
         }
-        Ok(())
     }
 
-    fn put_label(&mut self, frame: &Frame, label: &Label) -> Result<(), OutOfMemory>
-        ensures { OnOk result (self.new ≡ self.old ++ label_text frame.now label.now) }
+    fn put_label(&mut self, frame: &Frame, label: &Label)
+        ensures { self.new ≡ self.old ++ label_text frame.now label.now }
     {
         match label.kind {
-            LabelKind::Mark => Ok(()),
+            LabelKind::Mark => {}
             LabelKind::Badge => self.put_badge(frame, label.number, &label.area),
             LabelKind::Number => {
                 self.put_number_at(frame, Text::Number, 2, label.number, &label.area)
@@ -435,52 +382,45 @@ impl Svg {
     }
 
     #[tactic(auto, unfolding(crate::specs::Map::badge_text))]
-    fn put_badge(&mut self, frame: &Frame, number: u64, area: &Area) -> Result<(), OutOfMemory>
-        ensures { OnOk result (self.new ≡ self.old ++ badge_text frame.now number area.now) }
+    fn put_badge(&mut self, frame: &Frame, number: u64, area: &Area)
+        ensures { self.new ≡ self.old ++ badge_text frame.now number area.now }
     {
-        self.put_box(number, area)?;
-        self.put_number_at(frame, Text::Badge, 5, number, area)
+        self.put_box(number, area);
+        self.put_number_at(frame, Text::Badge, 5, number, area);
     }
 
     #[tactic(auto, unfolding(crate::specs::Map::box_text))]
-    fn put_box(&mut self, number: u64, area: &Area) -> Result<(), OutOfMemory>
-        ensures { OnOk result (self.new ≡ self.old ++ box_text number area.now) }
+    fn put_box(&mut self, number: u64, area: &Area)
+        ensures { self.new ≡ self.old ++ box_text number area.now }
     {
         let corner = Point {
             x: area.left,
             y: area.top,
         };
-        self.put_placed(Text::BadgeBox, corner)?;
-        self.put_box_size(area)?;
-        self.put_colour(Text::Fill, number)?;
-        self.put(Text::Close)
+        self.put_placed(Text::BadgeBox, corner);
+        self.put_box_size(area);
+        self.put_colour(Text::Fill, number);
+        self.put(Text::Close);
     }
 
     #[tactic(auto, unfolding(crate::specs::Map::box_size))]
-    fn put_box_size(&mut self, area: &Area) -> Result<(), OutOfMemory>
-        ensures { OnOk result (self.new ≡ self.old ++ box_size area.now) }
+    fn put_box_size(&mut self, area: &Area)
+        ensures { self.new ≡ self.old ++ box_size area.now }
     {
-        self.put_attribute(Text::Width, area.right.saturating_sub(area.left))?;
-        self.put_attribute(Text::Height, area.bottom.saturating_sub(area.top))
+        self.put_attribute(Text::Width, area.right.saturating_sub(area.left));
+        self.put_attribute(Text::Height, area.bottom.saturating_sub(area.top));
     }
 
     // A number in its area.
     #[tactic(auto, unfolding(crate::specs::Map::number_text))]
-    fn put_number_at(
-        &mut self,
-        frame: &Frame,
-        text: Text,
-        k: u32,
-        number: u64,
-        area: &Area,
-    ) -> Result<(), OutOfMemory>
-        ensures { OnOk result (self.new ≡ self.old
-            ++ number_text frame.now text k number area.now) }
+    fn put_number_at(&mut self, frame: &Frame, text: Text, k: u32, number: u64, area: &Area)
+        ensures { self.new ≡ self.old
+            ++ number_text frame.now text k number area.now }
     {
         let foot = foot_of(frame, k, area);
-        self.put_placed(text, foot)?;
-        self.put_named(Text::Tag, number as u128)?;
-        self.put(Text::TextEnd)
+        self.put_placed(text, foot);
+        self.put_named(Text::Tag, number as u128);
+        self.put(Text::TextEnd);
     }
 }
 

@@ -13,7 +13,7 @@ use route_sched::{Visit, route_distance};
 use std::alloc::Global;
 
 /// How many rows stand in a block of the table, and how far they are apart.
-#[derive(Clone, Copy, Debug, PartialEq, Eq)]
+#[derive(Clone, Copy)]
 pub(crate) struct Grid {
     pub rows: usize,
     pub pitch: u32,
@@ -55,9 +55,10 @@ impl Svg {
         ensures { OnOk result (self.new ≡ self.old
             ++ rows_text problem.now grid broken first routes.now) }
     {
-        self.put(Text::Table)?;
+        self.put(Text::Table);
         self.put_each_row(alloc, problem, grid, broken, first, routes)?;
-        self.put(Text::GroupEnd)
+        self.put(Text::GroupEnd);
+        Ok(())
     }
 
     fn put_each_row(
@@ -99,30 +100,31 @@ impl Svg {
             ++ row_text problem.now grid broken first index route.now) }
     {
         let number = first + index as u64;
-        self.put_row_place(grid, index)?;
-        self.put_row_head(broken, number)?;
+        self.put_row_place(grid, index);
+        self.put_row_head(broken, number);
         self.put_figures(alloc, problem, number, route)?;
-        self.put_row_end(grid, index)
+        self.put_row_end(grid, index);
+        Ok(())
     }
 
     #[tactic(auto, unfolding(crate::specs::Table::row_place))]
-    fn put_row_place(&mut self, grid: Grid, index: usize) -> Result<(), OutOfMemory>
+    fn put_row_place(&mut self, grid: Grid, index: usize)
         requires { 0 < grid.rows }
-        ensures { OnOk result (self.new ≡ self.old ++ row_place grid index) }
+        ensures { self.new ≡ self.old ++ row_place grid index }
     {
         let block = index / grid.rows;
         let row = index % grid.rows;
-        self.put_named(Text::Row, 390 * block as u128)?;
-        self.put_named(Text::Blank, 1116 + u128::from(grid.pitch) * row as u128)
+        self.put_named(Text::Row, 390 * block as u128);
+        self.put_named(Text::Blank, 1116 + u128::from(grid.pitch) * row as u128);
     }
 
     #[tactic(auto, unfolding(crate::specs::Table::row_head))]
-    fn put_row_head(&mut self, broken: u64, number: u64) -> Result<(), OutOfMemory>
-        ensures { OnOk result (self.new ≡ self.old ++ row_head broken number) }
+    fn put_row_head(&mut self, broken: u64, number: u64)
+        ensures { self.new ≡ self.old ++ row_head broken number }
     {
-        self.put_colour(Text::RowColour, number)?;
-        self.put(Text::RowText)?;
-        self.put_broken(broken, number)
+        self.put_colour(Text::RowColour, number);
+        self.put(Text::RowText);
+        self.put_broken(broken, number);
     }
 
     #[tactic(auto, unfolding(crate::specs::Table::figures_text))]
@@ -138,39 +140,38 @@ impl Svg {
             ++ figures_text problem.now number route.now) }
     {
         let visits = visits(alloc, problem, route)?;
-        self.put_named(Text::RouteCell, number as u128)?;
-        self.put_named(Text::StopsCell, route.len() as u128)?;
-        self.put_load(top_load(&visits))?;
-        self.put_named(Text::DistanceCell, route_distance(problem, route) as u128)
+        self.put_named(Text::RouteCell, number as u128);
+        self.put_named(Text::StopsCell, route.len() as u128);
+        self.put_load(top_load(&visits));
+        self.put_named(Text::DistanceCell, route_distance(problem, route) as u128);
+        Ok(())
     }
 
     #[tactic(auto, unfolding(crate::specs::Table::load_text))]
-    fn put_load(&mut self, load: i64) -> Result<(), OutOfMemory>
-        ensures { OnOk result (self.new ≡ self.old ++ load_text load) }
+    fn put_load(&mut self, load: i64)
+        ensures { self.new ≡ self.old ++ load_text load }
     {
-        self.put(Text::LoadCell)?;
-        self.put_signed(load)
+        self.put(Text::LoadCell);
+        self.put_signed(load);
     }
 
     #[tactic(auto, unfolding(crate::specs::Table::row_end))]
-    fn put_row_end(&mut self, grid: Grid, index: usize) -> Result<(), OutOfMemory>
+    fn put_row_end(&mut self, grid: Grid, index: usize)
         requires { 0 < grid.rows }
-        ensures { OnOk result (self.new ≡ self.old ++ row_end grid index) }
+        ensures { self.new ≡ self.old ++ row_end grid index }
     {
-        self.put(Text::CellsEnd)?;
-        self.put_heading(grid, index)?;
-        self.put(Text::GroupEnd)
+        self.put(Text::CellsEnd);
+        self.put_heading(grid, index);
+        self.put(Text::GroupEnd);
     }
 
     // What the columns are, over the first row of each block.
-    fn put_heading(&mut self, grid: Grid, index: usize) -> Result<(), OutOfMemory>
+    fn put_heading(&mut self, grid: Grid, index: usize)
         requires { 0 < grid.rows }
-        ensures { OnOk result (self.new ≡ self.old ++ heading_text grid index) }
+        ensures { self.new ≡ self.old ++ heading_text grid index }
     {
         if index % grid.rows == 0 {
-            self.put(Text::Heading)
-        } else {
-            Ok(())
+            self.put(Text::Heading);
         }
     }
 }

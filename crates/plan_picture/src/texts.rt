@@ -3,7 +3,7 @@ ghost use Rattle.std.specs.Prelude.{◌≡◌};
 ghost use Rattle.plan_picture.specs.Texts.{fixed};
 
 /// A fixed text. Attributes stand in single quotes; a number or another text may follow.
-#[derive(Clone, Copy, Debug, PartialEq, Eq)]
+#[derive(Clone, Copy)]
 pub(crate) enum Text {
     Quote,
     X,

@@ -12,6 +12,6 @@ loop-n-preserved c =
     let rest = flat_map ticks (range_with_len (n + 1) (14 - (n + 1))) in
     let fewer : suc (14 - (n + 1)) ≡ 14 - n = omega (arith, c.loop-n-test.true) in
     let first = c.div_ceil.ensures ∙ ap (λ x. div_ceil x c.args.step) c.from.ensures in
-    let is = c.in_ok-put_tick.ensures ∙ ap (λ d. text ++ tick_text c.args.first c.args.last c.args.height (c.args.step * (d + n))) first in
+    let is = c.put_tick.ensures ∙ ap (λ d. text ++ tick_text c.args.first c.args.last c.args.height (c.args.step * (d + n))) first in
     ap (λ t. t ++ rest) is
     ∙ (append_assoc text (ticks n) rest ∙ (ap (λ m. text ++ flat_map ticks (range_with_len n m)) fewer ∙ c.loop-n.invariant))
