@@ -13,7 +13,7 @@ use plan_types::{OutOfMemory, Problem, Route};
 use std::alloc::Global;
 
 /// A place that breaks a rule; routes and places count from 1.
-#[derive(Clone, Copy, Debug, PartialEq, Eq)]
+#[derive(Clone, Copy)]
 pub(crate) struct Breach {
     pub route: u64,
     pub place: u64,

@@ -1,29 +1,29 @@
 //! Bytes of a text as a terminal gets them.
 //!
 //! What is cited keeps its tabs, since Li and Lim's files use them; other bytes that can't be printed are `?`.
-ghost use Rattle.std.specs.Prelude.{◌≡◌, ◌++◌, OnOk, map, string_bytes, take};
+ghost use Rattle.std.specs.Prelude.{◌≡◌, ◌<◌, ◌++◌, map, take};
 ghost use Rattle.text_lines.specs.Lines.{ended};
 ghost use Rattle.plan_explain.specs.Cited.{shown_byte, shown_bytes};
 
-use plan_types::OutOfMemory;
+use crate::told::Told;
 
 /// How many bytes of a line or of a word are shown.
 const SHOWN: usize = 200;
 
 /// Appends a line of its own with these bytes.
-pub(crate) fn put_line(text: &mut String, bytes: &[u8]) -> Result<(), OutOfMemory>
-    ensures { OnOk result (string_bytes text.new
-        ≡ string_bytes text.old ++ ended (shown_bytes bytes.now)) }
+pub(crate) fn put_line(text: &mut Told, bytes: &[u8])
+    ensures { text.new
+        ≡ text.old ++ ended (shown_bytes bytes.now) }
 {
-    put_shown(text, bytes)?;
-    text.push_str("\n")
+    put_shown(text, bytes);
+    text.push_str("\n");
 }
 
 /// Appends the bytes, as many of them as are shown.
-pub(crate) fn put_shown(text: &mut String, bytes: &[u8]) -> Result<(), OutOfMemory>
-    ensures { OnOk result (string_bytes text.new ≡ string_bytes text.old ++ shown_bytes bytes.now) }
+pub(crate) fn put_shown(text: &mut Told, bytes: &[u8])
+    ensures { text.new ≡ text.old ++ shown_bytes bytes.now }
 {
-    put_bytes(text, front(bytes))
+    put_bytes(text, front(bytes));
 }
 
 // As many bytes as are shown.
@@ -34,18 +34,18 @@ fn front(bytes: &[u8]) -> &[u8]
     &bytes[..SHOWN.min(bytes.len())]
 }
 
-fn put_bytes(text: &mut String, bytes: &[u8]) -> Result<(), OutOfMemory>
-    ensures { OnOk result (string_bytes text.new
-        ≡ string_bytes text.old ++ map shown_byte bytes.now) }
+fn put_bytes(text: &mut Told, bytes: &[u8])
+    ensures { text.new
+        ≡ text.old ++ map shown_byte bytes.now }
 {
     for byte in bytes {
-        text.push(char::from(shown_byte(*byte)))?;
+        text.push_ascii(shown_byte(*byte));
     }
-    Ok(())
 }
 
 fn shown_byte(byte: u8) -> u8
-    ensures { result ≡ shown_byte byte }
+    ensures shown { result ≡ shown_byte byte }
+    ensures ascii { result < 128 }
 {
     match byte {
         b' '..=b'~' | b'\t' => byte,

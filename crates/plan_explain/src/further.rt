@@ -1,5 +1,5 @@
 //! How often a rule is broken, and where else.
-ghost use Rattle.std.specs.Prelude.{◌≡◌, ◌<◌, ◌++◌, All, OnOk, drop, string_bytes, take};
+ghost use Rattle.std.specs.Prelude.{◌≡◌, ◌<◌, ◌++◌, All, OnOk, drop, take};
 ghost use Rattle.std.specs.List.{flat_map};
 ghost use Rattle.route_sched.specs.Route.{AreLiveOnce};
 ghost use Rattle.plan_explain.specs.Further.{further_text, missing_stop_text, missing_text, place_text, places_text};
@@ -7,6 +7,7 @@ ghost use Rattle.plan_explain.specs.Further.{further_text, missing_stop_text, mi
 use crate::breaches::{Breach, missing_stops, row_breaches, stop_breaches};
 use crate::phrases::Phrase;
 use crate::sentences::put_named;
+use crate::told::Told;
 use plan_types::{OutOfMemory, Problem, Route};
 use std::alloc::Global;
 
@@ -16,36 +17,34 @@ const TOLD: usize = 20;
 /// Appends how often a rule is broken, and the further places.
 pub(crate) fn put_further(
     alloc: Global,
-    text: &mut String,
+    text: &mut Told,
     problem: &Problem,
     routes: &[Route],
     rule: u32,
 ) -> Result<(), OutOfMemory>
     requires { 2 < rule → All (AreLiveOnce problem.now) routes.now }
-    ensures { OnOk result (string_bytes text.new
-        ≡ string_bytes text.old ++ further_text problem.now routes.now rule) }
+    ensures { OnOk result (text.new
+        ≡ text.old ++ further_text problem.now routes.now rule) }
 {
     if rule == 3 {
         let stops = missing_stops(alloc, problem, routes)?;
-        return put_missing_stops(text, stops.as_slice());
-    }
-    if rule < 6 {
+        put_missing_stops(text, stops.as_slice());
+    } else if rule < 6 {
         let found = stop_breaches(alloc, problem, routes, rule)?;
-        return put_places(text, found.as_slice());
-    }
-    if rule < 9 {
+        put_places(text, found.as_slice());
+    } else if rule < 9 {
         let found = row_breaches(alloc, problem, routes, rule)?;
-        return put_places(text, found.as_slice());
+        put_places(text, found.as_slice());
     }
     Ok(())
 }
 
-fn put_missing_stops(text: &mut String, stops: &[u32]) -> Result<(), OutOfMemory>
-    ensures { OnOk result (string_bytes text.new ≡ string_bytes text.old ++ missing_text stops.now) }
+fn put_missing_stops(text: &mut Told, stops: &[u32])
+    ensures { text.new ≡ text.old ++ missing_text stops.now }
 {
-    put_named(text, Phrase::Unserved, stops.len() as u64)?;
-    text.push_str("\n")?;
-    put_stop_lines(text, first_stops(stops))
+    put_named(text, Phrase::Unserved, stops.len() as u64);
+    text.push_str("\n");
+    put_stop_lines(text, first_stops(stops));
 }
 
 #[tactic(auto, using(std::proofs::lemmas::List::take_min))]
@@ -55,29 +54,28 @@ fn first_stops(stops: &[u32]) -> &[u32]
     &stops[..TOLD.min(stops.len())]
 }
 
-fn put_stop_lines(text: &mut String, stops: &[u32]) -> Result<(), OutOfMemory>
-    ensures { OnOk result (string_bytes text.new
-        ≡ string_bytes text.old ++ flat_map missing_stop_text stops.now) }
+fn put_stop_lines(text: &mut Told, stops: &[u32])
+    ensures { text.new
+        ≡ text.old ++ flat_map missing_stop_text stops.now }
 {
     for stop in stops {
-        put_stop_line(text, *stop)?;
+        put_stop_line(text, *stop);
     }
-    Ok(())
 }
 
-fn put_stop_line(text: &mut String, stop: u32) -> Result<(), OutOfMemory>
-    ensures { OnOk result (string_bytes text.new ≡ string_bytes text.old ++ missing_stop_text stop) }
+fn put_stop_line(text: &mut Told, stop: u32)
+    ensures { text.new ≡ text.old ++ missing_stop_text stop }
 {
-    put_named(text, Phrase::FurtherStop, u64::from(stop))?;
-    text.push_str("\n")
+    put_named(text, Phrase::FurtherStop, u64::from(stop));
+    text.push_str("\n");
 }
 
-fn put_places(text: &mut String, found: &[Breach]) -> Result<(), OutOfMemory>
-    ensures { OnOk result (string_bytes text.new ≡ string_bytes text.old ++ places_text found.now) }
+fn put_places(text: &mut Told, found: &[Breach])
+    ensures { text.new ≡ text.old ++ places_text found.now }
 {
-    put_named(text, Phrase::Broken, found.len() as u64)?;
-    text.push_str("\n")?;
-    put_place_lines(text, further(found))
+    put_named(text, Phrase::Broken, found.len() as u64);
+    text.push_str("\n");
+    put_place_lines(text, further(found));
 }
 
 // The places behind the first one, as many of them as are told.
@@ -91,21 +89,20 @@ fn further(found: &[Breach]) -> &[Breach]
     }
 }
 
-fn put_place_lines(text: &mut String, found: &[Breach]) -> Result<(), OutOfMemory>
-    ensures { OnOk result (string_bytes text.new
-        ≡ string_bytes text.old ++ flat_map place_text found.now) }
+fn put_place_lines(text: &mut Told, found: &[Breach])
+    ensures { text.new
+        ≡ text.old ++ flat_map place_text found.now }
 {
     for breach in found {
-        put_place_line(text, *breach)?;
+        put_place_line(text, *breach);
     }
-    Ok(())
 }
 
-fn put_place_line(text: &mut String, breach: Breach) -> Result<(), OutOfMemory>
-    ensures { OnOk result (string_bytes text.new ≡ string_bytes text.old ++ place_text breach) }
+fn put_place_line(text: &mut Told, breach: Breach)
+    ensures { text.new ≡ text.old ++ place_text breach }
 {
-    put_named(text, Phrase::Further, breach.route)?;
-    put_named(text, Phrase::Place, breach.place)?;
-    put_named(text, Phrase::StopAt, u64::from(breach.stop))?;
-    text.push_str("\n")
+    put_named(text, Phrase::Further, breach.route);
+    put_named(text, Phrase::Place, breach.place);
+    put_named(text, Phrase::StopAt, u64::from(breach.stop));
+    text.push_str("\n");
 }

@@ -8,7 +8,7 @@ use plan_types::limits::{
 };
 
 /// The kinds of lines of numbers.
-#[derive(Clone, Copy, Debug, PartialEq, Eq)]
+#[derive(Clone, Copy)]
 pub(crate) enum Layout {
     /// The first line of a Li-Lim text, and each other.
     Header,

@@ -3,7 +3,7 @@ ghost use Rattle.std.specs.Prelude.{◌≡◌};
 ghost use Rattle.plan_explain.specs.FieldNames.{name};
 
 /// A field of a line, a key of a `.vrp` text, or a value that a key has to have.
-#[derive(Clone, Copy, Debug, PartialEq, Eq)]
+#[derive(Clone, Copy)]
 pub(crate) enum Name {
     Fleet,
     Capacity,

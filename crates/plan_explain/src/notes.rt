@@ -1,5 +1,5 @@
 //! What is said of a refused text as a whole: that it begins with a byte order mark, or looks like the other kind.
-ghost use Rattle.std.specs.Prelude.{◌≡◌, ◌++◌, OnOk, string_bytes};
+ghost use Rattle.std.specs.Prelude.{◌≡◌, ◌++◌};
 ghost use Rattle.std.specs.List.{list_any};
 ghost use Rattle.text_lines.specs.Lines.{lines_of};
 ghost use Rattle.plan_explain.specs.Notes.{has_nine_numbers, is_vrp_line, kind_note, mark_note};
@@ -7,30 +7,27 @@ ghost use Rattle.plan_explain.specs.Notes.{has_nine_numbers, is_vrp_line, kind_n
 use crate::names::Name;
 use crate::phrases::Phrase;
 use crate::sentences::{put_mark, put_phrase};
+use crate::told::Told;
 use crate::told_lines::word_count;
 use crate::vrp_keys::is_key;
 use crate::words_told::no_number_place;
-use plan_types::{Kind, OutOfMemory};
+use plan_types::Kind;
 use text_lines::Lines;
 
 /// Appends that a text begins with a byte order mark, if it does.
-pub(crate) fn put_mark_note(text: &mut String, refused: &[u8]) -> Result<(), OutOfMemory>
-    ensures { OnOk result (string_bytes text.new ≡ string_bytes text.old ++ mark_note refused.now) }
+pub(crate) fn put_mark_note(text: &mut Told, refused: &[u8])
+    ensures { text.new ≡ text.old ++ mark_note refused.now }
 {
     match refused {
         [0xef, 0xbb, 0xbf, ..] => put_phrase(text, Phrase::ByteOrderMark),
-        _ => Ok(()),
+        _ => {}
     }
 }
 
 /// Appends that an instance that is read as this kind looks like the other one, if it does.
-pub(crate) fn put_kind_note(
-    text: &mut String,
-    kind: Kind,
-    instance: &[u8],
-) -> Result<(), OutOfMemory>
-    ensures { OnOk result (string_bytes text.new
-        ≡ string_bytes text.old ++ kind_note kind instance.now) }
+pub(crate) fn put_kind_note(text: &mut Told, kind: Kind, instance: &[u8])
+    ensures { text.new
+        ≡ text.old ++ kind_note kind instance.now }
 {
     match kind {
         Kind::LiLim => put_mark(text, looks_vrp(instance), Phrase::LooksVrp),

@@ -1,5 +1,5 @@
 //! Why a task of a Li-Lim text is no half of a pair.
-ghost use Rattle.std.specs.Prelude.{◌≡◌, ◌++◌, OnOk, decimal, string_bytes};
+ghost use Rattle.std.specs.Prelude.{◌≡◌, ◌++◌, decimal};
 ghost use Rattle.std.specs.List.{position_from};
 ghost use Rattle.text_lines.specs.Lines.{lines_of};
 ghost use Rattle.text_lines.specs.Words.{words_of};
@@ -8,21 +8,21 @@ ghost use Rattle.plan_explain.specs.PairFaults.{back_phrase, demands_text, found
 use crate::numbers::{is_beyond, small_of};
 use crate::phrases::Phrase;
 use crate::sentences::{put_named, put_phrase};
+use crate::told::Told;
 use crate::told_lines::{told_line, word_at, word_count};
 use crate::words_told::put_cited;
-use plan_types::OutOfMemory;
 use plan_types::limits::MAX_DEMAND;
 use text_lines::Lines;
 
 /// What a task that names another one takes that for.
-#[derive(Clone, Copy, Debug, PartialEq, Eq)]
+#[derive(Clone, Copy, PartialEq, Eq)]
 pub(crate) enum Role {
     Pickup,
     Delivery,
 }
 
 /// The numbers of a task by which it is half of a pair.
-#[derive(Clone, Copy, Debug, PartialEq, Eq)]
+#[derive(Clone, Copy)]
 pub(crate) struct Half {
     pub number: u16,
     pub pickup: u16,
@@ -30,13 +30,9 @@ pub(crate) struct Half {
 }
 
 /// Appends why the task of this line is no half of a pair, and where the task is that it names.
-pub(crate) fn put_pair_fault(
-    text: &mut String,
-    instance: &[u8],
-    line: &[u8],
-) -> Result<(), OutOfMemory>
-    ensures { OnOk result (string_bytes text.new
-        ≡ string_bytes text.old ++ pair_fault_text instance.now (words_of line.now)) }
+pub(crate) fn put_pair_fault(text: &mut Told, instance: &[u8], line: &[u8])
+    ensures { text.new
+        ≡ text.old ++ pair_fault_text instance.now (words_of line.now) }
 {
     let Half {
         pickup,
@@ -62,18 +58,12 @@ fn half_of(line: &[u8]) -> Half
 }
 
 // The task that is named: its number, its line, and what is wrong with it.
-fn put_partner(
-    text: &mut String,
-    instance: &[u8],
-    line: &[u8],
-    role: Role,
-    number: u16,
-) -> Result<(), OutOfMemory>
-    ensures { OnOk result (string_bytes text.new
-        ≡ string_bytes text.old ++ partner_text instance.now (words_of line.now) role number) }
+fn put_partner(text: &mut Told, instance: &[u8], line: &[u8], role: Role, number: u16)
+    ensures { text.new
+        ≡ text.old ++ partner_text instance.now (words_of line.now) role number }
 {
-    put_named(text, role_phrase(role), u64::from(number))?;
-    put_found(text, instance, line, role, line_of_task(instance, number))
+    put_named(text, role_phrase(role), u64::from(number));
+    put_found(text, instance, line, role, line_of_task(instance, number));
 }
 
 fn role_phrase(role: Role) -> Phrase
@@ -106,34 +96,30 @@ fn is_task_line(number: u16, line: &[u8]) -> bool
 }
 
 // Where the task that is named stands, and what is wrong with it.
-fn put_found(
-    text: &mut String,
-    instance: &[u8],
-    line: &[u8],
-    role: Role,
-    found: Option<u64>,
-) -> Result<(), OutOfMemory>
-    ensures { OnOk result (string_bytes text.new
-        ≡ string_bytes text.old ++ found_text instance.now (words_of line.now) role found) }
+fn put_found(text: &mut Told, instance: &[u8], line: &[u8], role: Role, found: Option<u64>)
+    ensures { text.new
+        ≡ text.old ++ found_text instance.now (words_of line.now) role found }
 {
     let Some(number) = found else {
-        return put_phrase(text, Phrase::NotThere);
+        put_phrase(text, Phrase::NotThere);
+        return;
     };
-    put_named(text, Phrase::OnLine, number)?;
-    put_mismatch(text, role, line, told_line(instance, number))
+    put_named(text, Phrase::OnLine, number);
+    put_mismatch(text, role, line, told_line(instance, number));
 }
 
 // What is wrong between the task of a line and the other one that it names.
-fn put_mismatch(text: &mut String, role: Role, line: &[u8], other: &[u8]) -> Result<(), OutOfMemory>
-    ensures { OnOk result (string_bytes text.new
-        ≡ string_bytes text.old ++ mismatch_text role (words_of line.now) (words_of other.now)) }
+fn put_mismatch(text: &mut Told, role: Role, line: &[u8], other: &[u8])
+    ensures { text.new
+        ≡ text.old ++ mismatch_text role (words_of line.now) (words_of other.now) }
 {
     let back = names_back(role, other);
     if back == half_of(line).number {
-        return put_demands(text, role, line, other);
+        put_demands(text, role, line, other);
+        return;
     }
-    put_named(text, Phrase::Has, u64::from(back))?;
-    put_phrase(text, back_phrase(role))
+    put_named(text, Phrase::Has, u64::from(back));
+    put_phrase(text, back_phrase(role));
 }
 
 // The task that the one of a line has in its other field.
@@ -161,20 +147,20 @@ fn back_phrase(role: Role) -> Phrase
 }
 
 // The demands of two tasks that name each other.
-fn put_demands(text: &mut String, role: Role, line: &[u8], other: &[u8]) -> Result<(), OutOfMemory>
-    ensures { OnOk result (string_bytes text.new
-        ≡ string_bytes text.old ++ demands_text role (words_of line.now) (words_of other.now)) }
+fn put_demands(text: &mut Told, role: Role, line: &[u8], other: &[u8])
+    ensures { text.new
+        ≡ text.old ++ demands_text role (words_of line.now) (words_of other.now) }
 {
     let demand = word_at(line, 3);
-    put_cited(text, Phrase::HasDemand, word_at(other, 3))?;
-    put_cited(text, Phrase::ThisOne, demand)?;
-    put_negative(text, role, demand)
+    put_cited(text, Phrase::HasDemand, word_at(other, 3));
+    put_cited(text, Phrase::ThisOne, demand);
+    put_negative(text, role, demand);
 }
 
 // A pickup's demand that is below 0 is wrong whatever the other one is, and else their sum is.
-fn put_negative(text: &mut String, role: Role, demand: &[u8]) -> Result<(), OutOfMemory>
-    ensures { OnOk result (string_bytes text.new
-        ≡ string_bytes text.old ++ negative_text role demand.now) }
+fn put_negative(text: &mut Told, role: Role, demand: &[u8])
+    ensures { text.new
+        ≡ text.old ++ negative_text role demand.now }
 {
     if role == Role::Delivery && is_beyond(demand, 0, MAX_DEMAND) {
         put_phrase(text, Phrase::NegativePickup)

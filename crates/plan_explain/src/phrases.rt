@@ -3,7 +3,7 @@ ghost use Rattle.std.specs.Prelude.{◌≡◌};
 ghost use Rattle.plan_explain.specs.Phrases.{phrase};
 
 /// Words of a sentence, or the heading of a table.
-#[derive(Clone, Copy, Debug, PartialEq, Eq)]
+#[derive(Clone, Copy)]
 pub(crate) enum Phrase {
     UnknownStop,
     NumbersBelow,

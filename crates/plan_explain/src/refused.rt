@@ -1,6 +1,6 @@
 //! What is said of a text that is refused: the sentence of its fault, under it the line that the fault names, and what is said of the
 //! text as a whole.
-ghost use Rattle.std.specs.Prelude.{◌≡◌, ◌++◌, IfOk, OnOk, string_bytes};
+ghost use Rattle.std.specs.Prelude.{◌≡◌, ◌++◌, IfOk, string_bytes};
 ghost use Rattle.plan_explain.specs.Refused.{instance_detail, instance_fault_text, instance_reason, instance_sentence, solution_fault_text, solution_reason, solution_sentence, too_many, under_sentence};
 
 use crate::cited::put_line;
@@ -9,6 +9,7 @@ use crate::notes::{put_kind_note, put_mark_note};
 use crate::phrases::Phrase;
 use crate::sentences::{put_named, put_phrase};
 use crate::sol_faults::put_sol_detail;
+use crate::told::Told;
 use crate::told_lines::line_at;
 use crate::vrp_faults::put_vrp_detail;
 use instance_read::{ReadFault, ReadFaultKind};
@@ -28,12 +29,12 @@ pub fn explain_instance_fault(
     ensures { IfOk result (λ answer. string_bytes answer
         ≡ instance_fault_text kind text.now fault) }
 {
-    let mut answer = String::new(alloc);
-    put_instance_sentence(&mut answer, kind, text, fault)?;
-    put_line_under(&mut answer, text, fault.line)?;
-    put_mark_note(&mut answer, text)?;
-    put_kind_note(&mut answer, kind, text)?;
-    Ok(answer)
+    let mut answer = Told::new(alloc);
+    put_instance_sentence(&mut answer, kind, text, fault);
+    put_line_under(&mut answer, text, fault.line);
+    put_mark_note(&mut answer, text);
+    put_kind_note(&mut answer, kind, text);
+    answer.into_string()
 }
 
 /// The same of a fault of a solution's text.
@@ -44,37 +45,27 @@ pub fn explain_solution_fault(
 ) -> Result<String, OutOfMemory>
     ensures { IfOk result (λ answer. string_bytes answer ≡ solution_fault_text text.now fault) }
 {
-    let mut answer = String::new(alloc);
-    put_solution_sentence(&mut answer, text, fault)?;
-    put_line_under(&mut answer, text, fault.line)?;
-    put_mark_note(&mut answer, text)?;
-    Ok(answer)
+    let mut answer = Told::new(alloc);
+    put_solution_sentence(&mut answer, text, fault);
+    put_line_under(&mut answer, text, fault.line);
+    put_mark_note(&mut answer, text);
+    answer.into_string()
 }
 
-fn put_instance_sentence(
-    answer: &mut String,
-    kind: Kind,
-    text: &[u8],
-    fault: ReadFault,
-) -> Result<(), OutOfMemory>
-    ensures { OnOk result (string_bytes answer.new
-        ≡ string_bytes answer.old ++ instance_sentence kind text.now fault) }
+fn put_instance_sentence(answer: &mut Told, kind: Kind, text: &[u8], fault: ReadFault)
+    ensures { answer.new
+        ≡ answer.old ++ instance_sentence kind text.now fault }
 {
-    put_named(answer, Phrase::Line, fault.line)?;
-    put_phrase(answer, Phrase::Colon)?;
-    put_phrase(answer, instance_reason(kind, fault.kind))?;
-    put_instance_detail(answer, kind, text, fault)
+    put_named(answer, Phrase::Line, fault.line);
+    put_phrase(answer, Phrase::Colon);
+    put_phrase(answer, instance_reason(kind, fault.kind));
+    put_instance_detail(answer, kind, text, fault);
 }
 
 // What the line that the fault names has of it.
-fn put_instance_detail(
-    answer: &mut String,
-    kind: Kind,
-    text: &[u8],
-    fault: ReadFault,
-) -> Result<(), OutOfMemory>
-    ensures { OnOk result (string_bytes answer.new
-        ≡ string_bytes answer.old ++ instance_detail kind text.now fault) }
+fn put_instance_detail(answer: &mut Told, kind: Kind, text: &[u8], fault: ReadFault)
+    ensures { answer.new
+        ≡ answer.old ++ instance_detail kind text.now fault }
 {
     match kind {
         Kind::LiLim => put_lilim_detail(answer, text, fault),
@@ -111,18 +102,14 @@ fn too_many(kind: Kind) -> Phrase
     }
 }
 
-fn put_solution_sentence(
-    answer: &mut String,
-    text: &[u8],
-    fault: SolFault,
-) -> Result<(), OutOfMemory>
-    ensures { OnOk result (string_bytes answer.new
-        ≡ string_bytes answer.old ++ solution_sentence text.now fault) }
+fn put_solution_sentence(answer: &mut Told, text: &[u8], fault: SolFault)
+    ensures { answer.new
+        ≡ answer.old ++ solution_sentence text.now fault }
 {
-    put_named(answer, Phrase::Line, fault.line)?;
-    put_phrase(answer, Phrase::Colon)?;
-    put_phrase(answer, solution_reason(fault.kind))?;
-    put_sol_detail(answer, text, fault)
+    put_named(answer, Phrase::Line, fault.line);
+    put_phrase(answer, Phrase::Colon);
+    put_phrase(answer, solution_reason(fault.kind));
+    put_sol_detail(answer, text, fault);
 }
 
 fn solution_reason(fault: SolFaultKind) -> Phrase
@@ -137,13 +124,12 @@ fn solution_reason(fault: SolFaultKind) -> Phrase
 }
 
 // The end of the sentence's line, and the line with this number, if the text has it.
-fn put_line_under(answer: &mut String, text: &[u8], number: u64) -> Result<(), OutOfMemory>
-    ensures { OnOk result (string_bytes answer.new
-        ≡ string_bytes answer.old ++ under_sentence text.now number) }
+fn put_line_under(answer: &mut Told, text: &[u8], number: u64)
+    ensures { answer.new
+        ≡ answer.old ++ under_sentence text.now number }
 {
-    answer.push_str("\n")?;
+    answer.push_str("\n");
     if let Some(bytes) = line_at(text, number) {
-        put_line(answer, bytes)?;
+        put_line(answer, bytes);
     }
-    Ok(())
 }

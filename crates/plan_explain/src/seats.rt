@@ -6,7 +6,7 @@ ghost use Rattle.plan_explain.specs.Sentences.{first_seat};
 use plan_types::Route;
 
 /// A place of a solution; routes and places count from 1.
-#[derive(Clone, Copy, Debug, PartialEq, Eq)]
+#[derive(Clone, Copy)]
 pub(crate) struct Seat {
     pub route: u64,
     pub place: u64,

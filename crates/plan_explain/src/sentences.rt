@@ -1,5 +1,5 @@
 //! The sentence on a broken rule.
-ghost use Rattle.std.specs.Prelude.{◌≡◌, ◌++◌, All, OnOk, decimal, string_bytes};
+ghost use Rattle.std.specs.Prelude.{◌≡◌, ◌++◌, All, decimal};
 ghost use Rattle.std.specs.Fmt.{signed_decimal};
 ghost use Rattle.std.specs.Option.{option_copied};
 ghost use Rattle.route_sched.specs.Route.{AreLiveOnce};
@@ -11,254 +11,206 @@ use crate::phrases::Phrase;
 use crate::rows::{Row, visit_behind};
 use crate::seats::{Seat, first_seat};
 use crate::summaries::total_distance;
-use plan_types::{OutOfMemory, Problem, Route, Stop};
+use crate::told::Told;
+use plan_types::{Problem, Route, Stop};
 use sol_text::Solution;
 
 /// Appends words, and the number behind them.
-pub(crate) fn put_named(text: &mut String, words: Phrase, n: u64) -> Result<(), OutOfMemory>
-    ensures { OnOk result (string_bytes text.new
-        ≡ string_bytes text.old ++ (phrase words ++ decimal n)) }
+pub(crate) fn put_named(text: &mut Told, words: Phrase, n: u64)
+    ensures { text.new
+        ≡ text.old ++ (phrase words ++ decimal n) }
 {
-    put_phrase(text, words)?;
-    write!(text, "{n}")
+    put_phrase(text, words);
+    text.push_number(u128::from(n));
 }
 
 /// Appends words.
-pub(crate) fn put_phrase(text: &mut String, words: Phrase) -> Result<(), OutOfMemory>
-    ensures { OnOk result (string_bytes text.new ≡ string_bytes text.old ++ phrase words) }
+pub(crate) fn put_phrase(text: &mut Told, words: Phrase)
+    ensures { text.new ≡ text.old ++ phrase words }
 {
-    text.push_str(words.text())
+    text.push_str(words.text());
 }
 
 /// Appends words, if so.
-pub(crate) fn put_mark(text: &mut String, holds: bool, words: Phrase) -> Result<(), OutOfMemory>
-    ensures { OnOk result (string_bytes text.new ≡ string_bytes text.old ++ text_if holds words) }
+pub(crate) fn put_mark(text: &mut Told, holds: bool, words: Phrase)
+    ensures { text.new ≡ text.old ++ text_if holds words }
 {
     if holds {
         put_phrase(text, words)
-    } else {
-        Ok(())
     }
 }
 
 /// Appends that a stop is of no request.
-pub(crate) fn put_unknown(
-    text: &mut String,
-    problem: &Problem,
-    stop: u32,
-) -> Result<(), OutOfMemory>
-    ensures { OnOk result (string_bytes text.new
-        ≡ string_bytes text.old ++ unknown_sentence problem.now stop) }
+pub(crate) fn put_unknown(text: &mut Told, problem: &Problem, stop: u32)
+    ensures { text.new
+        ≡ text.old ++ unknown_sentence problem.now stop }
 {
-    put_named(text, Phrase::UnknownStop, u64::from(stop))?;
+    put_named(text, Phrase::UnknownStop, u64::from(stop));
     let next = u64::from(problem.next_number);
-    put_named(text, Phrase::NumbersBelow, next)
+    put_named(text, Phrase::NumbersBelow, next);
 }
 
 /// Appends where a stop that stands twice stands first.
-pub(crate) fn put_twice(text: &mut String, routes: &[Route], stop: u32) -> Result<(), OutOfMemory>
-    ensures { OnOk result (string_bytes text.new
-        ≡ string_bytes text.old ++ twice_sentence routes.now stop) }
+pub(crate) fn put_twice(text: &mut Told, routes: &[Route], stop: u32)
+    ensures { text.new
+        ≡ text.old ++ twice_sentence routes.now stop }
 {
-    put_phrase(text, Phrase::VisitedTwice)?;
-    put_stands(text, routes, stop)?;
-    put_phrase(text, Phrase::First)
+    put_phrase(text, Phrase::VisitedTwice);
+    put_stands(text, routes, stop);
+    put_phrase(text, Phrase::First);
 }
 
 /// Appends that a stop stands nowhere, and where the other one of its pair stands.
-pub(crate) fn put_missing(
-    text: &mut String,
-    problem: &Problem,
-    routes: &[Route],
-    stop: u32,
-) -> Result<(), OutOfMemory>
-    ensures { OnOk result (string_bytes text.new
-        ≡ string_bytes text.old ++ missing_sentence problem.now routes.now stop) }
+pub(crate) fn put_missing(text: &mut Told, problem: &Problem, routes: &[Route], stop: u32)
+    ensures { text.new
+        ≡ text.old ++ missing_sentence problem.now routes.now stop }
 {
-    put_phrase(text, Phrase::MissingStop)?;
-    put_pair(text, problem, routes, stop)
+    put_phrase(text, Phrase::MissingStop);
+    put_pair(text, problem, routes, stop);
 }
 
 /// Appends where the stops of a split pair stand.
-pub(crate) fn put_split(
-    text: &mut String,
-    problem: &Problem,
-    routes: &[Route],
-    stop: u32,
-) -> Result<(), OutOfMemory>
-    ensures { OnOk result (string_bytes text.new
-        ≡ string_bytes text.old ++ split_sentence problem.now routes.now stop) }
+pub(crate) fn put_split(text: &mut Told, problem: &Problem, routes: &[Route], stop: u32)
+    ensures { text.new
+        ≡ text.old ++ split_sentence problem.now routes.now stop }
 {
-    put_phrase(text, Phrase::SplitPair)?;
-    put_pair(text, problem, routes, stop)
+    put_phrase(text, Phrase::SplitPair);
+    put_pair(text, problem, routes, stop);
 }
 
 /// Appends where a delivery stands, and where its pickup does.
-pub(crate) fn put_early(
-    text: &mut String,
-    problem: &Problem,
-    routes: &[Route],
-    stop: u32,
-) -> Result<(), OutOfMemory>
-    ensures { OnOk result (string_bytes text.new
-        ≡ string_bytes text.old ++ early_sentence problem.now routes.now stop) }
+pub(crate) fn put_early(text: &mut Told, problem: &Problem, routes: &[Route], stop: u32)
+    ensures { text.new
+        ≡ text.old ++ early_sentence problem.now routes.now stop }
 {
-    put_phrase(text, Phrase::EarlyDelivery)?;
-    put_stands(text, routes, stop)?;
-    put_beside(text, routes, Phrase::ItsPickup, problem.pickup_of(stop))
+    put_phrase(text, Phrase::EarlyDelivery);
+    put_stands(text, routes, stop);
+    put_beside(text, routes, Phrase::ItsPickup, problem.pickup_of(stop));
 }
 
-fn put_pair(
-    text: &mut String,
-    problem: &Problem,
-    routes: &[Route],
-    stop: u32,
-) -> Result<(), OutOfMemory>
-    ensures { OnOk result (string_bytes text.new
-        ≡ string_bytes text.old ++ pair_text problem.now routes.now stop) }
+fn put_pair(text: &mut Told, problem: &Problem, routes: &[Route], stop: u32)
+    ensures { text.new
+        ≡ text.old ++ pair_text problem.now routes.now stop }
 {
-    put_stands(text, routes, stop)?;
-    put_beside(text, routes, Phrase::OtherStop, problem.partner_of(stop))
+    put_stands(text, routes, stop);
+    put_beside(text, routes, Phrase::OtherStop, problem.partner_of(stop));
 }
 
-fn put_stands(text: &mut String, routes: &[Route], stop: u32) -> Result<(), OutOfMemory>
-    ensures { OnOk result (string_bytes text.new
-        ≡ string_bytes text.old ++ stands_text routes.now stop) }
+fn put_stands(text: &mut Told, routes: &[Route], stop: u32)
+    ensures { text.new
+        ≡ text.old ++ stands_text routes.now stop }
 {
-    put_named(text, Phrase::Stop, u64::from(stop))?;
-    put_phrase(text, Phrase::Stands)?;
-    put_seat(text, first_seat(routes, stop))
+    put_named(text, Phrase::Stop, u64::from(stop));
+    put_phrase(text, Phrase::Stands);
+    put_seat(text, first_seat(routes, stop));
 }
 
 // Where another stop stands, if there is one.
-fn put_beside(
-    text: &mut String,
-    routes: &[Route],
-    words: Phrase,
-    stop: Option<u32>,
-) -> Result<(), OutOfMemory>
-    ensures { OnOk result (string_bytes text.new
-        ≡ string_bytes text.old ++ beside_text routes.now words stop) }
+fn put_beside(text: &mut Told, routes: &[Route], words: Phrase, stop: Option<u32>)
+    ensures { text.new
+        ≡ text.old ++ beside_text routes.now words stop }
 {
     let Some(stop) = stop else {
-        return Ok(());
+        return;
     };
-    put_named(text, words, u64::from(stop))?;
-    put_phrase(text, Phrase::There)?;
-    put_seat(text, first_seat(routes, stop))
+    put_named(text, words, u64::from(stop));
+    put_phrase(text, Phrase::There);
+    put_seat(text, first_seat(routes, stop));
 }
 
-fn put_seat(text: &mut String, seat: Option<Seat>) -> Result<(), OutOfMemory>
-    ensures { OnOk result (string_bytes text.new ≡ string_bytes text.old ++ seat_text seat) }
+fn put_seat(text: &mut Told, seat: Option<Seat>)
+    ensures { text.new ≡ text.old ++ seat_text seat }
 {
     match seat {
         None => put_phrase(text, Phrase::Nowhere),
         Some(seat) => {
-            put_named(text, Phrase::AtPlace, seat.place)?;
+            put_named(text, Phrase::AtPlace, seat.place);
             put_named(text, Phrase::OfRoute, seat.route)
         }
     }
 }
 
 /// Appends the load after the place of this row, and the capacity.
-pub(crate) fn put_overload(
-    text: &mut String,
-    problem: &Problem,
-    row: Option<Row>,
-) -> Result<(), OutOfMemory>
-    ensures { OnOk result (string_bytes text.new
-        ≡ string_bytes text.old ++ load_sentence problem.now row) }
+pub(crate) fn put_overload(text: &mut Told, problem: &Problem, row: Option<Row>)
+    ensures { text.new
+        ≡ text.old ++ load_sentence problem.now row }
 {
     let Some(row) = row else {
-        return Ok(());
+        return;
     };
-    put_stop(text, problem, Phrase::Overload, row.stop)?;
-    put_signed(text, Phrase::LoadIs, row.load)?;
-    put_named(text, Phrase::Capacity, u64::from(problem.capacity))
+    put_stop(text, problem, Phrase::Overload, row.stop);
+    put_signed(text, Phrase::LoadIs, row.load);
+    put_named(text, Phrase::Capacity, u64::from(problem.capacity));
 }
 
 // Words, and the number behind them.
-fn put_signed(text: &mut String, words: Phrase, n: i64) -> Result<(), OutOfMemory>
-    ensures { OnOk result (string_bytes text.new
-        ≡ string_bytes text.old ++ (phrase words ++ signed_decimal n)) }
+fn put_signed(text: &mut Told, words: Phrase, n: i64)
+    ensures { text.new
+        ≡ text.old ++ (phrase words ++ signed_decimal n) }
 {
-    put_phrase(text, words)?;
-    write!(text, "{n}")
+    put_phrase(text, words);
+    text.push_signed(n);
 }
 
 // Words, and behind them a stop with its demand.
-fn put_stop(
-    text: &mut String,
-    problem: &Problem,
-    words: Phrase,
-    stop: u32,
-) -> Result<(), OutOfMemory>
-    ensures { OnOk result (string_bytes text.new
-        ≡ string_bytes text.old ++ stop_text problem.now words stop) }
+fn put_stop(text: &mut Told, problem: &Problem, words: Phrase, stop: u32)
+    ensures { text.new
+        ≡ text.old ++ stop_text problem.now words stop }
 {
-    put_named(text, words, u64::from(stop))?;
-    put_demand(text, problem.stop(stop))
+    put_named(text, words, u64::from(stop));
+    put_demand(text, problem.stop(stop));
 }
 
-fn put_demand(text: &mut String, stop: Option<&Stop>) -> Result<(), OutOfMemory>
-    ensures { OnOk result (string_bytes text.new
-        ≡ string_bytes text.old ++ demand_text (option_copied stop.entry)) }
+fn put_demand(text: &mut Told, stop: Option<&Stop>)
+    ensures { text.new
+        ≡ text.old ++ demand_text (option_copied stop.entry) }
 {
     let Some(stop) = stop else {
-        return Ok(());
+        return;
     };
-    put_phrase(text, Phrase::DemandIs)?;
-    put_demand_of(text, stop)
+    put_phrase(text, Phrase::DemandIs);
+    put_demand_of(text, stop);
 }
 
-fn put_demand_of(text: &mut String, stop: &Stop) -> Result<(), OutOfMemory>
-    ensures { OnOk result (string_bytes text.new
-        ≡ string_bytes text.old ++ signed_decimal stop.now.demand) }
+fn put_demand_of(text: &mut Told, stop: &Stop)
+    ensures { text.new
+        ≡ text.old ++ signed_decimal stop.now.demand }
 {
-    let demand = stop.demand;
-    write!(text, "{demand}")
+    text.push_signed(i64::from(stop.demand));
 }
 
 /// Appends the start of service at the place of this row, and the latest there.
-pub(crate) fn put_late(
-    text: &mut String,
-    problem: &Problem,
-    row: Option<Row>,
-) -> Result<(), OutOfMemory>
-    ensures { OnOk result (string_bytes text.new
-        ≡ string_bytes text.old ++ late_sentence problem.now row) }
+pub(crate) fn put_late(text: &mut Told, problem: &Problem, row: Option<Row>)
+    ensures { text.new
+        ≡ text.old ++ late_sentence problem.now row }
 {
     let Some(row) = row else {
-        return Ok(());
+        return;
     };
-    put_stop(text, problem, Phrase::LateService, row.stop)?;
-    put_phrase(text, Phrase::StartsAt)?;
-    put_lateness(text, row.start, row.latest)
+    put_stop(text, problem, Phrase::LateService, row.stop);
+    put_phrase(text, Phrase::StartsAt);
+    put_lateness(text, row.start, row.latest);
 }
 
 /// Appends when the vehicle is back, and the depot's latest.
 #[tactic(auto, unfolding(crate::specs::Sentences::return_sentence))]
-pub(crate) fn put_late_return(
-    text: &mut String,
-    problem: &Problem,
-    route: &[u32],
-) -> Result<(), OutOfMemory>
+pub(crate) fn put_late_return(text: &mut Told, problem: &Problem, route: &[u32])
     requires { AreLiveOnce problem.now route.now }
-    ensures { OnOk result (string_bytes text.new
-        ≡ string_bytes text.old ++ return_sentence problem.now route.now) }
+    ensures { text.new
+        ≡ text.old ++ return_sentence problem.now route.now }
 {
     let back = visit_behind(problem, route, route.len()).start;
-    put_return(text, problem, last_stop(route), back)
+    put_return(text, problem, last_stop(route), back);
 }
 
 // The last stop, and when the vehicle is back behind it.
-fn put_return(text: &mut String, problem: &Problem, stop: u32, back: u64) -> Result<(), OutOfMemory>
-    ensures { OnOk result (string_bytes text.new
-        ≡ string_bytes text.old ++ return_text problem.now stop back) }
+fn put_return(text: &mut Told, problem: &Problem, stop: u32, back: u64)
+    ensures { text.new
+        ≡ text.old ++ return_text problem.now stop back }
 {
-    put_stop(text, problem, Phrase::LateReturn, stop)?;
-    put_phrase(text, Phrase::BackAt)?;
-    put_lateness(text, back, problem.depot.latest)
+    put_stop(text, problem, Phrase::LateReturn, stop);
+    put_phrase(text, Phrase::BackAt);
+    put_lateness(text, back, problem.depot.latest);
 }
 
 // The last stop of a route; 0 where it has none.
@@ -272,43 +224,35 @@ fn last_stop(route: &[u32]) -> u32
     last
 }
 
-fn put_lateness(text: &mut String, start: u64, latest: u32) -> Result<(), OutOfMemory>
-    ensures { OnOk result (string_bytes text.new
-        ≡ string_bytes text.old ++ late_text start latest) }
+fn put_lateness(text: &mut Told, start: u64, latest: u32)
+    ensures { text.new
+        ≡ text.old ++ late_text start latest }
 {
     let latest = u64::from(latest);
-    write!(text, "{start}")?;
-    put_named(text, Phrase::Latest, latest)?;
-    put_named(text, Phrase::LateBy, start.saturating_sub(latest))
+    text.push_number(u128::from(start));
+    put_named(text, Phrase::Latest, latest);
+    put_named(text, Phrase::LateBy, start.saturating_sub(latest));
 }
 
 /// Appends how many vehicles are used, and how many there are.
-pub(crate) fn put_fleet(
-    text: &mut String,
-    problem: &Problem,
-    routes: &[Route],
-) -> Result<(), OutOfMemory>
-    ensures { OnOk result (string_bytes text.new
-        ≡ string_bytes text.old ++ fleet_sentence problem.now routes.now) }
+pub(crate) fn put_fleet(text: &mut Told, problem: &Problem, routes: &[Route])
+    ensures { text.new
+        ≡ text.old ++ fleet_sentence problem.now routes.now }
 {
-    put_named(text, Phrase::TooManyVehicles, used_count(routes))?;
-    put_named(text, Phrase::Fleet, u64::from(problem.fleet))
+    put_named(text, Phrase::TooManyVehicles, used_count(routes));
+    put_named(text, Phrase::Fleet, u64::from(problem.fleet));
 }
 
 /// Appends the printed cost, and the distance driven.
-pub(crate) fn put_cost(
-    text: &mut String,
-    problem: &Problem,
-    solution: &Solution,
-) -> Result<(), OutOfMemory>
+pub(crate) fn put_cost(text: &mut Told, problem: &Problem, solution: &Solution)
     requires { All (AreLiveOnce problem.now) solution.now.routes }
-    ensures { OnOk result (string_bytes text.new
-        ≡ string_bytes text.old ++ cost_sentence problem.now solution.now) }
+    ensures { text.new
+        ≡ text.old ++ cost_sentence problem.now solution.now }
 {
     let distance = total_distance(problem, solution.routes.as_slice());
-    put_named(text, Phrase::WrongCost, solution.cost)?;
-    put_phrase(text, Phrase::Driven)?;
-    write!(text, "{distance}")
+    put_named(text, Phrase::WrongCost, solution.cost);
+    put_phrase(text, Phrase::Driven);
+    text.push_number(distance);
 }
 
 fn used_count(routes: &[Route]) -> u64

@@ -1,5 +1,5 @@
 //! What is said of a fault of a solution's text behind its kind.
-ghost use Rattle.std.specs.Prelude.{◌≡◌, ◌++◌, OnOk, map, string_bytes};
+ghost use Rattle.std.specs.Prelude.{◌≡◌, ◌++◌, map};
 ghost use Rattle.std.specs.Char.{to_ascii_lowercase};
 ghost use Rattle.std.specs.List.{position_from};
 ghost use Rattle.std.specs.Option.{option_copied};
@@ -11,45 +11,41 @@ ghost use Rattle.plan_explain.specs.SolFaults.{bad_cost_text, bad_customer_text,
 use crate::numbers::is_no_customer;
 use crate::phrases::Phrase;
 use crate::sentences::{put_named, put_phrase};
+use crate::told::Told;
 use crate::told_lines::{told_line, word_at, word_count};
 use crate::vrp_keys::value_of;
 use crate::words_told::{put_cited, put_fraction};
-use plan_types::OutOfMemory;
 use sol_text::{SolFault, SolFaultKind};
 use text_lines::{Words, trim_blanks_start};
 
 /// Appends what the line that the fault names has of it.
-pub(crate) fn put_sol_detail(
-    text: &mut String,
-    solution: &[u8],
-    fault: SolFault,
-) -> Result<(), OutOfMemory>
-    ensures { OnOk result (string_bytes text.new
-        ≡ string_bytes text.old ++ sol_detail solution.now fault.line fault.kind) }
+pub(crate) fn put_sol_detail(text: &mut Told, solution: &[u8], fault: SolFault)
+    ensures { text.new
+        ≡ text.old ++ sol_detail solution.now fault.line fault.kind }
 {
     let line = told_line(solution, fault.line);
     match fault.kind {
         SolFaultKind::BadLine => put_bad_line(text, line),
         SolFaultKind::BadNumber => put_wrong_number(text, line),
-        _ => Ok(()),
+        _ => {}
     }
 }
 
 // How many words a cost line has.
-fn put_bad_line(text: &mut String, line: &[u8]) -> Result<(), OutOfMemory>
-    ensures { OnOk result (string_bytes text.new
-        ≡ string_bytes text.old ++ bad_line_text (cost_tail line.now)) }
+fn put_bad_line(text: &mut Told, line: &[u8])
+    ensures { text.new
+        ≡ text.old ++ bad_line_text (cost_tail line.now) }
 {
     let Some(tail) = cost_tail(line) else {
-        return Ok(());
+        return;
     };
-    put_named(text, Phrase::CostWords, word_count(tail) as u64)?;
-    put_phrase(text, Phrase::Found)
+    put_named(text, Phrase::CostWords, word_count(tail) as u64);
+    put_phrase(text, Phrase::Found);
 }
 
-fn put_wrong_number(text: &mut String, line: &[u8]) -> Result<(), OutOfMemory>
-    ensures { OnOk result (string_bytes text.new
-        ≡ string_bytes text.old ++ wrong_number_text line.now) }
+fn put_wrong_number(text: &mut Told, line: &[u8])
+    ensures { text.new
+        ≡ text.old ++ wrong_number_text line.now }
 {
     match cost_tail(line) {
         Some(tail) => put_bad_cost(text, word_at(tail, 0)),
@@ -57,24 +53,24 @@ fn put_wrong_number(text: &mut String, line: &[u8]) -> Result<(), OutOfMemory>
     }
 }
 
-fn put_bad_cost(text: &mut String, word: &[u8]) -> Result<(), OutOfMemory>
-    ensures { OnOk result (string_bytes text.new
-        ≡ string_bytes text.old ++ bad_cost_text word.now) }
+fn put_bad_cost(text: &mut Told, word: &[u8])
+    ensures { text.new
+        ≡ text.old ++ bad_cost_text word.now }
 {
-    put_cited(text, Phrase::CostIs, word)?;
-    put_fraction(text, word)?;
-    put_phrase(text, Phrase::CostLimits)
+    put_cited(text, Phrase::CostIs, word);
+    put_fraction(text, word);
+    put_phrase(text, Phrase::CostLimits);
 }
 
-fn put_bad_customer(text: &mut String, tail: &[u8]) -> Result<(), OutOfMemory>
-    ensures { OnOk result (string_bytes text.new
-        ≡ string_bytes text.old ++ bad_customer_text (words_of tail.now)) }
+fn put_bad_customer(text: &mut Told, tail: &[u8])
+    ensures { text.new
+        ≡ text.old ++ bad_customer_text (words_of tail.now) }
 {
     let Some(place) = no_customer_place(tail) else {
-        return Ok(());
+        return;
     };
-    put_cited(text, Phrase::CustomerIs, word_at(tail, place))?;
-    put_phrase(text, Phrase::CustomerLimits)
+    put_cited(text, Phrase::CustomerIs, word_at(tail, place));
+    put_phrase(text, Phrase::CustomerLimits);
 }
 
 // The place of the first word that is no number of a customer.

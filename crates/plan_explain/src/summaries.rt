@@ -11,6 +11,7 @@ ghost use Rattle.plan_explain.specs.Tables.{rows_of};
 use crate::phrases::Phrase;
 use crate::rows::{Row, rows_of, visit_behind};
 use crate::sentences::put_phrase;
+use crate::told::Told;
 use plan_types::{OutOfMemory, Problem, Route};
 use route_sched::route_distance;
 use std::alloc::Global;
@@ -31,7 +32,7 @@ pub struct Summary {
 }
 
 /// What some routes come to together.
-#[derive(Clone, Copy, Debug, PartialEq, Eq)]
+#[derive(Clone, Copy)]
 pub(crate) struct Sums {
     stops: u128,
     distance: u128,
@@ -41,24 +42,24 @@ pub(crate) struct Sums {
 /// Appends a line for each route, and the sums.
 pub(crate) fn put_summary(
     alloc: Global,
-    text: &mut String,
+    text: &mut Told,
     problem: &Problem,
     routes: &[Route],
 ) -> Result<(), OutOfMemory>
     requires { All (AreLiveOnce problem.now) routes.now }
-    ensures { OnOk result (string_bytes text.new
-        ≡ string_bytes text.old ++ summary_text problem.now routes.now) }
+    ensures { OnOk result (text.new ≡ text.old ++ summary_text problem.now routes.now) }
 {
     let summaries = summaries(alloc, problem, routes)?;
     let summaries = summaries.as_slice();
-    put_phrase(text, Phrase::RoutesHeading)?;
-    put_lines(text, summaries)?;
+    put_phrase(text, Phrase::RoutesHeading);
+    put_lines(text, summaries);
     let sums = Sums {
         stops: stops_in(summaries),
         distance: total_distance(problem, routes),
         waiting: waiting_in(summaries),
     };
-    put_sums(text, &sums)
+    put_sums(text, &sums);
+    Ok(())
 }
 
 fn summaries(
@@ -123,49 +124,45 @@ pub fn wait(row: &Row) -> u64
     row.start.saturating_sub(row.arrival)
 }
 
-fn put_lines(text: &mut String, summaries: &[Summary]) -> Result<(), OutOfMemory>
-    ensures { OnOk result (string_bytes text.new
-        ≡ string_bytes text.old ++ lines_from 1 summaries.now) }
+fn put_lines(text: &mut Told, summaries: &[Summary])
+    ensures { text.new ≡ text.old ++ lines_from 1 summaries.now }
 {
     for (route, summary) in summaries.iter().enumerate() {
-        put_line(text, route as u64 + 1, summary)?;
+        put_line(text, route as u64 + 1, summary);
     }
-    Ok(())
 }
 
-fn put_line(text: &mut String, route: u64, summary: &Summary) -> Result<(), OutOfMemory>
-    ensures { OnOk result (string_bytes text.new
-        ≡ string_bytes text.old ++ summary_line route summary.now) }
+fn put_line(text: &mut Told, route: u64, summary: &Summary)
+    ensures { text.new ≡ text.old ++ summary_line route summary.now }
 {
-    put_way(text, route, summary)?;
-    put_day(text, summary)
+    put_way(text, route, summary);
+    put_day(text, summary);
 }
 
 #[tactic(auto, unfolding(crate::specs::Summaries::way_text))]
-fn put_way(text: &mut String, route: u64, summary: &Summary) -> Result<(), OutOfMemory>
-    ensures { OnOk result (string_bytes text.new
-        ≡ string_bytes text.old ++ way_text route summary.now) }
+fn put_way(text: &mut Told, route: u64, summary: &Summary)
+    ensures { text.new ≡ text.old ++ way_text route summary.now }
 {
-    let Summary {
-        stops,
-        distance,
-        load,
-        ..
-    } = *summary;
-    write!(text, "{route:>5} {stops:>6} {distance:>10} {load:>9} ")
+    text.push_right(5, u128::from(route));
+    text.push_str(" ");
+    text.push_right(6, u128::from(summary.stops));
+    text.push_str(" ");
+    text.push_right(10, u128::from(summary.distance));
+    text.push_str(" ");
+    text.push_right_signed(9, summary.load);
+    text.push_str(" ");
 }
 
 #[tactic(auto, unfolding(crate::specs::Summaries::day_text))]
-fn put_day(text: &mut String, summary: &Summary) -> Result<(), OutOfMemory>
-    ensures { OnOk result (string_bytes text.new ≡ string_bytes text.old ++ day_text summary.now) }
+fn put_day(text: &mut Told, summary: &Summary)
+    ensures { text.new ≡ text.old ++ day_text summary.now }
 {
-    let Summary {
-        start,
-        back,
-        waiting,
-        ..
-    } = *summary;
-    writeln!(text, "{start:>10} {back:>10} {waiting:>10}")
+    text.push_right(10, u128::from(summary.start));
+    text.push_str(" ");
+    text.push_right(10, u128::from(summary.back));
+    text.push_str(" ");
+    text.push_right(10, u128::from(summary.waiting));
+    text.push_str("\n");
 }
 
 fn stops_in(summaries: &[Summary]) -> u128
@@ -200,14 +197,12 @@ pub(crate) fn total_distance(problem: &Problem, routes: &[Route]) -> u128
     total
 }
 
-fn put_sums(text: &mut String, sums: &Sums) -> Result<(), OutOfMemory>
-    ensures { OnOk result (string_bytes text.new ≡ string_bytes text.old ++ sums_text sums.now) }
+fn put_sums(text: &mut Told, sums: &Sums)
+    ensures { text.new ≡ text.old ++ sums_text sums.now }
 {
-    let Sums {
-        stops,
-        distance,
-        waiting,
-    } = *sums;
-    put_phrase(text, Phrase::Sum)?;
-    writeln!(text, "{stops:>7}{distance:>11}{waiting:>43}")
+    put_phrase(text, Phrase::Sum);
+    text.push_right(7, sums.stops);
+    text.push_right(11, sums.distance);
+    text.push_right(43, sums.waiting);
+    text.push_str("\n");
 }

@@ -11,6 +11,7 @@ use crate::rows::{Row, rows_of};
 use crate::sentences as say;
 use crate::summaries::put_summary;
 use crate::tables::{put_stops, put_table};
+use crate::told::Told;
 use plan_audit::Verdict;
 use plan_types::{OutOfMemory, Problem, Route};
 use sol_text::Solution;
@@ -28,7 +29,7 @@ pub fn explain_verdict(
     ensures { IfOk result (λ text. string_bytes text
         ≡ verdict_text problem.now solution.now verdict) }
 {
-    let mut text = String::new(alloc);
+    let mut text = Told::new(alloc);
     match verdict {
         Verdict::Pass(_) => put_summary(alloc, &mut text, problem, solution.routes.as_slice())?,
         Verdict::Broken {
@@ -36,22 +37,16 @@ pub fn explain_verdict(
             route,
             place,
             stop,
-        } => {
-            put_sentence(
-                alloc, &mut text, problem, solution, rule, route, place, stop,
-            )?;
-            text.push_str("\n")?;
-            let routes = solution.routes.as_slice();
-            put_places(alloc, &mut text, problem, routes, rule, route)?;
-        }
+        } => put_broken(
+            alloc, &mut text, problem, solution, rule, route, place, stop,
+        )?,
     }
-    Ok(text)
+    text.into_string()
 }
 
-// The sentence on a broken rule.
-fn put_sentence(
+fn put_broken(
     alloc: Global,
-    text: &mut String,
+    text: &mut Told,
     problem: &Problem,
     solution: &Solution,
     rule: u32,
@@ -61,7 +56,29 @@ fn put_sentence(
 ) -> Result<(), OutOfMemory>
     requires { IsVerdict problem.now (printed solution.now.routes solution.now.cost)
         (Broken rule route place stop) }
-    ensures { OnOk result (string_bytes text.new ≡ string_bytes text.old
+    ensures { OnOk result (text.new ≡ text.old
+        ++ verdict_text problem.now solution.now (Broken rule route place stop)) }
+{
+    put_sentence(alloc, text, problem, solution, rule, route, place, stop)?;
+    text.push_str("\n");
+    let routes = solution.routes.as_slice();
+    put_places(alloc, text, problem, routes, rule, route)
+}
+
+// The sentence on a broken rule.
+fn put_sentence(
+    alloc: Global,
+    text: &mut Told,
+    problem: &Problem,
+    solution: &Solution,
+    rule: u32,
+    route: u64,
+    place: u64,
+    stop: u32,
+) -> Result<(), OutOfMemory>
+    requires { IsVerdict problem.now (printed solution.now.routes solution.now.cost)
+        (Broken rule route place stop) }
+    ensures { OnOk result (text.new ≡ text.old
         ++ sentence problem.now solution.now rule route place stop) }
 {
     let routes = solution.routes.as_slice();
@@ -77,22 +94,23 @@ fn put_sentence(
         8 => say::put_late_return(text, problem, stops),
         9 => say::put_fleet(text, problem, routes),
         11 => say::put_cost(text, problem, solution),
-        _ => Ok(()),
+        _ => {}
     }
+    Ok(())
 }
 
 // What is shown of the routes, and how often and where else the rule is broken.
 fn put_places(
     alloc: Global,
-    text: &mut String,
+    text: &mut Told,
     problem: &Problem,
     routes: &[Route],
     rule: u32,
     route: u64,
 ) -> Result<(), OutOfMemory>
     requires { 2 < rule → All (AreLiveOnce problem.now) routes.now }
-    ensures { OnOk result (string_bytes text.new
-        ≡ string_bytes text.old ++ places_shown problem.now routes.now rule route) }
+    ensures { OnOk result (text.new
+        ≡ text.old ++ places_shown problem.now routes.now rule route) }
 {
     put_shown(alloc, text, problem, routes, rule, route)?;
     put_further(alloc, text, problem, routes, rule)
@@ -101,15 +119,15 @@ fn put_places(
 // What is shown of the routes for a broken rule.
 fn put_shown(
     alloc: Global,
-    text: &mut String,
+    text: &mut Told,
     problem: &Problem,
     routes: &[Route],
     rule: u32,
     route: u64,
 ) -> Result<(), OutOfMemory>
     requires { 2 < rule → All (AreLiveOnce problem.now) routes.now }
-    ensures { OnOk result (string_bytes text.new
-        ≡ string_bytes text.old ++ shown_text problem.now routes.now rule route) }
+    ensures { OnOk result (text.new
+        ≡ text.old ++ shown_text problem.now routes.now rule route) }
 {
     if rule == 11 {
         return put_summary(alloc, text, problem, routes);
@@ -121,7 +139,8 @@ fn put_shown(
     if rule > 2 {
         put_table(alloc, text, problem, stops)
     } else {
-        put_stops(text, stops)
+        put_stops(text, stops);
+        Ok(())
     }
 }
 

@@ -1,5 +1,5 @@
 //! What is said of a fault of a `.vrp` text behind its kind.
-ghost use Rattle.std.specs.Prelude.{◌≡◌, ◌++◌, OnOk, string_bytes};
+ghost use Rattle.std.specs.Prelude.{◌≡◌, ◌++◌};
 ghost use Rattle.std.specs.List.{flat_map};
 ghost use Rattle.text_lines.specs.Words.{words_of};
 ghost use Rattle.plan_explain.specs.VrpFaults.{count_text, key_count_text, key_layout, lacked_text, lacking_text, left_text, missing_text, node_count_text, numbers_of, only_text, repeated_text, stray_text, supported_text, unsupported_text, vrp_detail, vrp_layout};
@@ -8,12 +8,12 @@ use crate::layouts::Layout;
 use crate::names::Name;
 use crate::phrases::Phrase;
 use crate::sentences::{put_named, put_phrase};
+use crate::told::Told;
 use crate::told_lines::told_line;
 use crate::vrp_keys::{is_key, key_of, stands_in, value_of};
 use crate::vrp_walk::{Section, Walk, walk_before};
 use crate::words_told::{put_bad, put_beyond, put_cited, put_counts, put_field, put_name};
 use instance_read::{ReadFault, ReadFaultKind};
-use plan_types::OutOfMemory;
 
 /// The keys and sections that each text has.
 const REQUIRED: [Name; 6] = [
@@ -26,13 +26,9 @@ const REQUIRED: [Name; 6] = [
 ];
 
 /// Appends what the line that the fault names has of it.
-pub(crate) fn put_vrp_detail(
-    text: &mut String,
-    instance: &[u8],
-    fault: ReadFault,
-) -> Result<(), OutOfMemory>
-    ensures { OnOk result (string_bytes text.new
-        ≡ string_bytes text.old ++ vrp_detail instance.now fault.line fault.kind) }
+pub(crate) fn put_vrp_detail(text: &mut Told, instance: &[u8], fault: ReadFault)
+    ensures { text.new
+        ≡ text.old ++ vrp_detail instance.now fault.line fault.kind }
 {
     let line = told_line(instance, fault.line);
     let walk = walk_before(instance, fault.line);
@@ -46,7 +42,7 @@ pub(crate) fn put_vrp_detail(
         ReadFaultKind::MissingKey => put_missing(text, instance, line),
         ReadFaultKind::NodeRepeated => put_repeated(text, walk, line),
         ReadFaultKind::Truncated => put_left(text, Phrase::Colon, walk.section),
-        _ => Ok(()),
+        _ => {}
     }
 }
 
@@ -84,9 +80,9 @@ fn numbers_of(walk: Walk, line: &[u8]) -> &[u8]
 }
 
 // How many words are due and found, and what the section lacks.
-fn put_count(text: &mut String, walk: Walk, line: &[u8]) -> Result<(), OutOfMemory>
-    ensures { OnOk result (string_bytes text.new
-        ≡ string_bytes text.old ++ count_text walk line.now) }
+fn put_count(text: &mut Told, walk: Walk, line: &[u8])
+    ensures { text.new
+        ≡ text.old ++ count_text walk line.now }
 {
     match walk.section {
         Section::Outside => put_key_count(text, walk.nodes, line),
@@ -95,17 +91,17 @@ fn put_count(text: &mut String, walk: Walk, line: &[u8]) -> Result<(), OutOfMemo
     }
 }
 
-fn put_node_count(text: &mut String, walk: Walk, line: &[u8]) -> Result<(), OutOfMemory>
-    ensures { OnOk result (string_bytes text.new
-        ≡ string_bytes text.old ++ node_count_text walk line.now) }
+fn put_node_count(text: &mut Told, walk: Walk, line: &[u8])
+    ensures { text.new
+        ≡ text.old ++ node_count_text walk line.now }
 {
-    put_counts(text, vrp_layout(walk, line), line)?;
-    put_left(text, Phrase::There, walk.section)
+    put_counts(text, vrp_layout(walk, line), line);
+    put_left(text, Phrase::There, walk.section);
 }
 
-fn put_key_count(text: &mut String, nodes: u16, line: &[u8]) -> Result<(), OutOfMemory>
-    ensures { OnOk result (string_bytes text.new
-        ≡ string_bytes text.old ++ key_count_text nodes line.now) }
+fn put_key_count(text: &mut Told, nodes: u16, line: &[u8])
+    ensures { text.new
+        ≡ text.old ++ key_count_text nodes line.now }
 {
     if is_key(Name::KeyDimension, line) || is_key(Name::KeyCapacity, line) {
         put_counts(text, key_layout(line), value_of(line))
@@ -115,113 +111,110 @@ fn put_key_count(text: &mut String, nodes: u16, line: &[u8]) -> Result<(), OutOf
 }
 
 // That no section goes on here, and how many lines one has.
-fn put_stray(text: &mut String, nodes: u16) -> Result<(), OutOfMemory>
-    ensures { OnOk result (string_bytes text.new ≡ string_bytes text.old ++ stray_text nodes) }
+fn put_stray(text: &mut Told, nodes: u16)
+    ensures { text.new ≡ text.old ++ stray_text nodes }
 {
-    put_phrase(text, Phrase::Stray)?;
+    put_phrase(text, Phrase::Stray);
     if nodes == 0 {
-        return Ok(());
+        return;
     }
-    put_named(text, Phrase::SectionLines, u64::from(nodes))
+    put_named(text, Phrase::SectionLines, u64::from(nodes));
 }
 
 // How many lines a section lacks, from this one on.
-fn put_left(text: &mut String, words: Phrase, section: Section) -> Result<(), OutOfMemory>
-    ensures { OnOk result (string_bytes text.new
-        ≡ string_bytes text.old ++ left_text words section) }
+fn put_left(text: &mut Told, words: Phrase, section: Section)
+    ensures { text.new
+        ≡ text.old ++ left_text words section }
 {
     match section {
         Section::Coordinates(left) => put_lacking(text, words, Name::KeyCoordinates, left),
         Section::Demands(left) => put_lacking(text, words, Name::KeyDemands, left),
         Section::Depots | Section::LastDepot => put_phrase(text, Phrase::InsideDepots),
-        Section::Outside => Ok(()),
+        Section::Outside => {}
     }
 }
 
-fn put_lacking(
-    text: &mut String,
-    words: Phrase,
-    section: Name,
-    left: u16,
-) -> Result<(), OutOfMemory>
-    ensures { OnOk result (string_bytes text.new
-        ≡ string_bytes text.old ++ lacking_text words section left) }
+fn put_lacking(text: &mut Told, words: Phrase, section: Name, left: u16)
+    ensures { text.new
+        ≡ text.old ++ lacking_text words section left }
 {
-    put_phrase(text, words)?;
-    put_name(text, section)?;
-    put_named(text, Phrase::Lacks, u64::from(left))?;
-    put_phrase(text, Phrase::Lines)
+    put_phrase(text, words);
+    put_name(text, section);
+    put_named(text, Phrase::Lacks, u64::from(left));
+    put_phrase(text, Phrase::Lines);
 }
 
 // The key with its value, and the one that is supported.
-fn put_unsupported(text: &mut String, line: &[u8]) -> Result<(), OutOfMemory>
-    ensures { OnOk result (string_bytes text.new
-        ≡ string_bytes text.old ++ unsupported_text line.now) }
+fn put_unsupported(text: &mut Told, line: &[u8])
+    ensures { text.new
+        ≡ text.old ++ unsupported_text line.now }
 {
     if is_key(Name::KeyType, line) {
-        return put_supported(text, line, Name::KeyType, Name::Cvrp);
+        put_supported(text, line, Name::KeyType, Name::Cvrp);
+        return;
     }
     if is_key(Name::KeyWeights, line) {
-        return put_supported(text, line, Name::KeyWeights, Name::Euclidean);
+        put_supported(text, line, Name::KeyWeights, Name::Euclidean);
+        return;
     }
-    put_cited(text, Phrase::Colon, key_of(line))
+    put_cited(text, Phrase::Colon, key_of(line));
 }
 
-fn put_supported(text: &mut String, line: &[u8], key: Name, value: Name) -> Result<(), OutOfMemory>
-    ensures { OnOk result (string_bytes text.new
-        ≡ string_bytes text.old ++ supported_text line.now key value) }
+fn put_supported(text: &mut Told, line: &[u8], key: Name, value: Name)
+    ensures { text.new
+        ≡ text.old ++ supported_text line.now key value }
 {
-    put_phrase(text, Phrase::Colon)?;
-    put_name(text, key)?;
-    put_cited(text, Phrase::Is, value_of(line))?;
-    put_only(text, value)
+    put_phrase(text, Phrase::Colon);
+    put_name(text, key);
+    put_cited(text, Phrase::Is, value_of(line));
+    put_only(text, value);
 }
 
-fn put_only(text: &mut String, value: Name) -> Result<(), OutOfMemory>
-    ensures { OnOk result (string_bytes text.new
-        ≡ string_bytes text.old ++ only_text value) }
+fn put_only(text: &mut Told, value: Name)
+    ensures { text.new
+        ≡ text.old ++ only_text value }
 {
-    put_phrase(text, Phrase::Supported)?;
-    put_name(text, value)
+    put_phrase(text, Phrase::Supported);
+    put_name(text, value);
 }
 
 // What is missing: DIMENSION before a section, or the keys that no line has.
-fn put_missing(text: &mut String, instance: &[u8], line: &[u8]) -> Result<(), OutOfMemory>
-    ensures { OnOk result (string_bytes text.new
-        ≡ string_bytes text.old ++ missing_text instance.now line.now) }
+fn put_missing(text: &mut Told, instance: &[u8], line: &[u8])
+    ensures { text.new
+        ≡ text.old ++ missing_text instance.now line.now }
 {
     if is_key(Name::KeyCoordinates, line) || is_key(Name::KeyDemands, line) {
-        return put_phrase(text, Phrase::NotBefore);
+        put_phrase(text, Phrase::NotBefore);
+        return;
     }
-    put_phrase(text, Phrase::Colons)?;
-    put_lacked(text, instance, &REQUIRED)
+    put_phrase(text, Phrase::Colons);
+    put_lacked(text, instance, &REQUIRED);
 }
 
-fn put_lacked(text: &mut String, instance: &[u8], keys: &[Name]) -> Result<(), OutOfMemory>
-    ensures { OnOk result (string_bytes text.new
-        ≡ string_bytes text.old ++ flat_map (lacked_text instance.now) keys.now) }
+fn put_lacked(text: &mut Told, instance: &[u8], keys: &[Name])
+    ensures { text.new
+        ≡ text.old ++ flat_map (lacked_text instance.now) keys.now }
 {
     for key in keys {
-        put_unless_there(text, instance, *key)?;
+        put_unless_there(text, instance, *key);
     }
-    Ok(())
 }
 
-fn put_unless_there(text: &mut String, instance: &[u8], key: Name) -> Result<(), OutOfMemory>
-    ensures { OnOk result (string_bytes text.new
-        ≡ string_bytes text.old ++ lacked_text instance.now key) }
+fn put_unless_there(text: &mut Told, instance: &[u8], key: Name)
+    ensures { text.new
+        ≡ text.old ++ lacked_text instance.now key }
 {
     if stands_in(key, instance) {
-        return Ok(());
+        return;
     }
-    put_phrase(text, Phrase::Blank)?;
-    put_name(text, key)
+    put_phrase(text, Phrase::Blank);
+    put_name(text, key);
 }
 
 // The node or the key that stands twice.
-fn put_repeated(text: &mut String, walk: Walk, line: &[u8]) -> Result<(), OutOfMemory>
-    ensures { OnOk result (string_bytes text.new
-        ≡ string_bytes text.old ++ repeated_text walk line.now) }
+fn put_repeated(text: &mut Told, walk: Walk, line: &[u8])
+    ensures { text.new
+        ≡ text.old ++ repeated_text walk line.now }
 {
     match walk.section {
         Section::Outside => put_cited(text, Phrase::Colon, key_of(line)),

@@ -11,7 +11,7 @@ use crate::vrp_keys::{is_key, value_of};
 use text_lines::{Lines, is_blank_line};
 
 /// Where a line stands.
-#[derive(Clone, Copy, Debug, PartialEq, Eq)]
+#[derive(Clone, Copy)]
 pub(crate) enum Section {
     Outside,
     /// In the section of coordinates or of demands, of which so many lines are left, with this one.
@@ -23,7 +23,7 @@ pub(crate) enum Section {
 }
 
 /// What the lines so far have said.
-#[derive(Clone, Copy, Debug, PartialEq, Eq)]
+#[derive(Clone, Copy)]
 pub(crate) struct Walk {
     /// How many nodes DIMENSION announces; 0 before it.
     pub nodes: u16,

@@ -1,5 +1,5 @@
 //! What is said of the words of a line: how many there are, which is no number, which is outside its limits.
-ghost use Rattle.std.specs.Prelude.{◌≡◌, ◌++◌, ℤ, None, OnOk, decimal, length, string_bytes};
+ghost use Rattle.std.specs.Prelude.{◌≡◌, ◌++◌, ℤ, None, decimal, length};
 ghost use Rattle.std.specs.Fmt.{signed_decimal};
 ghost use Rattle.std.specs.List.{position_from};
 ghost use Rattle.text_lines.specs.Words.{words_of};
@@ -16,34 +16,34 @@ use crate::names::Name;
 use crate::numbers::{is_beyond, is_fraction, is_no_number};
 use crate::phrases::Phrase;
 use crate::sentences::{put_named, put_phrase};
+use crate::told::Told;
 use crate::told_lines::{word_at, word_count};
-use plan_types::OutOfMemory;
 use text_lines::Words;
 
 /// Appends a name.
-pub(crate) fn put_name(text: &mut String, field: Name) -> Result<(), OutOfMemory>
-    ensures { OnOk result (string_bytes text.new ≡ string_bytes text.old ++ name field) }
+pub(crate) fn put_name(text: &mut Told, field: Name)
+    ensures { text.new ≡ text.old ++ name field }
 {
-    text.push_str(field.text())
+    text.push_str(field.text());
 }
 
 /// Appends words, and bytes of a text behind them.
-pub(crate) fn put_cited(text: &mut String, words: Phrase, bytes: &[u8]) -> Result<(), OutOfMemory>
-    ensures { OnOk result (string_bytes text.new
-        ≡ string_bytes text.old ++ (phrase words ++ shown_bytes bytes.now)) }
+pub(crate) fn put_cited(text: &mut Told, words: Phrase, bytes: &[u8])
+    ensures { text.new
+        ≡ text.old ++ (phrase words ++ shown_bytes bytes.now) }
 {
-    put_phrase(text, words)?;
-    put_shown(text, bytes)
+    put_phrase(text, words);
+    put_shown(text, bytes);
 }
 
 /// Appends how many words are due in a line, and how many there are.
-pub(crate) fn put_counts(text: &mut String, layout: Layout, line: &[u8]) -> Result<(), OutOfMemory>
-    ensures { OnOk result (string_bytes text.new
-        ≡ string_bytes text.old ++ counts_text layout (words_of line.now)) }
+pub(crate) fn put_counts(text: &mut Told, layout: Layout, line: &[u8])
+    ensures { text.new
+        ≡ text.old ++ counts_text layout (words_of line.now) }
 {
-    put_named(text, Phrase::Colon, due(layout))?;
-    put_named(text, Phrase::Due, word_count(line) as u64)?;
-    put_phrase(text, Phrase::Found)
+    put_named(text, Phrase::Colon, due(layout));
+    put_named(text, Phrase::Due, word_count(line) as u64);
+    put_phrase(text, Phrase::Found);
 }
 
 fn due(layout: Layout) -> u64
@@ -53,15 +53,15 @@ fn due(layout: Layout) -> u64
 }
 
 /// Appends the first word that is no number, with the name of its field.
-pub(crate) fn put_bad(text: &mut String, layout: Layout, line: &[u8]) -> Result<(), OutOfMemory>
-    ensures { OnOk result (string_bytes text.new
-        ≡ string_bytes text.old ++ bad_text layout (words_of line.now)) }
+pub(crate) fn put_bad(text: &mut Told, layout: Layout, line: &[u8])
+    ensures { text.new
+        ≡ text.old ++ bad_text layout (words_of line.now) }
 {
     let Some(place) = no_number_place(line) else {
-        return Ok(());
+        return;
     };
-    put_field(text, layout, line, place)?;
-    put_fraction(text, word_at(line, place))
+    put_field(text, layout, line, place);
+    put_fraction(text, word_at(line, place));
 }
 
 /// The place of the first word that is no number.
@@ -79,42 +79,35 @@ pub(crate) fn no_number_place(line: &[u8]) -> Option<usize>
 }
 
 /// Appends the word at a place, with the name of its field.
-pub(crate) fn put_field(
-    text: &mut String,
-    layout: Layout,
-    line: &[u8],
-    place: usize,
-) -> Result<(), OutOfMemory>
-    ensures { OnOk result (string_bytes text.new
-        ≡ string_bytes text.old ++ field_text layout (words_of line.now) place) }
+pub(crate) fn put_field(text: &mut Told, layout: Layout, line: &[u8], place: usize)
+    ensures { text.new
+        ≡ text.old ++ field_text layout (words_of line.now) place }
 {
-    put_phrase(text, Phrase::Colon)?;
-    put_name(text, name_at(layout, place))?;
-    put_cited(text, Phrase::Is, word_at(line, place))
+    put_phrase(text, Phrase::Colon);
+    put_name(text, name_at(layout, place));
+    put_cited(text, Phrase::Is, word_at(line, place));
 }
 
 /// Appends that a word has a fraction, if that is why it is no number.
-pub(crate) fn put_fraction(text: &mut String, word: &[u8]) -> Result<(), OutOfMemory>
-    ensures { OnOk result (string_bytes text.new
-        ≡ string_bytes text.old ++ fraction_text word.now) }
+pub(crate) fn put_fraction(text: &mut Told, word: &[u8])
+    ensures { text.new
+        ≡ text.old ++ fraction_text word.now }
 {
     if is_fraction(word) {
         put_phrase(text, Phrase::Fraction)
-    } else {
-        Ok(())
     }
 }
 
 /// Appends the first number outside its limits, with the name of its field and these limits.
-pub(crate) fn put_beyond(text: &mut String, layout: Layout, line: &[u8]) -> Result<(), OutOfMemory>
-    ensures { OnOk result (string_bytes text.new
-        ≡ string_bytes text.old ++ beyond_text layout (words_of line.now)) }
+pub(crate) fn put_beyond(text: &mut Told, layout: Layout, line: &[u8])
+    ensures { text.new
+        ≡ text.old ++ beyond_text layout (words_of line.now) }
 {
     let Some(place) = beyond_place(layout, line) else {
-        return Ok(());
+        return;
     };
-    put_field(text, layout, line, place)?;
-    put_limits(text, limits_at(layout, place))
+    put_field(text, layout, line, place);
+    put_limits(text, limits_at(layout, place));
 }
 
 // The place of the first number outside its limits.
@@ -140,21 +133,21 @@ fn is_beyond_at(layout: Layout, place: usize, word: &[u8]) -> bool
     }
 }
 
-fn put_limits(text: &mut String, limits: Option<Limits>) -> Result<(), OutOfMemory>
-    ensures { OnOk result (string_bytes text.new ≡ string_bytes text.old ++ limits_text limits) }
+fn put_limits(text: &mut Told, limits: Option<Limits>)
+    ensures { text.new ≡ text.old ++ limits_text limits }
 {
     let Some((least, most)) = limits else {
-        return Ok(());
+        return;
     };
-    put_signed(text, Phrase::Limits, least)?;
-    put_signed(text, Phrase::To, most)
+    put_signed(text, Phrase::Limits, least);
+    put_signed(text, Phrase::To, most);
 }
 
 // Words, and the number behind them.
-fn put_signed(text: &mut String, words: Phrase, n: i32) -> Result<(), OutOfMemory>
-    ensures { OnOk result (string_bytes text.new
-        ≡ string_bytes text.old ++ (phrase words ++ signed_decimal n)) }
+fn put_signed(text: &mut Told, words: Phrase, n: i32)
+    ensures { text.new
+        ≡ text.old ++ (phrase words ++ signed_decimal n) }
 {
-    put_phrase(text, words)?;
-    write!(text, "{n}")
+    put_phrase(text, words);
+    text.push_signed(i64::from(n));
 }

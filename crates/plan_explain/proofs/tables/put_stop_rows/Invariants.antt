@@ -1,7 +1,7 @@
-use Rattle.std.proofs.Common.{◌≡◌, ◌+◌, ◌++◌, drop, string_bytes}
+use Rattle.std.proofs.Common.{◌≡◌, ◌+◌, ◌++◌, drop}
 use Rattle.plan_explain.specs.Tables.{stop_rows}
 use Rattle.plan_explain.proofs.tables.put_stop_rows.Given as goal
 
 -- the text so far and that of the places to come
 abbrev pub invariant-loop-place : goal.invariant-loop-place
-invariant-loop-place l = string_bytes l.text ++ stop_rows (l.place + 1) (drop l.place l.route) ≡ string_bytes l.fn.text ++ stop_rows 1 l.route
+invariant-loop-place l = l.text ++ stop_rows (l.place + 1) (drop l.place l.route) ≡ l.fn.text ++ stop_rows 1 l.route
