@@ -1,53 +1,41 @@
 //! The chart beside the table: when each vehicle drives, waits and serves.
-ghost use Rattle.std.specs.Prelude.{◌≡◌, ◌+◌, ◌≤◌, ◌^◌, ◌++◌, max, All, IfOk, OnOk};
+ghost use Rattle.std.specs.Prelude.{◌≡◌, ◌+◌, ◌≤◌, ◌^◌, ◌++◌, max, All};
 ghost use Rattle.std.specs.List.{flat_map, range_with_len};
 ghost use Rattle.route_sched.specs.Route.{AreLiveOnce};
 ghost use Rattle.plan_picture.specs.Days.{across, bars_text, chart_head, chart_text, day_text, days_text, horizon, last_start, late_text, nth_tick, tick_line, tick_step, tick_text, ticks_text, time_room, time_text, times_row, times_rows, times_text, visit_text, visits_text, window_text, work_text};
+ghost use Rattle.plan_picture.specs.Known.{visits_of};
 ghost use Rattle.plan_picture.specs.Svg.{each};
 
-use crate::known::visits;
 use crate::svg::{Svg, digits};
 use crate::texts::Text;
-use plan_types::{Kind, OutOfMemory, Problem, Route, Stop};
-use route_sched::Visit;
-use std::alloc::Global;
+use plan_types::{Kind, Problem, Route, Stop};
+use route_sched::{Visit, Visits};
 
 impl Svg {
     /// The chart, where windows count.
-    pub(crate) fn put_days(
-        &mut self,
-        alloc: Global,
-        problem: &Problem,
-        routes: &[Route],
-    ) -> Result<(), OutOfMemory>
+    pub(crate) fn put_days(&mut self, problem: &Problem, routes: &[Route])
         requires { All (AreLiveOnce problem.now) routes.now }
-        ensures { OnOk result (self.new ≡ self.old
-            ++ days_text problem.now.kind problem.now routes.now) }
+        ensures { self.new ≡ self.old
+            ++ days_text problem.now.kind problem.now routes.now }
     {
         match problem.kind {
             Kind::LiLim => {
-                let last = horizon(alloc, problem, routes)?;
-                self.put_chart(alloc, problem, last, routes)
+                let last = horizon(problem, routes);
+                self.put_chart(problem, last, routes)
             }
-            Kind::Vrp => Ok(()),
+            Kind::Vrp => {}
         }
     }
 
     #[tactic(auto, unfolding(crate::specs::Days::chart_text))]
-    fn put_chart(
-        &mut self,
-        alloc: Global,
-        problem: &Problem,
-        last: u64,
-        routes: &[Route],
-    ) -> Result<(), OutOfMemory>
+    fn put_chart(&mut self, problem: &Problem, last: u64, routes: &[Route])
         requires { All (AreLiveOnce problem.now) routes.now }
-        ensures { OnOk result (self.new ≡ self.old ++ chart_text problem.now last routes.now) }
+        ensures { self.new ≡ self.old ++ chart_text problem.now last routes.now }
     {
         let first = problem.depot.earliest;
         self.put_ticks(first, last, 30 * routes.len() as u128);
-        self.put_bars(alloc, problem, last, routes)?;
-        self.put_times_rows(alloc, problem, last, routes)
+        self.put_bars(problem, last, routes);
+        self.put_times_rows(problem, last, routes);
     }
 
     // The axis.
@@ -96,21 +84,14 @@ impl Svg {
     }
 
     #[tactic(auto, unfolding(crate::specs::Days::bars_text))]
-    fn put_bars(
-        &mut self,
-        alloc: Global,
-        problem: &Problem,
-        last: u64,
-        routes: &[Route],
-    ) -> Result<(), OutOfMemory>
+    fn put_bars(&mut self, problem: &Problem, last: u64, routes: &[Route])
         requires { All (AreLiveOnce problem.now) routes.now }
-        ensures { OnOk result (self.new ≡ self.old ++ bars_text problem.now last routes.now) }
+        ensures { self.new ≡ self.old ++ bars_text problem.now last routes.now }
     {
         let height = 30 * routes.len() as u128;
         self.put_chart_head(problem.depot.earliest, last, height);
-        self.put_each_day(alloc, problem, routes)?;
+        self.put_each_day(problem, routes);
         self.put(Text::End);
-        Ok(())
     }
 
     #[tactic(auto, unfolding(crate::specs::Days::chart_head))]
@@ -128,69 +109,49 @@ impl Svg {
     }
 
     #[tactic(auto, unfolding(crate::specs::Days::times_rows))]
-    fn put_times_rows(
-        &mut self,
-        alloc: Global,
-        problem: &Problem,
-        last: u64,
-        routes: &[Route],
-    ) -> Result<(), OutOfMemory>
+    fn put_times_rows(&mut self, problem: &Problem, last: u64, routes: &[Route])
         requires { All (AreLiveOnce problem.now) routes.now }
-        ensures { OnOk result (self.new ≡ self.old ++ times_rows problem.now last routes.now) }
+        ensures { self.new ≡ self.old ++ times_rows problem.now last routes.now }
     {
         self.put(Text::Times);
-        self.put_each_times_row(alloc, problem, last, routes)?;
+        self.put_each_times_row(problem, last, routes);
         self.put(Text::GroupEnd);
-        Ok(())
     }
 
-    fn put_each_times_row(
-        &mut self,
-        alloc: Global,
-        problem: &Problem,
-        last: u64,
-        routes: &[Route],
-    ) -> Result<(), OutOfMemory>
+    fn put_each_times_row(&mut self, problem: &Problem, last: u64, routes: &[Route])
         requires { All (AreLiveOnce problem.now) routes.now }
-        ensures { OnOk result (self.new ≡ self.old
-            ++ each (times_row problem.now last) 0 routes.now) }
+        ensures { self.new ≡ self.old
+            ++ each (times_row problem.now last) 0 routes.now }
     {
         for (index, route) in routes.iter().enumerate() {
-            self.put_times_row(alloc, problem, last, index, route.as_slice())?;
+            self.put_times_row(problem, last, index, route.as_slice());
         }
-        Ok(())
     }
 
     #[tactic(auto, unfolding(crate::specs::Days::times_row))]
-    fn put_times_row(
-        &mut self,
-        alloc: Global,
-        problem: &Problem,
-        last: u64,
-        index: usize,
-        route: &[u32],
-    ) -> Result<(), OutOfMemory>
+    fn put_times_row(&mut self, problem: &Problem, last: u64, index: usize, route: &[u32])
         requires { AreLiveOnce problem.now route.now }
-        ensures { OnOk result (self.new ≡ self.old ++ times_row problem.now last index route.now) }
+        ensures { self.new ≡ self.old ++ times_row problem.now last index route.now }
     {
-        let visits = visits(alloc, problem, route)?;
         self.put_named(Text::Day, 1116 + 30 * index as u128);
         self.put(Text::DayOpen);
-        self.put_times(problem.depot.earliest, last, &visits);
+        self.put_times(problem, last, route);
         self.put(Text::GroupEnd);
-        Ok(())
     }
 
     // The times of the visits, each where it covers none before.
-    fn put_times(&mut self, first: u32, last: u64, visits: &[Visit])
-        ensures { self.new ≡ self.old ++ times_text first last 0 visits.now }
+    fn put_times(&mut self, problem: &Problem, last: u64, route: &[u32])
+        requires { AreLiveOnce problem.now route.now }
+        ensures { self.new ≡ self.old
+            ++ times_text problem.now.depot.earliest last 0 (visits_of problem.now route.now) }
     {
+        let first = problem.depot.earliest;
         let mut free = 0;
-        for visit in visits {
+        for visit in Visits::new(problem, route) {
             let x = across(first, last, visit.start);
             if free <= x {
-                self.put_time(x, visit);
-                free = x + u128::from(time_room(visit));
+                self.put_time(x, &visit);
+                free = x + u128::from(time_room(&visit));
             }
         }
     }
@@ -204,48 +165,36 @@ impl Svg {
         self.put_text(Text::TimeStart, x, visit.start as u128);
     }
 
-    fn put_each_day(
-        &mut self,
-        alloc: Global,
-        problem: &Problem,
-        routes: &[Route],
-    ) -> Result<(), OutOfMemory>
+    fn put_each_day(&mut self, problem: &Problem, routes: &[Route])
         requires { All (AreLiveOnce problem.now) routes.now }
-        ensures { OnOk result (self.new ≡ self.old ++ each (day_text problem.now) 0 routes.now) }
+        ensures { self.new ≡ self.old ++ each (day_text problem.now) 0 routes.now }
     {
         for (index, route) in routes.iter().enumerate() {
-            self.put_day(alloc, problem, index, route.as_slice())?;
+            self.put_day(problem, index, route.as_slice());
         }
-        Ok(())
     }
 
     // The day of the vehicle whose row is at this index.
     #[tactic(auto, unfolding(crate::specs::Days::day_text))]
-    fn put_day(
-        &mut self,
-        alloc: Global,
-        problem: &Problem,
-        index: usize,
-        route: &[u32],
-    ) -> Result<(), OutOfMemory>
+    fn put_day(&mut self, problem: &Problem, index: usize, route: &[u32])
         requires { AreLiveOnce problem.now route.now }
-        ensures { OnOk result (self.new ≡ self.old ++ day_text problem.now index route.now) }
+        ensures { self.new ≡ self.old ++ day_text problem.now index route.now }
     {
-        let visits = visits(alloc, problem, route)?;
         self.put_named(Text::Day, 30 * index as u128);
         self.put(Text::DayOpen);
-        self.put_visits(problem.depot.earliest, &visits);
+        self.put_visits(problem.depot.earliest, problem, route);
         self.put(Text::GroupEnd);
-        Ok(())
     }
 
-    fn put_visits(&mut self, first: u32, visits: &[Visit])
-        ensures { self.new ≡ self.old ++ visits_text first 0 visits.now }
+    fn put_visits(&mut self, first: u32, problem: &Problem, route: &[u32])
+        requires { AreLiveOnce problem.now route.now }
+        ensures { self.new ≡ self.old
+            ++ visits_text first 0 (visits_of problem.now route.now) }
     {
         let mut start = u64::from(first);
         let mut service = 0;
-        for visit in visits {
-            self.put_visit(start, service, visit);
+        for visit in Visits::new(problem, route) {
+            self.put_visit(start, service, &visit);
             start = visit.start;
             service = visit.stop.service;
         }
@@ -304,25 +253,24 @@ impl Svg {
 }
 
 // The latest of the depot's end and all starts of service.
-fn horizon(alloc: Global, problem: &Problem, routes: &[Route]) -> Result<u64, OutOfMemory>
+fn horizon(problem: &Problem, routes: &[Route]) -> u64
     requires { All (AreLiveOnce problem.now) routes.now }
-    ensures { IfOk result (λ last. last
-        ≡ horizon problem.now problem.now.depot.latest routes.now) }
+    ensures { result ≡ horizon problem.now problem.now.depot.latest routes.now }
 {
     let mut last = u64::from(problem.depot.latest);
     for route in routes {
-        let visits = visits(alloc, problem, route.as_slice())?;
-        last = last_start(last, &visits);
+        last = last_start(last, problem, route.as_slice());
     }
-    Ok(last)
+    last
 }
 
-// The latest of a time and these starts of service.
-fn last_start(first: u64, visits: &[Visit]) -> u64
-    ensures { result ≡ last_start first visits.now }
+// The latest of a time and the starts of service along a route.
+fn last_start(first: u64, problem: &Problem, route: &[u32]) -> u64
+    requires { AreLiveOnce problem.now route.now }
+    ensures { result ≡ last_start first (visits_of problem.now route.now) }
 {
     let mut last = first;
-    for visit in visits {
+    for visit in Visits::new(problem, route) {
         last = last.max(visit.start);
     }
     last

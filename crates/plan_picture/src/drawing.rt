@@ -83,7 +83,7 @@ impl Svg {
         let stops = known_stops(alloc, problem)?;
         let left = unserved(alloc, routes, &stops)?;
         self.put_sized_head(problem, routes.len());
-        self.put_title(alloc, problem, routes, verdict, 0)?;
+        self.put_title(problem, routes, verdict, 0);
         self.put_unserved_count(left.len());
         self.put_drawn(alloc, problem, &stops, 1, routes, verdict)
     }
@@ -106,7 +106,7 @@ impl Svg {
     {
         let stops = stops_along(alloc, problem, route.as_slice())?;
         self.put_sized_head(problem, 1);
-        self.put_title(alloc, problem, routes, verdict, number)?;
+        self.put_title(problem, routes, verdict, number);
         self.put_drawn(
             alloc,
             problem,
@@ -147,7 +147,8 @@ impl Svg {
         let broken = broken_at(verdict);
         let grid = grid_of(problem.kind, routes.len());
         self.put_map(alloc, problem, stops, first, routes, broken)?;
-        self.put_rows(alloc, problem, grid, broken.route, first, routes)?;
-        self.put_days(alloc, problem, routes)
+        self.put_rows(problem, grid, broken.route, first, routes);
+        self.put_days(problem, routes);
+        Ok(())
     }
 }

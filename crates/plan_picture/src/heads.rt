@@ -1,18 +1,17 @@
 //! What stands over the map: the cost, or the broken rule in words with its figures, and how many stops are unserved.
-ghost use Rattle.std.specs.Prelude.{◌≡◌, ◌≤◌, ◌*◌, ◌^◌, ◌++◌, [], All, IfOk, OnOk};
+ghost use Rattle.std.specs.Prelude.{◌≡◌, ◌≤◌, ◌*◌, ◌^◌, ◌++◌, [], All};
 ghost use Rattle.std.specs.Option.{option_map_or};
 ghost use Rattle.route_sched.specs.Cost.{total_length, used_count};
 ghost use Rattle.route_sched.specs.Route.{AreLiveOnce};
 ghost use Rattle.plan_audit.specs.Rules.{item_at};
 ghost use Rattle.plan_picture.specs.Heads.{broken_place, broken_text, cost_text, figures_of, fleet_figures, head_text, key_text, load_figures, one_route, pair_key, partner_figures, rule_name, scope_text, shapes_text, start_figures, style_text, title_head, title_text, unserved_text, vehicles_text, verdict_text, visit_figures, visit_told};
+ghost use Rattle.plan_picture.specs.Known.{visits_of};
 
-use crate::known::visits;
 use crate::svg::Svg;
 use crate::texts::Text;
 use plan_audit::Verdict;
-use plan_types::{Cost, Kind, OutOfMemory, Problem, Route};
-use route_sched::{Visit, route_distance};
-use std::alloc::Global;
+use plan_types::{Cost, Kind, Problem, Route};
+use route_sched::{Visit, Visits, route_distance};
 
 impl Svg {
     /// Appends the size of the picture, its shapes, and what they mean.
@@ -69,21 +68,19 @@ impl Svg {
     #[tactic(auto, unfolding(crate::specs::Heads::title_text))]
     pub(crate) fn put_title(
         &mut self,
-        alloc: Global,
         problem: &Problem,
         routes: &[Route],
         verdict: Verdict,
         number: u64,
-    ) -> Result<(), OutOfMemory>
+    )
         requires { All (AreLiveOnce problem.now) routes.now }
-        ensures { OnOk result (self.new ≡ self.old
-            ++ title_text problem.now routes.now verdict number) }
+        ensures { self.new ≡ self.old
+            ++ title_text problem.now routes.now verdict number }
     {
         self.put(title_head(verdict));
         self.put_scope(number, routes.len());
-        self.put_verdict(alloc, problem, routes, verdict)?;
+        self.put_verdict(problem, routes, verdict);
         self.put(Text::TextEnd);
-        Ok(())
     }
 
     fn put_scope(&mut self, number: u64, all: usize)
@@ -104,28 +101,19 @@ impl Svg {
         self.put(Text::OfPlan);
     }
 
-    fn put_verdict(
-        &mut self,
-        alloc: Global,
-        problem: &Problem,
-        routes: &[Route],
-        verdict: Verdict,
-    ) -> Result<(), OutOfMemory>
+    fn put_verdict(&mut self, problem: &Problem, routes: &[Route], verdict: Verdict)
         requires { All (AreLiveOnce problem.now) routes.now }
-        ensures { OnOk result (self.new ≡ self.old
-            ++ verdict_text problem.now routes.now verdict) }
+        ensures { self.new ≡ self.old
+            ++ verdict_text problem.now routes.now verdict }
     {
         match verdict {
-            Verdict::Pass(cost) => {
-                self.put_cost(problem.kind, cost);
-                Ok(())
-            }
+            Verdict::Pass(cost) => self.put_cost(problem.kind, cost),
             Verdict::Broken {
                 rule,
                 route,
                 place,
                 stop,
-            } => self.put_broken_rule(alloc, problem, routes, rule, route, place, stop),
+            } => self.put_broken_rule(problem, routes, rule, route, place, stop),
         }
     }
 
@@ -150,22 +138,21 @@ impl Svg {
     #[tactic(auto, unfolding(crate::specs::Heads::broken_text))]
     fn put_broken_rule(
         &mut self,
-        alloc: Global,
         problem: &Problem,
         routes: &[Route],
         rule: u32,
         route: u64,
         place: u64,
         stop: u32,
-    ) -> Result<(), OutOfMemory>
+    )
         requires { All (AreLiveOnce problem.now) routes.now }
-        ensures { OnOk result (self.new ≡ self.old
-            ++ broken_text problem.now routes.now rule route place stop) }
+        ensures { self.new ≡ self.old
+            ++ broken_text problem.now routes.now rule route place stop }
     {
         self.put_named(Text::BrokenRule, rule as u128);
         self.put(rule_name(rule));
         self.put_broken_place(route, place, stop);
-        self.put_figures_of(alloc, problem, routes, rule, route, place, stop)
+        self.put_figures_of(problem, routes, rule, route, place, stop);
     }
 
     #[tactic(auto, unfolding(crate::specs::Heads::broken_place))]
@@ -179,29 +166,27 @@ impl Svg {
 
     fn put_figures_of(
         &mut self,
-        alloc: Global,
         problem: &Problem,
         routes: &[Route],
         rule: u32,
         route: u64,
         place: u64,
         stop: u32,
-    ) -> Result<(), OutOfMemory>
+    )
         requires { All (AreLiveOnce problem.now) routes.now }
-        ensures { OnOk result (self.new ≡ self.old
-            ++ figures_of problem.now routes.now rule route place stop) }
+        ensures { self.new ≡ self.old
+            ++ figures_of problem.now routes.now rule route place stop }
     {
         if rule == 3 || rule == 4 || rule == 5 {
             self.put_partner(problem, stop);
         } else if rule == 6 || rule == 7 || rule == 8 {
-            let visit = visit_told(alloc, problem, routes, route, place)?;
+            let visit = visit_told(problem, routes, route, place);
             self.put_visit_told(problem, rule, visit);
         } else if rule == 9 {
             self.put_fleet(problem, routes);
         } else if rule == 11 {
             self.put_named(Text::Driven, total_distance(problem, routes));
         }
-        Ok(())
     }
 
     // The other stop of a pair.
@@ -301,33 +286,27 @@ fn rule_name(rule: u32) -> Text
 }
 
 // The visit of a place, where routes and places count from 1.
-fn visit_told(
-    alloc: Global,
-    problem: &Problem,
-    routes: &[Route],
-    route: u64,
-    place: u64,
-) -> Result<Option<Visit>, OutOfMemory>
+fn visit_told(problem: &Problem, routes: &[Route], route: u64, place: u64) -> Option<Visit>
     requires { All (AreLiveOnce problem.now) routes.now }
-    ensures { IfOk result (λ visit. visit ≡ visit_told problem.now routes.now route place) }
+    ensures { result ≡ visit_told problem.now routes.now route place }
 {
     if route == 0 {
-        return Ok(None);
+        return None;
     }
     let Some(stops) = routes.get(route as usize - 1) else {
-        return Ok(None);
+        return None;
     };
-    let visits = visits(alloc, problem, stops.as_slice())?;
-    Ok(visit_at(&visits, place))
+    visit_at(problem, stops.as_slice(), place)
 }
 
-fn visit_at(visits: &[Visit], place: u64) -> Option<Visit>
-    ensures { result ≡ item_at visits.now place }
+fn visit_at(problem: &Problem, route: &[u32], place: u64) -> Option<Visit>
+    requires { AreLiveOnce problem.now route.now }
+    ensures { result ≡ item_at (visits_of problem.now route.now) place }
 {
     if place == 0 {
         return None;
     }
-    visits.get(place as usize - 1).copied()
+    Visits::new(problem, route).nth(place as usize - 1)
 }
 
 fn used_count(routes: &[Route]) -> u64

@@ -2,10 +2,9 @@
 ghost use Rattle.std.specs.Prelude.{◌≡◌, ◌++◌, All, IfOk, OnOk, map};
 ghost use Rattle.std.specs.Option.{option_copied};
 ghost use Rattle.route_sched.specs.Route.{AreLiveOnce};
-ghost use Rattle.plan_picture.specs.Known.{is_new, is_served, kept_of, known_stops, stop_among, stops_along, unserved, unserved_one, visits_of};
+ghost use Rattle.plan_picture.specs.Known.{is_new, is_served, kept_of, known_stops, stop_among, stops_along, unserved, unserved_one};
 
 use plan_types::{OutOfMemory, Problem, Route, Stop};
-use route_sched::{Visit, Visits};
 use std::alloc::Global;
 
 /// The stops of a problem by rising number.
@@ -55,18 +54,6 @@ fn is_new(problem: &Problem, kept: &[u32], number: u32) -> bool
     ensures { result ≡ is_new problem.now kept.now number }
 {
     problem.stop(number).is_some() && !kept.contains(&number)
-}
-
-/// What happens at each stop of a route, and at the return.
-pub(crate) fn visits(
-    alloc: Global,
-    problem: &Problem,
-    route: &[u32],
-) -> Result<Vec<Visit>, OutOfMemory>
-    requires { AreLiveOnce problem.now route.now }
-    ensures { IfOk result (λ visits. visits.items ≡ visits_of problem.now route.now) }
-{
-    Visits::new(problem, route).collect(alloc)
 }
 
 /// The stops of a route, in its order.

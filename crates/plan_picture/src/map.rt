@@ -2,16 +2,17 @@
 ghost use Rattle.std.specs.Prelude.{◌≡◌, ◌≤◌, ◌^◌, ◌++◌, All, OnOk, is_some};
 ghost use Rattle.std.specs.List.{flat_map};
 ghost use Rattle.route_sched.specs.Route.{AreLiveOnce};
+ghost use Rattle.plan_picture.specs.Known.{visits_of};
 ghost use Rattle.plan_picture.specs.Map.{arrow_text, badge_text, box_size, box_text, foot_of, has_arrow, is_delivery, join_text, label_text, labels_text, leg_head, leg_text, legs_text, line_head, line_text, lines_text, map_in, map_text, mark_text, marks_text, number_text, opening_text, over_mark, over_text, pair_text, pairs_text, ring_text, rings_text, under_mark, under_shape, under_text};
 ghost use Rattle.plan_picture.specs.Svg.{each};
 
 use crate::frame::{Frame, Point, apart, stop_bounds};
-use crate::known::{stop_among, unserved, visits};
+use crate::known::{stop_among, unserved};
 use crate::labels::{Area, Label, LabelKind, labels};
 use crate::svg::Svg;
 use crate::texts::Text;
 use plan_types::{OutOfMemory, Problem, Route, Stop};
-use route_sched::Visit;
+use route_sched::Visits;
 use std::alloc::Global;
 
 /// What is broken: the number of a route and that of a stop, 0 for none.
@@ -57,7 +58,7 @@ impl Svg {
         ensures { OnOk result (self.new ≡ self.old ++ map_in frame.now problem.now stops.now first
             routes.now broken.route broken.stop) }
     {
-        self.put_under(alloc, problem, frame, stops, first, routes, broken.route)?;
+        self.put_under(problem, frame, stops, first, routes, broken.route);
         self.put_over(alloc, problem, frame, stops, first, routes, broken.stop)
     }
 
@@ -65,22 +66,21 @@ impl Svg {
     #[tactic(auto, unfolding(crate::specs::Map::under_text))]
     fn put_under(
         &mut self,
-        alloc: Global,
         problem: &Problem,
         frame: &Frame,
         stops: &[Stop],
         first: u64,
         routes: &[Route],
         broken: u64,
-    ) -> Result<(), OutOfMemory>
+    )
         requires first { first ≤ 2 ^ 63 }
         requires routes { All (AreLiveOnce problem.now) routes.now }
-        ensures { OnOk result (self.new ≡ self.old
-            ++ under_text problem.now frame.now stops.now first routes.now broken) }
+        ensures { self.new ≡ self.old
+            ++ under_text problem.now frame.now stops.now first routes.now broken }
     {
         self.put_opening(frame);
         self.put_pairs(problem, frame, stops);
-        self.put_lines(alloc, problem, frame, broken, first, routes)
+        self.put_lines(problem, frame, broken, first, routes);
     }
 
     // What lies above the lines.
@@ -162,65 +162,58 @@ impl Svg {
     #[tactic(auto, unfolding(crate::specs::Map::lines_text))]
     fn put_lines(
         &mut self,
-        alloc: Global,
         problem: &Problem,
         frame: &Frame,
         broken: u64,
         first: u64,
         routes: &[Route],
-    ) -> Result<(), OutOfMemory>
+    )
         requires first { first ≤ 2 ^ 63 }
         requires routes { All (AreLiveOnce problem.now) routes.now }
-        ensures { OnOk result (self.new ≡ self.old
-            ++ lines_text problem.now frame.now broken first routes.now) }
+        ensures { self.new ≡ self.old
+            ++ lines_text problem.now frame.now broken first routes.now }
     {
         self.put(Text::Legs);
-        self.put_each_line(alloc, problem, frame, broken, first, routes)?;
+        self.put_each_line(problem, frame, broken, first, routes);
         self.put(Text::GroupEnd);
-        Ok(())
     }
 
     fn put_each_line(
         &mut self,
-        alloc: Global,
         problem: &Problem,
         frame: &Frame,
         broken: u64,
         first: u64,
         routes: &[Route],
-    ) -> Result<(), OutOfMemory>
+    )
         requires first { first ≤ 2 ^ 63 }
         requires routes { All (AreLiveOnce problem.now) routes.now }
-        ensures { OnOk result (self.new ≡ self.old
-            ++ each (line_text problem.now frame.now broken) first routes.now) }
+        ensures { self.new ≡ self.old
+            ++ each (line_text problem.now frame.now broken) first routes.now }
     {
         for (index, route) in routes.iter().enumerate() {
             let number = first + index as u64;
-            self.put_line(alloc, problem, frame, broken, number, route.as_slice())?;
+            self.put_line(problem, frame, broken, number, route.as_slice());
         }
-        Ok(())
     }
 
     // The legs of a route.
     #[tactic(auto, unfolding(crate::specs::Map::line_text))]
     fn put_line(
         &mut self,
-        alloc: Global,
         problem: &Problem,
         frame: &Frame,
         broken: u64,
         number: u64,
         route: &[u32],
-    ) -> Result<(), OutOfMemory>
+    )
         requires { AreLiveOnce problem.now route.now }
-        ensures { OnOk result (self.new ≡ self.old
-            ++ line_text problem.now frame.now broken number route.now) }
+        ensures { self.new ≡ self.old
+            ++ line_text problem.now frame.now broken number route.now }
     {
-        let visits = visits(alloc, problem, route)?;
         self.put_line_head(broken, number);
-        self.put_legs(frame, &problem.depot, &visits);
+        self.put_legs(frame, &problem.depot, problem, route);
         self.put(Text::GroupEnd);
-        Ok(())
     }
 
     #[tactic(auto, unfolding(crate::specs::Map::line_head))]
@@ -233,12 +226,13 @@ impl Svg {
         self.put(Text::Open);
     }
 
-    fn put_legs(&mut self, frame: &Frame, depot: &Stop, visits: &[Visit])
+    fn put_legs(&mut self, frame: &Frame, depot: &Stop, problem: &Problem, route: &[u32])
+        requires { AreLiveOnce problem.now route.now }
         ensures { self.new ≡ self.old
-            ++ legs_text frame.now depot.now visits.now }
+            ++ legs_text frame.now depot.now (visits_of problem.now route.now) }
     {
         let mut last = *depot;
-        for visit in visits {
+        for visit in Visits::new(problem, route) {
             self.put_leg(frame, &last, &visit.stop);
             last = visit.stop;
         }

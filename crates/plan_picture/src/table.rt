@@ -1,16 +1,16 @@
 //! The table under the map: a row for each route, with its colour and its figures in columns. Where windows count, the day of
 //! its vehicle stands beside it, else the rows stand in three blocks.
-ghost use Rattle.std.specs.Prelude.{◌≡◌, ◌+◌, ◌<◌, ◌≤◌, ◌^◌, ◌++◌, All, OnOk};
+ghost use Rattle.std.specs.Prelude.{◌≡◌, ◌+◌, ◌<◌, ◌≤◌, ◌^◌, ◌++◌, All};
+ghost use Rattle.std.specs.Int.{int_max};
 ghost use Rattle.route_sched.specs.Route.{AreLiveOnce};
+ghost use Rattle.plan_picture.specs.Known.{visits_of};
 ghost use Rattle.plan_picture.specs.Svg.{each};
 ghost use Rattle.plan_picture.specs.Table.{figures_text, grid_of, heading_text, load_text, row_end, row_head, row_place, row_text, rows_text, top_load};
 
-use crate::known::visits;
 use crate::svg::Svg;
 use crate::texts::Text;
-use plan_types::{Kind, OutOfMemory, Problem, Route};
-use route_sched::{Visit, route_distance};
-use std::alloc::Global;
+use plan_types::{Kind, Problem, Route};
+use route_sched::{Visit, Visits, route_distance};
 
 /// How many rows stand in a block of the table, and how far they are apart.
 #[derive(Clone, Copy)]
@@ -42,69 +42,63 @@ impl Svg {
     #[tactic(auto, unfolding(crate::specs::Table::rows_text))]
     pub(crate) fn put_rows(
         &mut self,
-        alloc: Global,
         problem: &Problem,
         grid: Grid,
         broken: u64,
         first: u64,
         routes: &[Route],
-    ) -> Result<(), OutOfMemory>
+    )
         requires grid { 0 < grid.rows }
         requires first { first ≤ 2 ^ 63 }
         requires routes { All (AreLiveOnce problem.now) routes.now }
-        ensures { OnOk result (self.new ≡ self.old
-            ++ rows_text problem.now grid broken first routes.now) }
+        ensures { self.new ≡ self.old
+            ++ rows_text problem.now grid broken first routes.now }
     {
         self.put(Text::Table);
-        self.put_each_row(alloc, problem, grid, broken, first, routes)?;
+        self.put_each_row(problem, grid, broken, first, routes);
         self.put(Text::GroupEnd);
-        Ok(())
     }
 
     fn put_each_row(
         &mut self,
-        alloc: Global,
         problem: &Problem,
         grid: Grid,
         broken: u64,
         first: u64,
         routes: &[Route],
-    ) -> Result<(), OutOfMemory>
+    )
         requires grid { 0 < grid.rows }
         requires first { first ≤ 2 ^ 63 }
         requires routes { All (AreLiveOnce problem.now) routes.now }
-        ensures { OnOk result (self.new ≡ self.old
-            ++ each (row_text problem.now grid broken first) 0 routes.now) }
+        ensures { self.new ≡ self.old
+            ++ each (row_text problem.now grid broken first) 0 routes.now }
     {
         for (index, route) in routes.iter().enumerate() {
-            self.put_row(alloc, problem, grid, broken, first, index, route.as_slice())?;
+            self.put_row(problem, grid, broken, first, index, route.as_slice());
         }
-        Ok(())
     }
 
     #[tactic(auto, unfolding(crate::specs::Table::row_text))]
     fn put_row(
         &mut self,
-        alloc: Global,
         problem: &Problem,
         grid: Grid,
         broken: u64,
         first: u64,
         index: usize,
         route: &[u32],
-    ) -> Result<(), OutOfMemory>
+    )
         requires grid { 0 < grid.rows }
         requires number { first + index < 2 ^ 64 }
         requires route { AreLiveOnce problem.now route.now }
-        ensures { OnOk result (self.new ≡ self.old
-            ++ row_text problem.now grid broken first index route.now) }
+        ensures { self.new ≡ self.old
+            ++ row_text problem.now grid broken first index route.now }
     {
         let number = first + index as u64;
         self.put_row_place(grid, index);
         self.put_row_head(broken, number);
-        self.put_figures(alloc, problem, number, route)?;
+        self.put_figures(problem, number, route);
         self.put_row_end(grid, index);
-        Ok(())
     }
 
     #[tactic(auto, unfolding(crate::specs::Table::row_place))]
@@ -128,23 +122,15 @@ impl Svg {
     }
 
     #[tactic(auto, unfolding(crate::specs::Table::figures_text))]
-    fn put_figures(
-        &mut self,
-        alloc: Global,
-        problem: &Problem,
-        number: u64,
-        route: &[u32],
-    ) -> Result<(), OutOfMemory>
+    fn put_figures(&mut self, problem: &Problem, number: u64, route: &[u32])
         requires { AreLiveOnce problem.now route.now }
-        ensures { OnOk result (self.new ≡ self.old
-            ++ figures_text problem.now number route.now) }
+        ensures { self.new ≡ self.old
+            ++ figures_text problem.now number route.now }
     {
-        let visits = visits(alloc, problem, route)?;
         self.put_named(Text::RouteCell, number as u128);
         self.put_named(Text::StopsCell, route.len() as u128);
-        self.put_load(top_load(&visits));
+        self.put_load(top_load(problem, route));
         self.put_named(Text::DistanceCell, route_distance(problem, route) as u128);
-        Ok(())
     }
 
     #[tactic(auto, unfolding(crate::specs::Table::load_text))]
@@ -177,12 +163,19 @@ impl Svg {
 }
 
 // The greatest load, at least 0.
-fn top_load(visits: &[Visit]) -> i64
-    ensures { result ≡ top_load visits.now }
+fn top_load(problem: &Problem, route: &[u32]) -> i64
+    requires { AreLiveOnce problem.now route.now }
+    ensures { result ≡ top_load (visits_of problem.now route.now) }
 {
     let mut top = 0;
-    for visit in visits {
-        top = top.max(visit.load);
+    for visit in Visits::new(problem, route) {
+        top = greater_load(top, &visit);
     }
     top
+}
+
+fn greater_load(top: i64, visit: &Visit) -> i64
+    ensures { result ≡ int_max top visit.now.load }
+{
+    top.max(visit.load)
 }

@@ -1,7 +1,11 @@
-use Rattle.std.proofs.Common.{◌≡◌, drop}
+use Rattle.std.proofs.Common.{◌≡◌}
+use Rattle.route_sched.specs.Visiting.{visits_from}
 use Rattle.plan_picture.specs.Days.{last_start}
+use Rattle.plan_picture.specs.Known.{visits_of}
 use Rattle.plan_picture.proofs.days.last_start.Given as goal
 
 -- the latest so far, and the starts to come
 abbrev pub invariant-loop-visit : goal.invariant-loop-visit
-invariant-loop-visit l = last_start l.last (drop l.visit-index l.visits) ≡ last_start l.first l.visits
+invariant-loop-visit l =
+    let left = visits_from l.visit-iterator.problem l.visit-iterator.route l.visit-iterator.place in
+    last_start l.last left ≡ last_start l.first (visits_of l.problem l.route)
