@@ -1,6 +1,7 @@
 //! What is said of a verdict.
 ghost use Rattle.std.specs.Prelude.{◌≡◌, ◌<◌, ◌++◌, All, IfOk, OnOk, string_bytes};
 ghost use Rattle.route_sched.specs.Route.{AreLiveOnce};
+ghost use Rattle.text_lines.specs.Lines.{ended};
 ghost use Rattle.plan_audit.specs.Verdict.{IsVerdict, printed};
 ghost use Rattle.plan_explain.specs.Explained.{places_shown, shown_text, verdict_text};
 ghost use Rattle.plan_explain.specs.Sentences.{route_told, row_told, sentence};
@@ -57,7 +58,8 @@ fn put_broken(
     requires { IsVerdict problem.now (printed solution.now.routes solution.now.cost)
         (Broken rule route place stop) }
     ensures { OnOk result (text.new ≡ text.old
-        ++ verdict_text problem.now solution.now (Broken rule route place stop)) }
+        ++ (ended (sentence problem.now solution.now rule route place stop)
+        ++ places_shown problem.now solution.now.routes rule route)) }
 {
     put_sentence(alloc, text, problem, solution, rule, route, place, stop)?;
     text.push_str("\n");
