@@ -12,8 +12,7 @@ const SHOWN: usize = 200;
 
 /// Appends a line of its own with these bytes.
 pub(crate) fn put_line(text: &mut Told, bytes: &[u8])
-    ensures { text.new
-        ≡ text.old ++ ended (shown_bytes bytes.now) }
+    ensures { text.new ≡ text.old ++ ended (shown_bytes bytes.now) }
 {
     put_shown(text, bytes);
     text.push_str("\n");
@@ -35,8 +34,7 @@ fn front(bytes: &[u8]) -> &[u8]
 }
 
 fn put_bytes(text: &mut Told, bytes: &[u8])
-    ensures { text.new
-        ≡ text.old ++ map shown_byte bytes.now }
+    ensures { text.new ≡ text.old ++ map shown_byte bytes.now }
 {
     for byte in bytes {
         text.push_ascii(shown_byte(*byte));

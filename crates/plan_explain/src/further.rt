@@ -23,8 +23,7 @@ pub(crate) fn put_further(
     rule: u32,
 ) -> Result<(), OutOfMemory>
     requires { 2 < rule → All (AreLiveOnce problem.now) routes.now }
-    ensures { OnOk result (text.new
-        ≡ text.old ++ further_text problem.now routes.now rule) }
+    ensures { OnOk result (text.new ≡ text.old ++ further_text problem.now routes.now rule) }
 {
     if rule == 3 {
         let stops = missing_stops(alloc, problem, routes)?;
@@ -55,8 +54,7 @@ fn first_stops(stops: &[u32]) -> &[u32]
 }
 
 fn put_stop_lines(text: &mut Told, stops: &[u32])
-    ensures { text.new
-        ≡ text.old ++ flat_map missing_stop_text stops.now }
+    ensures { text.new ≡ text.old ++ flat_map missing_stop_text stops.now }
 {
     for stop in stops {
         put_stop_line(text, *stop);
@@ -90,8 +88,7 @@ fn further(found: &[Breach]) -> &[Breach]
 }
 
 fn put_place_lines(text: &mut Told, found: &[Breach])
-    ensures { text.new
-        ≡ text.old ++ flat_map place_text found.now }
+    ensures { text.new ≡ text.old ++ flat_map place_text found.now }
 {
     for breach in found {
         put_place_line(text, *breach);

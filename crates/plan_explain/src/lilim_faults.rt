@@ -14,8 +14,7 @@ use instance_read::{ReadFault, ReadFaultKind};
 
 /// Appends what the line that the fault names has of it.
 pub(crate) fn put_lilim_detail(text: &mut Told, instance: &[u8], fault: ReadFault)
-    ensures { text.new
-        ≡ text.old ++ lilim_detail instance.now fault.line fault.kind }
+    ensures { text.new ≡ text.old ++ lilim_detail instance.now fault.line fault.kind }
 {
     let line = told_line(instance, fault.line);
     let layout = lilim_layout(instance, fault.line);
@@ -47,8 +46,7 @@ const TASK_WORDS: usize = 9;
 
 // The number of a task, and that of the task before.
 fn put_order(text: &mut Told, before: &[u8], line: &[u8])
-    ensures { text.new
-        ≡ text.old ++ order_text (words_of before.now) (words_of line.now) }
+    ensures { text.new ≡ text.old ++ order_text (words_of before.now) (words_of line.now) }
 {
     if word_count(before) == TASK_WORDS {
         put_behind(text, before, line)
@@ -58,16 +56,14 @@ fn put_order(text: &mut Told, before: &[u8], line: &[u8])
 }
 
 fn put_behind(text: &mut Told, before: &[u8], line: &[u8])
-    ensures { text.new
-        ≡ text.old ++ behind_text (words_of before.now) (words_of line.now) }
+    ensures { text.new ≡ text.old ++ behind_text (words_of before.now) (words_of line.now) }
 {
     put_cited(text, Phrase::Task, word_at(line, 0));
     put_cited(text, Phrase::BehindTask, word_at(before, 0));
 }
 
 fn put_window(text: &mut Told, line: &[u8])
-    ensures { text.new
-        ≡ text.old ++ window_text (words_of line.now) }
+    ensures { text.new ≡ text.old ++ window_text (words_of line.now) }
 {
     put_cited(text, Phrase::Begins, word_at(line, 4));
     put_cited(text, Phrase::Ends, word_at(line, 5));
@@ -75,8 +71,7 @@ fn put_window(text: &mut Told, line: &[u8])
 
 // Which line is missing behind the last one.
 fn put_missing_line(text: &mut Told, last: &[u8])
-    ensures { text.new
-        ≡ text.old ++ missing_line_text last.now }
+    ensures { text.new ≡ text.old ++ missing_line_text last.now }
 {
     if last.is_empty() {
         put_phrase(text, Phrase::NoHeader)

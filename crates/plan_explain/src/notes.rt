@@ -26,8 +26,7 @@ pub(crate) fn put_mark_note(text: &mut Told, refused: &[u8])
 
 /// Appends that an instance that is read as this kind looks like the other one, if it does.
 pub(crate) fn put_kind_note(text: &mut Told, kind: Kind, instance: &[u8])
-    ensures { text.new
-        ≡ text.old ++ kind_note kind instance.now }
+    ensures { text.new ≡ text.old ++ kind_note kind instance.now }
 {
     match kind {
         Kind::LiLim => put_mark(text, looks_vrp(instance), Phrase::LooksVrp),

@@ -31,8 +31,7 @@ pub(crate) struct Half {
 
 /// Appends why the task of this line is no half of a pair, and where the task is that it names.
 pub(crate) fn put_pair_fault(text: &mut Told, instance: &[u8], line: &[u8])
-    ensures { text.new
-        ≡ text.old ++ pair_fault_text instance.now (words_of line.now) }
+    ensures { text.new ≡ text.old ++ pair_fault_text instance.now (words_of line.now) }
 {
     let Half {
         pickup,
@@ -59,8 +58,7 @@ fn half_of(line: &[u8]) -> Half
 
 // The task that is named: its number, its line, and what is wrong with it.
 fn put_partner(text: &mut Told, instance: &[u8], line: &[u8], role: Role, number: u16)
-    ensures { text.new
-        ≡ text.old ++ partner_text instance.now (words_of line.now) role number }
+    ensures { text.new ≡ text.old ++ partner_text instance.now (words_of line.now) role number }
 {
     put_named(text, role_phrase(role), u64::from(number));
     put_found(text, instance, line, role, line_of_task(instance, number));
@@ -97,8 +95,7 @@ fn is_task_line(number: u16, line: &[u8]) -> bool
 
 // Where the task that is named stands, and what is wrong with it.
 fn put_found(text: &mut Told, instance: &[u8], line: &[u8], role: Role, found: Option<u64>)
-    ensures { text.new
-        ≡ text.old ++ found_text instance.now (words_of line.now) role found }
+    ensures { text.new ≡ text.old ++ found_text instance.now (words_of line.now) role found }
 {
     let Some(number) = found else {
         put_phrase(text, Phrase::NotThere);
@@ -110,8 +107,7 @@ fn put_found(text: &mut Told, instance: &[u8], line: &[u8], role: Role, found: O
 
 // What is wrong between the task of a line and the other one that it names.
 fn put_mismatch(text: &mut Told, role: Role, line: &[u8], other: &[u8])
-    ensures { text.new
-        ≡ text.old ++ mismatch_text role (words_of line.now) (words_of other.now) }
+    ensures { text.new ≡ text.old ++ mismatch_text role (words_of line.now) (words_of other.now) }
 {
     let back = names_back(role, other);
     if back == half_of(line).number {
@@ -148,8 +144,7 @@ fn back_phrase(role: Role) -> Phrase
 
 // The demands of two tasks that name each other.
 fn put_demands(text: &mut Told, role: Role, line: &[u8], other: &[u8])
-    ensures { text.new
-        ≡ text.old ++ demands_text role (words_of line.now) (words_of other.now) }
+    ensures { text.new ≡ text.old ++ demands_text role (words_of line.now) (words_of other.now) }
 {
     let demand = word_at(line, 3);
     put_cited(text, Phrase::HasDemand, word_at(other, 3));
@@ -159,8 +154,7 @@ fn put_demands(text: &mut Told, role: Role, line: &[u8], other: &[u8])
 
 // A pickup's demand that is below 0 is wrong whatever the other one is, and else their sum is.
 fn put_negative(text: &mut Told, role: Role, demand: &[u8])
-    ensures { text.new
-        ≡ text.old ++ negative_text role demand.now }
+    ensures { text.new ≡ text.old ++ negative_text role demand.now }
 {
     if role == Role::Delivery && is_beyond(demand, 0, MAX_DEMAND) {
         put_phrase(text, Phrase::NegativePickup)

@@ -53,8 +53,7 @@ pub fn explain_solution_fault(
 }
 
 fn put_instance_sentence(answer: &mut Told, kind: Kind, text: &[u8], fault: ReadFault)
-    ensures { answer.new
-        ≡ answer.old ++ instance_sentence kind text.now fault }
+    ensures { answer.new ≡ answer.old ++ instance_sentence kind text.now fault }
 {
     put_named(answer, Phrase::Line, fault.line);
     put_phrase(answer, Phrase::Colon);
@@ -64,8 +63,7 @@ fn put_instance_sentence(answer: &mut Told, kind: Kind, text: &[u8], fault: Read
 
 // What the line that the fault names has of it.
 fn put_instance_detail(answer: &mut Told, kind: Kind, text: &[u8], fault: ReadFault)
-    ensures { answer.new
-        ≡ answer.old ++ instance_detail kind text.now fault }
+    ensures { answer.new ≡ answer.old ++ instance_detail kind text.now fault }
 {
     match kind {
         Kind::LiLim => put_lilim_detail(answer, text, fault),
@@ -103,8 +101,7 @@ fn too_many(kind: Kind) -> Phrase
 }
 
 fn put_solution_sentence(answer: &mut Told, text: &[u8], fault: SolFault)
-    ensures { answer.new
-        ≡ answer.old ++ solution_sentence text.now fault }
+    ensures { answer.new ≡ answer.old ++ solution_sentence text.now fault }
 {
     put_named(answer, Phrase::Line, fault.line);
     put_phrase(answer, Phrase::Colon);
@@ -125,8 +122,7 @@ fn solution_reason(fault: SolFaultKind) -> Phrase
 
 // The end of the sentence's line, and the line with this number, if the text has it.
 fn put_line_under(answer: &mut Told, text: &[u8], number: u64)
-    ensures { answer.new
-        ≡ answer.old ++ under_sentence text.now number }
+    ensures { answer.new ≡ answer.old ++ under_sentence text.now number }
 {
     answer.push_str("\n");
     if let Some(bytes) = line_at(text, number) {

@@ -17,8 +17,7 @@ use sol_text::Solution;
 
 /// Appends words, and the number behind them.
 pub(crate) fn put_named(text: &mut Told, words: Phrase, n: u64)
-    ensures { text.new
-        ≡ text.old ++ (phrase words ++ decimal n) }
+    ensures { text.new ≡ text.old ++ (phrase words ++ decimal n) }
 {
     put_phrase(text, words);
     text.push_number(u128::from(n));
@@ -42,8 +41,7 @@ pub(crate) fn put_mark(text: &mut Told, holds: bool, words: Phrase)
 
 /// Appends that a stop is of no request.
 pub(crate) fn put_unknown(text: &mut Told, problem: &Problem, stop: u32)
-    ensures { text.new
-        ≡ text.old ++ unknown_sentence problem.now stop }
+    ensures { text.new ≡ text.old ++ unknown_sentence problem.now stop }
 {
     put_named(text, Phrase::UnknownStop, u64::from(stop));
     let next = u64::from(problem.next_number);
@@ -52,8 +50,7 @@ pub(crate) fn put_unknown(text: &mut Told, problem: &Problem, stop: u32)
 
 /// Appends where a stop that stands twice stands first.
 pub(crate) fn put_twice(text: &mut Told, routes: &[Route], stop: u32)
-    ensures { text.new
-        ≡ text.old ++ twice_sentence routes.now stop }
+    ensures { text.new ≡ text.old ++ twice_sentence routes.now stop }
 {
     put_phrase(text, Phrase::VisitedTwice);
     put_stands(text, routes, stop);
@@ -62,8 +59,7 @@ pub(crate) fn put_twice(text: &mut Told, routes: &[Route], stop: u32)
 
 /// Appends that a stop stands nowhere, and where the other one of its pair stands.
 pub(crate) fn put_missing(text: &mut Told, problem: &Problem, routes: &[Route], stop: u32)
-    ensures { text.new
-        ≡ text.old ++ missing_sentence problem.now routes.now stop }
+    ensures { text.new ≡ text.old ++ missing_sentence problem.now routes.now stop }
 {
     put_phrase(text, Phrase::MissingStop);
     put_pair(text, problem, routes, stop);
@@ -71,8 +67,7 @@ pub(crate) fn put_missing(text: &mut Told, problem: &Problem, routes: &[Route], 
 
 /// Appends where the stops of a split pair stand.
 pub(crate) fn put_split(text: &mut Told, problem: &Problem, routes: &[Route], stop: u32)
-    ensures { text.new
-        ≡ text.old ++ split_sentence problem.now routes.now stop }
+    ensures { text.new ≡ text.old ++ split_sentence problem.now routes.now stop }
 {
     put_phrase(text, Phrase::SplitPair);
     put_pair(text, problem, routes, stop);
@@ -80,8 +75,7 @@ pub(crate) fn put_split(text: &mut Told, problem: &Problem, routes: &[Route], st
 
 /// Appends where a delivery stands, and where its pickup does.
 pub(crate) fn put_early(text: &mut Told, problem: &Problem, routes: &[Route], stop: u32)
-    ensures { text.new
-        ≡ text.old ++ early_sentence problem.now routes.now stop }
+    ensures { text.new ≡ text.old ++ early_sentence problem.now routes.now stop }
 {
     put_phrase(text, Phrase::EarlyDelivery);
     put_stands(text, routes, stop);
@@ -89,16 +83,14 @@ pub(crate) fn put_early(text: &mut Told, problem: &Problem, routes: &[Route], st
 }
 
 fn put_pair(text: &mut Told, problem: &Problem, routes: &[Route], stop: u32)
-    ensures { text.new
-        ≡ text.old ++ pair_text problem.now routes.now stop }
+    ensures { text.new ≡ text.old ++ pair_text problem.now routes.now stop }
 {
     put_stands(text, routes, stop);
     put_beside(text, routes, Phrase::OtherStop, problem.partner_of(stop));
 }
 
 fn put_stands(text: &mut Told, routes: &[Route], stop: u32)
-    ensures { text.new
-        ≡ text.old ++ stands_text routes.now stop }
+    ensures { text.new ≡ text.old ++ stands_text routes.now stop }
 {
     put_named(text, Phrase::Stop, u64::from(stop));
     put_phrase(text, Phrase::Stands);
@@ -107,8 +99,7 @@ fn put_stands(text: &mut Told, routes: &[Route], stop: u32)
 
 // Where another stop stands, if there is one.
 fn put_beside(text: &mut Told, routes: &[Route], words: Phrase, stop: Option<u32>)
-    ensures { text.new
-        ≡ text.old ++ beside_text routes.now words stop }
+    ensures { text.new ≡ text.old ++ beside_text routes.now words stop }
 {
     let Some(stop) = stop else {
         return;
@@ -132,8 +123,7 @@ fn put_seat(text: &mut Told, seat: Option<Seat>)
 
 /// Appends the load after the place of this row, and the capacity.
 pub(crate) fn put_overload(text: &mut Told, problem: &Problem, row: Option<Row>)
-    ensures { text.new
-        ≡ text.old ++ load_sentence problem.now row }
+    ensures { text.new ≡ text.old ++ load_sentence problem.now row }
 {
     let Some(row) = row else {
         return;
@@ -145,8 +135,7 @@ pub(crate) fn put_overload(text: &mut Told, problem: &Problem, row: Option<Row>)
 
 // Words, and the number behind them.
 fn put_signed(text: &mut Told, words: Phrase, n: i64)
-    ensures { text.new
-        ≡ text.old ++ (phrase words ++ signed_decimal n) }
+    ensures { text.new ≡ text.old ++ (phrase words ++ signed_decimal n) }
 {
     put_phrase(text, words);
     text.push_signed(n);
@@ -154,16 +143,14 @@ fn put_signed(text: &mut Told, words: Phrase, n: i64)
 
 // Words, and behind them a stop with its demand.
 fn put_stop(text: &mut Told, problem: &Problem, words: Phrase, stop: u32)
-    ensures { text.new
-        ≡ text.old ++ stop_text problem.now words stop }
+    ensures { text.new ≡ text.old ++ stop_text problem.now words stop }
 {
     put_named(text, words, u64::from(stop));
     put_demand(text, problem.stop(stop));
 }
 
 fn put_demand(text: &mut Told, stop: Option<&Stop>)
-    ensures { text.new
-        ≡ text.old ++ demand_text (option_copied stop.entry) }
+    ensures { text.new ≡ text.old ++ demand_text (option_copied stop.entry) }
 {
     let Some(stop) = stop else {
         return;
@@ -173,16 +160,14 @@ fn put_demand(text: &mut Told, stop: Option<&Stop>)
 }
 
 fn put_demand_of(text: &mut Told, stop: &Stop)
-    ensures { text.new
-        ≡ text.old ++ signed_decimal stop.now.demand }
+    ensures { text.new ≡ text.old ++ signed_decimal stop.now.demand }
 {
     text.push_signed(i64::from(stop.demand));
 }
 
 /// Appends the start of service at the place of this row, and the latest there.
 pub(crate) fn put_late(text: &mut Told, problem: &Problem, row: Option<Row>)
-    ensures { text.new
-        ≡ text.old ++ late_sentence problem.now row }
+    ensures { text.new ≡ text.old ++ late_sentence problem.now row }
 {
     let Some(row) = row else {
         return;
@@ -196,8 +181,7 @@ pub(crate) fn put_late(text: &mut Told, problem: &Problem, row: Option<Row>)
 #[tactic(auto, unfolding(crate::specs::Sentences::return_sentence))]
 pub(crate) fn put_late_return(text: &mut Told, problem: &Problem, route: &[u32])
     requires { AreLiveOnce problem.now route.now }
-    ensures { text.new
-        ≡ text.old ++ return_sentence problem.now route.now }
+    ensures { text.new ≡ text.old ++ return_sentence problem.now route.now }
 {
     let back = visit_behind(problem, route, route.len()).start;
     put_return(text, problem, last_stop(route), back);
@@ -205,8 +189,7 @@ pub(crate) fn put_late_return(text: &mut Told, problem: &Problem, route: &[u32])
 
 // The last stop, and when the vehicle is back behind it.
 fn put_return(text: &mut Told, problem: &Problem, stop: u32, back: u64)
-    ensures { text.new
-        ≡ text.old ++ return_text problem.now stop back }
+    ensures { text.new ≡ text.old ++ return_text problem.now stop back }
 {
     put_stop(text, problem, Phrase::LateReturn, stop);
     put_phrase(text, Phrase::BackAt);
@@ -225,8 +208,7 @@ fn last_stop(route: &[u32]) -> u32
 }
 
 fn put_lateness(text: &mut Told, start: u64, latest: u32)
-    ensures { text.new
-        ≡ text.old ++ late_text start latest }
+    ensures { text.new ≡ text.old ++ late_text start latest }
 {
     let latest = u64::from(latest);
     text.push_number(u128::from(start));
@@ -236,8 +218,7 @@ fn put_lateness(text: &mut Told, start: u64, latest: u32)
 
 /// Appends how many vehicles are used, and how many there are.
 pub(crate) fn put_fleet(text: &mut Told, problem: &Problem, routes: &[Route])
-    ensures { text.new
-        ≡ text.old ++ fleet_sentence problem.now routes.now }
+    ensures { text.new ≡ text.old ++ fleet_sentence problem.now routes.now }
 {
     put_named(text, Phrase::TooManyVehicles, used_count(routes));
     put_named(text, Phrase::Fleet, u64::from(problem.fleet));
@@ -246,8 +227,7 @@ pub(crate) fn put_fleet(text: &mut Told, problem: &Problem, routes: &[Route])
 /// Appends the printed cost, and the distance driven.
 pub(crate) fn put_cost(text: &mut Told, problem: &Problem, solution: &Solution)
     requires { All (AreLiveOnce problem.now) solution.now.routes }
-    ensures { text.new
-        ≡ text.old ++ cost_sentence problem.now solution.now }
+    ensures { text.new ≡ text.old ++ cost_sentence problem.now solution.now }
 {
     let distance = total_distance(problem, solution.routes.as_slice());
     put_named(text, Phrase::WrongCost, solution.cost);

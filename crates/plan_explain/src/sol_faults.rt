@@ -20,8 +20,7 @@ use text_lines::{Words, trim_blanks_start};
 
 /// Appends what the line that the fault names has of it.
 pub(crate) fn put_sol_detail(text: &mut Told, solution: &[u8], fault: SolFault)
-    ensures { text.new
-        ≡ text.old ++ sol_detail solution.now fault.line fault.kind }
+    ensures { text.new ≡ text.old ++ sol_detail solution.now fault.line fault.kind }
 {
     let line = told_line(solution, fault.line);
     match fault.kind {
@@ -33,8 +32,7 @@ pub(crate) fn put_sol_detail(text: &mut Told, solution: &[u8], fault: SolFault)
 
 // How many words a cost line has.
 fn put_bad_line(text: &mut Told, line: &[u8])
-    ensures { text.new
-        ≡ text.old ++ bad_line_text (cost_tail line.now) }
+    ensures { text.new ≡ text.old ++ bad_line_text (cost_tail line.now) }
 {
     let Some(tail) = cost_tail(line) else {
         return;
@@ -44,8 +42,7 @@ fn put_bad_line(text: &mut Told, line: &[u8])
 }
 
 fn put_wrong_number(text: &mut Told, line: &[u8])
-    ensures { text.new
-        ≡ text.old ++ wrong_number_text line.now }
+    ensures { text.new ≡ text.old ++ wrong_number_text line.now }
 {
     match cost_tail(line) {
         Some(tail) => put_bad_cost(text, word_at(tail, 0)),
@@ -54,8 +51,7 @@ fn put_wrong_number(text: &mut Told, line: &[u8])
 }
 
 fn put_bad_cost(text: &mut Told, word: &[u8])
-    ensures { text.new
-        ≡ text.old ++ bad_cost_text word.now }
+    ensures { text.new ≡ text.old ++ bad_cost_text word.now }
 {
     put_cited(text, Phrase::CostIs, word);
     put_fraction(text, word);
@@ -63,8 +59,7 @@ fn put_bad_cost(text: &mut Told, word: &[u8])
 }
 
 fn put_bad_customer(text: &mut Told, tail: &[u8])
-    ensures { text.new
-        ≡ text.old ++ bad_customer_text (words_of tail.now) }
+    ensures { text.new ≡ text.old ++ bad_customer_text (words_of tail.now) }
 {
     let Some(place) = no_customer_place(tail) else {
         return;

@@ -111,8 +111,7 @@ fn put_places(
     route: u64,
 ) -> Result<(), OutOfMemory>
     requires { 2 < rule → All (AreLiveOnce problem.now) routes.now }
-    ensures { OnOk result (text.new
-        ≡ text.old ++ places_shown problem.now routes.now rule route) }
+    ensures { OnOk result (text.new ≡ text.old ++ places_shown problem.now routes.now rule route) }
 {
     put_shown(alloc, text, problem, routes, rule, route)?;
     put_further(alloc, text, problem, routes, rule)
@@ -128,8 +127,7 @@ fn put_shown(
     route: u64,
 ) -> Result<(), OutOfMemory>
     requires { 2 < rule → All (AreLiveOnce problem.now) routes.now }
-    ensures { OnOk result (text.new
-        ≡ text.old ++ shown_text problem.now routes.now rule route) }
+    ensures { OnOk result (text.new ≡ text.old ++ shown_text problem.now routes.now rule route) }
 {
     if rule == 11 {
         return put_summary(alloc, text, problem, routes);

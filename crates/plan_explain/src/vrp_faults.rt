@@ -27,8 +27,7 @@ const REQUIRED: [Name; 6] = [
 
 /// Appends what the line that the fault names has of it.
 pub(crate) fn put_vrp_detail(text: &mut Told, instance: &[u8], fault: ReadFault)
-    ensures { text.new
-        ≡ text.old ++ vrp_detail instance.now fault.line fault.kind }
+    ensures { text.new ≡ text.old ++ vrp_detail instance.now fault.line fault.kind }
 {
     let line = told_line(instance, fault.line);
     let walk = walk_before(instance, fault.line);
@@ -81,8 +80,7 @@ fn numbers_of(walk: Walk, line: &[u8]) -> &[u8]
 
 // How many words are due and found, and what the section lacks.
 fn put_count(text: &mut Told, walk: Walk, line: &[u8])
-    ensures { text.new
-        ≡ text.old ++ count_text walk line.now }
+    ensures { text.new ≡ text.old ++ count_text walk line.now }
 {
     match walk.section {
         Section::Outside => put_key_count(text, walk.nodes, line),
@@ -92,16 +90,14 @@ fn put_count(text: &mut Told, walk: Walk, line: &[u8])
 }
 
 fn put_node_count(text: &mut Told, walk: Walk, line: &[u8])
-    ensures { text.new
-        ≡ text.old ++ node_count_text walk line.now }
+    ensures { text.new ≡ text.old ++ node_count_text walk line.now }
 {
     put_counts(text, vrp_layout(walk, line), line);
     put_left(text, Phrase::There, walk.section);
 }
 
 fn put_key_count(text: &mut Told, nodes: u16, line: &[u8])
-    ensures { text.new
-        ≡ text.old ++ key_count_text nodes line.now }
+    ensures { text.new ≡ text.old ++ key_count_text nodes line.now }
 {
     if is_key(Name::KeyDimension, line) || is_key(Name::KeyCapacity, line) {
         put_counts(text, key_layout(line), value_of(line))
@@ -123,8 +119,7 @@ fn put_stray(text: &mut Told, nodes: u16)
 
 // How many lines a section lacks, from this one on.
 fn put_left(text: &mut Told, words: Phrase, section: Section)
-    ensures { text.new
-        ≡ text.old ++ left_text words section }
+    ensures { text.new ≡ text.old ++ left_text words section }
 {
     match section {
         Section::Coordinates(left) => put_lacking(text, words, Name::KeyCoordinates, left),
@@ -135,8 +130,7 @@ fn put_left(text: &mut Told, words: Phrase, section: Section)
 }
 
 fn put_lacking(text: &mut Told, words: Phrase, section: Name, left: u16)
-    ensures { text.new
-        ≡ text.old ++ lacking_text words section left }
+    ensures { text.new ≡ text.old ++ lacking_text words section left }
 {
     put_phrase(text, words);
     put_name(text, section);
@@ -146,8 +140,7 @@ fn put_lacking(text: &mut Told, words: Phrase, section: Name, left: u16)
 
 // The key with its value, and the one that is supported.
 fn put_unsupported(text: &mut Told, line: &[u8])
-    ensures { text.new
-        ≡ text.old ++ unsupported_text line.now }
+    ensures { text.new ≡ text.old ++ unsupported_text line.now }
 {
     if is_key(Name::KeyType, line) {
         put_supported(text, line, Name::KeyType, Name::Cvrp);
@@ -161,8 +154,7 @@ fn put_unsupported(text: &mut Told, line: &[u8])
 }
 
 fn put_supported(text: &mut Told, line: &[u8], key: Name, value: Name)
-    ensures { text.new
-        ≡ text.old ++ supported_text line.now key value }
+    ensures { text.new ≡ text.old ++ supported_text line.now key value }
 {
     put_phrase(text, Phrase::Colon);
     put_name(text, key);
@@ -171,8 +163,7 @@ fn put_supported(text: &mut Told, line: &[u8], key: Name, value: Name)
 }
 
 fn put_only(text: &mut Told, value: Name)
-    ensures { text.new
-        ≡ text.old ++ only_text value }
+    ensures { text.new ≡ text.old ++ only_text value }
 {
     put_phrase(text, Phrase::Supported);
     put_name(text, value);
@@ -180,8 +171,7 @@ fn put_only(text: &mut Told, value: Name)
 
 // What is missing: DIMENSION before a section, or the keys that no line has.
 fn put_missing(text: &mut Told, instance: &[u8], line: &[u8])
-    ensures { text.new
-        ≡ text.old ++ missing_text instance.now line.now }
+    ensures { text.new ≡ text.old ++ missing_text instance.now line.now }
 {
     if is_key(Name::KeyCoordinates, line) || is_key(Name::KeyDemands, line) {
         put_phrase(text, Phrase::NotBefore);
@@ -192,8 +182,7 @@ fn put_missing(text: &mut Told, instance: &[u8], line: &[u8])
 }
 
 fn put_lacked(text: &mut Told, instance: &[u8], keys: &[Name])
-    ensures { text.new
-        ≡ text.old ++ flat_map (lacked_text instance.now) keys.now }
+    ensures { text.new ≡ text.old ++ flat_map (lacked_text instance.now) keys.now }
 {
     for key in keys {
         put_unless_there(text, instance, *key);
@@ -201,8 +190,7 @@ fn put_lacked(text: &mut Told, instance: &[u8], keys: &[Name])
 }
 
 fn put_unless_there(text: &mut Told, instance: &[u8], key: Name)
-    ensures { text.new
-        ≡ text.old ++ lacked_text instance.now key }
+    ensures { text.new ≡ text.old ++ lacked_text instance.now key }
 {
     if stands_in(key, instance) {
         return;
@@ -213,8 +201,7 @@ fn put_unless_there(text: &mut Told, instance: &[u8], key: Name)
 
 // The node or the key that stands twice.
 fn put_repeated(text: &mut Told, walk: Walk, line: &[u8])
-    ensures { text.new
-        ≡ text.old ++ repeated_text walk line.now }
+    ensures { text.new ≡ text.old ++ repeated_text walk line.now }
 {
     match walk.section {
         Section::Outside => put_cited(text, Phrase::Colon, key_of(line)),

@@ -29,8 +29,7 @@ pub(crate) fn put_name(text: &mut Told, field: Name)
 
 /// Appends words, and bytes of a text behind them.
 pub(crate) fn put_cited(text: &mut Told, words: Phrase, bytes: &[u8])
-    ensures { text.new
-        ≡ text.old ++ (phrase words ++ shown_bytes bytes.now) }
+    ensures { text.new ≡ text.old ++ (phrase words ++ shown_bytes bytes.now) }
 {
     put_phrase(text, words);
     put_shown(text, bytes);
@@ -38,8 +37,7 @@ pub(crate) fn put_cited(text: &mut Told, words: Phrase, bytes: &[u8])
 
 /// Appends how many words are due in a line, and how many there are.
 pub(crate) fn put_counts(text: &mut Told, layout: Layout, line: &[u8])
-    ensures { text.new
-        ≡ text.old ++ counts_text layout (words_of line.now) }
+    ensures { text.new ≡ text.old ++ counts_text layout (words_of line.now) }
 {
     put_named(text, Phrase::Colon, due(layout));
     put_named(text, Phrase::Due, word_count(line) as u64);
@@ -54,8 +52,7 @@ fn due(layout: Layout) -> u64
 
 /// Appends the first word that is no number, with the name of its field.
 pub(crate) fn put_bad(text: &mut Told, layout: Layout, line: &[u8])
-    ensures { text.new
-        ≡ text.old ++ bad_text layout (words_of line.now) }
+    ensures { text.new ≡ text.old ++ bad_text layout (words_of line.now) }
 {
     let Some(place) = no_number_place(line) else {
         return;
@@ -80,8 +77,7 @@ pub(crate) fn no_number_place(line: &[u8]) -> Option<usize>
 
 /// Appends the word at a place, with the name of its field.
 pub(crate) fn put_field(text: &mut Told, layout: Layout, line: &[u8], place: usize)
-    ensures { text.new
-        ≡ text.old ++ field_text layout (words_of line.now) place }
+    ensures { text.new ≡ text.old ++ field_text layout (words_of line.now) place }
 {
     put_phrase(text, Phrase::Colon);
     put_name(text, name_at(layout, place));
@@ -90,8 +86,7 @@ pub(crate) fn put_field(text: &mut Told, layout: Layout, line: &[u8], place: usi
 
 /// Appends that a word has a fraction, if that is why it is no number.
 pub(crate) fn put_fraction(text: &mut Told, word: &[u8])
-    ensures { text.new
-        ≡ text.old ++ fraction_text word.now }
+    ensures { text.new ≡ text.old ++ fraction_text word.now }
 {
     if is_fraction(word) {
         put_phrase(text, Phrase::Fraction)
@@ -100,8 +95,7 @@ pub(crate) fn put_fraction(text: &mut Told, word: &[u8])
 
 /// Appends the first number outside its limits, with the name of its field and these limits.
 pub(crate) fn put_beyond(text: &mut Told, layout: Layout, line: &[u8])
-    ensures { text.new
-        ≡ text.old ++ beyond_text layout (words_of line.now) }
+    ensures { text.new ≡ text.old ++ beyond_text layout (words_of line.now) }
 {
     let Some(place) = beyond_place(layout, line) else {
         return;
@@ -145,8 +139,7 @@ fn put_limits(text: &mut Told, limits: Option<Limits>)
 
 // Words, and the number behind them.
 fn put_signed(text: &mut Told, words: Phrase, n: i32)
-    ensures { text.new
-        ≡ text.old ++ (phrase words ++ signed_decimal n) }
+    ensures { text.new ≡ text.old ++ (phrase words ++ signed_decimal n) }
 {
     put_phrase(text, words);
     text.push_signed(i64::from(n));

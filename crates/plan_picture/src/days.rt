@@ -15,8 +15,7 @@ impl Svg {
     /// The chart, where windows count.
     pub(crate) fn put_days(&mut self, problem: &Problem, routes: &[Route])
         requires { All (AreLiveOnce problem.now) routes.now }
-        ensures { self.new ≡ self.old
-            ++ days_text problem.now.kind problem.now routes.now }
+        ensures { self.new ≡ self.old ++ days_text problem.now.kind problem.now routes.now }
     {
         match problem.kind {
             Kind::LiLim => {
@@ -120,8 +119,7 @@ impl Svg {
 
     fn put_each_times_row(&mut self, problem: &Problem, last: u64, routes: &[Route])
         requires { All (AreLiveOnce problem.now) routes.now }
-        ensures { self.new ≡ self.old
-            ++ each (times_row problem.now last) 0 routes.now }
+        ensures { self.new ≡ self.old ++ each (times_row problem.now last) 0 routes.now }
     {
         for (index, route) in routes.iter().enumerate() {
             self.put_times_row(problem, last, index, route.as_slice());
@@ -188,8 +186,7 @@ impl Svg {
 
     fn put_visits(&mut self, first: u32, problem: &Problem, route: &[u32])
         requires { AreLiveOnce problem.now route.now }
-        ensures { self.new ≡ self.old
-            ++ visits_text first 0 (visits_of problem.now route.now) }
+        ensures { self.new ≡ self.old ++ visits_text first 0 (visits_of problem.now route.now) }
     {
         let mut start = u64::from(first);
         let mut service = 0;
@@ -202,8 +199,7 @@ impl Svg {
 
     #[tactic(auto, unfolding(crate::specs::Days::visit_text))]
     fn put_visit(&mut self, start: u64, service: u32, visit: &Visit)
-        ensures { self.new ≡ self.old
-            ++ visit_text (start + service) visit.now }
+        ensures { self.new ≡ self.old ++ visit_text (start + service) visit.now }
     {
         self.put_work(start as u128 + service as u128, visit);
         self.put_window(&visit.stop);

@@ -74,8 +74,7 @@ impl Svg {
         number: u64,
     )
         requires { All (AreLiveOnce problem.now) routes.now }
-        ensures { self.new ≡ self.old
-            ++ title_text problem.now routes.now verdict number }
+        ensures { self.new ≡ self.old ++ title_text problem.now routes.now verdict number }
     {
         self.put(title_head(verdict));
         self.put_scope(number, routes.len());
@@ -103,8 +102,7 @@ impl Svg {
 
     fn put_verdict(&mut self, problem: &Problem, routes: &[Route], verdict: Verdict)
         requires { All (AreLiveOnce problem.now) routes.now }
-        ensures { self.new ≡ self.old
-            ++ verdict_text problem.now routes.now verdict }
+        ensures { self.new ≡ self.old ++ verdict_text problem.now routes.now verdict }
     {
         match verdict {
             Verdict::Pass(cost) => self.put_cost(problem.kind, cost),
@@ -146,8 +144,7 @@ impl Svg {
         stop: u32,
     )
         requires { All (AreLiveOnce problem.now) routes.now }
-        ensures { self.new ≡ self.old
-            ++ broken_text problem.now routes.now rule route place stop }
+        ensures { self.new ≡ self.old ++ broken_text problem.now routes.now rule route place stop }
     {
         self.put_named(Text::BrokenRule, rule as u128);
         self.put(rule_name(rule));
@@ -174,8 +171,7 @@ impl Svg {
         stop: u32,
     )
         requires { All (AreLiveOnce problem.now) routes.now }
-        ensures { self.new ≡ self.old
-            ++ figures_of problem.now routes.now rule route place stop }
+        ensures { self.new ≡ self.old ++ figures_of problem.now routes.now rule route place stop }
     {
         if rule == 3 || rule == 4 || rule == 5 {
             self.put_partner(problem, stop);
@@ -200,8 +196,7 @@ impl Svg {
     }
 
     fn put_visit_told(&mut self, problem: &Problem, rule: u32, visit: Option<Visit>)
-        ensures { self.new ≡ self.old
-            ++ option_map_or (visit_figures problem.now rule) visit [] }
+        ensures { self.new ≡ self.old ++ option_map_or (visit_figures problem.now rule) visit [] }
     {
         match visit {
             Some(visit) => self.put_visit_figures(problem, rule, &visit),

@@ -137,8 +137,7 @@ impl Svg {
 
     // A delivery is joined with its pickup.
     fn put_pair(&mut self, problem: &Problem, frame: &Frame, stops: &[Stop], stop: &Stop)
-        ensures { self.new ≡ self.old
-            ++ pair_text problem.now frame.now stops.now stop.now }
+        ensures { self.new ≡ self.old ++ pair_text problem.now frame.now stops.now stop.now }
     {
         let Some(number) = problem.pickup_of(stop.number) else {
             return;
@@ -170,8 +169,7 @@ impl Svg {
     )
         requires first { first ≤ 2 ^ 63 }
         requires routes { All (AreLiveOnce problem.now) routes.now }
-        ensures { self.new ≡ self.old
-            ++ lines_text problem.now frame.now broken first routes.now }
+        ensures { self.new ≡ self.old ++ lines_text problem.now frame.now broken first routes.now }
     {
         self.put(Text::Legs);
         self.put_each_line(problem, frame, broken, first, routes);
@@ -208,8 +206,7 @@ impl Svg {
         route: &[u32],
     )
         requires { AreLiveOnce problem.now route.now }
-        ensures { self.new ≡ self.old
-            ++ line_text problem.now frame.now broken number route.now }
+        ensures { self.new ≡ self.old ++ line_text problem.now frame.now broken number route.now }
     {
         self.put_line_head(broken, number);
         self.put_legs(frame, &problem.depot, problem, route);
@@ -274,8 +271,7 @@ impl Svg {
     }
 
     fn put_under_marks(&mut self, problem: &Problem, frame: &Frame, stops: &[Stop])
-        ensures { self.new ≡ self.old
-            ++ flat_map (under_mark problem.now frame.now) stops.now }
+        ensures { self.new ≡ self.old ++ flat_map (under_mark problem.now frame.now) stops.now }
     {
         for stop in stops {
             self.put_under_mark(problem, frame, stop);
@@ -283,8 +279,7 @@ impl Svg {
     }
 
     fn put_over_marks(&mut self, problem: &Problem, frame: &Frame, stops: &[Stop])
-        ensures { self.new ≡ self.old
-            ++ flat_map (over_mark problem.now frame.now) stops.now }
+        ensures { self.new ≡ self.old ++ flat_map (over_mark problem.now frame.now) stops.now }
     {
         for stop in stops {
             self.put_over_mark(problem, frame, stop);
@@ -320,16 +315,14 @@ impl Svg {
 
     #[tactic(auto, unfolding(crate::specs::Map::rings_text))]
     fn put_rings(&mut self, frame: &Frame, stops: &[Stop], left: &[Stop], broken: u32)
-        ensures { self.new ≡ self.old
-            ++ rings_text frame.now stops.now left.now broken }
+        ensures { self.new ≡ self.old ++ rings_text frame.now stops.now left.now broken }
     {
         self.put_unserved(frame, left);
         self.put_ring(frame, stops, broken);
     }
 
     fn put_unserved(&mut self, frame: &Frame, left: &[Stop])
-        ensures { self.new ≡ self.old
-            ++ flat_map (mark_text Text.UnservedMark frame.now) left.now }
+        ensures { self.new ≡ self.old ++ flat_map (mark_text Text.UnservedMark frame.now) left.now }
     {
         for stop in left {
             self.put_mark(Text::UnservedMark, frame, stop);
@@ -355,8 +348,7 @@ impl Svg {
     }
 
     fn put_each_label(&mut self, frame: &Frame, labels: &[Label])
-        ensures { self.new ≡ self.old
-            ++ flat_map (label_text frame.now) labels.now }
+        ensures { self.new ≡ self.old ++ flat_map (label_text frame.now) labels.now }
     {
         for label in labels {
             self.put_label(frame, label);
@@ -408,8 +400,7 @@ impl Svg {
     // A number in its area.
     #[tactic(auto, unfolding(crate::specs::Map::number_text))]
     fn put_number_at(&mut self, frame: &Frame, text: Text, k: u32, number: u64, area: &Area)
-        ensures { self.new ≡ self.old
-            ++ number_text frame.now text k number area.now }
+        ensures { self.new ≡ self.old ++ number_text frame.now text k number area.now }
     {
         let foot = foot_of(frame, k, area);
         self.put_placed(text, foot);

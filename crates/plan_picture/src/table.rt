@@ -51,8 +51,7 @@ impl Svg {
         requires grid { 0 < grid.rows }
         requires first { first ≤ 2 ^ 63 }
         requires routes { All (AreLiveOnce problem.now) routes.now }
-        ensures { self.new ≡ self.old
-            ++ rows_text problem.now grid broken first routes.now }
+        ensures { self.new ≡ self.old ++ rows_text problem.now grid broken first routes.now }
     {
         self.put(Text::Table);
         self.put_each_row(problem, grid, broken, first, routes);
@@ -91,8 +90,7 @@ impl Svg {
         requires grid { 0 < grid.rows }
         requires number { first + index < 2 ^ 64 }
         requires route { AreLiveOnce problem.now route.now }
-        ensures { self.new ≡ self.old
-            ++ row_text problem.now grid broken first index route.now }
+        ensures { self.new ≡ self.old ++ row_text problem.now grid broken first index route.now }
     {
         let number = first + index as u64;
         self.put_row_place(grid, index);
@@ -124,8 +122,7 @@ impl Svg {
     #[tactic(auto, unfolding(crate::specs::Table::figures_text))]
     fn put_figures(&mut self, problem: &Problem, number: u64, route: &[u32])
         requires { AreLiveOnce problem.now route.now }
-        ensures { self.new ≡ self.old
-            ++ figures_text problem.now number route.now }
+        ensures { self.new ≡ self.old ++ figures_text problem.now number route.now }
     {
         self.put_named(Text::RouteCell, number as u128);
         self.put_named(Text::StopsCell, route.len() as u128);
