@@ -2,7 +2,7 @@
 
 use instance_read::{ReadFault, read_lilim, read_vrp};
 use plan_types::{Kind, Problem};
-use std::alloc::Global;
+use std::alloc::{AllocError, Global};
 
 /// One pickup and its delivery: the vehicle serves them at 5 and at 12, and is back at 24.
 pub const ONE_PAIR: &[u8] =
@@ -36,4 +36,74 @@ pub fn read_instance(alloc: Global, kind: Kind, text: &[u8]) -> Result<Problem, 
         Kind::LiLim => read_lilim(alloc, text),
         Kind::Vrp => read_vrp(alloc, text),
     }
+}
+
+/// The form of lines that are numbered from 1.
+#[derive(Clone, Copy)]
+pub enum Form {
+    /// Of pair k: stop 2k is the delivery of stop 2k-1.
+    Pair,
+    /// Node n stands at (n, -n).
+    Node,
+    /// Node n asks for n.
+    Demand,
+    /// Route n visits stop n.
+    Route,
+    /// A stop behind others of its route.
+    Stop,
+    /// A digit behind others of its number.
+    Nine,
+}
+
+// The line of a pair with so many before it.
+fn pair_line(alloc: Global, before: u32) -> Result<String, AllocError> {
+    let pickup = before.saturating_mul(2).saturating_add(1);
+    let delivery = pickup.saturating_add(1);
+    format!(in alloc;
+        "{pickup} {before} -{before} 7 0 100000000 90 0 {delivery}\n{delivery} 0 {before} -7 0 100000000 90 {pickup} 0\n"
+    )
+}
+
+// The line with so many before it.
+fn line_of(alloc: Global, form: Form, before: u32) -> Result<String, AllocError> {
+    let number = before.saturating_add(1);
+    match form {
+        Form::Pair => pair_line(alloc, before),
+        Form::Node => format!(in alloc; "{number} {number} -{number}\n"),
+        Form::Demand => format!(in alloc; "{number} {number}\n"),
+        Form::Route => format!(in alloc; "Route #{number}: {number}\n"),
+        Form::Stop => format!(in alloc; " {number}"),
+        Form::Nine => format!(in alloc; "9"),
+    }
+}
+
+/// A part of a text.
+#[derive(Clone, Copy)]
+pub enum Part {
+    Text(&'static [u8]),
+    /// So many lines of a form.
+    Lines(Form, u32),
+}
+
+fn put_lines(alloc: Global, text: &mut Vec<u8>, form: Form, count: u32) -> Result<(), AllocError> {
+    for before in 0..count {
+        text.extend_from_slice(line_of(alloc, form, before)?.as_bytes())?;
+    }
+    Ok(())
+}
+
+fn put_part(alloc: Global, text: &mut Vec<u8>, part: Part) -> Result<(), AllocError> {
+    match part {
+        Part::Text(bytes) => text.extend_from_slice(bytes),
+        Part::Lines(form, count) => put_lines(alloc, text, form, count),
+    }
+}
+
+/// The text of these parts.
+pub fn text_of(alloc: Global, parts: &[Part]) -> Result<Vec<u8>, AllocError> {
+    let mut text = Vec::new(alloc);
+    for part in parts {
+        put_part(alloc, &mut text, *part)?;
+    }
+    Ok(text)
 }

@@ -17,7 +17,7 @@ const BEHIND: [(&[u8], Option<u64>); 9] = [
 
 #[test]
 fn finds_what_stands_behind_the_cost(rt: HostRuntime) {
-    for (row, (text, line)) in BEHIND.iter().enumerate() {
-        assert!(rt; line_behind_cost(text) == *line, "row {row}");
+    for (text, line) in &BEHIND {
+        assert!(rt; line_behind_cost(text) == *line);
     }
 }

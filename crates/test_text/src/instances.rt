@@ -1,9 +1,9 @@
 //! Instances as texts, of both formats.
 
-use crate::builders::{ONE_PAIR, THREE_CUSTOMERS, read_instance};
+use crate::builders::{Form, ONE_PAIR, Part, THREE_CUSTOMERS, read_instance, text_of};
 use instance_read::{ReadFault, ReadFaultKind, read_vrp};
 use plan_types::{Kind, Problem, limits};
-use std::alloc::{AllocError, Global};
+use std::alloc::Global;
 use std::test::Fail;
 
 /// The most stops that a problem can have.
@@ -116,11 +116,8 @@ const READ: [(Kind, &[u8], Figures, &[Spot]); 5] = [
 
 #[test]
 fn reads_instances(rt: HostRuntime) {
-    for (row, (kind, text, figures, spots)) in READ.iter().enumerate() {
-        assert!(rt;
-            is_read_as(rt.alloc(), *kind, text, *figures, spots),
-            "row {row}"
-        );
+    for (kind, text, figures, spots) in &READ {
+        assert!(rt; is_read_as(rt.alloc(), *kind, text, *figures, spots));
     }
 }
 
@@ -315,10 +312,7 @@ fn tells_the_first_fault_of_a_section(rt: HostRuntime) {
 fn reads_every_prefix(rt: HostRuntime) {
     for end in 0..THREE_CUSTOMERS.len() {
         let is_read = read_vrp(rt.alloc(), &THREE_CUSTOMERS[..end]).is_ok();
-        assert!(rt;
-            is_read == (168 <= end && end <= 172),
-            "the first {end} bytes"
-        );
+        assert!(rt; is_read == (168 <= end && end <= 172));
     }
 }
 
@@ -329,95 +323,62 @@ fn tells_a_cut_section(rt: HostRuntime) {
     assert!(rt; is_refused(rt.alloc(), Kind::Vrp, nine_lines, 10, truncated));
 }
 
-fn long_number(alloc: Global) -> Result<Vec<u8>, AllocError> {
-    let mut text = Vec::new(alloc);
-    text.extend_from_slice(b"\nCAPACITY : ")?;
-    for _ in 0..1_000_000 {
-        text.push(b'9')?;
-    }
-    Ok(text)
-}
+const LONG_NUMBER: [Part; 2] = [
+    Part::Text(b"\nCAPACITY : "),
+    Part::Lines(Form::Nine, 1_000_000),
+];
 
 #[test]
 fn tells_the_line_of_a_long_number(rt: HostRuntime) -> Result<(), Fail> {
-    let text = long_number(rt.alloc())?;
+    let text = text_of(rt.alloc(), &LONG_NUMBER)?;
     assert!(rt; is_refused(rt.alloc(), Kind::Vrp, &text, 2, ReadFaultKind::Range));
     Ok(())
 }
 
-// A Li-Lim text of as many pairs as a problem can have, in which stop 2k is the delivery of stop 2k-1.
-fn lilim_of_most_pairs(alloc: Global) -> Result<Vec<u8>, AllocError> {
-    let mut text = Vec::new(alloc);
-    text.extend_from_slice(b"40000 1000000 1\n0 0 0 0 0 100000000 0 0 0\n")?;
-    for pair in 0..STOPS / 2 {
-        let pickup = 2 * pair + 1;
-        let delivery = pickup + 1;
-        let tasks = format!(in alloc;
-            "{pickup} {pair} -{pair} 7 0 100000000 90 0 {delivery}\n{delivery} 0 {pair} -7 0 100000000 90 {pickup} 0\n"
-        )?;
-        text.extend_from_slice(tasks.as_bytes())?;
-    }
-    Ok(text)
-}
+/// A Li-Lim text of as many pairs as a problem can have, in which stop 2k is the delivery of stop 2k-1.
+const MOST_PAIRS: [Part; 2] = [
+    Part::Text(b"40000 1000000 1\n0 0 0 0 0 100000000 0 0 0\n"),
+    Part::Lines(Form::Pair, STOPS / 2),
+];
 
-/// What each node has a line of.
-#[derive(Clone, Copy)]
-enum Section {
-    /// Node n stands at (n, -n).
-    Nodes,
-    /// Node n asks for n.
-    Demands,
-}
-
-fn put_section(alloc: Global, text: &mut Vec<u8>, section: Section) -> Result<(), AllocError> {
-    for before in 0..=STOPS {
-        let node = before + 1;
-        let line = match section {
-            Section::Nodes => format!(in alloc; "{node} {node} -{node}\n")?,
-            Section::Demands => format!(in alloc; "{node} {node}\n")?,
-        };
-        text.extend_from_slice(line.as_bytes())?;
-    }
-    Ok(())
-}
-
-// A `.vrp` text of as many customers as a problem can have.
-fn vrp_of_most_customers(alloc: Global) -> Result<Vec<u8>, AllocError> {
-    let mut text = Vec::new(alloc);
-    text.extend_from_slice(
+/// A `.vrp` text of as many customers as a problem can have: node n stands at (n, -n) and asks for n.
+const MOST_CUSTOMERS: [Part; 5] = [
+    Part::Text(
         b"DIMENSION : 40001\nCAPACITY : 1000000\nEDGE_WEIGHT_TYPE : EUC_2D\nNODE_COORD_SECTION\n",
-    )?;
-    put_section(alloc, &mut text, Section::Nodes)?;
-    text.extend_from_slice(b"DEMAND_SECTION\n")?;
-    put_section(alloc, &mut text, Section::Demands)?;
-    text.extend_from_slice(b"DEPOT_SECTION\n1\n-1\nEOF\n")?;
-    Ok(text)
-}
+    ),
+    Part::Lines(Form::Node, STOPS + 1),
+    Part::Text(b"DEMAND_SECTION\n"),
+    Part::Lines(Form::Demand, STOPS + 1),
+    Part::Text(b"DEPOT_SECTION\n1\n-1\nEOF\n"),
+];
 
-/// The last pair of the most.
-const LAST_PAIR: [Spot; 2] = [
-    (39_999, [19_999, -19_999, 7, 100_000_000, 39_999]),
-    (40_000, [0, 19_999, -7, 100_000_000, 39_999]),
+/// The largest texts, and what they are read as: the last pair, and the first and the last customer.
+const LARGEST: [(Kind, &[Part], Figures, &[Spot]); 2] = [
+    (
+        Kind::LiLim,
+        &MOST_PAIRS,
+        [40_000, 1_000_000, 40_001, 20_000],
+        &[
+            (39_999, [19_999, -19_999, 7, 100_000_000, 39_999]),
+            (40_000, [0, 19_999, -7, 100_000_000, 39_999]),
+        ],
+    ),
+    (
+        Kind::Vrp,
+        &MOST_CUSTOMERS,
+        [40_000, 1_000_000, 40_001, 40_000],
+        &[
+            (1, [2, -2, 2, 100_000_000, 1]),
+            (40_000, [40_001, -40_001, 40_001, 100_000_000, 40_000]),
+        ],
+    ),
 ];
 
 #[test]
 fn reads_the_most_tasks(rt: HostRuntime) -> Result<(), Fail> {
-    let text = lilim_of_most_pairs(rt.alloc())?;
-    let figures = [40_000, 1_000_000, 40_001, 20_000];
-    assert!(rt; is_read_as(rt.alloc(), Kind::LiLim, &text, figures, &LAST_PAIR));
-    Ok(())
-}
-
-/// The first and the last of the most customers.
-const FIRST_AND_LAST: [Spot; 2] = [
-    (1, [2, -2, 2, 100_000_000, 1]),
-    (40_000, [40_001, -40_001, 40_001, 100_000_000, 40_000]),
-];
-
-#[test]
-fn reads_the_most_customers(rt: HostRuntime) -> Result<(), Fail> {
-    let text = vrp_of_most_customers(rt.alloc())?;
-    let figures = [40_000, 1_000_000, 40_001, 40_000];
-    assert!(rt; is_read_as(rt.alloc(), Kind::Vrp, &text, figures, &FIRST_AND_LAST));
+    for (kind, parts, figures, spots) in &LARGEST {
+        let text = text_of(rt.alloc(), parts)?;
+        assert!(rt; is_read_as(rt.alloc(), *kind, &text, *figures, spots));
+    }
     Ok(())
 }

@@ -1,6 +1,5 @@
 //! Lines, words and numbers of a text.
 
-use std::test::Fail;
 use text_lines::{
     Lines, Number, Words, digits_len, digits_to_u32, is_blank_line, trim_blanks_start,
 };
@@ -27,19 +26,31 @@ fn has_words(line: &[u8], wanted: &[&[u8]]) -> bool {
     words.next().is_none()
 }
 
+/// Texts, and the lines of each.
+const LINES: [(&[u8], &[&[u8]]); 3] = [
+    (
+        b"a\tbc \r\n\r\r\n \t\n\nd\r",
+        &[b"a\tbc ", b"\r", b" \t", b"", b"d"],
+    ),
+    (b"", &[]),
+    (b"\r", &[b""]),
+];
+
 #[test]
 fn cuts_lines(rt: HostRuntime) {
-    let lines: [&[u8]; 5] = [b"a\tbc ", b"\r", b" \t", b"", b"d"];
-    assert!(rt; has_lines(b"a\tbc \r\n\r\r\n \t\n\nd\r", &lines));
-    assert!(rt; has_lines(b"", &[]));
-    assert!(rt; has_lines(b"\r", &[b"".as_slice()]));
+    for (text, lines) in &LINES {
+        assert!(rt; has_lines(text, lines));
+    }
 }
+
+/// Lines, and the words of each.
+const WORDS: [(&[u8], &[&[u8]]); 2] = [(b"a\tbc ", &[b"a", b"bc"]), (b" \t", &[])];
 
 #[test]
 fn cuts_words(rt: HostRuntime) {
-    let words: [&[u8]; 2] = [b"a", b"bc"];
-    assert!(rt; has_words(b"a\tbc ", &words));
-    assert!(rt; has_words(b" \t", &[]));
+    for (line, words) in &WORDS {
+        assert!(rt; has_words(line, words));
+    }
 }
 
 #[test]
@@ -48,103 +59,153 @@ fn knows_blanks(rt: HostRuntime) {
     assert!(rt; trim_blanks_start(b"\t x ") == b"x ".as_slice());
 }
 
-#[test]
-fn reads_numbers(rt: HostRuntime) -> Result<(), Fail> {
-    let numbers: [(&[u8], i32); 9] = [
-        (b"0", 0),
-        (b"007", 7),
-        (b"5.", 5),
-        (b"5.0", 5),
-        (b"+5.000", 5),
-        (b"-0", 0),
-        (b"-0.", 0),
-        (b"-1000000", -1_000_000),
-        (b"0000000000000000000000000000100000000.00", 100_000_000),
-    ];
-    for (word, value) in numbers {
-        let number = Number::parse(word).ok_or("a number")?;
-        assert!(rt; number.within(-1_000_000, 100_000_000) == Some(value));
-    }
-    Ok(())
+/// What is asked of a word, and the answer.
+#[derive(Clone, Copy)]
+enum Answer {
+    /// No number.
+    NoNumber,
+    /// A number, with its value where that is within these limits.
+    Within(i32, i32, Option<i32>),
+    /// A number, and whether it is above this limit.
+    Above(u32, bool),
+    /// A number, with its value where that is a `u64`.
+    U64(Option<u64>),
+    /// No integer.
+    NoInteger,
+    /// An integer, with its value where that is within these limits.
+    IntegerWithin(i32, i32, Option<i32>),
+    /// Digits alone, with their value where that is a `u32`.
+    Digits(Option<u32>),
 }
 
-#[test]
-fn reads_no_other_words(rt: HostRuntime) {
-    let others: [&[u8]; 10] = [
-        b"", b".0", b".", b"+", b"-", b"5.01", b"1e3", b"+-5", b"5 ", b"30.5",
-    ];
-    for word in others {
-        assert!(rt; Number::parse(word).is_none());
+fn is_within(number: Option<Number>, least: i32, most: i32, value: Option<i32>) -> bool {
+    match number {
+        Some(number) => number.within(least, most) == value,
+        None => false,
     }
 }
 
-#[test]
-fn reads_large_numbers(rt: HostRuntime) -> Result<(), Fail> {
-    let numbers: [(&[u8], Option<u64>); 3] = [
-        (b"18446744073709551615", Some(u64::MAX)),
-        (b"340282366920938463463374607431768211456", None),
-        (b"-1", None),
-    ];
-    for (word, value) in numbers {
-        let number = Number::parse(word).ok_or("a number")?;
-        assert!(rt; number.to_u64() == value);
+fn is_above(number: Option<Number>, limit: u32, is: bool) -> bool {
+    match number {
+        Some(number) => number.is_above(limit) == is,
+        None => false,
     }
-    Ok(())
 }
 
-#[test]
-fn compares_with_limits(rt: HostRuntime) -> Result<(), Fail> {
-    let large = Number::parse(b"340282366920938463463374607431768211456").ok_or("a number")?;
-    assert!(rt; large.within(i32::MIN, i32::MAX).is_none());
-    assert!(rt; large.is_above(u32::MAX));
-    let stops = Number::parse(b"40000").ok_or("a number")?;
-    assert!(rt; !stops.is_above(40_000));
-    Ok(())
+fn is_u64(number: Option<Number>, value: Option<u64>) -> bool {
+    match number {
+        Some(number) => number.to_u64() == value,
+        None => false,
+    }
 }
 
-#[test]
-fn reads_digits(rt: HostRuntime) {
-    let words: [(&[u8], Option<u32>); 4] = [
-        (b"4294967295", Some(u32::MAX)),
-        (b"4294967296", None),
-        (b"+1", None),
-        (b"1.0", None),
-    ];
-    for (word, value) in words {
-        assert!(rt; digits_to_u32(word) == value);
+// Whether this is the answer of a word.
+fn answers(word: &[u8], answer: &Answer) -> bool {
+    match answer {
+        Answer::NoNumber => Number::parse(word).is_none(),
+        Answer::Within(least, most, value) => {
+            is_within(Number::parse(word), *least, *most, *value)
+        }
+        Answer::Above(limit, is) => is_above(Number::parse(word), *limit, *is),
+        Answer::U64(value) => is_u64(Number::parse(word), *value),
+        Answer::NoInteger => Number::parse_integer(word).is_none(),
+        Answer::IntegerWithin(least, most, value) => {
+            is_within(Number::parse_integer(word), *least, *most, *value)
+        }
+        Answer::Digits(value) => digits_to_u32(word) == *value,
     }
-    assert_eq!(rt; digits_len(b"12x3"), 2);
 }
 
+/// Words, and what each is read as.
+const ANSWERS: [(&[u8], Answer); 33] = [
+    (b"0", Answer::Within(-1_000_000, 100_000_000, Some(0))),
+    (b"007", Answer::Within(-1_000_000, 100_000_000, Some(7))),
+    (b"5.", Answer::Within(-1_000_000, 100_000_000, Some(5))),
+    (b"5.0", Answer::Within(-1_000_000, 100_000_000, Some(5))),
+    (b"+5.000", Answer::Within(-1_000_000, 100_000_000, Some(5))),
+    (b"-0", Answer::Within(-1_000_000, 100_000_000, Some(0))),
+    (b"-0.", Answer::Within(-1_000_000, 100_000_000, Some(0))),
+    (
+        b"-1000000",
+        Answer::Within(-1_000_000, 100_000_000, Some(-1_000_000)),
+    ),
+    (
+        b"0000000000000000000000000000100000000.00",
+        Answer::Within(-1_000_000, 100_000_000, Some(100_000_000)),
+    ),
+    (b"", Answer::NoNumber),
+    (b".0", Answer::NoNumber),
+    (b".", Answer::NoNumber),
+    (b"+", Answer::NoNumber),
+    (b"-", Answer::NoNumber),
+    (b"5.01", Answer::NoNumber),
+    (b"1e3", Answer::NoNumber),
+    (b"+-5", Answer::NoNumber),
+    (b"5 ", Answer::NoNumber),
+    (b"30.5", Answer::NoNumber),
+    (b"18446744073709551615", Answer::U64(Some(u64::MAX))),
+    (
+        b"340282366920938463463374607431768211456",
+        Answer::U64(None),
+    ),
+    (b"-1", Answer::U64(None)),
+    (
+        b"340282366920938463463374607431768211456",
+        Answer::Within(i32::MIN, i32::MAX, None),
+    ),
+    (
+        b"340282366920938463463374607431768211456",
+        Answer::Above(u32::MAX, true),
+    ),
+    (b"40000", Answer::Above(40_000, false)),
+    (b"4294967295", Answer::Digits(Some(u32::MAX))),
+    (b"4294967296", Answer::Digits(None)),
+    (b"+1", Answer::Digits(None)),
+    (b"1.0", Answer::Digits(None)),
+    (
+        b"-00000000000000000009",
+        Answer::IntegerWithin(-9, 9, Some(-9)),
+    ),
+    (b"000000000000000000009", Answer::NoInteger),
+    (b"+9", Answer::NoInteger),
+    (b"-", Answer::NoInteger),
+];
+
 #[test]
-fn reads_integers(rt: HostRuntime) -> Result<(), Fail> {
-    let most = Number::parse_integer(b"-00000000000000000009").ok_or("an integer")?;
-    assert!(rt; most.within(-9, 9) == Some(-9));
-    let others: [&[u8]; 3] = [b"000000000000000000009", b"+9", b"-"];
-    for word in others {
-        assert!(rt; Number::parse_integer(word).is_none());
+fn reads_numbers(rt: HostRuntime) {
+    for (word, answer) in &ANSWERS {
+        assert!(rt; answers(word, answer));
     }
-    Ok(())
+    assert!(rt; digits_len(b"12x3") == 2);
 }
+
+// Whether these are the next numbers of a line, each of -999 to 999, and no word is behind them.
+fn has_numbers(line: &[u8], values: &[Option<i32>]) -> bool {
+    let mut words = Words::new(line);
+    for value in values {
+        if words.next_number(-999, 999) != *value {
+            return false;
+        }
+    }
+    words.next().is_none()
+}
+
+/// Lines, and the next numbers of each.
+const NEXT_NUMBERS: [(&[u8], &[Option<i32>]); 6] = [
+    (b"5 -6  007", &[Some(5), Some(-6), Some(7)]),
+    (b"\t +5.0 -0.\t1000", &[Some(5), Some(0), None]),
+    (b"5x 6 -", &[None, Some(6), None]),
+    (b"999 1000 -1000", &[Some(999), None, None]),
+    (
+        b"0000000000000000000000005 99999999999999999999 8",
+        &[Some(5), None, Some(8)],
+    ),
+    (b"30.5 - ", &[None, None, None]),
+];
 
 #[test]
 fn reads_the_next_numbers(rt: HostRuntime) {
-    let rows: [(&[u8], [Option<i32>; 3]); 6] = [
-        (b"5 -6  007", [Some(5), Some(-6), Some(7)]),
-        (b"\t +5.0 -0.\t1000", [Some(5), Some(0), None]),
-        (b"5x 6 -", [None, Some(6), None]),
-        (b"999 1000 -1000", [Some(999), None, None]),
-        (
-            b"0000000000000000000000005 99999999999999999999 8",
-            [Some(5), None, Some(8)],
-        ),
-        (b"30.5 - ", [None, None, None]),
-    ];
-    for (line, values) in rows {
-        let mut words = Words::new(line);
-        for value in values {
-            assert!(rt; words.next_number(-999, 999) == value);
-        }
-        assert!(rt; words.next().is_none());
+    for (line, values) in &NEXT_NUMBERS {
+        assert!(rt; has_numbers(line, values));
     }
 }

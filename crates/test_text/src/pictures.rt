@@ -2,7 +2,7 @@
 
 use plan_audit::Verdict;
 use plan_picture::{draw, draw_route};
-use plan_types::{Cost, Kind, Problem, Request, Route, Stop};
+use plan_types::{Cost, Kind, Problem, Request, Route, Routes, Stop};
 use std::alloc::Global;
 use std::test::Fail;
 
@@ -42,20 +42,55 @@ fn has_all(text: &str, lines: &[&str]) -> bool {
     true
 }
 
-// Whether the picture of a plan of one route has these lines.
-fn draws(alloc: Global, stops: &[u32], verdict: Verdict, lines: &[&str]) -> Result<bool, Fail> {
-    let problem = one_pair(alloc)?;
-    let route = Route::from(Vec::from_slice(alloc, stops)?);
-    let text = String::from_utf8(draw(alloc, &problem, &[route], verdict)?)?;
-    Ok(has_all(text.as_str(), lines))
+// Whether a picture has these lines.
+fn shows(picture: &[u8], lines: &[&str]) -> bool {
+    match str::from_utf8(picture) {
+        Ok(text) => has_all(text, lines),
+        Err(_) => false,
+    }
 }
 
-// The picture of the route with this number of the plan [1, 2], empty where there is none.
-fn drawn_route(alloc: Global, verdict: Verdict, number: u64) -> Result<String, Fail> {
-    let problem = one_pair(alloc)?;
-    let route = Route::from(Vec::from_slice(alloc, &[1, 2])?);
-    let svg = draw_route(alloc, &problem, &[route], verdict, number)?;
-    Ok(String::from_utf8(svg.unwrap_or(Vec::new(alloc)))?)
+fn one_route(alloc: Global, stops: &[u32]) -> Result<Routes, Fail> {
+    let mut routes = Routes::new(alloc);
+    routes.push(Route::from(Vec::from_slice(alloc, stops)?))?;
+    Ok(routes)
+}
+
+fn drawn(
+    alloc: Global,
+    problem: &Problem,
+    routes: &[Route],
+    verdict: Verdict,
+    lines: &[&str],
+) -> Result<bool, Fail> {
+    let picture = draw(alloc, problem, routes, verdict)?;
+    Ok(shows(picture.as_slice(), lines))
+}
+
+// Whether the picture of a plan of one route has these lines.
+fn draws(alloc: Global, stops: &[u32], verdict: Verdict, lines: &[&str]) -> Result<bool, Fail> {
+    let routes = one_route(alloc, stops)?;
+    drawn(alloc, &one_pair(alloc)?, routes.as_slice(), verdict, lines)
+}
+
+// Whether the picture of one route has this title; none where there is no such route.
+fn route_drawn(
+    alloc: Global,
+    problem: &Problem,
+    routes: &[Route],
+    verdict: Verdict,
+    number: u64,
+) -> Result<Option<bool>, Fail> {
+    match draw_route(alloc, problem, routes, verdict, number)? {
+        Some(picture) => Ok(Some(shows(picture.as_slice(), &[TITLE]))),
+        None => Ok(None),
+    }
+}
+
+// The same of the route with this number of the plan [1, 2].
+fn draws_route(alloc: Global, verdict: Verdict, number: u64) -> Result<Option<bool>, Fail> {
+    let routes = one_route(alloc, &[1, 2])?;
+    route_drawn(alloc, &one_pair(alloc)?, routes.as_slice(), verdict, number)
 }
 
 /// The vehicle arrives at 5, leaves at 7, arrives at 12, which is 1 too late, leaves at 14 and is back at 24.
@@ -116,8 +151,8 @@ fn draws_one_route(rt: HostRuntime) -> Result<(), Fail> {
         place: 2,
         stop: 2,
     };
-    assert!(rt; drawn_route(rt.alloc(), verdict, 0)?.is_empty());
-    assert!(rt; has_all(drawn_route(rt.alloc(), verdict, 1)?.as_str(), &[TITLE]));
-    assert!(rt; drawn_route(rt.alloc(), verdict, 2)?.is_empty());
+    assert!(rt; draws_route(rt.alloc(), verdict, 0)?.is_none());
+    assert!(rt; draws_route(rt.alloc(), verdict, 1)? == Some(true));
+    assert!(rt; draws_route(rt.alloc(), verdict, 2)?.is_none());
     Ok(())
 }

@@ -1,9 +1,10 @@
 //! Solutions as texts.
-ghost use Rattle.std.specs.Prelude.{◌≡◌, ◌++◌, true, IfOk, [], ◌∷◌};
-ghost use Rattle.std.specs.List.{concat};
-ghost use Rattle.route_sched.specs.Route.{AreLiveOnce};
+ghost use Rattle.std.specs.Prelude.{IfOk, IsTrue};
+ghost use Rattle.route_sched.specs.Route.{IsPlan};
 
-use plan_types::{Kind, Plan, Problem, Request, Route, Routes, Stop, limits};
+use crate::builders::{Form, Part, text_of};
+use plan_audit::{Verdict, audit, routes_that_pass_are_a_plan};
+use plan_types::{Kind, Pins, Plan, Problem, Request, Route, Routes, Stop, limits};
 use sol_text::{SolFault, SolFaultKind, WriteSolFault, read_sol, write_sol};
 use std::alloc::{AllocError, Global};
 use std::test::Fail;
@@ -11,40 +12,52 @@ use std::test::Fail;
 /// The most customers that a problem can have.
 const CUSTOMERS: u32 = limits::MAX_STOP_NUMBER;
 
-// Whether the routes are these and no more.
-fn are_routes(routes: &[Route], wanted: &[&[u32]]) -> bool {
-    if routes.len() != wanted.len() {
-        return false;
-    }
-    for (route, stops) in routes.iter().zip(wanted) {
-        if route.as_slice() != *stops {
-            return false;
+// The lists of these stops, each ended by a 0.
+fn routes_of(alloc: Global, stops: &[u32]) -> Result<Routes, Fail> {
+    let mut routes = Routes::new(alloc);
+    let mut route = Route::new(alloc);
+    for stop in stops {
+        if *stop > 0 {
+            route.push(*stop)?;
+        } else {
+            routes.push(route)?;
+            route = Route::new(alloc);
         }
     }
-    true
+    Ok(routes)
 }
 
-// Whether a text is read as these routes and this cost.
-fn is_read_as(alloc: Global, text: &[u8], routes: &[&[u32]], cost: u64) -> Result<bool, Fail> {
+// The stops of the routes, each route ended by a 0.
+fn stops_of(alloc: Global, routes: &Routes) -> Result<Vec<u32>, AllocError> {
+    let mut stops = Vec::new(alloc);
+    for route in routes.as_slice() {
+        stops.extend_from_slice(route.as_slice())?;
+        stops.push(0)?;
+    }
+    Ok(stops)
+}
+
+// Whether a text is read as these routes, each ended by a 0, and this cost.
+fn is_read_as(alloc: Global, text: &[u8], stops: &[u32], cost: u64) -> Result<bool, Fail> {
     let solution = read_sol(alloc, text)?;
-    Ok(solution.cost == cost && are_routes(solution.routes.as_slice(), routes))
+    Ok(solution.cost == cost && stops_of(alloc, &solution.routes)?.as_slice() == stops)
 }
 
-/// Texts, and the routes and the cost that they are read as. What stands behind the cost line is not read.
-const READ: [(&[u8], &[&[u32]], u64); 10] = [
+/// Texts, and the routes and the cost that they are read as. Each route ends by a 0. What stands behind the cost line is not read.
+const READ: [(&[u8], &[u32], u64); 10] = [
     (
         b"Route 1 : 2 1\nroute #2:3\r\n\t\nRoute #3:\nCOST 30\nnot read\nCost x",
-        &[&[2, 1], &[3], &[]],
+        &[2, 1, 0, 3, 0, 0],
         30,
     ),
     (
         b"Route1:2 1\nroute 0:3\nROUTE#7:\nRoute\t# 7 : 4\nRoute 99999999999999999999999999:5\nCost 1",
-        &[&[2, 1], &[3], &[], &[4], &[5]],
+        &[2, 1, 0, 3, 0, 0, 4, 0, 5, 0],
         1,
     ),
-    (b"Route #1: 1\nCost 7\nCost 8\n", &[&[1]], 7),
-    (b"Route #1: 1\nCost 7\nCost 8 9\nRoute #2: 2", &[&[1]], 7),
-    (b"Route #1: 1\nCost 7\nRoute #2: x\nnonsense", &[&[1]], 7),
+    (b"Route #1: 1\nCost 7\nCost 8\n", &[1, 0], 7),
+    (b"Route #1: 1\nCost 7\nCost 8 9\nRoute #2: 2", &[1, 0], 7),
+    (b"Route #1: 1\nCost 7\nRoute #2: x\nnonsense", &[1, 0], 7),
     (b"Cost 784", &[], 784),
     (b"Cost : 5.0", &[], 5),
     (b"cost:\t+5.", &[], 5),
@@ -54,8 +67,8 @@ const READ: [(&[u8], &[&[u32]], u64); 10] = [
 
 #[test]
 fn reads_solutions(rt: HostRuntime) -> Result<(), Fail> {
-    for (row, (text, routes, cost)) in READ.iter().enumerate() {
-        assert!(rt; is_read_as(rt.alloc(), text, routes, *cost)?, "row {row}");
+    for (text, routes, cost) in &READ {
+        assert!(rt; is_read_as(rt.alloc(), text, routes, *cost)?);
     }
     Ok(())
 }
@@ -99,8 +112,8 @@ fn is_refused(alloc: Global, text: &[u8], line: u64, kind: SolFaultKind) -> bool
 
 #[test]
 fn tells_the_first_fault(rt: HostRuntime) {
-    for (row, (text, line, kind)) in FAULTS.iter().enumerate() {
-        assert!(rt; is_refused(rt.alloc(), text, *line, *kind), "row {row}");
+    for (text, line, kind) in &FAULTS {
+        assert!(rt; is_refused(rt.alloc(), text, *line, *kind));
     }
 }
 
@@ -114,216 +127,194 @@ fn names_faults(rt: HostRuntime) {
     assert!(rt; WriteSolFault::Unplanned(1).name() == "Unplanned");
 }
 
-fn stop_at(number: u32, x: i32, y: i32, demand: i32) -> Stop
-    ensures { result.number ≡ number }
-{
-    Stop {
+const DEPOT: Stop = Stop {
+    number: 0,
+    x: 0,
+    y: 0,
+    demand: 0,
+    earliest: 0,
+    latest: 100,
+    service: 0,
+};
+
+/// The customers of a problem.
+#[derive(Clone, Copy)]
+enum Posed {
+    /// Three customers of a fleet of three.
+    Three,
+    /// As many as there can be, all one to the right of the depot, of a fleet of so many.
+    Most(u32),
+}
+
+// The place and the demand of the customer of this number.
+fn spot_of(posed: Posed, number: u32) -> (i32, i32, i32) {
+    match posed {
+        Posed::Most(_) => (1, 0, 0),
+        Posed::Three => match number {
+            1 => (3, 4, 6),
+            2 => (6, 8, 4),
+            _ => (0, 5, 5),
+        },
+    }
+}
+
+fn customer_of(posed: Posed, number: u32) -> Request {
+    let (x, y, demand) = spot_of(posed, number);
+    Request::Single(Stop {
         number,
         x,
         y,
         demand,
-        earliest: 0,
-        latest: 100,
-        service: 0,
+        ..DEPOT
+    })
+}
+
+// The fleet, and how many customers there are.
+fn counts(posed: Posed) -> (u32, u32) {
+    match posed {
+        Posed::Three => (3, 3),
+        Posed::Most(fleet) => (fleet, CUSTOMERS),
     }
 }
 
-// Three customers of a fleet of three.
-fn three_customers(alloc: Global) -> Result<Problem, Fail>
-    ensures all { IfOk result (λ problem. AreLiveOnce problem (2 ∷ 1 ∷ 3 ∷ [])) }
-    ensures two { IfOk result (λ problem. AreLiveOnce problem (2 ∷ 1 ∷ [])) }
-{
-    let depot = stop_at(0, 0, 0, 0);
-    let mut problem = Problem::new(alloc, Kind::Vrp, depot, 10, 3)?;
-    let first = stop_at(1, 3, 4, 6);
-    problem.put(Request::Single(first))?;
-    let second = stop_at(2, 6, 8, 4);
-    problem.put(Request::Single(second))?;
-    let third = stop_at(3, 0, 5, 5);
-    problem.put(Request::Single(third))?;
+fn problem_of(alloc: Global, posed: Posed) -> Result<Problem, Fail> {
+    let (fleet, count) = counts(posed);
+    let mut problem = Problem::new(alloc, Kind::Vrp, DEPOT, 10, fleet)?;
+    for number in 1..=count {
+        problem.put(customer_of(posed, number))?;
+    }
     Ok(problem)
 }
 
-// Two routes, and a third vehicle that stays idle.
-fn two_routes(alloc: Global, first: &[u32], second: &[u32]) -> Result<Routes, AllocError>
-    ensures { IfOk result (λ routes. concat routes ≡ first.now ++ second.now) }
+// Whether a plan passes, and so is one that may be written.
+fn is_plan(alloc: Global, problem: &Problem, plan: &Plan) -> Result<bool, Fail>
+    ensures { IfOk result (λ b. IsTrue b → IsPlan problem.now plan.now.routes) }
 {
-    let first = Route::from(Vec::from_slice(alloc, first)?);
-    let second = Route::from(Vec::from_slice(alloc, second)?);
-    let idle = Route::new(alloc);
-    Ok(Routes::from(vec![in alloc; first, second, idle]?))
+    routes_that_pass_are_a_plan();
+    let pins = Pins {
+        routes: Routes::new(alloc),
+    };
+    match audit(alloc, problem, &pins, plan)? {
+        Verdict::Pass(_) => Ok(true),
+        Verdict::Broken { .. } => Ok(false),
+    }
 }
+
+/// What comes of writing a plan.
+#[derive(Clone, Copy)]
+enum Written<'a> {
+    Text(&'a [u8]),
+    Unplanned(u64),
+}
+
+// Whether this comes of writing the plan.
+fn comes_of(alloc: Global, problem: &Problem, plan: &Plan, want: Written) -> bool
+    requires { IsPlan problem.now plan.now.routes }
+{
+    match write_sol(alloc, problem, plan) {
+        Ok(written) => match want {
+            Written::Text(text) => written.as_slice() == text,
+            Written::Unplanned(_) => false,
+        },
+        Err(fault) => match want {
+            Written::Text(_) => false,
+            Written::Unplanned(count) => fault == WriteSolFault::Unplanned(count),
+        },
+    }
+}
+
+// Whether this comes of writing a plan, which has to pass.
+fn writes(alloc: Global, problem: &Problem, plan: &Plan, want: Written) -> Result<bool, Fail> {
+    Ok(is_plan(alloc, problem, plan)? && comes_of(alloc, problem, plan, want))
+}
+
+// The same of a plan of the customers with these routes, each ended by a 0.
+fn writes_routes(alloc: Global, posed: Posed, stops: &[u32], want: Written) -> Result<bool, Fail> {
+    let plan = Plan {
+        routes: routes_of(alloc, stops)?,
+    };
+    writes(alloc, &problem_of(alloc, posed)?, &plan, want)
+}
+
+/// Routes of three customers, each ended by a 0, and what comes of writing them. The third vehicle stays idle.
+const WRITTEN: [(&[u32], Written); 2] = [
+    (
+        &[2, 1, 0, 3, 0, 0],
+        Written::Text(b"Route #1: 2 1\nRoute #2: 3\nCost 30\n"),
+    ),
+    (&[2, 1, 0, 0, 0], Written::Unplanned(1)),
+];
 
 #[test]
 fn writes_used_routes(rt: HostRuntime) -> Result<(), Fail> {
-    let problem = three_customers(rt.alloc())?;
-    let routes = two_routes(rt.alloc(), &[2, 1], &[3])?;
-    let text = write_sol(rt.alloc(), &problem, &Plan { routes })?;
-    assert!(rt; text.as_slice() == b"Route #1: 2 1\nRoute #2: 3\nCost 30\n".as_slice());
+    for (stops, want) in &WRITTEN {
+        assert!(rt; writes_routes(rt.alloc(), Posed::Three, stops, *want)?);
+    }
     Ok(())
 }
 
-#[test]
-fn writes_no_plan_that_leaves_a_request_out(rt: HostRuntime) -> Result<(), Fail> {
-    let problem = three_customers(rt.alloc())?;
-    let routes = two_routes(rt.alloc(), &[2, 1], &[])?;
-    let fault = write_sol(rt.alloc(), &problem, &Plan { routes }).err();
-    assert!(rt; fault == Some(WriteSolFault::Unplanned(1)));
-    Ok(())
-}
-
-// A fleet of as many as the customers, which all stand one to the right of the depot.
-fn customers(alloc: Global) -> Result<Problem, Fail> {
-    let mut problem = Problem::new(alloc, Kind::Vrp, stop_at(0, 0, 0, 0), 10, CUSTOMERS)?;
-    for before in 0..CUSTOMERS {
-        problem.put(Request::Single(stop_at(before + 1, 1, 0, 0)))?;
-    }
-    Ok(problem)
-}
-
-// All customers, by number.
-fn numbers(alloc: Global) -> Result<Vec<u32>, AllocError> {
-    let mut numbers = Vec::new(alloc);
-    for number in 1..=CUSTOMERS {
-        numbers.push(number)?;
-    }
-    Ok(numbers)
-}
-
-// Whether each of these numbers is a customer's and greater than the one before it.
-fn rise_and_live(problem: &Problem, numbers: &[u32]) -> bool
-    ensures { result ≡ true → AreLiveOnce problem.now numbers.now }
-{
-    let mut last = 0;
-    for number in numbers {
-        if *number <= last || problem.stop(*number).is_none() {
-            return false;
-        }
-        last = *number;
-    }
-    true
-}
-
-// One route of all.
-fn one_route(alloc: Global, numbers: &[u32]) -> Result<Routes, AllocError>
-    ensures { IfOk result (λ routes. concat routes ≡ numbers.now) }
-{
-    let route = Route::from(Vec::from_slice(alloc, numbers)?);
-    Ok(Routes::from(vec![in alloc; route]?))
-}
-
-// A route for each.
-fn own_routes(alloc: Global, numbers: &[u32]) -> Result<Routes, AllocError>
-    ensures { IfOk result (λ routes. concat routes ≡ numbers.now) }
-{
-    let mut routes = Vec::new(alloc);
-    for number in numbers {
-        routes.push(Route::from(vec![in alloc; *number]?))?;
-    }
-    Ok(Routes::from(routes))
-}
-
-// `Route #1: 1 2 3 ..`, and the cost.
-fn text_of_one_route(alloc: Global) -> Result<Vec<u8>, AllocError> {
-    let mut text = Vec::new(alloc);
-    text.extend_from_slice(b"Route #1:")?;
-    for before in 0..CUSTOMERS {
-        let customer = before + 1;
-        text.extend_from_slice(format!(in alloc; " {customer}")?.as_bytes())?;
-    }
-    text.extend_from_slice(b"\nCost 2\n")?;
-    Ok(text)
-}
-
-// `Route #1: 1`, `Route #2: 2` and so on, and the cost.
-fn text_of_own_routes(alloc: Global) -> Result<Vec<u8>, AllocError> {
-    let mut text = Vec::new(alloc);
-    for before in 0..CUSTOMERS {
-        let customer = before + 1;
-        text.extend_from_slice(format!(in alloc; "Route #{customer}: {customer}\n")?.as_bytes())?;
-    }
-    text.extend_from_slice(b"Cost 80000\n")?;
-    Ok(text)
-}
-
-#[test]
-fn reads_the_most_customers_of_a_route(rt: HostRuntime) -> Result<(), Fail> {
-    let text = text_of_one_route(rt.alloc())?;
-    let numbers = numbers(rt.alloc())?;
-    assert!(rt; is_read_as(rt.alloc(), &text, &[numbers.as_slice()], 2)?);
-    Ok(())
-}
-
-// Whether each route has one stop, of its number.
-fn are_singles(routes: &[Route]) -> bool {
-    let mut number = 0u32;
-    for route in routes {
-        number = number.saturating_add(1);
-        if route.as_slice() != [number].as_slice() {
-            return false;
-        }
-    }
-    true
-}
-
-#[test]
-fn reads_the_most_routes(rt: HostRuntime) -> Result<(), Fail> {
-    let text = text_of_own_routes(rt.alloc())?;
-    let solution = read_sol(rt.alloc(), &text)?;
-    let routes = solution.routes.as_slice();
-    assert!(rt; solution.cost == 80_000 && routes.len() == 40_000 && are_singles(routes));
-    Ok(())
-}
-
-// The problem of all customers, and their numbers.
-fn all_customers(alloc: Global) -> Result<(Problem, Vec<u32>), Fail>
-    ensures { IfOk result (λ made. AreLiveOnce made.0 made.1.items) }
-{
-    let problem = customers(alloc)?;
-    let numbers = numbers(alloc)?;
-    if rise_and_live(&problem, &numbers) {
-        Ok((problem, numbers))
-    } else {
-        Err(Fail::from("a customer is missing"))
-    }
-}
-
-/// How all customers are put into routes.
+/// A solution of the most customers.
 #[derive(Clone, Copy)]
-enum Shape {
-    OneRoute,
-    OwnRoutes,
+struct Most {
+    /// Whether each customer has a route, rather than all one.
+    are_apart: bool,
+    fleet: u32,
+    text: &'static [Part],
+    cost: u64,
 }
 
-fn routes_of(alloc: Global, shape: Shape, numbers: &[u32]) -> Result<Routes, AllocError>
-    ensures { IfOk result (λ routes. concat routes ≡ numbers.now) }
-{
-    match shape {
-        Shape::OneRoute => one_route(alloc, numbers),
-        Shape::OwnRoutes => own_routes(alloc, numbers),
+/// `Route #1: 1 2 3 ..`, and `Route #1: 1`, `Route #2: 2` and so on, each with the cost.
+const MOST: [Most; 2] = [
+    Most {
+        are_apart: false,
+        fleet: 1,
+        text: &[
+            Part::Text(b"Route #1:"),
+            Part::Lines(Form::Stop, CUSTOMERS),
+            Part::Text(b"\nCost 2\n"),
+        ],
+        cost: 2,
+    },
+    Most {
+        are_apart: true,
+        fleet: CUSTOMERS,
+        text: &[
+            Part::Lines(Form::Route, CUSTOMERS),
+            Part::Text(b"Cost 80000\n"),
+        ],
+        cost: 80_000,
+    },
+];
+
+// All customers by number, in one route or in routes of their own, each ended by a 0.
+fn all_stops(alloc: Global, are_apart: bool) -> Result<Vec<u32>, AllocError> {
+    let mut stops = Vec::new(alloc);
+    for number in 1..=CUSTOMERS {
+        stops.push(number)?;
+        if are_apart || number == CUSTOMERS {
+            stops.push(0)?;
+        }
     }
+    Ok(stops)
 }
 
-fn text_of(alloc: Global, shape: Shape) -> Result<Vec<u8>, AllocError> {
-    match shape {
-        Shape::OneRoute => text_of_one_route(alloc),
-        Shape::OwnRoutes => text_of_own_routes(alloc),
-    }
+fn reads_most(alloc: Global, most: &Most) -> Result<bool, Fail> {
+    let text = text_of(alloc, most.text)?;
+    let stops = all_stops(alloc, most.are_apart)?;
+    is_read_as(alloc, &text, &stops, most.cost)
 }
 
-// What is written of these routes.
-fn written(alloc: Global, shape: Shape) -> Result<Vec<u8>, Fail> {
-    let made = all_customers(alloc)?;
-    let routes = routes_of(alloc, shape, &made.1)?;
-    Ok(write_sol(alloc, &made.0, &Plan { routes })?)
+fn writes_most(alloc: Global, most: &Most) -> Result<bool, Fail> {
+    let text = text_of(alloc, most.text)?;
+    let stops = all_stops(alloc, most.are_apart)?;
+    writes_routes(alloc, Posed::Most(most.fleet), &stops, Written::Text(&text))
 }
 
 #[test]
-fn writes_the_most_customers(rt: HostRuntime) -> Result<(), Fail> {
-    for shape in [Shape::OneRoute, Shape::OwnRoutes] {
-        let text = written(rt.alloc(), shape)?;
-        let want = text_of(rt.alloc(), shape)?;
-        assert!(rt; text.as_slice() == want.as_slice());
+fn reads_and_writes_the_most_customers(rt: HostRuntime) -> Result<(), Fail> {
+    for most in &MOST {
+        assert!(rt; reads_most(rt.alloc(), most)?);
+        assert!(rt; writes_most(rt.alloc(), most)?);
     }
     Ok(())
 }

@@ -4,8 +4,8 @@
 use crate::builders::read_instance;
 use plan_audit::audit_solution;
 use plan_timetable::{Form, judged_timetable};
-use plan_types::Kind;
-use sol_text::read_sol;
+use plan_types::{Kind, Problem};
+use sol_text::{Solution, read_sol};
 use std::alloc::Global;
 use std::test::Fail;
 
@@ -27,7 +27,7 @@ const BOTH: &[u8] = b"Route #1: 1 2\nCost 20\n";
 const LATE: &[u8] = b"Route #1: 3 4\nCost 20\n";
 
 /// An instance, a solution, the request that it leaves out, how the timetable is written, and its text.
-const TOLD: [(&[u8], &[u8], u32, Form, &str); 4] = [
+const TOLD: [Row; 4] = [
     (
         TWO_PAIRS,
         SECOND_PAIR,
@@ -58,27 +58,41 @@ const TOLD: [(&[u8], &[u8], u32, Form, &str); 4] = [
     ),
 ];
 
-// Whether this is the timetable of a solution that leaves this request out.
-fn is_told(
+fn timetable(
     alloc: Global,
-    instance: &[u8],
-    solution: &[u8],
+    problem: &Problem,
+    solution: &Solution,
     unplanned: u32,
     form: Form,
-    want: &str,
-) -> Result<bool, Fail> {
+) -> Result<String, Fail> {
+    let verdict = audit_solution(alloc, problem, solution)?;
+    Ok(judged_timetable(alloc, problem, solution, verdict, &[unplanned], form)?)
+}
+
+// The timetable of a solution that leaves this request out.
+fn told(
+    alloc: Global,
+    instance: &[u8],
+    solution: &Solution,
+    unplanned: u32,
+    form: Form,
+) -> Result<String, Fail> {
     let problem = read_instance(alloc, Kind::LiLim, instance)?;
+    timetable(alloc, &problem, solution, unplanned, form)
+}
+
+type Row = (&'static [u8], &'static [u8], u32, Form, &'static str);
+
+fn is_told(alloc: Global, row: &Row) -> Result<bool, Fail> {
+    let (instance, solution, unplanned, form, want) = *row;
     let solution = read_sol(alloc, solution)?;
-    let verdict = audit_solution(alloc, &problem, &solution)?;
-    let told = judged_timetable(alloc, &problem, &solution, verdict, &[unplanned], form)?;
-    Ok(told.as_str() == want)
+    Ok(told(alloc, instance, &solution, unplanned, form)?.as_str() == want)
 }
 
 #[test]
 fn tells_why_requests_are_left_out(rt: HostRuntime) -> Result<(), Fail> {
-    for (row, (instance, solution, unplanned, form, want)) in TOLD.iter().enumerate() {
-        let is = is_told(rt.alloc(), instance, solution, *unplanned, *form, want)?;
-        assert!(rt; is, "row {row}");
+    for row in &TOLD {
+        assert!(rt; is_told(rt.alloc(), row)?);
     }
     Ok(())
 }
