@@ -1,2 +1,3 @@
-pub mod OnePair
+pub mod LiveLemmas
+pub mod RiseLemmas
 pub mod TableLemmas

@@ -1,10 +1,7 @@
 //! Verdicts on plans and on printed solutions, and the faults of single routes.
-ghost use Rattle.std.specs.Prelude.{All};
-ghost use Rattle.route_sched.specs.Route.{AreLiveOnce};
-
 use crate::builders::{
-    depot_until, is_live_once, most_pairs, most_routes, one_pair, one_route, problem_of, routes_of,
-    single, two_pairs,
+    are_live_once, depot_until, most_pairs, most_routes, one_pair, one_route, problem_of,
+    routes_of, single, two_pairs,
 };
 use crate::slow::{Asked, slow_audit, total_length};
 use crate::words::{Case, Words, some_case};
@@ -40,99 +37,147 @@ fn told(verdict: Verdict) -> [u64; 4] {
     }
 }
 
+/// The problem of an example.
+#[derive(Clone, Copy)]
+enum Posed {
+    /// One pair, with a capacity, the delivery's latest start and the latest return.
+    Pair(Kind, u32, u32, u32),
+    /// Two pairs and one vehicle.
+    TwoPairs,
+    /// Three customers without windows.
+    Customers,
+}
+
+fn pose(alloc: Global, posed: Posed) -> Result<Problem, Fail> {
+    match posed {
+        Posed::Pair(kind, capacity, latest, back) => one_pair(alloc, kind, capacity, latest, back),
+        Posed::TwoPairs => two_pairs(alloc, Kind::LiLim, 50),
+        Posed::Customers => three_customers(alloc),
+    }
+}
+
+// What is told of printed routes.
+fn told_printed(
+    alloc: Global,
+    problem: &Problem,
+    routes: Routes,
+    cost: u64,
+) -> Result<[u64; 4], Fail> {
+    let solution = Solution { routes, cost };
+    Ok(told(audit_solution(alloc, problem, &solution)?))
+}
+
 // What is told of two printed routes.
 fn printed(
     alloc: Global,
-    problem: Problem,
+    posed: Posed,
     first: &[u32],
     second: &[u32],
     cost: u64,
 ) -> Result<[u64; 4], Fail> {
     let routes = routes_of(alloc, first, second)?;
-    let solution = Solution { routes, cost };
-    Ok(told(audit_solution(alloc, &problem, &solution)?))
+    told_printed(alloc, &pose(alloc, posed)?, routes, cost)
 }
 
-/// Two printed routes for one pair, the printed cost, and what is told.
-const PAIR_PRINTED: [(&[u32], &[u32], u64, [u64; 4]); 8] = [
-    (&[1, 2], &[], 20, [0, 0, 1, 20]),
-    (&[1, 2], &[9], 20, [1, 2, 1, 9]),
-    (&[1, 2, 1], &[], 20, [2, 1, 3, 1]),
-    (&[1], &[], 10, [3, 1, 1, 2]),
-    (&[], &[], 0, [3, 0, 0, 1]),
-    (&[1], &[2], 30, [4, 1, 1, 1]),
-    (&[2, 1], &[], 20, [5, 1, 1, 2]),
-    (&[1, 2], &[], 21, [11, 0, 0, 0]),
+const PAIR: Posed = Posed::Pair(Kind::LiLim, 10, 60, 100);
+
+/// A problem, two printed routes, the printed cost, and what is told.
+const PRINTED: [(Posed, &[u32], &[u32], u64, [u64; 4]); 19] = [
+    (PAIR, &[1, 2], &[], 20, [0, 0, 1, 20]),
+    (PAIR, &[1, 2], &[9], 20, [1, 2, 1, 9]),
+    (PAIR, &[1, 2, 1], &[], 20, [2, 1, 3, 1]),
+    (PAIR, &[1], &[], 10, [3, 1, 1, 2]),
+    (PAIR, &[], &[], 0, [3, 0, 0, 1]),
+    (PAIR, &[1], &[2], 30, [4, 1, 1, 1]),
+    (PAIR, &[2, 1], &[], 20, [5, 1, 1, 2]),
+    (PAIR, &[1, 2], &[], 21, [11, 0, 0, 0]),
+    // Capacity and windows.
+    (
+        Posed::Pair(Kind::LiLim, 3, 60, 100),
+        &[1, 2],
+        &[],
+        20,
+        [6, 1, 1, 1],
+    ),
+    (
+        Posed::Pair(Kind::LiLim, 10, 11, 100),
+        &[1, 2],
+        &[],
+        20,
+        [7, 1, 2, 2],
+    ),
+    (
+        Posed::Pair(Kind::LiLim, 10, 11, 100),
+        &[1, 2],
+        &[9],
+        20,
+        [1, 2, 1, 9],
+    ),
+    (
+        Posed::Pair(Kind::LiLim, 10, 12, 100),
+        &[1, 2],
+        &[],
+        20,
+        [0, 0, 1, 20],
+    ),
+    (
+        Posed::Pair(Kind::LiLim, 10, 60, 23),
+        &[1, 2],
+        &[],
+        20,
+        [8, 1, 3, 0],
+    ),
+    (
+        Posed::Pair(Kind::LiLim, 10, 60, 24),
+        &[1, 2],
+        &[],
+        20,
+        [0, 0, 1, 20],
+    ),
+    // No windows.
+    (
+        Posed::Pair(Kind::Vrp, 10, 11, 23),
+        &[1, 2],
+        &[],
+        20,
+        [0, 0, 0, 20],
+    ),
+    // Vehicles.
+    (Posed::TwoPairs, &[1, 2], &[3, 4], 8, [9, 2, 0, 0]),
+    (Posed::TwoPairs, &[], &[1, 3, 4, 2], 4, [0, 0, 1, 4]),
+    // The load of customers.
+    (Posed::Customers, &[2, 1], &[3], 30, [0, 0, 0, 30]),
+    (Posed::Customers, &[1, 2, 3], &[], 0, [6, 1, 3, 3]),
 ];
 
 #[test]
-fn audits_one_pair(rt: HostRuntime) -> Result<(), Fail> {
-    for (first, second, cost, want) in &PAIR_PRINTED {
-        let problem = one_pair(rt.alloc(), Kind::LiLim, 10, 60, 100)?;
-        let got = printed(rt.alloc(), problem, first, second, *cost)?;
-        assert!(rt; got == *want, "{first:?}, {second:?}");
+fn audits_printed_routes(rt: HostRuntime) -> Result<(), Fail> {
+    for (posed, first, second, cost, want) in &PRINTED {
+        assert!(rt; printed(rt.alloc(), *posed, first, second, *cost)? == *want);
     }
     Ok(())
 }
 
-/// The capacity, the delivery's latest start, the latest return, what else is printed, and what is told.
-const PAIR_LIMITS: [(u32, u32, u32, &[u32], [u64; 4]); 6] = [
-    (3, 60, 100, &[], [6, 1, 1, 1]),
-    (10, 11, 100, &[], [7, 1, 2, 2]),
-    (10, 11, 100, &[9], [1, 2, 1, 9]),
-    (10, 12, 100, &[], [0, 0, 1, 20]),
-    (10, 60, 23, &[], [8, 1, 3, 0]),
-    (10, 60, 24, &[], [0, 0, 1, 20]),
-];
-
-#[test]
-fn asks_capacity_and_windows(rt: HostRuntime) -> Result<(), Fail> {
-    for (capacity, latest, back, other, want) in &PAIR_LIMITS {
-        let problem = one_pair(rt.alloc(), Kind::LiLim, *capacity, *latest, *back)?;
-        let got = printed(rt.alloc(), problem, &[1, 2], other, 20)?;
-        assert!(rt; got == *want, "{capacity}, {latest}, {back}");
-    }
-    Ok(())
+// What is told of a plan for one pair.
+fn told_planned(alloc: Global, pins: &Pins, plan: &Plan) -> Result<[u64; 4], Fail> {
+    let problem = pose(alloc, PAIR)?;
+    Ok(told(audit(alloc, &problem, pins, plan)?))
 }
 
-#[test]
-fn asks_no_windows_in_vrp(rt: HostRuntime) -> Result<(), Fail> {
-    let problem = one_pair(rt.alloc(), Kind::Vrp, 10, 11, 23)?;
-    assert!(rt; printed(rt.alloc(), problem, &[1, 2], &[], 20)? == [0, 0, 0, 20]);
-    Ok(())
-}
-
-/// Two printed routes for two pairs and one vehicle, the printed cost, and what is told.
-const VEHICLES: [(&[u32], &[u32], u64, [u64; 4]); 2] = [
-    (&[1, 2], &[3, 4], 8, [9, 2, 0, 0]),
-    (&[], &[1, 3, 4, 2], 4, [0, 0, 1, 4]),
-];
-
-#[test]
-fn counts_the_vehicles(rt: HostRuntime) -> Result<(), Fail> {
-    for (first, second, cost, want) in &VEHICLES {
-        let problem = two_pairs(rt.alloc(), Kind::LiLim, 50)?;
-        assert!(rt; printed(rt.alloc(), problem, first, second, *cost)? == *want);
-    }
-    Ok(())
-}
-
-#[test]
-fn asks_the_load_of_customers(rt: HostRuntime) -> Result<(), Fail> {
-    let problem = three_customers(rt.alloc())?;
-    assert!(rt; printed(rt.alloc(), problem, &[2, 1], &[3], 30)? == [0, 0, 0, 30]);
-    let problem = three_customers(rt.alloc())?;
-    assert!(rt; printed(rt.alloc(), problem, &[1, 2, 3], &[], 0)? == [6, 1, 3, 3]);
-    Ok(())
-}
-
-// What is told of a plan for one pair, whose second vehicle has a pin.
-fn planned(alloc: Global, routes: Routes, pin: &[u32]) -> Result<[u64; 4], Fail> {
-    let problem = one_pair(alloc, Kind::LiLim, 10, 60, 100)?;
+// The same where the second vehicle has a pin.
+fn planned(alloc: Global, plan: &Plan, pin: &[u32]) -> Result<[u64; 4], Fail> {
     let pins = Pins {
         routes: routes_of(alloc, &[], pin)?,
     };
-    Ok(told(audit(alloc, &problem, &pins, &Plan { routes })?))
+    told_planned(alloc, &pins, plan)
+}
+
+// The same of a plan whose second vehicle stays at the depot.
+fn first_planned(alloc: Global, first: &[u32], pin: &[u32]) -> Result<[u64; 4], Fail> {
+    let plan = Plan {
+        routes: routes_of(alloc, first, &[])?,
+    };
+    planned(alloc, &plan, pin)
 }
 
 /// The first vehicle's route, the second one's pin, and what is told. The second vehicle stays at the depot.
@@ -145,36 +190,23 @@ const PLANNED: [(&[u32], &[u32], [u64; 4]); 3] = [
 #[test]
 fn audits_a_plan(rt: HostRuntime) -> Result<(), Fail> {
     for (first, pin, want) in &PLANNED {
-        let routes = routes_of(rt.alloc(), first, &[])?;
-        assert!(rt; planned(rt.alloc(), routes, pin)? == *want);
+        assert!(rt; first_planned(rt.alloc(), first, pin)? == *want);
     }
     Ok(())
 }
 
 #[test]
 fn asks_a_route_for_each_vehicle(rt: HostRuntime) -> Result<(), Fail> {
-    let plan = one_route(rt.alloc(), &[1, 2])?;
-    assert!(rt; planned(rt.alloc(), plan.routes, &[])? == [9, 0, 0, 0]);
+    assert!(rt; planned(rt.alloc(), &one_route(rt.alloc(), &[1, 2])?, &[])? == [9, 0, 0, 0]);
     Ok(())
 }
 
-// The fault of the first of these routes, 0 for none.
-fn first_fault(problem: &Problem, routes: &[Route]) -> u32
-    requires { All (AreLiveOnce problem.now) routes.now }
-{
-    for route in routes {
-        return route_fault(problem, route.as_slice()).unwrap_or(0);
-    }
-    0
-}
-
 // The fault of these stops as the only route, 0 for none and 1 where they are not live and distinct.
-fn fault_alone(alloc: Global, problem: &Problem, stops: &[u32]) -> Result<u32, Fail> {
-    let plan = one_route(alloc, stops)?;
-    if is_live_once(alloc, problem, &plan)? {
-        return Ok(first_fault(problem, plan.routes.as_slice()));
+fn fault_alone(problem: &Problem, stops: &[u32]) -> u32 {
+    if !are_live_once(problem, stops) {
+        return 1;
     }
-    Ok(1)
+    route_fault(problem, stops).unwrap_or(0)
 }
 
 /// Routes over two pairs, of which the second pickup is due at 2, and the fault of each.
@@ -187,43 +219,44 @@ const ROUTE_FAULTS: [(&[u32], u32); 6] = [
     (&[4, 3], 5),
 ];
 
+fn have_faults(problem: &Problem) -> bool {
+    for (stops, want) in &ROUTE_FAULTS {
+        if fault_alone(problem, stops) != *want {
+            return false;
+        }
+    }
+    true
+}
+
+fn two_pairs_have_faults(alloc: Global) -> Result<bool, Fail> {
+    Ok(have_faults(&two_pairs(alloc, Kind::LiLim, 2)?))
+}
+
 #[test]
 fn tells_the_fault_of_a_route(rt: HostRuntime) -> Result<(), Fail> {
-    let problem = two_pairs(rt.alloc(), Kind::LiLim, 2)?;
-    for (stops, want) in &ROUTE_FAULTS {
-        let fault = fault_alone(rt.alloc(), &problem, stops)?;
-        assert!(rt; fault == *want, "{stops:?}");
-    }
+    assert!(rt; two_pairs_have_faults(rt.alloc())?);
     Ok(())
 }
 
 // The fault of the route of a pair.
-fn pair_fault(
-    alloc: Global,
-    kind: Kind,
-    capacity: u32,
-    latest: u32,
-    back: u32,
-) -> Result<u32, Fail> {
-    let problem = one_pair(alloc, kind, capacity, latest, back)?;
-    fault_alone(alloc, &problem, &[1, 2])
+fn pair_fault(alloc: Global, posed: Posed) -> Result<u32, Fail> {
+    Ok(fault_alone(&pose(alloc, posed)?, &[1, 2]))
 }
 
-/// The capacity, the delivery's latest start, the latest return, and the fault of the pair's route.
-const PAIR_FAULTS: [(u32, u32, u32, u32); 4] = [
-    (3, 11, 23, 6),
-    (10, 11, 23, 7),
-    (10, 12, 23, 8),
-    (10, 12, 24, 0),
+/// A pair, and the fault of its route.
+const PAIR_FAULTS: [(Posed, u32); 5] = [
+    (Posed::Pair(Kind::LiLim, 3, 11, 23), 6),
+    (Posed::Pair(Kind::LiLim, 10, 11, 23), 7),
+    (Posed::Pair(Kind::LiLim, 10, 12, 23), 8),
+    (Posed::Pair(Kind::LiLim, 10, 12, 24), 0),
+    (Posed::Pair(Kind::Vrp, 10, 11, 23), 0),
 ];
 
 #[test]
 fn tells_the_fault_of_one_pair(rt: HostRuntime) -> Result<(), Fail> {
-    for (capacity, latest, back, want) in &PAIR_FAULTS {
-        let fault = pair_fault(rt.alloc(), Kind::LiLim, *capacity, *latest, *back)?;
-        assert!(rt; fault == *want, "{want}");
+    for (posed, want) in &PAIR_FAULTS {
+        assert!(rt; pair_fault(rt.alloc(), *posed)? == *want);
     }
-    assert!(rt; pair_fault(rt.alloc(), Kind::Vrp, 10, 11, 23)? == 0);
     Ok(())
 }
 
@@ -285,36 +318,44 @@ fn slow_fault(case: &Case, alone: &[Route]) -> u32 {
 }
 
 // Whether both tell the same of each route of a case.
-fn route_faults_agree(alloc: Global, case: &Case) -> Result<bool, Fail> {
+fn route_faults_agree(case: &Case) -> bool {
     for alone in case.plan.routes.as_slice().chunks(1) {
         for route in alone {
-            let fault = fault_alone(alloc, &case.problem, route.as_slice())?;
-            if fault != slow_fault(case, alone) {
-                return Ok(false);
+            if fault_alone(&case.problem, route.as_slice()) != slow_fault(case, alone) {
+                return false;
             }
         }
     }
-    Ok(true)
+    true
+}
+
+// Whether both do in the next case.
+fn faults_agree(alloc: Global, words: &mut Words) -> Result<bool, Fail> {
+    Ok(route_faults_agree(&some_case(alloc, words)?))
 }
 
 #[test]
 fn tells_the_fault_that_the_slow_auditor_tells(rt: HostRuntime) -> Result<(), Fail> {
     let mut words = Words::new();
     for round in 0..300 {
-        let case = some_case(rt.alloc(), &mut words)?;
-        assert!(rt; route_faults_agree(rt.alloc(), &case)?, "case {round}");
+        assert!(rt; faults_agree(rt.alloc(), &mut words)?, "case {round}");
     }
     Ok(())
 }
 
-// How many starts and loads these routes have.
-fn places_in(alloc: Global, problem: &Problem, routes: &[Route]) -> Result<[usize; 2], Fail>
-    requires { All (AreLiveOnce problem.now) routes.now }
-{
+// How many starts and loads a route has; none where its stops are not live and distinct.
+fn places_of(alloc: Global, problem: &Problem, route: &[u32]) -> Result<[usize; 2], Fail> {
+    if !are_live_once(problem, route) {
+        return Ok([0, 0]);
+    }
+    let starts = starts(alloc, problem, route)?.len();
+    Ok([starts, loads(alloc, problem, route)?.len()])
+}
+
+fn places_in(alloc: Global, problem: &Problem, routes: &[Route]) -> Result<[usize; 2], Fail> {
     let mut places = [0usize; 2];
     for route in routes {
-        let starts = starts(alloc, problem, route.as_slice())?.len();
-        let loads = loads(alloc, problem, route.as_slice())?.len();
+        let [starts, loads] = places_of(alloc, problem, route.as_slice())?;
         places = [
             places[0].saturating_add(starts),
             places[1].saturating_add(loads),
@@ -323,16 +364,10 @@ fn places_in(alloc: Global, problem: &Problem, routes: &[Route]) -> Result<[usiz
     Ok(places)
 }
 
-// How many the most pairs have in routes of so many stops; none where they are not live and distinct.
+// How many the most pairs have in routes of so many stops.
 fn scheduled(alloc: Global, length: u32) -> Result<[usize; 2], Fail> {
-    let problem = most_pairs(alloc)?;
-    let plan = Plan {
-        routes: most_routes(alloc, length)?,
-    };
-    if is_live_once(alloc, &problem, &plan)? {
-        return places_in(alloc, &problem, plan.routes.as_slice());
-    }
-    Ok([0, 0])
+    let routes = most_routes(alloc, length)?;
+    places_in(alloc, &most_pairs(alloc)?, routes.as_slice())
 }
 
 #[test]
@@ -345,20 +380,21 @@ fn schedules_the_largest_plans(rt: HostRuntime) -> Result<(), Fail> {
 
 // What is told of the most pairs in routes of so many stops as they are printed.
 fn largest_printed(alloc: Global, length: u32) -> Result<[u64; 4], Fail> {
-    let problem = most_pairs(alloc)?;
     let routes = most_routes(alloc, length)?;
-    let solution = Solution { routes, cost: 0 };
-    Ok(told(audit_solution(alloc, &problem, &solution)?))
+    told_printed(alloc, &most_pairs(alloc)?, routes, 0)
 }
 
 // The same as a plan.
 fn largest_planned(alloc: Global, length: u32) -> Result<[u64; 4], Fail> {
-    let problem = most_pairs(alloc)?;
     let routes = most_routes(alloc, length)?;
+    told_without_pins(alloc, &most_pairs(alloc)?, routes)
+}
+
+fn told_without_pins(alloc: Global, problem: &Problem, routes: Routes) -> Result<[u64; 4], Fail> {
     let pins = Pins {
         routes: Routes::new(alloc),
     };
-    Ok(told(audit(alloc, &problem, &pins, &Plan { routes })?))
+    Ok(told(audit(alloc, problem, &pins, &Plan { routes })?))
 }
 
 #[test]

@@ -1,10 +1,9 @@
 //! Stops, problems and routes that the examples share.
-ghost use Rattle.std.specs.Prelude.{◌≡◌, [], ◌∷◌, All, IfOk, IsTrue};
+ghost use Rattle.std.specs.Prelude.{◌≡◌, true, IsTrue};
 ghost use Rattle.route_sched.specs.Route.{AreLiveOnce};
 
-use plan_audit::{Verdict, audit};
 use plan_types::limits::{MAX_FLEET, MAX_STOP_NUMBER};
-use plan_types::{Kind, Pins, Plan, Problem, Request, Route, Routes, Stop};
+use plan_types::{Kind, Plan, Problem, Request, Route, Routes, Stop};
 use std::alloc::Global;
 use std::test::Fail;
 
@@ -15,9 +14,7 @@ pub(crate) fn stop_at(
     demand: i32,
     latest: u32,
     service: u32,
-) -> Stop
-    ensures { result.number ≡ number }
-{
+) -> Stop {
     Stop {
         number,
         x: place.0,
@@ -68,15 +65,11 @@ pub(crate) fn one_pair(
     capacity: u32,
     latest: u32,
     back: u32,
-) -> Result<Problem, Fail>
-    ensures { IfOk result (λ problem. AreLiveOnce problem (1 ∷ 2 ∷ [])) }
-{
-    let depot = stop_at(0, (0, 0), 0, back, 0);
-    let mut problem = Problem::new(alloc, kind, depot, capacity, 2)?;
+) -> Result<Problem, Fail> {
     let pickup = stop_at(1, (3, 4), 4, 50, 2);
     let delivery = stop_at(2, (6, 8), -4, latest, 2);
-    problem.put(Request::Pair(pickup, delivery))?;
-    Ok(problem)
+    let requests = [Request::Pair(pickup, delivery)];
+    problem_of(alloc, kind, depot_until(back), capacity, 2, &requests)
 }
 
 /// Two pairs on two places, with a fleet of one. The second pickup may have to be served soon.
@@ -132,15 +125,40 @@ pub(crate) fn one_route(alloc: Global, stops: &[u32]) -> Result<Plan, Fail> {
     Ok(Plan { routes })
 }
 
-/// Whether the stops of the plan are live and stand once each.
-pub(crate) fn is_live_once(alloc: Global, problem: &Problem, plan: &Plan) -> Result<bool, Fail>
-    ensures { IfOk result (λ b. IsTrue b → All (AreLiveOnce problem.now) plan.now.routes) }
+// Whether each of these numbers is a stop's and greater than the one before it.
+fn rise_and_live(problem: &Problem, numbers: &[u32]) -> bool
+    ensures { result ≡ true → AreLiveOnce problem.now numbers.now }
 {
-    let pins = Pins {
-        routes: Routes::new(alloc),
-    };
-    match audit(alloc, problem, &pins, plan)? {
-        Verdict::Pass(_) => Ok(true),
-        Verdict::Broken { rule, .. } => Ok(rule > 2),
+    let mut last = 0;
+    for number in numbers {
+        if *number <= last || problem.stop(*number).is_none() {
+            return false;
+        }
+        last = *number;
     }
+    true
+}
+
+// The same in any order: each of the numbers is a stop's and none behind it is the same, in quadratic time.
+fn differ_and_live(problem: &Problem, stops: &[u32]) -> bool
+    ensures { result ≡ true → AreLiveOnce problem.now stops.now }
+{
+    let mut left = stops;
+    while let [stop, rest @ ..] = left {
+        if problem.stop(*stop).is_none() || rest.contains(stop) {
+            return false;
+        }
+        left = rest;
+    }
+    true
+}
+
+/// Whether the stops are live and stand once each. The long routes of the examples rise.
+pub(crate) fn are_live_once(problem: &Problem, stops: &[u32]) -> bool
+    ensures { IsTrue result → AreLiveOnce problem.now stops.now }
+{
+    if rise_and_live(problem, stops) {
+        return true;
+    }
+    differ_and_live(problem, stops)
 }

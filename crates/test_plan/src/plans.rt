@@ -5,21 +5,35 @@ use plan_types::{Cost, Pins, Plan, Route, Routes};
 use std::alloc::Global;
 use std::test::Fail;
 
+// Whether the copy of a plan is one route of these stops.
+fn is_copied(plan: &Plan, stops: &[u32]) -> Result<bool, Fail> {
+    match plan.copy()?.routes.into_vec().as_slice() {
+        [route] => Ok(route.as_slice() == stops),
+        _ => Ok(false),
+    }
+}
+
+fn copies_one_route(alloc: Global, stops: &[u32]) -> Result<bool, Fail> {
+    is_copied(&one_route(alloc, stops)?, stops)
+}
+
 #[test]
 fn copies_a_plan(rt: HostRuntime) -> Result<(), Fail> {
-    let plan = one_route(rt.alloc(), &[2, 1])?;
-    let routes = plan.copy()?.routes.into_vec();
-    assert!(rt; routes.len() == 1);
-    assert!(rt; routes[0].as_slice() == [2, 1].as_slice());
+    assert!(rt; copies_one_route(rt.alloc(), &[2, 1])?);
     Ok(())
+}
+
+// How many pins the copy of two has.
+fn copied_pins(alloc: Global) -> Result<usize, Fail> {
+    let pins = Pins {
+        routes: routes_of(alloc, &[3], &[])?,
+    };
+    Ok(pins.copy()?.routes.as_slice().len())
 }
 
 #[test]
 fn copies_pins(rt: HostRuntime) -> Result<(), Fail> {
-    let pins = Pins {
-        routes: routes_of(rt.alloc(), &[3], &[])?,
-    };
-    assert!(rt; pins.copy()?.routes.as_slice().len() == 2);
+    assert!(rt; copied_pins(rt.alloc())? == 2);
     Ok(())
 }
 
@@ -139,8 +153,7 @@ fn copies_the_largest_plan(rt: HostRuntime) -> Result<(), Fail> {
         routes: most_routes(rt.alloc(), 1)?,
     };
     let routes = plan.copy()?.routes.into_vec();
-    assert!(rt; routes.len() == 40_000);
-    assert!(rt; are_singles(&routes));
+    assert!(rt; routes.len() == 40_000 && are_singles(&routes));
     Ok(())
 }
 

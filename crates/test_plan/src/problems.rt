@@ -27,13 +27,14 @@ const FOUND: [(u32, [u32; 3]); 5] = [
     (5, [0, 0, 0]),
 ];
 
-#[test]
-fn finds_requests_by_number(rt: HostRuntime) -> Result<(), Fail> {
-    let problem = pair_and_single(rt.alloc())?;
-    for (number, want) in &FOUND {
-        assert!(rt; found(&problem, *number) == *want, "at {number}");
+// Whether these are found at these numbers.
+fn are_found(problem: &Problem, rows: &[(u32, [u32; 3])]) -> bool {
+    for (number, want) in rows {
+        if found(problem, *number) != *want {
+            return false;
+        }
     }
-    Ok(())
+    true
 }
 
 // The demand at a number.
@@ -50,13 +51,13 @@ const DEMANDS: [(u32, Option<i32>); 5] = [
     (5, None),
 ];
 
-#[test]
-fn finds_stops_by_number(rt: HostRuntime) -> Result<(), Fail> {
-    let problem = pair_and_single(rt.alloc())?;
+fn have_demands(problem: &Problem) -> bool {
     for (number, want) in &DEMANDS {
-        assert!(rt; demand(&problem, *number) == *want, "at {number}");
+        if demand(problem, *number) != *want {
+            return false;
+        }
     }
-    Ok(())
+    true
 }
 
 // The name of the first request.
@@ -65,39 +66,66 @@ fn first_name(problem: &Problem) -> Option<u32> {
     Some(*name)
 }
 
-#[test]
-fn keeps_requests_by_name(rt: HostRuntime) -> Result<(), Fail> {
-    let problem = pair_and_single(rt.alloc())?;
-    assert!(rt; first_name(&problem) == Some(1));
-    assert!(rt; problem.next_number == 5);
-    Ok(())
+// Whether the pair and the single stop are found by number, kept by name and counted.
+fn is_pair_and_single(problem: &Problem) -> bool {
+    are_found(problem, &FOUND)
+        && have_demands(problem)
+        && first_name(problem) == Some(1)
+        && problem.next_number == 5
+        && problem.requests.len() == 2
+}
+
+fn is_kept(alloc: Global) -> Result<bool, Fail> {
+    Ok(is_pair_and_single(&pair_and_single(alloc)?))
 }
 
 #[test]
-fn refuses_requests(rt: HostRuntime) -> Result<(), Fail> {
-    let mut problem = pair_and_single(rt.alloc())?;
-    let taken = problem.put(single(4, (0, 0), 1, 100));
-    assert!(rt; taken == Err(PutFault::Taken));
-    let range = problem.put(single(40_001, (0, 0), 1, 100));
-    assert!(rt; range == Err(PutFault::Range));
+fn keeps_requests(rt: HostRuntime) -> Result<(), Fail> {
+    assert!(rt; is_kept(rt.alloc())?);
     Ok(())
+}
+
+fn is_copied(alloc: Global) -> Result<bool, Fail> {
+    Ok(is_pair_and_single(&pair_and_single(alloc)?.copy()?))
 }
 
 #[test]
 fn copies_a_problem(rt: HostRuntime) -> Result<(), Fail> {
-    let copy = pair_and_single(rt.alloc())?.copy()?;
-    assert!(rt; copy.requests.len() == 2);
-    assert!(rt; found(&copy, 3) == [3, 4, 0]);
-    assert!(rt; demand(&copy, 3) == Some(1));
+    assert!(rt; is_copied(rt.alloc())?);
     Ok(())
+}
+
+// Whether a number that is taken and one that is too great are refused.
+fn refuses(problem: &mut Problem) -> bool {
+    let taken = problem.put(single(4, (0, 0), 1, 100));
+    let range = problem.put(single(40_001, (0, 0), 1, 100));
+    taken == Err(PutFault::Taken) && range == Err(PutFault::Range)
+}
+
+fn pair_and_single_refuses(alloc: Global) -> Result<bool, Fail> {
+    Ok(refuses(&mut pair_and_single(alloc)?))
+}
+
+#[test]
+fn refuses_requests(rt: HostRuntime) -> Result<(), Fail> {
+    assert!(rt; pair_and_single_refuses(rt.alloc())?);
+    Ok(())
+}
+
+// Whether the second pair is taken out by its name alone, and once.
+fn takes_second(problem: &mut Problem) -> bool {
+    let by_delivery = problem.take(4);
+    let by_name = problem.take(3);
+    by_delivery.is_none() && by_name == Some(pair_at(3, (2, 2), 50)) && problem.take(3).is_none()
+}
+
+fn is_taken(alloc: Global) -> Result<bool, Fail> {
+    Ok(takes_second(&mut two_pairs(alloc, Kind::LiLim, 50)?))
 }
 
 #[test]
 fn takes_out_a_request_by_its_name(rt: HostRuntime) -> Result<(), Fail> {
-    let mut problem = two_pairs(rt.alloc(), Kind::LiLim, 50)?;
-    assert!(rt; problem.take(4).is_none());
-    assert!(rt; problem.take(3) == Some(pair_at(3, (2, 2), 50)));
-    assert!(rt; problem.take(3).is_none());
+    assert!(rt; is_taken(rt.alloc())?);
     Ok(())
 }
 
@@ -116,21 +144,34 @@ const LEFT: [(u32, [u32; 3]); 4] = [
     (4, [0, 0, 0]),
 ];
 
+fn is_first_pair(problem: &Problem) -> bool {
+    are_found(problem, &LEFT) && problem.next_number == 5
+}
+
+fn is_left(alloc: Global) -> Result<bool, Fail> {
+    Ok(is_first_pair(&first_pair(alloc)?))
+}
+
 #[test]
 fn takes_out_no_other_request(rt: HostRuntime) -> Result<(), Fail> {
-    let problem = first_pair(rt.alloc())?;
-    for (number, want) in &LEFT {
-        assert!(rt; found(&problem, *number) == *want, "at {number}");
-    }
-    assert!(rt; problem.next_number == 5);
+    assert!(rt; is_left(rt.alloc())?);
     Ok(())
+}
+
+// What is at number 4 where a stop is put there.
+fn found_anew(problem: &mut Problem) -> Result<[u32; 3], PutFault> {
+    problem.put(single(4, (0, 0), 1, 100))?;
+    Ok(found(problem, 4))
+}
+
+fn found_again(alloc: Global) -> Result<[u32; 3], Fail> {
+    let mut problem = first_pair(alloc)?;
+    Ok(found_anew(&mut problem)?)
 }
 
 #[test]
 fn takes_a_number_that_is_free_again(rt: HostRuntime) -> Result<(), Fail> {
-    let mut problem = first_pair(rt.alloc())?;
-    problem.put(single(4, (0, 0), 1, 100))?;
-    assert!(rt; found(&problem, 4) == [4, 0, 0]);
+    assert!(rt; found_again(rt.alloc())? == [4, 0, 0]);
     Ok(())
 }
 
@@ -149,12 +190,17 @@ fn stand_in_pairs(problem: &Problem) -> bool {
     true
 }
 
+fn is_full(problem: &Problem) -> bool {
+    stand_in_pairs(problem) && problem.requests.len() == 20_000 && problem.next_number == 40_001
+}
+
+fn is_copied_full(alloc: Global) -> Result<bool, Fail> {
+    Ok(is_full(&most_pairs(alloc)?.copy()?))
+}
+
 #[test]
 fn keeps_as_many_stops_as_there_are_numbers(rt: HostRuntime) -> Result<(), Fail> {
-    let problem = most_pairs(rt.alloc())?.copy()?;
-    assert!(rt; stand_in_pairs(&problem));
-    assert!(rt; problem.requests.len() == 20_000);
-    assert!(rt; problem.next_number == 40_001);
+    assert!(rt; is_copied_full(rt.alloc())?);
     Ok(())
 }
 
@@ -169,12 +215,22 @@ fn stop_count(problem: &Problem) -> u32 {
     count
 }
 
+// How many numbers have a stop when these requests are taken out; 0 where one is not there.
+fn count_without(problem: &mut Problem, names: &[u32]) -> u32 {
+    for name in names {
+        if problem.take(*name).is_none() {
+            return 0;
+        }
+    }
+    stop_count(problem)
+}
+
+fn most_but_three(alloc: Global) -> Result<u32, Fail> {
+    Ok(count_without(&mut most_pairs(alloc)?, &[1, 20_001, 39_999]))
+}
+
 #[test]
 fn takes_requests_out_of_the_largest_problem(rt: HostRuntime) -> Result<(), Fail> {
-    let mut problem = most_pairs(rt.alloc())?;
-    for name in [1, 20_001, 39_999] {
-        assert!(rt; problem.take(name).is_some(), "{name} is there");
-    }
-    assert!(rt; stop_count(&problem) == 39_994);
+    assert!(rt; most_but_three(rt.alloc())? == 39_994);
     Ok(())
 }

@@ -1,5 +1,5 @@
 //! Insertion tables: what a request adds to a route, and its best places.
-ghost use Rattle.std.specs.Prelude.{◌≡◌, ℕ, ◌<◌, ◌≤◌, ◌≤ℤ◌, pos, All, IfOk, IfSome, IsTrue, length, slice_index_or};
+ghost use Rattle.std.specs.Prelude.{◌≡◌, ℕ, ◌<◌, ◌≤◌, ◌≤ℤ◌, pos, IfOk, IfSome, IsTrue, length, slice_index_or};
 ghost use Rattle.plan_types.specs.declared.requests.Kind.TheVariants.{LiLim};
 ghost use Rattle.route_sched.specs.Route.{AreLiveOnce};
 ghost use Rattle.route_sched.specs.Visiting.{visits_from};
@@ -8,9 +8,9 @@ ghost use Rattle.slack_tables.specs.Course.{IsCourseIn};
 ghost use Rattle.slack_tables.specs.Insertion.{KeepsLimits};
 
 use crate::builders::{
-    depot_until, is_live_once, one_route, problem_of, route_between, single, stop_at, two_pairs,
+    are_live_once, depot_until, problem_of, route_between, single, stop_at, two_pairs,
 };
-use plan_types::{Kind, OutOfMemory, Problem, Request, Route};
+use plan_types::{Kind, OutOfMemory, Problem, Request};
 use route_sched::{Visit, Visits};
 use slack_tables::{Addition, RouteTable};
 use std::alloc::Global;
@@ -62,38 +62,25 @@ fn keeps_limits(alloc: Global, problem: &Problem, route: &[u32]) -> Result<bool,
     Ok(all_keep(problem.kind, problem.capacity, visits.as_slice()))
 }
 
-// The first of these routes, which has to keep the limits.
-fn first_fitting(alloc: Global, problem: &Problem, routes: &[Route]) -> Result<Route, Fail>
-    requires { All (AreLiveOnce problem.now) routes.now }
-    ensures once { IfOk result (λ route. AreLiveOnce problem.now route) }
-    ensures limits { IfOk result (λ route. KeepsLimits problem.now route) }
+// Whether these stops are live, stand once and keep the limits.
+fn is_fitting(alloc: Global, problem: &Problem, stops: &[u32]) -> Result<bool, Fail>
+    ensures once { IfOk result (λ b. IsTrue b → AreLiveOnce problem.now stops.now) }
+    ensures limits { IfOk result (λ b. IsTrue b → KeepsLimits problem.now stops.now) }
 {
-    for route in routes {
-        if keeps_limits(alloc, problem, route.as_slice())? {
-            return Ok(route.copy()?);
-        }
+    if !are_live_once(problem, stops) {
+        return Ok(false);
     }
-    Err(Fail::from("the route does not fit"))
-}
-
-// The route of these stops, which have to be live, to stand once and to keep the limits.
-fn fitting_route(alloc: Global, problem: &Problem, stops: &[u32]) -> Result<Route, Fail>
-    ensures once { IfOk result (λ route. AreLiveOnce problem.now route) }
-    ensures limits { IfOk result (λ route. KeepsLimits problem.now route) }
-{
-    let plan = one_route(alloc, stops)?;
-    if is_live_once(alloc, problem, &plan)? {
-        return first_fitting(alloc, problem, plan.routes.as_slice());
-    }
-    Err(Fail::from("a stop is unknown or stands twice"))
+    Ok(keeps_limits(alloc, problem, stops)?)
 }
 
 // The table of a route that fits.
 fn table_of(alloc: Global, problem: &Problem, stops: &[u32]) -> Result<RouteTable, Fail>
     ensures { IfOk result (λ table. IsCourseIn problem.now table) }
 {
-    let route = fitting_route(alloc, problem, stops)?;
-    let table = RouteTable::build(alloc, problem, route.as_slice())?;
+    if !is_fitting(alloc, problem, stops)? {
+        return Err(Fail::from("the route does not fit"));
+    }
+    let table = RouteTable::build(alloc, problem, stops)?;
     Ok(table)
 }
 
@@ -189,20 +176,39 @@ fn heavy_pairs(alloc: Global) -> Result<Problem, Fail> {
     problem_of(alloc, Kind::LiLim, depot_until(100), 10, 1, &requests)
 }
 
-// What `try_insert` answers.
-fn answer(
+// Whether `try_insert` answers this, where these are places.
+fn answers(
+    problem: &Problem,
+    table: &RouteTable,
+    name: u32,
+    places: (u64, u64),
+    want: Option<i64>,
+) -> bool
+    requires { IsCourseIn problem.now table.now }
+{
+    match asked(problem, table, name, places.0, places.1) {
+        Some(added) => added == want,
+        None => false,
+    }
+}
+
+// Whether a request that is put into a route there adds this distance.
+fn adds(
     alloc: Global,
     problem: &Problem,
     route: &[u32],
     name: u32,
     places: (u64, u64),
-) -> Result<Option<i64>, Fail> {
+    want: Option<i64>,
+) -> Result<bool, Fail> {
     let table = table_of(alloc, problem, route)?;
-    Ok(asked(problem, &table, name, places.0, places.1).ok_or("these are no places")?)
+    Ok(answers(problem, &table, name, places, want))
 }
 
 /// A request that is put into a route at these places, and the distance that it adds; `None` where it does not fit.
-const ADDED: [(Posed, &[u32], u32, (u64, u64), Option<i64>); 8] = [
+type Added = (Posed, &'static [u32], u32, (u64, u64), Option<i64>);
+
+const ADDED: [Added; 8] = [
     (Posed::TwoPairs, &[1, 2], 3, (2, 3), Some(2)),
     (Posed::TwoPairs, &[1, 2], 3, (3, 4), Some(3)),
     (Posed::TwoPairs, &[1, 2], 3, (2, 4), Some(5)),
@@ -213,38 +219,49 @@ const ADDED: [(Posed, &[u32], u32, (u64, u64), Option<i64>); 8] = [
     (Posed::StopOnTheWay, &[1], 2, (1, 1), Some(-1)),
 ];
 
+fn adds_as(alloc: Global, row: &Added) -> Result<bool, Fail> {
+    let (which, route, name, places, want) = *row;
+    adds(alloc, &pose(alloc, which)?, route, name, places, want)
+}
+
 #[test]
 fn puts_requests_in(rt: HostRuntime) -> Result<(), Fail> {
-    for (row, (which, route, name, places, want)) in ADDED.iter().enumerate() {
-        let problem = pose(rt.alloc(), *which)?;
-        let added = answer(rt.alloc(), &problem, route, *name, *places)?;
-        assert!(rt; added == *want, "row {row}");
+    for row in &ADDED {
+        assert!(rt; adds_as(rt.alloc(), row)?);
     }
     Ok(())
 }
 
 // The distance and the places that `best_places` answers for a request behind so many stops and below this distance; of none 0.
-fn best_of(
-    alloc: Global,
+fn best_told(
     problem: &Problem,
-    route: &[u32],
+    table: &RouteTable,
     name: u32,
     kept: u64,
     below: i64,
-) -> Result<(i64, [u64; 2]), Fail> {
-    let table = table_of(alloc, problem, route)?;
+) -> Option<(i64, [u64; 2])> {
     if kept > table.stop_count() as u64 {
-        return Err(Fail::from("the route has not so many stops"));
+        return None;
     }
-    match best_in(problem, &table, name, kept, below).ok_or("no such request")? {
-        Some(best) => Ok((best.distance, [best.pickup, best.delivery])),
-        None => Ok((0, [0, 0])),
+    match best_in(problem, table, name, kept, below)? {
+        Some(best) => Some((best.distance, [best.pickup, best.delivery])),
+        None => Some((0, [0, 0])),
     }
 }
 
+// Whether they are these.
+fn are_best(told: Option<(i64, [u64; 2])>, distance: i64, places: [u64; 2]) -> bool {
+    match told {
+        Some(best) => best.0 == distance && best.1 == places,
+        None => false,
+    }
+}
+
+type BestPlaces = (Posed, &'static [u32], u32, u64, i64, i64, [u64; 2]);
+
 /// A request that is put behind so many stops of a route for less than this distance, what it adds, and its places, 0 where it
 /// fits nowhere. On the line it fits on the way out and on the way back: of both the earlier one behind what is kept counts.
-const BEST_PLACES: [(Posed, &[u32], u32, u64, i64, i64, [u64; 2]); 17] = [
+const BEST_PLACES: [BestPlaces; 17] = [
     (Posed::TwoPairs, &[1, 2], 3, 0, 1000, 2, [2, 3]),
     (Posed::TwoPairs, &[1, 2], 3, 0, 3, 2, [2, 3]),
     (Posed::TwoPairs, &[1, 2], 3, 0, 2, 0, [0, 0]),
@@ -264,15 +281,21 @@ const BEST_PLACES: [(Posed, &[u32], u32, u64, i64, i64, [u64; 2]); 17] = [
     (Posed::HeavyPairs, &[1, 2], 3, 0, 100, 12, [3, 4]),
 ];
 
+fn is_best_in(alloc: Global, problem: &Problem, row: &BestPlaces) -> Result<bool, Fail> {
+    let (_, route, name, kept, below, distance, places) = *row;
+    let table = table_of(alloc, problem, route)?;
+    let told = best_told(problem, &table, name, kept, below);
+    Ok(are_best(told, distance, places))
+}
+
+fn is_best(alloc: Global, row: &BestPlaces) -> Result<bool, Fail> {
+    is_best_in(alloc, &pose(alloc, row.0)?, row)
+}
+
 #[test]
 fn finds_the_best_places(rt: HostRuntime) -> Result<(), Fail> {
-    for (row, (which, route, name, kept, below, distance, places)) in BEST_PLACES
-        .iter()
-        .enumerate()
-    {
-        let problem = pose(rt.alloc(), *which)?;
-        let best = best_of(rt.alloc(), &problem, route, *name, *kept, *below)?;
-        assert!(rt; best.0 == *distance && best.1 == *places, "row {row}");
+    for row in &BEST_PLACES {
+        assert!(rt; is_best(rt.alloc(), row)?);
     }
     Ok(())
 }
@@ -286,13 +309,17 @@ fn most_customers(alloc: Global) -> Result<Problem, Fail> {
     Ok(problem)
 }
 
+// Whether the last customer is put in among all others.
+fn adds_the_last(alloc: Global) -> Result<bool, Fail> {
+    let route = route_between(alloc, 1, 39_999)?;
+    let places = (20_000, 20_000);
+    let problem = most_customers(alloc)?;
+    adds(alloc, &problem, route.as_slice(), 40_000, places, Some(0))
+}
+
 #[test]
 fn takes_the_largest_route(rt: HostRuntime) -> Result<(), Fail> {
-    let problem = most_customers(rt.alloc())?;
-    let route = route_between(rt.alloc(), 1, 39_999)?;
-    let places = (20_000, 20_000);
-    let added = answer(rt.alloc(), &problem, route.as_slice(), 40_000, places)?;
-    assert!(rt; added == Some(0));
+    assert!(rt; adds_the_last(rt.alloc())?);
     Ok(())
 }
 
@@ -314,44 +341,76 @@ const RULED_OUT: [(u32, i64, bool); 7] = [
     (10, 1_971, false),
 ];
 
-#[test]
-fn rules_requests_out(rt: HostRuntime) -> Result<(), Fail> {
-    let problem = long_line(rt.alloc())?;
-    let table = table_of(rt.alloc(), &problem, &[1, 2, 3])?;
+fn are_ruled_out(problem: &Problem, table: &RouteTable) -> bool {
     for (name, below, want) in &RULED_OUT {
-        let out = ruled_out(&problem, &table, *name, *below);
-        assert!(rt; out == Some(*want), "{name} below {below}");
+        if ruled_out(problem, table, *name, *below) != Some(*want) {
+            return false;
+        }
     }
-    Ok(())
+    true
 }
 
-// How many stops the second route has and how long it is, by a table that was made for the first.
+// How many stops the route has and how long it is.
+fn size(table: &RouteTable) -> [u64; 2] {
+    [table.stop_count() as u64, table.distance()]
+}
+
+// The size of a table that is made for a route anew.
+fn rebuild(
+    alloc: Global,
+    problem: &Problem,
+    table: &mut RouteTable,
+    near: &RouteTable,
+    route: &[u32],
+) -> Result<[u64; 2], Fail>
+    requires { IsCourseIn problem.now near.now }
+{
+    if !is_fitting(alloc, problem, route)? {
+        return Err(Fail::from("the route does not fit"));
+    }
+    table.rebuild(problem, near, route)?;
+    Ok(size(table))
+}
+
+// The size of the second route's table, which was made for the first one.
 fn rebuilt(
     alloc: Global,
     problem: &Problem,
     first: &[u32],
     second: &[u32],
 ) -> Result<[u64; 2], Fail> {
-    let mut table = table_of(alloc, problem, first)?;
     let near = table_of(alloc, problem, first)?;
-    let route = fitting_route(alloc, problem, second)?;
-    table.rebuild(problem, &near, route.as_slice())?;
-    Ok([table.stop_count() as u64, table.distance()])
+    let mut table = table_of(alloc, problem, first)?;
+    rebuild(alloc, problem, &mut table, &near, second)
 }
 
-// The same by a table that is made of the first one's memory, where the second route keeps the limits.
+// The size of a table that is made of this one's memory, where the route keeps the limits.
+fn remake(
+    problem: &Problem,
+    table: RouteTable,
+    near: &RouteTable,
+    route: &[u32],
+) -> Result<[u64; 2], Fail>
+    requires { IsCourseIn problem.now near.now }
+{
+    if !are_live_once(problem, route) {
+        return Err(Fail::from("a stop is unknown or stands twice"));
+    }
+    match table.remade(problem, near, route)? {
+        Some(table) => Ok(size(&table)),
+        None => Err(Fail::from("the second route does not fit")),
+    }
+}
+
+// The same as `rebuilt` by a table that is made of the first one's memory.
 fn remade(
     alloc: Global,
     problem: &Problem,
     first: &[u32],
     second: &[u32],
 ) -> Result<[u64; 2], Fail> {
-    let table = table_of(alloc, problem, first)?;
     let near = table_of(alloc, problem, first)?;
-    let route = fitting_route(alloc, problem, second)?;
-    let made = table.remade(problem, &near, route.as_slice())?;
-    let table = made.ok_or("the second route does not fit")?;
-    Ok([table.stop_count() as u64, table.distance()])
+    remake(problem, table_of(alloc, problem, first)?, &near, second)
 }
 
 // Whether a table that was made for the first route and then for the second one tells so many stops and this length.
@@ -373,43 +432,52 @@ const OTHER_ROUTES: [(&[u32], &[u32], [u64; 2]); 3] = [
     (&[1, 2], &[], [0, 0]),
 ];
 
+fn takes_others(alloc: Global, problem: &Problem) -> Result<bool, Fail> {
+    for (first, second, want) in &OTHER_ROUTES {
+        if !takes(alloc, problem, first, second, *want)? {
+            return Ok(false);
+        }
+    }
+    Ok(true)
+}
+
+fn two_pairs_take_others(alloc: Global) -> Result<bool, Fail> {
+    takes_others(alloc, &two_pairs(alloc, Kind::Vrp, 2)?)
+}
+
 #[test]
 fn takes_another_route(rt: HostRuntime) -> Result<(), Fail> {
-    let problem = two_pairs(rt.alloc(), Kind::Vrp, 2)?;
-    for (first, second, want) in &OTHER_ROUTES {
-        assert!(rt;
-            takes(rt.alloc(), &problem, first, second, *want)?,
-            "{second:?}"
-        );
-    }
+    assert!(rt; two_pairs_take_others(rt.alloc())?);
     Ok(())
 }
 
 // To the customers and back, by a table that was made for no stop.
+fn becomes_largest(alloc: Global) -> Result<bool, Fail> {
+    let route = route_between(alloc, 1, 40_000)?;
+    let problem = most_customers(alloc)?;
+    takes(alloc, &problem, &[], route.as_slice(), [40_000, 10])
+}
+
 #[test]
 fn becomes_the_largest_table(rt: HostRuntime) -> Result<(), Fail> {
-    let problem = most_customers(rt.alloc())?;
-    let route = route_between(rt.alloc(), 1, 40_000)?;
-    assert!(rt; takes(rt.alloc(), &problem, &[], route.as_slice(), [40_000, 10])?);
+    assert!(rt; becomes_largest(rt.alloc())?);
     Ok(())
 }
 
-// Start, load and latest start at a place.
-fn known_at(
-    alloc: Global,
-    problem: &Problem,
-    route: &[u32],
+// Whether start, load and latest start at a place are these.
+fn is_known(
+    table: &RouteTable,
     place: usize,
-) -> Result<(u64, i64, Option<u64>), Fail> {
-    let table = table_of(alloc, problem, route)?;
+    start: u64,
+    load: i64,
+    latest_start: Option<u64>,
+) -> bool {
     if place > table.stop_count() + 1 {
-        return Err(Fail::from("the route has no such place"));
+        return false;
     }
-    Ok((
-        table.start(place),
-        table.load(place),
-        table.latest_start(place),
-    ))
+    table.start(place) == start
+        && table.load(place) == load
+        && table.latest_start(place) == latest_start
 }
 
 /// A place of the route of the first pair, its start, load and latest start.
@@ -420,16 +488,23 @@ const KNOWN: [(usize, u64, i64, Option<u64>); 4] = [
     (3, 2, 0, None),
 ];
 
+fn are_known(table: &RouteTable) -> bool {
+    for (place, start, load, latest) in &KNOWN {
+        if !is_known(table, *place, *start, *load, *latest) {
+            return false;
+        }
+    }
+    true
+}
+
+fn first_pair_is_known(alloc: Global) -> Result<bool, Fail> {
+    let problem = two_pairs(alloc, Kind::LiLim, 2)?;
+    Ok(are_known(&table_of(alloc, &problem, &[1, 2])?))
+}
+
 #[test]
 fn tells_what_is_known_of_a_place(rt: HostRuntime) -> Result<(), Fail> {
-    let problem = two_pairs(rt.alloc(), Kind::LiLim, 2)?;
-    for (place, start, load, latest) in &KNOWN {
-        let known = known_at(rt.alloc(), &problem, &[1, 2], *place)?;
-        assert!(rt;
-            known.0 == *start && known.1 == *load && known.2 == *latest,
-            "at {place}"
-        );
-    }
+    assert!(rt; first_pair_is_known(rt.alloc())?);
     Ok(())
 }
 
@@ -444,15 +519,13 @@ fn number_at(table: &RouteTable, place: usize) -> Option<u32> {
 /// The depot, the stops on the line, and the depot again.
 const NUMBERS: [u32; 5] = [0, 1, 2, 3, 0];
 
-#[test]
-fn tells_the_stops(rt: HostRuntime) -> Result<(), Fail> {
-    let problem = long_line(rt.alloc())?;
-    let table = table_of(rt.alloc(), &problem, &[1, 2, 3])?;
+fn has_stops(table: &RouteTable) -> bool {
     for (place, number) in NUMBERS.iter().enumerate() {
-        let told = number_at(&table, place);
-        assert!(rt; told == Some(*number), "at {place}");
+        if number_at(table, place) != Some(*number) {
+            return false;
+        }
     }
-    Ok(())
+    true
 }
 
 /// A place, a reach, and whether the route over the line is seen to be beyond it: its stops lie from (10, 0) to (30, 0).
@@ -463,14 +536,33 @@ const BEYOND: [((i32, i32), u32, bool); 4] = [
     ((20, 55), 55, false),
 ];
 
-#[test]
-fn sees_routes_beyond_a_reach(rt: HostRuntime) -> Result<(), Fail> {
-    let problem = long_line(rt.alloc())?;
-    let table = table_of(rt.alloc(), &problem, &[1, 2, 3])?;
+fn sees_beyond(table: &RouteTable) -> bool {
     for (place, reach, want) in &BEYOND {
         let center = stop_at(12, *place, 0, 100, 0);
-        let beyond = table.is_beyond(&center, *reach);
-        assert!(rt; beyond == *want, "{reach}");
+        if table.is_beyond(&center, *reach) != *want {
+            return false;
+        }
     }
+    true
+}
+
+// Whether the table of the line rules out requests, tells its stops, and sees that it lies beyond a reach.
+fn told_by(problem: &Problem, table: &RouteTable) -> [bool; 3] {
+    [
+        are_ruled_out(problem, table),
+        has_stops(table),
+        sees_beyond(table),
+    ]
+}
+
+fn told_by_the_line(alloc: Global) -> Result<[bool; 3], Fail> {
+    let problem = long_line(alloc)?;
+    let table = table_of(alloc, &problem, &[1, 2, 3])?;
+    Ok(told_by(&problem, &table))
+}
+
+#[test]
+fn tells_what_a_line_rules_out(rt: HostRuntime) -> Result<(), Fail> {
+    assert!(rt; told_by_the_line(rt.alloc())? == [true; 3]);
     Ok(())
 }

@@ -155,9 +155,13 @@ fn some_pins(words: &mut Words, lists: &[Stops; 4]) -> [Stops; 4] {
 fn routes_from(alloc: Global, lists: &[Stops; 4], vehicles: u32) -> Result<Routes, Fail> {
     let mut routes = Routes::new(alloc);
     for stops in lists.iter().take(vehicles as usize) {
-        routes.push(route_from(alloc, stops)?)?;
+        put_route(alloc, &mut routes, stops)?;
     }
     Ok(routes)
+}
+
+fn put_route(alloc: Global, routes: &mut Routes, stops: &Stops) -> Result<(), Fail> {
+    Ok(routes.push(route_from(alloc, stops)?)?)
 }
 
 // The vehicle of each stop, of some none; now and then that of the delivery is another one.
