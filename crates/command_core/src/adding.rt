@@ -1,5 +1,6 @@
 //! Requests that are added to a job's problem.
 ghost use Rattle.std.specs.Prelude.{◌≡◌, ◌≤◌, pos, neg_ℤ, None, IfOk, IfErr};
+ghost use Rattle.plan_types.specs.Instance.{with_request};
 ghost use Rattle.command_core.specs.Job.{IsJob};
 ghost use Rattle.command_core.specs.Wishes.{stop_on, single_at, pair_at};
 ghost use Rattle.command_core.specs.Effects.{added};
@@ -7,9 +8,11 @@ ghost use Rattle.command_core.specs.Refusing.{job_refusal};
 
 use crate::commands::{Command, Spot};
 use crate::laws::effects_keep_facts;
+use crate::lists::copies;
 use crate::refusals::Refusal;
 use crate::states::Job;
-use plan_types::{Request, Stop};
+use plan_types::{OutOfMemory, Problem, Request, Stop};
+use std::alloc::AllocError;
 
 /// One more request, of two stops with the next two numbers, unplanned.
 pub(crate) fn add(job: &Job, demand: u32, pickup: &Spot, delivery: &Spot) -> Result<Job, Refusal>
@@ -67,17 +70,18 @@ fn added(job: &Job, request: Request) -> Result<Job, Refusal>
     ensures ok { IfOk result (λ new. new ≡ added job.now request) }
     ensures err { IfErr result (λ r. r ≡ Refusal.OutOfMemory) }
 {
-    let mut problem = job.problem.copy()?;
-    if problem.put(request).is_err() {
-        return Err(Refusal::OutOfMemory);
+    let problem = with_request(&job.problem, request)?;
+    let lists = copies(&job.pins, &job.plan, &job.plan)?;
+    Ok(job.with_parts(problem, lists))
+}
+
+// The problem with one more request, whose numbers are new.
+fn with_request(problem: &Problem, request: Request) -> Result<Problem, OutOfMemory>
+    ensures { IfOk result (λ new. new ≡ with_request problem.now request) }
+{
+    let mut problem = problem.copy()?;
+    match problem.put(request) {
+        Ok(()) => Ok(problem),
+        Err(_) => Err(AllocError),
     }
-    Ok(Job {
-        problem,
-        pins: job.pins.copy()?,
-        plan: job.plan.copy()?,
-        work: job.plan.copy()?,
-        deviation: job.deviation,
-        seed: job.seed,
-        steps: job.steps,
-    })
 }

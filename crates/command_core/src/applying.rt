@@ -1,6 +1,7 @@
 //! What a command makes of a state: `apply`, and `carry_out`, which gives each command to the module that carries it out.
-ghost use Rattle.std.specs.Prelude.{◌≡◌, None, Some, ◌⊎◌, IfSome, IfOk, IfErr};
+ghost use Rattle.std.specs.Prelude.{◌≡◌, None, Some, Ok, Err, ◌⊎◌, IfSome, IfOk, IfErr, MatchResult};
 ghost use Rattle.command_core.specs.Kept.{IsKept, IsWalkOf, IsStepped, IsCarriedOut};
+ghost use Rattle.command_core.specs.Changes.{with_change};
 ghost use Rattle.command_core.specs.Effects.{job_after, effect};
 ghost use Rattle.command_core.specs.Refusing.{job_refusal, refusal};
 ghost use Rattle.command_core.specs.Runs.{IsState, IsCommand};
@@ -34,15 +35,31 @@ pub fn apply(alloc: Global, state: &State, command: &Command) -> Result<State, R
     effects_keep_facts();
     know(state, command);
     check(state, command)?;
-    let Carried { change, walk: _ } = carry_out(alloc, state, None, command)?;
+    let carried = carry_out(alloc, state, None, command)?;
+    changed(state, carried.change)
+}
+
+// The changed state, beside the old one.
+fn changed(state: &State, change: Change) -> Result<State, Refusal>
+    requires { IsState (with_change change state.now) }
+    ensures ok { IfOk result (λ new. new ≡ with_change change state.now) }
+    ensures err { IfErr result (λ r. r ≡ Refusal.OutOfMemory) }
+{
     match change {
         Change::Whole(new) => Ok(new),
-        change => {
-            let mut new = state.copy()?;
-            change.put_in(&mut new);
-            Ok(new)
-        }
+        Change::Within(change) => changed_within(state, change),
     }
+}
+
+// The same where parts of its job change.
+fn changed_within(state: &State, change: JobChange) -> Result<State, Refusal>
+    requires { IsState (with_change (Change.Within change) state.now) }
+    ensures ok { IfOk result (λ new. new ≡ with_change (Change.Within change) state.now) }
+    ensures err { IfErr result (λ r. r ≡ Refusal.OutOfMemory) }
+{
+    let mut new = state.copy()?;
+    Change::Within(change).put_in(&mut new);
+    Ok(new)
 }
 
 /// A state and a problem that is loaded keep their facts.
@@ -79,14 +96,25 @@ pub(crate) fn carry_out(
     ensures ok { IfOk result (IsCarriedOut state.now (effect state.now command.now)) }
     ensures err { IfErr result (λ r. r ≡ Refusal.OutOfMemory) }
 {
-    match (state, command) {
-        (_, Command::Load(problem, seed)) => Ok(anew(load(alloc, problem, *seed)?)),
-        (State::Loaded(job), _) => carry_out_on(alloc, job, kept, command),
-        (State::Empty, _) => Err(Refusal::NoInstance),
+    match state {
+        State::Loaded(job) => carry_out_on(alloc, job, kept, command),
+        State::Empty => begin(alloc, command),
     }
 }
 
-// What it changes of a job.
+// What it makes where nothing is loaded yet.
+fn begin(alloc: Global, command: &Command) -> Result<Carried, Refusal>
+    requires { refusal State.Empty command.now ≡ None }
+    ensures ok { IfOk result (IsCarriedOut State.Empty (effect State.Empty command.now)) }
+    ensures err { IfErr result (λ r. r ≡ Refusal.OutOfMemory) }
+{
+    match command {
+        Command::Load(problem, seed) => anew(load(alloc, problem, *seed)),
+        _ => Err(Refusal::NoInstance),
+    }
+}
+
+// What it changes of a job. No arm has a `?`, and only those of commands that go on from the walk see it.
 fn carry_out_on(
     alloc: Global,
     job: &Job,
@@ -100,53 +128,78 @@ fn carry_out_on(
     ensures err { IfErr result (λ r. r ≡ Refusal.OutOfMemory) }
 {
     match command {
-        Command::Load(problem, seed) => Ok(anew(load(alloc, problem, *seed)?)),
-        Command::Add {
-            demand,
-            pickup,
-            delivery,
-        } => Ok(anew(add(job, *demand, pickup, delivery)?)),
-        Command::Add1 { demand, spot } => Ok(anew(add_single(job, *demand, spot)?)),
-        Command::Withdraw(name) => Ok(anew(withdraw(alloc, job, *name)?)),
-        Command::Pin(vehicle, stops) => Ok(within(pin(alloc, job, *vehicle, *stops)?)),
-        Command::Unpin(vehicle) => Ok(within(unpin(alloc, job, *vehicle)?)),
-        Command::Build => Ok(within(build(alloc, job)?)),
-        Command::Search(count) => Ok(walked(search(alloc, job, kept, *count)?)),
+        Command::Search(count) => walked(search(alloc, job, kept, *count)),
         Command::Checkpoint => Ok(Carried {
             change: Change::Within(JobChange::Nothing),
             walk: kept,
         }),
-        Command::Deviation(deviation) => Ok(within(deviate(job, *deviation)?)),
-        Command::Anneal(count) => Ok(walked(anneal(alloc, job, kept, *count)?)),
+        Command::Anneal(count) => walked(anneal(alloc, job, kept, *count)),
+        _ => carry_out_without(alloc, job, command),
+    }
+}
+
+// The same where no walk is kept.
+fn carry_out_without(alloc: Global, job: &Job, command: &Command) -> Result<Carried, Refusal>
+    requires { job_refusal job.now command.now ≡ None }
+    ensures ok { IfOk result (IsCarriedOut (State.Loaded job.now)
+        (State.Loaded (job_after job.now command.now))) }
+    ensures err { IfErr result (λ r. r ≡ Refusal.OutOfMemory) }
+{
+    match command {
+        Command::Load(problem, seed) => anew(load(alloc, problem, *seed)),
+        Command::Add {
+            demand,
+            pickup,
+            delivery,
+        } => anew(add(job, *demand, pickup, delivery)),
+        Command::Add1 { demand, spot } => anew(add_single(job, *demand, spot)),
+        Command::Withdraw(name) => anew(withdraw(alloc, job, *name)),
+        Command::Pin(vehicle, stops) => within(pin(alloc, job, *vehicle, *stops)),
+        Command::Unpin(vehicle) => within(unpin(alloc, job, *vehicle)),
+        Command::Build => within(build(alloc, job)),
+        Command::Search(count) => walked(search(alloc, job, None, *count)),
+        Command::Checkpoint => within(Ok(JobChange::Nothing)),
+        Command::Deviation(deviation) => within(deviate(job, *deviation)),
+        Command::Anneal(count) => walked(anneal(alloc, job, None, *count)),
     }
 }
 
 // A new job.
-fn anew(job: Job) -> Carried
-    ensures { result ≡ record { change = Change.Whole (State.Loaded job); walk = None } }
+fn anew(made: Result<Job, Refusal>) -> Result<Carried, Refusal>
+    ensures { MatchResult made
+        (λ job. result ≡ Ok (record { change = Change.Whole (State.Loaded job); walk = None }))
+        (λ r. result ≡ Err r) }
 {
-    Carried {
-        change: Change::Whole(State::Loaded(job)),
+    Ok(Carried {
+        change: Change::Whole(State::Loaded(made?)),
         walk: None,
-    }
+    })
 }
 
 // Parts of a job, without a walk.
-fn within(change: JobChange) -> Carried
-    ensures { result ≡ record { change = Change.Within change; walk = None } }
+fn within(made: Result<JobChange, Refusal>) -> Result<Carried, Refusal>
+    ensures { MatchResult made
+        (λ change. result ≡ Ok (record { change = Change.Within change; walk = None }))
+        (λ r. result ≡ Err r) }
 {
-    Carried {
-        change: Change::Within(change),
+    Ok(Carried {
+        change: Change::Within(made?),
         walk: None,
-    }
+    })
 }
 
 // Parts of a job, and the walk that made them.
-fn walked(stepped: Stepped) -> Carried
-    ensures { result ≡ record { change = Change.Within stepped.change; walk = Some stepped.walk } }
+fn walked(made: Result<Stepped, Refusal>) -> Result<Carried, Refusal>
+    ensures { MatchResult made
+        (λ stepped. result ≡ Ok (record {
+          change = Change.Within stepped.change;
+          walk = Some stepped.walk;
+        }))
+        (λ r. result ≡ Err r) }
 {
-    Carried {
-        change: Change::Within(stepped.change),
-        walk: Some(stepped.walk),
-    }
+    let Stepped { change, walk } = made?;
+    Ok(Carried {
+        change: Change::Within(change),
+        walk: Some(walk),
+    })
 }

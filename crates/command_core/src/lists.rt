@@ -6,7 +6,7 @@ ghost use Rattle.plan_audit.specs.Passes.{feasible_alone};
 
 use move_ops::has_stop;
 use plan_audit::{route_fault, tests_say_feasible};
-use plan_types::{OutOfMemory, Problem, Request, Route, Routes};
+use plan_types::{OutOfMemory, Pins, Plan, Problem, Request, Route, Routes};
 use std::alloc::Global;
 
 /// Whether a stop of the request is in one of the lists.
@@ -39,4 +39,45 @@ pub(crate) fn no_stops(alloc: Global, vehicles: u32) -> Result<Routes, OutOfMemo
         lists.push(Route::new(alloc))?;
     }
     Ok(lists)
+}
+
+/// The lists of a job. They are made in functions of their own, where no problem lives that every way out would drop.
+#[derive(Drop)]
+pub(crate) struct JobLists {
+    pub pins: Pins,
+    pub plan: Plan,
+    pub work: Plan,
+}
+
+/// Second lists like these.
+pub(crate) fn copies(pins: &Pins, plan: &Plan, work: &Plan) -> Result<JobLists, OutOfMemory>
+    ensures { IfOk result (λ lists. lists
+        ≡ record { pins = pins.now; plan = plan.now; work = work.now }) }
+{
+    Ok(JobLists {
+        pins: pins.copy()?,
+        plan: plan.copy()?,
+        work: work.copy()?,
+    })
+}
+
+/// The lists of so many vehicles, with no stop.
+pub(crate) fn empty_lists(alloc: Global, vehicles: u32) -> Result<JobLists, OutOfMemory>
+    ensures { let none = replicate vehicles [] in IfOk result (λ lists. lists ≡ record {
+      pins = record { routes = none };
+      plan = record { routes = none };
+      work = record { routes = none };
+    }) }
+{
+    Ok(JobLists {
+        pins: Pins {
+            routes: no_stops(alloc, vehicles)?,
+        },
+        plan: Plan {
+            routes: no_stops(alloc, vehicles)?,
+        },
+        work: Plan {
+            routes: no_stops(alloc, vehicles)?,
+        },
+    })
 }

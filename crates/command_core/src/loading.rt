@@ -3,10 +3,10 @@ ghost use Rattle.std.specs.Prelude.{◌≡◌, IfOk, IfErr};
 ghost use Rattle.command_core.specs.Effects.{loaded};
 
 use crate::laws::effects_keep_facts;
-use crate::lists::no_stops;
+use crate::lists::empty_lists;
 use crate::refusals::Refusal;
 use crate::states::Job;
-use plan_types::{Pins, Plan, Problem};
+use plan_types::Problem;
 use std::alloc::Global;
 
 /// The job of a problem of which nothing is planned yet.
@@ -16,22 +16,7 @@ pub(crate) fn load(alloc: Global, problem: &Problem, seed: u64) -> Result<Job, R
 {
     effects_keep_facts();
     let vehicles = problem.fleet;
-    let pins = Pins {
-        routes: no_stops(alloc, vehicles)?,
-    };
-    let plan = Plan {
-        routes: no_stops(alloc, vehicles)?,
-    };
-    let work = Plan {
-        routes: no_stops(alloc, vehicles)?,
-    };
-    Ok(Job {
-        problem: problem.copy()?,
-        pins,
-        plan,
-        work,
-        deviation: 0,
-        seed,
-        steps: 0,
-    })
+    let copy = problem.copy()?;
+    let lists = empty_lists(alloc, vehicles)?;
+    Ok(Job::from_parts(copy, lists.pins, lists.plan, lists.work, 0, seed, 0))
 }

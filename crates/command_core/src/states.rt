@@ -6,6 +6,7 @@
 ghost use Rattle.std.specs.Prelude.{◌≡◌, IfOk};
 ghost use Rattle.command_core.specs.Job.{IsJob};
 
+use crate::lists::{JobLists, copies};
 use plan_types::{OutOfMemory, Pins, Plan, Problem};
 use std::marker::Model;
 
@@ -87,15 +88,35 @@ impl Job {
     pub fn copy(&self) -> Result<Job, OutOfMemory>
         ensures { IfOk result (λ copy. copy ≡ self.now) }
     {
-        Ok(Job {
-            problem: self.problem.copy()?,
-            pins: self.pins.copy()?,
-            plan: self.plan.copy()?,
-            work: self.work.copy()?,
+        let problem = self.problem.copy()?;
+        let lists = copies(&self.pins, &self.plan, &self.work)?;
+        Ok(self.with_parts(problem, lists))
+    }
+
+    /// This job with another problem and other lists, which have to keep a job's facts. Takes no memory.
+    pub(crate) fn with_parts(&self, problem: Problem, lists: JobLists) -> Job
+        requires { IsJob (record self.now {
+          problem = problem;
+          pins = lists.pins.routes;
+          plan = lists.plan.routes;
+          work = lists.work.routes;
+        }) }
+        ensures { result ≡ record self.now {
+          problem = problem;
+          pins = lists.pins.routes;
+          plan = lists.plan.routes;
+          work = lists.work.routes;
+        } }
+    {
+        Job {
+            problem,
+            pins: lists.pins,
+            plan: lists.plan,
+            work: lists.work,
             deviation: self.deviation,
             seed: self.seed,
             steps: self.steps,
-        })
+        }
     }
 }
 

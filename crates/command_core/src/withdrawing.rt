@@ -8,7 +8,7 @@ ghost use Rattle.command_core.specs.Refusing.{job_refusal};
 
 use crate::commands::Command;
 use crate::laws::effects_keep_facts;
-use crate::lists::is_feasible;
+use crate::lists::{JobLists, is_feasible};
 use crate::refusals::Refusal;
 use crate::states::Job;
 use plan_audit::{passes_are_local, plans_are_local};
@@ -23,20 +23,43 @@ pub(crate) fn withdraw(alloc: Global, job: &Job, name: u32) -> Result<Job, Refus
     ensures err { IfErr result (λ r. r ≡ Refusal.OutOfMemory) }
 {
     effects_keep_facts();
-    let mut problem = job.problem.copy()?;
+    let problem = problem_left(&job.problem, name)?;
+    let lists = lists_left(alloc, job, &problem, name)?;
+    Ok(job.with_parts(problem, lists))
+}
+
+// The problem without the request.
+fn problem_left(problem: &Problem, name: u32) -> Result<Problem, OutOfMemory>
+    ensures { IfOk result (λ new. new ≡ without_request problem.now name) }
+{
+    let mut problem = problem.copy()?;
     problem.take(name);
+    Ok(problem)
+}
+
+// The pins, and what each vehicle does once the request is taken out.
+fn lists_left(
+    alloc: Global,
+    job: &Job,
+    without: &Problem,
+    name: u32,
+) -> Result<JobLists, OutOfMemory>
+    requires { without.now ≡ without_request job.now.problem name }
+    ensures { let left = routes_left job.now.problem name job.now.pins job.now.plan in
+        IfOk result (λ lists. lists ≡ record {
+          pins = record { routes = job.now.pins };
+          plan = record { routes = left };
+          work = record { routes = left };
+        }) }
+{
     let plan = Plan {
-        routes: routes_left(alloc, job, &problem, name)?,
+        routes: routes_left(alloc, job, without, name)?,
     };
     let work = plan.copy()?;
-    Ok(Job {
-        problem,
+    Ok(JobLists {
         pins: job.pins.copy()?,
         plan,
         work,
-        deviation: job.deviation,
-        seed: job.seed,
-        steps: job.steps,
     })
 }
 

@@ -6,10 +6,11 @@ use Rattle.command_core.specs.declared.states.State.TheVariants.{Empty}
 use Rattle.command_core.specs.declared.commands.Command.TheVariants.{Load}
 use Rattle.command_core.proofs.loading.load.Goals as goal
 
-pub invariant_of-result : goal.invariant_of-result
-invariant_of-result c =
+pub from_parts-requires : goal.from_parts-requires
+from_parts-requires c =
     let p = c.args.problem.now in
     let valid : IsInstance p = subst (λ (q : Instance). IsInstance q) c.problem.view_is c.problem.invariant.valid in
     let is : IsJob (loaded p c.args.seed) = c.effects_keep_facts.ensures.one Empty (Load p c.args.seed) tt (valid, c.ranges.seed.fits) refl in
-    let same : loaded p c.args.seed ≡ record { problem = c.in_ok-copy.field-0; pins = c.in_ok-no_stops.field-0; plan = c.in_ok-no_stops-2.field-0; work = c.in_ok-no_stops-3.field-0; deviation = 0; seed = c.args.seed; steps = 0 } = search rules in
+    let lists = c.in_ok-lists.lists in
+    let same : loaded p c.args.seed ≡ record { problem = c.in_ok-copy.copy; pins = lists.pins.routes; plan = lists.plan.routes; work = lists.work.routes; deviation = 0; seed = c.args.seed; steps = 0 } = search rules in
     subst (λ (j : JobValue). IsJob j) same is
