@@ -16,7 +16,7 @@ const MAX_STEPS: u64 = 1 << 60;
 
 const MAX_DEVIATION: u32 = 1_000_000_000;
 
-#[derive(Clone, Copy, Debug)]
+#[derive(Clone, Copy)]
 pub(crate) struct Head {
     pub(crate) kind: Kind,
     pub(crate) seed: u64,

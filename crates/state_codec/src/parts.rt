@@ -16,7 +16,7 @@ use crate::version::Version;
 use plan_types::{Pins, Plan, Problem, Routes};
 use std::alloc::Global;
 
-#[derive(Debug, Drop)]
+#[derive(Drop)]
 pub(crate) struct Parts {
     pub(crate) problem: Problem,
     pub(crate) pins: Pins,
@@ -50,8 +50,8 @@ fn problem_at<'a>(
     requires { IsHead head.now }
     ensures { Gives (λ x. (x.0, x.1.now)) result (problem_at version head.now bytes.now) }
 {
-    let empty = empty_problem(alloc, head)?;
     let (count, rest) = number_at(version, bytes)?;
+    let empty = empty_problem(alloc, head)?;
     let (problem, rest) = requests_at(version, empty, head.next_number, count, rest)?;
     let mut problem = problem;
     problem.set_next_number(head.next_number);

@@ -8,7 +8,7 @@ use byteorder::{BigEndian, ByteOrder};
 use std::marker::Model;
 
 /// Contracts see what is written so far. Zeros follow it.
-#[derive(Debug, Drop)]
+#[derive(Drop)]
 pub(crate) struct Sector {
     bytes: [u8; 512],
     used: usize,

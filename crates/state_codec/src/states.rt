@@ -1,5 +1,7 @@
 //! States from bytes.
-ghost use Rattle.std.specs.Prelude.{◌≡◌, IfOk, IfErr};
+ghost use Rattle.std.specs.Prelude.{◌≡◌, true, IfOk, OnOk, IfErr};
+ghost use Rattle.std.specs.List.{list_all};
+ghost use Rattle.plan_audit.specs.Passes.{feasible_alone, passes};
 ghost use Rattle.command_core.specs.Runs.{IsState};
 ghost use Rattle.command_core.specs.declared.states.State.{State};
 ghost use Rattle.state_codec.specs.declared.version.Version.TheVariants.{One, Two};
@@ -23,6 +25,7 @@ fn judged(alloc: Global, parts: Parts) -> Result<Job, CodecFault>
     ensures ok { IfOk result (λ job. job ≡ job_in parts) }
     ensures err { IfErr result (TellsRule (IsRefused (job_in parts))) }
 {
+    judge(alloc, &parts)?;
     let Parts {
         problem,
         pins,
@@ -32,11 +35,25 @@ fn judged(alloc: Global, parts: Parts) -> Result<Job, CodecFault>
         seed,
         steps,
     } = parts;
-    audited(alloc, &problem, &pins, &plan)?;
-    pins_are_live_once();
-    judged_pins(&problem, pins.routes.as_slice())?;
-    audited(alloc, &problem, &pins, &work)?;
     Ok(Job::from_parts(problem, pins, plan, work, deviation, seed, steps))
+}
+
+// Whether they do.
+fn judge(alloc: Global, parts: &Parts) -> Result<(), CodecFault>
+    requires { IsWithin (job_in parts.now) }
+    ensures plan { let j = job_in parts.now in OnOk result (passes j.problem j.pins j.plan ≡ true) }
+    ensures pins { let j = job_in parts.now in
+        OnOk result (list_all (feasible_alone j.problem) j.pins ≡ true) }
+    ensures work { let j = job_in parts.now in OnOk result (passes j.problem j.pins j.work ≡ true) }
+    ensures err { IfErr result (TellsRule (IsRefused (job_in parts.now))) }
+{
+    let problem = &parts.problem;
+    let pins = &parts.pins;
+    audited(alloc, problem, pins, &parts.plan)?;
+    pins_are_live_once();
+    judged_pins(problem, pins.routes.as_slice())?;
+    audited(alloc, problem, pins, &parts.work)?;
+    Ok(())
 }
 
 /// The state whose encoding the bytes are. Else the first fault in reading order: `Truncated` where the bytes end before or inside a field
