@@ -21,15 +21,32 @@ pub(crate) fn answer(alloc: Global, walk: Walk) -> Result<Solved, OutOfMemory>
     ensures plan { IfOk result (TellsPlan walk.job) }
     ensures told { IfOk result (λ solved. solved.is_told ≡ walk.is_told) }
 {
-    let Walk { job, is_told, .. } = walk;
-    let unplanned = unplanned_names(alloc, &job.problem, job.plan.routes.as_slice())?;
-    let text = plan_text(alloc, &job, &unplanned)?;
+    let told = told_of(alloc, &walk.job)?;
     Ok(Solved {
-        text,
-        unplanned,
-        job,
-        is_told,
+        text: told.text,
+        unplanned: told.unplanned,
+        job: walk.job,
+        is_told: walk.is_told,
     })
+}
+
+// What is told of a plan, made where no job lives that a way out would drop.
+#[derive(Drop)]
+struct Told {
+    text: Vec<u8>,
+    unplanned: Vec<u32>,
+}
+
+fn told_of(alloc: Global, job: &Job) -> Result<Told, OutOfMemory>
+    ensures text { IfOk result (λ told. told.text.items ≡ plan_text job.now) }
+    ensures unplanned { IfOk result (λ told. told.unplanned.items
+        ≡ unplanned_names job.now.problem job.now.plan) }
+    ensures spells { IfOk result (λ told. told.unplanned.items ≡ []
+        → Spells told.text.items (solution_of job.now)) }
+{
+    let unplanned = unplanned_names(alloc, &job.problem, job.plan.routes.as_slice())?;
+    let text = plan_text(alloc, job, &unplanned)?;
+    Ok(Told { text, unplanned })
 }
 
 // The text of the plan, which leaves the requests of these names out.

@@ -1,5 +1,5 @@
 //! The search, with a line before its steps and at each twentieth of them.
-ghost use Rattle.std.specs.Prelude.{◌≡◌, IfOk};
+ghost use Rattle.std.specs.Prelude.{◌≡◌, Ok, IfOk};
 ghost use Rattle.command_core.specs.Effects.{job_after, searched};
 ghost use Rattle.plan_solve.specs.Solved.{search_lines, searched_with};
 ghost use Rattle.plan_solve.specs.Telling.{HasWalked};
@@ -7,7 +7,7 @@ ghost use Rattle.plan_solve.specs.Telling.{HasWalked};
 use crate::marks::{PARTS, twentieths};
 use crate::staging::Walk;
 use crate::telling::tell;
-use command_core::{Command, Job, State, apply, searches_add_up};
+use command_core::{Command, Job, Refusal, State, apply, searches_add_up};
 use command_text::next_count;
 use plan_types::OutOfMemory;
 use std::alloc::{AllocError, Global};
@@ -66,8 +66,16 @@ fn search(alloc: Global, job: Job, steps: u32) -> Result<Job, OutOfMemory>
 pub(crate) fn carried_out(alloc: Global, job: Job, command: &Command) -> Result<Job, OutOfMemory>
     ensures { IfOk result (λ next. next ≡ job_after job command.now) }
 {
-    match apply(alloc, &State::Loaded(job), command) {
-        Ok(State::Loaded(next)) => Ok(next),
+    let state = State::Loaded(job);
+    job_in(apply(alloc, &state, command))
+}
+
+// The job of a state that was made. No arm has to drop the state before it.
+fn job_in(made: Result<State, Refusal>) -> Result<Job, OutOfMemory>
+    ensures { IfOk result (λ job. made ≡ Ok (State.Loaded job)) }
+{
+    match made {
+        Ok(State::Loaded(job)) => Ok(job),
         Ok(State::Empty) => Err(AllocError),
         Err(_) => Err(AllocError),
     }

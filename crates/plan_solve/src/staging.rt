@@ -2,6 +2,7 @@
 ghost use Rattle.std.specs.Prelude.{◌≡◌, ℕ, ◌+◌, ◌<◌, ◌≤◌, ◌^◌, true, List, Option, IfOk};
 ghost use Rattle.std.specs.Io.KnownBytes.{Appends};
 ghost use Rattle.anneal_stages.specs.Stages.{boundary};
+ghost use Rattle.command_core.specs.Job.{IsJob};
 ghost use Rattle.plan_solve.specs.Staged.{Stand, annealed, annealed_on, by_stages, first_stand, staged, told_behind, with_share};
 ghost use Rattle.plan_solve.specs.Telling.{HasWalked, Leads, Stands};
 
@@ -10,7 +11,7 @@ use anneal_search::anneal_steps;
 use anneal_stages::{STAGES, boundary, hundredths, share, stages_cover_all_steps};
 use command_core::Job;
 use plan_audit::passes_are_local;
-use plan_types::OutOfMemory;
+use plan_types::{OutOfMemory, Pins, Plan, Problem};
 use seeded_search::Found;
 use std::alloc::Global;
 use std::io::Write;
@@ -166,14 +167,18 @@ pub(crate) fn with_share(job: &Job, hundredths: u32) -> Result<Job, OutOfMemory>
     ensures { IfOk result (λ new. new ≡ with_share job.now hundredths) }
 {
     passes_are_local();
-    Ok(Job {
-        problem: job.problem.copy()?,
-        pins: job.pins.copy()?,
-        plan: job.plan.copy()?,
-        work: job.plan.copy()?,
-        deviation: share(&job.problem, &job.plan, hundredths),
-        seed: job.seed,
-        steps: job.steps,
+    let found = at_incumbent(&job.plan)?;
+    let deviation = share(&job.problem, &job.plan, hundredths);
+    with_plans(job, found, deviation, job.steps)
+}
+
+// The incumbent, as working plan too.
+fn at_incumbent(plan: &Plan) -> Result<Found, OutOfMemory>
+    ensures { IfOk result (λ found. found ≡ record { plan = plan.now; work = plan.now }) }
+{
+    Ok(Found {
+        plan: plan.copy()?,
+        work: plan.copy()?,
     })
 }
 
@@ -183,7 +188,7 @@ pub(crate) fn annealed(alloc: Global, job: &Job, count: u64) -> Result<Job, OutO
     requires last { job.now.steps + count ≤ 2 ^ 60 }
     ensures { IfOk result (λ new. new ≡ annealed job.now count) }
 {
-    let Found { plan, work } = anneal_steps(
+    let found = anneal_steps(
         alloc,
         &job.problem,
         &job.pins,
@@ -194,13 +199,50 @@ pub(crate) fn annealed(alloc: Global, job: &Job, count: u64) -> Result<Job, OutO
         job.steps,
         count,
     )?;
+    with_plans(job, found, job.deviation, job.steps + count)
+}
+
+// The job with these plans and this deviation, and so many steps in all.
+fn with_plans(job: &Job, found: Found, deviation: u32, steps: u64) -> Result<Job, OutOfMemory>
+    requires { IsJob (record job.now {
+      plan = found.plan.routes;
+      work = found.work.routes;
+      deviation = deviation;
+      steps = steps;
+    }) }
+    ensures { IfOk result (λ new. new ≡ record job.now {
+      plan = found.plan.routes;
+      work = found.work.routes;
+      deviation = deviation;
+      steps = steps;
+    }) }
+{
+    let Frame { problem, pins } = frame_of(job)?;
     Ok(Job {
+        problem,
+        pins,
+        plan: found.plan,
+        work: found.work,
+        deviation,
+        seed: job.seed,
+        steps,
+    })
+}
+
+// What steps leave as it is. Copied in a function of its own, where no plan lives that a way out would drop.
+#[derive(Drop)]
+pub(crate) struct Frame {
+    pub problem: Problem,
+    pub pins: Pins,
+}
+
+// The problem and the pins of the job.
+fn frame_of(job: &Job) -> Result<Frame, OutOfMemory>
+    ensures { IfOk result (λ frame. frame
+        ≡ record { problem = job.now.problem; pins = record { routes = job.now.pins } }) }
+{
+    Ok(Frame {
         problem: job.problem.copy()?,
         pins: job.pins.copy()?,
-        plan,
-        work,
-        deviation: job.deviation,
-        seed: job.seed,
-        steps: job.steps + count,
     })
 }

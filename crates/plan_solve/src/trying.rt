@@ -1,19 +1,20 @@
 //! Tries of smaller fleets, with a line behind each that makes another twentieth of the steps.
 ghost use Rattle.std.specs.Prelude.{◌≡◌, ◌+◌, ◌-◌, ◌<◌, ◌≤◌, ◌^◌, true, [], replicate, IfOk};
-ghost use Rattle.fleet_tries.specs.Fleets.{with_fleet};
+ghost use Rattle.fleet_tries.specs.Fleets.{longest_routes, with_fleet, with_vehicles};
 ghost use Rattle.plan_solve.specs.Staged.{first_stand};
 ghost use Rattle.route_sched.specs.Cost.{used_count};
 ghost use Rattle.plan_solve.specs.Telling.{HasWalked, Leads};
 ghost use Rattle.plan_solve.specs.Tried.{after_try, all_tries, behind_try, by_tries, fewer_after, first_fewer, goes_on, half, in_vain, is_whole, limit_of, may_try, taken_over, tried, vehicles_of, with_fewer};
 
-use crate::staging::{Walk, annealed, annealed_on, behind, stages_telling};
+use crate::staging::{Frame, Walk, annealed, annealed_on, behind, stages_telling};
 use crate::telling::tell;
 use anneal_stages::share;
 use command_core::Job;
 use fleet_tries::{longest_routes, smaller_fleets_pass, with_fleet, with_vehicles};
 use plan_audit::passes_are_local;
-use plan_types::{OutOfMemory, Pins, Plan, Route, Routes};
+use plan_types::{OutOfMemory, Pins, Plan, Problem, Route, Routes};
 use route_sched::plan_cost;
+use seeded_search::Found;
 use std::alloc::Global;
 use std::io::Write;
 
@@ -132,18 +133,29 @@ fn with_fewer(alloc: Global, job: &Job, vehicles: u64) -> Result<Job, OutOfMemor
 {
     passes_are_local();
     smaller_fleets_pass();
-    let fleet = vehicles as u32;
-    let routes = longest_routes(alloc, job.plan.routes.as_slice(), vehicles as usize)?;
-    let work = routes.copy()?;
+    let frame = without_pins(alloc, with_fleet(&job.problem, vehicles as u32)?)?;
+    let found = longest(alloc, job, vehicles)?;
     Ok(Job {
-        problem: with_fleet(&job.problem, fleet)?,
-        pins: no_pins(alloc, fleet)?,
-        plan: Plan { routes },
-        work: Plan { routes: work },
+        problem: frame.problem,
+        pins: frame.pins,
+        plan: found.plan,
+        work: found.work,
         deviation: share(&job.problem, &job.plan, TRY_HUNDREDTHS),
         seed: job.seed,
         steps: job.steps,
     })
+}
+
+// The longest routes of the job's plan, as working plan too.
+fn longest(alloc: Global, job: &Job, vehicles: u64) -> Result<Found, OutOfMemory>
+    ensures { let routes = longest_routes vehicles job.now.plan in IfOk result (λ found. found
+        ≡ record { plan = record { routes = routes }; work = record { routes = routes } }) }
+{
+    let plan = Plan {
+        routes: longest_routes(alloc, job.plan.routes.as_slice(), vehicles as usize)?,
+    };
+    let work = plan.copy()?;
+    Ok(Found { plan, work })
 }
 
 // What goes on behind a try: with its plan where no request is unplanned, else with the plan that stood.
@@ -179,19 +191,29 @@ fn taken_over(alloc: Global, job: &Job, found: &Job) -> Result<Job, OutOfMemory>
 {
     smaller_fleets_pass();
     let fleet = fleet_of(job);
-    let plan = Plan {
-        routes: with_vehicles(alloc, found.plan.routes.copy()?, fleet)?,
-    };
-    let work = plan.copy()?;
+    let frame = without_pins(alloc, job.problem.copy()?)?;
+    let plans = widened(alloc, found, fleet)?;
     Ok(Job {
-        problem: job.problem.copy()?,
-        pins: no_pins(alloc, fleet)?,
-        plan,
-        work,
+        problem: frame.problem,
+        pins: frame.pins,
+        plan: plans.plan,
+        work: plans.work,
         deviation: job.deviation,
         seed: job.seed,
         steps: found.steps,
     })
+}
+
+// The plan that was found, for so many vehicles, as working plan too.
+fn widened(alloc: Global, found: &Job, fleet: u32) -> Result<Found, OutOfMemory>
+    ensures { let routes = with_vehicles fleet found.now.plan in IfOk result (λ plans. plans
+        ≡ record { plan = record { routes = routes }; work = record { routes = routes } }) }
+{
+    let plan = Plan {
+        routes: with_vehicles(alloc, found.plan.routes.copy()?, fleet)?,
+    };
+    let work = plan.copy()?;
+    Ok(Found { plan, work })
 }
 
 // How many vehicles there are.
@@ -199,6 +221,17 @@ fn fleet_of(job: &Job) -> u32
     ensures { result ≡ job.now.problem.fleet }
 {
     job.problem.fleet
+}
+
+// The problem, and no pins.
+fn without_pins(alloc: Global, problem: Problem) -> Result<Frame, OutOfMemory>
+    ensures { IfOk result (λ frame. frame ≡ record {
+      problem = problem;
+      pins = record { routes = replicate problem.fleet [] };
+    }) }
+{
+    let pins = no_pins(alloc, problem.fleet)?;
+    Ok(Frame { problem, pins })
 }
 
 fn no_pins(alloc: Global, vehicles: u32) -> Result<Pins, OutOfMemory>

@@ -1,5 +1,5 @@
-use Rattle.std.proofs.Common.{rules, ◌∙◌}
+use Rattle.std.proofs.Common.{rules}
 use Rattle.plan_solve.proofs.printing.answer.Goals as goal
 
 pub returns-clause-plan : goal.returns-clause-plan
-returns-clause-plan c = record { job = search rules; text = search rules; unplanned = search rules; spells = λ none. c.in_ok-text.ensures.spells (c.deref.ensures.value ∙ none) }
+returns-clause-plan c = record { job = search rules; text = search rules; unplanned = search rules; spells = c.in_ok-told.ensures.spells }

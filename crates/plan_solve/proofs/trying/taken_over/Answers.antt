@@ -16,10 +16,10 @@ invariant_of-result c =
     let law = c.smaller_fleets_pass.ensures in
     let new : IsJob (taken_over j f) = taken_over_is_job law.whole law.pins j f is also c.requires.fleet c.requires.smaller in
     let same : taken_over j f ≡ record {
-      problem = c.in_ok-copy-2.field-0;
-      pins = c.in_ok-no_pins.field-0.routes;
-      plan = c.in_ok-with_vehicles.field-0;
-      work = c.in_ok-work.work.routes;
+      problem = c.in_ok-frame.frame.problem;
+      pins = c.in_ok-frame.frame.pins.routes;
+      plan = c.in_ok-plans.plans.plan.routes;
+      work = c.in_ok-plans.plans.work.routes;
       deviation = c.job.inside.deviation;
       seed = c.job.inside.seed;
       steps = c.found.inside.steps;
@@ -31,6 +31,6 @@ returns-clause-used c =
     let j = c.args.job.now in
     let f = c.args.found.now in
     let also : IsJob f = subst (λ (i : JobValue). IsJob i) c.found.view_is c.found.invariant in
-    let made : c.in_ok-with_vehicles.field-0 ≡ with_vehicles j.problem.fleet f.plan = search rules in
+    let made : c.in_ok-plans.plans.plan.routes ≡ with_vehicles j.problem.fleet f.plan = search rules in
     subst (λ rs. used_count rs ≤ f.problem.fleet) (sym made)
     (c.smaller_fleets_pass.ensures.used j.problem f.pins f.plan f.problem.fleet j.problem.fleet (found_passes j f also c.requires.fleet))

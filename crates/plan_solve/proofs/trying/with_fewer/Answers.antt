@@ -22,10 +22,10 @@ invariant_of-result c =
     } in
     let new : IsJob fewer = fewer_is_job law.longest law.pins j n c.share.result is c.requires.some c.requires.few c.share.ensures.most in
     let same : fewer ≡ record {
-      problem = c.in_ok-with_fleet.field-0;
-      pins = c.in_ok-no_pins.field-0.routes;
-      plan = c.in_ok-routes.routes;
-      work = c.in_ok-work.work;
+      problem = c.in_ok-frame.frame.problem;
+      pins = c.in_ok-frame.frame.pins.routes;
+      plan = c.in_ok-found.found.plan.routes;
+      work = c.in_ok-found.found.work.routes;
       deviation = c.share.result;
       seed = c.job.inside.seed;
       steps = c.job.inside.steps;
