@@ -199,6 +199,14 @@ passed_over p r c kept v best below valid course named stops out loose =
     subst (λ o. IsBetterBelow p (route_of c) r kept v o best best (bound_of v o best)) (sym (used_opens p.kind (route_of c) some))
     (still p (route_of c) r kept v best below loose (out p (request_name r) kept valid course named))
 
+-- so it is at a vehicle into whose route the request fits at no price
+pub passed_by : (p : Instance) (r : Request) (c : Course) (kept v : ℕ) (best : Option Found) → IsInstance p → IsCourseIn p c → request_named p (request_name r) ≡ Some r → ((below : ℤ) → FitsNowhere c r below) → IsBetter p (route_of c) r kept v best best
+passed_by p r c kept v best valid course named out = by (bound_of v (opens p.kind (route_of c)) best)
+  where
+    by : (o : Option ℤ) → IsBetterBelow p (route_of c) r kept v (opens p.kind (route_of c)) best best o
+    by None = refl
+    by (Some below) = (None, out below p (request_name r) kept valid course named, refl)
+
 no_stops : (xs ys : List ℕ) → length xs ≡ 0 → length ys ≡ 0 → xs ≡ ys
 no_stops [] [] none also = refl
 no_stops [] (y ∷ ys) none some = absurd (omega arith)

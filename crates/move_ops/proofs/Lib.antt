@@ -30,6 +30,7 @@ pub mod Refreshing
 pub mod Removing
 pub mod Replacing
 pub mod Restoring
+pub mod Rooming
 pub mod Seating
 pub mod TakenOut
 pub mod Times

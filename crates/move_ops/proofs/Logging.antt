@@ -1,5 +1,5 @@
 -- The log of a draft, in which no vehicle stands twice.
-use Rattle.std.proofs.Common.{◌≡◌, ℕ, zero, suc, ◌+◌, ◌-◌, ◌<◌, ◌≤◌, ◌||◌, Bool, true, false, eqb, List, [], ◌∷◌, ◌++◌, length, drop, map, set, get_or, Option, None, Some, slice_get, refl, sym, ap, subst, ◌∙◌, inl, inr, arith}
+use Rattle.std.proofs.Common.{◌≡◌, ℕ, ℤ, zero, suc, ◌+◌, ◌-◌, ◌<◌, ◌≤◌, ◌||◌, Bool, true, false, eqb, List, [], ◌∷◌, ◌++◌, length, drop, map, set, get_or, Option, None, Some, slice_get, refl, sym, ap, subst, ◌∙◌, inl, inr, arith}
 use Rattle.std.specs.Prelude.{MatchOption, vec_capacity}
 use Rattle.std.specs.List.{list_any, remove, AllByRecursion, IsDistinct}
 use Rattle.std.specs.Option.{is_none, is_some}
@@ -15,7 +15,9 @@ use Rattle.move_ops.specs.Kept.{AreSeats, IsKept}
 use Rattle.move_ops.specs.Logged.{is_logged, AreOnce, IsEntry}
 use Rattle.move_ops.specs.Tables.{plan_of}
 use Rattle.move_ops.specs.Refreshing.{AreWithin}
+use Rattle.move_ops.specs.Rooms.{AreRooms, IsRoomSet}
 use Rattle.move_ops.proofs.Drafting.{base_first, base_later, both_false, front_with, or_false, or_true, seats_with}
+use Rattle.move_ops.proofs.Rooming.{set_rooms}
 use Rattle.move_ops.proofs.Times.{none_some, some_same}
 
 -- ---- places of a list that are set
@@ -191,8 +193,8 @@ room_left n log v low high all once none =
 pub kept_with : (old new : Inside) (v : ℕ) (tour : Course) (seats : List ℕ) → IsKept old → new.tours.items ≡ set old.tours.items (v - 1) tour → new.seats.items ≡ seats
     → ((n : ℕ) → slice_get seats n ≡ Some 0 → has (route_of tour) n ≡ false) → ((n : ℕ) → slice_get seats n ≡ Some 0 → slice_get old.seats.items n ≡ Some 0)
     → 1 ≤ v → v ≤ length old.tours.items → old.front ≤ new.front → v ≤ new.front → ((k : ℕ) → old.front ≤ k → v ≤ k → new.front ≤ k)
-    → AreWithin (length old.tours.items) new.log.items → AreOnce new.log.items → vec_capacity new.log ≡ vec_capacity old.log → IsKept new
-kept_with old new v tour seats kept is_tours is_seats out others from within low high least logs once room =
+    → AreWithin (length old.tours.items) new.log.items → AreOnce new.log.items → vec_capacity new.log ≡ vec_capacity old.log → IsRoomSet v tour old.rooms.items new.rooms.items → IsKept new
+kept_with old new v tour seats kept is_tours is_seats out others from within low high least logs once room set_room =
     let long = ap length is_tours ∙ length-set old.tours.items (v - 1) tour in
     record {
       seats = subst (λ (l : List ℕ). AreSeats l (plan_of new.tours.items)) (sym is_seats)
@@ -202,4 +204,6 @@ kept_with old new v tour seats kept is_tours is_seats out others from within low
       room = (let had = kept.room in omega arith);
       front = (let most = least (length old.tours.items) kept.front within in omega arith);
       idle = front_with old.tours.items new.tours.items v tour old.front new.front is_tours from kept.idle low high;
+      rooms = subst (λ (l : List ℤ). AreRooms new.tours.items l) (sym set_room.2)
+          (subst (λ (l : List Course). AreRooms l (set old.rooms.items (v - 1) set_room.0)) (sym is_tours) (set_rooms old.tours.items old.rooms.items (v - 1) tour set_room.0 kept.rooms set_room.1));
     }

@@ -5,6 +5,7 @@ use Rattle.move_ops.specs.Tables.{plan_of}
 use Rattle.move_ops.specs.Drafts.{Drafted, AreIdleBehind}
 use Rattle.move_ops.specs.Logged.{AreOnce}
 use Rattle.move_ops.specs.Refreshing.{AreWithin}
+use Rattle.move_ops.specs.Rooms.{AreRooms}
 use Rattle.move_ops.specs.declared.draft.Draft.TheInside.{Inside}
 
 -- a stop with seat 0 is in no route; any other seat is where to look for it first
@@ -22,3 +23,4 @@ pub record IsKept (a : Inside) : Type 0 where
   pub room : length a.tours.items ≤ vec_capacity a.log
   pub front : a.front ≤ length a.tours.items
   pub idle : AreIdleBehind a.front (plan_of a.tours.items)
+  pub rooms : AreRooms a.tours.items a.rooms.items

@@ -11,3 +11,4 @@ pub mod Kept
 pub mod Logged
 pub mod Pairing
 pub mod Refreshing
+pub mod Rooms

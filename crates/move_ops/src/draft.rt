@@ -12,6 +12,8 @@
 //!   one, so few vehicles before the front are empty;
 //! - the seat of each stop: 0 says that no route has it, which is an invariant; any other number is where to
 //!   look first, and what is found there is tested, so it may be stale;
+//! - the room of each vehicle: a single that asks for more fits nowhere into its route, so best insertions pass over full
+//!   vehicles without a look at their tables;
 //! - the cost: distances and used vehicles are carried from change to change by the routes that change, the
 //!   requests left out are counted on. A removal adds as many as there are names, where one that stands twice
 //!   counts once; one that is placed is one less.
@@ -36,6 +38,7 @@ mod removing;
 
 use crate::laws::plans_pass_without_pins;
 use crate::lists::{has_stop, is_in};
+use crate::rooms::{rooms_of, set_room};
 use crate::seats::{marks, seat};
 use crate::tour::{Tour, swap};
 use crate::tours::{front_of, routes_of, seats_of, tours_of, vehicle_with};
@@ -62,6 +65,8 @@ pub struct Draft {
     seats: Vec<u32>,
     // By stop number whether it is pinned.
     pinned: Vec<bool>,
+    // By vehicle what a single may ask of it at most.
+    rooms: Vec<i64>,
     cost: Cost,
     base_cost: Cost,
 }
@@ -99,6 +104,7 @@ impl Draft {
         let front = front_of(&tours, tours.len());
         let seats = seats_of(alloc, &tours, len)?;
         let pinned = marks(alloc, pins.routes.as_slice(), len)?;
+        let rooms = rooms_of(alloc, &tours)?;
         let cost = plan_cost(problem, plan);
         Ok(Draft {
             tours,
@@ -108,6 +114,7 @@ impl Draft {
             room: Vec::new(alloc),
             seats,
             pinned,
+            rooms,
             cost,
             base_cost: cost,
         })
@@ -300,6 +307,7 @@ impl Draft {
     {
         let is_first = self.entry_of(vehicle).is_none();
         seat(&mut self.seats, tour.stops(), vehicle);
+        set_room(&mut self.rooms, vehicle, &tour);
         let old = swap(&mut self.tours, (vehicle - 1) as usize, tour);
         self.front = front_with(self.front, vehicle);
         if is_first {
@@ -335,6 +343,7 @@ impl Draft {
     {
         let (vehicle, tour) = self.log.remove(entry);
         seat(&mut self.seats, tour.stops(), vehicle);
+        set_room(&mut self.rooms, vehicle, &tour);
         let tried = swap(&mut self.tours, (vehicle - 1) as usize, tour);
         self.front = front_with(self.front, vehicle);
         keep(&mut self.spare, tried);

@@ -53,6 +53,7 @@ mod naming;
 mod pairing;
 mod plan_moves;
 mod removal;
+mod rooms;
 mod seats;
 mod swap;
 mod tables;

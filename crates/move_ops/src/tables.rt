@@ -17,11 +17,13 @@ ghost use Rattle.move_ops.specs.Insertion.{request_named, of_vehicle, best_inser
 ghost use Rattle.plan_audit.specs.Passes.{passes};
 ghost use Rattle.move_ops.specs.Refreshing.{fresh_of, AreWithin};
 ghost use Rattle.move_ops.specs.Tables.{plan_of, AreVehicles};
+ghost use Rattle.move_ops.specs.Rooms.{AreRooms};
 ghost use Rattle.move_ops.specs.Choosing.{opens, bound_of, place_found, IsAsked, IsBestAmongThese, IsLookedAt, IsLoose, bound_beside, IsBetter, IsEntryOf, IsNamed, IsReach, IsShort};
 
 use crate::facts::problem_keeps_limits;
 use crate::laws::{best_insertions_are_least, best_insertions_are_unique};
 use crate::lists::of_vehicle;
+use crate::rooms::is_full;
 use crate::tour::Tour;
 use crate::tours::tours_of;
 use plan_audit::{passes_are_local, plans_are_local, tests_say_feasible};
@@ -98,6 +100,7 @@ impl Tables {
             problem,
             pins.routes.as_slice(),
             tables,
+            &[],
             tables.len(),
             &[],
             request,
@@ -184,12 +187,14 @@ pub(crate) fn best_of(
     problem: &Problem,
     pins: &[Route],
     tables: &[Tour],
+    rooms: &[i64],
     end: usize,
     first: &[(u32, Tour)],
     request: &Request,
 ) -> Option<Found>
     requires asked { IsAsked problem.now pins.now tables.now request.now }
     requires within { end ≤ length tables.now }
+    requires rooms { AreRooms tables.now rooms.now }
     requires reach { IsReach (plan_of tables.now) end }
     requires first { AreWithin (length tables.now) first.now }
     ensures { option_map place_found result
@@ -209,6 +214,10 @@ pub(crate) fn best_of(
     let mut has_idle = false;
     for k in 0..end {
         let table = &tables[k];
+        if is_full(rooms, k, request) {
+            table.stops_are_few();
+            continue;
+        }
         let vehicle = k as u64 + 1;
         if table.stop_count() == 0 {
             if has_idle {

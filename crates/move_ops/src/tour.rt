@@ -136,6 +136,13 @@ impl Tour {
         self.table.stop_count()
     }
 
+    /// The law that a route has at most as many stops as there are numbers.
+    pub(crate) fn stops_are_few(&self)
+        ensures { length self.now.stops ≤ 40001 }
+    {
+        let _count = self.stop_count();
+    }
+
     /// The stops in order.
     pub(crate) fn stops(&self) -> &[u32]
         ensures { result.now ≡ route_of self.now }

@@ -147,12 +147,21 @@ impl Span {
         self.longest.max(edge(before, here))
     }
 
+    /// What a single may ask for at most: one of a greater demand exceeds the capacity wherever it is put in.
+    pub(crate) fn room(&self, limits: Limits) -> i64
+        requires small { IsSmallSpan self.now }
+        ensures { (demand : ℤ) → result <ℤ demand
+            → pos limits.capacity <ℤ (self.now.load +ℤ demand) }
+    {
+        i64::from(limits.capacity) - self.load
+    }
+
     /// Whether a single exceeds the capacity wherever it is put in.
     pub(crate) fn is_full(&self, limits: Limits, stop: &Stop) -> bool
         requires small { IsSmallSpan self.now }
         ensures { IsTrue result → pos limits.capacity <ℤ (self.now.load +ℤ stop.now.demand) }
     {
-        self.load + i64::from(stop.demand) > i64::from(limits.capacity)
+        self.room(limits) < i64::from(stop.demand)
     }
 
     /// Whether a single adds `below` or more wherever it is put in, where the depot is no nearer to it than `home`.

@@ -68,7 +68,7 @@ impl RouteTable {
     ghost use Rattle.slack_tables.specs.Course.{course_of, route_of, IsCourseIn};
     ghost use Rattle.slack_tables.specs.Insertion.{inserted, ArePlaces, KeepsLimits, IsAdded};
     ghost use Rattle.slack_tables.specs.Best.{IsBestAddition};
-    ghost use Rattle.slack_tables.specs.FitsNowhere.{FitsNowhere};
+    ghost use Rattle.slack_tables.specs.FitsNowhere.{FitsNowhere, IsRoom};
     ghost use Rattle.slack_tables.specs.RequestFloors.{AreFloors, AreWays};
 
     /// The table of a route of live, distinct stops that keeps the capacity and the windows.
@@ -296,6 +296,14 @@ impl RouteTable {
                 self.span.is_far_pair(pickup, delivery, ways, below)
             }
         }
+    }
+
+    /// What a single may ask for at most: one of a greater demand exceeds the capacity wherever it is put in.
+    pub fn room(&self) -> i64
+        ensures { IsRoom self.now result }
+    {
+        requests_are_found_by_stop();
+        self.span.room(self.limits)
     }
 
     /// The places at which a request adds the least distance to the route, its pickup or single

@@ -106,6 +106,7 @@ impl Draft {
             problem,
             kept,
             &self.tours,
+            &self.rooms,
             self.reach(),
             self.first_asked(),
             request,

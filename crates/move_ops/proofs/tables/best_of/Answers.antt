@@ -1,9 +1,11 @@
 use mir.Val.{SFits}
 use Rattle.std.proofs.lemmas.Int.{to_z-of_z}
-use Rattle.std.proofs.Common.{◌≡◌, ◌+◌, rules, w64, true, false, refl, sym, ◌∙◌, arith, subst}
+use Rattle.std.proofs.Common.{inl, length, ◌≡◌, ◌+◌, rules, w64, true, false, refl, sym, ◌∙◌, arith, subst}
 use Rattle.move_ops.specs.Insertion.{of_vehicle}
 use Rattle.move_ops.specs.Tables.{plan_of}
 use Rattle.move_ops.specs.Choosing.{IsBestAmongThese, IsLoose, IsNamedOrUpTo}
+use Rattle.std.proofs.lemmas.Option.{slice_get_read}
+use Rattle.move_ops.proofs.Choosing.{passed_by}
 use Rattle.move_ops.proofs.Asked.{course_at, request_valid, from_named, pin_fits, idle_here, idle_more, one_more, one_skipped, beyond, answered}
 use Rattle.move_ops.proofs.tables.best_of.Goals as goal
 use Rattle.move_ops.proofs.tables.best_of.Goals.{then-stop_count-eq0+else-has_idle, else-stop_count-eq0}
@@ -18,6 +20,25 @@ loop-k-init c =
       below = let fits : SFits w64 c.bound_from-below.result = search rules in subst (IsLoose 1 c.best_of_first-best.result) (sym (to_z-of_z w64 c.bound_from-below.result fits)) c.bound_from-below.ensures;
       short = c.best_of_first-best.ensures.short;
       idle = λ h. absurd (let k : false ≡ true = h in cc);
+    }
+
+pub loop-k-preserved-then-is_full : goal.loop-k-preserved-then-is_full
+loop-k-preserved-then-is_full c =
+    let p = c.args.problem.now in
+    let tables = c.args.tables.now in
+    let table = c.index-tables-k.result in
+    let pin = of_vehicle c.args.pins.now (c.loop-k.k + 1) in
+    let at = slice_get_read tables (length tables) c.loop-k.k table refl (omega arith) c.index-tables-k.is in
+    let out = c.is_full.ensures c.if-is_full.true tables c.requires.rooms table at in
+    let stays = passed_by p c.args.request.now table (length pin) (c.loop-k.k + 1) c.loop-k.best c.requires.asked.valid (course_at tables c.loop-k.k table c.index-tables-k.is (omega arith) p c.requires.asked.tables) c.requires.asked.named out in
+    record {
+      best = one_more c.requests_are_found_by_stop.ensures c.requests_stand_by_name.ensures c.passes_are_local.ensures c.tests_say_feasible.ensures c.costs_compare_part_by_part.ensures.below_tells
+          c.costs_compare_part_by_part.ensures.at_most_tells c.costs_are_in_order.ensures.total c.costs_are_in_order.ensures.transitive c.costs_are_in_order.ensures.below_then_at_most
+          c.costs_are_in_order.ensures.at_most_then_below c.costs_are_in_order.ensures.below_is_at_most c.args.problem.now c.args.pins.now c.args.tables.now c.args.request.now c.requires.asked
+          c.loop-k.k table c.index-tables-k.is (omega arith) c.args.first.now pin refl c.stops_are_few.ensures c.loop-k.best c.loop-k.best c.loop-k.invariant.best (inl stays);
+      below = λ u from. c.loop-k.invariant.below u (omega arith);
+      short = c.loop-k.invariant.short;
+      idle = λ h. idle_more (plan_of tables) c.loop-k.k (c.loop-k.invariant.idle h);
     }
 
 pub loop-k-preserved-then-has_idle : goal.loop-k-preserved-then-has_idle

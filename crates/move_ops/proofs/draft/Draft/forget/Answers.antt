@@ -17,4 +17,5 @@ invariant_of-self c =
       room = (let had = c.self.invariant.room in let same = c.pop.ensures.capacity in omega arith);
       front = c.self.invariant.front;
       idle = c.self.invariant.idle;
+      rooms = c.self.invariant.rooms;
     }

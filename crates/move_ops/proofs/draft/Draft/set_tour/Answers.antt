@@ -31,7 +31,7 @@ invariant_of-self c =
     kept_with old _ c.args.vehicle c.args.tour c.seat.new.seats c.self.invariant new held (λ n at. ap (λ l. has l n) (sym c.stops.ensures) ∙ c.seat.ensures.stops n at)
     (λ n at. ap (λ l. slice_get l n) (sym seated) ∙ c.seat.ensures.others n at) c.requires.from_one within front.front front.vehicle front.least
     (subst (λ (l : List (ℕ × Course)). AreWithin (length old.tours.items) l) (sym log) (within_more (length old.tours.items) old.log.items c.args.vehicle c.swap-old.result c.requires.from_one within c.self.invariant.within))
-    (subst AreOnce (sym log) (once_more old.log.items c.args.vehicle c.swap-old.result none c.self.invariant.once)) c.push_reserved.ensures.capacity
+    (subst AreOnce (sym log) (once_more old.log.items c.args.vehicle c.swap-old.result none c.self.invariant.once)) c.push_reserved.ensures.capacity c.set_room.ensures
 
 pub invariant_of-self-else-is_first : goal.invariant_of-self-else-is_first
 invariant_of-self-else-is_first c =
@@ -43,7 +43,7 @@ invariant_of-self-else-is_first c =
     let front = c.front_with-self-inside.ensures in
     kept_with old _ c.args.vehicle c.args.tour c.seat.new.seats c.self.invariant new held (λ n at. ap (λ l. has l n) (sym c.stops.ensures) ∙ c.seat.ensures.stops n at)
     (λ n at. ap (λ l. slice_get l n) (sym seated) ∙ c.seat.ensures.others n at) c.requires.from_one within front.front front.vehicle front.least
-    c.self.invariant.within c.self.invariant.once refl
+    c.self.invariant.within c.self.invariant.once refl c.set_room.ensures
 
 pub returns-then-is_first-clause-base : goal.returns-then-is_first-clause-base
 returns-then-is_first-clause-base c =

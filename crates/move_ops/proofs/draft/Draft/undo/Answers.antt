@@ -19,6 +19,14 @@ seat-requires c =
     let parts = within_without (length old.tours.items) old.log.items c.args.entry c.remove-vehicle.result at c.self.invariant.within in
     parts.1.0
 
+pub set_room-requires : goal.set_room-requires
+set_room-requires c =
+    let old = c.self.inside in
+    let below : c.args.entry < length old.log.items = search rules in
+    let at = slice_get_read old.log.items (length old.log.items) c.args.entry c.remove-vehicle.result refl below c.remove-vehicle.ensures.value in
+    let parts = within_without (length old.tours.items) old.log.items c.args.entry c.remove-vehicle.result at c.self.invariant.within in
+    parts.1.0
+
 pub overflow_sub-vehicle : goal.overflow_sub-vehicle
 overflow_sub-vehicle c =
     let old = c.self.inside in
@@ -45,7 +53,7 @@ invariant_of-self c =
     let front = c.front_with-self-inside.ensures in
     kept_with old _ c.remove-vehicle.result.0 c.remove-vehicle.result.1 c.seat.new.seats c.self.invariant new held (λ n at. ap (λ l. has l n) (sym c.stops.ensures) ∙ c.seat.ensures.stops n at)
     (λ n at. ap (λ l. slice_get l n) (sym seated) ∙ c.seat.ensures.others n at) parts.1.0 parts.1.1 front.front front.vehicle front.least
-    (subst (λ (l : List (ℕ × Course)). AreWithin (length old.tours.items) l) (sym log) parts.0) (subst AreOnce (sym log) (once_without old.log.items c.args.entry c.self.invariant.once)) c.remove-vehicle.ensures.capacity
+    (subst (λ (l : List (ℕ × Course)). AreWithin (length old.tours.items) l) (sym log) parts.0) (subst AreOnce (sym log) (once_without old.log.items c.args.entry c.self.invariant.once)) c.remove-vehicle.ensures.capacity c.set_room.ensures
 
 pub returns-clause-tours : goal.returns-clause-tours
 returns-clause-tours c =
