@@ -200,6 +200,32 @@ pub(crate) fn best_of(
     ensures { option_map place_found result
         ≡ best_insertion problem.now pins.now (plan_of tables.now) (request_name request.now) }
 {
+    match request {
+        Request::Single(_) => best_by_rooms(problem, pins, tables, rooms, end, first, request),
+        Request::Pair(_, _) => best_by_rooms(problem, pins, tables, &[], end, first, request),
+    }
+}
+
+// The same, with or without a list of rooms. It is written in its place twice, so that no loop over the vehicles asks again whether the
+// request is a single.
+#[inline(always)]
+fn best_by_rooms(
+    problem: &Problem,
+    pins: &[Route],
+    tables: &[Tour],
+    rooms: &[i64],
+    end: usize,
+    first: &[(u32, Tour)],
+    request: &Request,
+) -> Option<Found>
+    requires asked { IsAsked problem.now pins.now tables.now request.now }
+    requires within { end ≤ length tables.now }
+    requires rooms { AreRooms tables.now rooms.now }
+    requires reach { IsReach (plan_of tables.now) end }
+    requires first { AreWithin (length tables.now) first.now }
+    ensures { option_map place_found result
+        ≡ best_insertion problem.now pins.now (plan_of tables.now) (request_name request.now) }
+{
     best_insertions_are_least();
     best_insertions_are_unique();
     requests_are_found_by_stop();

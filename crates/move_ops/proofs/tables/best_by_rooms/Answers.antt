@@ -7,8 +7,8 @@ use Rattle.move_ops.specs.Choosing.{IsBestAmongThese, IsLoose, IsNamedOrUpTo}
 use Rattle.std.proofs.lemmas.Option.{slice_get_read}
 use Rattle.move_ops.proofs.Choosing.{passed_by}
 use Rattle.move_ops.proofs.Asked.{course_at, request_valid, from_named, pin_fits, idle_here, idle_more, one_more, one_skipped, beyond, answered}
-use Rattle.move_ops.proofs.tables.best_of.Goals as goal
-use Rattle.move_ops.proofs.tables.best_of.Goals.{then-stop_count-eq0+else-has_idle, else-stop_count-eq0}
+use Rattle.move_ops.proofs.tables.best_by_rooms.Goals as goal
+use Rattle.move_ops.proofs.tables.best_by_rooms.Goals.{then-stop_count-eq0+else-has_idle, else-stop_count-eq0}
 
 pub loop-k-init : goal.loop-k-init
 loop-k-init c =

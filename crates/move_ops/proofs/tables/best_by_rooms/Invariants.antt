@@ -1,7 +1,7 @@
 use Rattle.std.proofs.Common.{◌≡◌, ◌+◌, true}
 use Rattle.move_ops.specs.Choosing.{HasIdle, IsBestAmongThese, IsLoose, IsNamedOrUpTo, IsShort}
 use Rattle.move_ops.specs.Tables.{plan_of}
-use Rattle.move_ops.proofs.tables.best_of.Given as goal
+use Rattle.move_ops.proofs.tables.best_by_rooms.Given as goal
 
 -- the best among the vehicles so far, what a used vehicle must add less than, and whether one so far has no stops
 abbrev pub invariant-loop-k : goal.invariant-loop-k
