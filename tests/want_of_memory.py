@@ -31,7 +31,7 @@ VALUES = {
     ),
 }
 # Fields that say so where they are set, and methods where they are called; functions that say so by `None`.
-MEMBERS = {"is_whole": WANT, "has_failed": FAULT, "fail": FAULT, "fault": FAULT}
+MEMBERS = {"is_whole": WANT, "has_room": WANT, "has_failed": FAULT, "fail": FAULT, "fault": FAULT}
 GIVE_NONE = {"read_once": FAULT, "write_once": FAULT}
 # Growths, and what they may be handed.
 GROWTHS = re.compile(r"(.*::)?(with_capacity|reserve|reserve_exact|resize)")
