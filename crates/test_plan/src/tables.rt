@@ -546,16 +546,22 @@ fn sees_beyond(table: &RouteTable) -> bool {
     true
 }
 
-// Whether the table of the line rules out requests, tells its stops, and sees that it lies beyond a reach.
-fn told_by(problem: &Problem, table: &RouteTable) -> [bool; 3] {
+// The vehicle carries 10, and one of each of its stops.
+fn has_room(table: &RouteTable) -> bool {
+    table.room() == 7
+}
+
+// Whether the table of the line rules out requests, tells its stops, sees that it lies beyond a reach, and has room.
+fn told_by(problem: &Problem, table: &RouteTable) -> [bool; 4] {
     [
         are_ruled_out(problem, table),
         has_stops(table),
         sees_beyond(table),
+        has_room(table),
     ]
 }
 
-fn told_by_the_line(alloc: Global) -> Result<[bool; 3], Fail> {
+fn told_by_the_line(alloc: Global) -> Result<[bool; 4], Fail> {
     let problem = long_line(alloc)?;
     let table = table_of(alloc, &problem, &[1, 2, 3])?;
     Ok(told_by(&problem, &table))
@@ -563,6 +569,6 @@ fn told_by_the_line(alloc: Global) -> Result<[bool; 3], Fail> {
 
 #[test]
 fn tells_what_a_line_rules_out(rt: HostRuntime) -> Result<(), Fail> {
-    assert!(rt; told_by_the_line(rt.alloc())? == [true; 3]);
+    assert!(rt; told_by_the_line(rt.alloc())? == [true; 4]);
     Ok(())
 }
