@@ -5,6 +5,7 @@ use instance_read::{read_lilim, read_vrp};
 use state_codec::encode_state;
 use std::alloc::Global;
 use std::io;
+use test_examples::THREE_CUSTOMERS;
 
 /// One customer with demand 6, and one vehicle.
 const ONE: &[u8] = b"NAME : t1
@@ -18,27 +19,6 @@ NODE_COORD_SECTION
 DEMAND_SECTION
 1 0
 2 6
-DEPOT_SECTION
-1
--1
-EOF
-";
-
-const THREE: &[u8] = b"NAME : t3
-TYPE : CVRP
-DIMENSION : 4
-EDGE_WEIGHT_TYPE : EUC_2D
-CAPACITY : 10
-NODE_COORD_SECTION
-1 0 0
-2 3 4
-3 6 8
-4 0 5
-DEMAND_SECTION
-1 0
-2 6
-3 4
-4 5
 DEPOT_SECTION
 1
 -1
@@ -138,7 +118,7 @@ pub(crate) fn load_one(alloc: Global) -> io::Result<Command> {
 
 /// The command that loads three customers, whose least distance is 30.
 pub(crate) fn load_three(alloc: Global) -> io::Result<Command> {
-    load_vrp(alloc, THREE)
+    load_vrp(alloc, THREE_CUSTOMERS)
 }
 
 fn load_vrp(alloc: Global, text: &[u8]) -> io::Result<Command> {

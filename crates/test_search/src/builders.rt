@@ -6,6 +6,7 @@ use plan_audit::{Verdict, audit, tests_say_pass};
 use plan_types::{Kind, Pins, Plan, Problem, Request, Route, Routes, Stop};
 use std::alloc::Global;
 use std::test::Fail;
+use test_examples::routes_of;
 
 /// The latest time that a window may have.
 const ANY_TIME: u32 = 100_000_000;
@@ -201,24 +202,9 @@ pub(crate) fn one_route(alloc: Global, stops: u32, fleet: u32) -> Result<Plan, F
     Ok(Plan { routes })
 }
 
-// Lists of stops, each ended by a 0.
-fn lists_of(alloc: Global, stops: &[u32]) -> Result<Routes, Fail> {
-    let mut routes = Routes::new(alloc);
-    let mut route = Route::new(alloc);
-    for stop in stops {
-        if *stop > 0 {
-            route.push(*stop)?;
-        } else {
-            routes.push(route)?;
-            route = Route::new(alloc);
-        }
-    }
-    Ok(routes)
-}
-
 /// The plan of these routes, each ended by a 0.
 pub(crate) fn plan_of(alloc: Global, stops: &[u32]) -> Result<Plan, Fail> {
-    let routes = lists_of(alloc, stops)?;
+    let routes = routes_of(alloc, stops)?;
     Ok(Plan { routes })
 }
 
@@ -237,7 +223,7 @@ pub(crate) fn case_of(
     pins: &[u32],
     plan: &[u32],
 ) -> Result<Case, Fail> {
-    let routes = lists_of(alloc, pins)?;
+    let routes = routes_of(alloc, pins)?;
     let plan = plan_of(alloc, plan)?;
     let problem = problem_of(alloc, given)?;
     Ok(Case {

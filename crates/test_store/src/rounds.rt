@@ -9,28 +9,7 @@ use sector_disk::{MemDevice, Sectors};
 use state_codec::encode_state;
 use std::alloc::Global;
 use std::test::Fail;
-
-/// Three customers, whose least distance is 30.
-const THREE: &[u8] = b"NAME : t3
-TYPE : CVRP
-DIMENSION : 4
-EDGE_WEIGHT_TYPE : EUC_2D
-CAPACITY : 10
-NODE_COORD_SECTION
-1 0 0
-2 3 4
-3 6 8
-4 0 5
-DEMAND_SECTION
-1 0
-2 6
-3 4
-4 5
-DEPOT_SECTION
-1
--1
-EOF
-";
+use test_examples::THREE_CUSTOMERS;
 
 /// What a round does.
 #[derive(Clone, Copy)]
@@ -42,7 +21,7 @@ enum Step {
 
 fn command_of(alloc: Global, step: Step) -> Result<Command, Fail> {
     match step {
-        Step::Load => Ok(Command::Load(read_vrp(alloc, THREE)?, 0)),
+        Step::Load => Ok(Command::Load(read_vrp(alloc, THREE_CUSTOMERS)?, 0)),
         Step::Build => Ok(Command::Build),
         Step::Search(count) => Ok(Command::Search(count)),
     }

@@ -1,10 +1,11 @@
 //! Instances as texts, of both formats.
 
-use crate::builders::{Form, ONE_PAIR, Part, THREE_CUSTOMERS, read_instance, text_of};
+use crate::builders::{Form, ONE_PAIR, Part, read_instance, text_of};
 use instance_read::{ReadFault, ReadFaultKind, read_vrp};
 use plan_types::{Kind, Problem, limits};
 use std::alloc::Global;
 use std::test::Fail;
+use test_examples::THREE_CUSTOMERS;
 
 /// The most stops that a problem can have.
 const STOPS: u32 = limits::MAX_STOP_NUMBER;

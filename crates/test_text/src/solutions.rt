@@ -4,28 +4,14 @@ ghost use Rattle.route_sched.specs.Route.{IsPlan};
 
 use crate::builders::{Form, Part, text_of};
 use plan_audit::{Verdict, audit, routes_that_pass_are_a_plan};
-use plan_types::{Kind, Pins, Plan, Problem, Request, Route, Routes, Stop, limits};
+use plan_types::{Kind, Pins, Plan, Problem, Request, Routes, Stop, limits};
 use sol_text::{SolFault, SolFaultKind, WriteSolFault, read_sol, write_sol};
 use std::alloc::{AllocError, Global};
 use std::test::Fail;
+use test_examples::routes_of;
 
 /// The most customers that a problem can have.
 const CUSTOMERS: u32 = limits::MAX_STOP_NUMBER;
-
-// The lists of these stops, each ended by a 0.
-fn routes_of(alloc: Global, stops: &[u32]) -> Result<Routes, Fail> {
-    let mut routes = Routes::new(alloc);
-    let mut route = Route::new(alloc);
-    for stop in stops {
-        if *stop > 0 {
-            route.push(*stop)?;
-        } else {
-            routes.push(route)?;
-            route = Route::new(alloc);
-        }
-    }
-    Ok(routes)
-}
 
 // The stops of the routes, each route ended by a 0.
 fn stops_of(alloc: Global, routes: &Routes) -> Result<Vec<u32>, AllocError> {
