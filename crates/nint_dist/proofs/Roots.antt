@@ -1,9 +1,10 @@
 -- The nearest root as it is computed is the least number that the definition asks for.
-use Rattle.std.proofs.Common.{◌≡◌, ℕ, zero, suc, ◌+◌, ◌-◌, ◌*◌, ◌/◌, ◌%◌, ◌<◌, ◌≤◌, ⊎_elim, cond, sym, arith}
+use Rattle.std.proofs.Common.{◌≡◌, ℕ, zero, suc, ◌+◌, ◌-◌, ◌*◌, ◌/◌, ◌%◌, ◌<◌, ◌≤◌, Bool, true, false, ⊎_elim, cond, refl, sym, arith}
 use Rattle.std.specs.Prelude.{nat_le, nat_lt}
 use Rattle.std.proofs.Math.Nat.{suc-mul}
 use Rattle.std.proofs.lemmas.Nat.{mul-le, div-add-mod', mod_below}
 use Rattle.std.proofs.lemmas.Bool.{cases_lt, cond_both, ltb-true, ltb-false, leb-true, leb-false}
+use mir.Val.{bool_byte}
 use Rattle.nint_dist.specs.NearestRoot.{IsNearestRoot, doubled_root, whole_root, nearest_root}
 
 -- r is the whole part of the root of s
@@ -42,12 +43,21 @@ before_square zero h = absurd (omega arith)
 before_square (suc q) h =
     let one_less : suc q - 1 ≡ q = omega arith in rw one_less (sym (suc-mul q (suc q)))
 
+-- between the products beside that of g, the nearest root is g or the number above it
+pub beside : (s g : ℕ) → (0 < g → g * (g + 1) < s + 2 * g) → s ≤ g * (g + 1) + 2 * g + 2 → IsNearestRoot s (cond (nat_lt (g * (g + 1)) s) (g + 1) g)
+beside s g from to =
+    cond_both (nat_lt (g * (g + 1)) s) (g + 1) g (IsNearestRoot s)
+    (λ yes. let past : g * (g + 1) < s = ltb-true _ _ yes in record { reaches = omega (arith, to); least = least_from s (g + 1) (λ _. let one_less : g + 1 - 1 ≡ g = omega arith in rw one_less past) })
+    (λ no. let within : s ≤ g * (g + 1) = ltb-false _ _ no in record { reaches = within; least = least_from s g (λ positive. omega (arith, from positive, before_square g positive)) })
+
+-- the number above g or g itself, as a sum
+pub as_sum : (g : ℕ) (above : Bool) → cond above (g + 1) g ≡ g + bool_byte above
+as_sum g true = refl
+as_sum g false = let same : g ≡ g + 0 = omega arith in same
+
 -- the nearest root from the whole part of the root
 rounded : (s r : ℕ) → IsWholeRoot s r → IsNearestRoot s (cond (nat_lt (r * (r + 1)) s) (r + 1) r)
-rounded s r w =
-    cond_both (nat_lt (r * (r + 1)) s) (r + 1) r (IsNearestRoot s)
-    (λ yes. let past : r * (r + 1) < s = ltb-true _ _ yes in record { reaches = omega arith; least = least_from s (r + 1) (λ _. let one_less : r + 1 - 1 ≡ r = omega arith in rw one_less past) })
-    (λ no. let within : s ≤ r * (r + 1) = ltb-false _ _ no in record { reaches = within; least = least_from s r (λ positive. omega (arith, before_square r positive)) })
+rounded s r w = beside s r (λ positive. omega (arith, w.below)) (omega (arith, w.above))
 
 pub nearest : (s : ℕ) → IsNearestRoot s (nearest_root s)
 unfolding nearest_root

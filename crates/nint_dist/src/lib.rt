@@ -13,8 +13,9 @@
 //! `(d + 1/2)^2 = d*d + d + 1/4`, the nearest whole number is the least `d` with `s <= d * (d + 1)`; an exact
 //! half never occurs.
 //!
-//! How the root is taken: of a number below 2^22 a table guesses it, of a greater one a table and two steps of
-//! Newton's method, and two short loops mend the guess upward and downward. Proofs rest on the loops alone, so
+//! How the root is taken: of a number below 2^22 a table guesses it, and one product mostly tells that the guess or
+//! the number above it is right. Else, and of a greater number, which a table and two steps of Newton's method
+//! guess, two short loops mend the guess upward and downward. Proofs rest on the product and the loops alone, so
 //! the guess may be wrong and costs time only.
 //!
 //! Proved:

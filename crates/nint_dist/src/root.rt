@@ -16,8 +16,16 @@ static RECIPROCAL_ROOTS: [u8; 192] = [
     9, 9, 8, 8, 7, 6, 6, 5, 5, 4, 4, 3, 3, 2, 2, 1, 1, 0,
 ];
 
-// The root of the middle of each 1024th from 256/1024 to 1023/1024, in 65536ths.
-static ROOTS: [u16; 768] = [
+// The root of the middle of each 1024th, in 65536ths. Below 256 only the first is asked, for 0.
+static ROOTS: [u16; 1024] = [
+    0, 0, 0, 0, 0, 0, 0, 0, 0, 0, 0, 0, 0, 0, 0, 0, 0, 0, 0, 0, 0, 0, 0, 0, 0, 0, 0, 0, 0, 0, 0, 0,
+    0, 0, 0, 0, 0, 0, 0, 0, 0, 0, 0, 0, 0, 0, 0, 0, 0, 0, 0, 0, 0, 0, 0, 0, 0, 0, 0, 0, 0, 0, 0, 0,
+    0, 0, 0, 0, 0, 0, 0, 0, 0, 0, 0, 0, 0, 0, 0, 0, 0, 0, 0, 0, 0, 0, 0, 0, 0, 0, 0, 0, 0, 0, 0, 0,
+    0, 0, 0, 0, 0, 0, 0, 0, 0, 0, 0, 0, 0, 0, 0, 0, 0, 0, 0, 0, 0, 0, 0, 0, 0, 0, 0, 0, 0, 0, 0, 0,
+    0, 0, 0, 0, 0, 0, 0, 0, 0, 0, 0, 0, 0, 0, 0, 0, 0, 0, 0, 0, 0, 0, 0, 0, 0, 0, 0, 0, 0, 0, 0, 0,
+    0, 0, 0, 0, 0, 0, 0, 0, 0, 0, 0, 0, 0, 0, 0, 0, 0, 0, 0, 0, 0, 0, 0, 0, 0, 0, 0, 0, 0, 0, 0, 0,
+    0, 0, 0, 0, 0, 0, 0, 0, 0, 0, 0, 0, 0, 0, 0, 0, 0, 0, 0, 0, 0, 0, 0, 0, 0, 0, 0, 0, 0, 0, 0, 0,
+    0, 0, 0, 0, 0, 0, 0, 0, 0, 0, 0, 0, 0, 0, 0, 0, 0, 0, 0, 0, 0, 0, 0, 0, 0, 0, 0, 0, 0, 0, 0, 0,
     32800, 32864, 32928, 32991, 33055, 33118, 33181, 33245, 33308, 33370, 33433, 33496, 33558,
     33621, 33683, 33745, 33808, 33869, 33931, 33993, 34055, 34116, 34178, 34239, 34300, 34361,
     34422, 34483, 34544, 34605, 34665, 34726, 34786, 34846, 34906, 34966, 35026, 35086, 35146,
@@ -92,9 +100,25 @@ pub fn nint_root(s: u64) -> u64
     ensures nearest { IsNearestRoot s result }
 {
     if s < SHORT {
-        mended(s, short_guess(s))
+        short_root(s)
     } else {
         long_root(s)
+    }
+}
+
+// The nearest root of a short number: mostly the guess or the number above it. A sum tells which of
+// the two, since no branch on it could be foreseen.
+fn short_root(s: u64) -> u64
+    requires { s < 2 ^ 22 }
+    ensures { IsNearestRoot s result }
+{
+    let guess = u64::from(short_guess(s as u32));
+    let product = guess * (guess + 1);
+    // (guess - 1) * guess < s <= (guess + 1) * (guess + 2), by the one product.
+    if product < s + 2 * guess && s <= product + 2 * guess + 2 {
+        guess + u64::from(product < s)
+    } else {
+        mended(s, guess)
     }
 }
 
@@ -108,6 +132,8 @@ fn long_root(s: u64) -> u64
 }
 
 // The nearest root, by a number that is near it.
+#[cold]
+#[inline(never)]
 fn mended(s: u64, guess: u64) -> u64
     requires { guess < 2 ^ 32 }
     ensures { IsNearestRoot s result }
@@ -115,16 +141,14 @@ fn mended(s: u64, guess: u64) -> u64
     lowered(s, raised(s, guess))
 }
 
-// The nearest root of a short number, seldom a number beside it, by the table alone. This makes the mending loops short, and no proof
-// rests on it.
-fn short_guess(s: u64) -> u64
-    requires { s < 2 ^ 22 }
-    ensures { result < 2 ^ 32 }
+// The nearest root of a short number or the number below it, seldom another, by the table alone. No
+// proof rests on it.
+fn short_guess(s: u32) -> u32
+    ensures { result < 2 ^ 16 }
 {
-    let shift = (s | 1).leading_zeros() & 62;
-    let cell = ((s << shift) >> 54).saturating_sub(256);
-    let below = u64::from(ROOTS[cell as usize] >> (shift / 2).saturating_sub(16));
-    below + u64::from(below * (below + 1) < s)
+    let shift = (s | 1).leading_zeros() & 30;
+    let cell = (s << shift) >> 22;
+    u32::from(ROOTS[cell as usize]) >> (shift / 2)
 }
 
 // The nearest root or the number before it, by the table and two steps of Newton's method. This
