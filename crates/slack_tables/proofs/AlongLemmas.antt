@@ -100,30 +100,16 @@ length-next at k = sum_by-map-range_with_len_more (λ x. x) (λ m. distance (at 
 -- ---- two routes that have the same stops up to place n
 module _ (a b : ℕ → Stop) (n : ℕ) (same : (k : ℕ) → k ≤ n → b k ≡ a k) where
   pub same-start : (k : ℕ) → k ≤ n → start_along b k ≡ start_along a k
-  same-start zero h = start-first b ∙ (ap (λ s. s.earliest) (same 0 h) ∙ sym (start-first a))
-  same-start (suc k) h =
-      let before : start_along b k ≡ start_along a k = same-start k (omega arith) in
-      let here : b k ≡ a k = same k (omega arith) in
-      let next : b (k + 1) ≡ a (k + 1) = same (k + 1) (omega arith) in
-      let step : start_along b (k + 1) ≡ start_along a (k + 1) = start-next b k ∙ (rw (before, here, next) refl ∙ sym (start-next a k)) in
-      subst (λ m. start_along b m ≡ start_along a m) (add-one k) step
+  same-start zero h = rw (start-first b, start-first a, same 0 h) refl
+  same-start (suc k) h = rw (← add-one k, start-next b k, start-next a k, same-start k (omega arith), same k (omega arith), same (k + 1) (omega arith)) refl
 
   pub same-load : (k : ℕ) → k ≤ n → load_along b k ≡ load_along a k
-  same-load zero h = load-first b ∙ sym (load-first a)
-  same-load (suc k) h =
-      let before : load_along b k ≡ load_along a k = same-load k (omega arith) in
-      let next : b (k + 1) ≡ a (k + 1) = same (k + 1) (omega arith) in
-      let step : load_along b (k + 1) ≡ load_along a (k + 1) = load-next b k ∙ (rw (before, next) refl ∙ sym (load-next a k)) in
-      subst (λ m. load_along b m ≡ load_along a m) (add-one k) step
+  same-load zero h = rw (load-first b, load-first a) refl
+  same-load (suc k) h = rw (← add-one k, load-next b k, load-next a k, same-load k (omega arith), same (k + 1) (omega arith)) refl
 
   pub same-length : (k : ℕ) → k ≤ n → length_along b k ≡ length_along a k
-  same-length zero h = length-first b ∙ sym (length-first a)
-  same-length (suc k) h =
-      let before : length_along b k ≡ length_along a k = same-length k (omega arith) in
-      let here : b k ≡ a k = same k (omega arith) in
-      let next : b (k + 1) ≡ a (k + 1) = same (k + 1) (omega arith) in
-      let step : length_along b (k + 1) ≡ length_along a (k + 1) = length-next b k ∙ (rw (before, here, next) refl ∙ sym (length-next a k)) in
-      subst (λ m. length_along b m ≡ length_along a m) (add-one k) step
+  same-length zero h = rw (length-first b, length-first a) refl
+  same-length (suc k) h = rw (← add-one k, length-next b k, length-next a k, same-length k (omega arith), same k (omega arith), same (k + 1) (omega arith)) refl
 
 -- ---- two routes that have the same stops from places m and s on: The splice. What is behind depends on the start, the load and
 -- the length at the place where they join, and on nothing else.
@@ -134,14 +120,10 @@ module _ (a b : ℕ → Stop) (m s : ℕ) (same : (k : ℕ) → b (s + k) ≡ a 
       let there : m + 0 ≡ m = omega arith in
       rw (here, there) (sym (moved-first a m (start_along b s)))
   spliced-start (suc k) =
-      let before : start_along b (s + k) ≡ moved_along a m (start_along b s) (m + k) = spliced-start k in
-      let here : b (s + k) ≡ a (m + k) = same k in
       let next_b : s + suc k ≡ s + k + 1 = omega arith in
       let next_a : m + suc k ≡ m + k + 1 = omega arith in
       let next : b (s + k + 1) ≡ a (m + k + 1) = subst (λ i. b i ≡ a (m + k + 1)) next_b (subst (λ i. b (s + suc k) ≡ a i) next_a (same (suc k))) in
-      let step : start_along b (s + k + 1) ≡ moved_along a m (start_along b s) (m + k + 1) =
-      start-next b (s + k) ∙ (rw (before, here, next) refl ∙ sym (moved-next a m (start_along b s) (m + k) (omega arith))) in
-      rw (next_b, next_a) step
+      rw (next_b, next_a, start-next b (s + k), moved-next a m (start_along b s) (m + k) (omega arith), spliced-start k, same k, next) refl
 
   pub spliced-load : (k : ℕ) → load_along b (s + k) +ℤ load_along a m ≡ load_along a (m + k) +ℤ load_along b s
   spliced-load zero =
@@ -149,11 +131,11 @@ module _ (a b : ℕ → Stop) (m s : ℕ) (same : (k : ℕ) → b (s + k) ≡ a 
       let there : m + 0 ≡ m = omega arith in
       rw (here, there) (omega (arith, ints))
   spliced-load (suc k) =
-      let before : load_along b (s + k) +ℤ load_along a m ≡ load_along a (m + k) +ℤ load_along b s = spliced-load k in
+      let before = spliced-load k in
       let next_b : s + suc k ≡ s + k + 1 = omega arith in
       let next_a : m + suc k ≡ m + k + 1 = omega arith in
       let next : b (s + k + 1) ≡ a (m + k + 1) = subst (λ i. b i ≡ a (m + k + 1)) next_b (subst (λ i. b (s + suc k) ≡ a i) next_a (same (suc k))) in
-      let goods : (b (s + k + 1)).demand ≡ (a (m + k + 1)).demand = ap (λ x. x.demand) next in
+      let goods = ap (λ x. x.demand) next in
       rw (next_b, next_a) (omega (arith, ints, load-next b (s + k), load-next a (m + k)))
 
   pub spliced-length : (k : ℕ) → length_along b (s + k) + length_along a m ≡ length_along a (m + k) + length_along b s
@@ -162,10 +144,9 @@ module _ (a b : ℕ → Stop) (m s : ℕ) (same : (k : ℕ) → b (s + k) ≡ a 
       let there : m + 0 ≡ m = omega arith in
       rw (here, there) (omega arith)
   spliced-length (suc k) =
-      let before : length_along b (s + k) + length_along a m ≡ length_along a (m + k) + length_along b s = spliced-length k in
+      let before = spliced-length k in
       let next_b : s + suc k ≡ s + k + 1 = omega arith in
       let next_a : m + suc k ≡ m + k + 1 = omega arith in
-      let here : b (s + k) ≡ a (m + k) = same k in
       let next : b (s + k + 1) ≡ a (m + k + 1) = subst (λ i. b i ≡ a (m + k + 1)) next_b (subst (λ i. b (s + suc k) ≡ a i) next_a (same (suc k))) in
-      let leg : distance (b (s + k)) (b (s + k + 1)) ≡ distance (a (m + k)) (a (m + k + 1)) = rw (here, next) refl in
+      let leg : distance (b (s + k)) (b (s + k + 1)) ≡ distance (a (m + k)) (a (m + k + 1)) = rw (same k, next) refl in
       rw (next_b, next_a) (omega (arith, length-next b (s + k), length-next a (m + k)))

@@ -1,43 +1,35 @@
 -- What a pair costs, by its two detours.
-use Rattle.std.proofs.Common.{◌≡◌, ℕ, zero, suc, ◌+◌, ◌-◌, ◌<◌, ◌≤◌, ◌⊎◌, Bool, true, false, cond, int_lt, ℤ, pos, ◌+ℤ◌, ◌-ℤ◌, ◌≤ℤ◌, List, get_or, length, Option, Some, None, refl, sym, ap, ◌∙◌, arith, subst, inl, inr}
-use Rattle.std.specs.Option.{option_and_then}
-use Rattle.std.proofs.lemmas.Bool.{cases_lt}
+use Rattle.std.proofs.Common.{◌≡◌, ℕ, zero, suc, ◌+◌, ◌-◌, ◌<◌, ◌≤◌, ◌⊎◌, int_lt, ℤ, pos, ◌+ℤ◌, ◌-ℤ◌, ◌≤ℤ◌, List, get_or, length, Some, None, refl, sym, ap, ◌∙◌, arith, subst, inl, inr}
+use Rattle.std.proofs.lemmas.Bool.{cases_lt, cond_both}
+use Rattle.std.proofs.lemmas.Option.{cond_some, option_and_then_some}
 use Rattle.std.proofs.lemmas.Int.{ints}
 use Rattle.plan_types.specs.declared.requests.Stop.{Stop}
 use Rattle.nint_dist.specs.Distance.{distance}
-use Rattle.slack_tables.specs.Driven.{driven_on, stepped, with_stop, with_pair}
+use Rattle.slack_tables.specs.Driven.{stepped, with_pair}
 use Rattle.slack_tables.specs.Legs.{AreLinked, AreLeast, detour_of}
-use Rattle.slack_tables.specs.Ride.{ride_of, is_kept, is_served, price, served, served_below}
+use Rattle.slack_tables.specs.Ride.{ride_of, price, served, served_below}
 use Rattle.slack_tables.specs.Walk.{walk_to, IsUnderway}
 use Rattle.slack_tables.specs.declared.progress.Limits.{Limits}
 use Rattle.slack_tables.specs.declared.progress.Progress.{Progress}
 use Rattle.slack_tables.specs.declared.progress.Row.{Row}
 use Rattle.slack_tables.specs.declared.ride.Ride.{Ride}
 use Rattle.slack_tables.specs.declared.scan.Underway.{Underway}
-use Rattle.slack_tables.proofs.ScanLemmas.{int_lt-true}
+use Rattle.slack_tables.proofs.FirstLemmas.{int_lt-true}
 use Rattle.slack_tables.proofs.WalkLemmas.{distance-back, walk-first, walk-more}
 
 step-far : (limits : Limits) (a b : Progress) (s : Stop) → stepped limits a s ≡ Some b → (b.stop ≡ s) × (b.distance ≡ a.distance + distance a.stop s)
-step-far limits a b s is = by (is_kept limits (ride_of (driven_on a s)) s) is
-  where
-    by : (k : Bool) → cond k (Some (driven_on a s)) None ≡ Some b → (b.stop ≡ s) × (b.distance ≡ a.distance + distance a.stop s)
-    by true is = let same : driven_on a s ≡ b = cc in (ap (λ (x : Progress). x.stop) (sym same), ap (λ (x : Progress). x.distance) (sym same))
-    by false is = absurd (cc)
+step-far limits a b s is =
+    let same = sym (cond_some _ _ b is).1 in
+    (ap (λ (x : Progress). x.stop) same, ap (λ (x : Progress). x.distance) same)
 
 pub served-price : (limits : Limits) (r : Ride) (service to : ℕ) (s : Stop) (from : ℕ) (tail : Row) (x : ℤ) → served limits r service to s from tail ≡ Some x → x ≡ price r to from tail
-served-price limits r service to s from tail x is = by (is_served limits r service to s from tail) is
-  where
-    by : (k : Bool) → cond k (Some (price r to from tail)) None ≡ Some x → x ≡ price r to from tail
-    by true is = let same : price r to from tail ≡ x = cc in sym same
-    by false is = absurd (cc)
+served-price limits r service to s from tail x is = sym (cond_some _ _ x is).1
 
 -- what costs the bound or more by ways from below is not offered
 pub served-dear : (below : ℤ) (limits : Limits) (r : Ride) (service to : ℕ) (s : Stop) (from : ℕ) (tail : Row) (least_to least_from : ℕ) → least_to ≤ to → least_from ≤ from → below ≤ℤ price r least_to least_from tail → None ≡ served_below below limits r service to s from tail
-served-dear below limits r service to s from tail least_to least_from is_to is_from le = by (int_lt (price r to from tail) below) refl
-  where
-    by : (b : Bool) → int_lt (price r to from tail) below ≡ b → None ≡ cond b (served limits r service to s from tail) None
-    by true less = let lt = int_lt-true (price r to from tail) below less in absurd (omega (arith, ints))
-    by false _ = refl
+served-dear below limits r service to s from tail least_to least_from is_to is_from le =
+    cond_both (int_lt (price r to from tail) below) (served limits r service to s from tail) None (λ o. None ≡ o)
+    (λ less. let lt = int_lt-true (price r to from tail) below less in absurd (omega (arith, ints))) (λ _. refl)
 
 module _ (limits : Limits) (places : List Row) (p q : Stop) (i : ℕ) (d : Row) (linked : AreLinked places) where
   -- how far it is to place i over the pickup
@@ -49,11 +41,9 @@ module _ (limits : Limits) (places : List Row) (p q : Stop) (i : ℕ) (d : Row) 
 
   -- from one place of the table to the next
   one-more : (j : ℕ) (a : Progress) → i < j → j ≤ length places → walk_to limits places p i d (j + 1) ≡ Some a → {P : Type 0} → ((b : Progress) → walk_to limits places p i d j ≡ Some b → (a.stop ≡ (get_or places (j - 1) d).at.stop) → (a.distance ≡ b.distance + distance b.stop (get_or places (j - 1) d).at.stop) → P) → P
-  one-more j a order within is {P = P} then = by (walk_to limits places p i d j) refl (sym (walk-more limits places p i d j order within) ∙ is)
-    where
-      by : (o : Option Progress) → walk_to limits places p i d j ≡ o → option_and_then (λ at. stepped limits at (get_or places (j - 1) d).at.stop) o ≡ Some a → P
-      by None _ is = absurd (cc)
-      by (Some b) here is = let far = step-far limits b a (get_or places (j - 1) d).at.stop is in then b here far.0 far.1
+  one-more j a order within is then =
+      option_and_then_some _ _ a (sym (walk-more limits places p i d j order within) ∙ is)
+      (λ b here step. let far = step-far limits b a (get_or places (j - 1) d).at.stop step in then b here far.0 far.1)
 
   at-place : (n : ℕ) (a : Progress) → i + n < length places → walk_to limits places p i d (i + n + 1 + 1) ≡ Some a → (a.stop ≡ (get_or places (i + n) d).at.stop) × (a.distance + (get_or places i d).at.distance ≡ reach + (get_or places (i + n) d).at.distance)
   at-place zero a within is =
@@ -81,11 +71,9 @@ module _ (limits : Limits) (places : List Row) (p q : Stop) (i : ℕ) (d : Row) 
 
   -- what the delivery at place j adds, by where the vehicle is then
   pair-price : (j : ℕ) (x : ℤ) → with_pair limits places p q i j d ≡ Some x → {P : Type 0} → ((a : Progress) → walk_to limits places p i d j ≡ Some a → x ≡ pos (a.distance + distance a.stop q + distance q (get_or places (j - 1) d).at.stop) -ℤ pos (get_or places (j - 1) d).at.distance → P) → P
-  pair-price j x is {P = P} then = by (walk_to limits places p i d j) refl is
-    where
-      by : (o : Option Progress) → walk_to limits places p i d j ≡ o → option_and_then (λ at. with_stop limits at q (get_or places (j - 1) d)) o ≡ Some x → P
-      by None _ is = absurd (cc)
-      by (Some a) here is' = then a here (served-price limits (ride_of a) a.stop.service (distance a.stop q) q (distance q (get_or places (j - 1) d).at.stop) (get_or places (j - 1) d) x is')
+  pair-price j x is then =
+      option_and_then_some _ _ x is
+      (λ a here cost. then a here (served-price limits (ride_of a) a.stop.service (distance a.stop q) q (distance q (get_or places (j - 1) d).at.stop) (get_or places (j - 1) d) x cost))
 
   -- right behind the pickup
   pub near-is : (x : ℤ) → with_pair limits places p q i (i + 1) d ≡ Some x → x ≡ pos ((get_or places (i - 1) d).at.distance + distance (get_or places (i - 1) d).at.stop p + distance p q + distance (get_or places i d).at.stop q) -ℤ pos (get_or places i d).at.distance

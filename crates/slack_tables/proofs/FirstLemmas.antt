@@ -1,11 +1,19 @@
 -- The first of many by distance, found one key after another.
-use Rattle.std.proofs.Common.{◌≡◌, ℕ, ◌+◌, ◌<◌, ◌≤◌, ◌⊎◌, ℤ, ◌≤ℤ◌, ◌<ℤ◌, Option, Some, None, refl, sym, ap, arith, subst, inl, inr}
+use Rattle.std.proofs.Common.{◌≡◌, ℕ, ◌+◌, ◌<◌, ◌≤◌, ◌⊎◌, ℤ, ◌≤ℤ◌, ◌<ℤ◌, int_lt, true, false, T, Option, Some, None, refl, sym, ap, ◌∙◌, arith, subst, inl, inr}
 use Rattle.std.specs.Prelude.{MatchOption}
-use Rattle.std.proofs.lemmas.Bool.{cases_lt}
+use Rattle.std.proofs.lemmas.Bool.{cases_lt, cond_both}
+use Rattle.std.proofs.lemmas.Option.{none-some, same_Some}
 use Rattle.std.proofs.lemmas.Int.{ints, by_lt_z}
 use Rattle.slack_tables.specs.Best.{ComesFirst, IsFirstOf}
-use Rattle.slack_tables.specs.Scan.{Under}
+use Rattle.slack_tables.specs.Scan.{Under, offered}
 use Rattle.slack_tables.specs.declared.scan.Addition.{Addition}
+use Rattle.slack_tables.specs.declared.scan.Best.{Best}
+
+pub int_lt-true : (x y : ℤ) → int_lt x y ≡ true → x <ℤ y
+int_lt-true x y h = record { lt = subst T (sym h) tt }
+
+int_lt-false : (x y : ℤ) → int_lt x y ≡ false → x <ℤ y → ⊥
+int_lt-false x y h less = subst T h (less.lt)
 
 pub first-less : (a b : Addition) → a.distance <ℤ b.distance → ComesFirst a b
 first-less a b less = record {
@@ -19,22 +27,6 @@ first-pickup a b le before = record { distance = le; pickup = λ _. omega arith;
 
 pub first-delivery : (a b : Addition) → a.distance ≤ℤ b.distance → a.pickup ≡ b.pickup → a.delivery ≤ b.delivery → ComesFirst a b
 first-delivery a b le same before = record { distance = le; pickup = λ _. omega arith; delivery = λ _ _. before }
-
--- there is one first
-one-first : (a b : Addition) → ComesFirst a b → ComesFirst b a → a ≡ b
-one-first a b p q =
-    let distance : a.distance ≡ b.distance = omega (arith, ints) in
-    let behind = q.pickup (sym distance) in
-    let pickup : a.pickup ≡ b.pickup = omega arith in
-    let further = q.delivery (sym distance) (sym pickup) in
-    let delivery : a.delivery ≡ b.delivery = omega arith in
-    rw (distance, pickup, delivery) refl
-
-pub first-once : (Is : Addition → Type 0) (a b : Option Addition) → IsFirstOf Is a → IsFirstOf Is b → a ≡ b
-first-once Is None None p q = refl
-first-once Is None (Some b) p q = absurd (p b q.0)
-first-once Is (Some a) None p q = absurd (q a p.0)
-first-once Is (Some a) (Some b) p q = ap (λ x. Some x) (one-first a b (p.1 b q.0) (q.1 a p.0))
 
 module _ (Is : Addition → Type 0) (key : Addition → ℕ) (order : (a b : Addition) → Is a → Is b → a.distance ≤ℤ b.distance → key a < key b → ComesFirst a b) where
   -- the first of those whose key is below n, and the distance that the next ones have to be under
@@ -101,3 +93,18 @@ module _ (Is : Addition → Type 0) (key : Addition → ℕ) (order : (a b : Add
       by : (a : Addition) → Under Is below a → (key a < n) ⊎ (n ≤ key a) → ComesFirst b a
       by a is (inl before) = so.4 a is.0 before is.1
       by a is (inr behind) = by_lt_z {P = ComesFirst b a} a.distance bound (λ less. absurd (dear a is.0 behind less)) (λ le. let lt = so.2 in order b a so.1 is.0 (subst (λ x. x ≤ℤ a.distance) so.0 le) (omega arith))
+
+  -- one key more, where its addition is offered
+  module _ (added : ℕ → Option ℤ) (tells : (a : Addition) → Is a → added (key a) ≡ Some a.distance) (below : ℤ) (n i j : ℕ) (best : Best) (so : SoFar below n best.bound best.found) (least : (a : Addition) → Is a → key a ≡ n → (a.pickup ≡ i) × (j ≤ a.delivery)) (keyed : (x : ℤ) → key (record { distance = x; pickup = i; delivery = j }) ≡ n) (puts : (x : ℤ) → added n ≡ Some x → Is (record { distance = x; pickup = i; delivery = j })) where
+    here : (a : Addition) → Is a → key a ≡ n → added n ≡ Some a.distance
+    here a is at = ap added (sym at) ∙ tells a is
+
+    pub offered-more : (next : Best) → next ≡ offered best (added n) i j → SoFar below (n + 1) next.bound next.found
+    offered-more next made = subst (λ b. SoFar below (n + 1) b.bound b.found) (sym made) (by (added n) refl)
+      where
+        by : (o : Option ℤ) → added n ≡ o → SoFar below (n + 1) (offered best o i j).bound (offered best o i j).found
+        by None none = none-here below best.bound n best.found so (λ a is at _. none-some a.distance (sym none ∙ here a is at))
+        by (Some x) some = cond_both (int_lt x best.bound) (record { bound = x; found = Some (record { distance = x; pickup = i; delivery = j }) }) best (λ b. SoFar below (n + 1) b.bound b.found)
+            (λ less. better-here below best.bound n best.found (record { distance = x; pickup = i; delivery = j }) so (puts x some) (keyed x) (int_lt-true x best.bound less)
+            (λ a is at _. (let same = same_Some x a.distance (sym some ∙ here a is at) in let first = least a is at in first-delivery (record { distance = x; pickup = i; delivery = j }) a (omega (arith, ints)) (sym first.0) first.1)))
+            (λ dear. none-here below best.bound n best.found so (λ a is at under. int_lt-false x best.bound dear (subst (λ y. y <ℤ best.bound) (sym (same_Some x a.distance (sym some ∙ here a is at))) under)))

@@ -9,26 +9,13 @@ use Rattle.plan_types.specs.declared.requests.Kind.{Kind}
 use Rattle.plan_types.specs.declared.requests.Kind.TheVariants.{LiLim}
 use Rattle.slack_tables.specs.Along.{stay, start_along, moved_along, load_along, GoesOnAlong}
 use Rattle.slack_tables.specs.Driven.{IsSmall, IsSmallRow}
-use Rattle.slack_tables.specs.Filled.{stay_between, latest_before, EachIsTimely, LastMayStart, IsFilled}
+use Rattle.slack_tables.specs.Filled.{stay_between, latest_before, EachIsTimely, IsFilled}
 use Rattle.slack_tables.specs.Opened.{IsWithin, AreOpen}
 use Rattle.slack_tables.specs.Places.{IsAt, IsKnown}
 use Rattle.slack_tables.specs.Inside.{IsInLimits}
 use Rattle.slack_tables.specs.declared.progress.Row.{Row}
 use Rattle.slack_tables.proofs.AlongLemmas.{start-next, length-next, spliced-start}
 use Rattle.slack_tables.proofs.LatestLemmas.{IsBound, bound-before}
-
--- the greater of two is at most c where both are
-most-back : (x y c : ℤ) → x ≤ℤ c → y ≤ℤ c → int_max x y ≤ℤ c
-most-back x y c p q = omega (arith, ints, clamps)
-
-most-first : (x y c : ℤ) → int_max x y ≤ℤ c → x ≤ℤ c
-most-first x y c p = omega (arith, ints, clamps)
-
-most-second : (x y c : ℤ) → int_max x y ≤ℤ c → y ≤ℤ c
-most-second x y c p = omega (arith, ints, clamps)
-
-most-small : (x y : ℤ) (n : ℕ) → unsigned_abs x ≤ n → unsigned_abs y ≤ n → unsigned_abs (int_max x y) ≤ n
-most-small x y n p q = omega (arith, ints, clamps)
 
 module _ (kind : Kind) (capacity : ℕ) (stops : ℕ → Stop) (last : ℕ) (limits : IsInLimits kind capacity stops last) where
   -- the schedule's own start goes on
@@ -57,11 +44,6 @@ module _ (kind : Kind) (capacity : ℕ) (stops : ℕ → Stop) (last : ℕ) (lim
           arrival = λ lilim. (let s = a.at.start in let t = b.at.start in omega (arith, stay-is k d (omega arith), start-next stops k));
           window = λ lilim. (let le = limits.window lilim (k + 1) (omega arith) (omega arith) in rw (b.at.start, b.at.stop) le);
         }
-
-    pub last_may_start : LastMayStart old
-    last_may_start d =
-        let e = opened (length old - 1) d (omega arith) in
-        omega arith
 
     module _ (new : List Row) (filled : IsFilled kind old new) where
       pub same-at : (k : ℕ) (d : Row) → k ≤ last → (get_or new k d).at ≡ (get_or old k d).at
@@ -130,15 +112,15 @@ module _ (kind : Kind) (capacity : ℕ) (stops : ℕ → Stop) (last : ℕ) (lim
               limit = λ lilim _. omega (arith, latest-is k d lilim h);
               most_load = λ c. (
                 (λ le m j l. by c le m j l (cases_lt k m) most),
-                (λ each. subst (λ x. x ≤ℤ c) (sym most) (most-back (load_along stops k) (get_or new (k + 1) d).most_load c (each k (omega arith) (omega arith)) ((known.most_load c).1 (λ m j l. each m (omega arith) l)))),
+                (λ each. subst (λ x. x ≤ℤ c) (sym most) (let here = each k (omega arith) (omega arith) in let behind = (known.most_load c).1 (λ m j l. each m (omega arith) l) in omega (arith, ints, clamps))),
               );
             },
-            subst (λ x. unsigned_abs x ≤ 2 ^ 50) (sym most) (most-small (load_along stops k) (get_or new (k + 1) d).most_load (2 ^ 50) small next.1),
+            subst (λ x. unsigned_abs x ≤ 2 ^ 50) (sym most) (let behind = next.1 in omega (arith, ints, clamps)),
           )
         where
           by : (c : ℤ) → (get_or new k d).most_load ≤ℤ c → (m : ℕ) → k ≤ m → m ≤ last → (k < m) ⊎ (m ≤ k) → (get_or new k d).most_load ≡ int_max (load_along stops k) (get_or new (k + 1) d).most_load → load_along stops m ≤ℤ c
-          by c le m j l (inl after) most = (next.0.most_load c).0 (most-second (load_along stops k) (get_or new (k + 1) d).most_load c (subst (λ x. x ≤ℤ c) most le)) m (omega arith) l
-          by c le m j l (inr first) most = let same : k ≡ m = omega arith in subst (λ i. load_along stops i ≤ℤ c) same (most-first (load_along stops k) (get_or new (k + 1) d).most_load c (subst (λ x. x ≤ℤ c) most le))
+          by c le m j l (inl after) most = (next.0.most_load c).0 (omega (arith, ints, clamps)) m (omega arith) l
+          by c le m j l (inr first) most = let same : k ≡ m = omega arith in subst (λ i. load_along stops i ≤ℤ c) same (omega (arith, ints, clamps))
 
       fit : (r k : ℕ) (d : Row) → k + r ≡ last → IsFit k d
       fit zero k d end = fit-end k d (omega arith)

@@ -1,19 +1,19 @@
 -- Who comes to a place after a stop's latest time comes to none behind it in time.
-use Rattle.std.proofs.Common.{◌≡◌, ℕ, zero, suc, ◌+◌, ◌-◌, ◌<◌, ◌≤◌, Bool, true, false, cond, ◌&&◌, int_le, pos, List, get_or, length, Option, Some, None, refl, sym, ap, ◌∙◌, arith, subst}
-use Rattle.std.specs.Option.{option_and_then}
-use Rattle.std.proofs.lemmas.Bool.{leb-true, leb-false}
+use Rattle.std.proofs.Common.{◌≡◌, ℕ, zero, suc, ◌+◌, ◌-◌, ◌<◌, ◌≤◌, true, false, cond, List, get_or, length, Some, None, refl, sym, ap, ◌∙◌, arith, subst}
+use Rattle.std.proofs.lemmas.Bool.{leb-true, leb-false, and_parts, and_right, false_from_ne_true}
+use Rattle.std.proofs.lemmas.Option.{cond_some, option_and_then_some}
 use Rattle.plan_types.specs.declared.requests.Stop.{Stop}
 use Rattle.plan_types.specs.declared.requests.Kind.{Kind}
 use Rattle.plan_types.specs.declared.requests.Kind.TheVariants.{LiLim, Vrp}
 use Rattle.nint_dist.specs.Distance.{distance}
-use Rattle.slack_tables.specs.Driven.{driven_on, stepped, with_stop, with_pair}
+use Rattle.slack_tables.specs.Driven.{driven_on, stepped, with_pair}
 use Rattle.slack_tables.specs.Legs.{AreRising}
 use Rattle.slack_tables.specs.Ride.{ride_of, is_in_time, is_kept}
 use Rattle.slack_tables.specs.Walk.{walk_to}
 use Rattle.slack_tables.specs.declared.progress.Limits.{Limits}
 use Rattle.slack_tables.specs.declared.progress.Progress.{Progress}
 use Rattle.slack_tables.specs.declared.progress.Row.{Row}
-use Rattle.slack_tables.proofs.WalkLemmas.{walk-first, walk-more, pair-over}
+use Rattle.slack_tables.proofs.WalkLemmas.{and_then-none, walk-first, walk-more, pair-over}
 
 rises-by : (places : List Row) → AreRising places → (d : Row) (n k : ℕ) → k + n < length places → (get_or places k d).at.start ≤ (get_or places (k + n) d).at.start
 rises-by places rising d zero k h = let same : k + 0 ≡ k = omega arith in subst (λ m. (get_or places k d).at.start ≤ (get_or places m d).at.start) (sym same) (omega arith)
@@ -31,12 +31,7 @@ late-too LiLim t u latest le late there = let after = leb-false _ _ late in let 
 late-too Vrp t u latest le late there = absurd (cc)
 
 late-kept : (limits : Limits) (a : Progress) (s : Stop) (t : ℕ) → is_in_time limits.kind t s.latest ≡ false → t ≤ a.start → is_kept limits (ride_of (driven_on a s)) s ≡ false
-late-kept limits a s t late le = by (int_le (driven_on a s).load (pos limits.capacity)) (is_in_time limits.kind (driven_on a s).start s.latest) refl
-  where
-    by : (k l : Bool) → is_in_time limits.kind (driven_on a s).start s.latest ≡ l → (k && l) ≡ false
-    by false l there = refl
-    by true false there = refl
-    by true true there = absurd (late-too limits.kind t (driven_on a s).start s.latest (omega arith) late there)
+late-kept limits a s t late le = and_right _ _ (false_from_ne_true _ (λ there. late-too limits.kind t (driven_on a s).start s.latest (omega arith) late there))
 
 pub late-pickup : (limits : Limits) (places : List Row) (p q : Stop) (d : Row) → AreRising places → (i k j : ℕ) → 1 ≤ i → i ≤ k → k < j → j ≤ length places → is_in_time limits.kind (get_or places (i - 1) d).at.start p.latest ≡ false → with_pair limits places p q k j d ≡ None
 late-pickup limits places p q d rising i k j one order behind within late =
@@ -44,24 +39,15 @@ late-pickup limits places p q d rising i k j one order behind within late =
     pair-over limits places p k d q (k + 1) j (omega arith) (omega arith) within (walk-first limits places p k d ∙ ap (λ b. cond b (Some (driven_on (get_or places (k - 1) d).at p)) None) never)
 
 pub step-start : (limits : Limits) (a b : Progress) (s : Stop) → stepped limits a s ≡ Some b → (s.earliest ≤ b.start) × (a.start ≤ b.start)
-step-start limits a b s is = by (is_kept limits (ride_of (driven_on a s)) s) is
-  where
-    by : (k : Bool) → cond k (Some (driven_on a s)) None ≡ Some b → (s.earliest ≤ b.start) × (a.start ≤ b.start)
-    by true is = let same : driven_on a s ≡ b = cc in let start = ap (λ (x : Progress). x.start) same in (omega arith, omega arith)
-    by false is = absurd (cc)
+step-start limits a b s is = let start = ap (λ (x : Progress). x.start) (cond_some _ _ b is).1 in (omega arith, omega arith)
 
 -- who goes on to a stop is there no earlier than the way takes, and in time
 pub step-after : (limits : Limits) (a b : Progress) (s : Stop) → limits.kind ≡ LiLim → stepped limits a s ≡ Some b → (b.stop ≡ s) × (a.start + a.stop.service + distance a.stop s ≤ b.start) × (b.start ≤ s.latest)
-step-after limits a b s lilim is = by (int_le (driven_on a s).load (pos limits.capacity)) (is_in_time limits.kind (driven_on a s).start s.latest) refl is
-  where
-    by : (k l : Bool) → is_in_time limits.kind (driven_on a s).start s.latest ≡ l → cond (k && l) (Some (driven_on a s)) None ≡ Some b → (b.stop ≡ s) × (a.start + a.stop.service + distance a.stop s ≤ b.start) × (b.start ≤ s.latest)
-    by true true there is =
-        let same : driven_on a s ≡ b = cc in
-        let start = ap (λ (x : Progress). x.start) same in
-        let in_time = leb-true _ _ (subst (λ k. is_in_time k (driven_on a s).start s.latest ≡ true) lilim there) in
-        (sym (ap (λ (x : Progress). x.stop) same), omega arith, omega arith)
-    by true false there is = absurd (cc)
-    by false l there is = absurd (cc)
+step-after limits a b s lilim is =
+    let kept = cond_some _ _ b is in
+    let start = ap (λ (x : Progress). x.start) kept.1 in
+    let in_time = leb-true _ _ (subst (λ k. is_in_time k (driven_on a s).start s.latest ≡ true) lilim (and_parts _ _ kept.0).1) in
+    (sym (ap (λ (x : Progress). x.stop) kept.1), omega arith, omega arith)
 
 -- a delivery is too late wherever the vehicle goes on from here
 module _ (limits : Limits) (places : List Row) (p q : Stop) (i : ℕ) (d : Row) where
@@ -71,29 +57,19 @@ module _ (limits : Limits) (places : List Row) (p q : Stop) (i : ℕ) (d : Row) 
       let is : a ≡ b = cc in
       let start = ap (λ (x : Progress). x.start) is in
       omega arith
-  walk-rises j (suc n) order within a b here there = by (walk_to limits places p i d (j + n)) refl (λ e before. walk-rises j n order (omega arith) a e here before)
-    where
-      next : j + suc n ≡ j + n + 1
-      next = omega arith
-
-      last : option_and_then (λ at. stepped limits at (get_or places (j + n - 1) d).at.stop) (walk_to limits places p i d (j + n)) ≡ Some b
-      last = sym (walk-more limits places p i d (j + n) (omega arith) (omega arith)) ∙ (sym (ap (walk_to limits places p i d) next) ∙ there)
-
-      by : (o : Option Progress) → walk_to limits places p i d (j + n) ≡ o → ((e : Progress) → walk_to limits places p i d (j + n) ≡ Some e → a.start ≤ e.start) → a.start ≤ b.start
-      by None never _ = absurd (let none : None ≡ Some b = sym (ap (λ o. option_and_then (λ at. stepped limits at (get_or places (j + n - 1) d).at.stop) o) never) ∙ last in cc)
-      by (Some e) before each =
-          let step = (step-start limits e b (get_or places (j + n - 1) d).at.stop (sym (ap (λ o. option_and_then (λ at. stepped limits at (get_or places (j + n - 1) d).at.stop) o) before) ∙ last)).1 in
-          omega arith
+  walk-rises j (suc n) order within a b here there =
+      let next : j + suc n ≡ j + n + 1 = omega arith in
+      option_and_then_some _ _ b (sym (walk-more limits places p i d (j + n) (omega arith) (omega arith)) ∙ (sym (ap (walk_to limits places p i d) next) ∙ there))
+      (λ e before step.
+      (let before_e = walk-rises j n order (omega arith) a e here before in
+      let after_e = (step-start limits e b (get_or places (j + n - 1) d).at.stop step).1 in
+      omega arith))
 
   pub late-delivery : (j k : ℕ) → i < j → j ≤ k → k ≤ length places → (a : Progress) → walk_to limits places p i d j ≡ Some a → is_in_time limits.kind a.start q.latest ≡ false → with_pair limits places p q i k d ≡ None
-  late-delivery j k order behind within a here late = by (walk_to limits places p i d k) refl
-    where
-      far : j + (k - j) ≡ k
-      far = omega arith
-
-      by : (o : Option Progress) → walk_to limits places p i d k ≡ o → with_pair limits places p q i k d ≡ None
-      by None never = ap (λ o. option_and_then (λ at. with_stop limits at q (get_or places (k - 1) d)) o) never
-      by (Some b) there =
-          let rises = walk-rises j (k - j) order (omega arith) a b here (ap (walk_to limits places p i d) far ∙ there) in
-          let never = late-kept limits b q a.start late rises in
-          ap (λ o. option_and_then (λ at. with_stop limits at q (get_or places (k - 1) d)) o) there ∙ rw never refl
+  late-delivery j k order behind within a here late =
+      and_then-none _ _
+      (λ b there.
+      (let far : j + (k - j) ≡ k = omega arith in
+      let rises = walk-rises j (k - j) order (omega arith) a b here (ap (walk_to limits places p i d) far ∙ there) in
+      let never = late-kept limits b q a.start late rises in
+      rw never refl))

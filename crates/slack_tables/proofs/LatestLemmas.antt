@@ -1,5 +1,5 @@
 -- The latest start of a place, from that of the next one.
-use Rattle.std.proofs.Common.{◌≡◌, ℕ, zero, suc, ◌+◌, ◌-◌, ◌^◌, ◌<◌, ◌≤◌, ◌⊎◌, ◌↔◌, max, min, sym, ap, ◌∙◌, arith, subst, inl, inr}
+use Rattle.std.proofs.Common.{◌≡◌, ℕ, zero, suc, ◌+◌, ◌-◌, ◌^◌, ◌<◌, ◌≤◌, ◌↔◌, max, min, sym, ap, ◌∙◌, arith, subst, inl, inr}
 use Rattle.std.proofs.lemmas.Bool.{cases_lt}
 use Rattle.plan_types.specs.declared.requests.Stop.{Stop}
 use Rattle.plan_types.specs.declared.requests.Kind.{Kind}
@@ -47,11 +47,10 @@ module _ (kind : Kind) (at : ℕ → Stop) (last : ℕ) where
   pub goes_on-before : (i t : ℕ) → arrival at i t ≤ (at (i + 1)).latest → GoesOnAlong kind at last (i + 1) (arrival at i t) → GoesOnAlong kind at last i t
   goes_on-before i t here goes = λ lilim k h l.
       let same = moved-from at i t k h in
-      ⊎_by (cases_lt (i + 1) k) (λ j. let there = goes lilim k j l in omega arith) (λ j. let is = moved-arrival at i t in let end : k ≡ i + 1 = omega arith in subst (λ k. moved_along at i t k ≤ (at k).latest) (sym end) (omega arith))
-    where
-      ⊎_by : {A B C : Type 0} → A ⊎ B → (A → C) → (B → C) → C
-      ⊎_by (inl a) f g = f a
-      ⊎_by (inr b) f g = g b
+      elim (cases_lt (i + 1) k) [
+        | inl j ↦ (let there = goes lilim k j l in omega arith)
+        | inr j ↦ (let is = moved-arrival at i t in let end : k ≡ i + 1 = omega arith in subst (λ k. moved_along at i t k ≤ (at k).latest) (sym end) (omega arith))
+      ]
 
   -- what one place lets be the latest start
   unfoldable pub IsBound : ℕ → ℕ → Type 0

@@ -1,5 +1,5 @@
 -- The least detours from each place of a table on.
-use Rattle.std.proofs.Common.{◌≡◌, ◌≢◌, ℕ, ◌+◌, ◌-◌, ◌^◌, ◌<◌, ◌≤◌, ◌⊎◌, ℤ, pos, ◌-ℤ◌, ◌≤ℤ◌, List, get_or, set, length, sym, ap, ◌∙◌, arith, subst, inl, inr, get_or-set_same, get_or-set_other}
+use Rattle.std.proofs.Common.{◌≡◌, ◌≢◌, ℕ, ◌+◌, ◌^◌, ◌<◌, ◌≤◌, ◌⊎◌, ℤ, pos, ◌-ℤ◌, ◌≤ℤ◌, List, get_or, set, length, sym, ap, ◌∙◌, arith, subst, inl, inr, get_or-set_same, get_or-set_other}
 use Rattle.std.specs.Prelude.{unsigned_abs}
 use Rattle.std.specs.Int.{int_min}
 use Rattle.std.proofs.Math.ListN.{length-set}
@@ -7,7 +7,7 @@ use Rattle.std.proofs.lemmas.Bool.{cases_lt}
 use Rattle.std.proofs.lemmas.Int.{ints, clamps}
 use Rattle.plan_types.specs.declared.requests.Stop.{Stop}
 use Rattle.nint_dist.specs.Distance.{distance}
-use Rattle.slack_tables.specs.Legs.{AreLeast, detour_of}
+use Rattle.slack_tables.specs.Legs.{detour_of}
 use Rattle.slack_tables.specs.declared.progress.Row.{Row}
 
 -- ---- backward: the least detours from place k on
@@ -15,15 +15,6 @@ pub record AreLeastFrom (places : List Row) (s : Stop) (k : ℕ) (least : List �
   pub long : length least ≡ length places
   pub lower : (i m : ℕ) (d : Row) → k ≤ i → i < length least → i ≤ m → m + 1 < length places → get_or least i (pos 0) ≤ℤ detour_of places s m d
   pub small : (i : ℕ) → k ≤ i → i < length least → unsigned_abs (get_or least i (pos 0)) ≤ 2 ^ 60
-
-pub least-last : (places : List Row) (s : Stop) (least : List ℤ) (x : ℤ) → length least ≡ length places → 0 < length least → unsigned_abs x ≤ 2 ^ 60 → AreLeastFrom places s (length least - 1) (set least (length least - 1) x)
-least-last places s least x long some small = record {
-  long = length-set least (length least - 1) x ∙ long;
-  lower = λ i m d h _ l n. absurd (omega arith);
-  small = λ i h l.
-      (let same : length least - 1 ≡ i = omega (arith, length-set least (length least - 1) x) in
-      subst (λ n. unsigned_abs (get_or (set least (length least - 1) x) n (pos 0)) ≤ 2 ^ 60) same (subst (λ y. unsigned_abs y ≤ 2 ^ 60) (sym (get_or-set_same least (length least - 1) x (pos 0) (omega arith))) small));
-}
 
 -- ways from below give a detour from below
 pub detour-below : (places : List Row) (s : Stop) (m : ℕ) (d : Row) (here next : Row) (to from : ℕ) → here ≡ get_or places m d → next ≡ get_or places (m + 1) d → to ≤ distance (get_or places m d).at.stop s → from ≤ distance (get_or places (m + 1) d).at.stop s → (pos (here.at.distance + to + from) -ℤ pos next.at.distance) ≤ℤ detour_of places s m d
@@ -67,9 +58,3 @@ module _ (places : List Row) (s : Stop) (k : ℕ) (least : List ℤ) (x y : ℤ)
           let next_small = is.small (k + 1) (omega arith) within in
           let small_here : unsigned_abs y ≤ 2 ^ 60 = omega (arith, ints, clamps) in
           subst (λ n. unsigned_abs (get_or (set least k y) n (pos 0)) ≤ 2 ^ 60) (omega arith) (subst (λ z. unsigned_abs z ≤ 2 ^ 60) (sym here) small_here)
-
-pub least-from : (places : List Row) (s : Stop) (first : ℕ) (least : List ℤ) → AreLeastFrom places s first least → AreLeast first least places s
-least-from places s first least is = record { lower = λ k m d f h l r. is.lower k m d f h l r; small = λ k f h. is.small k f h }
-
-pub least-later : (places : List Row) (s : Stop) (first later : ℕ) (least : List ℤ) → first ≤ later → AreLeast first least places s → AreLeast later least places s
-least-later places s first later least le is = record { lower = λ k m d f h l r. is.lower k m d (omega arith) h l r; small = λ k f h. is.small k (omega arith) h }

@@ -12,7 +12,7 @@ use Rattle.plan_types.specs.declared.requests.Stop.{Stop}
 use Rattle.route_sched.specs.Route.{AreLiveOnce, IsLive, place}
 use Rattle.slack_tables.specs.Driven.{driven_on, IsNear, IsSmall}
 use Rattle.slack_tables.specs.Places.{IsAt}
-use Rattle.slack_tables.specs.Opened.{leaving, open_row, IsWithin, IsOpen, AreOpen, AreOpenTo}
+use Rattle.slack_tables.specs.Opened.{leaving, open_row, IsWithin, IsOpen, AreOpenTo}
 use Rattle.slack_tables.specs.declared.progress.Progress.{Progress}
 use Rattle.slack_tables.specs.declared.progress.Row.{Row}
 use Rattle.slack_tables.proofs.AlongLemmas.{start-first, load-first, length-first}
@@ -83,9 +83,6 @@ open-to-more stops n places new a is few at within made = subst (AreOpenTo stops
     by k d (inl before) h l = subst (IsOpen stops k) (sym (get_or-set_other places n k (open_row a) d (omega arith))) (is.each k d before l)
     by k d (inr here) h l =
         subst (λ i. IsOpen stops i (get_or (set places n (open_row a)) i d)) (omega arith) (subst (IsOpen stops n) (sym (get_or-set_same places n (open_row a) d (omega arith))) (open-is stops n a few at within))
-
-pub open-to-all : (stops : ℕ → Stop) (n : ℕ) (places : List Row) → AreOpenTo stops n places → length places ≤ n → AreOpen stops places
-open-to-all stops n places is all = λ k d h. is.each k d (omega arith) h
 
 -- ---- the same, of what the code has
 pub place-first : (p : Instance) (route : List ℕ) → place p route 0 ≡ p.depot

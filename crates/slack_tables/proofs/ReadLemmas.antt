@@ -2,7 +2,7 @@
 use Rattle.std.proofs.Common.{◌≡◌, ℕ, ◌+◌, ◌-◌, ◌^◌, ◌<◌, ◌≤◌, ◌⊎◌, List, get_or, length, sym, ap, ◌∙◌, arith, subst, inl, inr}
 use Rattle.std.proofs.lemmas.Bool.{cases_lt}
 use Rattle.plan_types.specs.Instance.{Instance}
-use Rattle.plan_types.specs.declared.requests.Kind.TheVariants.{LiLim, Vrp}
+use Rattle.plan_types.specs.declared.requests.Kind.TheVariants.{LiLim}
 use Rattle.route_sched.specs.Route.{place}
 use Rattle.route_sched.specs.Schedule.{start, load, route_length}
 use Rattle.slack_tables.specs.Course.{Course, course_of}
@@ -44,10 +44,6 @@ module _ (c : Course) (places : List Row) (table : AreKnown c places) (p : Insta
   goes-from i t goes = λ lilim k h l.
       let kind : p.kind ≡ LiLim = ap (λ q. q.kind) is ∙ lilim in
       subst (λ f. moved_along f i t k ≤ (f k).latest) (sym on) (subst (λ x. x ≤ (place p route k).latest) (moved-is p route i t k) (goes kind k h (omega (arith, long))))
-
-  -- without windows nothing is missed
-  pub any-in-vrp : (k : ℕ) → c.kind ≡ Vrp → (t : ℕ) → GoesOn p route k t
-  any-in-vrp k vrp t = λ lilim m j l. absurd (let e : Vrp ≡ LiLim = sym vrp ∙ (sym (ap (λ q. q.kind) is) ∙ lilim) in cc)
 
   pub latest-read : (k : ℕ) (d : Row) → c.kind ≡ LiLim → k < length c.stops + 1 → IsLatestStart p route k (get_or places k d).latest_start
   latest-read k d lilim h = record {

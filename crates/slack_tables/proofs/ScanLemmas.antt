@@ -1,7 +1,8 @@
 -- The loops over the places of a table: one place after another.
-use Rattle.std.proofs.Common.{◌≡◌, ℕ, ◌+◌, ◌<◌, ◌≤◌, ℤ, ◌≤ℤ◌, ◌<ℤ◌, int_lt, Bool, true, false, cond, T, w64, to_z, of_z, List, length, Option, Some, None, refl, sym, ◌∙◌, arith, subst}
+use Rattle.std.proofs.Common.{◌≡◌, ℕ, ◌+◌, ◌<◌, ◌≤◌, ℤ, ◌≤ℤ◌, w64, to_z, of_z, List, length, Option, Some, None, refl, sym, ◌∙◌, arith, subst}
 use mir.Val.{SFits}
 use Rattle.std.proofs.lemmas.Int.{ints, to_z-of_z}
+use Rattle.std.proofs.lemmas.Option.{none-some}
 use Rattle.plan_types.specs.declared.requests.Stop.{Stop}
 use Rattle.slack_tables.specs.Best.{ComesFirst, IsFirstOf}
 use Rattle.slack_tables.specs.Driven.{with_single, with_pair}
@@ -10,25 +11,13 @@ use Rattle.slack_tables.specs.declared.progress.Limits.{Limits}
 use Rattle.slack_tables.specs.declared.progress.Row.{Row}
 use Rattle.slack_tables.specs.declared.scan.Addition.{Addition}
 use Rattle.slack_tables.specs.declared.scan.Best.{Best}
-use Rattle.slack_tables.proofs.FirstLemmas.{SoFar, first-pickup, first-delivery, none-yet, none-here, better-here, all-seen, rest-dear}
+use Rattle.slack_tables.proofs.FirstLemmas.{SoFar, first-pickup, first-delivery, none-yet, none-here, better-here, all-seen, rest-dear, offered-more}
 
 abbrev pub by_pickup : Addition → ℕ
 by_pickup a = a.pickup
 
 abbrev pub by_delivery : Addition → ℕ
 by_delivery a = a.delivery
-
-same-sum : (o : Option ℤ) (a b : ℤ) → o ≡ Some a → o ≡ Some b → a ≡ b
-same-sum o a b p q = let e : Some a ≡ Some b = sym p ∙ q in cc
-
-pub never-sum : (o : Option ℤ) (a : ℤ) → o ≡ None → o ≡ Some a → ⊥
-never-sum o a p q = absurd (let e : None ≡ Some a = sym p ∙ q in cc)
-
-pub int_lt-true : (x y : ℤ) → int_lt x y ≡ true → x <ℤ y
-int_lt-true x y h = record { lt = subst T (sym h) tt }
-
-int_lt-false : (x y : ℤ) → int_lt x y ≡ false → x <ℤ y → ⊥
-int_lt-false x y h less = subst T h (less.lt)
 
 -- a bound that was passed on
 pub bits-below : (x y : ℤ) → SFits w64 x → to_z w64 (of_z w64 x) ≤ℤ y → x ≤ℤ y
@@ -45,27 +34,10 @@ module _ (limits : Limits) (places : List Row) (s : Stop) (kept : ℕ) (d : Row)
   pub singles-begin : (below : ℤ) (best : Best) → best ≡ none_below below → SinglesSoFar below (kept + 1) best
   singles-begin below best made = subst (SinglesSoFar below (kept + 1)) (sym made) (none-yet (PutsSingle limits places s kept d) by_pickup order below (kept + 1) (λ a is lt. let behind = is.behind in omega arith))
 
-  module _ (below : ℤ) (i : ℕ) (best : Best) (so : SinglesSoFar below i best) where
-    single-none : with_single limits places s i d ≡ None → SinglesSoFar below (i + 1) best
-    single-none none = none-here (PutsSingle limits places s kept d) by_pickup order below best.bound i best.found so (λ a is here under. never-sum _ a.distance none (subst (λ k. with_single limits places s k d ≡ Some a.distance) here is.added))
-
-    single-dear : (x : ℤ) → with_single limits places s i d ≡ Some x → (x <ℤ best.bound → ⊥) → SinglesSoFar below (i + 1) best
-    single-dear x some dear = none-here (PutsSingle limits places s kept d) by_pickup order below best.bound i best.found so (λ a is here under. dear (subst (λ y. y <ℤ best.bound) (same-sum _ a.distance x (subst (λ k. with_single limits places s k d ≡ Some a.distance) here is.added) some) under))
-
-    single-better : (x : ℤ) → kept < i → i < length places → with_single limits places s i d ≡ Some x → x <ℤ best.bound → SinglesSoFar below (i + 1) (record { bound = x; found = Some (record { distance = x; pickup = i; delivery = i }) })
-    single-better x behind within some less =
-        better-here (PutsSingle limits places s kept d) by_pickup order below best.bound i best.found (record { distance = x; pickup = i; delivery = i }) so (record { behind = behind; within = within; one = refl; added = some }) refl less
-        (λ a is here under.
-        (let same = same-sum _ x a.distance some (subst (λ k. with_single limits places s k d ≡ Some a.distance) here is.added) in
-        first-delivery (record { distance = x; pickup = i; delivery = i }) a (omega (arith, ints)) (sym here) (omega arith)))
-
-    pub single-more : (o : Option ℤ) (next : Best) → kept < i → i < length places → o ≡ with_single limits places s i d → next ≡ offered best o i i → SinglesSoFar below (i + 1) next
-    single-more None next behind within is made = subst (SinglesSoFar below (i + 1)) (sym made) (single-none (sym is))
-    single-more (Some x) next behind within is made = subst (SinglesSoFar below (i + 1)) (sym made) (by (int_lt x best.bound) refl)
-      where
-        by : (b : Bool) → int_lt x best.bound ≡ b → SinglesSoFar below (i + 1) (cond b (record { bound = x; found = Some (record { distance = x; pickup = i; delivery = i }) }) best)
-        by true h = single-better x behind within (sym is) (int_lt-true x best.bound h)
-        by false h = single-dear x (sym is) (int_lt-false x best.bound h)
+  pub single-more : (below : ℤ) (i : ℕ) (best : Best) → SinglesSoFar below i best → kept < i → i < length places → (next : Best) → next ≡ offered best (with_single limits places s i d) i i → SinglesSoFar below (i + 1) next
+  single-more below i best so behind within =
+      offered-more (PutsSingle limits places s kept d) by_pickup order (λ i. with_single limits places s i d) (λ a is. is.added) below i i i best so (λ a is here. (here, let one = is.one in omega arith)) (λ x. refl)
+      (λ x some. record { behind = behind; within = within; one = refl; added = some })
 
   pub singles-end : (below : ℤ) (i : ℕ) (best : Best) → SinglesSoFar below i best → length places ≤ i → IsFirstOf (AddsSingle limits places s kept below d) best.found
   singles-end below i best so end = all-seen (PutsSingle limits places s kept d) by_pickup order below best.bound i best.found so (λ a is. let within = is.within in omega arith)
@@ -81,27 +53,10 @@ module _ (limits : Limits) (places : List Row) (p q : Stop) (i : ℕ) (d : Row) 
   pub deliveries-begin : (below : ℤ) (best : Best) → best ≡ none_below below → DeliveriesSoFar below (i + 1) best
   deliveries-begin below best made = subst (DeliveriesSoFar below (i + 1)) (sym made) (none-yet (PutsDelivery limits places p q i d) by_delivery order_here below (i + 1) (λ a is lt. let behind = is.order in omega arith))
 
-  module _ (below : ℤ) (j : ℕ) (best : Best) (so : DeliveriesSoFar below j best) where
-    delivery-none : with_pair limits places p q i j d ≡ None → DeliveriesSoFar below (j + 1) best
-    delivery-none none = none-here (PutsDelivery limits places p q i d) by_delivery order_here below best.bound j best.found so (λ a is here under. never-sum _ a.distance none (subst (λ k. with_pair limits places p q i k d ≡ Some a.distance) here is.added))
-
-    delivery-dear : (x : ℤ) → with_pair limits places p q i j d ≡ Some x → (x <ℤ best.bound → ⊥) → DeliveriesSoFar below (j + 1) best
-    delivery-dear x some dear = none-here (PutsDelivery limits places p q i d) by_delivery order_here below best.bound j best.found so (λ a is here under. dear (subst (λ y. y <ℤ best.bound) (same-sum _ a.distance x (subst (λ k. with_pair limits places p q i k d ≡ Some a.distance) here is.added) some) under))
-
-    delivery-better : (x : ℤ) → i < j → j ≤ length places → with_pair limits places p q i j d ≡ Some x → x <ℤ best.bound → DeliveriesSoFar below (j + 1) (record { bound = x; found = Some (record { distance = x; pickup = i; delivery = j }) })
-    delivery-better x order within some less =
-        better-here (PutsDelivery limits places p q i d) by_delivery order_here below best.bound j best.found (record { distance = x; pickup = i; delivery = j }) so (record { here = refl; order = order; within = within; added = some }) refl less
-        (λ a is here under.
-        (let same = same-sum _ x a.distance some (subst (λ k. with_pair limits places p q i k d ≡ Some a.distance) here is.added) in
-        first-delivery (record { distance = x; pickup = i; delivery = j }) a (omega (arith, ints)) (sym (is.here)) (omega arith)))
-
-    pub delivery-more : (o : Option ℤ) (next : Best) → i < j → j ≤ length places → o ≡ with_pair limits places p q i j d → next ≡ offered best o i j → DeliveriesSoFar below (j + 1) next
-    delivery-more None next order within is made = subst (DeliveriesSoFar below (j + 1)) (sym made) (delivery-none (sym is))
-    delivery-more (Some x) next order within is made = subst (DeliveriesSoFar below (j + 1)) (sym made) (by (int_lt x best.bound) refl)
-      where
-        by : (b : Bool) → int_lt x best.bound ≡ b → DeliveriesSoFar below (j + 1) (cond b (record { bound = x; found = Some (record { distance = x; pickup = i; delivery = j }) }) best)
-        by true h = delivery-better x order within (sym is) (int_lt-true x best.bound h)
-        by false h = delivery-dear x (sym is) (int_lt-false x best.bound h)
+  pub delivery-more : (below : ℤ) (j : ℕ) (best : Best) → DeliveriesSoFar below j best → i < j → j ≤ length places → (next : Best) → next ≡ offered best (with_pair limits places p q i j d) i j → DeliveriesSoFar below (j + 1) next
+  delivery-more below j best so order within =
+      offered-more (PutsDelivery limits places p q i d) by_delivery order_here (λ j. with_pair limits places p q i j d) (λ a is. is.added) below j i j best so (λ a is there. (is.here, omega arith)) (λ x. refl)
+      (λ x some. record { here = refl; order = order; within = within; added = some })
 
   -- or where none of the rest adds less
   pub deliveries-stop : (below : ℤ) (j : ℕ) (best : Best) → DeliveriesSoFar below j best → ((k : ℕ) (x : ℤ) → j ≤ k → k ≤ length places → with_pair limits places p q i k d ≡ Some x → best.bound ≤ℤ x) → IsFirstOf (AddsDelivery limits places p q i below d) best.found
@@ -141,7 +96,7 @@ module _ (limits : Limits) (places : List Row) (p q : Stop) (kept : ℕ) (d : Ro
 
   -- or where no later place of the pickup is left
   pub pairs-stop : (below : ℤ) (i : ℕ) (best : Best) → PairsSoFar below i best → ((k j : ℕ) → i ≤ k → k < j → j ≤ length places → with_pair limits places p q k j d ≡ None) → IsFirstOf (AddsPair limits places p q kept below d) best.found
-  pairs-stop below i best so over = rest-dear (PutsPair limits places p q kept d) by_pickup order_pair below best.bound i best.found so (λ a is behind less. never-sum _ a.distance (over a.pickup a.delivery behind is.order is.within) is.added)
+  pairs-stop below i best so over = rest-dear (PutsPair limits places p q kept d) by_pickup order_pair below best.bound i best.found so (λ a is behind less. none-some a.distance (sym (over a.pickup a.delivery behind is.order is.within) ∙ is.added))
 
   pub pairs-end : (below : ℤ) (i : ℕ) (best : Best) → PairsSoFar below i best → length places ≤ i → IsFirstOf (AddsPair limits places p q kept below d) best.found
   pairs-end below i best so end = all-seen (PutsPair limits places p q kept d) by_pickup order_pair below best.bound i best.found so (λ a is. let within = is.within in let order = is.order in omega arith)

@@ -1,11 +1,11 @@
 -- What a request adds to a route at least.
-use Rattle.std.proofs.Common.{◌≡◌, ℕ, ◌+◌, ◌-◌, ◌*◌, ◌/◌, ◌^◌, ◌<◌, ◌≤◌, ◌⊎◌, Bool, true, false, cond, int_le, ℤ, pos, ◌+ℤ◌, ◌-ℤ◌, ◌≤ℤ◌, ◌<ℤ◌, w32, w64, to_z, of_z, List, ◌∷◌, get_or, length, Some, None, refl, sym, ap, ◌∙◌, arith, subst, inl, inr}
-use mir.Val.{SFits}
+use Rattle.std.proofs.Common.{◌≡◌, ℕ, ◌+◌, ◌-◌, ◌*◌, ◌/◌, ◌^◌, ◌<◌, ◌≤◌, ◌⊎◌, int_le, ℤ, pos, ◌+ℤ◌, ◌-ℤ◌, ◌≤ℤ◌, ◌<ℤ◌, List, ◌∷◌, get_or, length, Some, None, sym, ap, ◌∙◌, arith, subst, inl, inr}
 use Rattle.std.specs.Prelude.{unsigned_abs}
 use Rattle.std.proofs.Math.Nat.{div-mul-le_self}
 use Rattle.std.proofs.lemmas.Nat.{mul-le}
 use Rattle.std.proofs.lemmas.Bool.{cases_lt, and_parts}
-use Rattle.std.proofs.lemmas.Int.{ints, to_z-of_z}
+use Rattle.std.proofs.lemmas.Option.{cond_some}
+use Rattle.std.proofs.lemmas.Int.{ints}
 use Rattle.std.proofs.lemmas.List.{get_or_past}
 use Rattle.plan_types.specs.declared.requests.Stop.{Stop}
 use Rattle.nint_dist.specs.Distance.{distance, DistancesAreNearestRoots}
@@ -15,7 +15,7 @@ use Rattle.slack_tables.specs.Course.{Course}
 use Rattle.slack_tables.specs.Driven.{with_single, with_pair}
 use Rattle.slack_tables.specs.Inside.{AreKnown}
 use Rattle.slack_tables.specs.Legs.{AreLinked, detour_of}
-use Rattle.slack_tables.specs.Ride.{ride_of, driven, is_kept, is_borne, goes_on, is_served, price, served}
+use Rattle.slack_tables.specs.Ride.{ride_of, driven, is_kept, is_borne, goes_on, served}
 use Rattle.slack_tables.specs.Scan.{AddsSingle, AddsPair}
 use Rattle.slack_tables.specs.Span.{IsInside, IsSmallSpan, IsSpanTo, AreEnds, IsSpan, IsNearest, IsFloor, IsFloorOfPair, IsFarSingle, IsFarPair, AreHome, AreLaden, edge_of}
 use Rattle.slack_tables.specs.declared.progress.Limits.{Limits}
@@ -85,10 +85,6 @@ apart-le law a b x y w least gap_x gap_y =
     least (distance a b) (omega arith)
 
 -- ---- the span, place after place
--- a span whose fields fit is not changed by being written
-pub span-as : (w e s n l t o : ℤ) → SFits w32 w → SFits w32 e → SFits w32 s → SFits w32 n → SFits w64 l → SFits w64 t → SFits w64 o → ◌≡◌ {A = Span} (record { west = to_z w32 (of_z w32 w); east = to_z w32 (of_z w32 e); south = to_z w32 (of_z w32 s); north = to_z w32 (of_z w32 n); longest = to_z w64 (of_z w64 l); tips = to_z w64 (of_z w64 t); load = to_z w64 (of_z w64 o) }) (record { west = w; east = e; south = s; north = n; longest = l; tips = t; load = o })
-span-as w e s n l t o fw fe fs fn fl ft fo = rw (to_z-of_z w32 w fw, to_z-of_z w32 e fe, to_z-of_z w32 s fs, to_z-of_z w32 n fn, to_z-of_z w64 l fl, to_z-of_z w64 t ft, to_z-of_z w64 o fo) refl
-
 pub span-more : (places : List Row) (k : ℕ) (old new : Span) (before here : Row) → 1 ≤ k → IsSpanTo old places k → ((d : Row) → before ≡ get_or places (k - 1) d) → ((d : Row) → here ≡ get_or places k d) → IsInside new here.at.stop → ((s : Stop) → IsInside old s → IsInside new s) → edge_of before here ≤ℤ new.longest → old.longest ≤ℤ new.longest → IsSmallSpan new → IsSpanTo new places (k + 1)
 span-more places k old new before here some is is_before is_here inside wider edge longer small = record {
   inside = λ m d h l. inside-by m d h l (cases_lt m k);
@@ -135,48 +131,12 @@ laden c places table = let long = table.long in record {
 
 -- ---- what a stop adds
 module _ (places : List Row) (depot : Stop) (span : Span) (is : IsSpan span places) (at_home : AreHome depot places) where
-  -- what a stop adds behind place m
-  pub detour-le : (s : Stop) (near : Nearest) → IsNearest span depot s near → (x : ℤ) → IsFloor span near x → (m : ℕ) (d : Row) → m + 1 < length places → x ≤ℤ detour_of places s m d
-  detour-le s near nearest x floor m d within = by (cases_lt 0 m) (cases_lt (m + 2) (length places))
-    where
-      count : 2 ≤ is.count
-      count = is.some
-
-      all : length places ≤ is.count + 1
-      all = is.all
-
-      far : (k : ℕ) → 1 ≤ k → k < is.count → near.inside ≤ distance (get_or places k d).at.stop s
-      far k h l = nearest.inside (get_or places k d).at.stop (is.within.inside k d h l)
-
-      by : (0 < m) ⊎ (m ≤ 0) → (m + 2 < length places) ⊎ (length places ≤ m + 2) → x ≤ℤ detour_of places s m d
-      by (inl some) (inl more) =
-          let to = far m (omega arith) (omega arith) in
-          let from = far (m + 1) (omega arith) (omega arith) in
-          let edge = is.within.longest m d (omega arith) (omega arith) in
-          let le = floor.inside in
-          omega (arith, ints)
-      by (inl some) (inr last) =
-          let to = far m (omega arith) (omega arith) in
-          let end : length places - 1 ≡ m + 1 = omega arith in
-          let before : length places - 2 ≡ m = omega arith in
-          let there : (get_or places (m + 1) d).at.stop ≡ depot = subst (λ k. (get_or places k d).at.stop ≡ depot) end (at_home.last d) in
-          let from : near.home ≤ distance (get_or places (m + 1) d).at.stop s = subst (λ (t : Stop). near.home ≤ distance t s) (sym there) nearest.home in
-          let edge : edge_of (get_or places m d) (get_or places (m + 1) d) ≤ℤ span.tips = subst (λ k. edge_of (get_or places k d) (get_or places (m + 1) d) ≤ℤ span.tips) before (subst (λ k. edge_of (get_or places (length places - 2) d) (get_or places k d) ≤ℤ span.tips) end (is.ends.last d)) in
-          let le = floor.tips in
-          omega (arith, ints)
-      by (inr none) _ =
-          let zero_m : 0 ≡ m = omega arith in
-          let from = far 1 (omega arith) (omega arith) in
-          let to : near.home ≤ distance (get_or places 0 d).at.stop s = subst (λ (t : Stop). near.home ≤ distance t s) (sym (at_home.first d)) nearest.home in
-          let edge = is.ends.first d in
-          subst (λ k. x ≤ℤ detour_of places s k d) zero_m (let first : x ≤ℤ detour_of places s 0 d = omega (arith, ints) in first)
-
-  -- what a pair adds whose stops come side by side behind place m
-  pub beside-le : (p q : Stop) (to_p to_q : Nearest) → IsNearest span depot p to_p → IsNearest span depot q to_q → (across : ℕ) → across ≤ distance p q → (x : ℤ) → IsFloorOfPair span to_p to_q across x → (m : ℕ) (d : Row) → m + 1 < length places → x ≤ℤ (pos ((get_or places m d).at.distance + distance (get_or places m d).at.stop p + distance p q + distance (get_or places (m + 1) d).at.stop q) -ℤ pos (get_or places (m + 1) d).at.distance)
-  beside-le p q to_p to_q near_p near_q across between x floor m d within = by (cases_lt 0 m) (cases_lt (m + 2) (length places))
+  -- a stop p comes behind place m and a stop q before the next one, and so much in between
+  between-le : (p q : Stop) (to_p to_q : Nearest) → IsNearest span depot p to_p → IsNearest span depot q to_q → (across : ℕ) (x : ℤ) → IsFloorOfPair span to_p to_q across x → (m : ℕ) (d : Row) → m + 1 < length places → x ≤ℤ (pos ((get_or places m d).at.distance + distance (get_or places m d).at.stop p + across + distance (get_or places (m + 1) d).at.stop q) -ℤ pos (get_or places (m + 1) d).at.distance)
+  between-le p q to_p to_q near_p near_q across x floor m d within = by (cases_lt 0 m) (cases_lt (m + 2) (length places))
     where
       Goal : ℕ → Type 0
-      Goal k = x ≤ℤ (pos ((get_or places k d).at.distance + distance (get_or places k d).at.stop p + distance p q + distance (get_or places (k + 1) d).at.stop q) -ℤ pos (get_or places (k + 1) d).at.distance)
+      Goal k = x ≤ℤ (pos ((get_or places k d).at.distance + distance (get_or places k d).at.stop p + across + distance (get_or places (k + 1) d).at.stop q) -ℤ pos (get_or places (k + 1) d).at.distance)
 
       count : 2 ≤ is.count
       count = is.some
@@ -184,34 +144,45 @@ module _ (places : List Row) (depot : Stop) (span : Span) (is : IsSpan span plac
       all : length places ≤ is.count + 1
       all = is.all
 
-      far_p : (k : ℕ) → 1 ≤ k → k < is.count → to_p.inside ≤ distance (get_or places k d).at.stop p
-      far_p k h l = near_p.inside (get_or places k d).at.stop (is.within.inside k d h l)
-
-      far_q : (k : ℕ) → 1 ≤ k → k < is.count → to_q.inside ≤ distance (get_or places k d).at.stop q
-      far_q k h l = near_q.inside (get_or places k d).at.stop (is.within.inside k d h l)
+      far : (s : Stop) (near : Nearest) → IsNearest span depot s near → (k : ℕ) → 1 ≤ k → k < is.count → near.inside ≤ distance (get_or places k d).at.stop s
+      far s near nearest k h l = nearest.inside (get_or places k d).at.stop (is.within.inside k d h l)
 
       by : (0 < m) ⊎ (m ≤ 0) → (m + 2 < length places) ⊎ (length places ≤ m + 2) → Goal m
       by (inl some) (inl more) =
-          let to = far_p m (omega arith) (omega arith) in
-          let from = far_q (m + 1) (omega arith) (omega arith) in
+          let to = far p to_p near_p m (omega arith) (omega arith) in
+          let from = far q to_q near_q (m + 1) (omega arith) (omega arith) in
           let edge = is.within.longest m d (omega arith) (omega arith) in
           let le = floor.inside in
           omega (arith, ints)
       by (inl some) (inr last) =
-          let to = far_p m (omega arith) (omega arith) in
+          let to = far p to_p near_p m (omega arith) (omega arith) in
           let end : length places - 1 ≡ m + 1 = omega arith in
           let before : length places - 2 ≡ m = omega arith in
-          let there : (get_or places (m + 1) d).at.stop ≡ depot = subst (λ k. (get_or places k d).at.stop ≡ depot) end (at_home.last d) in
-          let from : to_q.home ≤ distance (get_or places (m + 1) d).at.stop q = subst (λ (t : Stop). to_q.home ≤ distance t q) (sym there) near_q.home in
-          let edge : edge_of (get_or places m d) (get_or places (m + 1) d) ≤ℤ span.tips = subst (λ k. edge_of (get_or places k d) (get_or places (m + 1) d) ≤ℤ span.tips) before (subst (λ k. edge_of (get_or places (length places - 2) d) (get_or places k d) ≤ℤ span.tips) end (is.ends.last d)) in
+          let there : (get_or places (m + 1) d).at.stop ≡ depot = rw end at at_home.last d in
+          let from : to_q.home ≤ distance (get_or places (m + 1) d).at.stop q = rw there near_q.home in
+          let edge = rw (before, end) at is.ends.last d in
           let le = floor.last in
           omega (arith, ints)
       by (inr none) _ =
           let zero_m : 0 ≡ m = omega arith in
-          let from = far_q 1 (omega arith) (omega arith) in
-          let to : to_p.home ≤ distance (get_or places 0 d).at.stop p = subst (λ (t : Stop). to_p.home ≤ distance t p) (sym (at_home.first d)) near_p.home in
+          let from = far q to_q near_q 1 (omega arith) (omega arith) in
+          let to : to_p.home ≤ distance (get_or places 0 d).at.stop p = rw (at_home.first d) near_p.home in
           let edge = is.ends.first d in
+          let le = floor.first in
           subst Goal zero_m (let first : Goal 0 = omega (arith, ints) in first)
+
+  -- what a stop adds behind place m
+  pub detour-le : (s : Stop) (near : Nearest) → IsNearest span depot s near → (x : ℤ) → IsFloor span near x → (m : ℕ) (d : Row) → m + 1 < length places → x ≤ℤ detour_of places s m d
+  detour-le s near nearest x floor m d within =
+      let inside = floor.inside in
+      let tips = floor.tips in
+      let le = between-le s s near near nearest nearest 0 x (record { inside = omega (arith, ints); first = omega (arith, ints); last = omega (arith, ints) }) m d within in
+      omega (arith, ints)
+
+  -- what a pair adds whose stops come side by side behind place m
+  pub beside-le : (p q : Stop) (to_p to_q : Nearest) → IsNearest span depot p to_p → IsNearest span depot q to_q → (across : ℕ) → across ≤ distance p q → (x : ℤ) → IsFloorOfPair span to_p to_q across x → (m : ℕ) (d : Row) → m + 1 < length places → x ≤ℤ (pos ((get_or places m d).at.distance + distance (get_or places m d).at.stop p + distance p q + distance (get_or places (m + 1) d).at.stop q) -ℤ pos (get_or places (m + 1) d).at.distance)
+  beside-le p q to_p to_q near_p near_q across between x floor m d within =
+      let le = between-le p q to_p to_q near_p near_q across x floor m d within in omega (arith, ints)
 
 -- ---- a single
 singles-none : (limits : Limits) (places : List Row) (s : Stop) (kept : ℕ) (below : ℤ) (d : Row) → ((i : ℕ) (x : ℤ) → 1 ≤ i → i < length places → with_single limits places s i d ≡ Some x → below ≤ℤ x) → IsFirstOf (AddsSingle limits places s kept below d) None
@@ -228,25 +199,17 @@ far-single limits places depot s kept below d span is at_home dear =
     omega (arith, ints)))
 
 -- what a served stop brings on board fits
-served-fits : (limits : Limits) (r : Ride) (service to : ℕ) (s : Stop) (from : ℕ) (tail : Row) (x : ℤ) → served limits r service to s from tail ≡ Some x → is_served limits r service to s from tail ≡ true
-served-fits limits r service to s from tail x is = by (is_served limits r service to s from tail) refl is
-  where
-    by : (k : Bool) → is_served limits r service to s from tail ≡ k → cond k (Some (price r to from tail)) None ≡ Some x → is_served limits r service to s from tail ≡ true
-    by true h is = h
-    by false h is = absurd (cc)
-
-borne : (limits : Limits) (r : Ride) (service to : ℕ) (s : Stop) (from : ℕ) (tail : Row) → is_served limits r service to s from tail ≡ true → (r.load +ℤ s.demand +ℤ tail.at.stop.demand -ℤ tail.at.load +ℤ tail.most_load) ≤ℤ pos limits.capacity
-borne limits r service to s from tail is =
-    let on = (and_parts (is_kept limits (driven r service to s) s) (goes_on limits (driven r service to s) s.service from tail) is).1 in
+borne : (limits : Limits) (r : Ride) (service to : ℕ) (s : Stop) (from : ℕ) (tail : Row) (x : ℤ) → served limits r service to s from tail ≡ Some x → (r.load +ℤ s.demand +ℤ tail.at.stop.demand -ℤ tail.at.load +ℤ tail.most_load) ≤ℤ pos limits.capacity
+borne limits r service to s from tail x is =
+    let on = (and_parts (is_kept limits (driven r service to s) s) (goes_on limits (driven r service to s) s.service from tail) (cond_some _ _ x is).0).1 in
     let there = (and_parts (is_kept limits (driven (driven r service to s) s.service from tail.at.stop) tail.at.stop) (is_borne limits (driven (driven r service to s) s.service from tail.at.stop) tail) on).1 in
-    let light = (and_parts (int_le (r.load +ℤ s.demand +ℤ tail.at.stop.demand -ℤ tail.at.load +ℤ tail.most_load) (pos limits.capacity)) _ there).0 in
-    int_le-true _ _ light
+    int_le-true _ _ (and_parts (int_le (r.load +ℤ s.demand +ℤ tail.at.stop.demand -ℤ tail.at.load +ℤ tail.most_load) (pos limits.capacity)) _ there).0
 
 pub full-single : (limits : Limits) (places : List Row) (s : Stop) (kept : ℕ) (below : ℤ) (d : Row) (span : Span) → IsSpan span places → AreLaden places → pos limits.capacity <ℤ (span.load +ℤ s.demand) → IsFirstOf (AddsSingle limits places s kept below d) None
 full-single limits places s kept below d span is laden over =
     singles-none limits places s kept below d
     (λ i x one within some.
-    (let light = borne limits (ride_of (get_or places (i - 1) d).at) (get_or places (i - 1) d).at.stop.service (distance (get_or places (i - 1) d).at.stop s) s (distance s (get_or places i d).at.stop) (get_or places i d) (served-fits limits (ride_of (get_or places (i - 1) d).at) (get_or places (i - 1) d).at.stop.service (distance (get_or places (i - 1) d).at.stop s) s (distance s (get_or places i d).at.stop) (get_or places i d) x some) in
+    (let light = borne limits (ride_of (get_or places (i - 1) d).at) (get_or places (i - 1) d).at.stop.service (distance (get_or places (i - 1) d).at.stop s) s (distance s (get_or places i d).at.stop) (get_or places i d) x some in
     let next : i - 1 + 1 ≡ i = omega arith in
     let step = subst (λ k. (get_or places k d).at.load ≡ (get_or places (i - 1) d).at.load +ℤ (get_or places k d).at.stop.demand) next (laden.step (i - 1) d (omega arith)) in
     let most = laden.most i d within in

@@ -3,7 +3,7 @@
 use Rattle.std.proofs.Common.{◌≡◌, ℕ, ◌+◌, ◌-◌, ◌<◌, ◌≤◌, ◌⊎◌, Bool, true, false, cond, ◌&&◌, int_le, ℤ, pos, ◌+ℤ◌, ◌-ℤ◌, ◌≤ℤ◌, Option, Some, None, refl, sym, ap, ◌∙◌, arith, subst, inl, inr, T}
 use Rattle.std.specs.Prelude.{MatchOption}
 use Rattle.std.specs.Option.{option_and_then}
-use Rattle.std.proofs.lemmas.Bool.{and_parts, cases_lt, leb-true, leb-false}
+use Rattle.std.proofs.lemmas.Bool.{and_parts, and_cases, cases_lt, leb-true, leb-false}
 use Rattle.std.proofs.lemmas.Int.{ints}
 use Rattle.plan_types.specs.declared.requests.Stop.{Stop}
 use Rattle.plan_types.specs.declared.requests.Kind.{Kind}
@@ -34,10 +34,6 @@ in_time-false : (kind : Kind) (t u : ℕ) → is_in_time kind t u ≡ false → 
 in_time-false LiLim t u h = (refl, leb-false _ _ h)
 in_time-false Vrp t u h = absurd (cc)
 
-and-false : (a b : Bool) → (a && b) ≡ false → (a ≡ false) ⊎ (b ≡ false)
-and-false true b h = inr h
-and-false false b h = inl refl
-
 -- ---- a stop further
 pub at-next : (stops : ℕ → Stop) (k : ℕ) (a : Progress) (s : Stop) → IsAt stops k a → s ≡ stops (k + 1) → IsAt stops (k + 1) (driven_on a s)
 at-next stops k a s is next =
@@ -67,7 +63,7 @@ module _ (limits : Limits) (stops : ℕ → Stop) where
       }
 
   pub keeps-false : (k : ℕ) (a : Progress) → IsAt stops k a → is_kept limits (ride_of a) a.stop ≡ false → Keeps k → ⊥
-  keeps-false k a is h keep = by (and-false _ _ h)
+  keeps-false k a is h keep = by (and_cases _ _ h)
     where
       by : (int_le a.load (pos limits.capacity) ≡ false) ⊎ (is_in_time limits.kind a.start a.stop.latest ≡ false) → ⊥
       by (inl over) = int_le-false _ _ over (subst (λ x. x ≤ℤ pos limits.capacity) (sym (is.load)) (keep.load))
@@ -90,15 +86,13 @@ module _ (limits : Limits) (stops : ℕ → Stop) where
   kept-here k n h j is = record { load = is.load k h j; window = λ lilim. is.window lilim k h j }
 
   kept-behind : (n l : ℕ) → In n → ((k : ℕ) → n < k → k ≤ l → Keeps k) → In l
-  kept-behind n l is each = record { load = λ k h j. load-by k h j (cases_lt n k); window = λ lilim k h j. window-by lilim k h j (cases_lt n k) }
+  kept-behind n l is each = record { load = λ k h j. (all k h j).load; window = λ lilim k h j. (all k h j).window lilim }
     where
-      load-by : (k : ℕ) → 1 ≤ k → k ≤ l → (n < k) ⊎ (k ≤ n) → load_along stops k ≤ℤ pos limits.capacity
-      load-by k h j (inl after) = (each k after j).load
-      load-by k h j (inr before) = is.load k h before
-
-      window-by : limits.kind ≡ LiLim → (k : ℕ) → 1 ≤ k → k ≤ l → (n < k) ⊎ (k ≤ n) → start_along stops k ≤ (stops k).latest
-      window-by lilim k h j (inl after) = (each k after j).window lilim
-      window-by lilim k h j (inr before) = is.window lilim k h before
+      all : (k : ℕ) → 1 ≤ k → k ≤ l → Keeps k
+      all k h j = elim (cases_lt n k) [
+        | inl after ↦ each k after j
+        | inr before ↦ kept-here k n h before is
+      ]
 
   pub kept-more : (n : ℕ) (a : Progress) → In n → IsAt stops (n + 1) a → is_kept limits (ride_of a) a.stop ≡ true → In (n + 1)
   kept-more n a is at keep = kept-behind n (n + 1) is (λ k h l. let e : n + 1 ≡ k = omega arith in subst Keeps e (keeps-true (n + 1) a at keep))
@@ -176,11 +170,8 @@ module _ (limits : Limits) (a b : ℕ → Stop) (n s rest : ℕ) (same : (k : �
         }
 
     bears-false : (at : Progress) → IsAt b s at → Keeps limits b s → is_borne limits (ride_of at) tail ≡ false → ((k : ℕ) → s < k → k ≤ s + rest → Keeps limits b k) → ⊥
-    bears-false at is here h each = by (and-false _ _ h)
+    bears-false at is here h each = by (and_cases _ _ h)
       where
-        start_is : at.start ≡ start_along b s
-        start_is = is.start
-
         split : (k : ℕ) → s ≤ k → k ≤ s + rest → (s < k) ⊎ (k ≤ s) → load_along b k ≤ℤ pos limits.capacity
         split k h l (inl after) = (each k after l).load
         split k h l (inr first) = let e : s ≡ k = omega arith in subst (λ i. load_along b i ≤ℤ pos limits.capacity) e (here.load)

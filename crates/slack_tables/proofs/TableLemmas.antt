@@ -16,14 +16,14 @@ use Rattle.plan_types.specs.declared.requests.Stop.{Stop}
 use Rattle.route_sched.specs.Route.{AreLiveOnce, IsLive, place, stop_numbered}
 use Rattle.slack_tables.specs.Course.{Course, course_of, route_of}
 use Rattle.slack_tables.specs.Along.{stop_on}
-use Rattle.slack_tables.specs.Filled.{EachIsTimely, LastMayStart, IsFilled}
+use Rattle.slack_tables.specs.Filled.{EachIsTimely, IsFilled}
 use Rattle.slack_tables.specs.Insertion.{KeepsLimits}
 use Rattle.slack_tables.specs.Inside.{stops_within, IsInLimits, AreKnown}
 use Rattle.slack_tables.specs.Opened.{AreOpen}
 use Rattle.slack_tables.specs.Places.{IsKnown}
 use Rattle.slack_tables.specs.declared.progress.Row.{Row}
 use Rattle.slack_tables.proofs.CourseLemmas.{place-on, places-on, limits-to}
-use Rattle.slack_tables.proofs.KnownLemmas.{timely, last_may_start, known, small, within}
+use Rattle.slack_tables.proofs.KnownLemmas.{timely, known, small, within}
 
 module _ (p : Instance) (route : List ℕ) (valid : IsInstance p) (keeps : KeepsLimits p route) (old : List Row) (opened : AreOpen (place p route) old) (long : length old ≡ length route + 2) where
   limits : IsInLimits p.kind p.capacity (place p route) (length route + 1)
@@ -31,9 +31,6 @@ module _ (p : Instance) (route : List ℕ) (valid : IsInstance p) (keeps : Keeps
 
   pub route_timely : EachIsTimely p.kind old
   route_timely = timely p.kind p.capacity (place p route) (length route + 1) limits old opened (omega arith)
-
-  pub route_may_end : LastMayStart old
-  route_may_end = last_may_start p.kind p.capacity (place p route) (length route + 1) limits old opened (omega arith)
 
   module _ (new : List Row) (same_length : length new ≡ length old) (few : length route ≤ 40001) (filled : IsFilled p.kind old new) where
     known-at : (k : ℕ) (d : Row) → k ≤ length route + 1 → IsKnown p.kind (place p route) (length route + 1) k (get_or new k d)

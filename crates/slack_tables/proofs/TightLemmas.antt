@@ -1,8 +1,8 @@
 -- Who is too late for a place of a table by more than 1 is too late for what is behind it, whatever stop comes in between.
-use Rattle.std.proofs.Common.{◌≡◌, ℕ, zero, suc, ◌+◌, ◌-◌, ◌<◌, ◌≤◌, ◌⊎◌, min, max, Bool, true, false, cond, ◌&&◌, ◌||◌, int_le, ℤ, pos, ◌-ℤ◌, ◌+ℤ◌, List, get_or, length, Option, Some, None, refl, sym, ap, ◌∙◌, arith, subst, inl, inr}
+use Rattle.std.proofs.Common.{◌≡◌, ℕ, zero, suc, ◌+◌, ◌-◌, ◌<◌, ◌≤◌, ◌⊎◌, min, max, true, false, cond, int_le, ℤ, pos, ◌-ℤ◌, ◌+ℤ◌, List, get_or, length, Option, Some, None, refl, sym, ap, ◌∙◌, arith, subst, inl, inr}
 use Rattle.std.specs.Prelude.{nat_lt}
-use Rattle.std.specs.Option.{option_and_then}
-use Rattle.std.proofs.lemmas.Bool.{leb-true, ltb-true, cases_lt}
+use Rattle.std.proofs.lemmas.Bool.{leb-true, ltb-true, cases_lt, and_parts, or_cases, cond-false, false_from_ne_true}
+use Rattle.std.proofs.lemmas.Option.{none-some, option_and_then_some}
 use Rattle.plan_types.specs.declared.requests.Stop.{Stop}
 use Rattle.plan_types.specs.declared.requests.Kind.{Kind}
 use Rattle.plan_types.specs.declared.requests.Kind.TheVariants.{LiLim, Vrp}
@@ -14,7 +14,7 @@ use Rattle.slack_tables.specs.Course.{Course}
 use Rattle.slack_tables.specs.Driven.{driven_on, stepped, with_stop, with_pair}
 use Rattle.slack_tables.specs.Inside.{AreKnown}
 use Rattle.slack_tables.specs.Legs.{AreRising}
-use Rattle.slack_tables.specs.Ride.{ride_of, is_in_time, is_kept, price}
+use Rattle.slack_tables.specs.Ride.{ride_of, is_in_time, is_kept, is_served, price}
 use Rattle.slack_tables.specs.Scan.{AddsPair}
 use Rattle.slack_tables.specs.Walk.{walk_to}
 use Rattle.slack_tables.specs.declared.progress.Limits.{Limits}
@@ -26,8 +26,7 @@ use Rattle.slack_tables.proofs.BestLemmas.{first-same}
 use Rattle.slack_tables.proofs.KnownLemmas.{goes_on}
 use Rattle.slack_tables.proofs.LateLemmas.{step-start, step-after, late-pickup}
 use Rattle.slack_tables.proofs.LatestLemmas.{IsBound, bound-before}
-use Rattle.slack_tables.proofs.ScanLemmas.{never-sum}
-use Rattle.slack_tables.proofs.WalkLemmas.{walk-first, walk-more, distance-back}
+use Rattle.slack_tables.proofs.WalkLemmas.{and_then-none, walk-first, walk-more, distance-back}
 
 -- the places of a table are tight
 pub tight : (c : Course) (places : List Row) → AreKnown c places → AreTight c.kind places
@@ -63,62 +62,39 @@ module _ (limits : Limits) (places : List Row) (d : Row) (lilim : limits.kind �
       omega arith
 
   late-between : (a : Progress) (k : ℕ) (q : Stop) → IsLateFor a k → with_stop limits a q (get_or places k d) ≡ None
-  late-between a k q late = by (is_kept limits (ride_of b) q) (is_kept limits (ride_of c) tail.at.stop) (int_le (c.load -ℤ tail.at.load +ℤ tail.most_load) (pos limits.capacity)) (is_in_time limits.kind c.start tail.latest_start) refl refl refl
-    where
-      tail : Row
-      tail = get_or places k d
-
-      b : Progress
-      b = driven_on a q
-
-      c : Progress
-      c = driven_on (driven_on a q) tail.at.stop
-
-      over : is_kept limits (ride_of b) q ≡ true → is_kept limits (ride_of c) tail.at.stop ≡ true → tail.latest_start < c.start
-      over first second =
-          let then = step-after limits b c tail.at.stop lilim (ap (λ k. cond k (Some c) None) second) in
-          let saved = law a.stop tail.at.stop q in
-          omega arith
-
-      by : (l m n o : Bool) → is_kept limits (ride_of b) q ≡ l → is_kept limits (ride_of c) tail.at.stop ≡ m → is_in_time limits.kind c.start tail.latest_start ≡ o → cond (l && (m && (n && o))) (Some (price (ride_of a) (distance a.stop q) (distance q tail.at.stop) tail)) None ≡ None
-      by true true true true first second there = let less = over first second in let le = leb-true _ _ (subst (λ k. is_in_time k c.start tail.latest_start ≡ true) lilim there) in absurd (omega arith)
-      by true true true false _ _ _ = refl
-      by true true false o _ _ _ = refl
-      by true false n o _ _ _ = refl
-      by false m n o _ _ _ = refl
+  late-between a k q late =
+      let tail = get_or places k d in
+      let b = driven_on a q in
+      let c = driven_on (driven_on a q) tail.at.stop in
+      cond-false (is_served limits (ride_of a) a.stop.service (distance a.stop q) q (distance q tail.at.stop) tail) (Some (price (ride_of a) (distance a.stop q) (distance q tail.at.stop) tail)) None (false_from_ne_true _
+      (λ all.
+      (let first = and_parts (is_kept limits (ride_of b) q) _ all in
+      let second = and_parts (is_kept limits (ride_of c) tail.at.stop) _ first.1 in
+      let after = step-after limits b c tail.at.stop lilim (ap (λ k. cond k (Some c) None) second.0) in
+      let saved = law a.stop tail.at.stop q in
+      let le = leb-true _ _ (subst (λ k. is_in_time k c.start tail.latest_start ≡ true) lilim (and_parts (int_le (c.load -ℤ tail.at.load +ℤ tail.most_load) (pos limits.capacity)) (is_in_time limits.kind c.start tail.latest_start) second.1).1) in
+      absurd (omega arith))))
 
   module _ (p : Stop) (i : ℕ) (first : (a : Progress) → stepped limits (get_or places (i - 1) d).at p ≡ Some a → IsLateFor a i) where
     walk-late : (n : ℕ) (a : Progress) → i + n < length places → walk_to limits places p i d (i + 1 + n) ≡ Some a → IsLateFor a (i + n)
     walk-late zero a within is =
         let none : i + 1 + 0 ≡ i + 1 = omega arith in
         subst (IsLateFor a) (sym (omega arith)) (first a (sym (walk-first limits places p i d) ∙ (sym (ap (walk_to limits places p i d) none) ∙ is)))
-    walk-late (suc n) a within is = by (walk_to limits places p i d (i + 1 + n)) refl (λ b before. walk-late n b (omega arith) before)
-      where
-        next : i + 1 + suc n ≡ i + 1 + n + 1
-        next = omega arith
-
-        last : option_and_then (λ at. stepped limits at (get_or places (i + 1 + n - 1) d).at.stop) (walk_to limits places p i d (i + 1 + n)) ≡ Some a
-        last = sym (walk-more limits places p i d (i + 1 + n) (omega arith) (omega arith)) ∙ (sym (ap (walk_to limits places p i d) next) ∙ is)
-
-        by : (o : Option Progress) → walk_to limits places p i d (i + 1 + n) ≡ o → ((b : Progress) → walk_to limits places p i d (i + 1 + n) ≡ Some b → IsLateFor b (i + n)) → IsLateFor a (i + suc n)
-        by None never _ = absurd (let none : None ≡ Some a = sym (ap (λ o. option_and_then (λ at. stepped limits at (get_or places (i + 1 + n - 1) d).at.stop) o) never) ∙ last in cc)
-        by (Some b) before late =
-            let step : stepped limits b (get_or places (i + 1 + n - 1) d).at.stop ≡ Some a = sym (ap (λ o. option_and_then (λ at. stepped limits at (get_or places (i + 1 + n - 1) d).at.stop) o) before) ∙ last in
-            subst (IsLateFor a) (omega arith) (late-on b a (i + n) (omega arith) (late b before) (sym (ap (λ k. stepped limits b (get_or places k d).at.stop) (omega arith)) ∙ step))
+    walk-late (suc n) a within is =
+        let next : i + 1 + suc n ≡ i + 1 + n + 1 = omega arith in
+        option_and_then_some _ _ a (sym (walk-more limits places p i d (i + 1 + n) (omega arith) (omega arith)) ∙ (sym (ap (walk_to limits places p i d) next) ∙ is))
+        (λ b before step.
+        (let late = walk-late n b (omega arith) before in
+        subst (IsLateFor a) (omega arith) (late-on b a (i + n) (omega arith) late (sym (ap (λ k. stepped limits b (get_or places k d).at.stop) (omega arith)) ∙ step))))
 
     -- no delivery behind keeps the limits
     pub closed-by : (q : Stop) (j : ℕ) → i < j → j ≤ length places → with_pair limits places p q i j d ≡ None
-    closed-by q j order within = by (walk_to limits places p i d j) refl
-      where
-        far : i + 1 + (j - (i + 1)) ≡ j
-        far = omega arith
-
-        here : i + (j - (i + 1)) ≡ j - 1
-        here = omega arith
-
-        by : (o : Option Progress) → walk_to limits places p i d j ≡ o → option_and_then (λ at. with_stop limits at q (get_or places (j - 1) d)) o ≡ None
-        by None never = refl
-        by (Some a) there = late-between a (j - 1) q (subst (IsLateFor a) here (walk-late (j - (i + 1)) a (omega arith) (ap (walk_to limits places p i d) far ∙ there)))
+    closed-by q j order within =
+        and_then-none _ _
+        (λ a there.
+        (let far : i + 1 + (j - (i + 1)) ≡ j = omega arith in
+        let here : i + (j - (i + 1)) ≡ j - 1 = omega arith in
+        late-between a (j - 1) q (subst (IsLateFor a) here (walk-late (j - (i + 1)) a (omega arith) (ap (walk_to limits places p i d) far ∙ there)))))
 
 -- ---- what the code asks
 module _ (limits : Limits) (places : List Row) (p : Stop) (i : ℕ) (are : AreTight limits.kind places) (law : DetoursSaveAtMostOne) where
@@ -143,50 +119,36 @@ module _ (limits : Limits) (places : List Row) (p : Stop) (i : ℕ) (are : AreTi
       start = max (before.at.start + before.at.stop.service + to) p.earliest
 
       first : (d : Row) (a : Progress) → stepped limits (get_or places (i - 1) d).at p ≡ Some a → due_of (get_or places i d) + 1 < a.start + a.stop.service + distance a.stop (get_or places i d).at.stop
-      first d a step = by (nat_lt p.latest start) (nat_lt (due_of next + 1) (start + p.service + from)) refl refl late
+      first d a step = elim (or_cases (nat_lt p.latest start) (nat_lt (due_of next + 1) (start + p.service + from)) late) [
+        | inl over ↦ (let less = ltb-true p.latest start over in let le = there in let in_time = after.2 in absurd (omega arith))
+        | inr over ↦
+            (let less = ltb-true (due_of next + 1) (start + p.service + from) over in
+            let le = there in
+            let same : due_of next ≡ due_of (get_or places i d) = ap due_of (is_next d) in
+            let service : a.stop.service ≡ p.service = ap (λ (s : Stop). s.service) after.0 in
+            let way : distance a.stop (get_or places i d).at.stop ≡ distance (get_or places i d).at.stop p = ap (λ s. distance s (get_or places i d).at.stop) after.0 ∙ distance-back p (get_or places i d).at.stop in
+            omega arith)
+      ]
         where
+          after : (a.stop ≡ p) × ((get_or places (i - 1) d).at.start + (get_or places (i - 1) d).at.stop.service + distance (get_or places (i - 1) d).at.stop p ≤ a.start) × (a.start ≤ p.latest)
+          after = step-after limits (get_or places (i - 1) d).at a p lilim step
+
           there : start ≤ a.start
           there =
               let window = (step-start limits (get_or places (i - 1) d).at a p step).0 in
-              let arrival = (step-after limits (get_or places (i - 1) d).at a p lilim step).1 in
+              let arrival = after.1 in
               let left : before.at.start ≡ (get_or places (i - 1) d).at.start = ap (λ (e : Row). e.at.start) (is_before d) in
               let stay : before.at.stop.service ≡ (get_or places (i - 1) d).at.stop.service = ap (λ (e : Row). e.at.stop.service) (is_before d) in
               let way = is_to d in
               omega arith
 
-          by : (k l : Bool) → nat_lt p.latest start ≡ k → nat_lt (due_of next + 1) (start + p.service + from) ≡ l → (k || l) ≡ true → due_of (get_or places i d) + 1 < a.start + a.stop.service + distance a.stop (get_or places i d).at.stop
-          by true l over _ _ =
-              let less = ltb-true _ _ over in
-              let le = there in
-              let in_time = (step-after limits (get_or places (i - 1) d).at a p lilim step).2 in
-              absurd (omega arith)
-          by false true _ over _ =
-              let less = ltb-true _ _ over in
-              let le = there in
-              let stop = (step-after limits (get_or places (i - 1) d).at a p lilim step).0 in
-              let same : due_of next ≡ due_of (get_or places i d) = ap due_of (is_next d) in
-              let service : a.stop.service ≡ p.service = ap (λ (s : Stop). s.service) stop in
-              let way : distance a.stop (get_or places i d).at.stop ≡ distance (get_or places i d).at.stop p = ap (λ s. distance s (get_or places i d).at.stop) stop ∙ distance-back p (get_or places i d).at.stop in
-              omega arith
-          by false false _ _ neither = absurd (cc)
-
 -- ---- one place after another
-pub closed-begin : (limits : Limits) (places : List Row) (p : Stop) (m : ℕ) → AreClosed limits places p m (m + 1)
-closed-begin limits places p m = λ i behind before. absurd (omega arith)
-
 pub closed-more : (limits : Limits) (places : List Row) (p : Stop) (m n : ℕ) → AreClosed limits places p m n → IsClosed limits places p n → AreClosed limits places p m (n + 1)
 closed-more limits places p m n are is = λ i behind before. by i behind before (cases_lt i n)
   where
     by : (i : ℕ) → m < i → i < n + 1 → (i < n) ⊎ (n ≤ i) → IsClosed limits places p i
     by i behind before (inl less) = are i behind less
     by i behind before (inr last) = let same : n ≡ i = omega arith in subst (IsClosed limits places p) same is
-
-pub closed-join : (limits : Limits) (places : List Row) (p : Stop) (m n o : ℕ) → AreClosed limits places p m n → AreClosed limits places p (n - 1) o → AreClosed limits places p m o
-closed-join limits places p m n o are rest = λ i behind before. by i behind before (cases_lt i n)
-  where
-    by : (i : ℕ) → m < i → i < o → (i < n) ⊎ (n ≤ i) → IsClosed limits places p i
-    by i behind before (inl less) = are i behind less
-    by i behind before (inr more) = rest i (omega arith) before
 
 -- behind a place that is started after the pickup's latest time
 pub closed-past : (limits : Limits) (places : List Row) (p : Stop) (i : ℕ) (e : Row) → AreRising places → 1 ≤ i → ((d : Row) → e ≡ get_or places (i - 1) d) → is_in_time limits.kind e.at.start p.latest ≡ false → AreClosed limits places p (i - 1) (length places)
@@ -197,8 +159,8 @@ pub open-only : (limits : Limits) (places : List Row) (p q : Stop) (kept first :
 open-only limits places p q kept first below d o later closed is = first-same _ _ (λ a adds. (record { behind = let behind = adds.0.behind in omega arith; order = adds.0.order; within = adds.0.within; added = adds.0.added }, adds.1)) (λ a adds. (record { behind = by a adds (cases_lt a.pickup first); order = adds.0.order; within = adds.0.within; added = adds.0.added }, adds.1)) o is
   where
     by : (a : Addition) → AddsPair limits places p q kept below d a → (a.pickup < first) ⊎ (first ≤ a.pickup) → first - 1 < a.pickup
-    by a adds (inl before) = absurd (never-sum _ a.distance (closed a.pickup adds.0.behind before q a.delivery d adds.0.order adds.0.within) adds.0.added)
+    by a adds (inl before) = absurd (none-some a.distance (sym (closed a.pickup adds.0.behind before q a.delivery d adds.0.order adds.0.within) ∙ adds.0.added))
     by a adds (inr behind) = omega arith
 
 pub none-open : (limits : Limits) (places : List Row) (p q : Stop) (kept : ℕ) (below : ℤ) (d : Row) → AreClosed limits places p kept (length places) → IsFirstOf (AddsPair limits places p q kept below d) None
-none-open limits places p q kept below d closed = λ a adds. never-sum _ a.distance (closed a.pickup adds.0.behind (let order = adds.0.order in let within = adds.0.within in omega arith) q a.delivery d adds.0.order adds.0.within) adds.0.added
+none-open limits places p q kept below d closed = λ a adds. none-some a.distance (sym (closed a.pickup adds.0.behind (let order = adds.0.order in let within = adds.0.within in omega arith) q a.delivery d adds.0.order adds.0.within) ∙ adds.0.added)

@@ -1,15 +1,16 @@
 -- A vehicle on its way with a pickup on board, place after place.
 use Rattle.std.proofs.Common.{◌≡◌, ℕ, zero, suc, ◌+◌, ◌-◌, ◌^◌, ◌<◌, ◌≤◌, Bool, true, false, cond, int_lt, T, ℤ, pos, ◌-ℤ◌, ◌<ℤ◌, List, get_or, length, Option, Some, None, refl, sym, ap, ◌∙◌, arith, subst}
-use Rattle.std.specs.Prelude.{All, nat_lt, unsigned_abs}
+use Rattle.std.specs.Prelude.{All, unsigned_abs}
 use Rattle.std.specs.Option.{option_and_then, option_map}
-use Rattle.std.proofs.lemmas.Bool.{ltb-true, ltb-false}
+use Rattle.std.proofs.lemmas.Bool.{ltb-true, lt-ltb, cond-true}
+use Rattle.std.proofs.lemmas.Option.{none-some, same_Some}
 use Rattle.std.proofs.lemmas.Int.{ints}
 use Rattle.plan_types.specs.declared.requests.Stop.{Stop}
 use Rattle.nint_dist.specs.Distance.{distance}
 use Rattle.slack_tables.specs.Driven.{stepped, walked, with_stop, with_single, with_pair, IsSmallRow}
 use Rattle.slack_tables.specs.Ride.{ride_at, ride_of, driven, is_kept, ridden, is_served, price, served, served_below, IsSmallRide, IsNearRide}
 use Rattle.slack_tables.specs.Legs.{AreLinked}
-use Rattle.slack_tables.specs.Scan.{offered, IsNearUnderway, picked_up, gone_on}
+use Rattle.slack_tables.specs.Scan.{served_single, offered, picked_up, gone_to, gone_on}
 use Rattle.slack_tables.specs.Walk.{walk_to, IsUnderway, IsNearWay}
 use Rattle.slack_tables.specs.declared.progress.Limits.{Limits}
 use Rattle.slack_tables.specs.declared.progress.Progress.{Progress}
@@ -26,6 +27,24 @@ distance-back a b =
     let x : unsigned_abs (a.x -ℤ b.x) ≡ unsigned_abs (b.x -ℤ a.x) = omega (arith, ints) in
     let y : unsigned_abs (a.y -ℤ b.y) ≡ unsigned_abs (b.y -ℤ a.y) = omega (arith, ints) in
     rw (x, y) refl
+
+-- what there is before an answer, or that there is nothing
+option_map-some : {A B : Type 0} (f : A → B) (o : Option A) (y : B) → Some y ≡ option_map f o → (x : A) × (o ≡ Some x) × (y ≡ f x)
+option_map-some f None y is = absurd (none-some y (sym is))
+option_map-some f (Some x) y is = (x, refl, same_Some y (f x) is)
+
+option_map-none : {A B : Type 0} (f : A → B) (o : Option A) → None ≡ option_map f o → o ≡ None
+option_map-none f None is = refl
+option_map-none f (Some x) is = absurd (none-some (f x) is)
+
+cond_map : {A B : Type 0} (b : Bool) (f : A → B) (o : Option A) (y : B) → Some y ≡ cond b (option_map f o) None → (b ≡ true) × (x : A) × (o ≡ Some x) × (y ≡ f x)
+cond_map true f o y is = let from = option_map-some f o y is in (refl, from.0, from.1, from.2)
+cond_map false f o y is = absurd (none-some y (sym is))
+
+-- where nothing comes of what there is, nothing comes of it
+pub and_then-none : {A B : Type 0} (f : A → Option B) (o : Option A) → ((x : A) → o ≡ Some x → f x ≡ None) → option_and_then f o ≡ None
+and_then-none f None each = refl
+and_then-none f (Some x) each = each x refl
 
 -- ---- a ride is what a vehicle's progress is at a stop
 stepped-is : (limits : Limits) (r : Ride) (a s : Stop) → stepped limits (ride_at r a) s ≡ option_map (λ r. ride_at r s) (ridden limits r a.service (distance a s) s)
@@ -96,17 +115,10 @@ module _ (limits : Limits) (places : List Row) (p : Stop) (i : ℕ) (d : Row) wh
     pair-served j r a here = ap (λ o. option_and_then (λ at. with_stop limits at q (get_or places (j - 1) d)) o) here
 
 -- ---- the ways of the table
-pub linked-rises : (places : List Row) → AreLinked places → (j : ℕ) (d : Row) → 1 ≤ j → j < length places → (get_or places (j - 1) d).at.distance ≤ (get_or places j d).at.distance
-linked-rises places linked j d one within =
+pub linked-at : (places : List Row) → AreLinked places → (j : ℕ) (d : Row) → 1 ≤ j → j < length places → (get_or places j d).at.distance ≡ (get_or places (j - 1) d).at.distance + distance (get_or places (j - 1) d).at.stop (get_or places j d).at.stop
+linked-at places linked j d one within =
     let next : j - 1 + 1 ≡ j = omega arith in
-    let link = subst (λ k. (get_or places k d).at.distance ≡ (get_or places (j - 1) d).at.distance + distance (get_or places (j - 1) d).at.stop (get_or places k d).at.stop) next (linked (j - 1) d (omega arith)) in
-    omega arith
-
-pub linked-edge : (places : List Row) → AreLinked places → (j : ℕ) (d : Row) → 1 ≤ j → j < length places → (get_or places j d).at.distance - (get_or places (j - 1) d).at.distance ≡ distance (get_or places (j - 1) d).at.stop (get_or places j d).at.stop
-linked-edge places linked j d one within =
-    let next : j - 1 + 1 ≡ j = omega arith in
-    let link = subst (λ k. (get_or places k d).at.distance ≡ (get_or places (j - 1) d).at.distance + distance (get_or places (j - 1) d).at.stop (get_or places k d).at.stop) next (linked (j - 1) d (omega arith)) in
-    omega arith
+    subst (λ k. (get_or places k d).at.distance ≡ (get_or places (j - 1) d).at.distance + distance (get_or places (j - 1) d).at.stop (get_or places k d).at.stop) next (linked (j - 1) d (omega arith))
 
 -- ---- the loop over the delivery's places
 module _ (limits : Limits) (places : List Row) (p q : Stop) (i : ℕ) (d : Row) where
@@ -115,86 +127,61 @@ module _ (limits : Limits) (places : List Row) (p q : Stop) (i : ℕ) (d : Row) 
     first = first-ride limits places p i d before to _ is_before is_to (rw (is_limits, is_p) refl)
 
     pub underway-begin : (on : Underway) → t.delivery ≡ q → t.across ≡ distance t.pickup t.delivery → onward ≡ distance (get_or places i d).at.stop p → Some on ≡ picked_up t before.at to onward → IsUnderway limits places p q i (i + 1) d on
-    underway-begin on is_q is_across is_onward made = by (ridden t.limits (ride_of before.at) before.at.stop.service to t.pickup) refl made
-      where
-        by : (o : Option Ride) → ridden t.limits (ride_of before.at) before.at.stop.service to t.pickup ≡ o → Some on ≡ option_map (λ r. record { ride = r; service = t.pickup.service; to_delivery = t.across; onward = onward }) o → IsUnderway limits places p q i (i + 1) d on
-        by None _ made = absurd (cc)
-        by (Some r) is made =
-            let same : on ≡ record { ride = r; service = t.pickup.service; to_delivery = t.across; onward = onward } = cc in
-            record {
-              stop = p;
-              walk = first ∙ (ap (λ o. option_map (λ r. ride_at r p) o) is ∙ ap (λ (w : Underway). Some (ride_at w.ride p)) (sym same));
-              service = ap (λ w. w.service) same ∙ ap (λ (x : Stop). x.service) is_p;
-              to_delivery = ap (λ w. w.to_delivery) same ∙ (is_across ∙ rw (is_p, is_q) refl);
-              onward = ap (λ w. w.onward) same ∙ (is_onward ∙ (distance-back (get_or places i d).at.stop p ∙ ap (λ k. distance p (get_or places k d).at.stop) (sym (omega arith))));
-            }
+    underway-begin on is_q is_across is_onward made =
+        let from = option_map-some _ _ on made in
+        record {
+          stop = p;
+          walk = first ∙ (ap (λ o. option_map (λ r. ride_at r p) o) from.1 ∙ ap (λ (w : Underway). Some (ride_at w.ride p)) (sym from.2));
+          service = ap (λ w. w.service) from.2 ∙ ap (λ (x : Stop). x.service) is_p;
+          to_delivery = ap (λ w. w.to_delivery) from.2 ∙ (is_across ∙ rw (is_p, is_q) refl);
+          onward = ap (λ w. w.onward) from.2 ∙ (is_onward ∙ (distance-back (get_or places i d).at.stop p ∙ ap (λ k. distance p (get_or places k d).at.stop) (sym (omega arith))));
+        }
 
     -- where the pickup exceeds a limit, there is no place for the delivery
     pub not-begun : None ≡ picked_up t before.at to onward → (j : ℕ) → i + 1 ≤ j → j ≤ length places → with_pair limits places p q i j d ≡ None
-    not-begun made j behind last = by (ridden t.limits (ride_of before.at) before.at.stop.service to t.pickup) refl made
-      where
-        by : (o : Option Ride) → ridden t.limits (ride_of before.at) before.at.stop.service to t.pickup ≡ o → ◌≡◌ {A = Option Underway} None (option_map (λ r. record { ride = r; service = t.pickup.service; to_delivery = t.across; onward = onward }) o) → with_pair limits places p q i j d ≡ None
-        by (Some r) _ made = absurd (cc)
-        by None is made = pair-over limits places p i d q (i + 1) j (omega arith) behind last (first ∙ ap (λ o. option_map (λ r. ride_at r p) o) is)
-
-  pub near-begin : (on : Underway) → IsNearUnderway on → IsNearWay places (i + 1) d on
-  near-begin on near =
-      let start = near.ride.start in
-      let load = near.ride.load in
-      record { start = omega arith; load = omega arith; distance = omega arith; to_delivery = near.to_delivery }
+    not-begun made j behind last = pair-over limits places p i d q (i + 1) j (omega arith) behind last (first ∙ ap (λ o. option_map (λ r. ride_at r p) o) (option_map-none _ _ made))
 
   module _ (j : ℕ) (on : Underway) (order : i < j) (within : j ≤ length places) where
     walk-next : IsUnderway limits places p q i j d on → walk_to limits places p i d (j + 1) ≡ option_map (λ r. ride_at r (get_or places (j - 1) d).at.stop) (ridden limits on.ride on.service on.onward (get_or places (j - 1) d).at.stop)
     walk-next is = next-ride limits places p i d j on.ride is.stop (get_or places (j - 1) d) on.onward _ order within is.walk refl is.onward (rw is.service refl)
 
+    -- who goes on is at the next place, which is not the last
+    gone : (to : ℕ) (next : Underway) → Some next ≡ gone_on limits on places j to d → (j < length places) × (ridden limits on.ride on.service on.onward (get_or places (j - 1) d).at.stop ≡ Some next.ride) × (next ≡ gone_to next.ride places j to d)
+    gone to next made =
+        let ways = cond_map _ _ _ next made in
+        (ltb-true _ _ ways.0, ways.2 ∙ ap (λ (w : Underway). Some w.ride) (sym ways.3), ways.3 ∙ ap (λ (w : Underway). gone_to w.ride places j to d) (sym ways.3))
+
     pub underway-more : IsUnderway limits places p q i j d on → AreLinked places → 1 ≤ i → (to : ℕ) (next : Underway) → to ≡ distance (get_or places (j - 1) d).at.stop q → Some next ≡ gone_on limits on places j to d → IsUnderway limits places p q i (j + 1) d next
-    underway-more is linked one to next is_to made = by (nat_lt j (length places)) refl (ridden limits on.ride on.service on.onward (get_or places (j - 1) d).at.stop) refl made
-      where
-        by : (b : Bool) → nat_lt j (length places) ≡ b → (o : Option Ride) → ridden limits on.ride on.service on.onward (get_or places (j - 1) d).at.stop ≡ o → Some next ≡ cond b (option_map (λ r. record { ride = r; service = (get_or places (j - 1) d).at.stop.service; to_delivery = to; onward = (get_or places j d).at.distance - (get_or places (j - 1) d).at.distance }) o) None → IsUnderway limits places p q i (j + 1) d next
-        by false _ o _ made = absurd (cc)
-        by true _ None _ made = absurd (cc)
-        by true more (Some r) ride made =
-            let same : next ≡ record { ride = r; service = (get_or places (j - 1) d).at.stop.service; to_delivery = to; onward = (get_or places j d).at.distance - (get_or places (j - 1) d).at.distance } = cc in
-            let lt : j < length places = ltb-true _ _ more in
-            record {
-              stop = (get_or places (j - 1) d).at.stop;
-              walk = walk-next is ∙ (ap (λ o. option_map (λ r. ride_at r (get_or places (j - 1) d).at.stop) o) ride ∙ ap (λ (w : Underway). Some (ride_at w.ride (get_or places (j - 1) d).at.stop)) (sym same));
-              service = ap (λ w. w.service) same;
-              to_delivery = ap (λ w. w.to_delivery) same ∙ is_to;
-              onward = ap (λ w. w.onward) same ∙ (linked-edge places linked j d (omega arith) lt ∙ ap (λ k. distance (get_or places (j - 1) d).at.stop (get_or places k d).at.stop) (sym (omega arith)));
-            }
+    underway-more is linked one to next is_to made =
+        let after = gone to next made in
+        let edge : (get_or places j d).at.distance - (get_or places (j - 1) d).at.distance ≡ distance (get_or places (j - 1) d).at.stop (get_or places j d).at.stop = omega (arith, linked-at places linked j d (omega arith) after.0) in
+        record {
+          stop = (get_or places (j - 1) d).at.stop;
+          walk = walk-next is ∙ ap (λ o. option_map (λ r. ride_at r (get_or places (j - 1) d).at.stop) o) after.1;
+          service = ap (λ w. w.service) after.2;
+          to_delivery = ap (λ w. w.to_delivery) after.2 ∙ is_to;
+          onward = ap (λ w. w.onward) after.2 ∙ (edge ∙ ap (λ k. distance (get_or places (j - 1) d).at.stop (get_or places k d).at.stop) (sym (omega arith)));
+        }
 
     pub not-last : (to : ℕ) (next : Underway) → Some next ≡ gone_on limits on places j to d → j < length places
-    not-last to next made = by (nat_lt j (length places)) refl made
-      where
-        by : (b : Bool) → nat_lt j (length places) ≡ b → Some next ≡ cond b (option_map (λ r. record { ride = r; service = (get_or places (j - 1) d).at.stop.service; to_delivery = to; onward = (get_or places j d).at.distance - (get_or places (j - 1) d).at.distance }) (ridden limits on.ride on.service on.onward (get_or places (j - 1) d).at.stop)) None → j < length places
-        by false _ made = absurd (cc)
-        by true more _ = ltb-true _ _ more
+    not-last to next made = (gone to next made).0
 
     pub near-more : IsNearWay places j d on → AreLinked places → 1 ≤ i → (to : ℕ) (next : Underway) → to ≤ 2 ^ 32 → Some next ≡ gone_on limits on places j to d → IsNearRide on.ride on.onward next.ride → IsNearWay places (j + 1) d next
-    near-more is linked one to next is_to made near = by (nat_lt j (length places)) refl (ridden limits on.ride on.service on.onward (get_or places (j - 1) d).at.stop) made
-      where
-        by : (b : Bool) → nat_lt j (length places) ≡ b → (o : Option Ride) → Some next ≡ cond b (option_map (λ r. record { ride = r; service = (get_or places (j - 1) d).at.stop.service; to_delivery = to; onward = (get_or places j d).at.distance - (get_or places (j - 1) d).at.distance }) o) None → IsNearWay places (j + 1) d next
-        by false _ o made = absurd (cc)
-        by true _ None made = absurd (cc)
-        by true more (Some r) made =
-            let same : next ≡ record { ride = r; service = (get_or places (j - 1) d).at.stop.service; to_delivery = to; onward = (get_or places j d).at.distance - (get_or places (j - 1) d).at.distance } = cc in
-            let onward : next.onward ≡ (get_or places j d).at.distance - (get_or places (j - 1) d).at.distance = ap (λ w. w.onward) same in
-            let is_to' : next.to_delivery ≡ to = ap (λ w. w.to_delivery) same in
-            let here : (get_or places (j + 1 - 1) d).at.distance ≡ (get_or places j d).at.distance = (let e : j + 1 - 1 ≡ j = omega arith in ap (λ k. (get_or places k d).at.distance) e) in
-            let rises = linked-rises places linked j d (omega arith) (ltb-true _ _ more) in
-            let start = is.start in
-            let load = is.load in
-            record { start = omega arith; load = omega arith; distance = omega arith; to_delivery = omega arith }
+    near-more is linked one to next is_to made near =
+        let after = gone to next made in
+        let onward : next.onward ≡ (get_or places j d).at.distance - (get_or places (j - 1) d).at.distance = ap (λ w. w.onward) after.2 in
+        let is_to' : next.to_delivery ≡ to = ap (λ w. w.to_delivery) after.2 in
+        let here : (get_or places (j + 1 - 1) d).at.distance ≡ (get_or places j d).at.distance = (let e : j + 1 - 1 ≡ j = omega arith in ap (λ k. (get_or places k d).at.distance) e) in
+        let link = linked-at places linked j d (omega arith) after.0 in
+        let start = is.start in
+        let load = is.load in
+        record { start = omega arith; load = omega arith; distance = omega arith; to_delivery = omega arith }
 
     -- where the vehicle does not go on, there is no further place of the delivery
     pub over : IsUnderway limits places p q i j d on → (to : ℕ) → None ≡ gone_on limits on places j to d → (k : ℕ) → j < k → k ≤ length places → with_pair limits places p q i k d ≡ None
-    over is to made k behind last = by (nat_lt j (length places)) refl (ridden limits on.ride on.service on.onward (get_or places (j - 1) d).at.stop) refl made
-      where
-        by : (b : Bool) → nat_lt j (length places) ≡ b → (o : Option Ride) → ridden limits on.ride on.service on.onward (get_or places (j - 1) d).at.stop ≡ o → ◌≡◌ {A = Option Underway} None (cond b (option_map (λ r. record { ride = r; service = (get_or places (j - 1) d).at.stop.service; to_delivery = to; onward = (get_or places j d).at.distance - (get_or places (j - 1) d).at.distance }) o) None) → with_pair limits places p q i k d ≡ None
-        by false end o _ made = let le = ltb-false _ _ end in absurd (omega arith)
-        by true _ (Some r) _ made = absurd (cc)
-        by true _ None ride made = pair-over limits places p i d q (j + 1) k (omega arith) (omega arith) last (walk-next is ∙ ap (λ o. option_map (λ r. ride_at r (get_or places (j - 1) d).at.stop) o) ride)
+    over is to made k behind last =
+        let stays = option_map-none _ _ (made ∙ cond-true _ _ _ (lt-ltb j (length places) (omega arith))) in
+        pair-over limits places p i d q (j + 1) k (omega arith) (omega arith) last (walk-next is ∙ ap (λ o. option_map (λ r. ride_at r (get_or places (j - 1) d).at.stop) o) stays)
 
     -- what the loop offers is what the delivery at place j adds
     pub offered-here : IsUnderway limits places p q i j d on → (best next : Best) (tail : Row) (from : ℕ) → tail ≡ get_or places (j - 1) d → from ≡ distance tail.at.stop q → next ≡ offered best (served_below best.bound limits on.ride on.service on.to_delivery q from tail) i j → next ≡ offered best (with_pair limits places p q i j d) i j
@@ -214,10 +201,9 @@ near-small places j d on small few one within near =
     (record { start = omega arith; load = omega arith; distance = omega arith }, omega arith)
 
 -- ---- a single
-pub offered-single : (limits : Limits) (places : List Row) (s : Stop) (i : ℕ) (d : Row) (best next : Best) (before tail : Row) (to from : ℕ) → before ≡ get_or places (i - 1) d → tail ≡ get_or places i d → to ≡ distance (get_or places (i - 1) d).at.stop s → from ≡ distance tail.at.stop s → next ≡ offered best (served_below best.bound limits (ride_of before.at) before.at.stop.service to s from tail) i i → next ≡ offered best (with_single limits places s i d) i i
-offered-single limits places s i d best next before tail to from is_before is_tail is_to is_from made =
-    let cheap = offer-below best (is_served limits (ride_of before.at) before.at.stop.service to s from tail) (price (ride_of before.at) to from tail) i i in
-    let back : from ≡ distance s (get_or places i d).at.stop = is_from ∙ (distance-back tail.at.stop s ∙ ap (λ (e : Row). distance s e.at.stop) is_tail) in
-    let same : served limits (ride_of before.at) before.at.stop.service to s from tail ≡ served limits (ride_of (get_or places (i - 1) d).at) (get_or places (i - 1) d).at.stop.service (distance (get_or places (i - 1) d).at.stop s) s (distance s (get_or places i d).at.stop) (get_or places i d) =
-    ap (λ (e : Row). served limits (ride_of e.at) e.at.stop.service to s from tail) is_before ∙ (ap (λ n. served limits (ride_of (get_or places (i - 1) d).at) (get_or places (i - 1) d).at.stop.service n s from tail) is_to ∙ (ap (λ n. served limits (ride_of (get_or places (i - 1) d).at) (get_or places (i - 1) d).at.stop.service (distance (get_or places (i - 1) d).at.stop s) s n tail) back ∙ ap (λ (e : Row). served limits (ride_of (get_or places (i - 1) d).at) (get_or places (i - 1) d).at.stop.service (distance (get_or places (i - 1) d).at.stop s) s (distance s (get_or places i d).at.stop) e) is_tail)) in
-    made ∙ (cheap ∙ ap (λ o. offered best o i i) same)
+pub offered-single : (limits : Limits) (places : List Row) (s : Stop) (i : ℕ) (d : Row) (best next : Best) → next ≡ offered best (served_single best.bound limits places s i d) i i → next ≡ offered best (with_single limits places s i d) i i
+offered-single limits places s i d best next made =
+    let before = get_or places (i - 1) d in
+    let tail = get_or places i d in
+    let cheap = offer-below best (is_served limits (ride_of before.at) before.at.stop.service (distance before.at.stop s) s (distance tail.at.stop s) tail) (price (ride_of before.at) (distance before.at.stop s) (distance tail.at.stop s) tail) i i in
+    made ∙ (cheap ∙ rw (distance-back tail.at.stop s) refl)

@@ -8,6 +8,7 @@ use Rattle.slack_tables.specs.Ride.{ride_of, ridden, served_below, IsSmallRide}
 use Rattle.slack_tables.specs.declared.progress.Limits.{Limits}
 use Rattle.slack_tables.specs.declared.progress.Progress.{Progress}
 use Rattle.slack_tables.specs.declared.progress.Row.{Row}
+use Rattle.slack_tables.specs.declared.ride.Ride.{Ride}
 use Rattle.slack_tables.specs.declared.scan.Addition.{Addition}
 use Rattle.slack_tables.specs.declared.scan.Best.{Best}
 use Rattle.slack_tables.specs.declared.scan.Trip.{Trip}
@@ -82,9 +83,13 @@ pub record IsNearUnderway (on : Underway) : Type 0 where
   pub to_delivery : on.to_delivery ≤ 2 ^ 32
   pub onward : on.onward ≤ 2 ^ 32
 
--- at the next place of the table, if it keeps the limits and is not the last
+-- at the next place of the table
+abbrev pub gone_to : Ride → List Row → ℕ → ℕ → Row → Underway
+gone_to r places j to d = record { ride = r; service = (slice_index_or places (j - 1) d).at.stop.service; to_delivery = to; onward = (slice_index_or places j d).at.distance - (slice_index_or places (j - 1) d).at.distance }
+
+-- if it keeps the limits and is not the last
 abbrev pub gone_on : Limits → Underway → List Row → ℕ → ℕ → Row → Option Underway
 gone_on limits on places j to d =
     if nat_lt j (length places)
-    then option_map (λ r. record { ride = r; service = (slice_index_or places (j - 1) d).at.stop.service; to_delivery = to; onward = (slice_index_or places j d).at.distance - (slice_index_or places (j - 1) d).at.distance }) (ridden limits on.ride on.service on.onward (slice_index_or places (j - 1) d).at.stop)
+    then option_map (λ r. gone_to r places j to d) (ridden limits on.ride on.service on.onward (slice_index_or places (j - 1) d).at.stop)
     else None

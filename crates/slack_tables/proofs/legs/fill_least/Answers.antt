@@ -5,16 +5,8 @@ use mir.Val.{SFits}
 use Rattle.std.proofs.lemmas.Int.{to_z-of_z}
 use Rattle.nint_dist.specs.Distance.{distance}
 use Rattle.slack_tables.specs.Legs.{detour_of}
-use Rattle.slack_tables.proofs.LegLemmas.{AreLeastFrom, detour-below, least-last, least-more, least-from}
+use Rattle.slack_tables.proofs.LegLemmas.{AreLeastFrom, detour-below, least-more}
 use Rattle.slack_tables.proofs.legs.fill_least.Goals as goal
-
-pub loop-k-init : goal.loop-k-init
-loop-k-init c = record {
-  behind = let within = c.requires.within in omega arith;
-  least = least-last c.args.places.now c.args.stop.now c.args.least.now _ c.requires.count (let within = c.requires.within in omega arith) (omega arith);
-  from = c.least_leg_at-from.ensures.value;
-  bound = c.least_leg_at-from.ensures.bound;
-}
 
 pub loop-k-preserved : goal.loop-k-preserved
 loop-k-preserved c =
@@ -33,6 +25,3 @@ loop-k-preserved c =
       from = c.least_leg_at-to.ensures.value;
       bound = c.least_leg_at-to.ensures.bound;
     }
-
-pub returns : goal.returns
-returns c = let behind = c.loop-k.invariant.behind in least-from c.args.places.now c.args.stop.now c.args.first c.loop-k.least (let first : c.loop-k.k ≡ c.args.first = omega arith in subst (λ k. AreLeastFrom c.args.places.now c.args.stop.now k c.loop-k.least) first c.loop-k.invariant.least)

@@ -1,19 +1,17 @@
-use Rattle.std.proofs.Common.{◌∙◌, w64, refl, subst, sym, ap, arith}
+use Rattle.std.proofs.Common.{◌∙◌, w64, refl, subst, sym, ap}
 use mir.Val.{SFits}
 use Rattle.std.proofs.lemmas.Int.{to_z-of_z}
+use Rattle.std.proofs.lemmas.Option.{none-some}
 use Rattle.nint_dist.specs.Distance.{distance}
 use Rattle.slack_tables.specs.Best.{IsFirstOf}
 use Rattle.slack_tables.specs.Scan.{AddsDelivery, AreDear}
 use Rattle.slack_tables.specs.declared.progress.Row.{Row}
-use Rattle.slack_tables.proofs.ScanLemmas.{deliveries-none, never-sum}
-use Rattle.slack_tables.proofs.WalkLemmas.{underway-begin, near-begin, not-begun}
+use Rattle.slack_tables.proofs.ScanLemmas.{deliveries-none}
+use Rattle.slack_tables.proofs.WalkLemmas.{underway-begin, not-begun}
 use Rattle.slack_tables.proofs.scan.best_at.Goals as goal
 
 pub best_delivery-requires-clause-underway : goal.best_delivery-requires-clause-underway
 best_delivery-requires-clause-underway c = λ d. underway-begin c.args.trip.now.limits c.args.places.now c.args.trip.now.pickup c.args.trip.now.delivery c.args.i d c.args.trip.now c.small_row-before.result.now c.leg_at-to.result c.leg_at-onward.result refl refl (c.small_row-before.ensures.place d) (c.leg_at-to.ensures.value d ∙ ap (λ (e : Row). distance e.at.stop c.args.trip.now.pickup) (sym (c.small_row-before.ensures.place d))) c.in-Some.first refl c.requires.trip.across (c.leg_at-onward.ensures.value d) (sym c.in-Some.is ∙ c.pick_up.ensures.value)
-
-pub best_delivery-requires-clause-near : goal.best_delivery-requires-clause-near
-best_delivery-requires-clause-near c = λ d. near-begin c.args.trip.now.limits c.args.places.now c.args.trip.now.pickup c.args.trip.now.delivery c.args.i d c.in-Some.first c.in-Some.ensures.near
 
 pub returns-then-are_dear : goal.returns-then-are_dear
 returns-then-are_dear c = λ d.
@@ -21,14 +19,10 @@ returns-then-are_dear c = λ d.
     let dear = subst (λ x. AreDear c.args.trip.now.limits c.args.places.now c.args.trip.now.pickup c.args.trip.now.delivery c.args.i x) (to_z-of_z w64 c.args.below below) (c.are_dear.ensures c.if-are_dear.true) in
     deliveries-none c.args.trip.now.limits c.args.places.now c.args.trip.now.pickup c.args.trip.now.delivery c.args.i d c.args.below (λ j x behind last some. dear j x d behind last some))
 
-pub returns-then-is_closed : goal.returns-then-is_closed
-returns-then-is_closed c = λ d. deliveries-none c.args.trip.now.limits c.args.places.now c.args.trip.now.pickup c.args.trip.now.delivery c.args.i d c.args.below (λ j x behind last some.
-    absurd (never-sum _ x (c.is_closed.ensures c.if-is_closed.true c.args.trip.now.delivery j d (omega arith) last) some))
-
 pub returns-in_default : goal.returns-in_default
 returns-in_default c = λ d. deliveries-none c.args.trip.now.limits c.args.places.now c.args.trip.now.pickup c.args.trip.now.delivery c.args.i d c.args.below (λ j x behind last some.
     (let never = not-begun c.args.trip.now.limits c.args.places.now c.args.trip.now.pickup c.args.trip.now.delivery c.args.i d c.args.trip.now c.small_row-before.result.now c.leg_at-to.result c.leg_at-onward.result refl refl (c.small_row-before.ensures.place d) (c.leg_at-to.ensures.value d ∙ ap (λ (e : Row). distance e.at.stop c.args.trip.now.pickup) (sym (c.small_row-before.ensures.place d))) (sym c.in_default.is ∙ c.pick_up.ensures.value) j behind last in
-    absurd (never-sum _ x never some)))
+    absurd (none-some x (sym never ∙ some))))
 
 pub returns : goal.returns
 returns c = λ d.

@@ -1,13 +1,14 @@
-use Rattle.std.proofs.Common.{false, ◌≡◌, ◌∙◌, ◌+◌, ◌-◌, w64, rules, arith, refl, subst, sym, ap}
+use Rattle.std.proofs.Common.{false, ◌≡◌, ◌∙◌, ◌+◌, ◌-◌, w64, rules, arith, subst, sym, ap}
 use mir.Val.{SFits}
 use Rattle.std.proofs.lemmas.Int.{to_z-of_z}
+use Rattle.std.proofs.lemmas.Option.{none-some}
 use Rattle.nint_dist.specs.Distance.{distance}
 use Rattle.slack_tables.specs.Best.{IsFirstOf}
 use Rattle.slack_tables.specs.Ride.{served_below}
 use Rattle.slack_tables.specs.Scan.{AddsDelivery, offered}
 use Rattle.slack_tables.specs.declared.progress.Row.{Row}
 use Rattle.slack_tables.proofs.DetourLemmas.{first-reach, dear-behind}
-use Rattle.slack_tables.proofs.ScanLemmas.{deliveries-begin, delivery-more, deliveries-stop, never-sum, bits-below}
+use Rattle.slack_tables.proofs.ScanLemmas.{deliveries-begin, delivery-more, deliveries-stop, bits-below}
 use Rattle.slack_tables.proofs.WalkLemmas.{underway-more, near-more, near-small, not-last, over, offered-here}
 use Rattle.slack_tables.specs.Driven.{is_in_time}
 use Rattle.slack_tables.proofs.LateLemmas.{late-delivery}
@@ -26,9 +27,6 @@ pub serve_below-distance-requires-clause-at : goal.serve_below-distance-requires
 serve_below-distance-requires-clause-at c =
     let within = c.loop-j.invariant.within in
     (near-small c.args.places.now c.loop-j.j c.small_row-tail.result.now c.loop-j.on c.requires.places c.requires.few (omega arith) within (c.loop-j.invariant.near c.small_row-tail.result.now)).0
-
-pub serve_below-distance-requires-clause-to : goal.serve_below-distance-requires-clause-to
-serve_below-distance-requires-clause-to c = let to = (c.loop-j.invariant.near c.small_row-tail.result.now).to_delivery in omega arith
 
 pub go_on-requires-clause-ride : goal.go_on-requires-clause-ride
 go_on-requires-clause-ride c =
@@ -61,7 +59,7 @@ returns-then-is_hopeless c = λ d.
     let bound : SFits w64 c.loop-j.best.bound = search rules in
     let served = subst (λ x. c.serve_below-distance.result ≡ served_below x c.args.trip.now.limits c.loop-j.on.ride c.loop-j.on.service c.loop-j.on.to_delivery c.args.trip.now.delivery c.leg_at.result c.small_row-tail.result.now) (to_z-of_z w64 c.loop-j.best.bound bound) c.serve_below-distance.ensures in
     let below : SFits w64 c.args.below = record { sfits = c.ranges.below.sfits } in
-    let so = delivery-more c.args.trip.now.limits c.args.places.now c.args.trip.now.pickup c.args.trip.now.delivery c.args.i d _ c.loop-j.j c.loop-j.best (c.loop-j.invariant.best d) _ c.offer.new.self order within refl
+    let so = delivery-more c.args.trip.now.limits c.args.places.now c.args.trip.now.pickup c.args.trip.now.delivery c.args.i d _ c.loop-j.j c.loop-j.best (c.loop-j.invariant.best d) order within c.offer.new.self
     (offered-here c.args.trip.now.limits c.args.places.now c.args.trip.now.pickup c.args.trip.now.delivery c.args.i d c.loop-j.j c.loop-j.on order within (c.loop-j.invariant.underway d) c.loop-j.best c.offer.new.self c.small_row-tail.result.now c.leg_at.result (c.small_row-tail.ensures.place d) (c.leg_at.ensures.value d ∙ ap (λ (e : Row). distance e.at.stop c.args.trip.now.delivery) (sym (c.small_row-tail.ensures.place d))) (c.offer.ensures ∙ ap (λ o. offered c.loop-j.best o c.args.i c.loop-j.j) served)) in
     let dear = bits-below c.offer.new.self.bound _ (search rules) (c.is_hopeless.ensures.dear c.if-is_hopeless.true) in
     let rest = dear-behind c.args.trip.now.limits c.args.places.now c.args.trip.now.pickup c.args.trip.now.delivery c.args.i d c.requires.ways c.args.least.now c.requires.least c.offer.new.self.bound (c.loop-j.j - 1) _ _ (omega arith) (c.is_hopeless.ensures.within c.if-is_hopeless.true) (let far = first-reach c.args.trip.now.limits c.args.places.now c.args.trip.now.pickup c.args.trip.now.delivery c.args.i d c.requires.ways c.args.first (c.requires.underway d) in omega arith) (ap (λ (e : Row). e.at.distance) (c.small_row-next.ensures.place d)) dear in
@@ -75,11 +73,11 @@ returns-in_default c = λ d.
     let bound : SFits w64 c.loop-j.best.bound = search rules in
     let served = subst (λ x. c.serve_below-distance.result ≡ served_below x c.args.trip.now.limits c.loop-j.on.ride c.loop-j.on.service c.loop-j.on.to_delivery c.args.trip.now.delivery c.leg_at.result c.small_row-tail.result.now) (to_z-of_z w64 c.loop-j.best.bound bound) c.serve_below-distance.ensures in
     let below : SFits w64 c.args.below = record { sfits = c.ranges.below.sfits } in
-    let so = delivery-more c.args.trip.now.limits c.args.places.now c.args.trip.now.pickup c.args.trip.now.delivery c.args.i d _ c.loop-j.j c.loop-j.best (c.loop-j.invariant.best d) _ c.offer.new.self order within refl
+    let so = delivery-more c.args.trip.now.limits c.args.places.now c.args.trip.now.pickup c.args.trip.now.delivery c.args.i d _ c.loop-j.j c.loop-j.best (c.loop-j.invariant.best d) order within c.offer.new.self
     (offered-here c.args.trip.now.limits c.args.places.now c.args.trip.now.pickup c.args.trip.now.delivery c.args.i d c.loop-j.j c.loop-j.on order within (c.loop-j.invariant.underway d) c.loop-j.best c.offer.new.self c.small_row-tail.result.now c.leg_at.result (c.small_row-tail.ensures.place d) (c.leg_at.ensures.value d ∙ ap (λ (e : Row). distance e.at.stop c.args.trip.now.delivery) (sym (c.small_row-tail.ensures.place d))) (c.offer.ensures ∙ ap (λ o. offered c.loop-j.best o c.args.i c.loop-j.j) served)) in
     let rest = over c.args.trip.now.limits c.args.places.now c.args.trip.now.pickup c.args.trip.now.delivery c.args.i d c.loop-j.j c.loop-j.on order within (c.loop-j.invariant.underway d) c.leg_at.result (sym c.in_default.is ∙ c.go_on.ensures.value d) in
     subst (λ x. IsFirstOf (AddsDelivery c.args.trip.now.limits c.args.places.now c.args.trip.now.pickup c.args.trip.now.delivery c.args.i x d) c.offer.new.self.found) (to_z-of_z w64 c.args.below below)
-    (deliveries-stop c.args.trip.now.limits c.args.places.now c.args.trip.now.pickup c.args.trip.now.delivery c.args.i d _ (c.loop-j.j + 1) c.offer.new.self so (λ k x h l some. absurd (never-sum _ x (rest k (omega arith) l) some))))
+    (deliveries-stop c.args.trip.now.limits c.args.places.now c.args.trip.now.pickup c.args.trip.now.delivery c.args.i d _ (c.loop-j.j + 1) c.offer.new.self so (λ k x h l some. absurd (none-some x (sym (rest k (omega arith) l) ∙ some)))))
 
 pub loop-j-preserved : goal.loop-j-preserved
 loop-j-preserved c =
@@ -90,7 +88,7 @@ loop-j-preserved c =
     record {
       order = omega arith;
       within = let more = not-last c.args.trip.now.limits c.args.places.now c.args.trip.now.pickup c.args.trip.now.delivery c.args.i c.small_row-tail.result.now c.loop-j.j c.loop-j.on order within c.leg_at.result c.in-Some.next (sym c.in-Some.is ∙ c.go_on.ensures.value c.small_row-tail.result.now) in omega arith;
-      best = λ d. delivery-more c.args.trip.now.limits c.args.places.now c.args.trip.now.pickup c.args.trip.now.delivery c.args.i d _ c.loop-j.j c.loop-j.best (c.loop-j.invariant.best d) _ c.offer.new.self order within refl
+      best = λ d. delivery-more c.args.trip.now.limits c.args.places.now c.args.trip.now.pickup c.args.trip.now.delivery c.args.i d _ c.loop-j.j c.loop-j.best (c.loop-j.invariant.best d) order within c.offer.new.self
           (offered-here c.args.trip.now.limits c.args.places.now c.args.trip.now.pickup c.args.trip.now.delivery c.args.i d c.loop-j.j c.loop-j.on order within (c.loop-j.invariant.underway d) c.loop-j.best c.offer.new.self c.small_row-tail.result.now c.leg_at.result (c.small_row-tail.ensures.place d) (c.leg_at.ensures.value d ∙ ap (λ (e : Row). distance e.at.stop c.args.trip.now.delivery) (sym (c.small_row-tail.ensures.place d))) (c.offer.ensures ∙ ap (λ o. offered c.loop-j.best o c.args.i c.loop-j.j) served));
       underway = λ d. underway-more c.args.trip.now.limits c.args.places.now c.args.trip.now.pickup c.args.trip.now.delivery c.args.i d c.loop-j.j c.loop-j.on order within (c.loop-j.invariant.underway d) c.requires.ways c.requires.from_one c.leg_at.result c.in-Some.next (c.leg_at.ensures.value d) (sym c.in-Some.is ∙ c.go_on.ensures.value d);
       near = λ d. near-more c.args.trip.now.limits c.args.places.now c.args.trip.now.pickup c.args.trip.now.delivery c.args.i d c.loop-j.j c.loop-j.on order within (c.loop-j.invariant.near d) c.requires.ways c.requires.from_one c.leg_at.result c.in-Some.next c.leg_at.ensures.bound (sym c.in-Some.is ∙ c.go_on.ensures.value d) c.in-Some.ensures.near;
@@ -103,4 +101,4 @@ returns-then-not-is_in_time c = λ d.
     let below : SFits w64 c.args.below = record { sfits = c.ranges.below.sfits } in
     let late : is_in_time c.args.trip.now.limits.kind c.loop-j.on.ride.start c.args.trip.now.delivery.latest ≡ false = subst (λ n. is_in_time c.args.trip.now.limits.kind c.loop-j.on.ride.start n ≡ false) c.from-latest.ensures (sym c.is_in_time.ensures ∙ c.if-not-is_in_time.true) in
     subst (λ x. IsFirstOf (AddsDelivery c.args.trip.now.limits c.args.places.now c.args.trip.now.pickup c.args.trip.now.delivery c.args.i x d) c.loop-j.best.found) (to_z-of_z w64 c.args.below below)
-    (deliveries-stop c.args.trip.now.limits c.args.places.now c.args.trip.now.pickup c.args.trip.now.delivery c.args.i d _ c.loop-j.j c.loop-j.best (c.loop-j.invariant.best d) (λ k x h l some. absurd (never-sum _ x (late-delivery c.args.trip.now.limits c.args.places.now c.args.trip.now.pickup c.args.trip.now.delivery c.args.i d c.loop-j.j k order h l _ (c.loop-j.invariant.underway d).walk late) some))))
+    (deliveries-stop c.args.trip.now.limits c.args.places.now c.args.trip.now.pickup c.args.trip.now.delivery c.args.i d _ c.loop-j.j c.loop-j.best (c.loop-j.invariant.best d) (λ k x h l some. absurd (none-some x (sym (late-delivery c.args.trip.now.limits c.args.places.now c.args.trip.now.pickup c.args.trip.now.delivery c.args.i d c.loop-j.j k order h l _ (c.loop-j.invariant.underway d).walk late) ∙ some)))))

@@ -4,7 +4,6 @@ use Rattle.std.proofs.lemmas.Int.{to_z-of_z}
 use Rattle.nint_dist.specs.Distance.{distance}
 use Rattle.slack_tables.specs.Best.{IsFirstOf}
 use Rattle.slack_tables.specs.Scan.{AddsPair, AddsDelivery}
-use Rattle.slack_tables.proofs.LegLemmas.{least-later}
 use Rattle.slack_tables.proofs.ScanLemmas.{pairs-begin, pair-more, pairs-end, pairs-stop}
 use Rattle.slack_tables.proofs.scan.best_from.Goals as goal
 
@@ -15,9 +14,6 @@ loop-i-init c = record {
   bound = c.least_leg_at-to.ensures.bound;
   best = λ d. pairs-begin c.args.trip.now.limits c.args.places.now c.args.trip.now.pickup c.args.trip.now.delivery (c.args.first - 1) d _ c.args.first _ (let one = c.requires.from_one in omega arith) c.none_below-best.ensures;
 }
-
-pub best_at-requires-clause-least : goal.best_at-requires-clause-least
-best_at-requires-clause-least c = least-later c.args.places.now c.args.trip.now.delivery c.args.first c.loop-i.i c.args.least.now c.loop-i.invariant.behind c.requires.least
 
 pub loop-i-preserved : goal.loop-i-preserved
 loop-i-preserved c =

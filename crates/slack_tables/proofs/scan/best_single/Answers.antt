@@ -1,4 +1,4 @@
-use Rattle.std.proofs.Common.{◌≡◌, ◌∙◌, ◌+◌, ◌-◌, ◌≤◌, w64, rules, get_or, refl, arith, subst, ap}
+use Rattle.std.proofs.Common.{◌≡◌, ◌∙◌, ◌+◌, ◌-◌, ◌≤◌, w64, rules, get_or, arith, subst, ap}
 use mir.Val.{SFits}
 use Rattle.std.proofs.lemmas.Int.{to_z-of_z}
 use Rattle.nint_dist.specs.Distance.{distance}
@@ -26,8 +26,8 @@ loop-i-preserved c =
       bound = c.side_at-from.ensures.bound;
       best = λ d.
           (let served = subst (λ x. c.single_at-distance.result ≡ served_single x c.args.limits c.args.places.now c.args.stop.now c.loop-i.i d) (to_z-of_z w64 c.loop-i.best.bound bound) (c.single_at-distance.ensures d) in
-          single-more c.args.limits c.args.places.now c.args.stop.now c.args.kept d _ c.loop-i.i c.loop-i.best (c.loop-i.invariant.best d) _ c.offer.new.self behind (omega arith) refl
-          (offered-single c.args.limits c.args.places.now c.args.stop.now c.loop-i.i d c.loop-i.best c.offer.new.self (get_or c.args.places.now (c.loop-i.i - 1) d) (get_or c.args.places.now c.loop-i.i d) (distance (get_or c.args.places.now (c.loop-i.i - 1) d).at.stop c.args.stop.now) (distance (get_or c.args.places.now c.loop-i.i d).at.stop c.args.stop.now) refl refl refl refl (c.offer.ensures ∙ ap (λ o. offered c.loop-i.best o c.loop-i.i c.loop-i.i) served)));
+          single-more c.args.limits c.args.places.now c.args.stop.now c.args.kept d _ c.loop-i.i c.loop-i.best (c.loop-i.invariant.best d) behind (omega arith) c.offer.new.self
+          (offered-single c.args.limits c.args.places.now c.args.stop.now c.loop-i.i d c.loop-i.best c.offer.new.self (c.offer.ensures ∙ ap (λ o. offered c.loop-i.best o c.loop-i.i c.loop-i.i) served)));
     }
 
 pub returns : goal.returns

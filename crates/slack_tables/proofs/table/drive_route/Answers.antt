@@ -4,7 +4,7 @@ use Rattle.route_sched.specs.Route.{place}
 use Rattle.slack_tables.specs.Inside.{limits_of, IsInLimits}
 use Rattle.slack_tables.specs.Ride.{ride_of, is_kept}
 use Rattle.slack_tables.proofs.CourseLemmas.{limits-from, limits-to}
-use Rattle.slack_tables.proofs.OpenLemmas.{place-first, at-begin, at-more, within-begin, within-next, open-to-none, open-to-more, open-to-all}
+use Rattle.slack_tables.proofs.OpenLemmas.{place-first, at-begin, at-more, within-begin, within-next, open-to-none, open-to-more}
 use Rattle.slack_tables.proofs.SpliceLemmas.{keeps-false, kept-here, kept-more}
 use Rattle.slack_tables.proofs.table.drive_route.Goals as goal
 
@@ -52,8 +52,3 @@ pub returns-clause-kept : goal.returns-clause-kept
 returns-clause-kept c =
     let p = c.args.problem.now in
     (λ _. limits-from p c.args.route.now (subst (λ n. IsInLimits p.kind p.capacity (place p c.args.route.now) n) (omega arith) c.loop-k.invariant.come.kept), λ _. refl)
-
-pub returns-clause-opened : goal.returns-clause-opened
-returns-clause-opened c = λ _.
-    (let long = c.loop-k.invariant.long in
-    open-to-all (place c.args.problem.now c.args.route.now) (c.loop-k.k + 1) _ c.loop-k.invariant.opened (omega arith))

@@ -2,7 +2,7 @@ use Rattle.std.proofs.Common.{◌≡◌, ◌∙◌, ◌+◌, length, refl, sym, 
 use Rattle.plan_types.specs.Instance.{IsInstance}
 use Rattle.slack_tables.specs.Filled.{EachIsTimely, IsFilled}
 use Rattle.slack_tables.specs.Opened.{leaving, open_row}
-use Rattle.slack_tables.proofs.TableLemmas.{route_timely, route_may_end, course-is, known-as}
+use Rattle.slack_tables.proofs.TableLemmas.{route_timely, course-is, known-as}
 use Rattle.slack_tables.proofs.table.fill.Goals as goal
 
 pub fill_slack-requires-clause-timely : goal.fill_slack-requires-clause-timely
@@ -11,13 +11,6 @@ fill_slack-requires-clause-timely c =
     let kept = c.if-not-drive_route.false in
     let long : length c.drive_route.new.places ≡ length c.args.route.now + 2 = c.drive_route.auto.places ∙ c.requires.count in
     subst (λ q. EachIsTimely q.kind c.drive_route.new.places) (sym c.problem.view_is) (route_timely c.args.problem.now c.args.route.now valid (c.drive_route.ensures.kept.0 kept) c.drive_route.new.places (c.drive_route.ensures.opened kept) long)
-
-pub fill_slack-requires-clause-last : goal.fill_slack-requires-clause-last
-fill_slack-requires-clause-last c =
-    let valid : IsInstance c.args.problem.now = subst (λ q. IsInstance q) c.problem.view_is c.problem.invariant.valid in
-    let kept = c.if-not-drive_route.false in
-    let long : length c.drive_route.new.places ≡ length c.args.route.now + 2 = c.drive_route.auto.places ∙ c.requires.count in
-    route_may_end c.args.problem.now c.args.route.now valid (c.drive_route.ensures.kept.0 kept) c.drive_route.new.places (c.drive_route.ensures.opened kept) long
 
 pub returns-clause-made : goal.returns-clause-made
 returns-clause-made c = λ _.

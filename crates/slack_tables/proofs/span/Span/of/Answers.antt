@@ -2,9 +2,6 @@ use Rattle.std.proofs.Common.{arith}
 use Rattle.slack_tables.proofs.SpanLemmas.{span-more, ends-same}
 use Rattle.slack_tables.proofs.span.Span.of.Goals as goal
 
-pub loop-k-init : goal.loop-k-init
-loop-k-init c = record { some = omega arith; within = c.begun-span.ensures.within; ends = c.begun-span.ensures.ends }
-
 pub loop-k-preserved : goal.loop-k-preserved
 loop-k-preserved c =
     let is = c.loop-k.invariant in
@@ -14,6 +11,3 @@ loop-k-preserved c =
       within = span-more c.args.places.now c.loop-k.k c.loop-k.span c.extended-span.result c.small_row-before.result.now c.small_row-here.result.now (omega arith) is.within c.small_row-before.ensures.place c.small_row-here.ensures.place c.extended-span.ensures.inside c.extended-span.ensures.wider c.extended-span.ensures.edge c.extended-span.ensures.longer c.extended-span.ensures.small;
       ends = ends-same c.loop-k.span c.extended-span.result c.args.places.now c.extended-span.ensures.tips c.extended-span.ensures.load is.ends;
     }
-
-pub returns : goal.returns
-returns c = let is = c.loop-k.invariant in record { count = c.loop-k.k; some = is.some; all = omega arith; within = is.within; ends = is.ends }

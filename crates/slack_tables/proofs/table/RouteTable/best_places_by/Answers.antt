@@ -1,9 +1,6 @@
 use Rattle.std.proofs.Common.{◌∙◌, w64, to_z, of_z, Some, sym, ap, subst}
 use mir.Val.{SFits}
 use Rattle.std.proofs.lemmas.Int.{to_z-of_z}
-use Rattle.plan_types.specs.Request.{IsRequest}
-use Rattle.plan_types.specs.declared.requests.Request.TheVariants.{Single, Pair}
-use Rattle.slack_tables.specs.RequestFloors.{IsAcross}
 use Rattle.slack_tables.specs.Best.{IsFirstOf, IsBestAddition}
 use Rattle.slack_tables.specs.Course.{Course, route_of}
 use Rattle.slack_tables.specs.Scan.{AddsSingle, AddsPair}
@@ -13,18 +10,6 @@ use Rattle.slack_tables.proofs.BestLemmas.{single-best, pair-best, rising}
 use Rattle.slack_tables.specs.Closed.{AreTight}
 use Rattle.slack_tables.proofs.TightLemmas.{tight}
 use Rattle.slack_tables.proofs.table.RouteTable.best_places_by.Goals as goal
-
-pub best_single-requires-clause-stop : goal.best_single-requires-clause-stop
-best_single-requires-clause-stop c =
-    let valid : IsRequest (Single c.in-Single.stop) = subst (λ r. IsRequest r) c.in-Single.is c.requires.request in valid.0.visit
-
-pub best_pair-requires-clause-pickup : goal.best_pair-requires-clause-pickup
-best_pair-requires-clause-pickup c =
-    let valid : IsRequest (Pair c.in-Pair.pickup c.in-Pair.delivery) = subst (λ r. IsRequest r) c.in-Pair.is c.requires.request in valid.0.visit
-
-pub best_pair-requires-clause-delivery : goal.best_pair-requires-clause-delivery
-best_pair-requires-clause-delivery c =
-    let valid : IsRequest (Pair c.in-Pair.pickup c.in-Pair.delivery) = subst (λ r. IsRequest r) c.in-Pair.is c.requires.request in valid.1.visit
 
 pub best_pair-requires-clause-rising : goal.best_pair-requires-clause-rising
 best_pair-requires-clause-rising c = rising c.args.self.now c.rows-places.result.now c.rows-places.ensures.known
@@ -49,9 +34,3 @@ returns-in-Pair c = λ p name valid is named.
     (subst (λ (q : Course). IsFirstOf (AddsPair (limits_of q) c.rows-places.result.now c.in-Pair.pickup c.in-Pair.delivery c.args.kept (to_z w64 (of_z w64 c.args.below)) (open_row (leaving c.in-Pair.pickup))) c.best_pair.result) c.self.view_is (c.best_pair.ensures d)) in
     subst (λ r. IsBestAddition p (route_of c.args.self.now) r c.args.kept c.args.below c.best_pair.result) (sym c.in-Pair.is)
     (pair-best p c.args.self.now c.rows-places.result.now c.rows-places.ensures.known valid is c.requests_are_found_by_stop.ensures name c.args.kept c.args.below d c.in-Pair.pickup c.in-Pair.delivery c.best_pair.result (named ∙ ap (λ r. Some r) c.in-Pair.is) first))
-
-pub best_pair-requires-clause-across : goal.best_pair-requires-clause-across
-best_pair-requires-clause-across c = (subst (λ r. IsAcross r c.args.ways.now) c.in-Pair.is c.requires.ways.across).0
-
-pub best_pair-requires-clause-across_small : goal.best_pair-requires-clause-across_small
-best_pair-requires-clause-across_small c = (subst (λ r. IsAcross r c.args.ways.now) c.in-Pair.is c.requires.ways.across).1

@@ -2,11 +2,8 @@ use Rattle.std.proofs.Common.{◌∙◌, ap, subst, sym, arith}
 use Rattle.slack_tables.specs.declared.progress.Row.{Row}
 use Rattle.slack_tables.specs.Latest.{IsLatestStart}
 use Rattle.slack_tables.specs.Opened.{leaving, open_row}
-use Rattle.slack_tables.proofs.ReadLemmas.{latest-read, any-in-vrp}
+use Rattle.slack_tables.proofs.ReadLemmas.{latest-read}
 use Rattle.slack_tables.proofs.table.RouteTable.latest_start.Goals as goal
-
-pub returns-in-Vrp : goal.returns-in-Vrp
-returns-in-Vrp c = λ p route is. any-in-vrp c.args.self.now c.rows-places.result.now c.rows-places.ensures.known p route is c.args.place (sym (ap (λ q. q.kind) c.self.view_is) ∙ c.in-Vrp.is)
 
 pub returns-in-LiLim : goal.returns-in-LiLim
 returns-in-LiLim c = λ p route is.

@@ -1,13 +1,8 @@
 use Rattle.std.proofs.Common.{w64, subst}
 use mir.Val.{SFits}
 use Rattle.std.proofs.lemmas.Int.{to_z-of_z}
-use Rattle.slack_tables.specs.Course.{Course}
 use Rattle.slack_tables.specs.FitsNowhere.{FitsNowhere}
-use Rattle.slack_tables.specs.RequestFloors.{AreFloors}
 use Rattle.slack_tables.proofs.table.RouteTable.rules_out.Goals as goal
-
-pub rules_out_by-requires : goal.rules_out_by-requires
-rules_out_by-requires c = subst (λ (q : Course). AreFloors q.depot c.args.request.now c.floors-ways.result) c.self.view_is c.floors-ways.ensures
 
 pub returns : goal.returns
 returns c = λ out.

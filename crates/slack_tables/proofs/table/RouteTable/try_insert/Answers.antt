@@ -1,6 +1,5 @@
 use Rattle.std.proofs.Common.{◌≡◌, ◌∙◌, length, Option, Some, None, refl, sym, ap, subst}
 use Rattle.std.specs.Prelude.{IsSome, IsSomeAnd, IfSome}
-use Rattle.plan_types.specs.Request.{IsRequest}
 use Rattle.plan_types.specs.declared.requests.Request.{Request}
 use Rattle.plan_types.specs.declared.requests.Request.TheVariants.{Single, Pair}
 use Rattle.slack_tables.specs.Course.{Course, route_of}
@@ -13,21 +12,6 @@ use Rattle.slack_tables.proofs.table.RouteTable.try_insert.Goals as goal
 some-from : (P : Request → Type 0) (o : Option Request) → IsSomeAnd o P → IsSome o
 some-from P None h = absurd h
 some-from P (Some r) h = refl
-
-pub live_request-requires : goal.live_request-requires
-live_request-requires c = some-from _ (request_named c.args.problem.now c.args.name) c.requires.places
-
-pub single_added-requires-clause-stop : goal.single_added-requires-clause-stop
-single_added-requires-clause-stop c =
-    let valid : IsRequest (Single c.in-Single.stop) = subst (λ r. IsRequest r) c.in-Single.is c.live_request.ensures.request in valid.0.visit
-
-pub pair_added-requires-clause-pickup : goal.pair_added-requires-clause-pickup
-pair_added-requires-clause-pickup c =
-    let valid : IsRequest (Pair c.in-Pair.pickup c.in-Pair.delivery) = subst (λ r. IsRequest r) c.in-Pair.is c.live_request.ensures.request in valid.0.visit
-
-pub pair_added-requires-clause-delivery : goal.pair_added-requires-clause-delivery
-pair_added-requires-clause-delivery c =
-    let valid : IsRequest (Pair c.in-Pair.pickup c.in-Pair.delivery) = subst (λ r. IsRequest r) c.in-Pair.is c.live_request.ensures.request in valid.1.visit
 
 pub returns-in-Single : goal.returns-in-Single
 returns-in-Single c =
