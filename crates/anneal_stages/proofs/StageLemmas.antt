@@ -87,8 +87,3 @@ stops_more es k count all so_far = elim (slice_get_cases es k).1 [
       let is : option_map_or count_of (slice_get es k) 0 ≡ 0 = ap (λ o. option_map_or count_of o 0) past.1 in
       omega (arith, here, later, is, so_far))
 ]
-
-pub stops_end : (es : List (ℕ × Request)) (k count all : ℕ) → length es ≤ k → count + length (numbers_among (drop k es)) ≡ all → count ≡ all
-stops_end es k count all past so_far =
-    let here : length (numbers_among (drop k es)) ≡ 0 = ap (λ l. length (numbers_among l)) (drop_all k es past) in
-    omega (arith, here, so_far)
