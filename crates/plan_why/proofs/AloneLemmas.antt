@@ -1,5 +1,5 @@
 -- A route exceeds no limit exactly where it keeps them, and then a request alone is feasible by the auditor's rules.
-use Rattle.std.proofs.Common.{◌≡◌, ◌∙◌, ℕ, zero, suc, ◌+◌, ◌-◌, ◌<◌, ◌≤◌, ◌≤ℤ◌, ◌<ℤ◌, ℤ, pos, int_lt, ltb, ◌&&◌, Bool, true, false, T, List, [], map, length, get_or, slice_get, Option, Some, None, refl, sym, ap, subst, arith, inl, inr, nat_eq}
+use Rattle.std.proofs.Common.{◌≡◌, ◌∙◌, ℕ, zero, suc, ◌+◌, ◌-◌, ◌<◌, ◌≤◌, ◌≤ℤ◌, ◌<ℤ◌, ℤ, pos, int_lt, ltb, Bool, true, false, T, List, [], map, length, get_or, slice_get, Option, Some, None, refl, sym, ap, subst, arith, inl, inr, nat_eq}
 use Rattle.std.specs.List.{find, range_with_len}
 use Rattle.std.specs.Map.{lookup}
 use Rattle.std.specs.Option.{option_map, option_or}
@@ -53,10 +53,6 @@ or_none None b none = (refl, none)
 or_none (Some x) b none = absurd (none_some x (sym none))
 
 -- ---- tests
-and_false : (a : Bool) → (a && false) ≡ false
-and_false true = refl
-and_false false = refl
-
 pub at_most : (most l : ℤ) → int_lt most l ≡ false → l ≤ℤ most
 at_most most l fails = by_lt_z {P = l ≤ℤ most} most l (λ above. absurd (subst T fails above.lt)) (λ le. le)
 

@@ -1,10 +1,10 @@
 -- Trials place by place.
-use Rattle.std.proofs.Common.{◌≡◌, ◌∙◌, ℕ, suc, ◌+◌, ◌-◌, ◌<◌, ◌≤◌, List, [], ◌∷◌, ◌++◌, map, length, Option, refl, ap, arith}
+use Rattle.std.proofs.Common.{◌≡◌, ◌∙◌, ℕ, suc, ◌+◌, ◌-◌, ◌<◌, List, [], ◌∷◌, ◌++◌, map, length, Option, refl, ap, arith}
 use Rattle.std.specs.List.{flat_map, range_with_len}
 use Rattle.plan_types.specs.Instance.{Instance}
 use Rattle.plan_types.specs.declared.requests.Request.TheVariants.{Pair, Single}
 use Rattle.plan_types.specs.declared.requests.Stop.{Stop}
-use Rattle.plan_why.specs.Trials.{best_from, better, trial_at, trials}
+use Rattle.plan_why.specs.Trials.{best_from, better, trial_at}
 use Rattle.plan_why.specs.declared.trials.Trial.{Trial}
 
 -- the numbers from a to before e
@@ -16,9 +16,6 @@ more_of a n m is = ap (range_with_len a) is
 
 pub up_more : (a e : ℕ) → a < e → up_to a e ≡ a ∷ up_to (a + 1) e
 up_more a e below = more_of a (e - a) (e - (a + 1)) (omega arith)
-
-pub up_none : (a e : ℕ) → e ≤ a → up_to a e ≡ []
-up_none a e done = let h : e - a ≡ 0 = omega arith in ap (range_with_len a) h
 
 best_both : (best : Option Trial) (ts us : List Trial) → best_from best (ts ++ us) ≡ best_from (best_from best ts) us
 best_both best [] us = refl
@@ -33,28 +30,16 @@ module _ (p : Instance) (route : List ℕ) where
   abbrev pub singles : Stop → ℕ → List Trial
   singles s place = map (trial_at p route (Single s)) (map (λ i. (i, i)) (up_to place (length route + 2)))
 
-  pub single_first : (s : Stop) (kept : ℕ) → trials p route (Single s) kept ≡ singles s (kept + 1)
-  single_first s kept = ap (λ n. map (trial_at p route (Single s)) (map (λ i. (i, i)) (range_with_len (kept + 1) n))) (omega arith)
-
   pub single_next : (s : Stop) (best : Option Trial) (place : ℕ) → place < length route + 2 → best_from best (singles s place) ≡ best_from (better best (trial_at p route (Single s) (place, place))) (singles s (place + 1))
   single_next s best place below = ap (λ l. best_from best (map (trial_at p route (Single s)) (map (λ i. (i, i)) l))) (up_more place (length route + 2) below)
-
-  pub single_last : (s : Stop) (best : Option Trial) (place : ℕ) → length route + 2 ≤ place → best_from best (singles s place) ≡ best
-  single_last s best place done = ap (λ l. best_from best (map (trial_at p route (Single s)) (map (λ i. (i, i)) l))) (up_none place (length route + 2) done)
 
   module _ (a b : Stop) where
     -- those of a pair with the pickup at a place, the delivery from this place on
     abbrev pub deliveries : ℕ → ℕ → List Trial
     deliveries i behind = map (trial_at p route (Pair a b)) (map (λ j. (i, j)) (up_to behind (length route + 3)))
 
-    pub delivery_first : (i : ℕ) → i ≤ length route + 1 → map (trial_at p route (Pair a b)) (map (λ j. (i, j)) (range_with_len (i + 1) (length route + 2 - i))) ≡ deliveries i (i + 1)
-    delivery_first i within = ap (λ n. map (trial_at p route (Pair a b)) (map (λ j. (i, j)) (range_with_len (i + 1) n))) (omega arith)
-
     pub delivery_next : (best : Option Trial) (i behind : ℕ) → behind < length route + 3 → best_from best (deliveries i behind) ≡ best_from (better best (trial_at p route (Pair a b) (i, behind))) (deliveries i (behind + 1))
     delivery_next best i behind below = ap (λ l. best_from best (map (trial_at p route (Pair a b)) (map (λ j. (i, j)) l))) (up_more behind (length route + 3) below)
-
-    pub delivery_last : (best : Option Trial) (i behind : ℕ) → length route + 3 ≤ behind → best_from best (deliveries i behind) ≡ best
-    delivery_last best i behind done = ap (λ l. best_from best (map (trial_at p route (Pair a b)) (map (λ j. (i, j)) l))) (up_none behind (length route + 3) done)
 
     -- the places with the pickup at this one
     abbrev pub places_at : ℕ → List (ℕ × ℕ)
@@ -64,14 +49,8 @@ module _ (p : Instance) (route : List ℕ) where
     abbrev pub pairs : ℕ → List Trial
     pairs place = map (trial_at p route (Pair a b)) (flat_map places_at (up_to place (length route + 2)))
 
-    pub pair_first : (kept : ℕ) → trials p route (Pair a b) kept ≡ pairs (kept + 1)
-    pair_first kept = ap (λ n. map (trial_at p route (Pair a b)) (flat_map places_at (range_with_len (kept + 1) n))) (omega arith)
-
     pub pair_next : (best : Option Trial) (place : ℕ) → place < length route + 2 → best_from best (pairs place) ≡ best_from (best_from best (map (trial_at p route (Pair a b)) (places_at place))) (pairs (place + 1))
     pair_next best place below =
         ap (λ l. best_from best (map (trial_at p route (Pair a b)) (flat_map places_at l))) (up_more place (length route + 2) below)
         ∙ ap (best_from best) (map_both (trial_at p route (Pair a b)) (places_at place) (flat_map places_at (up_to (place + 1) (length route + 2))))
         ∙ best_both best (map (trial_at p route (Pair a b)) (places_at place)) (pairs (place + 1))
-
-    pub pair_last : (best : Option Trial) (place : ℕ) → length route + 2 ≤ place → best_from best (pairs place) ≡ best
-    pair_last best place done = ap (λ l. best_from best (map (trial_at p route (Pair a b)) (flat_map places_at l))) (up_none place (length route + 2) done)

@@ -1,10 +1,9 @@
 //! The whole answer.
 ghost use Rattle.std.specs.Prelude.{◌≡◌, ◌++◌, ◌+◌, true, All, IfOk, OnOk, length, string_bytes};
 ghost use Rattle.std.specs.Option.{option_map};
-ghost use Rattle.route_sched.specs.Cost.{has_stop, is_planned};
+ghost use Rattle.route_sched.specs.Cost.{is_planned};
 ghost use Rattle.route_sched.specs.Route.{AreLiveOnce};
-ghost use Rattle.plan_audit.specs.Passes.{has, passes};
-ghost use Rattle.move_ops.specs.Insertion.{of_vehicle};
+ghost use Rattle.plan_audit.specs.Passes.{passes};
 ghost use Rattle.plan_why.specs.Missed.{miss_of};
 ghost use Rattle.plan_why.specs.Trials.{MayTake};
 ghost use Rattle.plan_why.specs.Why.{alone_route, alone_text, is_stop_of, reason_text, services_from, services_in, services_text, tried_text, unplanned_text, used_trial, vehicles_from, why_named};
@@ -14,6 +13,7 @@ use crate::missed::{Miss, miss_of};
 use crate::sentences::{put_alone, put_fleet, put_service, put_trial};
 use crate::trials::{Trial, best_trial};
 use crate::words::{Word, put_word};
+use move_ops::{has_stop, of_vehicle};
 use plan_audit::{passes_are_local, plans_are_local};
 use plan_explain::{Row, rows_of};
 use plan_types::{OutOfMemory, Pins, Plan, Problem, Request, Route, requests_are_found_by_stop};
@@ -123,24 +123,6 @@ fn is_planned(routes: &[Route], request: &Request) -> bool
             has_stop(routes, pickup.number) || has_stop(routes, delivery.number)
         }
     }
-}
-
-#[tactic(auto, using(move_ops::proofs::Times::has_stop_more))]
-fn has_stop(routes: &[Route], number: u32) -> bool
-    ensures { result ≡ has_stop routes.now number }
-{
-    for route in routes {
-        if is_in(route.as_slice(), number) {
-            return true;
-        }
-    }
-    false
-}
-
-fn is_in(route: &[u32], number: u32) -> bool
-    ensures { result ≡ has route.now number }
-{
-    route.contains(&number)
 }
 
 // Appends each service of the request.
@@ -276,21 +258,12 @@ fn put_vehicles(
         ++ vehicles_from lead.now problem.now pins.now request.now 1 routes.now) }
 {
     for (place, route) in routes.iter().enumerate() {
-        let kept = pinned(pins, place);
+        let vehicle = place as u64 + 1;
+        let kept = of_vehicle(pins, vehicle).len();
         let best = used_trial(alloc, problem, request, kept, route.as_slice())?;
-        put_trial(text, lead, place as u64 + 1, &best)?;
+        put_trial(text, lead, vehicle, &best)?;
     }
     Ok(())
-}
-
-// How many stops are pinned of the vehicle at this place of the fleet.
-fn pinned(pins: &[Route], place: usize) -> usize
-    ensures { result ≡ length (of_vehicle pins.now (place + 1)) }
-{
-    match pins.get(place) {
-        Some(pin) => pin.as_slice().len(),
-        None => 0,
-    }
 }
 
 // The best trial with a vehicle, if it is used.
