@@ -106,9 +106,13 @@ lead_of Tabs = Tabbed
 abbrev pub unplanned_block : Form → Instance → List (List ℕ) → List (List ℕ) → ℕ → List ℕ
 unplanned_block form p pins routes n = unplanned_line form n ++ reason_text (lead_of form) p pins routes n
 
+-- what stands before these requests, where there are any
+abbrev pub gap : Form → List ℕ → List ℕ
+gap form names = if length names == 0 then [] else word form Gap
+
 -- each of these requests
 abbrev pub unplanned_text : Form → Instance → List (List ℕ) → List (List ℕ) → List ℕ → List ℕ
-unplanned_text form p pins routes names = (if length names == 0 then [] else word form Gap) ++ flat_map (unplanned_block form p pins routes) names
+unplanned_text form p pins routes names = gap form names ++ flat_map (unplanned_block form p pins routes) names
 
 -- the whole timetable, with these pins and the names of the unplanned requests
 abbrev pub timetable_text : Form → Instance → List (List ℕ) → List (List ℕ) → List ℕ → List ℕ

@@ -1,8 +1,7 @@
 //! The whole timetable.
 ghost use Rattle.std.specs.Prelude.{◌≡◌, ◌++◌, All, IfOk, OnOk, string_bytes};
-ghost use Rattle.std.specs.List.{flat_map};
 ghost use Rattle.route_sched.specs.Route.{AreLiveOnce};
-ghost use Rattle.plan_timetable.specs.Timetable.{lead_of, timetable_text, unplanned_block, unplanned_line, unplanned_text, vehicle_text};
+ghost use Rattle.plan_timetable.specs.Timetable.{gap, lead_of, timetable_text, unplanned_block, unplanned_line, unplanned_text, vehicle_text};
 
 use crate::cells::{put_named, put_word};
 use crate::forms::Form;
@@ -67,32 +66,23 @@ fn put_unplanned(
     ensures { OnOk result (string_bytes text.new ≡ string_bytes text.old
         ++ unplanned_text form problem.now pins.now routes.now names.now) }
 {
-    if names.is_empty() {
-        return Ok(());
-    }
-    put_word(text, form, Word::Gap)?;
-    put_names(alloc, text, form, problem, pins, routes, names)
-}
-
-fn put_names(
-    alloc: Global,
-    text: &mut String,
-    form: Form,
-    problem: &Problem,
-    pins: &[Route],
-    routes: &[Route],
-    names: &[u32],
-) -> Result<(), OutOfMemory>
-    requires { All (AreLiveOnce problem.now) routes.now }
-    ensures { OnOk result (string_bytes text.new ≡ string_bytes text.old
-        ++ flat_map (unplanned_block form problem.now pins.now routes.now) names.now) }
-{
+    put_gap(text, form, names)?;
     for name in names {
         put_name(text, form, *name)?;
         let reason = reason(alloc, lead_of(form), problem, pins, routes, *name)?;
         text.push_str(reason.as_str())?;
     }
     Ok(())
+}
+
+// Appends what stands before them, where there are any.
+fn put_gap(text: &mut String, form: Form, names: &[u32]) -> Result<(), OutOfMemory>
+    ensures { OnOk result (string_bytes text.new ≡ string_bytes text.old ++ gap form names.now) }
+{
+    if names.is_empty() {
+        return Ok(());
+    }
+    put_word(text, form, Word::Gap)
 }
 
 fn put_name(text: &mut String, form: Form, name: u32) -> Result<(), OutOfMemory>
