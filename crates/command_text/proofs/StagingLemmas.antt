@@ -139,9 +139,6 @@ module _ (from to : ℕ) where
   unfolding staged_within
   none_follows j e = ap (λ o. in_stage (staging from to (staged_within from to (to - j.steps))) o j) e
 
-  pub none_in_stage : (j : JobValue) → stage_of from to j.steps ≡ None → commands_in_stage from to j ≡ []
-  none_in_stage j e = ap (λ o. in_stage (annealing from to (staged_within from to (to - j.steps))) o j) e
-
   pub next_in_stage : (j : JobValue) (k : ℕ) → stage_of from to j.steps ≡ Some k
       → commands_in_stage from to j ≡ Anneal (piece_in from to k j) ∷ stage_commands from to (annealed j (piece_in from to k j))
   next_in_stage j k e =

@@ -10,6 +10,7 @@ ghost use Rattle.seeded_search.specs.Steps.{unplanned_names};
 ghost use Rattle.command_text.specs.Questions.{name_refusal, question_refusal, question_text, vehicle_refusal};
 
 use command_core::{Job, Refusal, unplanned_names};
+use move_ops::of_vehicle;
 use plan_audit::{passes_are_local, plans_are_local};
 use plan_timetable::{Form, timetable, vehicle_timetable};
 use plan_types::{OutOfMemory, Pins, Plan, Problem, Route};
@@ -100,8 +101,9 @@ fn vehicle_day(
     ensures { IfOk result (λ text. string_bytes text
         ≡ vehicle_text Columns problem.now vehicle (of_vehicle routes.now vehicle)) }
 {
+    let vehicle = u64::from(vehicle);
     let route = of_vehicle(routes, vehicle);
-    vehicle_timetable(alloc, problem, u64::from(vehicle), route, Form::Columns)
+    vehicle_timetable(alloc, problem, vehicle, route, Form::Columns)
 }
 
 // Why the request of this name is where it is; no line where there is none.
@@ -119,18 +121,5 @@ fn reason(
     match why(alloc, problem, pins, plan, name)? {
         Some(text) => Ok(text),
         None => Ok(String::new(alloc)),
-    }
-}
-
-// The route of a vehicle; none where there is no such vehicle.
-fn of_vehicle(routes: &[Route], vehicle: u32) -> &[u32]
-    ensures { result.now ≡ of_vehicle routes.now vehicle }
-{
-    if vehicle == 0 {
-        return &[];
-    }
-    match routes.get((vehicle - 1) as usize) {
-        Some(route) => route.as_slice(),
-        None => &[],
     }
 }

@@ -4,4 +4,4 @@ use Rattle.command_text.proofs.RouteLemmas.{vehicle_once}
 use Rattle.command_text.proofs.questions.vehicle_day.Goals as goal
 
 pub vehicle_timetable-requires : goal.vehicle_timetable-requires
-vehicle_timetable-requires c = subst (AreLiveOnce c.args.problem.now) (sym c.of_vehicle-route.ensures) (vehicle_once c.args.problem.now c.args.routes.now c.args.vehicle c.requires)
+vehicle_timetable-requires c = subst (AreLiveOnce c.args.problem.now) (sym c.of_vehicle-route.ensures) (vehicle_once c.args.problem.now c.args.routes.now _ c.requires)
