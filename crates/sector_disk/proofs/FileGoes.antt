@@ -7,7 +7,7 @@ use Rattle.sector_disk.specs.MemoryLaws.{whole_sectors}
 use Rattle.sector_disk.specs.FileRecord.{Entry, events_in, file_history, AnswersAsModel, all_inside}
 use Rattle.sector_disk.specs.FileCalls.{write_entry, sync_entry}
 use Rattle.sector_disk.specs.FileLaws.{file_reads_possible}
-use Rattle.sector_disk.proofs.Goes.{WriteCase, SyncCase, finishes, shows, syncs, sync_shows, Writes, Syncs, write_means, sync_means}
+use Rattle.sector_disk.proofs.Goes.{WriteCase, SyncCase, finishes, tears, syncs, stays, quiet_show, Writes, Syncs, write_means, sync_means}
 
 module _ (n after : ℕ) (start : Disk) (shown : ℕ → List ℕ) (old new : List Entry) (sectors : after ≡ n) where
   -- what was honest after one entry more was so before it
@@ -23,11 +23,11 @@ module _ (n after : ℕ) (start : Disk) (shown : ℕ → List ℕ) (old new : Li
     write_goes false first bytes more counted =
         let image = shown (length old) in
         let none = finished-append (sectors_from first bytes (length bytes / 512)) (Show image ∷ []) in
-        shows image (record { sectors = sectors; start = refl; events = ap (events_in shown) more; calls = omega (arith, counted, none, finished-sectors_from first bytes (length bytes / 512)) })
+        tears (length bytes / 512) (omega arith) (Show image ∷ []) (quiet_show image) (record { sectors = sectors; start = refl; events = ap (events_in shown) more; calls = omega (arith, counted, none, finished-sectors_from first bytes (length bytes / 512)) })
 
     pub sync_goes : (ok : Bool) → new ≡ sync_entry ok ∷ old → new_calls ≡ (if ok then calls + 1 else calls) → SyncCase (file_history n start shown old calls) (file_history after start shown new new_calls) ok
     sync_goes true more counted = syncs (record { sectors = sectors; start = refl; events = ap (events_in shown) more; calls = omega (arith, counted) })
-    sync_goes false more counted = sync_shows (shown (length old)) (record { sectors = sectors; start = refl; events = ap (events_in shown) more; calls = omega (arith, counted) })
+    sync_goes false more counted = stays (Show (shown (length old)) ∷ []) (quiet_show (shown (length old))) (record { sectors = sectors; start = refl; events = ap (events_in shown) more; calls = omega (arith, counted) })
 
   -- what reads gave before a call was possible
   pub possible_before : (entry : Entry) (calls : ℕ) → new ≡ entry ∷ old → IsTrue (all_inside (512 * n) old) → AnswersAsModel after start shown new
@@ -53,7 +53,7 @@ module _ {T E : Type 0} (n after : ℕ) (start : Disk) (shown : ℕ → List ℕ
     pub file_writes : Writes before now first bytes result
     file_writes =
         let possible = possible_before n after start shown old new sectors (write_entry (is_ok result) first bytes) calls more inside honest in
-        write_means before now first bytes size within possible result (write_goes n after start shown old new sectors calls new_calls (is_ok result) first bytes more counted)
+        write_means before first bytes size within possible now result (write_goes n after start shown old new sectors calls new_calls (is_ok result) first bytes more counted)
 
   pub file_syncs : new ≡ sync_entry (is_ok result) ∷ old → Syncs before now result
   file_syncs more =

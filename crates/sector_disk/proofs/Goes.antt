@@ -1,280 +1,157 @@
 -- What a call of a device means for its images.
-use Rattle.std.proofs.Common.{◌≡◌, ◌⊎◌, inl, inr, ⊎_elim, ℕ, zero, suc, ◌+◌, ◌*◌, ◌/◌, ◌<◌, ◌≤◌, Bool, true, false, List, [], ◌∷◌, ◌++◌, length, take, drop, refl, sym, ◌∙◌, ap, subst, arith, length-append, Result, Ok, Err, is_ok}
-use Rattle.std.proofs.lemmas.List.{append-nil, take-append-le, drop-append-le, take_all, drop_all}
+use Rattle.std.proofs.Common.{◌≡◌, ◌⊎◌, inl, inr, ⊎_elim, ℕ, suc, ◌+◌, ◌*◌, ◌/◌, ◌<◌, ◌≤◌, Bool, true, false, List, [], ◌∷◌, ◌++◌, length, take, drop, refl, sym, ◌∙◌, ap, subst, arith, length-append, Result, Ok, Err, is_ok}
+use Rattle.std.proofs.lemmas.List.{take-append-le, drop-append-le, take_all, drop_all}
 use Rattle.std.proofs.lemmas.Bool.{cases_lt, false≢true}
-use Rattle.std.specs.Prelude.{OnOk, OnErr}
+use Rattle.std.specs.Prelude.{IsOk, OnOk, OnErr}
 use Rattle.std.specs.List.{Contains}
 use Rattle.sector_disk.specs.Image.{sector, written}
-use Rattle.sector_disk.specs.Model.{Disk, Event, Finish, Sync, Show, next, run, IsImage, sectors_from, finished, MightHaveLeft}
+use Rattle.sector_disk.specs.Model.{Disk, Event, Finish, Sync, Show, run, IsImage, sectors_from, finished}
 use Rattle.sector_disk.specs.ModelLaws.{run-append, seen-sectors_from, finished-append, length-sectors_from, finished-sectors_from, finished-drop_sectors, take-sectors_from, image_later, image_reached, image_from_reached, settled_only, left_before, left_within, left_cases}
-use Rattle.sector_disk.specs.Sectors.{Reached, AddsContents, Only, SameImages, Elapses}
+use Rattle.sector_disk.specs.Sectors.{Reached, AddsContents, Only, SameImages, Passes}
 use Rattle.sector_disk.specs.History.{History, disk_in, seen_in, MayLeaveIn, clock_in, MayHaveLeftIn}
 
--- the new history is the old one with these events more
+-- the history with these events more
+abbrev after : History → List Event → History
+after old more = record { sectors = old.sectors; start = old.start; events = old.events ++ more; calls = old.calls + finished more }
+
+-- the new history is that
 pub record GoesOn (old new : History) (more : List Event) : Type 0 where
   pub sectors : new.sectors ≡ old.sectors
   pub start : new.start ≡ old.start
   pub events : new.events ≡ old.events ++ more
   pub calls : new.calls ≡ old.calls + finished more
 
-disk_is : (old new : History) (more : List Event) → GoesOn old new more → disk_in new ≡ run (disk_in old) more
-disk_is old new more on =
-    ap (λ (d : Disk). run d new.events) on.start ∙ ap (run old.start) on.events ∙ run-append old.start old.events more
+is_after : (old new : History) (more : List Event) → GoesOn old new more → new ≡ after old more
+is_after old new more on = rw (← on.sectors, ← on.start, ← on.events, ← on.calls) refl
 
-may_leave : (old new : History) (more : List Event) → GoesOn old new more → (image : List ℕ) → MayLeaveIn new image → IsImage old.sectors (run (disk_in old) more) image
-may_leave old new more on image is =
-    subst (λ (d : Disk). IsImage old.sectors d image) (disk_is old new more on) (subst (λ (n : ℕ). IsImage n (disk_in new) image) on.sectors is)
+-- no event, or one that changes no content
+pub record IsQuiet (rest : List Event) : Type 0 where
+  pub few : length rest ≤ 1
+  pub same : (d : Disk) (i : ℕ) → (run d rest).contents i ≡ d.contents i
 
-may_leave_new : (old new : History) (more : List Event) → GoesOn old new more → (image : List ℕ) → IsImage old.sectors (run (disk_in old) more) image → MayLeaveIn new image
-may_leave_new old new more on image is =
-    subst (λ (n : ℕ). IsImage n (disk_in new) image) (sym on.sectors) (subst (λ (d : Disk). IsImage old.sectors d image) (sym (disk_is old new more on)) is)
+pub quiet_none : IsQuiet []
+quiet_none = record { few = omega arith; same = λ d i. refl }
 
-left : (old new : History) (more : List Event) → GoesOn old new more → (t m : ℕ) (image : List ℕ) → MayHaveLeftIn new t m image
-    → MightHaveLeft old.sectors old.start (old.events ++ more) (old.calls + finished more) t m image
-left old new more on t m image is =
-    subst (λ (c : ℕ). MightHaveLeft old.sectors old.start (old.events ++ more) c t m image) on.calls
-    (subst (λ (l : List Event). MightHaveLeft old.sectors old.start l new.calls t m image) on.events
-    (subst (λ (d : Disk). MightHaveLeft old.sectors d new.events new.calls t m image) on.start
-    (subst (λ (n : ℕ). MightHaveLeft n new.start new.events new.calls t m image) on.sectors is)))
+pub quiet_show : (image : List ℕ) → IsQuiet (Show image ∷ [])
+quiet_show image = record { few = omega arith; same = λ d i. refl }
 
-left_new : (old new : History) (more : List Event) → GoesOn old new more → (t m : ℕ) (image : List ℕ) → MightHaveLeft old.sectors old.start (old.events ++ more) (old.calls + finished more) t m image
-    → MayHaveLeftIn new t m image
-left_new old new more on t m image is =
-    subst (λ (n : ℕ). MightHaveLeft n new.start new.events new.calls t m image) (sym on.sectors)
-    (subst (λ (d : Disk). MightHaveLeft old.sectors d new.events new.calls t m image) (sym on.start)
-    (subst (λ (l : List Event). MightHaveLeft old.sectors old.start l new.calls t m image) (sym on.events)
-    (subst (λ (c : ℕ). MightHaveLeft old.sectors old.start (old.events ++ more) c t m image) (sym on.calls) is)))
+with_same : (n : ℕ) (a b : Disk) (image : List ℕ) → ((i : ℕ) → a.contents i ≡ b.contents i) → IsImage n a image → IsImage n b image
+with_same n a b image same is = record { size = is.size; each = λ i lt. subst (λ (xs : List (List ℕ)). Contains xs (sector i image)) (same i) (is.each i lt) }
 
--- time goes on, if each moment of the new events is within the call or after it
-pub elapses : (old new : History) (more : List Event) → GoesOn old new more → (within : List ℕ → Type 0)
-    → ((j m : ℕ) (image : List ℕ) → j ≤ length more → m + finished (drop j more) ≡ old.calls + finished more → IsImage old.sectors (run (disk_in old) (take j more)) image
-    → ((m ≡ old.calls) × within image) ⊎ ((m ≡ new.calls) × MayLeaveIn new image))
-    → Elapses (clock_in old) (clock_in new) (MayHaveLeftIn old) (MayHaveLeftIn new) old.calls new.calls within (MayLeaveIn new)
-elapses old new more on within each = record {
-  later = omega (arith, ap length on.events, length-append old.events more);
-  nothing_else = λ t m image le is. ⊎_elim
-      (λ past. inl past)
-      (λ now. inr (each now.0 m image now.1 now.2 now.3))
-      (left_cases old.sectors old.start old.events more old.calls t m image (left old new more on t m image is));
-  keeps = λ t m image le past. left_new old new more on t m image (left_before old.sectors old.start old.events more old.calls t m image past);
-}
+abbrev PassesIn : History → History → (List ℕ → Type 0) → Type 0
+PassesIn old new within = Passes clock_in MayHaveLeftIn (λ (c : History). c.calls) MayLeaveIn within old new
 
--- a call that changes no content
-pub unchanged_images : (old new : History) → GoesOn old new [] → SameImages (MayLeaveIn old) (MayLeaveIn new)
-unchanged_images old new on = record { nothing_else = may_leave old new [] on; keeps = may_leave_new old new [] on }
+-- a call of which k sectors were written, and behind which comes one event more or none
+module _ (old : History) (first k : ℕ) (bytes : List ℕ) (rest : List Event) where
+  abbrev sectors : List Event
+  sectors = sectors_from first bytes k
 
-pub unchanged_moments : (old new : History) → GoesOn old new [] → (within : List ℕ → Type 0) → ((image : List ℕ) → MayLeaveIn old image → within image)
-    → Elapses (clock_in old) (clock_in new) (MayHaveLeftIn old) (MayHaveLeftIn new) old.calls new.calls within (MayLeaveIn new)
-unchanged_moments old new on within is_within = elapses old new [] on within (λ j m image le count is. inl (count_of j m count, is_within image (image_of j image is)))
-  where
-    count_of : (j m : ℕ) → m + finished (drop j []) ≡ old.calls + 0 → m ≡ old.calls
-    count_of zero m count = omega arith
-    count_of (suc j) m count = omega arith
+  abbrev new : History
+  new = after old (sectors_from first bytes k ++ rest)
 
-    image_of : (j : ℕ) (image : List ℕ) → IsImage old.sectors (run (disk_in old) (take j [])) image → MayLeaveIn old image
-    image_of zero image is = is
-    image_of (suc j) image is = is
+  cut : (j : ℕ) → j ≤ k → take j (sectors ++ rest) ≡ sectors_from first bytes j
+  cut j le = take-append-le j sectors rest (omega (arith, le, length-sectors_from first bytes k)) ∙ take-sectors_from first bytes k j le
 
--- a write that may have reached its sectors: it failed, or it finished too
-pub is_before : (old : History) (first : ℕ) (bytes : List ℕ) (image : List ℕ) → MayLeaveIn old image → Reached first bytes (MayLeaveIn old) image
-is_before old first bytes image is = (image, is, record { size = refl; each = λ i. inl refl })
+  unfinished : (j : ℕ) → j ≤ k → finished (drop j (sectors ++ rest)) ≡ finished (sectors ++ rest)
+  unfinished j le =
+      ap finished (drop-append-le j sectors rest (omega (arith, le, length-sectors_from first bytes k)))
+      ∙ omega (arith, finished-append (drop j sectors) rest, finished-append sectors rest, finished-drop_sectors first bytes k j, finished-sectors_from first bytes k)
 
--- a write of whole sectors inside the device, of which what reads give is possible
-module _ (old : History) (first : ℕ) (bytes : List ℕ) (whole : length bytes ≡ 512 * (length bytes / 512)) (inside : first + length bytes / 512 ≤ old.sectors) (possible : MayLeaveIn old (seen_in old)) where
-  -- a stop within it
-  reached_at : (j : ℕ) (image : List ℕ) → j ≤ length bytes / 512 → IsImage old.sectors (run (disk_in old) (sectors_from first bytes j)) image → Reached first bytes (MayLeaveIn old) image
-  reached_at j image le is = image_reached old.sectors (disk_in old) first (length bytes / 512) bytes whole inside possible image (image_later old.sectors (disk_in old) first bytes j (length bytes / 512) image le is)
+  -- time goes on, if what its sectors leave is within it
+  passes : length rest ≤ 1 → (within : List ℕ → Type 0) → ((image : List ℕ) → IsImage old.sectors (run (disk_in old) sectors) image → within image) → PassesIn old new within
+  passes few within inside = record {
+    later = omega (arith, length-append old.events (sectors ++ rest));
+    nothing_else = λ t m image le is. ⊎_elim (λ past. inl past) (λ now. inr (at now.0 m image now.2 now.3)) (left_cases old.sectors old.start old.events (sectors ++ rest) old.calls t m image is);
+    keeps = λ t m image le past. left_before old.sectors old.start old.events (sectors ++ rest) old.calls t m image past;
+  }
+    where
+      at : (j m : ℕ) (image : List ℕ) → m + finished (drop j (sectors ++ rest)) ≡ old.calls + finished (sectors ++ rest) → IsImage old.sectors (run (disk_in old) (take j (sectors ++ rest))) image
+          → ((m ≡ old.calls) × within image) ⊎ ((m ≡ new.calls) × MayLeaveIn new image)
+      at j m image count is = ⊎_elim
+          (λ (early : j < suc k). let le : j ≤ k = omega arith in
+          inl (omega (arith, count, unfinished j le), inside image (image_later old.sectors (disk_in old) first bytes j k image le (subst (λ (l : List Event). IsImage old.sectors (run (disk_in old) l) image) (cut j le) is))))
+          (λ (late : suc k ≤ j). let all : length (sectors ++ rest) ≤ j = omega (arith, few, length-append sectors rest, length-sectors_from first bytes k) in
+          inr (omega (arith, count, ap finished (drop_all j (sectors ++ rest) all)), subst (λ (d : Disk). IsImage old.sectors d image) (ap (run (disk_in old)) (take_all j (sectors ++ rest) all) ∙ sym (run-append old.start old.events (sectors ++ rest))) is))
+          (cases_lt j (suc k))
 
-  reached_back : (image : List ℕ) → Reached first bytes (MayLeaveIn old) image → IsImage old.sectors (run (disk_in old) (sectors_from first bytes (length bytes / 512))) image
-  reached_back image reached = image_from_reached old.sectors (disk_in old) first (length bytes / 512) bytes whole inside image reached
+  disk_is : disk_in new ≡ run (run (disk_in old) sectors) rest
+  disk_is = run-append old.start old.events (sectors ++ rest) ∙ run-append (disk_in old) sectors rest
 
-  within_at : (calls j : ℕ) (rest : List Event) (m : ℕ) (image : List ℕ) → j ≤ length bytes / 512 → m + finished (drop j (sectors_from first bytes (length bytes / 512) ++ rest)) ≡ calls + finished (sectors_from first bytes (length bytes / 512) ++ rest)
-      → IsImage old.sectors (run (disk_in old) (take j (sectors_from first bytes (length bytes / 512) ++ rest))) image → (m ≡ calls) × Reached first bytes (MayLeaveIn old) image
-  within_at calls j rest m image le count is =
-      let k = length bytes / 512 in
-      let sectors = sectors_from first bytes k in
-      let long : j ≤ length sectors = omega (arith, le, length-sectors_from first bytes k) in
-      let after = ap finished (drop-append-le j sectors rest long) ∙ finished-append (drop j sectors) rest in
-      let all = finished-append sectors rest in
-      let cut = take-append-le j sectors rest long ∙ take-sectors_from first bytes k j le in (
-        omega (arith, count, after, all, finished-drop_sectors first bytes k j, finished-sectors_from first bytes k),
-        reached_at j image le (subst (λ (l : List Event). IsImage old.sectors (run (disk_in old) l) image) cut is),
-      )
+  -- what is left behind it is what its sectors leave
+  leaves : IsQuiet rest → (image : List ℕ) → MayLeaveIn new image → IsImage old.sectors (run (disk_in old) sectors) image
+  leaves quiet image is = with_same old.sectors (run (run (disk_in old) sectors) rest) (run (disk_in old) sectors) image (quiet.same _) (subst (λ (d : Disk). IsImage old.sectors d image) disk_is is)
 
-  module _ (new : History) where
-    -- where it failed
-    torn_moments : GoesOn old new (sectors_from first bytes (length bytes / 512)) → Elapses (clock_in old) (clock_in new) (MayHaveLeftIn old) (MayHaveLeftIn new) old.calls new.calls (Reached first bytes (MayLeaveIn old)) (MayLeaveIn new)
-    torn_moments on =
-        let k = length bytes / 512 in
-        let nil = append-nil (sectors_from first bytes k) in
-        elapses old new (sectors_from first bytes k) on (Reached first bytes (MayLeaveIn old)) (λ j m image le count is. inl (within_at old.calls j [] m image (omega (arith, le, length-sectors_from first bytes k))
-        (ap (λ (l : List Event). m + finished (drop j l)) nil ∙ count ∙ ap (λ (l : List Event). old.calls + finished l) (sym nil))
-        (subst (λ (l : List Event). IsImage old.sectors (run (disk_in old) (take j l)) image) (sym nil) is)))
+  all_left : IsQuiet rest → (image : List ℕ) → IsImage old.sectors (run (disk_in old) sectors) image → MayLeaveIn new image
+  all_left quiet image is = subst (λ (d : Disk). IsImage old.sectors d image) (sym disk_is) (with_same old.sectors (run (disk_in old) sectors) (run (run (disk_in old) sectors) rest) image (λ i. sym (quiet.same _ i)) is)
 
-    torn_else : GoesOn old new (sectors_from first bytes (length bytes / 512)) → (image : List ℕ) → MayLeaveIn new image → Reached first bytes (MayLeaveIn old) image
-    torn_else on image is = reached_at (length bytes / 512) image (omega arith) (may_leave old new (sectors_from first bytes (length bytes / 512)) on image is)
-
-    torn_all : GoesOn old new (sectors_from first bytes (length bytes / 512)) → (image : List ℕ) → Reached first bytes (MayLeaveIn old) image → MayLeaveIn new image
-    torn_all on image reached = may_leave_new old new (sectors_from first bytes (length bytes / 512)) on image (reached_back image reached)
-
-    -- where one event more follows its sectors, which changes no content
-    module _ (last : Event) (same : (d : Disk) (i : ℕ) → (next d last).contents i ≡ d.contents i) where
-      after_last : (d : Disk) (image : List ℕ) → IsImage old.sectors d image → IsImage old.sectors (next d last) image
-      after_last d image is = record { size = is.size; each = λ i h. subst (λ (xs : List (List ℕ)). Contains xs (sector i image)) (sym (same d i)) (is.each i h) }
-
-      before_last : (d : Disk) (image : List ℕ) → IsImage old.sectors (next d last) image → IsImage old.sectors d image
-      before_last d image is = record { size = is.size; each = λ i h. subst (λ (xs : List (List ℕ)). Contains xs (sector i image)) (same d i) (is.each i h) }
-
-      ended_else : GoesOn old new (sectors_from first bytes (length bytes / 512) ++ last ∷ []) → (image : List ℕ) → MayLeaveIn new image → Reached first bytes (MayLeaveIn old) image
-      ended_else on image is =
-          let sectors = sectors_from first bytes (length bytes / 512) in
-          let after = subst (λ (d : Disk). IsImage old.sectors d image) (run-append (disk_in old) sectors (last ∷ [])) (may_leave old new (sectors ++ last ∷ []) on image is) in
-          reached_at (length bytes / 512) image (omega arith) (before_last (run (disk_in old) sectors) image after)
-
-      ended_all : GoesOn old new (sectors_from first bytes (length bytes / 512) ++ last ∷ []) → (image : List ℕ) → Reached first bytes (MayLeaveIn old) image → MayLeaveIn new image
-      ended_all on image reached =
-          let sectors = sectors_from first bytes (length bytes / 512) in
-          let after = after_last (run (disk_in old) sectors) image (reached_back image reached) in
-          may_leave_new old new (sectors ++ last ∷ []) on image (subst (λ (d : Disk). IsImage old.sectors d image) (sym (run-append (disk_in old) sectors (last ∷ []))) after)
-
-      ended_moments : GoesOn old new (sectors_from first bytes (length bytes / 512) ++ last ∷ []) → Elapses (clock_in old) (clock_in new) (MayHaveLeftIn old) (MayHaveLeftIn new) old.calls new.calls (Reached first bytes (MayLeaveIn old)) (MayLeaveIn new)
-      ended_moments on =
-          let k = length bytes / 512 in
-          let sectors = sectors_from first bytes k in
-          let more = sectors ++ last ∷ [] in
-          let size = length-append sectors (last ∷ []) in
-          elapses old new more on (Reached first bytes (MayLeaveIn old)) (λ j m image le count is. ⊎_elim
-          (λ (early : j < k + 1). inl (within_at old.calls j (last ∷ []) m image (omega arith) count is))
-          (λ (late : k + 1 ≤ j). let all : length more ≤ j = omega (arith, size, length-sectors_from first bytes k, late) in
-          let none = ap finished (drop_all j more all) in
-          inr (omega (arith, count, on.calls, none), may_leave_new old new more on image (subst (λ (l : List Event). IsImage old.sectors (run (disk_in old) l) image) (take_all j more all) is)))
-          (cases_lt j (k + 1)))
-
-      -- a moment within it, its last sector reached
-      ended_within : GoesOn old new (sectors_from first bytes (length bytes / 512) ++ last ∷ []) → (t : ℕ) (image : List ℕ) → t ≤ clock_in old → Reached first bytes (MayLeaveIn old) image → MayHaveLeftIn new t old.calls image
-      ended_within on t image le reached =
-          let k = length bytes / 512 in
-          let sectors = sectors_from first bytes k in
-          let more = sectors ++ last ∷ [] in
-          let long : k ≤ length sectors = omega (arith, length-sectors_from first bytes k) in
-          let after = ap finished (drop-append-le k sectors (last ∷ []) long) ∙ finished-append (drop k sectors) (last ∷ []) in
-          let all = finished-append sectors (last ∷ []) in
-          let cut = take-append-le k sectors (last ∷ []) long ∙ take-sectors_from first bytes k k (omega arith) in
-          left_new old new more on t old.calls image (left_within old.sectors old.start old.events more old.calls t k old.calls image le
-          (omega (arith, length-append sectors (last ∷ []), length-sectors_from first bytes k))
-          (omega (arith, after, all, finished-drop_sectors first bytes k k, finished-sectors_from first bytes k))
-          (subst (λ (l : List Event). IsImage old.sectors (run (disk_in old) l) image) (sym cut) (reached_back image reached)))
-
-    done_seen : GoesOn old new (sectors_from first bytes (length bytes / 512) ++ Finish first bytes ∷ []) → seen_in new ≡ written first bytes (seen_in old)
-    done_seen on =
-        let sectors = sectors_from first bytes (length bytes / 512) in
-        ap (λ (d : Disk). d.seen) (disk_is old new (sectors ++ Finish first bytes ∷ []) on ∙ run-append (disk_in old) sectors (Finish first bytes ∷ []))
-        ∙ ap (written first bytes) (seen-sectors_from (disk_in old) first bytes (length bytes / 512))
-
--- what a write may have come to
+-- what a write may have come to: it finished, or some of its sectors were written
 pub data WriteCase (old new : History) (first : ℕ) (bytes : List ℕ) : Bool → Type 0 where
   finishes : GoesOn old new (sectors_from first bytes (length bytes / 512) ++ Finish first bytes ∷ []) → WriteCase old new first bytes true
-  tears : GoesOn old new (sectors_from first bytes (length bytes / 512)) → WriteCase old new first bytes false
-  nothing : GoesOn old new [] → WriteCase old new first bytes false
-  shows : (image : List ℕ) → GoesOn old new (sectors_from first bytes (length bytes / 512) ++ Show image ∷ []) → WriteCase old new first bytes false
+  tears : (k : ℕ) → k ≤ length bytes / 512 → (rest : List Event) → IsQuiet rest → GoesOn old new (sectors_from first bytes k ++ rest) → WriteCase old new first bytes false
 
 pub record Writes {T E : Type 0} (old new : History) (first : ℕ) (bytes : List ℕ) (result : Result T E) : Type 0 where
   pub seen : OnOk result (seen_in new ≡ written first bytes (seen_in old))
   pub contents : AddsContents result first bytes (MayLeaveIn old) (MayLeaveIn new)
   pub within : OnOk result ((t : ℕ) (image : List ℕ) → t ≤ clock_in old → Reached first bytes (MayLeaveIn old) image → MayHaveLeftIn new t old.calls image)
-  pub moments : Elapses (clock_in old) (clock_in new) (MayHaveLeftIn old) (MayHaveLeftIn new) old.calls new.calls (Reached first bytes (MayLeaveIn old)) (MayLeaveIn new)
+  pub moments : PassesIn old new (Reached first bytes (MayLeaveIn old))
 
-module _ {T E : Type 0} (old new : History) (first : ℕ) (bytes : List ℕ) (whole : length bytes ≡ 512 * (length bytes / 512)) (inside : first + length bytes / 512 ≤ old.sectors) (possible : MayLeaveIn old (seen_in old)) where
-  write_seen : (result : Result T E) → WriteCase old new first bytes (is_ok result) → OnOk result (seen_in new ≡ written first bytes (seen_in old))
-  write_seen (Ok x) (finishes on) = done_seen old first bytes whole inside possible new on
-  write_seen (Err e) (tears on) = tt
-  write_seen (Err e) (nothing on) = tt
-  write_seen (Err e) (shows image on) = tt
+-- a write of whole sectors inside the device, of which what reads give is possible
+module _ (old : History) (first : ℕ) (bytes : List ℕ) (whole : length bytes ≡ 512 * (length bytes / 512)) (inside : first + length bytes / 512 ≤ old.sectors) (possible : MayLeaveIn old (seen_in old)) where
+  reached : (k : ℕ) → k ≤ length bytes / 512 → (image : List ℕ) → IsImage old.sectors (run (disk_in old) (sectors_from first bytes k)) image → Reached first bytes (MayLeaveIn old) image
+  reached k le image is = image_reached old.sectors (disk_in old) first (length bytes / 512) bytes whole inside possible image (image_later old.sectors (disk_in old) first bytes k (length bytes / 512) image le is)
 
-  write_contents : (result : Result T E) → WriteCase old new first bytes (is_ok result) → AddsContents result first bytes (MayLeaveIn old) (MayLeaveIn new)
-  write_contents (Ok x) (finishes on) = record {
-    nothing_else = ended_else old first bytes whole inside possible new (Finish first bytes) (λ d i. refl) on;
-    keeps = λ image is. ended_all old first bytes whole inside possible new (Finish first bytes) (λ d i. refl) on image (is_before old first bytes image is);
-    all = λ ok. ended_all old first bytes whole inside possible new (Finish first bytes) (λ d i. refl) on;
-  }
-  write_contents (Err e) (tears on) = record {
-    nothing_else = torn_else old first bytes whole inside possible new on;
-    keeps = λ image is. torn_all old first bytes whole inside possible new on image (is_before old first bytes image is);
-    all = λ ok. absurd (false≢true ok);
-  }
-  write_contents (Err e) (shows image on) = record {
-    nothing_else = ended_else old first bytes whole inside possible new (Show image) (λ d i. refl) on;
-    keeps = λ image' is. ended_all old first bytes whole inside possible new (Show image) (λ d i. refl) on image' (is_before old first bytes image' is);
-    all = λ ok. absurd (false≢true ok);
-  }
-  write_contents (Err e) (nothing on) = record {
-    nothing_else = λ image is. is_before old first bytes image ((unchanged_images old new on).nothing_else image is);
-    keeps = (unchanged_images old new on).keeps;
-    all = λ ok. absurd (false≢true ok);
+  from_reached : (image : List ℕ) → Reached first bytes (MayLeaveIn old) image → IsImage old.sectors (run (disk_in old) (sectors_from first bytes (length bytes / 512))) image
+  from_reached = image_from_reached old.sectors (disk_in old) first (length bytes / 512) bytes whole inside
+
+  adds : {T E : Type 0} (result : Result T E) (k : ℕ) → k ≤ length bytes / 512 → (IsOk result → k ≡ length bytes / 512) → (rest : List Event) → IsQuiet rest → AddsContents result first bytes (MayLeaveIn old) (MayLeaveIn (after old (sectors_from first bytes k ++ rest)))
+  adds result k le all rest quiet = record {
+    nothing_else = λ image is. reached k le image (leaves old first k bytes rest quiet image is);
+    keeps = λ image is. all_left old first k bytes rest quiet image (image_later old.sectors (disk_in old) first bytes 0 k image (omega arith) is);
+    all = λ ok image is. all_left old first k bytes rest quiet image (image_later old.sectors (disk_in old) first bytes (length bytes / 512) k image (omega (arith, all ok)) (from_reached image is));
   }
 
-  write_within : (result : Result T E) → WriteCase old new first bytes (is_ok result) → OnOk result ((t : ℕ) (image : List ℕ) → t ≤ clock_in old → Reached first bytes (MayLeaveIn old) image → MayHaveLeftIn new t old.calls image)
-  write_within (Ok x) (finishes on) = ended_within old first bytes whole inside possible new (Finish first bytes) (λ d i. refl) on
-  write_within (Err e) (tears on) = tt
-  write_within (Err e) (nothing on) = tt
-  write_within (Err e) (shows image on) = tt
-
-  write_moments : (result : Result T E) → WriteCase old new first bytes (is_ok result) → Elapses (clock_in old) (clock_in new) (MayHaveLeftIn old) (MayHaveLeftIn new) old.calls new.calls (Reached first bytes (MayLeaveIn old)) (MayLeaveIn new)
-  write_moments (Ok x) (finishes on) = ended_moments old first bytes whole inside possible new (Finish first bytes) (λ d i. refl) on
-  write_moments (Err e) (tears on) = torn_moments old first bytes whole inside possible new on
-  write_moments (Err e) (nothing on) = unchanged_moments old new on (Reached first bytes (MayLeaveIn old)) (is_before old first bytes)
-  write_moments (Err e) (shows image on) = ended_moments old first bytes whole inside possible new (Show image) (λ d i. refl) on
-
-  pub write_means : (result : Result T E) → WriteCase old new first bytes (is_ok result) → Writes old new first bytes result
-  write_means result case = record { seen = write_seen result case; contents = write_contents result case; within = write_within result case; moments = write_moments result case }
+  pub write_means : {T E : Type 0} (new : History) (result : Result T E) → WriteCase old new first bytes (is_ok result) → Writes old new first bytes result
+  write_means new (Ok x) (finishes on) =
+      let k = length bytes / 512 in
+      let last = Finish first bytes ∷ [] in
+      let sectors = sectors_from first bytes k in
+      rw (is_after old new (sectors ++ last) on) (record {
+        seen = ap (λ (d : Disk). d.seen) (disk_is old first k bytes last) ∙ ap (written first bytes) (seen-sectors_from (disk_in old) first bytes k);
+        contents = adds (Ok x) k (omega arith) (λ ok. refl) last (record { few = omega arith; same = λ d i. refl });
+        within = λ t image le is. left_within old.sectors old.start old.events (sectors ++ last) old.calls t k old.calls image le
+            (omega (arith, length-append sectors last, length-sectors_from first bytes k))
+            (omega (arith, unfinished old first k bytes last k (omega arith)))
+            (subst (λ (l : List Event). IsImage old.sectors (run (disk_in old) l) image) (sym (cut old first k bytes last k (omega arith))) (from_reached image is));
+        moments = passes old first k bytes last (omega arith) (Reached first bytes (MayLeaveIn old)) (reached k (omega arith));
+      })
+  write_means new (Err e) (tears k le rest quiet on) = rw (is_after old new (sectors_from first bytes k ++ rest) on) (record {
+    seen = tt;
+    contents = adds (Err e) k le (λ ok. absurd (false≢true ok)) rest quiet;
+    within = tt;
+    moments = passes old first k bytes rest quiet.few (Reached first bytes (MayLeaveIn old)) (reached k le);
+  })
 
 -- what a sync may have come to
 pub data SyncCase (old new : History) : Bool → Type 0 where
   syncs : GoesOn old new (Sync ∷ []) → SyncCase old new true
-  no_sync : GoesOn old new [] → SyncCase old new false
-  sync_shows : (image : List ℕ) → GoesOn old new (Show image ∷ []) → SyncCase old new false
+  stays : (rest : List Event) → IsQuiet rest → GoesOn old new rest → SyncCase old new false
 
 pub record Syncs {T E : Type 0} (old new : History) (result : Result T E) : Type 0 where
   pub seen : OnOk result (seen_in new ≡ seen_in old)
   pub durable : OnOk result (Only (seen_in old) (MayLeaveIn new))
   pub contents : OnErr result (SameImages (MayLeaveIn old) (MayLeaveIn new))
-  pub moments : Elapses (clock_in old) (clock_in new) (MayHaveLeftIn old) (MayHaveLeftIn new) old.calls new.calls (MayLeaveIn old) (MayLeaveIn new)
+  pub moments : PassesIn old new (MayLeaveIn old)
 
-module _ {T E : Type 0} (old new : History) (possible : MayLeaveIn old (seen_in old)) where
-  sync_seen : (result : Result T E) → SyncCase old new (is_ok result) → OnOk result (seen_in new ≡ seen_in old)
-  sync_seen (Ok x) (syncs on) = ap (λ (d : Disk). d.seen) (disk_is old new (Sync ∷ []) on)
-  sync_seen (Err e) (no_sync on) = tt
-  sync_seen (Err e) (sync_shows image on) = tt
-
-  sync_durable : (result : Result T E) → SyncCase old new (is_ok result) → OnOk result (Only (seen_in old) (MayLeaveIn new))
-  sync_durable (Ok x) (syncs on) = λ image is. settled_only old.sectors (seen_in old) image possible.size (may_leave old new (Sync ∷ []) on image is)
-  sync_durable (Err e) (no_sync on) = tt
-  sync_durable (Err e) (sync_shows image on) = tt
-
-  sync_contents : (result : Result T E) → SyncCase old new (is_ok result) → OnErr result (SameImages (MayLeaveIn old) (MayLeaveIn new))
-  sync_contents (Ok x) (syncs on) = tt
-  sync_contents (Err e) (no_sync on) = unchanged_images old new on
-  sync_contents (Err e) (sync_shows shown on) = record {
-    nothing_else = λ image is. let was = may_leave old new (Show shown ∷ []) on image is in record { size = was.size; each = was.each };
-    keeps = λ image is. may_leave_new old new (Show shown ∷ []) on image (record { size = is.size; each = is.each });
-  }
-
-  sync_moments : (result : Result T E) → SyncCase old new (is_ok result) → Elapses (clock_in old) (clock_in new) (MayHaveLeftIn old) (MayHaveLeftIn new) old.calls new.calls (MayLeaveIn old) (MayLeaveIn new)
-  sync_moments (Ok x) (syncs on) = elapses old new (Sync ∷ []) on (MayLeaveIn old) at
-    where
-      at : (j m : ℕ) (image : List ℕ) → j ≤ 1 → m + finished (drop j (Sync ∷ [])) ≡ old.calls + 1 → IsImage old.sectors (run (disk_in old) (take j (Sync ∷ []))) image
-          → ((m ≡ old.calls) × MayLeaveIn old image) ⊎ ((m ≡ new.calls) × MayLeaveIn new image)
-      at zero m image le count is = inl (omega arith, is)
-      at (suc zero) m image le count is = inr (omega (arith, count, on.calls), may_leave_new old new (Sync ∷ []) on image is)
-      at (suc (suc j)) m image le count is = absurd (omega arith)
-  sync_moments (Err e) (no_sync on) = unchanged_moments old new on (MayLeaveIn old) (λ image is. is)
-  sync_moments (Err e) (sync_shows shown on) = elapses old new (Show shown ∷ []) on (MayLeaveIn old) at
-    where
-      at : (j m : ℕ) (image : List ℕ) → j ≤ 1 → m + finished (drop j (Show shown ∷ [])) ≡ old.calls + 0 → IsImage old.sectors (run (disk_in old) (take j (Show shown ∷ []))) image
-          → ((m ≡ old.calls) × MayLeaveIn old image) ⊎ ((m ≡ new.calls) × MayLeaveIn new image)
-      at zero m image le count is = inl (omega arith, is)
-      at (suc zero) m image le count is = inr (omega (arith, count, on.calls), may_leave_new old new (Show shown ∷ []) on image is)
-      at (suc (suc j)) m image le count is = absurd (omega arith)
-
-  pub sync_means : (result : Result T E) → SyncCase old new (is_ok result) → Syncs old new result
-  sync_means result case = record { seen = sync_seen result case; durable = sync_durable result case; contents = sync_contents result case; moments = sync_moments result case }
+pub sync_means : {T E : Type 0} (old new : History) → MayLeaveIn old (seen_in old) → (result : Result T E) → SyncCase old new (is_ok result) → Syncs old new result
+sync_means old new possible (Ok x) (syncs on) = rw (is_after old new (Sync ∷ []) on) (record {
+  seen = ap (λ (d : Disk). d.seen) (disk_is old 0 0 [] (Sync ∷ []));
+  durable = λ image is. settled_only old.sectors (seen_in old) image possible.size (subst (λ (d : Disk). IsImage old.sectors d image) (disk_is old 0 0 [] (Sync ∷ [])) is);
+  contents = tt;
+  moments = passes old 0 0 [] (Sync ∷ []) (omega arith) (MayLeaveIn old) (λ image is. is);
+})
+sync_means old new possible (Err e) (stays rest quiet on) = rw (is_after old new rest on) (record {
+  seen = tt;
+  durable = tt;
+  contents = record { nothing_else = leaves old 0 0 [] rest quiet; keeps = all_left old 0 0 [] rest quiet };
+  moments = passes old 0 0 [] rest quiet.few (MayLeaveIn old) (λ image is. is);
+})

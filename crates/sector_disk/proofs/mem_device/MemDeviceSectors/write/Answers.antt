@@ -12,7 +12,7 @@ made c =
     let whole = whole_sectors (length c.args.bytes.now) c.requires.whole in
     let inside : c.args.first + length c.args.bytes.now / 512 ≤ len_of (memory d) = omega (arith, whole, c.requires.inside) in
     let case = write_case (memory d) (memory c.try_write.new.self) c.args.first c.args.bytes.now c.try_write.result c.try_write.ensures.exact in
-    write_means (history_of (memory d)) (history_of (memory c.try_write.new.self)) c.args.first c.args.bytes.now whole inside (memory_reads_possible (memory d) d.kept.whole d.kept.fit) c.try_write.result case
+    write_means (history_of (memory d)) c.args.first c.args.bytes.now whole inside (memory_reads_possible (memory d) d.kept.whole d.kept.fit) (history_of (memory c.try_write.new.self)) c.try_write.result case
 
 pub returns-clause-written : goal.returns-clause-written
 returns-clause-written c = λ _. (made c).seen
