@@ -11,7 +11,7 @@ use Rattle.sector_disk.specs.FileRecord.{Entry, file_history}
 
 -- the calls by which the file was opened
 abbrev pub opening : HostFile → List Noted
-opening file = file.opening.calls
+opening file = file.opening
 
 module _ {S F : Type 0} {start : starts.Ghosts S} {g : calls.Ghosts F} where
   abbrev pub device_len : FileDevice S F start g → ℕ

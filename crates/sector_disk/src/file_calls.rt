@@ -42,13 +42,13 @@ pub struct HostFile {
     file: File,
     opening: Record,
     noted: Record,
-    ghost settled: { (told_by noted.calls).going ≡ None },
+    ghost settled: { (told_by noted).going ≡ None },
 }
 
 impl HostFile {
     pub(crate) fn new(file: File, opening: Record) -> HostFile
-        ensures unused { result.noted.calls ≡ [] }
-        ensures opening { result.opening.calls ≡ opening.calls }
+        ensures unused { result.noted ≡ [] }
+        ensures opening { result.opening ≡ opening }
     {
         HostFile {
             file,
@@ -59,7 +59,7 @@ impl HostFile {
 }
 
 impl FileCalls for HostFile {
-    ghost entries = { λ f. (told_by f.noted.calls).entries };
+    ghost entries = { λ f. (told_by f.noted).entries };
 
     fn read(&mut self, first: u64, into: &mut [u8]) -> io::Result<()> {
         read_whole(&self.file, into, first, &mut self.noted)

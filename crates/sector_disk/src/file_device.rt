@@ -51,7 +51,7 @@ impl FileRefusal {
     // With the calls that were made.
     fn new(refusal: OpeningFault, noted: Record) -> FileRefusal
         ensures fault { result.fault ≡ refusal.fault }
-        ensures noted { result.noted.calls ≡ noted.calls }
+        ensures noted { result.noted ≡ noted }
     {
         FileRefusal {
             fault: refusal.fault,
@@ -157,7 +157,7 @@ impl<S: Start> FileDevice<S> {
             → IfErr result (λ refusal. refusal.fault ≢ FileFault.BadLength) }
         ensures told { MatchResult result (λ device. IsMade (opening device.file) (512 * sectors))
             (λ refusal. sectors < 2 ^ 54
-            → first_fault (answered refusal.noted.calls) ≡ Some refusal.fault) }
+            → first_fault (answered refusal.noted) ≡ Some refusal.fault) }
     {
         let mut noted = Record::new();
         if sectors > MAX_SECTORS {
@@ -195,7 +195,7 @@ impl<S: Start> FileDevice<S> {
         ensures unused { IfOk result (IsUnused ⟦<HostFile as FileCalls>⟧.entries) }
         ensures told { MatchResult result
             (λ device. IsTaken (opening device.file) (512 * device_len device))
-            (λ refusal. taking_fault refusal.noted.calls ≡ Some refusal.fault) }
+            (λ refusal. taking_fault refusal.noted ≡ Some refusal.fault) }
     {
         let mut noted = Record::new();
         match take_file(rt, path, &mut noted) {

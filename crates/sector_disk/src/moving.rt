@@ -24,8 +24,8 @@ fn is_interrupted(kind: ErrorKind) -> bool
 
 /// Writes these bytes from this offset on, or the first few of them.
 pub fn write_some(file: &File, bytes: &[u8], offset: u64, noted: &mut Record) -> io::Result<usize>
-    ensures noted { answered noted.new.calls
-        ≡ (write_at_answer offset result, bytes.now) ∷ answered noted.old.calls }
+    ensures noted { answered noted.new
+        ≡ (write_at_answer offset result, bytes.now) ∷ answered noted.old }
     ensures some { 0 < length bytes.now → IfOk result (λ moved. 0 < moved) }
     ensures inside { IfOk result (λ moved. moved ≤ length bytes.now) }
 {
@@ -45,10 +45,10 @@ pub fn write_some(file: &File, bytes: &[u8], offset: u64, noted: &mut Record) ->
 /// Writes all these bytes from this sector on.
 pub fn write_whole(file: &File, bytes: &[u8], first: u64, noted: &mut Record) -> io::Result<()>
     requires offset { 512 * first < 2 ^ 64 }
-    requires settled { (told_by noted.old.calls).going ≡ None }
-    ensures entries { (told_by noted.new.calls).entries
-        ≡ write_entry (is_ok result) first bytes.now ∷ (told_by noted.old.calls).entries }
-    ensures settled { (told_by noted.new.calls).going ≡ None }
+    requires settled { (told_by noted.old).going ≡ None }
+    ensures entries { (told_by noted.new).entries
+        ≡ write_entry (is_ok result) first bytes.now ∷ (told_by noted.old).entries }
+    ensures settled { (told_by noted.new).going ≡ None }
 {
     let start = first * SECTOR;
     if start.checked_add(bytes.len() as u64).is_none() {
@@ -64,8 +64,8 @@ pub fn write_whole(file: &File, bytes: &[u8], first: u64, noted: &mut Record) ->
 
 /// Reads bytes from this offset on, which may be fewer than there is room for.
 fn read_some(file: &File, into: &mut [u8], offset: u64, noted: &mut Record) -> io::Result<usize>
-    ensures noted { answered noted.new.calls
-        ≡ (read_at_answer offset result, into.new) ∷ answered noted.old.calls }
+    ensures noted { answered noted.new
+        ≡ (read_at_answer offset result, into.new) ∷ answered noted.old }
     ensures some { 0 < length into.new → IfOk result (λ moved. 0 < moved) }
     ensures inside { IfOk result (λ moved. moved ≤ length into.new) }
 {
@@ -85,10 +85,10 @@ fn read_some(file: &File, into: &mut [u8], offset: u64, noted: &mut Record) -> i
 /// Fills the buffer from this sector on.
 pub fn read_whole(file: &File, into: &mut [u8], first: u64, noted: &mut Record) -> io::Result<()>
     requires offset { 512 * first < 2 ^ 64 }
-    requires settled { (told_by noted.old.calls).going ≡ None }
-    ensures entries { (told_by noted.new.calls).entries
-        ≡ read_entry (is_ok result) first into.new ∷ (told_by noted.old.calls).entries }
-    ensures settled { (told_by noted.new.calls).going ≡ None }
+    requires settled { (told_by noted.old).going ≡ None }
+    ensures entries { (told_by noted.new).entries
+        ≡ read_entry (is_ok result) first into.new ∷ (told_by noted.old).entries }
+    ensures settled { (told_by noted.new).going ≡ None }
 {
     let start = first * SECTOR;
     if start.checked_add(into.len() as u64).is_none() {

@@ -82,11 +82,11 @@ impl OpenedFile {
         is_made: bool,
         noted: &mut Record,
     ) -> Result<OpenedFile, OpeningFault>
-        requires no_fault { first_fault (answered noted.old.calls) ≡ None }
+        requires no_fault { first_fault (answered noted.old) ≡ None }
         ensures unlocked { IfOk result (λ opened. opened.is_locked ≡ false) }
         ensures asked { IfOk result (λ _.
-            noted.new.calls ≡ (SystemCall.Open None, []) ∷ noted.old.calls) }
-        ensures told { first_fault (answered noted.new.calls) ≡ fault_told result }
+            noted.new ≡ (SystemCall.Open None, []) ∷ noted.old) }
+        ensures told { first_fault (answered noted.new) ≡ fault_told result }
     {
         let file = system::open(rt, path, is_made, noted)?;
         Ok(OpenedFile {
@@ -97,11 +97,11 @@ impl OpenedFile {
 
     // Takes the lock, which another process may have.
     fn lock(&mut self, noted: &mut Record) -> Result<(), OpeningFault>
-        requires no_fault { first_fault (answered noted.old.calls) ≡ None }
+        requires no_fault { first_fault (answered noted.old) ≡ None }
         ensures locked { IfOk result (λ _. IsTrue self.new.is_locked) }
         ensures asked { IfOk result (λ _.
-            noted.new.calls ≡ (SystemCall.Lock None, []) ∷ noted.old.calls) }
-        ensures told { first_fault (answered noted.new.calls) ≡ fault_told result }
+            noted.new ≡ (SystemCall.Lock None, []) ∷ noted.old) }
+        ensures told { first_fault (answered noted.new) ≡ fault_told result }
     {
         if let Err(error) = system::lock(&self.file, noted) {
             return Err(lock_refusal(error));
@@ -117,11 +117,11 @@ impl OpenedFile {
         is_made: bool,
         noted: &mut Record,
     ) -> Result<OpenedFile, OpeningFault>
-        requires no_fault { first_fault (answered noted.old.calls) ≡ None }
+        requires no_fault { first_fault (answered noted.old) ≡ None }
         ensures locked { IfOk result (λ opened. IsTrue opened.is_locked) }
-        ensures asked { IfOk result (λ _. noted.new.calls
-            ≡ (SystemCall.Lock None, []) ∷ (SystemCall.Open None, []) ∷ noted.old.calls) }
-        ensures told { first_fault (answered noted.new.calls) ≡ fault_told result }
+        ensures asked { IfOk result (λ _. noted.new
+            ≡ (SystemCall.Lock None, []) ∷ (SystemCall.Open None, []) ∷ noted.old) }
+        ensures told { first_fault (answered noted.new) ≡ fault_told result }
     {
         let mut opened = OpenedFile::open(rt, path, is_made, noted)?;
         opened.lock(noted)?;
@@ -131,9 +131,9 @@ impl OpenedFile {
     // The length of the file, if it is a plain one.
     fn measure(&self, noted: &mut Record) -> Result<u64, OpeningFault>
         requires locked { IsTrue self.now.is_locked }
-        requires no_fault { first_fault (answered noted.old.calls) ≡ None }
-        ensures told { first_fault (answered noted.new.calls) ≡ fault_told result }
-        ensures len { IfOk result (λ len. len_after (answered noted.new.calls) ≡ Some len) }
+        requires no_fault { first_fault (answered noted.old) ≡ None }
+        ensures told { first_fault (answered noted.new) ≡ fault_told result }
+        ensures len { IfOk result (λ len. len_after (answered noted.new) ≡ Some len) }
     {
         let extent = system::measure(&self.file, noted)?;
         if !extent.is_file {
@@ -145,11 +145,11 @@ impl OpenedFile {
     /// How many sectors the file has, if it is a plain file of whole sectors.
     pub fn sectors(&self, noted: &mut Record) -> Result<u64, OpeningFault>
         requires locked { IsTrue self.now.is_locked }
-        requires no_fault { first_fault (answered noted.old.calls) ≡ None }
+        requires no_fault { first_fault (answered noted.old) ≡ None }
         ensures offsets { IfOk result (λ n. 512 * n < 2 ^ 64) }
-        ensures taken { IfOk result (λ n. IsTaken noted.new.calls (512 * n)) }
+        ensures taken { IfOk result (λ n. IsTaken noted.new (512 * n)) }
         ensures refused { IfErr result (λ refusal.
-            taking_fault noted.new.calls ≡ Some refusal.fault) }
+            taking_fault noted.new ≡ Some refusal.fault) }
     {
         let len = self.measure(noted)?;
         Ok(sectors_of(len)?)
@@ -159,10 +159,10 @@ impl OpenedFile {
     /// that a disk which has no room for it says so now.
     pub fn resize(&self, len: u64, noted: &mut Record) -> Result<(), OpeningFault>
         requires locked { IsTrue self.now.is_locked }
-        requires no_fault { first_fault (answered noted.old.calls) ≡ None }
-        ensures told { first_fault (answered noted.new.calls) ≡ fault_told result }
-        ensures len { IfOk result (λ _. len_after (answered noted.new.calls) ≡ Some len) }
-        ensures synced { IfOk result (λ _. IsTrue (is_file_synced (answered noted.new.calls))) }
+        requires no_fault { first_fault (answered noted.old) ≡ None }
+        ensures told { first_fault (answered noted.new) ≡ fault_told result }
+        ensures len { IfOk result (λ _. len_after (answered noted.new) ≡ Some len) }
+        ensures synced { IfOk result (λ _. IsTrue (is_file_synced (answered noted.new))) }
     {
         let old = self.measure(noted)?;
         settle_len(&self.file, old, len, noted)
@@ -180,11 +180,11 @@ impl OpenedFile {
 // Gives a file that is `old` bytes long another length, and syncs it. Where the disk has no room, the file gives back what it
 // took.
 fn settle_len(file: &File, old: u64, len: u64, noted: &mut Record) -> Result<(), OpeningFault>
-    requires no_fault { first_fault (answered noted.old.calls) ≡ None }
-    requires old { len_after (answered noted.old.calls) ≡ Some old }
-    ensures told { first_fault (answered noted.new.calls) ≡ fault_told result }
-    ensures len { IfOk result (λ _. len_after (answered noted.new.calls) ≡ Some len) }
-    ensures synced { IfOk result (λ _. IsTrue (is_file_synced (answered noted.new.calls))) }
+    requires no_fault { first_fault (answered noted.old) ≡ None }
+    requires old { len_after (answered noted.old) ≡ Some old }
+    ensures told { first_fault (answered noted.new) ≡ fault_told result }
+    ensures len { IfOk result (λ _. len_after (answered noted.new) ≡ Some len) }
+    ensures synced { IfOk result (λ _. IsTrue (is_file_synced (answered noted.new))) }
 {
     if len <= old {
         return shorten(file, len, noted);
@@ -198,10 +198,10 @@ fn settle_len(file: &File, old: u64, len: u64, noted: &mut Record) -> Result<(),
 
 // Gives a file this length, which is not above its own, and syncs it.
 fn shorten(file: &File, len: u64, noted: &mut Record) -> Result<(), OpeningFault>
-    requires no_fault { first_fault (answered noted.old.calls) ≡ None }
-    ensures told { first_fault (answered noted.new.calls) ≡ fault_told result }
-    ensures len { IfOk result (λ _. len_after (answered noted.new.calls) ≡ Some len) }
-    ensures synced { IfOk result (λ _. IsTrue (is_file_synced (answered noted.new.calls))) }
+    requires no_fault { first_fault (answered noted.old) ≡ None }
+    ensures told { first_fault (answered noted.new) ≡ fault_told result }
+    ensures len { IfOk result (λ _. len_after (answered noted.new) ≡ Some len) }
+    ensures synced { IfOk result (λ _. IsTrue (is_file_synced (answered noted.new))) }
 {
     system::set_len(file, len, noted)?;
     system::sync_all(file, noted)?;
@@ -211,11 +211,11 @@ fn shorten(file: &File, len: u64, noted: &mut Record) -> Result<(), OpeningFault
 // Writes zeros behind a file that is `old` bytes long, up to another length, and syncs it.
 fn lengthen(file: &File, old: u64, len: u64, noted: &mut Record) -> Result<(), OpeningFault>
     requires longer { old < len }
-    requires no_fault { first_fault (answered noted.old.calls) ≡ None }
-    requires old { len_after (answered noted.old.calls) ≡ Some old }
-    ensures told { first_fault (answered noted.new.calls) ≡ fault_told result }
-    ensures len { IfOk result (λ _. len_after (answered noted.new.calls) ≡ Some len) }
-    ensures synced { IfOk result (λ _. IsTrue (is_file_synced (answered noted.new.calls))) }
+    requires no_fault { first_fault (answered noted.old) ≡ None }
+    requires old { len_after (answered noted.old) ≡ Some old }
+    ensures told { first_fault (answered noted.new) ≡ fault_told result }
+    ensures len { IfOk result (λ _. len_after (answered noted.new) ≡ Some len) }
+    ensures synced { IfOk result (λ _. IsTrue (is_file_synced (answered noted.new))) }
 {
     write_zeros(file, old, len, noted)?;
     system::sync_all(file, noted)?;
@@ -225,10 +225,10 @@ fn lengthen(file: &File, old: u64, len: u64, noted: &mut Record) -> Result<(), O
 // Writes zeros from one offset, the file's length, to the other.
 fn write_zeros(file: &File, from: u64, to: u64, noted: &mut Record) -> Result<(), OpeningFault>
     requires longer { from ≤ to }
-    requires no_fault { first_fault (answered noted.old.calls) ≡ None }
-    requires old { len_after (answered noted.old.calls) ≡ Some from }
-    ensures told { first_fault (answered noted.new.calls) ≡ fault_told result }
-    ensures len { IfOk result (λ _. len_after (answered noted.new.calls) ≡ Some to) }
+    requires no_fault { first_fault (answered noted.old) ≡ None }
+    requires old { len_after (answered noted.old) ≡ Some from }
+    ensures told { first_fault (answered noted.new) ≡ fault_told result }
+    ensures len { IfOk result (λ _. len_after (answered noted.new) ≡ Some to) }
 {
     let mut at = from;
     while at < to {
@@ -257,10 +257,10 @@ pub fn take_file<R: Files<File = File>>(
     path: &str,
     noted: &mut Record,
 ) -> Result<(File, u64), OpeningFault>
-    requires no_fault { first_fault (answered noted.old.calls) ≡ None }
+    requires no_fault { first_fault (answered noted.old) ≡ None }
     ensures offsets { IfOk result (λ taken. 512 * taken.1 < 2 ^ 64) }
-    ensures taken { IfOk result (λ taken. IsTaken noted.new.calls (512 * taken.1)) }
-    ensures refused { IfErr result (λ refusal. taking_fault noted.new.calls ≡ Some refusal.fault) }
+    ensures taken { IfOk result (λ taken. IsTaken noted.new (512 * taken.1)) }
+    ensures refused { IfErr result (λ refusal. taking_fault noted.new ≡ Some refusal.fault) }
 {
     let opened = OpenedFile::open_locked(rt, path, false, noted)?;
     let sectors = opened.sectors(noted)?;
@@ -274,9 +274,9 @@ pub fn make_file<R: Files<File = File>>(
     len: u64,
     noted: &mut Record,
 ) -> Result<File, OpeningFault>
-    requires no_fault { first_fault (answered noted.old.calls) ≡ None }
-    ensures made { IfOk result (λ _. IsMade noted.new.calls len) }
-    ensures told { first_fault (answered noted.new.calls) ≡ fault_told result }
+    requires no_fault { first_fault (answered noted.old) ≡ None }
+    ensures made { IfOk result (λ _. IsMade noted.new len) }
+    ensures told { first_fault (answered noted.new) ≡ fault_told result }
 {
     let opened = OpenedFile::open_locked(rt, path, true, noted)?;
     opened.resize(len, noted)?;
@@ -290,11 +290,11 @@ fn sync_folder<R: Files<File = File>>(
     path: &str,
     noted: &mut Record,
 ) -> Result<(), OpeningFault>
-    requires no_fault { first_fault (answered noted.old.calls) ≡ None }
-    requires synced { IsTrue (is_file_synced (answered noted.old.calls)) }
-    ensures told { first_fault (answered noted.new.calls) ≡ fault_told result }
-    ensures len { len_after (answered noted.new.calls) ≡ len_after (answered noted.old.calls) }
-    ensures synced { IfOk result (λ _. IsTrue (is_synced (answered noted.new.calls))) }
+    requires no_fault { first_fault (answered noted.old) ≡ None }
+    requires synced { IsTrue (is_file_synced (answered noted.old)) }
+    ensures told { first_fault (answered noted.new) ≡ fault_told result }
+    ensures len { len_after (answered noted.new) ≡ len_after (answered noted.old) }
+    ensures synced { IfOk result (λ _. IsTrue (is_synced (answered noted.new))) }
 {
     let folder = match Path::new(path).parent() {
         Some(parent) if !parent.as_str().is_empty() => parent.as_str(),

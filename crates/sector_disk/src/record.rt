@@ -1,33 +1,35 @@
-//! A list of calls of the system that only clauses read. It takes no memory, and its methods do nothing at run time.
-//! Since it has no bytes, these methods are proved by hand.
-ghost use Rattle.std.specs.Prelude.{◌≡◌, ℕ, List, [], ◌∷◌};
-ghost use Rattle.std.specs.Borrow.{ftrue};
-ghost use Rattle.sector_disk.specs.declared.system_call.SystemCall.{SystemCall};
+//! A list of calls of the system that only clauses read.
+ghost use Rattle.std.specs.Prelude.{◌≡◌, [], ◌∷◌};
 
 use crate::system_call::SystemCall;
-use std::marker::{Model, PhantomData};
+use ghost_values::{Ghost, ListOf};
+use std::marker::Model;
 
 /// The calls made for a file, the newest first, each with the bytes that were read or written.
 #[derive(Drop)]
 pub struct Record {
-    marker: PhantomData<u8>,
-    pub ghost calls: { List (SystemCall × List ℕ) },
+    calls: Ghost<ListOf<(SystemCall, ListOf<u8>)>>,
 }
 
 impl Model for Record {
-    ghost also_owns = { λ _. ftrue };
+    ghost use Rattle.std.specs.Prelude.{List};
+    ghost use Rattle.sector_disk.specs.SystemCalls.{Noted};
+
+    ghost Value = { List Noted };
+
+    ghost view = { λ r. r.calls.value };
 }
 
 impl Record {
     pub fn new() -> Record
-        ensures { result.calls ≡ [] }
+        ensures { result ≡ [] }
     {
-        Record {
-            marker: PhantomData,
-        }
+        Record { calls: Ghost::of() }
     }
 
-    pub fn note(&mut self, _call: &SystemCall, _bytes: &[u8])
-        ensures { self.new.calls ≡ (_call.now, _bytes.now) ∷ self.old.calls }
-    {}
+    pub fn note(&mut self, call: &SystemCall, bytes: &[u8])
+        ensures { self.new ≡ (call.now, bytes.now) ∷ self.old }
+    {
+        self.calls = self.calls.after((call, bytes));
+    }
 }

@@ -35,7 +35,7 @@ pub fn open<R: Files<File = File>>(
     is_made: bool,
     noted: &mut Record,
 ) -> io::Result<File>
-    ensures { noted.new.calls ≡ (SystemCall.Open (kind_in result), []) ∷ noted.old.calls }
+    ensures { noted.new ≡ (SystemCall.Open (kind_in result), []) ∷ noted.old }
 {
     let opened = OpenOptions::new()
         .read(true)
@@ -49,7 +49,7 @@ pub fn open<R: Files<File = File>>(
 
 /// Takes the file's lock; `WouldBlock` where another has it.
 pub fn lock(file: &File, noted: &mut Record) -> io::Result<()>
-    ensures { noted.new.calls ≡ (SystemCall.Lock (kind_in result), []) ∷ noted.old.calls }
+    ensures { noted.new ≡ (SystemCall.Lock (kind_in result), []) ∷ noted.old }
 {
     let locked = file.try_lock().map_err(io::Error::from);
     let failed = kind_of(&locked);
@@ -59,7 +59,7 @@ pub fn lock(file: &File, noted: &mut Record) -> io::Result<()>
 
 /// Asks for the file's metadata.
 pub fn measure(file: &File, noted: &mut Record) -> io::Result<Extent>
-    ensures { noted.new.calls ≡ (measured result, []) ∷ noted.old.calls }
+    ensures { noted.new ≡ (measured result, []) ∷ noted.old }
 {
     match file.metadata() {
         Ok(metadata) => {
@@ -78,7 +78,7 @@ pub fn measure(file: &File, noted: &mut Record) -> io::Result<Extent>
 
 /// Gives the file this length.
 pub fn set_len(file: &File, len: u64, noted: &mut Record) -> io::Result<()>
-    ensures { noted.new.calls ≡ (SystemCall.SetLen len (kind_in result), []) ∷ noted.old.calls }
+    ensures { noted.new ≡ (SystemCall.SetLen len (kind_in result), []) ∷ noted.old }
 {
     let set = file.set_len(len);
     let failed = kind_of(&set);
@@ -88,8 +88,8 @@ pub fn set_len(file: &File, len: u64, noted: &mut Record) -> io::Result<()>
 
 /// Reads bytes from this offset on, which may be fewer than there is room for. None where there is room is `UnexpectedEof`.
 pub fn read_at(file: &File, into: &mut [u8], offset: u64, noted: &mut Record) -> io::Result<usize>
-    ensures noted { noted.new.calls
-        ≡ (read_at_answer offset result, into.new) ∷ noted.old.calls }
+    ensures noted { noted.new
+        ≡ (read_at_answer offset result, into.new) ∷ noted.old }
     ensures some { 0 < length into.new → IfOk result (λ moved. 0 < moved) }
     ensures inside { IfOk result (λ moved. moved ≤ length into.new) }
 {
@@ -114,8 +114,8 @@ pub fn read_at(file: &File, into: &mut [u8], offset: u64, noted: &mut Record) ->
 
 /// Writes these bytes from this offset on, or the first few of them. None of them is `WriteZero`.
 pub fn write_at(file: &File, bytes: &[u8], offset: u64, noted: &mut Record) -> io::Result<usize>
-    ensures noted { noted.new.calls
-        ≡ (write_at_answer offset result, bytes.now) ∷ noted.old.calls }
+    ensures noted { noted.new
+        ≡ (write_at_answer offset result, bytes.now) ∷ noted.old }
     ensures some { 0 < length bytes.now → IfOk result (λ moved. 0 < moved) }
     ensures inside { IfOk result (λ moved. moved ≤ length bytes.now) }
 {
@@ -140,8 +140,8 @@ pub fn write_at(file: &File, bytes: &[u8], offset: u64, noted: &mut Record) -> i
 
 /// A read that is not asked for: it can't be, or was interrupted too often. It is noted as one that failed so.
 pub fn refuse_read(into: &[u8], offset: u64, kind: ErrorKind, noted: &mut Record) -> io::Error
-    ensures noted { noted.new.calls
-        ≡ (SystemCall.ReadAtFailed offset kind, into.now) ∷ noted.old.calls }
+    ensures noted { noted.new
+        ≡ (SystemCall.ReadAtFailed offset kind, into.now) ∷ noted.old }
     ensures kind { error_kind result ≡ kind }
 {
     noted.note(&SystemCall::ReadAtFailed { offset, kind }, into);
@@ -150,8 +150,8 @@ pub fn refuse_read(into: &[u8], offset: u64, kind: ErrorKind, noted: &mut Record
 
 /// A write that is not asked for: it can't be, or was interrupted too often. It is noted as one that failed so.
 pub fn refuse_write(bytes: &[u8], offset: u64, kind: ErrorKind, noted: &mut Record) -> io::Error
-    ensures noted { noted.new.calls
-        ≡ (SystemCall.WriteAtFailed offset kind, bytes.now) ∷ noted.old.calls }
+    ensures noted { noted.new
+        ≡ (SystemCall.WriteAtFailed offset kind, bytes.now) ∷ noted.old }
     ensures kind { error_kind result ≡ kind }
 {
     noted.note(&SystemCall::WriteAtFailed { offset, kind }, bytes);
@@ -160,7 +160,7 @@ pub fn refuse_write(bytes: &[u8], offset: u64, kind: ErrorKind, noted: &mut Reco
 
 /// Puts the file's bytes on the disk (fdatasync).
 pub fn sync_data(file: &File, noted: &mut Record) -> io::Result<()>
-    ensures { noted.new.calls ≡ (SystemCall.SyncData (kind_in result), []) ∷ noted.old.calls }
+    ensures { noted.new ≡ (SystemCall.SyncData (kind_in result), []) ∷ noted.old }
 {
     let synced = file.sync_data();
     let failed = kind_of(&synced);
@@ -170,7 +170,7 @@ pub fn sync_data(file: &File, noted: &mut Record) -> io::Result<()>
 
 /// Puts the file's bytes and metadata on the disk (fsync).
 pub fn sync_all(file: &File, noted: &mut Record) -> io::Result<()>
-    ensures { noted.new.calls ≡ (SystemCall.SyncAll (kind_in result), []) ∷ noted.old.calls }
+    ensures { noted.new ≡ (SystemCall.SyncAll (kind_in result), []) ∷ noted.old }
 {
     let synced = file.sync_all();
     let failed = kind_of(&synced);
@@ -184,7 +184,7 @@ pub fn open_folder<R: Files<File = File>>(
     path: &str,
     noted: &mut Record,
 ) -> io::Result<File>
-    ensures { noted.new.calls ≡ (SystemCall.OpenFolder (kind_in result), []) ∷ noted.old.calls }
+    ensures { noted.new ≡ (SystemCall.OpenFolder (kind_in result), []) ∷ noted.old }
 {
     let opened = File::open(rt, path);
     let failed = kind_of(&opened);
@@ -194,7 +194,7 @@ pub fn open_folder<R: Files<File = File>>(
 
 /// Puts a folder's names on the disk.
 pub fn sync_folder(folder: &File, noted: &mut Record) -> io::Result<()>
-    ensures { noted.new.calls ≡ (SystemCall.SyncFolder (kind_in result), []) ∷ noted.old.calls }
+    ensures { noted.new ≡ (SystemCall.SyncFolder (kind_in result), []) ∷ noted.old }
 {
     let synced = folder.sync_all();
     let failed = kind_of(&synced);

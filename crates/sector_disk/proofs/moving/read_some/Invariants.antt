@@ -3,4 +3,4 @@ use Rattle.sector_disk.specs.SystemCalls.{answered}
 use Rattle.sector_disk.proofs.moving.read_some.Given as goal
 
 abbrev pub invariant-loop : goal.invariant-loop
-invariant-loop l = answered l.noted.calls ≡ answered l.initial.noted.calls
+invariant-loop l = answered l.noted ≡ answered l.initial.noted

@@ -8,12 +8,12 @@ pub loop-at-preserved : goal.loop-at-preserved
 loop-at-preserved c =
     let old = c.loop-at.into in
     let piece = c.read_some-in-loop-at.new.into in
-    let entries = (told_by c.args.noted.now.calls).entries in
+    let entries = (told_by c.args.noted.now).entries in
     let at = c.loop-at.at in
     let n = c.in_ok-at-2.field-0 in
     let inside : at ≤ length old = c.loop-at.invariant.0 in
     let rest : length piece ≡ length (drop at old) = (search rules) ∙ sym (length-drop at old) in
-    let gone = goes_further Reads c.loop-at.noted.calls c.read_some-in-loop-at.new.noted.calls (c.args.first * 512) entries old piece at c.loop-at.invariant.1 c.loop-at-test.true rest n c.in_ok-at-2.ensures.noted in (
+    let gone = goes_further Reads c.loop-at.noted c.read_some-in-loop-at.new.noted (c.args.first * 512) entries old piece at c.loop-at.invariant.1 c.loop-at-test.true rest n c.in_ok-at-2.ensures.noted in (
       subst (λ (xs : List ℕ). at + n ≤ length xs) (sym (put_rest at old piece)) (omega (arith, length-append (take at old) piece, length-take-le at old inside, c.in_ok-at-2.ensures.inside)),
-      subst (λ (xs : List ℕ). told_by c.read_some-in-loop-at.new.noted.calls ≡ so_far entries Reads (c.args.first * 512) xs (at + n)) (sym (put_rest at old piece)) gone,
+      subst (λ (xs : List ℕ). told_by c.read_some-in-loop-at.new.noted ≡ so_far entries Reads (c.args.first * 512) xs (at + n)) (sym (put_rest at old piece)) gone,
     )

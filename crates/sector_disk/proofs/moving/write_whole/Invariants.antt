@@ -4,7 +4,7 @@ use Rattle.sector_disk.proofs.ToldSteps.{so_far}
 use Rattle.sector_disk.proofs.moving.write_whole.Given as goal
 
 abbrev pub invariant-loop-at : goal.invariant-loop-at
-invariant-loop-at l = (l.at ≤ length l.bytes) × (told_by l.noted.calls ≡ so_far (told_by l.fn.noted.calls).entries Writes l.start l.bytes l.at)
+invariant-loop-at l = (l.at ≤ length l.bytes) × (told_by l.noted ≡ so_far (told_by l.fn.noted).entries Writes l.start l.bytes l.at)
 
 abbrev pub decreases-loop-at : goal.decreases-loop-at
 decreases-loop-at l = length l.bytes - l.at

@@ -7,4 +7,4 @@ abbrev pub decreases-loop-at : goal.decreases-loop-at
 decreases-loop-at l = l.to - l.at
 
 abbrev pub invariant-loop-at : goal.invariant-loop-at
-invariant-loop-at l = (l.at ≤ l.to) × (first_fault (answered l.noted.calls) ≡ None) × (len_after (answered l.noted.calls) ≡ Some l.at)
+invariant-loop-at l = (l.at ≤ l.to) × (first_fault (answered l.noted) ≡ None) × (len_after (answered l.noted) ≡ Some l.at)

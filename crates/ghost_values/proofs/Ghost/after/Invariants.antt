@@ -1,0 +1,5 @@
+-- What is asked for.
+use Rattle.ghost_values.proofs.Ghost.after.Given as goal
+
+abbrev pub ghost-of : goal.ghost-of
+ghost-of g a = g.value
