@@ -16,7 +16,7 @@
 //!
 //! Modules, in reading order:
 //! - `phrases`, `names`: the words between the figures, the names of fields and keys
-//! - `told`, `meant`: a text that is told piece by piece, and all that was put, which only clauses read
+//! - `told`: a text that is told piece by piece
 //! - `seats`: where a stop stands first
 //! - `rows`: what happens at the places of a route
 //! - `tables`: a route as a table
@@ -50,7 +50,6 @@ mod further;
 mod laws;
 mod layouts;
 mod lilim_faults;
-mod meant;
 mod names;
 mod notes;
 mod numbers;

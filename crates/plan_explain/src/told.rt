@@ -3,7 +3,7 @@ ghost use Rattle.std.specs.Prelude.{◌≡◌, ◌<◌, ◌∷◌, ◌++◌, [],
 ghost use Rattle.std.specs.Fmt.{signed_decimal};
 ghost use Rattle.plan_explain.specs.Columns.{left, right, right_signed};
 
-use crate::meant::Meant;
+use ghost_values::{Ghost, ListOf};
 use plan_types::OutOfMemory;
 use std::alloc::{AllocError, Global};
 use std::marker::Model;
@@ -13,7 +13,8 @@ use std::marker::Model;
 pub(crate) struct Told {
     text: String,
     has_room: bool,
-    meant: Meant,
+    // All that was put so far, whether there was memory for it or not.
+    meant: Ghost<ListOf<u8>>,
 }
 
 impl Model for Told {
@@ -21,9 +22,9 @@ impl Model for Told {
 
     ghost Value = { List ℕ };
 
-    ghost view = { λ t. t.meant.text };
+    ghost view = { λ t. t.meant.value };
 
-    ghost invariant = { λ t. t.has_room ≡ true → string_bytes t.text ≡ t.meant.text };
+    ghost invariant = { λ t. t.has_room ≡ true → string_bytes t.text ≡ t.meant.value };
 }
 
 impl Told {
@@ -34,7 +35,7 @@ impl Told {
         Told {
             text: String::new(alloc),
             has_room: true,
-            meant: Meant::new(),
+            meant: Ghost::of(),
         }
     }
 
@@ -50,7 +51,7 @@ impl Told {
     pub(crate) fn push_str(&mut self, text: &str)
         ensures { self.new ≡ self.old ++ text.now }
     {
-        self.meant = self.meant.with(text.as_bytes());
+        self.meant = self.meant.after(text.as_bytes());
         if self.has_room && self.text.push_str(text).is_err() {
             self.has_room = false;
         }
@@ -61,7 +62,7 @@ impl Told {
         requires { byte < 128 }
         ensures { self.new ≡ self.old ++ byte ∷ [] }
     {
-        self.meant = self.meant.with(&[byte]);
+        self.meant = self.meant.after(byte);
         if self.has_room && self.text.push(char::from(byte)).is_err() {
             self.has_room = false;
         }
@@ -71,7 +72,7 @@ impl Told {
     pub(crate) fn push_number(&mut self, n: u128)
         ensures { self.new ≡ self.old ++ decimal n }
     {
-        self.meant = self.meant.with_number(n);
+        self.meant = self.meant.after(n);
         if self.has_room && write!(self.text, "{n}").is_err() {
             self.has_room = false;
         }
@@ -81,7 +82,7 @@ impl Told {
     pub(crate) fn push_right(&mut self, width: usize, n: u128)
         ensures { self.new ≡ self.old ++ right width n }
     {
-        self.meant = self.meant.with_right(width, n);
+        self.meant = self.meant.after((width, n));
         if self.has_room && write!(self.text, "{n:>width$}").is_err() {
             self.has_room = false;
         }
@@ -91,7 +92,7 @@ impl Told {
     pub(crate) fn push_left(&mut self, width: usize, n: u128)
         ensures { self.new ≡ self.old ++ left width n }
     {
-        self.meant = self.meant.with_left(width, n);
+        self.meant = self.meant.after((width, n));
         if self.has_room && write!(self.text, "{n:<width$}").is_err() {
             self.has_room = false;
         }
@@ -101,7 +102,7 @@ impl Told {
     pub(crate) fn push_right_signed(&mut self, width: usize, n: i64)
         ensures { self.new ≡ self.old ++ right_signed width n }
     {
-        self.meant = self.meant.with_right_signed(width, n);
+        self.meant = self.meant.after((width, n));
         if self.has_room && write!(self.text, "{n:>width$}").is_err() {
             self.has_room = false;
         }
@@ -111,7 +112,7 @@ impl Told {
     pub(crate) fn push_signed(&mut self, n: i64)
         ensures { self.new ≡ self.old ++ signed_decimal n }
     {
-        self.meant = self.meant.with_signed(n);
+        self.meant = self.meant.after(n);
         if self.has_room && write!(self.text, "{n}").is_err() {
             self.has_room = false;
         }

@@ -13,7 +13,6 @@
 //!
 //! Modules, in reading order:
 //! - `texts`: the fixed texts
-//! - `meant`: the text that a picture is meant to have, which only clauses read
 //! - `svg`: the text of a picture, piece by piece
 //! - `frame`: where the stops stand
 //! - `known`: the stops that are drawn, and what is drawn of a route
@@ -43,7 +42,6 @@ mod known;
 mod labels;
 mod laws;
 mod map;
-mod meant;
 mod svg;
 mod table;
 mod texts;

@@ -7,8 +7,8 @@ ghost use Rattle.plan_picture.specs.Svg.{at_text, attribute, bar, broken_class, 
 ghost use Rattle.plan_picture.specs.Texts.{fixed};
 
 use crate::frame::Point;
-use crate::meant::Meant;
 use crate::texts::Text;
+use ghost_values::{Ghost, ListOf};
 use itoa::Buffer;
 use plan_types::OutOfMemory;
 use std::alloc::{AllocError, Global};
@@ -19,7 +19,8 @@ use std::marker::Model;
 pub(crate) struct Svg {
     bytes: Vec<u8>,
     has_room: bool,
-    meant: Meant,
+    // All that was put so far, whether there was memory for it or not.
+    meant: Ghost<ListOf<u8>>,
 }
 
 impl Model for Svg {
@@ -27,9 +28,9 @@ impl Model for Svg {
 
     ghost Value = { List ℕ };
 
-    ghost view = { λ s. s.meant.text };
+    ghost view = { λ s. s.meant.value };
 
-    ghost invariant = { λ s. s.has_room ≡ true → s.bytes.items ≡ s.meant.text };
+    ghost invariant = { λ s. s.has_room ≡ true → s.bytes.items ≡ s.meant.value };
 }
 
 impl Svg {
@@ -40,7 +41,7 @@ impl Svg {
         Svg {
             bytes: Vec::new(alloc),
             has_room: true,
-            meant: Meant::new(),
+            meant: Ghost::of(),
         }
     }
 
@@ -60,7 +61,7 @@ impl Svg {
         ensures { self.new ≡ self.old ++ text.now }
     {
         let bytes = text.as_bytes();
-        self.meant = self.meant.with(bytes);
+        self.meant = self.meant.after(bytes);
         if self.has_room && self.bytes.extend_from_slice(bytes).is_err() {
             self.has_room = false;
         }

@@ -1,5 +1,0 @@
--- What is asked for.
-use Rattle.plan_explain.proofs.meant.Meant.of_left.Given as goal
-
-abbrev pub ghost-of : goal.ghost-of
-ghost-of g a = g.all
