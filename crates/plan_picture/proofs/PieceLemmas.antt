@@ -31,10 +31,6 @@ unfolding attribute fixed
 attribute_goes a m os t n first =
     goes_on a (fixed t ++ decimal n) (fixed text.Quote) (goes_on a (fixed t) (decimal n) first (quoted_keeps m os (decimal n) (plain_decimal n))) refl
 
-pub quote_ends : (m : List ℕ) (os : List (List ℕ)) → Goes (quoted m os) (fixed text.Quote) (unquoted m os)
-unfolding fixed
-quote_ends m os = refl
-
 pub x_begins : (m : List ℕ) (os : List (List ℕ)) → Goes (unquoted m os) (fixed text.X) (quoted m os)
 unfolding fixed
 x_begins m os = refl
