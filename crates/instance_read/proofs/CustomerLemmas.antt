@@ -9,7 +9,7 @@ use Rattle.std.proofs.lemmas.Int.{ints}
 use Rattle.std.proofs.lemmas.List.{get_or_past}
 use Rattle.std.proofs.lemmas.List.FromFn.{map-range_with_len_more}
 use Rattle.plan_types.specs.Instance.{Instance, IsTaken, first_some, stop_at, with_request}
-use Rattle.plan_types.specs.Limits.{IsDemand, IsDepot, IsVisit}
+use Rattle.plan_types.specs.Limits.{IsDemand, IsVisit}
 use Rattle.plan_types.specs.Request.{IsRequest, stop_in}
 use Rattle.plan_types.specs.declared.requests.Request.{Request}
 use Rattle.plan_types.specs.declared.requests.Request.TheVariants.{Single}
@@ -41,9 +41,6 @@ module _ (draft : Draft) (valid : IsDraft draft) where
 
   pub visit_within : (demand : ℤ) (n : ℕ) → IsVisit (drafted_stop draft demand n)
   visit_within demand n = record { x = (point_within n).0; y = (point_within n).1; window = omega arith; latest = omega arith; service = omega arith }
-
-  pub depot_within : IsDepot (drafted_stop draft (pos 0) 0)
-  depot_within = record { number = refl; demand = refl; service = refl; visit = visit_within (pos 0) 0 }
 
   most_nodes : (o : Option ℕ) → IfSome o (λ n. (2 ≤ n) × (n ≤ 40001)) → unwrap_or o 0 ≤ 40001
   most_nodes None h = omega arith

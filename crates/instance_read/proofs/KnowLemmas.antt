@@ -172,47 +172,46 @@ module _ (before : List Placed) (row : Row) (key : Key) (key_is : key_of row ≡
     no_demands_kept : new.demands.items ≡ old.demands.items → any_key Demands (before ++ placed row Outside ∷ []) ≡ false → new.demands.items ≡ []
     no_demands_kept same e = same ∙ known.no_demands (no_before Demands e)
 
+    -- a draft whose tables stay
+    tables_kept : new.seen ≡ set old.seen (key_number key) true → new.coordinates.items ≡ old.coordinates.items → new.demands.items ≡ old.demands.items → new.nodes ≡ option_map number_in (first_key Dimension (before ++ placed row Outside ∷ []))
+        → new.capacity ≡ option_map number_in (first_key Capacity (before ++ placed row Outside ∷ [])) → new.end ≡ option_map (λ (r : Row). r.line) (first_key End (before ++ placed row Outside ∷ [])) → Knows (before ++ placed row Outside ∷ []) new
+    tables_kept seen coordinates demands nodes capacity end =
+        record {
+          seen = seen_kept seen;
+          nodes = nodes;
+          capacity = capacity;
+          end = end;
+          coordinates = coordinates_kept coordinates;
+          demands = demands_kept demands;
+          no_coordinates = no_coordinates_kept coordinates;
+          no_demands = no_demands_kept demands;
+        }
+
     -- where nothing but the key is kept
     all_kept : eqb (key_number key) 0 ≡ false → eqb (key_number key) 1 ≡ false → eqb (key_number key) 8 ≡ false → new ≡ with_key old key → Knows (before ++ placed row Outside ∷ []) new
     all_kept dimension capacity end is =
-        record {
-          seen = seen_kept (ap (λ (d : Draft). d.seen) is);
-          nodes = nodes_kept dimension (ap (λ (d : Draft). d.nodes) is);
-          capacity = capacity_kept capacity (ap (λ (d : Draft). d.capacity) is);
-          end = end_kept end (ap (λ (d : Draft). d.end) is);
-          coordinates = coordinates_kept (ap (λ (d : Draft). d.coordinates.items) is);
-          demands = demands_kept (ap (λ (d : Draft). d.demands.items) is);
-          no_coordinates = no_coordinates_kept (ap (λ (d : Draft). d.coordinates.items) is);
-          no_demands = no_demands_kept (ap (λ (d : Draft). d.demands.items) is);
-        }
+        tables_kept (ap (λ (d : Draft). d.seen) is) (ap (λ (d : Draft). d.coordinates.items) is) (ap (λ (d : Draft). d.demands.items) is)
+        (nodes_kept dimension (ap (λ (d : Draft). d.nodes) is))
+        (capacity_kept capacity (ap (λ (d : Draft). d.capacity) is))
+        (end_kept end (ap (λ (d : Draft). d.end) is))
 
 -- what a line outside the sections adds
 pub knows_key : (before : List Placed) (row : Row) (old new : Draft) (key : Key) → key_of row ≡ key → IsDraft old → Knows before old
     → HasNoKind (key_fault (is_some old.nodes) (has_seen old key) (value_of row) key) → TakesValue (with_key old key) row.line (value_of row) key new → Knows (before ++ placed row Outside ∷ []) new
 knows_key before row old new Dimension key_is valid known none is =
     let fresh = sym (known.seen Dimension) ∙ none NodeRepeated in
-    record {
-      seen = seen_kept before row Dimension key_is old new valid known (ap (λ (d : Draft). d.seen) is);
-      nodes = ap (λ (d : Draft). d.nodes) is ∙ ap (option_map number_in) (sym (new_first before row Dimension key_is Dimension refl fresh));
-      capacity = capacity_kept before row Dimension key_is old new valid known refl (ap (λ (d : Draft). d.capacity) is);
-      end = end_kept before row Dimension key_is old new valid known refl (ap (λ (d : Draft). d.end) is);
-      coordinates = coordinates_kept before row Dimension key_is old new valid known (ap (λ (d : Draft). d.coordinates.items) is);
-      demands = demands_kept before row Dimension key_is old new valid known (ap (λ (d : Draft). d.demands.items) is);
-      no_coordinates = no_coordinates_kept before row Dimension key_is old new valid known (ap (λ (d : Draft). d.coordinates.items) is);
-      no_demands = no_demands_kept before row Dimension key_is old new valid known (ap (λ (d : Draft). d.demands.items) is);
-    }
+    tables_kept before row Dimension key_is old new valid known
+    (ap (λ (d : Draft). d.seen) is) (ap (λ (d : Draft). d.coordinates.items) is) (ap (λ (d : Draft). d.demands.items) is)
+    (ap (λ (d : Draft). d.nodes) is ∙ ap (option_map number_in) (sym (new_first before row Dimension key_is Dimension refl fresh)))
+    (capacity_kept before row Dimension key_is old new valid known refl (ap (λ (d : Draft). d.capacity) is))
+    (end_kept before row Dimension key_is old new valid known refl (ap (λ (d : Draft). d.end) is))
 knows_key before row old new Capacity key_is valid known none is =
     let fresh = sym (known.seen Capacity) ∙ none NodeRepeated in
-    record {
-      seen = seen_kept before row Capacity key_is old new valid known (ap (λ (d : Draft). d.seen) is);
-      nodes = nodes_kept before row Capacity key_is old new valid known refl (ap (λ (d : Draft). d.nodes) is);
-      capacity = ap (λ (d : Draft). d.capacity) is ∙ ap (option_map number_in) (sym (new_first before row Capacity key_is Capacity refl fresh));
-      end = end_kept before row Capacity key_is old new valid known refl (ap (λ (d : Draft). d.end) is);
-      coordinates = coordinates_kept before row Capacity key_is old new valid known (ap (λ (d : Draft). d.coordinates.items) is);
-      demands = demands_kept before row Capacity key_is old new valid known (ap (λ (d : Draft). d.demands.items) is);
-      no_coordinates = no_coordinates_kept before row Capacity key_is old new valid known (ap (λ (d : Draft). d.coordinates.items) is);
-      no_demands = no_demands_kept before row Capacity key_is old new valid known (ap (λ (d : Draft). d.demands.items) is);
-    }
+    tables_kept before row Capacity key_is old new valid known
+    (ap (λ (d : Draft). d.seen) is) (ap (λ (d : Draft). d.coordinates.items) is) (ap (λ (d : Draft). d.demands.items) is)
+    (nodes_kept before row Capacity key_is old new valid known refl (ap (λ (d : Draft). d.nodes) is))
+    (ap (λ (d : Draft). d.capacity) is ∙ ap (option_map number_in) (sym (new_first before row Capacity key_is Capacity refl fresh)))
+    (end_kept before row Capacity key_is old new valid known refl (ap (λ (d : Draft). d.end) is))
 knows_key before row old new Coordinates key_is valid known none is =
     let fresh = sym (known.seen Coordinates) ∙ none NodeRepeated in
     let draft = is.0 in
@@ -242,16 +241,11 @@ knows_key before row old new Demands key_is valid known none is =
       no_demands = λ e. absurd (false≢true (sym e ∙ new_any before row Demands key_is Demands refl));
     }
 knows_key before row old new End key_is valid known none is =
-    record {
-      seen = seen_kept before row End key_is old new valid known (ap (λ (d : Draft). d.seen) is);
-      nodes = nodes_kept before row End key_is old new valid known refl (ap (λ (d : Draft). d.nodes) is);
-      capacity = capacity_kept before row End key_is old new valid known refl (ap (λ (d : Draft). d.capacity) is);
-      end = ap (λ (d : Draft). d.end) is ∙ ap (λ o. option_or o (Some row.line)) known.end ∙ end_more before row (has_is before row End key_is End);
-      coordinates = coordinates_kept before row End key_is old new valid known (ap (λ (d : Draft). d.coordinates.items) is);
-      demands = demands_kept before row End key_is old new valid known (ap (λ (d : Draft). d.demands.items) is);
-      no_coordinates = no_coordinates_kept before row End key_is old new valid known (ap (λ (d : Draft). d.coordinates.items) is);
-      no_demands = no_demands_kept before row End key_is old new valid known (ap (λ (d : Draft). d.demands.items) is);
-    }
+    tables_kept before row End key_is old new valid known
+    (ap (λ (d : Draft). d.seen) is) (ap (λ (d : Draft). d.coordinates.items) is) (ap (λ (d : Draft). d.demands.items) is)
+    (nodes_kept before row End key_is old new valid known refl (ap (λ (d : Draft). d.nodes) is))
+    (capacity_kept before row End key_is old new valid known refl (ap (λ (d : Draft). d.capacity) is))
+    (ap (λ (d : Draft). d.end) is ∙ ap (λ o. option_or o (Some row.line)) known.end ∙ end_more before row (has_is before row End key_is End))
 knows_key before row old new ProblemType key_is valid known none is = all_kept before row ProblemType key_is old new valid known refl refl refl is
 knows_key before row old new WeightType key_is valid known none is = all_kept before row WeightType key_is old new valid known refl refl refl is
 knows_key before row old new Depots key_is valid known none is = all_kept before row Depots key_is old new valid known refl refl refl is

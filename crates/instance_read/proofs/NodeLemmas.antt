@@ -1,5 +1,5 @@
 -- The faults of a node's line where its node is known to be taken or free.
-use Rattle.std.proofs.Common.{◌≡◌, ℕ, zero, suc, ◌-◌, ◌≤◌, ◌<◌, Bool, true, false, List, Option, Some, None, length, refl, sym, ap, subst, ◌∙◌, arith, ℤ, pos, negsuc, to_z, of_z, to_z-of_z, w32}
+use Rattle.std.proofs.Common.{◌≡◌, ℕ, zero, suc, ◌-◌, ◌≤◌, ◌<◌, Bool, true, false, ◌⊎◌, inl, inr, ⊎_elim, List, Option, Some, None, length, refl, sym, ap, subst, ◌∙◌, arith, ℤ, pos, negsuc, to_z, of_z, to_z-of_z, w32}
 use Rattle.std.specs.Prelude.{is_some, slice_index_or, unwrap_or}
 use Rattle.std.specs.Int.RustNames.{unsigned_abs}
 use Rattle.std.proofs.lemmas.Bool.{false≢true}
@@ -18,35 +18,27 @@ module _ (count : ℕ) (given limits : List (ℤ × ℤ)) (same : given ≡ limi
   none : HasNoKind (node_fault count limits (λ _. false) words)
   none = let P : List (ℤ × ℤ) → Type 0 = λ l. HasNoKind (node_fault count l (λ _. false) words) in subst P same read
 
+  -- it can have no fault but that its node is taken
+  no_other : (k : ReadFaultKind) → (node_fault count limits taken words k ≡ false) ⊎ (k ≡ NodeRepeated)
+  no_other FieldCount = inl (none FieldCount)
+  no_other BadNumber = inl (none BadNumber)
+  no_other Range = inl (none Range)
+  no_other NodeRepeated = inr refl
+  no_other TaskOrder = inl refl
+  no_other PairMismatch = inl refl
+  no_other EmptyWindow = inl refl
+  no_other TooManyStops = inl refl
+  no_other MissingKey = inl refl
+  no_other Unsupported = inl refl
+  no_other DepotNotFirst = inl refl
+  no_other Truncated = inl refl
+  no_other OutOfMemory = inl refl
+
   pub node_none : is_that taken (field words 0) ≡ false → HasNoKind (node_fault count limits taken words)
-  node_none free FieldCount = none FieldCount
-  node_none free BadNumber = none BadNumber
-  node_none free Range = none Range
-  node_none free NodeRepeated = free
-  node_none free TaskOrder = refl
-  node_none free PairMismatch = refl
-  node_none free EmptyWindow = refl
-  node_none free TooManyStops = refl
-  node_none free MissingKey = refl
-  node_none free Unsupported = refl
-  node_none free DepotNotFirst = refl
-  node_none free Truncated = refl
-  node_none free OutOfMemory = refl
+  node_none free k = ⊎_elim (λ no. no) (λ is. ap (node_fault count limits taken words) is ∙ free) (no_other k)
 
   no_lesser : (k : ReadFaultKind) → node_fault count limits taken words k ≡ true → rank NodeRepeated ≤ rank k
-  no_lesser FieldCount e = absurd (false≢true (sym (none FieldCount) ∙ e))
-  no_lesser BadNumber e = absurd (false≢true (sym (none BadNumber) ∙ e))
-  no_lesser Range e = absurd (false≢true (sym (none Range) ∙ e))
-  no_lesser NodeRepeated e = omega arith
-  no_lesser TaskOrder e = absurd (false≢true e)
-  no_lesser PairMismatch e = absurd (false≢true e)
-  no_lesser EmptyWindow e = absurd (false≢true e)
-  no_lesser TooManyStops e = absurd (false≢true e)
-  no_lesser MissingKey e = absurd (false≢true e)
-  no_lesser Unsupported e = absurd (false≢true e)
-  no_lesser DepotNotFirst e = absurd (false≢true e)
-  no_lesser Truncated e = absurd (false≢true e)
-  no_lesser OutOfMemory e = absurd (false≢true e)
+  no_lesser k e = ⊎_elim (λ no. absurd (false≢true (sym no ∙ e))) (λ is. omega (arith, ap rank is)) (no_other k)
 
   pub node_repeated : is_that taken (field words 0) ≡ true → IsFirstKind (node_fault count limits taken words) NodeRepeated
   node_repeated h = (h, no_lesser)

@@ -39,10 +39,6 @@ found_holds P n [] u all e = absurd (cc)
 found_holds P n (t ∷ ts) u all e = found_holds_cond P n t u ts (eqb t.stop.number n) all.0 (found_holds P n ts u all.1) e
 
 -- tasks that rise are found at their numbers
-rises_weaker : (m n : ℕ) (ts : List Task) → m ≤ n → RisesFrom n ts → RisesFrom m ts
-rises_weaker m n [] l h = tt
-rises_weaker m n (t ∷ ts) l h = (omega arith, h.1)
-
 above_at : (n : ℕ) (ts : List Task) (i : ℕ) (d : Task) → RisesFrom n ts → i < length ts → n < (get_or ts i d).stop.number
 above_at n [] i d h l = absurd (omega arith)
 above_at n (t ∷ ts) zero d h l = h.0

@@ -174,18 +174,6 @@ pub placed_none : (nodes : Option ℕ) (place : Section) → placed_from nodes p
 unfolding placed_from
 placed_none nodes place = refl
 
-pub reading_start : (all : List Row) (draft : Draft) → Knows [] draft → IsDraft draft → draft.nodes ≡ None → IsReading all draft Outside all
-reading_start all draft known valid none =
-    record {
-      before = [];
-      splits = ap (λ o. placed_from o Outside all) (sym none);
-      ends = ap (λ o. end_from o Outside all) (sym none);
-      known = known;
-      clean = λ b q a e. absurd (omega (arith, ap length e, length-append b (q ∷ a)));
-      valid = valid;
-      fits = tt;
-    }
-
 -- What one line more makes of it.
 module _ (all : List Row) (old new : Draft) (place next : Section) (rest more : List Row) (row : Row) (steps : rest ≡ row ∷ more) (reading : IsReading all old place rest) where
   split_here : placed_rows all ≡ reading.before ++ placed row place ∷ placed_from (nodes_after old.nodes row place) (place_after old.nodes row place) more

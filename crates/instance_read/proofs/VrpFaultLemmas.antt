@@ -1,5 +1,5 @@
 -- Which fault of a `.vrp` text is told.
-use Rattle.std.proofs.Common.{◌≡◌, ℕ, ◌+◌, ◌<◌, true, false, ◌⊎◌, inl, inr, List, [], ◌∷◌, ◌++◌, length, map, Option, None, refl, sym, ap, subst, ◌∙◌, arith, append_assoc}
+use Rattle.std.proofs.Common.{◌≡◌, ℕ, ◌+◌, ◌<◌, true, false, ◌⊎◌, ⊎_elim, inl, inr, List, [], ◌∷◌, ◌++◌, length, map, Option, None, refl, sym, ap, subst, ◌∙◌, arith, append_assoc}
 use Rattle.std.proofs.lemmas.Bool.{false≢true}
 use Rattle.text_lines.specs.Lines.{lines_of}
 use Rattle.instance_read.specs.declared.faults.ReadFault.{ReadFault}
@@ -67,57 +67,59 @@ module _ (text : List ℕ) where
     no_line : (line : ℕ) (kind : ReadFaultKind) → VrpFault text OfLine line kind → ⊥
     no_line line kind g = false≢true (sym (clean g.0 g.1 g.2 g.3 kind) ∙ g.5)
 
+    -- the whole text has two faults: it ends inside a section, or it lacks a key
+    text_cases : (line : ℕ) (kind : ReadFaultKind) → VrpFault text OfText line kind
+        → ((kind ≡ Truncated) × (is_inside (end_place text) ≡ true) × (line ≡ length (lines_of text) + 1))
+        ⊎ ((kind ≡ MissingKey) × (is_inside (end_place text) ≡ false) × (lacks_key (placed_of text) ≡ true) × (line ≡ end_line text))
+    text_cases line Truncated g = inl (refl, g.0, g.1)
+    text_cases line MissingKey g = inr (refl, g.0, g.1, g.2)
+    text_cases line BadNumber g = absurd g
+    text_cases line Range g = absurd g
+    text_cases line FieldCount g = absurd g
+    text_cases line TaskOrder g = absurd g
+    text_cases line PairMismatch g = absurd g
+    text_cases line EmptyWindow g = absurd g
+    text_cases line TooManyStops g = absurd g
+    text_cases line Unsupported g = absurd g
+    text_cases line DepotNotFirst g = absurd g
+    text_cases line NodeRepeated g = absurd g
+    text_cases line OutOfMemory g = absurd g
+
     -- a text that ends inside a section
     module _ (inside : is_inside (end_place text) ≡ true) where
-      cut_cases : (line : ℕ) (kind : ReadFaultKind) → VrpFault text OfText line kind → IsNoLaterPlace (length (lines_of text) + 1) Truncated line kind
-      cut_cases line Truncated g = inr (sym g.1, omega arith)
-      cut_cases line MissingKey g = absurd (false≢true (sym g.0 ∙ inside))
-      cut_cases line BadNumber g = absurd g
-      cut_cases line Range g = absurd g
-      cut_cases line FieldCount g = absurd g
-      cut_cases line TaskOrder g = absurd g
-      cut_cases line PairMismatch g = absurd g
-      cut_cases line EmptyWindow g = absurd g
-      cut_cases line TooManyStops g = absurd g
-      cut_cases line Unsupported g = absurd g
-      cut_cases line DepotNotFirst g = absurd g
-      cut_cases line NodeRepeated g = absurd g
-      cut_cases line OutOfMemory g = absurd g
+      cut_fault : (line : ℕ) (kind : ReadFaultKind) → VrpFault text OfText line kind → IsNoLaterPlace (length (lines_of text) + 1) Truncated line kind
+      cut_fault line kind g =
+          ⊎_elim
+          (λ cut. inr (sym cut.2, omega (arith, ap rank cut.0)))
+          (λ lacks. absurd (false≢true (sym lacks.1 ∙ inside)))
+          (text_cases line kind g)
 
       cut_no_later : (class : Class) (line : ℕ) (kind : ReadFaultKind) → VrpFault text class line kind → IsNoLater OfText (length (lines_of text) + 1) Truncated class line kind
       cut_no_later OfLine line kind g = no_line line kind g
-      cut_no_later OfText line kind g = cut_cases line kind g
+      cut_no_later OfText line kind g = cut_fault line kind g
 
       pub truncated_first : IsFirstFault (VrpFault text) (record { line = length (lines_of text) + 1; kind = Truncated })
       truncated_first = (OfText, (inside, refl), cut_no_later)
 
     -- a text that ends outside the sections
     module _ (outside : is_inside (end_place text) ≡ false) where
-      text_cases : (line : ℕ) (kind : ReadFaultKind) → VrpFault text OfText line kind → (kind ≡ MissingKey) × (lacks_key (placed_of text) ≡ true) × (line ≡ end_line text)
-      text_cases line MissingKey g = (refl, g.1, g.2)
-      text_cases line Truncated g = absurd (false≢true (sym outside ∙ g.0))
-      text_cases line BadNumber g = absurd g
-      text_cases line Range g = absurd g
-      text_cases line FieldCount g = absurd g
-      text_cases line TaskOrder g = absurd g
-      text_cases line PairMismatch g = absurd g
-      text_cases line EmptyWindow g = absurd g
-      text_cases line TooManyStops g = absurd g
-      text_cases line Unsupported g = absurd g
-      text_cases line DepotNotFirst g = absurd g
-      text_cases line NodeRepeated g = absurd g
-      text_cases line OutOfMemory g = absurd g
+      missing : (line : ℕ) (kind : ReadFaultKind) → VrpFault text OfText line kind → (kind ≡ MissingKey) × (lacks_key (placed_of text) ≡ true) × (line ≡ end_line text)
+      missing line kind g =
+          ⊎_elim
+          (λ cut. absurd (false≢true (sym outside ∙ cut.1)))
+          (λ lacks. (lacks.0, lacks.2, lacks.3))
+          (text_cases line kind g)
 
       missing_no_later : (class : Class) (line : ℕ) (kind : ReadFaultKind) → VrpFault text class line kind → IsNoLater OfText (end_line text) MissingKey class line kind
       missing_no_later OfLine line kind g = no_line line kind g
-      missing_no_later OfText line kind g = let t = text_cases line kind g in inr (sym t.2, omega (arith, ap rank t.0))
+      missing_no_later OfText line kind g = let t = missing line kind g in inr (sym t.2, omega (arith, ap rank t.0))
 
       pub missing_first : lacks_key (placed_of text) ≡ true → IsFirstFault (VrpFault text) (record { line = end_line text; kind = MissingKey })
       missing_first lacks = (OfText, (outside, lacks, refl), missing_no_later)
 
       none_of_class : lacks_key (placed_of text) ≡ false → (class : Class) (line : ℕ) (kind : ReadFaultKind) → VrpFault text class line kind → ⊥
       none_of_class has OfLine line kind g = no_line line kind g
-      none_of_class has OfText line kind g = let t = text_cases line kind g in false≢true (sym has ∙ t.1)
+      none_of_class has OfText line kind g = let t = missing line kind g in false≢true (sym has ∙ t.1)
 
       pub has_no_fault : lacks_key (placed_of text) ≡ false → HasNone (VrpFault text)
       has_no_fault has = none_of_class has

@@ -1,5 +1,5 @@
 -- Where the lines of a `.vrp` text stand.
-use Rattle.std.proofs.Common.{◌≡◌, ◌≤◌, ℕ, zero, suc, ◌+◌, ◌-◌, Bool, true, false, cond, eqb, List, [], ◌∷◌, ◌++◌, length, length-append, map, drop, Option, Some, None, pos, refl, sym, ap, ◌∙◌, arith}
+use Rattle.std.proofs.Common.{◌≡◌, ◌≤◌, ℕ, zero, suc, ◌+◌, ◌-◌, Bool, true, false, ◌⊎◌, inl, inr, ⊎_elim, cond, eqb, List, [], ◌∷◌, ◌++◌, length, length-append, map, drop, Option, Some, None, pos, refl, sym, ap, ◌∙◌, arith}
 use Rattle.std.specs.Prelude.{◌||◌, codes, find}
 use Rattle.std.specs.Int.RustNames.{unsigned_abs}
 use Rattle.std.specs.Option.{option_map}
@@ -59,18 +59,22 @@ announced_stays n [] = refl
 announced_stays n (p ∷ before) = announced_stays n before
 
 -- only a DIMENSION line announces
+key_cases : (key : Key) → (key ≡ Dimension) ⊎ ((eqb (key_number key) 0 ≡ false) × ((row : Row) → nodes_in_key row key ≡ None))
+key_cases Dimension = inl refl
+key_cases Capacity = inr (refl, λ row. refl)
+key_cases ProblemType = inr (refl, λ row. refl)
+key_cases WeightType = inr (refl, λ row. refl)
+key_cases Refused = inr (refl, λ row. refl)
+key_cases Coordinates = inr (refl, λ row. refl)
+key_cases Demands = inr (refl, λ row. refl)
+key_cases Depots = inr (refl, λ row. refl)
+key_cases End = inr (refl, λ row. refl)
+key_cases StrayNumber = inr (refl, λ row. refl)
+key_cases Ignored = inr (refl, λ row. refl)
+
 none_in_key : (row : Row) (key : Key) → eqb (key_number key) 0 ≡ false → nodes_in_key row key ≡ None
-none_in_key row Dimension other = absurd (false≢true (sym other))
-none_in_key row Capacity other = refl
-none_in_key row ProblemType other = refl
-none_in_key row WeightType other = refl
-none_in_key row Refused other = refl
-none_in_key row Coordinates other = refl
-none_in_key row Demands other = refl
-none_in_key row Depots other = refl
-none_in_key row End other = refl
-none_in_key row StrayNumber other = refl
-none_in_key row Ignored other = refl
+none_in_key row key other =
+    ⊎_elim (λ is. absurd (false≢true (sym other ∙ ap (λ k. eqb (key_number k) 0) is))) (λ no. no.1 row) (key_cases key)
 
 still_none : (p : Placed) → has_key Dimension p ≡ false → nodes_after None p.row p.place ≡ None
 still_none p other = by p.place other
@@ -83,17 +87,7 @@ still_none p other = by p.place other
     by AfterEnd other = refl
 
 dimension_key : (key : Key) → eqb (key_number key) 0 ≡ true → key ≡ Dimension
-dimension_key Dimension is = refl
-dimension_key Capacity is = absurd (false≢true is)
-dimension_key ProblemType is = absurd (false≢true is)
-dimension_key WeightType is = absurd (false≢true is)
-dimension_key Refused is = absurd (false≢true is)
-dimension_key Coordinates is = absurd (false≢true is)
-dimension_key Demands is = absurd (false≢true is)
-dimension_key Depots is = absurd (false≢true is)
-dimension_key End is = absurd (false≢true is)
-dimension_key StrayNumber is = absurd (false≢true is)
-dimension_key Ignored is = absurd (false≢true is)
+dimension_key key is = ⊎_elim (λ same. same) (λ no. absurd (false≢true (sym no.0 ∙ is))) (key_cases key)
 
 now_some : (p : Placed) (n : ℕ) → has_key Dimension p ≡ true → field (value_words p.row) 0 ≡ Some (pos n) → nodes_after None p.row p.place ≡ Some n
 now_some p n is value = by p.place is
