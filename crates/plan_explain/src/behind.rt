@@ -1,11 +1,9 @@
 //! What stands behind the cost line of a solution's text. The reader ends there; here it is looked for.
-ghost use Rattle.std.specs.Prelude.{◌≡◌, is_some};
-ghost use Rattle.text_lines.specs.Words.{words_of};
-ghost use Rattle.sol_text.specs.LineShapes.{is_cost_line, only_word};
+ghost use Rattle.std.specs.Prelude.{◌≡◌};
+ghost use Rattle.sol_text.specs.LineShapes.{is_cost_line};
 ghost use Rattle.plan_explain.specs.Behind.{line_behind_cost};
 
-use crate::sol_faults::cost_tail;
-use crate::told_lines::word_count;
+use sol_text::cost_word;
 use text_lines::{Lines, is_blank_line};
 
 /// The number of the first line behind the cost line of a solution's text that has more than blanks and tabs, from 1; none where nothing
@@ -31,14 +29,5 @@ pub fn line_behind_cost(text: &[u8]) -> Option<u64>
 fn is_cost_line(line: &[u8]) -> bool
     ensures { result ≡ is_cost_line line.now }
 {
-    match cost_tail(line) {
-        Some(tail) => has_one_word(tail),
-        None => false,
-    }
-}
-
-fn has_one_word(tail: &[u8]) -> bool
-    ensures { result ≡ is_some (only_word (words_of tail.now)) }
-{
-    word_count(tail) == 1
+    cost_word(line).is_some()
 }

@@ -1,11 +1,10 @@
 //! What a word is as a number.
-ghost use Rattle.std.specs.Prelude.{◌≡◌, ◌^◌};
-ghost use Rattle.text_lines.specs.Numbers.{below, number_of};
-ghost use Rattle.sol_text.specs.Values.{cost_of, customer_of};
+ghost use Rattle.std.specs.Prelude.{◌≡◌};
+ghost use Rattle.text_lines.specs.Numbers.{number_of};
 ghost use Rattle.instance_read.specs.Fields.{is_beyond, is_no_number, is_that};
 ghost use Rattle.plan_explain.specs.Numbers.{is_fraction, is_no_customer, small_of};
 
-use text_lines::{Number, digits_len, digits_to_u32};
+use text_lines::{Number, digits_len, digits_to_u32, number_to_u64};
 
 /// Whether a word is no number.
 pub(crate) fn is_no_number(word: &[u8]) -> bool
@@ -46,17 +45,12 @@ pub(crate) fn is_no_customer(word: &[u8]) -> bool
     digits_to_u32(word).is_none()
 }
 
-fn whole_of(word: &[u8]) -> Option<u64>
-    ensures { result ≡ cost_of word.now }
-{
-    Number::parse(word)?.to_u64()
-}
-
 /// The number that a word is, if it is one of a stop or of nodes.
+#[tactic(auto, unfolding(sol_text::specs::Values::cost_of))]
 pub(crate) fn small_of(word: &[u8]) -> u16
     ensures { result ≡ small_of word.now }
 {
-    match whole_of(word) {
+    match number_to_u64(word) {
         Some(n) => u16::try_from(n).unwrap_or(0),
         None => 0,
     }

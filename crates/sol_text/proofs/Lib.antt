@@ -2,5 +2,4 @@ pub mod FaultLemmas
 pub mod ReadLemmas
 pub mod ShapeLemmas
 pub mod TextLemmas
-pub mod ValueLemmas
 pub mod WrittenRead

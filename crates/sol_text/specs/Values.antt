@@ -1,18 +1,14 @@
 -- The numbers of a solution text, and the solution that a text spells.
-use Rattle.std.specs.Prelude.{◌^◌, ℕ, List, map, find, Option, Some, None, unwrap_or, ℤ, pos, negsuc}
+use Rattle.std.specs.Prelude.{◌^◌, ℕ, List, map, find, Option, unwrap_or}
 use Rattle.std.specs.List.{before_first, filter_map}
 use Rattle.std.specs.Option.{option_and_then, option_map}
-use Rattle.text_lines.specs.Numbers.{below, digits_of, number_of}
+use Rattle.text_lines.specs.Numbers.{below, digits_of, magnitude, number_of}
 use Rattle.sol_text.specs.LineShapes.{customer_words, cost_word, is_cost_line}
 use Rattle.sol_text.specs.declared.read.Solution.{Solution}
 
 -- the customer that a word of digits names, if it is at most 2^32 - 1
 unfoldable pub customer_of : List ℕ → Option ℕ
 customer_of word = below (2 ^ 32) (digits_of word)
-
-abbrev pub magnitude : ℤ → Option ℕ
-magnitude (pos n) = Some n
-magnitude (negsuc n) = None
 
 -- the cost that a NUMBER is, if it lies in 0..2^64 - 1
 unfoldable pub cost_of : List ℕ → Option ℕ

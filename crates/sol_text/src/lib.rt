@@ -1,7 +1,8 @@
 //! Solutions as texts: the `.sol` files of CVRPLIB, for both kinds of problem.
 //!
 //! Entry functions: `read_sol` gives what a text spells (a `Solution`, which `plan_audit` takes) and is called by
-//! `auditor_cli`; `write_sol` gives the text of a plan and is called by `command_text` (the line `print`).
+//! `auditor_cli`; `write_sol` gives the text of a plan and is called by `command_text` (the line `print`). `cost_tail` and
+//! `cost_word` give what a cost line says, for who tells a fault of one.
 //!
 //! Source: the `.sol` files of CVRPLIB. What is a blank line, a number and a fault is this project's own.
 //!
@@ -31,5 +32,6 @@ mod write;
 
 pub use faults::{SolFault, SolFaultKind, WriteSolFault};
 pub use laws::{cost_lines_are_made, route_lines_are_made};
+pub use lines::{cost_tail, cost_word};
 pub use read::{Solution, read_sol};
 pub use write::write_sol;

@@ -13,7 +13,9 @@ ghost use Rattle.sol_text.specs.declared.lines.Line.TheVariants.{Route as Routed
 use crate::faults::{SolFault, SolFaultKind};
 use plan_types::Route;
 use std::alloc::Global;
-use text_lines::{Number, Words, digits_len, digits_to_u32, is_blank_line, trim_blanks_start};
+use text_lines::{
+    Words, digits_len, digits_to_u32, is_blank_line, number_to_u64, trim_blanks_start,
+};
 
 /// What a line says.
 #[derive(Drop)]
@@ -76,10 +78,11 @@ fn customer_of(word: &[u8]) -> Option<u32>
     digits_to_u32(word)
 }
 
+#[tactic(auto, unfolding(crate::specs::Values::cost_of))]
 fn cost_of(word: &[u8]) -> Option<u64>
     ensures { result ≡ cost_of word.now }
 {
-    Number::parse(word)?.to_u64()
+    number_to_u64(word)
 }
 
 // What follows the colon of a route line.
@@ -93,8 +96,9 @@ fn route_tail(line: &[u8]) -> Option<&[u8]>
     strip_colon(trim_blanks_start(rest))
 }
 
-// The word of a cost line that has exactly one.
-fn cost_word(line: &[u8]) -> Option<&[u8]>
+/// The word of a cost line, by the format of CVRPLIB's `.sol` files; none where the line is no cost line, or has another
+/// number of words behind `Cost` and its separator.
+pub fn cost_word(line: &[u8]) -> Option<&[u8]>
     ensures { option_copied result ≡ cost_word line.now }
 {
     let mut words = Words::new(cost_tail(line)?);
@@ -105,9 +109,10 @@ fn cost_word(line: &[u8]) -> Option<&[u8]>
     }
 }
 
-// What follows `Cost` and its separator.
+/// What follows `Cost`, in any letter case, and its separator: a colon, blanks or both. None where a line doesn't begin
+/// so.
 #[tactic(auto, unfolding(crate::specs::LineShapes::cost_tail))]
-fn cost_tail(line: &[u8]) -> Option<&[u8]>
+pub fn cost_tail(line: &[u8]) -> Option<&[u8]>
     ensures { option_copied result ≡ cost_tail line.now }
 {
     let rest = strip_key(line, b"cost")?;

@@ -1,6 +1,7 @@
 -- Digits, their values, and where a number ends.
-use Rattle.std.proofs.Common.{◌≡◌, ℕ, ◌-◌, ◌<◌, ◌≤◌, Bool, true, false, ◌⊎◌, inl, inr, ⊎_elim, List, [], ◌∷◌, ◌++◌, length, map, get_or, take, drop, Option, Some, None, refl, sym, ap, subst, ◌∙◌, arith, eqb, ℤ, SomeIff, cond, pos, take_all, eqb-true, option_map, int_le}
-use Rattle.std.specs.Prelude.{◌≤ℤ◌, ◌&&◌, nat_lt, nat_le, ◌==◌, ◌^◌, Result, Ok, Err}
+use Rattle.std.proofs.Common.{◌≡◌, ℕ, ◌-◌, ◌<◌, ◌≤◌, Bool, true, false, ◌⊎◌, inl, inr, ⊎_elim, List, [], ◌∷◌, ◌++◌, length, map, get_or, take, drop, Option, Some, None, refl, sym, ap, subst, ◌∙◌, arith, eqb, ℤ, SomeIff, cond, pos, negsuc, take_all, eqb-true, option_map, int_le}
+use Rattle.std.specs.Prelude.{◌≤ℤ◌, ◌<ℤ◌, ◌&&◌, nat_lt, nat_le, ◌==◌, ◌^◌, Result, Ok, Err}
+use Rattle.std.specs.Int.RustNames.{unsigned_abs}
 use Rattle.std.specs.Result.{OkIff, result_ok}
 use Rattle.std.specs.Char.{is_ascii_digit, digit_value}
 use Rattle.std.specs.Int.Digits.{number_from_digits, number_from_digits_after}
@@ -12,7 +13,7 @@ use Rattle.std.proofs.lemmas.Int.Digits.{digits_value_is, number_after_append, n
 use Rattle.std.proofs.lemmas.List.{map-append, take-append-drop, get_or-take, length-take, drop_all, take-append-le}
 use Rattle.std.proofs.lemmas.List.Sums.{AllPass-from_list_all, list_all-from_AllPass, prefix_len_passes, prefix_len_is, prefix_len-le-length}
 use Rattle.std.proofs.lemmas.Int.{ints}
-use Rattle.text_lines.specs.Numbers.{below, is_digits, digits_of, is_zero_fraction, whole_of, number_of, signed, without_minus, within}
+use Rattle.text_lines.specs.Numbers.{below, magnitude, is_digits, digits_of, is_zero_fraction, whole_of, number_of, signed, without_minus, within}
 
 pub digit_bounds : (c : ℕ) → is_ascii_digit c ≡ true → (48 ≤ c) × (c ≤ 57)
 digit_bounds c e = let both = and_parts (nat_le 48 c) (nat_le c 57) e in (leb-true 48 c both.0, leb-true c 57 both.1)
@@ -102,9 +103,6 @@ module _ (body front back : List ℕ) (n : ℕ) (len : n ≡ prefix_len is_ascii
       let fits = prefix_len-le-length is_ascii_digit body in
       omega (arith, ap length fronts, length-take n body, len, fits)
 
-  pub front_digits : (length front ≡ 0 → ⊥) → is_digits front ≡ true
-  front_digits l = rw fronts (is_digits-front body n len (λ e. l (ap length fronts ∙ e)))
-
   pub whole_none-empty : length front ≡ 0 → whole_of body ≡ None
   whole_none-empty e = whole_of-none body (inl (le-ltb 0 (prefix_len is_ascii_digit body) (omega (arith, front_length, len, e))))
 
@@ -124,17 +122,27 @@ pub digits_of-no : (word : List ℕ) → is_digits word ≡ false → digits_of 
 unfolding digits_of
 digits_of-no word e = cond-false _ _ _ e
 
--- a value above those that a `u32` can hold
-pub below-large : (v : ℕ) → 2 ^ 32 ≤ v → below (2 ^ 32) (Some v) ≡ None
-below-large v large = cond-false _ _ _ (le-ltb v (2 ^ 32) large)
+-- a number that is below a limit, and one that is not
+below-some : (limit n : ℕ) → n < limit → below limit (Some n) ≡ Some n
+below-some limit n h = rw (lt-ltb n limit h) refl
+
+pub below-none : (limit n : ℕ) → limit ≤ n → below limit (Some n) ≡ None
+below-none limit n h = rw (le-ltb n limit h) refl
+
+not_below : (n limit : ℕ) → (n < limit → ⊥) → limit ≤ n
+not_below n limit never = ⊎_elim (λ (h : n < limit). absurd (never h)) (λ (h : limit ≤ n). h) (cases_lt n limit)
 
 -- what `try_from` and `ok` make of a value
 pub below-from_OkIff : {E : Type 0} (v : ℕ) (o : Option ℕ) (r : Result ℕ E) → o ≡ result_ok r → OkIff r (v < 2 ^ 32) v → o ≡ below (2 ^ 32) (Some v)
-below-from_OkIff v o (Ok x) is h = is ∙ (ap Some h.1 ∙ sym (cond-true _ _ _ (lt-ltb v (2 ^ 32) h.0)))
-below-from_OkIff v o (Err e) is h = is ∙ sym (below-large v (le-from_not v h))
-  where
-    le-from_not : (v : ℕ) → (v < 2 ^ 32 → ⊥) → 2 ^ 32 ≤ v
-    le-from_not v not_below = omega arith
+below-from_OkIff v o (Ok x) is h = is ∙ (ap Some h.1 ∙ sym (below-some (2 ^ 32) v h.0))
+below-from_OkIff v o (Err e) is h = is ∙ sym (below-none (2 ^ 32) v (not_below v (2 ^ 32) h))
+
+-- a number that is asked to lie in 0..limit - 1
+pub below-from_SomeIff : (limit : ℕ) (z : ℤ) (r : Option ℕ) → SomeIff r ((pos 0 ≤ℤ z) × (z <ℤ pos limit)) (unsigned_abs z) → r ≡ below limit (magnitude z)
+below-from_SomeIff limit (pos n) None never = sym (below-none limit n (not_below n limit (λ h. never (omega (arith, ints), omega (arith, ints)))))
+below-from_SomeIff limit (pos n) (Some v) is = ap Some is.1 ∙ sym (below-some limit n (omega (arith, ints)))
+below-from_SomeIff limit (negsuc n) None never = refl
+below-from_SomeIff limit (negsuc n) (Some v) is = absurd (omega (arith, ints))
 
 -- ---- words of digits
 pub digits_some : (ds : List ℕ) → is_digits ds ≡ true → 0 < length ds

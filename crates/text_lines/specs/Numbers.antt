@@ -1,5 +1,5 @@
 -- Words that are numbers, and their values.
-use Rattle.std.specs.Prelude.{◌≡◌, ◌<◌, ◌^◌, ℕ, Bool, true, false, ◌&&◌, ◌==◌, nat_lt, nat_le, if◌then◌else◌, List, [], ◌∷◌, ◌++◌, ◌⊎◌, ◌↔◌, length, replicate, take, drop, codes, Option, Some, None, ℤ, pos, neg_ℤ, int_le, slice_get}
+use Rattle.std.specs.Prelude.{negsuc, ◌≡◌, ◌<◌, ◌^◌, ℕ, Bool, true, false, ◌&&◌, ◌==◌, nat_lt, nat_le, if◌then◌else◌, List, [], ◌∷◌, ◌++◌, ◌⊎◌, ◌↔◌, length, replicate, take, drop, codes, Option, Some, None, ℤ, pos, neg_ℤ, int_le, slice_get}
 use Rattle.std.specs.Char.{is_ascii_digit}
 use Rattle.std.specs.Fmt.{decimal}
 use Rattle.std.specs.List.{list_all, prefix_len}
@@ -46,6 +46,11 @@ signed false n = pos n
 -- The value of a NUMBER: a plus, a minus or no sign, digits, and perhaps a point with zeros or nothing after it.
 unfoldable pub number_of : List ℕ → Option ℤ
 number_of word = option_map (signed (starts_with_minus word)) (whole_of (without_leading_sign word))
+
+-- a number that is not below zero
+abbrev pub magnitude : ℤ → Option ℕ
+magnitude (pos n) = Some n
+magnitude (negsuc n) = None
 
 -- nothing, a plus or a minus
 abbrev pub IsSign : List ℕ → Type 0

@@ -27,6 +27,7 @@
 //! - `Lines` gives `lines_of` the text, `Words` gives `words_of` the line, `Number::parse` gives `number_of`
 //!   the word, `Number::parse_integer` gives `integer_of` it;
 //! - `Words::next_number` gives the number of the next word within limits, and goes past that word;
+//! - `digits_to_u32` and `number_to_u64` give the number that a word is, where it fits;
 //! - `digits_len` counts the digits at the front; nothing here takes memory;
 //! - the laws: a text is cut into its lines in no other way; a line is made of its words and blanks, and of
 //!   no other words; a number is a sign or none, digits, and perhaps a point and zeros; a number that is
@@ -42,5 +43,5 @@ pub use laws::{
     decimals_are_read, lines_follow, lines_join, numbers_are_made, words_make_the_line,
 };
 pub use line_iter::Lines;
-pub use numeral::{Number, digits_len, digits_to_u32};
+pub use numeral::{Number, digits_len, digits_to_u32, number_to_u64};
 pub use word_iter::{Words, is_blank_line, trim_blanks_start};

@@ -3,10 +3,10 @@ ghost use Rattle.std.specs.Prelude.{◌≡◌, ◌+◌, ◌*◌, ◌^◌, ◌<�
 ghost use Rattle.std.specs.Char.{digit_value, is_ascii_digit};
 ghost use Rattle.std.specs.List.{list_all, prefix_len};
 ghost use Rattle.std.specs.Int.RustNames.{unsigned_abs};
-ghost use Rattle.std.specs.Option.{SomeIff, option_map};
+ghost use Rattle.std.specs.Option.{SomeIff, option_and_then, option_map};
 ghost use Rattle.std.specs.Str.Parse.{digits_value, starts_with_minus, without_leading_sign};
 ghost use Rattle.text_lines.specs.Fronts.{BeginsWithNumber};
-ghost use Rattle.text_lines.specs.Numbers.{IsFittingValue, below, digits_of, integer_of, is_digits, is_zero, is_zero_fraction, number_of, signed, whole_of, without_minus};
+ghost use Rattle.text_lines.specs.Numbers.{IsFittingValue, below, digits_of, integer_of, is_digits, is_zero, is_zero_fraction, magnitude, number_of, signed, whole_of, without_minus};
 
 use crate::word_iter::ends_word;
 use std::marker::Model;
@@ -137,6 +137,14 @@ pub fn digits_to_u32(word: &[u8]) -> Option<u32>
 {
     let value = word_value(word)?;
     u32::try_from(value?).ok()
+}
+
+/// The value of a word that is a number, if a `u64` can hold it.
+#[inline]
+pub fn number_to_u64(word: &[u8]) -> Option<u64>
+    ensures { result ≡ below (2 ^ 64) (option_and_then magnitude (number_of word.now)) }
+{
+    Number::parse(word)?.to_u64()
 }
 
 fn signed_value(negative: bool, magnitude: u32) -> i64
