@@ -9,10 +9,8 @@ ghost use Rattle.instance_read.specs.FieldValues.{HasNumbers, HasNoNumbers, HasV
 ghost use Rattle.instance_read.specs.Walk.{IsFirstKind};
 
 use crate::ReadFaultKind;
+use crate::field_limits::Limits;
 use text_lines::{Number, Words};
-
-/// The least and the greatest value of a field.
-pub type Limits = (i32, i32);
 
 /// How many words a line has.
 pub fn word_count(line: &[u8]) -> usize

@@ -2,6 +2,7 @@
 //!
 //! Entry functions: `read_lilim` and `read_vrp`. Each gives the `Problem` that a text spells, or the first of its
 //! faults. Called by `command_text` (the line `load`), `plan_solve` and `auditor_cli`.
+//! `split_key` and `field_limits` give key and value of a line and the limits of its numbers, for who tells a fault of one.
 //!
 //! Sources: Li and Lim's benchmark instances of PDPTW; TSPLIB95's keys and sections, as CVRPLIB's instances use them
 //! (TYPE CVRP, EDGE_WEIGHT_TYPE EUC_2D). Faults, their order and the limits (`plan_types::limits`) are this project's.
@@ -15,6 +16,7 @@
 //! Modules, in reading order:
 //! - `faults`: why a text is refused
 //! - `rows`: the lines that are read, with their numbers
+//! - `field_limits`: the limits of the numbers of a line
 //! - `fields`: the numbers of a line, within limits
 //! - `tasks`: header and tasks of a Li-Lim text
 //! - `entries`, `pairs`: tables by number, and the pairs that tasks make
@@ -40,6 +42,7 @@
 
 mod entries;
 mod faults;
+pub mod field_limits;
 mod fields;
 mod laws;
 mod lilim;
@@ -60,3 +63,4 @@ pub use laws::{
 };
 pub use lilim::read_lilim;
 pub use vrp::read_vrp;
+pub use vrp_lines::split_key;

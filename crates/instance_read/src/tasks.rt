@@ -8,34 +8,11 @@ ghost use Rattle.instance_read.specs.Tables.{IsHeader};
 ghost use Rattle.instance_read.specs.Walk.{ReadsValue};
 
 use crate::ReadFaultKind;
-use crate::fields::{Limits, beyond_limits, has_no_number, next_values, read_numbers, word_count};
+use crate::field_limits::{HEADER, TASK};
+use crate::fields::{beyond_limits, has_no_number, next_values, read_numbers, word_count};
 use plan_types::Stop;
-use plan_types::limits::{
-    MAX_CAPACITY, MAX_COORDINATE, MAX_DEMAND, MAX_FLEET, MAX_SERVICE, MAX_STOP_NUMBER, MAX_TIME,
-};
+use plan_types::limits::MAX_STOP_NUMBER;
 use text_lines::Words;
-
-/// Fleet and capacity.
-const HEADER_LIMITS: [Limits; 2] = [(1, MAX_FLEET as i32), (0, MAX_CAPACITY as i32)];
-
-const STOP_NUMBER: Limits = (0, MAX_STOP_NUMBER as i32);
-
-const COORDINATE: Limits = (-MAX_COORDINATE, MAX_COORDINATE);
-
-const TIME: Limits = (0, MAX_TIME as i32);
-
-/// The nine fields of a task.
-const TASK_LIMITS: [Limits; 9] = [
-    STOP_NUMBER,
-    COORDINATE,
-    COORDINATE,
-    (-MAX_DEMAND, MAX_DEMAND),
-    TIME,
-    TIME,
-    (0, MAX_SERVICE as i32),
-    STOP_NUMBER,
-    STOP_NUMBER,
-];
 
 /// The first line.
 #[derive(Clone, Copy)]
@@ -67,7 +44,7 @@ impl Header {
         if has_no_number(line) {
             return Err(ReadFaultKind::BadNumber);
         }
-        let Some(values) = next_values(&mut Words::new(line), &HEADER_LIMITS) else {
+        let Some(values) = next_values(&mut Words::new(line), &HEADER) else {
             return Err(ReadFaultKind::Range);
         };
         Ok(Header {
@@ -84,7 +61,7 @@ impl Task {
             ReadsValue (task_fault previous words)
             (λ task. task ≡ task_from number (value_at words)) result }
     {
-        let values = match read_numbers(line, &TASK_LIMITS) {
+        let values = match read_numbers(line, &TASK) {
             Ok(values) => values,
             Err(ReadFaultKind::Range) => return Err(beyond_limits(line, MAX_STOP_NUMBER)),
             Err(kind) => return Err(kind),

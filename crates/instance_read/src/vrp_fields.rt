@@ -10,21 +10,10 @@ ghost use Rattle.instance_read.specs.Vrp.{capacity_fault, coordinate_limits, dem
 ghost use Rattle.instance_read.specs.Walk.{HasNoKind, IsFirstKind, Passes, ReadsValue};
 
 use crate::ReadFaultKind;
-use crate::fields::{Limits, beyond_limits, has_no_number, read_numbers};
+use crate::field_limits::{CAPACITY, COORDINATE, DIMENSION, Limits, MAX_NODES, NODE_DEMAND};
+use crate::fields::{beyond_limits, has_no_number, read_numbers};
 use crate::vrp_lines::is_word;
-use plan_types::limits::{MAX_CAPACITY, MAX_COORDINATE, MAX_DEMAND, MAX_STOP_NUMBER};
 use text_lines::{Number, Words};
-
-/// The depot is a node too.
-const MAX_NODES: u32 = MAX_STOP_NUMBER + 1;
-
-const DIMENSION: Limits = (2, MAX_NODES as i32);
-
-const CAPACITY: Limits = (0, MAX_CAPACITY as i32);
-
-const DEMAND: Limits = (0, MAX_DEMAND);
-
-const COORDINATE: Limits = (-MAX_COORDINATE, MAX_COORDINATE);
 
 /// The number of nodes that the value of a DIMENSION announces, where one may stand before it.
 pub fn read_dimension(stands: bool, value: &[u8]) -> Result<u32, ReadFaultKind>
@@ -111,7 +100,7 @@ pub fn read_demand(nodes: u32, line: &[u8]) -> Result<(u32, i32), ReadFaultKind>
         (IsFirstKind fault) }
     ensures within { IfOk result (λ r. (1 ≤ r.0) × (r.0 ≤ nodes) × IsDemand r.1) }
 {
-    let [node, demand] = read_numbers(line, &[node_limits(nodes), DEMAND])?;
+    let [node, demand] = read_numbers(line, &[node_limits(nodes), NODE_DEMAND])?;
     Ok((node.unsigned_abs(), demand))
 }
 

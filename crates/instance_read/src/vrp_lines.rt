@@ -129,8 +129,9 @@ pub fn read_key(text: &[u8]) -> (Key, &[u8])
     (key_from(key, trim_blanks(text)), value)
 }
 
-// What stands before the first colon, or all where there is none, and what stands after it.
-fn split_key(line: &[u8]) -> (&[u8], &[u8])
+/// The key and the value of a line of a `.vrp` text, by TSPLIB95's specification part: what stands before the first
+/// colon, or the whole line where there is none, and what stands after it. Neither has blanks or tabs at its ends.
+pub fn split_key(line: &[u8]) -> (&[u8], &[u8])
     ensures key { result.0.now ≡ key_text line.now }
     ensures value { result.1.now ≡ value_text line.now }
 {

@@ -3,8 +3,8 @@ ghost use Rattle.std.specs.Prelude.{◌≡◌, length, pos, slice_get, slice_ind
 ghost use Rattle.plan_explain.specs.Layouts.{layout_limits, layout_names, name_at};
 
 use crate::names::Name;
-use plan_types::limits::{
-    MAX_CAPACITY, MAX_COORDINATE, MAX_DEMAND, MAX_FLEET, MAX_SERVICE, MAX_STOP_NUMBER, MAX_TIME,
+use instance_read::field_limits::{
+    CAPACITY, COORDINATE, DIMENSION, HEADER, Limits, NODE_DEMAND, TASK,
 };
 
 /// The kinds of lines of numbers.
@@ -23,30 +23,6 @@ pub(crate) enum Layout {
     /// A line of numbers that is in no section.
     Stray,
 }
-
-/// The least and the greatest value of a field.
-pub(crate) type Limits = (i32, i32);
-
-const STOP_NUMBER: Limits = (0, MAX_STOP_NUMBER as i32);
-
-const COORDINATE: Limits = (-MAX_COORDINATE, MAX_COORDINATE);
-
-const TIME: Limits = (0, MAX_TIME as i32);
-
-/// Fleet and capacity; the speed may be any number.
-const HEADER: [Limits; 2] = [(1, MAX_FLEET as i32), (0, MAX_CAPACITY as i32)];
-
-const TASK: [Limits; 9] = [
-    STOP_NUMBER,
-    COORDINATE,
-    COORDINATE,
-    (-MAX_DEMAND, MAX_DEMAND),
-    TIME,
-    TIME,
-    (0, MAX_SERVICE as i32),
-    STOP_NUMBER,
-    STOP_NUMBER,
-];
 
 const TASK_NAMES: [Name; 9] = [
     Name::Number,
@@ -95,9 +71,9 @@ pub(crate) fn limits_at(layout: Layout, place: usize) -> Option<Limits>
                 .get(place)
                 .copied()
         }
-        Layout::Demands(nodes) => [(1, i32::from(nodes)), (0, MAX_DEMAND)].get(place).copied(),
-        Layout::Dimension => [(2, MAX_STOP_NUMBER as i32 + 1)].get(place).copied(),
-        Layout::Capacity => [(0, MAX_CAPACITY as i32)].get(place).copied(),
+        Layout::Demands(nodes) => [(1, i32::from(nodes)), NODE_DEMAND].get(place).copied(),
+        Layout::Dimension => [DIMENSION].get(place).copied(),
+        Layout::Capacity => [CAPACITY].get(place).copied(),
         Layout::Depots | Layout::Stray => None,
     }
 }

@@ -11,13 +11,14 @@ ghost use Rattle.plan_explain.specs.Cited.{shown_bytes};
 ghost use Rattle.plan_explain.specs.WordTexts.{bad_text, beyond_from, beyond_text, counts_text, field_text, fraction_text, is_beyond_at, limits_text};
 
 use crate::cited::put_shown;
-use crate::layouts::{Layout, Limits, limits_at, name_at, names};
+use crate::layouts::{Layout, limits_at, name_at, names};
 use crate::names::Name;
 use crate::numbers::{is_beyond, is_fraction, is_no_number};
 use crate::phrases::Phrase;
 use crate::sentences::{put_named, put_phrase};
 use crate::told::Told;
 use crate::told_lines::{word_at, word_count};
+use instance_read::field_limits::Limits;
 use text_lines::Words;
 
 /// Appends a name.
