@@ -26,4 +26,4 @@ places_shown p routes rule r = shown_text p routes rule r ++ further_text p rout
 -- a broken rule: its sentence, the route, and how often and where else it is broken; a solution that passes: a line for each route
 abbrev pub verdict_text : Instance → Solution → Verdict → List ℕ
 verdict_text p plan (Pass cost) = summary_text p plan.routes
-verdict_text p plan (Broken rule r i n) = ended (sentence p plan rule r i n) ++ places_shown p plan.routes rule r
+verdict_text p plan (Broken rule r i n) = ended (sentence p plan rule (record { route = r; place = i; stop = n })) ++ places_shown p plan.routes rule r

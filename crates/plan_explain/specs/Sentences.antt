@@ -11,6 +11,7 @@ use Rattle.plan_audit.specs.Finding.{place_of}
 use Rattle.plan_audit.specs.Rules.{item_at}
 use Rattle.plan_explain.specs.Phrases.{phrase}
 use Rattle.plan_explain.specs.Tables.{rows_of}
+use Rattle.plan_explain.specs.declared.breaches.Breach.{Breach}
 use Rattle.plan_explain.specs.declared.phrases.Phrase.{Phrase}
 use Rattle.plan_explain.specs.declared.phrases.Phrase.TheVariants.{UnknownStop, NumbersBelow, VisitedTwice, First, MissingStop, SplitPair, EarlyDelivery, OtherStop, ItsPickup, Stop as StopWord, Stands, There, Nowhere, AtPlace, OfRoute, Overload, DemandIs, LoadIs, Capacity, LateService, StartsAt, LateReturn, BackAt, Latest, LateBy, TooManyVehicles, Fleet, WrongCost, Driven}
 use Rattle.plan_explain.specs.declared.rows.Row.{Row}
@@ -112,16 +113,16 @@ abbrev pub cost_sentence : Instance → Solution → List ℕ
 cost_sentence p plan = phrase WrongCost ++ decimal plan.cost ++ phrase Driven ++ decimal (total_length p plan.routes)
 
 -- the sentence on a rule, by its number; a printed solution has no pins
-abbrev pub sentence : Instance → Solution → ℕ → ℕ → ℕ → ℕ → List ℕ
-sentence p plan rule r i n =
-    if rule == 1 then unknown_sentence p n
-    else if rule == 2 then twice_sentence plan.routes n
-    else if rule == 3 then missing_sentence p plan.routes n
-    else if rule == 4 then split_sentence p plan.routes n
-    else if rule == 5 then early_sentence p plan.routes n
-    else if rule == 6 then load_sentence p (row_told p (route_told plan.routes r) i)
-    else if rule == 7 then late_sentence p (row_told p (route_told plan.routes r) i)
-    else if rule == 8 then return_sentence p (route_told plan.routes r)
+abbrev pub sentence : Instance → Solution → ℕ → Breach → List ℕ
+sentence p plan rule breach =
+    if rule == 1 then unknown_sentence p breach.stop
+    else if rule == 2 then twice_sentence plan.routes breach.stop
+    else if rule == 3 then missing_sentence p plan.routes breach.stop
+    else if rule == 4 then split_sentence p plan.routes breach.stop
+    else if rule == 5 then early_sentence p plan.routes breach.stop
+    else if rule == 6 then load_sentence p (row_told p (route_told plan.routes breach.route) breach.place)
+    else if rule == 7 then late_sentence p (row_told p (route_told plan.routes breach.route) breach.place)
+    else if rule == 8 then return_sentence p (route_told plan.routes breach.route)
     else if rule == 9 then fleet_sentence p plan.routes
     else if rule == 11 then cost_sentence p plan
     else []

@@ -1,10 +1,11 @@
 //! Bytes of a text as a terminal gets them.
 //!
 //! What is cited keeps its tabs, since Li and Lim's files use them; other bytes that can't be printed are `?`.
-ghost use Rattle.std.specs.Prelude.{◌≡◌, ◌<◌, ◌++◌, map, take};
+ghost use Rattle.std.specs.Prelude.{◌≡◌, ◌<◌, ◌++◌, map};
 ghost use Rattle.text_lines.specs.Lines.{ended};
 ghost use Rattle.plan_explain.specs.Cited.{shown_byte, shown_bytes};
 
+use crate::firsts::first_of;
 use crate::told::Told;
 
 /// How many bytes of a line or of a word are shown.
@@ -22,15 +23,7 @@ pub(crate) fn put_line(text: &mut Told, bytes: &[u8])
 pub(crate) fn put_shown(text: &mut Told, bytes: &[u8])
     ensures { text.new ≡ text.old ++ shown_bytes bytes.now }
 {
-    put_bytes(text, front(bytes));
-}
-
-// As many bytes as are shown.
-#[tactic(auto, using(std::proofs::lemmas::List::take_min))]
-fn front(bytes: &[u8]) -> &[u8]
-    ensures { result.now ≡ take 200 bytes.now }
-{
-    &bytes[..SHOWN.min(bytes.len())]
+    put_bytes(text, first_of(bytes, SHOWN));
 }
 
 fn put_bytes(text: &mut Told, bytes: &[u8])

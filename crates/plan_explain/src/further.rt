@@ -1,10 +1,11 @@
 //! How often a rule is broken, and where else.
-ghost use Rattle.std.specs.Prelude.{◌≡◌, ◌<◌, ◌++◌, All, OnOk, drop, take};
+ghost use Rattle.std.specs.Prelude.{◌≡◌, ◌<◌, ◌++◌, All, OnOk, drop};
 ghost use Rattle.std.specs.List.{flat_map};
 ghost use Rattle.route_sched.specs.Route.{AreLiveOnce};
 ghost use Rattle.plan_explain.specs.Further.{further_text, missing_stop_text, missing_text, place_text, places_text};
 
 use crate::breaches::{Breach, missing_stops, row_breaches, stop_breaches};
+use crate::firsts::first_of;
 use crate::phrases::Phrase;
 use crate::sentences::put_named;
 use crate::told::Told;
@@ -43,14 +44,7 @@ fn put_missing_stops(text: &mut Told, stops: &[u32])
 {
     put_named(text, Phrase::Unserved, stops.len() as u64);
     text.push_str("\n");
-    put_stop_lines(text, first_stops(stops));
-}
-
-#[tactic(auto, using(std::proofs::lemmas::List::take_min))]
-fn first_stops(stops: &[u32]) -> &[u32]
-    ensures { result.now ≡ take 20 stops.now }
-{
-    &stops[..TOLD.min(stops.len())]
+    put_stop_lines(text, first_of(stops, TOLD));
 }
 
 fn put_stop_lines(text: &mut Told, stops: &[u32])
@@ -73,16 +67,15 @@ fn put_places(text: &mut Told, found: &[Breach])
 {
     put_named(text, Phrase::Broken, found.len() as u64);
     text.push_str("\n");
-    put_place_lines(text, further(found));
+    put_place_lines(text, first_of(further(found), TOLD));
 }
 
-// The places behind the first one, as many of them as are told.
-#[tactic(auto, using(std::proofs::lemmas::List::take_min))]
+// The places behind the first one.
 fn further(found: &[Breach]) -> &[Breach]
-    ensures { result.now ≡ take 20 (drop 1 found.now) }
+    ensures { result.now ≡ drop 1 found.now }
 {
     match found {
-        [_, rest @ ..] => &rest[..TOLD.min(rest.len())],
+        [_, rest @ ..] => rest,
         [] => &[],
     }
 }

@@ -22,6 +22,7 @@
 //! - `tables`: a route as a table
 //! - `summaries`: a line for each route, and the sums
 //! - `sentences`: the sentence on a broken rule
+//! - `firsts`: the first items of a list
 //! - `breaches`, `further`: all places that break a rule, and how they are told
 //! - `verdicts`: what is said of a verdict
 //! - `cited`, `told_lines`, `numbers`: bytes, lines and words of a refused text
@@ -46,6 +47,7 @@
 mod behind;
 mod breaches;
 mod cited;
+mod firsts;
 mod further;
 mod laws;
 mod layouts;

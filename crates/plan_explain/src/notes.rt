@@ -38,12 +38,7 @@ pub(crate) fn put_kind_note(text: &mut Told, kind: Kind, instance: &[u8])
 fn looks_vrp(instance: &[u8]) -> bool
     ensures { result ≡ list_any is_vrp_line (lines_of instance.now) }
 {
-    for line in Lines::new(instance) {
-        if is_vrp_line(line) {
-            return true;
-        }
-    }
-    false
+    Lines::new(instance).any(|line| is_vrp_line(line))
 }
 
 fn is_vrp_line(line: &[u8]) -> bool
@@ -56,12 +51,7 @@ fn is_vrp_line(line: &[u8]) -> bool
 fn looks_lilim(instance: &[u8]) -> bool
     ensures { result ≡ list_any has_nine_numbers (lines_of instance.now) }
 {
-    for line in Lines::new(instance) {
-        if has_nine_numbers(line) {
-            return true;
-        }
-    }
-    false
+    Lines::new(instance).any(|line| has_nine_numbers(line))
 }
 
 fn has_nine_numbers(line: &[u8]) -> bool

@@ -7,6 +7,7 @@ ghost use Rattle.plan_explain.specs.Explained.{places_shown, shown_text, verdict
 ghost use Rattle.plan_explain.specs.Sentences.{route_told, row_told, sentence};
 ghost use Rattle.plan_audit.specs.declared.rules.Verdict.TheVariants.{Broken};
 
+use crate::breaches::Breach;
 use crate::further::put_further;
 use crate::rows::{Row, rows_of};
 use crate::sentences as say;
@@ -38,9 +39,10 @@ pub fn explain_verdict(
             route,
             place,
             stop,
-        } => put_broken(
-            alloc, &mut text, problem, solution, rule, route, place, stop,
-        )?,
+        } => {
+            let breach = Breach { route, place, stop };
+            put_broken(alloc, &mut text, problem, solution, rule, breach)?;
+        }
     }
     text.into_string()
 }
@@ -51,20 +53,18 @@ fn put_broken(
     problem: &Problem,
     solution: &Solution,
     rule: u32,
-    route: u64,
-    place: u64,
-    stop: u32,
+    breach: Breach,
 ) -> Result<(), OutOfMemory>
     requires { IsVerdict problem.now (printed solution.now.routes solution.now.cost)
-        (Broken rule route place stop) }
+        (Broken rule breach.route breach.place breach.stop) }
     ensures { OnOk result (text.new ≡ text.old
-        ++ (ended (sentence problem.now solution.now rule route place stop)
-        ++ places_shown problem.now solution.now.routes rule route)) }
+        ++ (ended (sentence problem.now solution.now rule breach)
+        ++ places_shown problem.now solution.now.routes rule breach.route)) }
 {
-    put_sentence(alloc, text, problem, solution, rule, route, place, stop)?;
+    put_sentence(alloc, text, problem, solution, rule, breach)?;
     text.push_str("\n");
     let routes = solution.routes.as_slice();
-    put_places(alloc, text, problem, routes, rule, route)
+    put_places(alloc, text, problem, routes, rule, breach.route)
 }
 
 // The sentence on a broken rule.
@@ -74,25 +74,31 @@ fn put_sentence(
     problem: &Problem,
     solution: &Solution,
     rule: u32,
-    route: u64,
-    place: u64,
-    stop: u32,
+    breach: Breach,
 ) -> Result<(), OutOfMemory>
     requires { IsVerdict problem.now (printed solution.now.routes solution.now.cost)
-        (Broken rule route place stop) }
+        (Broken rule breach.route breach.place breach.stop) }
     ensures { OnOk result (text.new ≡ text.old
-        ++ sentence problem.now solution.now rule route place stop) }
+        ++ sentence problem.now solution.now rule breach) }
 {
     let routes = solution.routes.as_slice();
-    let stops = route_told(routes, route);
+    let stops = route_told(routes, breach.route);
     match rule {
-        1 => say::put_unknown(text, problem, stop),
-        2 => say::put_twice(text, routes, stop),
-        3 => say::put_missing(text, problem, routes, stop),
-        4 => say::put_split(text, problem, routes, stop),
-        5 => say::put_early(text, problem, routes, stop),
-        6 => say::put_overload(text, problem, row_told(alloc, problem, stops, place)?),
-        7 => say::put_late(text, problem, row_told(alloc, problem, stops, place)?),
+        1 => say::put_unknown(text, problem, breach.stop),
+        2 => say::put_twice(text, routes, breach.stop),
+        3 => say::put_missing(text, problem, routes, breach.stop),
+        4 => say::put_split(text, problem, routes, breach.stop),
+        5 => say::put_early(text, problem, routes, breach.stop),
+        6 => say::put_overload(
+            text,
+            problem,
+            row_told(alloc, problem, stops, breach.place)?,
+        ),
+        7 => say::put_late(
+            text,
+            problem,
+            row_told(alloc, problem, stops, breach.place)?,
+        ),
         8 => say::put_late_return(text, problem, stops),
         9 => say::put_fleet(text, problem, routes),
         11 => say::put_cost(text, problem, solution),

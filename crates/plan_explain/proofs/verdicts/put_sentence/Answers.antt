@@ -8,12 +8,12 @@ use Rattle.plan_explain.proofs.verdicts.put_sentence.Goals as goal
 use Rattle.plan_explain.proofs.verdicts.put_sentence.Goals.{After-route_told-stops}
 
 live : (c : After-route_told-stops) → 2 < c.args.rule → All (AreLiveOnce c.args.problem.now) c.args.solution.now.routes
-live c above = live_above c.args.problem.now (printed c.args.solution.now.routes c.args.solution.now.cost) c.args.rule c.args.route c.args.place c.args.stop c.requires above
+live c above = live_above c.args.problem.now (printed c.args.solution.now.routes c.args.solution.now.cost) c.args.rule c.args.breach.route c.args.breach.place c.args.breach.stop c.requires above
 
 told : (c : After-route_told-stops) → 2 < c.args.rule → AreLiveOnce c.args.problem.now c.route_told-stops.result.now
 told c above =
-    let stops : c.route_told-stops.result.now ≡ route_told c.args.solution.now.routes c.args.route = c.route_told-stops.ensures ∙ ap (λ rs. route_told rs c.args.route) c.as_slice-routes.ensures in
-    subst (AreLiveOnce c.args.problem.now) (sym stops) (told_live c.args.problem.now c.args.solution.now.routes c.args.route (live c above))
+    let stops : c.route_told-stops.result.now ≡ route_told c.args.solution.now.routes c.args.breach.route = c.route_told-stops.ensures ∙ ap (λ rs. route_told rs c.args.breach.route) c.as_slice-routes.ensures in
+    subst (AreLiveOnce c.args.problem.now) (sym stops) (told_live c.args.problem.now c.args.solution.now.routes c.args.breach.route (live c above))
 
 pub row_told-requires : goal.row_told-requires
 row_told-requires c = told (goal.at.row_told-requires c).After-route_told-stops (omega (arith, c.in-6.is))
