@@ -99,9 +99,6 @@ pub of_width : (v : Version) → IsSize (width v)
 of_width One = back2
 of_width Two = back4
 
-pub of_2 : IsSize 2
-of_2 = back2
-
 pub of_4 : IsSize 4
 of_4 = back4
 

@@ -3,19 +3,14 @@ use Rattle.std.proofs.Common.{◌≡◌, ℕ, ◌+◌, ◌*◌, List, [], ◌∷
 use Rattle.std.specs.List.{concat}
 use Rattle.plan_types.specs.Laws.{StopsAreBelowNext}
 use Rattle.plan_types.specs.Instance.{numbers_among}
-use Rattle.plan_types.specs.declared.requests.Stop.{Stop}
 use Rattle.plan_types.specs.declared.requests.Request.{Request}
 use Rattle.plan_types.specs.declared.requests.Request.TheVariants.{Single, Pair}
 use Rattle.command_core.specs.Job.{JobValue}
 use Rattle.command_core.specs.declared.states.State.TheVariants.{Empty, Loaded}
 use Rattle.state_codec.specs.declared.version.Version.TheVariants.{Two}
-use Rattle.state_codec.specs.Bytes.{number_bytes, signed_bytes, stop_bytes, requests_bytes, stops_bytes, vehicles_bytes, routes_bytes, head_bytes}
+use Rattle.state_codec.specs.Bytes.{number_bytes, signed_bytes, requests_bytes, stops_bytes, vehicles_bytes, routes_bytes, head_bytes}
 use Rattle.state_codec.specs.Lengths.{EncodingsFit}
 use Rattle.state_codec.proofs.SizeLemmas.{sizes, few_numbers, requests_below}
-
-len_stop : (s : Stop) → length (stop_bytes Two s) ≡ 28
-unfolding number_bytes signed_bytes
-len_stop s = refl
 
 len_stops : (ns : List ℕ) → length (stops_bytes Two ns) ≡ 4 * length ns
 unfolding number_bytes

@@ -150,9 +150,6 @@ record NameParts (next : ℕ) (before : List (ℕ × Request)) (n : ℕ) : Type 
 lt_is : (a b : ℕ) → nat_lt a b ≡ true → a < b
 lt_is a b h = grind (arith, h)
 
-is_lt : (a b : ℕ) → a < b → nat_lt a b ≡ true
-is_lt a b h = grind (arith, h)
-
 name_parts : (next : ℕ) (before : List (ℕ × Request)) (n : ℕ) → is_name next before n ≡ true → NameParts next before n
 name_parts next before n h =
     let a = and_parts (nat_le 1 n) (nat_lt n next && (list_all (λ e. nat_lt e.0 n) before && is_free before n)) h in
