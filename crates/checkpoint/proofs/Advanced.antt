@@ -27,9 +27,6 @@ stored_below layout image sequence state journal stored = record {
 }
 
 module _ (layout : Layout) (sequence : ℕ) (image state : List ℕ) (room : 512 * sectors_in layout ≤ length image) where
-  new_header : Header
-  new_header = record { sequence = sequence + 1; length = length state }
-
   abbrev pub with_header : List ℕ
   with_header = written ((sequence + 1) % 2) (header_bytes layout.version (record { sequence = sequence + 1; length = length state })) image
 

@@ -1,9 +1,10 @@
 -- Zeros in the headers and the records are no store.
-use Rattle.std.proofs.Common.{◌≡◌, ⊎_elim, ℕ, ◌+◌, ◌-◌, ◌*◌, ◌%◌, ◌<◌, ◌≤◌, List, length, take, replicate, sym, ◌∙◌, ap, arith}
+use Rattle.std.proofs.Common.{◌≡◌, ⊎_elim, ℕ, ◌+◌, ◌-◌, ◌*◌, ◌%◌, ◌<◌, ◌≤◌, List, length, take, replicate, refl, sym, ◌∙◌, ap, arith}
 use Rattle.std.proofs.lemmas.List.{drop-replicate, take-replicate}
 use Rattle.sector_disk.specs.Image.{sector, written}
 use Rattle.sector_disk.specs.ImageLaws.{length-written, sector-written_inside}
 use Rattle.checkpoint.specs.Puts.{IsZeros}
+use Rattle.checkpoint.specs.Written.{front_size}
 use Rattle.checkpoint.specs.declared.layouts.Layout.{Layout}
 use Rattle.checkpoint.specs.declared.headers.Header.{Header}
 use Rattle.checkpoint.specs.Headers.{header_bytes, HasOtherVersion, magic}
@@ -56,3 +57,11 @@ pub length_cleared : (n : ℕ) (zeros image : List ℕ) → IsZeros n zeros → 
 length_cleared n zeros image is long room =
     let whole : length zeros ≡ 512 * 258 = is.long ∙ long in
     length-written 0 258 zeros image whole (omega (arith, room))
+
+-- the zeros of a front are those of its size
+size_is : 132096 ≡ front_size
+unfolding front_size
+size_is = refl
+
+pub front_zeros : (zeros : List ℕ) → IsZeros 132096 zeros → zeros ≡ replicate front_size 0
+front_zeros zeros is = is.are ∙ ap (λ (n : ℕ). replicate n 0) size_is

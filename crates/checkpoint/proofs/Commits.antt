@@ -11,7 +11,7 @@ use Rattle.checkpoint.specs.Stores.{Stores, HasStored, snapshot_in, begins_with}
 use Rattle.checkpoint.specs.Puts.{IsInSnapshot}
 use Rattle.checkpoint.specs.Written.{half_of, with_snapshot, with_both}
 use Rattle.checkpoint.proofs.Runs.{read_written}
-use Rattle.checkpoint.proofs.Carried.{parity, carried}
+use Rattle.checkpoint.proofs.Carried.{parity, half_inside, carried}
 use Rattle.checkpoint.proofs.Advanced.{Below, stored_below, advanced}
 
 -- a write of whole sectors into the half of the next sequence
@@ -23,24 +23,13 @@ module _ (header : Header) (bytes : List ℕ) (sequence : ℕ) (next : header.se
   few = omega (arith, whole, fits)
 
   inside : (before : List ℕ) → 512 * 8450 ≤ length before → 512 * half_of header + 512 * (length bytes / 512) ≤ length before
-  inside before room = ⊎_elim
-      (λ (even : header.sequence % 2 ≡ 0). let at : half_of header ≡ 258 + 4096 * 0 = ap (λ (r : ℕ). 258 + 4096 * r) even in omega (arith, at, few, room))
-      (λ (odd : header.sequence % 2 ≡ 1). let at : half_of header ≡ 258 + 4096 * 1 = ap (λ (r : ℕ). 258 + 4096 * r) odd in omega (arith, at, few, room))
-      (parity header.sequence)
+  inside before room = omega (arith, half_inside version_2 header.sequence, few, room)
 
   -- the other half lies elsewhere
   apart : (j : ℕ) → j < 4096 → (half_at version_2 sequence + j < half_of header) ⊎ (half_of header + length bytes / 512 ≤ half_at version_2 sequence + j)
   apart j within = ⊎_elim
-      (λ (even : sequence % 2 ≡ 0).
-      let odd : header.sequence % 2 ≡ 1 = omega (arith, next, even) in
-      let here : half_at version_2 sequence ≡ 258 + 4096 * 0 = ap (λ (r : ℕ). 258 + 4096 * r) even in
-      let there : half_of header ≡ 258 + 4096 * 1 = ap (λ (r : ℕ). 258 + 4096 * r) odd in
-      inl (omega (arith, here, there, within)))
-      (λ (odd : sequence % 2 ≡ 1).
-      let even : header.sequence % 2 ≡ 0 = omega (arith, next, odd) in
-      let here : half_at version_2 sequence ≡ 258 + 4096 * 1 = ap (λ (r : ℕ). 258 + 4096 * r) odd in
-      let there : half_of header ≡ 258 + 4096 * 0 = ap (λ (r : ℕ). 258 + 4096 * r) even in
-      inr (omega (arith, here, there, few)))
+      (λ (even : sequence % 2 ≡ 0). inl (omega (arith, next, even, within)))
+      (λ (odd : sequence % 2 ≡ 1). inr (omega (arith, next, odd, few)))
       (parity sequence)
 
   low : (i : ℕ) → i < 258 → i < half_of header

@@ -2,7 +2,7 @@
 use Rattle.std.proofs.Common.{◌-◌, ◌≡◌, ◌≢◌, ◌⊎◌, ⊎_elim, inl, inr, ℕ, zero, suc, ◌+◌, ◌*◌, ◌%◌, ◌^◌, ◌<◌, ◌≤◌, List, [], ◌∷◌, ◌++◌, length, take, drop, All, Option, Some, None, Err, refl, sym, ◌∙◌, ap, subst, arith, length-append}
 use Rattle.std.proofs.lemmas.Bool.{cases_lt}
 use Rattle.std.proofs.lemmas.List.Elements.{All-take, All-drop}
-use Rattle.byteorder.specs.Endian.{big_bytes, big_number}
+use Rattle.byteorder.specs.Endian.{big_bytes}
 use Rattle.sector_disk.specs.Image.{sector}
 use Rattle.command_core.specs.Runs.{IsState}
 use Rattle.command_core.specs.declared.states.State.{State}
@@ -27,62 +27,64 @@ use Rattle.checkpoint.specs.Stores.{IsValid, IsOfOtherVersion, Counts, snapshot_
 use Rattle.checkpoint.specs.Holds.{Holds, layout_of}
 use Rattle.checkpoint.specs.Reads.{IsOfParity, IsLed, HasRecords, IsClearFrom, HasStrayFrom}
 use Rattle.checkpoint.specs.Holdless.{HoldsNothing}
-use Rattle.checkpoint.proofs.HeaderBytes.{sequence_of, length_of}
+use Rattle.checkpoint.proofs.HeaderBytes.{small_half, read_of, read_back}
 use Rattle.checkpoint.proofs.Heads.{counts_first, counts_second, counts_zeroth, counts_next, none_valid}
 use Rattle.checkpoint.proofs.Led.{none_led, more_led, led_to, led_full}
 use Rattle.checkpoint.proofs.Loading.{holds_here}
 
--- ---- numbers and bytes
+-- ---- properties, numbers and bytes
 
-same_number : (a b : ℕ) → (a ≡ b) ⊎ (a ≢ b)
-same_number a b = ⊎_elim
-    (λ (less : a < b). inr (λ (e : a ≡ b). absurd (omega (arith, less, e))))
-    (λ (more : b ≤ a). ⊎_elim (λ (great : b < a). inr (λ (e : a ≡ b). absurd (omega (arith, great, e)))) (λ (least : a ≤ b). inl (omega (arith, more, least))) (cases_lt b a)) (cases_lt a b)
+abbrev IsAnswered : Type 0 → Type 0
+IsAnswered A = A ⊎ (¬ A)
 
-same_bytes : (xs ys : List ℕ) → (xs ≡ ys) ⊎ (xs ≢ ys)
+by : {A B : Type 0} → IsAnswered A → (A → B) → (B → A) → IsAnswered B
+by (inl a) to from = inl (to a)
+by (inr never) to from = inr (λ b. never (from b))
+
+both : {A B : Type 0} → IsAnswered A → IsAnswered B → IsAnswered (A × B)
+both (inl a) (inl b) = inl (a, b)
+both (inl a) (inr never) = inr (λ is. never is.1)
+both (inr never) b = inr (λ is. never is.0)
+
+either : {A B : Type 0} → IsAnswered A → IsAnswered B → IsAnswered (A ⊎ B)
+either (inl a) b = inl (inl a)
+either (inr never) (inl b) = inl (inr b)
+either (inr never) (inr none) = inr (λ is. ⊎_elim never none is)
+
+unless : {A : Type 0} → IsAnswered A → IsAnswered (¬ A)
+unless (inl a) = inr (λ never. never a)
+unless (inr never) = inl never
+
+at_most : (a b : ℕ) → IsAnswered (a ≤ b)
+at_most a b = ⊎_elim (λ (less : b < a). inr (λ (h : a ≤ b). absurd (omega (arith, less, h)))) (λ (is : a ≤ b). inl is) (cases_lt b a)
+
+same_number : (a b : ℕ) → IsAnswered (a ≡ b)
+same_number a b = by (both (at_most a b) (at_most b a)) (λ is. omega (arith, is.0, is.1)) (λ (e : a ≡ b). (omega (arith, e), omega (arith, e)))
+
+same_bytes : (xs ys : List ℕ) → IsAnswered (xs ≡ ys)
 same_bytes [] [] = inl refl
 same_bytes [] (y ∷ ys) = inr (λ e. absurd cc)
 same_bytes (x ∷ xs) [] = inr (λ e. absurd cc)
-same_bytes (x ∷ xs) (y ∷ ys) = ⊎_elim
-    (λ (first : x ≡ y). ⊎_elim (λ (rest : xs ≡ ys). inl cc) (λ (not : xs ≢ ys). inr (λ (e : x ∷ xs ≡ y ∷ ys). let rest : xs ≡ ys = cc in not rest)) (same_bytes xs ys))
-    (λ (not : x ≢ y). inr (λ (e : x ∷ xs ≡ y ∷ ys). let first : x ≡ y = cc in not first)) (same_number x y)
+same_bytes (x ∷ xs) (y ∷ ys) = by (both (same_number x y) (same_bytes xs ys)) (λ is. ap (λ (n : ℕ). n ∷ xs) is.0 ∙ ap (λ (l : List ℕ). y ∷ l) is.1) (λ (e : x ∷ xs ≡ y ∷ ys). (cc, cc))
 
 -- ---- headers
-
-abbrev read_of : List ℕ → Header
-read_of bytes = record { sequence = big_number 8 (drop 12 bytes); length = big_number 8 (drop 20 bytes) }
-
-abbrev header_of : ℕ → ℕ → Header
-header_of sequence length = record { sequence = sequence; length = length }
 
 module _ (layout : Layout) (image : List ℕ) (half : layout.half < 2 ^ 32) where
   -- a valid header is what its sector reads as
   is_read : (index : ℕ) (header : Header) → header.sequence % 2 ≡ index → IsValid layout image header → header ≡ read_of (sector index image)
-  is_read index header parity valid =
-      let bytes : sector index image ≡ header_bytes layout.version header = ap (λ (i : ℕ). sector i image) (sym parity) ∙ valid.bytes in
-      let sequence : header.sequence ≡ big_number 8 (drop 12 (sector index image)) = sym (ap (λ (b : List ℕ). big_number 8 (drop 12 b)) bytes ∙ sequence_of layout.version header (omega (arith, valid.last))) in
-      let size : header.length ≡ big_number 8 (drop 20 (sector index image)) = sym (ap (λ (b : List ℕ). big_number 8 (drop 20 b)) bytes ∙ length_of layout.version header (omega (arith, valid.fits, half))) in
-      ap (λ (n : ℕ). header_of n header.length) sequence ∙ ap (header_of (big_number 8 (drop 12 (sector index image)))) size
+  is_read index header parity valid = sym (ap read_of (ap (λ (i : ℕ). sector i image) (sym parity) ∙ valid.bytes) ∙ read_back layout.version header (omega (arith, valid.last)) (omega (arith, valid.fits, half)))
 
   abbrev IsIn : ℕ → Header → Type 0
   IsIn index header = (header.sequence % 2 ≡ index) × IsValid layout image header
 
   -- whether a header stands in this sector and is valid
-  is_in : (index : ℕ) (header : Header) → IsIn index header ⊎ (¬ IsIn index header)
-  is_in index header = ⊎_elim (λ (parity : header.sequence % 2 ≡ index).
-      ⊎_elim (λ (small : length image < 512 * sectors_in layout). inr (λ (h : IsIn index header). absurd (omega (arith, small, h.1.room)))) (λ (room : 512 * sectors_in layout ≤ length image).
-      ⊎_elim (λ (bytes : sector (header.sequence % 2) image ≡ header_bytes layout.version header).
-      ⊎_elim (λ (none : header.sequence < 1). inr (λ (h : IsIn index header). absurd (omega (arith, none, h.1.first)))) (λ (first : 1 ≤ header.sequence).
-      ⊎_elim (λ (past : 2 ^ 60 < header.sequence). inr (λ (h : IsIn index header). absurd (omega (arith, past, h.1.last)))) (λ (last : header.sequence ≤ 2 ^ 60).
-      ⊎_elim (λ (empty : header.length < 1). inr (λ (h : IsIn index header). absurd (omega (arith, empty, h.1.some)))) (λ (some : 1 ≤ header.length).
-      ⊎_elim (λ (long : 512 * layout.half < header.length). inr (λ (h : IsIn index header). absurd (omega (arith, long, h.1.fits)))) (λ (fits : header.length ≤ 512 * layout.half).
-      inl (parity, record { room = room; bytes = bytes; first = first; last = last; some = some; fits = fits }))
-      (cases_lt (512 * layout.half) header.length)) (cases_lt header.length 1)) (cases_lt (2 ^ 60) header.sequence)) (cases_lt header.sequence 1))
-      (λ (other : sector (header.sequence % 2) image ≢ header_bytes layout.version header). inr (λ (h : IsIn index header). other h.1.bytes))
-      (same_bytes (sector (header.sequence % 2) image) (header_bytes layout.version header)))
-      (cases_lt (length image) (512 * sectors_in layout)))
-      (λ (odd : header.sequence % 2 ≢ index). inr (λ (h : IsIn index header). odd h.0))
-      (same_number (header.sequence % 2) index)
+  is_in : (index : ℕ) (header : Header) → IsAnswered (IsIn index header)
+  is_in index header = by
+      (both (same_number (header.sequence % 2) index)
+      (both (at_most (512 * sectors_in layout) (length image)) (both (same_bytes (sector (header.sequence % 2) image) (header_bytes layout.version header))
+      (both (at_most 1 header.sequence) (both (at_most header.sequence (2 ^ 60)) (both (at_most 1 header.length) (at_most header.length (512 * layout.half))))))))
+      (λ is. (is.0, record { room = is.1.0; bytes = is.1.1.0; first = is.1.1.1.0; last = is.1.1.1.1.0; some = is.1.1.1.1.1.0; fits = is.1.1.1.1.1.1 }))
+      (λ is. (is.0, (is.1.room, (is.1.bytes, (is.1.first, (is.1.last, (is.1.some, is.1.fits)))))))
 
   in_sector : (index : ℕ) → (o : Option Header) × IsOfParity layout image index o
   in_sector index = ⊎_elim
@@ -106,40 +108,30 @@ module _ (layout : Layout) (image : List ℕ) (half : layout.half < 2 ^ 32) wher
   counted = let first = in_sector 0 in let second = in_sector 1 in of_both first.0 second.0 first.1 second.1
 
 -- whether a sector is of another version
-of_other : (version : ℕ) (bytes : List ℕ) → HasOtherVersion version bytes ⊎ (¬ HasOtherVersion version bytes)
-of_other version bytes = ⊎_elim
-    (λ (is : take 8 bytes ≡ magic). ⊎_elim (λ (same : take 4 (drop 8 bytes) ≡ big_bytes 4 version). inr (λ (h : HasOtherVersion version bytes). h.1 same)) (λ (other : take 4 (drop 8 bytes) ≢ big_bytes 4 version). inl (is, other))
-    (same_bytes (take 4 (drop 8 bytes)) (big_bytes 4 version)))
-    (λ (not : take 8 bytes ≢ magic). inr (λ (h : HasOtherVersion version bytes). not h.0)) (same_bytes (take 8 bytes) magic)
+of_other : (version : ℕ) (bytes : List ℕ) → IsAnswered (HasOtherVersion version bytes)
+of_other version bytes = both (same_bytes (take 8 bytes) magic) (unless (same_bytes (take 4 (drop 8 bytes)) (big_bytes 4 version)))
 
-is_other : (layout : Layout) (image : List ℕ) → IsOfOtherVersion layout image ⊎ (¬ IsOfOtherVersion layout image)
-is_other layout image = ⊎_elim
-    (λ (small : length image < 512 * 802). inr (λ (h : IsOfOtherVersion layout image). absurd (omega (arith, small, h.room))))
-    (λ (room : 512 * 802 ≤ length image). ⊎_elim
-    (λ (first : HasOtherVersion layout.version (sector 0 image)). inl (record { room = room; other = inl first }))
-    (λ (no : ¬ HasOtherVersion layout.version (sector 0 image)). ⊎_elim
-    (λ (second : HasOtherVersion layout.version (sector 1 image)). inl (record { room = room; other = inr second }))
-    (λ (none : ¬ HasOtherVersion layout.version (sector 1 image)). inr (λ (h : IsOfOtherVersion layout image). ⊎_elim no none h.other))
-    (of_other layout.version (sector 1 image))) (of_other layout.version (sector 0 image)))
-    (cases_lt (length image) (512 * 802))
+is_other : (layout : Layout) (image : List ℕ) → IsAnswered (IsOfOtherVersion layout image)
+is_other layout image = by (both (at_most (512 * 802) (length image)) (either (of_other layout.version (sector 0 image)) (of_other layout.version (sector 1 image))))
+    (λ is. record { room = is.0; other = is.1 }) (λ is. (is.room, is.other))
 
 -- ---- the journal
 
 -- from an index on, some sector is a stray one, or none is
-strays : (image : List ℕ) (sequence used : ℕ) (left index : ℕ) → index + left ≡ 256 → used ≤ index → ((k : ℕ) → used ≤ k → k < index → begins_with (sector (2 + k) image) < sequence)
-    → IsClearFrom used image sequence ⊎ HasStrayFrom used image sequence
-strays image sequence used zero index whole from clear = inl (λ k low high. clear k low (omega (arith, high, whole)))
-strays image sequence used (suc left) index whole from clear = ⊎_elim
-    (λ (less : begins_with (sector (2 + index) image) < sequence). strays image sequence used left (suc index) (omega (arith, whole)) (omega (arith, from))
-    (λ k low high. ⊎_elim (λ (before : k < index). clear k low before)
-    (λ (at : index ≤ k). let here : index ≡ k = omega (arith, at, high) in subst (λ (i : ℕ). begins_with (sector (2 + i) image) < sequence) here less) (cases_lt k index)))
-    (λ (more : sequence ≤ begins_with (sector (2 + index) image)). inr (index, from, omega (arith, whole), more))
+strays : (image : List ℕ) (sequence left index : ℕ) → index + left ≡ 256 → IsClearFrom index image sequence ⊎ HasStrayFrom index image sequence
+strays image sequence zero index whole = inl (λ k low high. absurd (omega (arith, low, high, whole)))
+strays image sequence (suc left) index whole = ⊎_elim
+    (λ (less : begins_with (sector (2 + index) image) < sequence). ⊎_elim
+    (λ (clear : IsClearFrom (suc index) image sequence). inl (λ k low high. ⊎_elim
+    (λ (after : index < k). clear k (omega (arith, after)) high)
+    (λ (at : k ≤ index). let here : index ≡ k = omega (arith, at, low) in subst (λ (i : ℕ). begins_with (sector (2 + i) image) < sequence) here less) (cases_lt index k)))
+    (λ (stray : HasStrayFrom (suc index) image sequence). inr (stray.0, omega (arith, stray.1), stray.2, stray.3))
+    (strays image sequence left (suc index) (omega (arith, whole))))
+    (λ (more : sequence ≤ begins_with (sector (2 + index) image)). inr (index, omega arith, omega (arith, whole), more))
     (cases_lt (begins_with (sector (2 + index) image)) sequence)
 
-numbered : (version : Version) (state : State) (commands : List Command) → HaveNumbers version state commands ⊎ (¬ HaveNumbers version state commands)
-numbered One state commands = ⊎_elim
-    (λ (past : 4001 < next_number_of state + all_added commands). inr (λ (h : HaveNumbers One state commands). absurd (omega (arith, past, h))))
-    (λ (fits : next_number_of state + all_added commands ≤ 4001). inl fits) (cases_lt 4001 (next_number_of state + all_added commands))
+numbered : (version : Version) (state : State) (commands : List Command) → IsAnswered (HaveNumbers version state commands)
+numbered One state commands = at_most (next_number_of state + all_added commands) 4001
 numbered Two state commands = inl tt
 
 module _ (bytes : BytesAreDecided) (records : RecordsAreDecided) where
@@ -187,7 +179,7 @@ module _ (bytes : BytesAreDecided) (records : RecordsAreDecided) where
         (λ (numbers : HaveNumbers version state commands). inl (state, commands, record { sequence = header.sequence; used = length commands }, holds_here version image header counts state commands (length commands) is told facts has clear numbers refl))
         (λ (past : ¬ HaveNumbers version state commands). bad state is told facts commands has (inr past)) (numbered version state commands))
         (λ (stray : HasStrayFrom (length commands) image header.sequence). bad state is told facts commands has (inl stray))
-        (strays image header.sequence (length commands) (256 - length commands) (length commands) (omega (arith, has.count)) (omega arith) (λ k low high. absurd (omega (arith, low, high))))
+        (strays image header.sequence (256 - length commands) (length commands) (omega (arith, has.count)))
 
     of_fault : (fault : CodecFault) → fault ≢ codec.OutOfMemory → Decodes version (snapshot_in (layout_of version) image header.sequence header.length) (Err fault) → IsDecided version image
     of_fault codec.Truncated not h = inr (store.Codec codec.Truncated, (header, counts, inl h))
@@ -202,14 +194,10 @@ module _ (bytes : BytesAreDecided) (records : RecordsAreDecided) where
         (bytes version (snapshot_in (layout_of version) image header.sequence header.length)
         (All-take (λ b. b < 256) header.length (drop (512 * half_at (layout_of version) header.sequence) image) (All-drop (λ b. b < 256) (512 * half_at (layout_of version) header.sequence) image are)))
 
-  small_half : (version : Version) → (layout_of version).half < 2 ^ 32
-  small_half One = omega arith
-  small_half Two = omega arith
-
   pub decided : (version : Version) (image : List ℕ) → All (λ b. b < 256) image → IsDecided version image
   decided version image are = ⊎_elim
       (λ found. of_header version image found.0 found.1 are)
       (λ none. ⊎_elim
       (λ (other : IsOfOtherVersion (layout_of version) image). inr (store.BadVersion, record { none = none; other = other }))
       (λ (no : ¬ IsOfOtherVersion (layout_of version) image). inr (store.NotFormatted, record { none = none; no_other = no })) (is_other (layout_of version) image))
-      (counted (layout_of version) image (small_half version))
+      (counted (layout_of version) image (omega (arith, small_half version)))

@@ -1,10 +1,11 @@
 -- A snapshot without records, from what an image stores to what it holds.
 use Rattle.std.proofs.Common.{◌≡◌, ⊎_elim, inl, inr, ℕ, ◌+◌, ◌≤◌, List, [], Result, Ok, Err, OnOk, refl, subst, arith}
+use Rattle.std.proofs.lemmas.Result.{on_ok_weaker}
 use Rattle.sector_disk.specs.declared.sectors.Sectors as sectors
 use Rattle.sector_disk.specs.Sectors.{Only}
 use Rattle.sector_disk.specs.Throughout.{weakened}
 use Rattle.sector_disk.specs.Calls.{Each, During, Commits}
-use Rattle.sector_disk.specs.CommitLaws.{each_by, commits_by}
+use Rattle.sector_disk.specs.CommitLaws.{commits_by}
 use Rattle.command_core.specs.Runs.{IsState}
 use Rattle.command_core.specs.declared.states.State.{State}
 use Rattle.command_core.specs.declared.states.State.TheVariants.{Empty, Loaded}
@@ -71,7 +72,7 @@ module _ {D : Type 0} (on : sectors.Ghosts D) where
       → Formats on result Y written old new → Formats on result Z written old new
   formats_by result Y Z written old new by is = record {
     moments = on_calls result (weakened on.clock on.possible_since old new _ _ (formats_within Y Z by (on.calls old))) is.moments;
-    after = each_by Y Y Y Z (λ image y. y) by on result new is.after;
+    after = on_ok_weaker result (λ each image left. by image (each image left)) is.after;
     durable = is.durable;
   }
 

@@ -13,9 +13,6 @@ mod Journals
 mod Fresh
 mod Heads
 mod Led
-mod FaultKinds
 mod Loading
-mod Snapshots
-mod FrontZeros
 mod OneThing
 mod Decided

@@ -13,7 +13,8 @@ use Rattle.checkpoint.specs.Layouts.{half_at}
 use Rattle.checkpoint.specs.Stores.{Counts, snapshot_in, record_sectors, begins_with}
 use Rattle.checkpoint.specs.Holds.{Holds, layout_of, journal}
 use Rattle.checkpoint.specs.Reads.{IsImageFront, HasRecords, IsClearFrom, HasStrayFrom}
-use Rattle.checkpoint.specs.Holdless.{HasBadJournal, IsAstray, HoldsNothing, UnlessUnread, IsOfJournal, IsOfBytes, told_of}
+use Rattle.checkpoint.specs.Holdless.{HasBadJournal, IsAstray, HoldsNothing, UnlessUnread, IsOfHeaders, IsOfJournal, IsOfBytes, told_of}
+use Rattle.checkpoint.specs.Refused.{faults_of_store}
 use Rattle.checkpoint.specs.declared.faults.StoreFault.{StoreFault}
 use Rattle.checkpoint.specs.declared.faults.StoreFault.TheVariants as store
 use Rattle.state_codec.specs.declared.fault.CodecFault.{CodecFault}
@@ -118,3 +119,12 @@ of_bytes codec.Truncated = tt
 of_bytes codec.BadField = tt
 of_bytes (codec.PlanRefused rule) = tt
 of_bytes codec.OutOfMemory = tt
+
+-- what the headers tell is no failed call
+pub no_fault_more : (fault : StoreFault) → IsOfHeaders fault → (faults : ℕ) → faults_of_store fault faults ≡ faults
+no_fault_more store.NotFormatted kind faults = refl
+no_fault_more store.BadVersion kind faults = refl
+no_fault_more store.DeviceFault kind faults = absurd kind
+no_fault_more store.OutOfMemory kind faults = absurd kind
+no_fault_more (store.Codec fault) kind faults = absurd kind
+no_fault_more store.Spent kind faults = absurd kind

@@ -6,9 +6,10 @@ use Rattle.sector_disk.specs.ImageLaws.{length-written, mixes_one}
 use Rattle.sector_disk.specs.Sectors.{Reached, Only}
 use Rattle.checkpoint.specs.declared.headers.Header.{Header}
 use Rattle.checkpoint.specs.Headers.{header_bytes}
+use Rattle.checkpoint.specs.Layouts.{version_2}
 use Rattle.checkpoint.specs.Puts.{IsInPut, IsInSnapshot}
 use Rattle.checkpoint.specs.Written.{half_of, with_snapshot, with_both}
-use Rattle.checkpoint.proofs.Carried.{parity}
+use Rattle.checkpoint.proofs.Carried.{half_inside}
 
 module _ (header : Header) (bytes : List ℕ) (possible : List ℕ → Type 0) (seen : List ℕ) (calls half : ℕ) (head : List ℕ) (half_is : half ≡ half_of header) (head_is : head ≡ header_bytes 2 header) where
   -- of the first put nothing but the snapshot is seen
@@ -23,10 +24,7 @@ module _ (header : Header) (bytes : List ℕ) (possible : List ℕ → Type 0) (
   module _ (n : ℕ) (whole : length bytes % 512 ≡ 0) (fits : length bytes ≤ 512 * 4096) (room : 8450 ≤ n) (here : possible seen) (size : length seen ≡ 512 * n)
       (mid : List ℕ → Type 0) (mid_seen : List ℕ) (mid_calls : ℕ) (two : mid_calls ≡ calls + 2) (mid_is : mid_seen ≡ written half bytes seen) (only : Only (written half bytes seen) mid) where
     inside : 512 * half + 512 * (length bytes / 512) ≤ length seen
-    inside = ⊎_elim
-        (λ (even : header.sequence % 2 ≡ 0). let at : half ≡ 258 + 4096 * 0 = half_is ∙ ap (λ (r : ℕ). 258 + 4096 * r) even in omega (arith, at, fits, room, size))
-        (λ (odd : header.sequence % 2 ≡ 1). let at : half ≡ 258 + 4096 * 1 = half_is ∙ ap (λ (r : ℕ). 258 + 4096 * r) odd in omega (arith, at, fits, room, size))
-        (parity header.sequence)
+    inside = omega (arith, half_is, half_inside version_2 header.sequence, fits, room, size)
 
     sectors : length bytes ≡ 512 * (length bytes / 512)
     sectors = omega (arith, whole)

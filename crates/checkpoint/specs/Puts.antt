@@ -1,5 +1,5 @@
 -- What a stop may leave while a store is written, in bytes.
-use Rattle.std.specs.Prelude.{◌≡◌, ◌⊎◌, ℕ, ◌+◌, ◌%◌, ◌<◌, ◌≤◌, List, length, take, replicate}
+use Rattle.std.specs.Prelude.{◌≡◌, ◌⊎◌, ℕ, ◌+◌, ◌≤◌, List, length, replicate}
 use Rattle.sector_disk.specs.Image.{written}
 use Rattle.sector_disk.specs.Sectors.{Reached}
 use Rattle.checkpoint.specs.declared.headers.Header.{Header}
@@ -24,10 +24,3 @@ pub record IsInSnapshot (header : Header) (bytes : List ℕ) (possible : List �
 pub record IsZeros (n : ℕ) (bytes : List ℕ) : Type 0 where
   pub are : bytes ≡ replicate n 0
   pub long : length bytes ≡ n
-
--- these bytes, and fewer than a sector's behind them, to a whole sector
-pub record FillsSectors (bytes filled : List ℕ) : Type 0 where
-  pub front : take (length bytes) filled ≡ bytes
-  pub long : length bytes ≤ length filled
-  pub short : length filled < length bytes + 512
-  pub whole : length filled % 512 ≡ 0

@@ -1,5 +1,5 @@
 -- What reading leaves, and what the front of an image tells.
-use Rattle.std.specs.Prelude.{◌≡◌, ◌≢◌, ℕ, ◌+◌, ◌*◌, ◌%◌, ◌^◌, ◌<◌, ◌≤◌, List, Option, Some, None, length, take, All}
+use Rattle.std.specs.Prelude.{◌≡◌, ◌≢◌, ℕ, ◌+◌, ◌*◌, ◌%◌, ◌<◌, ◌≤◌, List, Option, Some, None, length, take, All}
 use Rattle.sector_disk.specs.Image.{sector}
 use Rattle.sector_disk.specs.declared.sectors.Sectors as sectors
 use Rattle.sector_disk.specs.Sectors.{SameImages, Throughout, as_many}

@@ -1,5 +1,5 @@
 -- What an image stores, as bytes: a sequence, a snapshot, and records.
-use Rattle.std.specs.Prelude.{◌≡◌, ◌⊎◌, ℕ, zero, suc, ◌+◌, ◌*◌, ◌%◌, ◌^◌, ◌<◌, ◌≤◌, List, [], ◌∷◌, length, take, drop}
+use Rattle.std.specs.Prelude.{◌≡◌, ◌⊎◌, ℕ, zero, suc, ◌+◌, ◌*◌, ◌%◌, ◌<◌, ◌≤◌, List, [], ◌∷◌, length, take, drop}
 use Rattle.byteorder.specs.Endian.{big_number}
 use Rattle.sector_disk.specs.Image.{sector}
 use Rattle.checkpoint.specs.declared.layouts.Layout.{Layout}

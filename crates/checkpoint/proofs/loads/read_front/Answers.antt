@@ -1,6 +1,6 @@
 use Rattle.std.proofs.Common.{ℕ, List, sym, ◌∙◌, subst, arith}
 use Rattle.checkpoint.specs.Reads.{IsImageFront}
-use Rattle.checkpoint.proofs.FaultKinds.{no_fault_more}
+use Rattle.checkpoint.proofs.Loading.{no_fault_more}
 use Rattle.checkpoint.proofs.loads.read_front.Goals as goal
 
 pub returns-in-Ok-current_header-clause-found : goal.returns-in-Ok-current_header-clause-found

@@ -4,10 +4,9 @@ use Rattle.sector_disk.specs.Image.{written}
 use Rattle.sector_disk.specs.Sectors.{Only}
 use Rattle.sector_disk.specs.Throughout.{joined, weakened}
 use Rattle.checkpoint.specs.Puts.{IsInPut, IsInSnapshot}
-use Rattle.checkpoint.proofs.Cleared.{clears, length_cleared}
+use Rattle.checkpoint.proofs.Cleared.{clears, length_cleared, front_zeros}
 use Rattle.checkpoint.proofs.NewStore.{IsMaking, in_zeros, in_snapshot}
 use Rattle.checkpoint.specs.Written.{first_header, with_both}
-use Rattle.checkpoint.proofs.FrontZeros.{front_zeros}
 use Rattle.checkpoint.proofs.making.put_all.Goals as goal
 
 pub put-requires : goal.put-requires
