@@ -17,56 +17,41 @@ use Rattle.sector_disk.specs.MemoryLaws.{whole_sectors}
 use Rattle.sector_disk.specs.Sectors.{Only}
 use Rattle.sector_disk.specs.Crash.{part_of, content_of, is_write, chosen, IsSettledBy}
 
-other_sector : (disk : Disk) (first i : ℕ) (content : List ℕ) → (first ≡ i → ⊥) → (next disk (Sector first content)).contents i ≡ disk.contents i
-other_sector disk first i content ne = ⊎_elim
-    (λ (yes : ((first == i) ≡ true) × (first ≡ i)). absurd (ne yes.1))
-    (λ (off : ((first == i) ≡ false) × (first ≢ i)). ap (λ b. if b then disk.contents i ++ content ∷ [] else disk.contents i) off.0)
+-- a sector outside a run keeps its contents, and one inside it gains its part
+run_contents : (disk : Disk) (first : ℕ) (bytes : List ℕ) (n i : ℕ) → (((i < first) ⊎ (first + n ≤ i)) × ((run disk (sectors_from first bytes n)).contents i ≡ disk.contents i))
+    ⊎ ((j : ℕ) × (i ≡ first + j) × (j < n) × ((run disk (sectors_from first bytes n)).contents i ≡ disk.contents i ++ sector j bytes ∷ []))
+run_contents disk first bytes zero i = inl (⊎_elim (λ (low : i < first). inl low) (λ (high : first ≤ i). inr (omega arith)) (cases_lt i first), refl)
+run_contents disk first bytes (suc n) i =
+    let rest = run_contents (next disk (Sector first (take 512 bytes))) (suc first) (drop 512 bytes) n i in ⊎_elim
+    (λ (here : ((first == i) ≡ true) × (first ≡ i)). ⊎_elim
+    (λ out. inr (0, omega (arith, here.1), omega arith, out.1 ∙ ap (λ b. if b then disk.contents i ++ take 512 bytes ∷ [] else disk.contents i) here.0))
+    (λ within. absurd (omega (arith, here.1, within.1))) rest)
+    (λ (there : ((first == i) ≡ false) × (first ≢ i)). let same = ap (λ b. if b then disk.contents i ++ take 512 bytes ∷ [] else disk.contents i) there.0 in ⊎_elim
+    (λ out. inl (⊎_elim (λ (low : i < suc first). inl (⊎_elim (λ (less : i < first). less) (λ (from : first ≤ i). absurd (there.1 (omega (arith, low, from)))) (cases_lt i first))) (λ (high : suc first + n ≤ i). inr (omega arith)) out.0, out.1 ∙ same))
+    (λ within. inr (
+      suc within.0,
+      omega (arith, within.1),
+      omega (arith, within.2),
+      within.3 ∙ ap (λ (l : List (List ℕ)). l ++ sector within.0 (drop 512 bytes) ∷ []) same
+          ∙ ap (λ (x : List ℕ). disk.contents i ++ x ∷ []) (sector_drop 1 within.0 bytes ∙ ap (λ (m : ℕ). sector m bytes) (omega arith)),
+    )) rest)
     (eqb_tells first i)
-
-this_sector : (disk : Disk) (first i : ℕ) (content : List ℕ) → first ≡ i → (next disk (Sector first content)).contents i ≡ disk.contents i ++ content ∷ []
-this_sector disk first i content at = ⊎_elim
-    (λ (yes : ((first == i) ≡ true) × (first ≡ i)). ap (λ b. if b then disk.contents i ++ content ∷ [] else disk.contents i) yes.0)
-    (λ (off : ((first == i) ≡ false) × (first ≢ i)). absurd (off.1 at))
-    (eqb_tells first i)
-
--- a sector outside the run keeps its contents
-outside_run : (disk : Disk) (first : ℕ) (bytes : List ℕ) (n i : ℕ) → (i < first) ⊎ (first + n ≤ i) → (run disk (sectors_from first bytes n)).contents i ≡ disk.contents i
-outside_run disk first bytes zero i out = refl
-outside_run disk first bytes (suc n) i out =
-    outside_run (next disk (Sector first (take 512 bytes))) (suc first) (drop 512 bytes) n i (⊎_elim (λ (low : i < first). inl (omega arith)) (λ (high : first + suc n ≤ i). inr (omega arith)) out)
-    ∙ other_sector disk first i (take 512 bytes) (λ same. ⊎_elim (λ (low : i < first). absurd (omega (arith, same))) (λ (high : first + suc n ≤ i). absurd (omega (arith, same))) out)
-
--- one inside it gains its part
-inside_run : (disk : Disk) (first : ℕ) (bytes : List ℕ) (n i j : ℕ) → i ≡ first + j → j < n → (run disk (sectors_from first bytes n)).contents i ≡ disk.contents i ++ sector j bytes ∷ []
-inside_run disk first bytes zero i j at lt = absurd (omega arith)
-inside_run disk first bytes (suc n) i zero at lt =
-    outside_run (next disk (Sector first (take 512 bytes))) (suc first) (drop 512 bytes) n i (inl (omega arith))
-    ∙ this_sector disk first i (take 512 bytes) (omega arith)
-inside_run disk first bytes (suc n) i (suc j) at lt =
-    inside_run (next disk (Sector first (take 512 bytes))) (suc first) (drop 512 bytes) n i j (omega arith) (omega arith)
-    ∙ ap (λ (l : List (List ℕ)). l ++ sector j (drop 512 bytes) ∷ []) (other_sector disk first i (take 512 bytes) (λ same. absurd (omega arith)))
-    ∙ ap (λ (x : List ℕ). disk.contents i ++ x ∷ []) (sector_drop 1 j bytes ∙ ap (λ (m : ℕ). sector m bytes) (omega arith))
 
 pub some_part : (first : ℕ) (bytes : List ℕ) (i : ℕ) → first ≤ i → i - first < length bytes / 512 → part_of first bytes i ≡ Some (sector (i - first) bytes)
 some_part first bytes i from lt =
     ap (λ b. if b then Some (sector (i - first) bytes) else None) (and_from (nat_le first i) (nat_lt (i - first) (length bytes / 512)) (le-leb first i from) (lt-ltb (i - first) (length bytes / 512) lt))
 
-no_part_before : (first : ℕ) (bytes : List ℕ) (i : ℕ) → i < first → part_of first bytes i ≡ None
-no_part_before first bytes i before =
-    ap (λ b. if b then Some (sector (i - first) bytes) else None) (and_left (nat_le first i) (nat_lt (i - first) (length bytes / 512)) (lt-leb first i before))
-
-no_part_after : (first : ℕ) (bytes : List ℕ) (i : ℕ) → length bytes / 512 ≤ i - first → part_of first bytes i ≡ None
-no_part_after first bytes i after =
-    ap (λ b. if b then Some (sector (i - first) bytes) else None) (and_right (nat_le first i) (nat_lt (i - first) (length bytes / 512)) (le-ltb (i - first) (length bytes / 512) after))
+no_part : (first : ℕ) (bytes : List ℕ) (i : ℕ) → (i < first) ⊎ (first + length bytes / 512 ≤ i) → part_of first bytes i ≡ None
+no_part first bytes i out = ap (λ b. if b then Some (sector (i - first) bytes) else None) (⊎_elim
+    (λ (low : i < first). and_left (nat_le first i) (nat_lt (i - first) (length bytes / 512)) (lt-leb first i low))
+    (λ (high : first + length bytes / 512 ≤ i). and_right (nat_le first i) (nat_lt (i - first) (length bytes / 512)) (le-ltb (i - first) (length bytes / 512) (omega arith))) out)
 
 contents-sectors : (disk : Disk) (first : ℕ) (bytes : List ℕ) (i : ℕ) → (run disk (sectors_from first bytes (length bytes / 512))).contents i ≡ disk.contents i ++ option_to_list (part_of first bytes i)
 contents-sectors disk first bytes i = ⊎_elim
-    (λ (before : i < first). outside_run disk first bytes (length bytes / 512) i (inl before) ∙ sym (append-nil (disk.contents i)) ∙ ap (λ o. disk.contents i ++ option_to_list o) (sym (no_part_before first bytes i before)))
-    (λ (from : first ≤ i). ⊎_elim
-    (λ (within : i - first < length bytes / 512). inside_run disk first bytes (length bytes / 512) i (i - first) (omega arith) within ∙ ap (λ o. disk.contents i ++ option_to_list o) (sym (some_part first bytes i from within)))
-    (λ (after : length bytes / 512 ≤ i - first). outside_run disk first bytes (length bytes / 512) i (inr (omega arith)) ∙ sym (append-nil (disk.contents i)) ∙ ap (λ o. disk.contents i ++ option_to_list o) (sym (no_part_after first bytes i after)))
-    (cases_lt (i - first) (length bytes / 512)))
-    (cases_lt i first)
+    (λ out. out.1 ∙ sym (append-nil (disk.contents i)) ∙ ap (λ o. disk.contents i ++ option_to_list o) (sym (no_part first bytes i out.0)))
+    (λ within. let at : i - first ≡ within.0 = omega (arith, within.1) in
+    within.3 ∙ ap (λ (j : ℕ). disk.contents i ++ sector j bytes ∷ []) (sym at) ∙ ap (λ o. disk.contents i ++ option_to_list o) (sym (some_part first bytes i (omega (arith, within.1)) (omega (arith, at, within.2)))))
+    (run_contents disk first bytes (length bytes / 512) i)
 
 contents-call : (disk : Disk) (call : Call) (i : ℕ) → is_write call ≡ true → (run disk (events_of call)).contents i ≡ disk.contents i ++ option_to_list (content_of i call)
 contents-call disk (Wrote first bytes) i write =

@@ -1,6 +1,6 @@
 -- How a call of the system goes on with a read or a write.
-use Rattle.std.proofs.Common.{◌≡◌, inl, inr, ◌⊎◌, ℕ, ◌+◌, ◌-◌, ◌*◌, ◌/◌, ◌<◌, ◌≤◌, Bool, true, false, cond, ◌&&◌, ◌==◌, List, [], ◌∷◌, ◌++◌, length, take, drop, refl, sym, ◌∙◌, ap, subst, arith, Option, Some, None, nat_le}
-use Rattle.std.proofs.lemmas.Bool.{le-leb, lt-leb, eq-eqb}
+use Rattle.std.proofs.Common.{◌≡◌, inl, inr, ◌⊎◌, ℕ, ◌+◌, ◌-◌, ◌*◌, ◌/◌, ◌<◌, ◌≤◌, true, false, List, [], ◌∷◌, ◌++◌, length, take, drop, refl, sym, ◌∙◌, ap, arith, Option, Some, None, nat_le}
+use Rattle.std.proofs.lemmas.Bool.{cond-true, cond-false, and_from, le-leb, lt-leb, eq-eqb}
 use Rattle.std.proofs.lemmas.Bool.Decides.{leb_tells}
 use Rattle.std.proofs.lemmas.List.{append-nil, length-append, length-drop, length-take-le}
 use Rattle.std.proofs.Math.Seq.{take-append-add, drop-append-add}
@@ -27,19 +27,9 @@ same_way : (way : Way) → is_same way way ≡ true
 same_way Reads = refl
 same_way Writes = refl
 
-first_of : {A : Type 0} (b : Bool) (x y : A) → b ≡ true → cond b x y ≡ x
-first_of b x y e = subst (λ (c : Bool). cond c x y ≡ x) (sym e) refl
-
-second_of : {A : Type 0} (b : Bool) (x y : A) → b ≡ false → cond b x y ≡ y
-second_of b x y e = subst (λ (c : Bool). cond c x y ≡ y) (sym e) refl
-
-all_true : (a b c : Bool) → a ≡ true → b ≡ true → c ≡ true → (a && b && c) ≡ true
-all_true a b c x y z =
-    subst (λ (t : Bool). (t && b && c) ≡ true) (sym x) (subst (λ (t : Bool). (true && t && c) ≡ true) (sym y) (subst (λ (t : Bool). (true && true && t) ≡ true) (sym z) refl))
-
 -- a read or a write that all its bytes were moved of
 pub whole : (entries : List Entry) (way : Way) (start : ℕ) (bytes : List ℕ) (at : ℕ) → length bytes ≤ at → so_far entries way start bytes at ≡ done entries (finished way start bytes)
-whole entries way start bytes at all = first_of (nat_le (length bytes) at) _ _ (le-leb (length bytes) at all)
+whole entries way start bytes at all = cond-true (nat_le (length bytes) at) _ _ (le-leb (length bytes) at all)
 
 module _ (entries : List Entry) (way : Way) (start : ℕ) (bytes piece : List ℕ) (at n : ℕ) (more : at < length bytes) (rest : length piece ≡ length (drop at bytes)) where
   abbrev going : Transfer
@@ -49,13 +39,13 @@ module _ (entries : List Entry) (way : Way) (start : ℕ) (bytes piece : List �
   open_still = record { entries = entries; going = Some going }
 
   is_open : so_far entries way start bytes at ≡ open_still
-  is_open = second_of (nat_le (length bytes) at) _ _ (lt-leb (length bytes) at more)
+  is_open = cond-false (nat_le (length bytes) at) _ _ (lt-leb (length bytes) at more)
 
   moved : length (take at bytes) ≡ at
   moved = length-take-le at bytes (omega (arith, more))
 
   asks : goes_on going way (start + at) (length piece) ≡ true
-  asks = all_true (is_same way way) (start + at == start + length (take at bytes)) (length piece == length (drop at bytes)) (same_way way) (eq-eqb (start + at) (start + length (take at bytes)) (ap (λ (k : ℕ). start + k) (sym moved))) (eq-eqb (length piece) (length (drop at bytes)) rest)
+  asks = and_from _ _ (and_from _ _ (same_way way) (eq-eqb (start + at) (start + length (take at bytes)) (ap (λ (k : ℕ). start + k) (sym moved)))) (eq-eqb (length piece) (length (drop at bytes)) rest)
 
   size : length (take at bytes ++ piece) ≡ at + length piece
   size = length-append (take at bytes) piece ∙ ap (λ (k : ℕ). k + length piece) moved
@@ -65,26 +55,26 @@ module _ (entries : List Entry) (way : Way) (start : ℕ) (bytes piece : List �
     where
       by_test : ((nat_le (length piece) n ≡ true) × (length piece ≤ n)) ⊎ ((nat_le (length piece) n ≡ false) × (n < length piece)) → moved_on entries way start (take at bytes) piece n ≡ so_far entries way start (take at bytes ++ piece) (at + n)
       by_test (inl (is, le)) =
-          first_of (nat_le (length piece) n) _ _ is
+          cond-true (nat_le (length piece) n) _ _ is
           ∙ sym (whole entries way start (take at bytes ++ piece) (at + n) (omega (arith, le, size)))
       by_test (inr (is, lt)) =
           let front = ap (λ (k : ℕ). take (k + n) (take at bytes ++ piece)) (sym moved) ∙ take-append-add (take at bytes) piece n in
           let back = ap (λ (k : ℕ). drop (k + n) (take at bytes ++ piece)) (sym moved) ∙ drop-append-add (take at bytes) piece n in
-          second_of (nat_le (length piece) n) _ _ is
+          cond-false (nat_le (length piece) n) _ _ is
           ∙ ap (λ (xs : List ℕ). record { entries = entries; going = Some (record { way = way; start = start; moved = xs; left = drop n piece }) }) (sym front)
           ∙ ap (λ (xs : List ℕ). record { entries = entries; going = Some (record { way = way; start = start; moved = take (at + n) (take at bytes ++ piece); left = xs }) }) (sym back)
-          ∙ sym (second_of (nat_le (length (take at bytes ++ piece)) (at + n)) _ _ (lt-leb (length (take at bytes ++ piece)) (at + n) (omega (arith, lt, size))))
+          ∙ sym (cond-false (nat_le (length (take at bytes ++ piece)) (at + n)) _ _ (lt-leb (length (take at bytes ++ piece)) (at + n) (omega (arith, lt, size))))
 
   abbrev step : (List Entry → Way → ℕ → List ℕ → List ℕ → ℕ → Told) → Told → ℕ → Told
   step does told m = by_going does told.entries told.going way (start + at) piece m
 
   -- a call for the rest that moved n bytes
   pub goes : step moved_on (so_far entries way start bytes at) n ≡ so_far entries way start (take at bytes ++ piece) (at + n)
-  goes = ap (λ (told : Told). step moved_on told n) is_open ∙ first_of (goes_on going way (start + at) (length piece)) _ _ asks ∙ joined
+  goes = ap (λ (told : Told). step moved_on told n) is_open ∙ cond-true (goes_on going way (start + at) (length piece)) _ _ asks ∙ joined
 
   -- a call for the rest that failed
   pub stops : step stopped (so_far entries way start bytes at) 0 ≡ done entries (failed way start (take at bytes ++ piece))
-  stops = ap (λ (told : Told). step stopped told 0) is_open ∙ first_of (goes_on going way (start + at) (length piece)) _ _ asks
+  stops = ap (λ (told : Told). step stopped told 0) is_open ∙ cond-true (goes_on going way (start + at) (length piece)) _ _ asks
 
 abbrev pub moved_call : Way → ℕ → ℕ → SystemCall
 moved_call Reads offset n = ReadAt offset n

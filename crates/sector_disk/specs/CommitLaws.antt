@@ -1,5 +1,6 @@
 -- What holds of commits.
 use Rattle.std.proofs.Common.{◌≡◌, ⊎_elim, inl, inr, ℕ, ◌+◌, ◌≤◌, List, Result, Ok, Err, OnOk, arith}
+use Rattle.std.proofs.lemmas.Result.{on_ok_weaker}
 use Rattle.sector_disk.specs.declared.sectors.Sectors as sectors
 use Rattle.sector_disk.specs.Throughout.{weakened}
 use Rattle.sector_disk.specs.Calls.{IsInCommit, During, Each, Commits}
@@ -16,14 +17,10 @@ module _ (X Y Z W : List ℕ → Type 0) (x : (image : List ℕ) → X image →
   }
 
   module _ {D : Type 0} (on : sectors.Ghosts D) where
-    pub each_by : {T E : Type 0} (result : Result T E) (device : D) → OnOk result (Each on device Y) → OnOk result (Each on device W)
-    each_by (Ok v) device each = λ image left. y image (each image left)
-    each_by (Err e) device each = each
-
     pub commits_by : {T E : Type 0} (result : Result T E) (steps quiet : ℕ) (old new : D) → Commits on result steps quiet X Y old new → Commits on result steps quiet Z W old new
     commits_by result steps quiet old new is = record {
       moments = weakened on.clock on.possible_since old new _ _ (within_by steps quiet (on.calls old)) is.moments;
-      after = each_by result new is.after;
+      after = on_ok_weaker result (λ each image left. y image (each image left)) is.after;
     }
 
 -- of the images until some of its calls have finished no more need be said

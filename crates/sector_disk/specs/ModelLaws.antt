@@ -3,6 +3,7 @@ use Rattle.std.proofs.Common.{◌≡◌, ◌≢◌, ◌⊎◌, inl, inr, ⊎_eli
 use Rattle.std.specs.List.{Contains}
 use Rattle.std.proofs.lemmas.List.{take-append-le, drop-append-le, drop_all}
 use Rattle.std.proofs.lemmas.List.Elements.{Contains-append_left, Contains-push, Contains-push_cases}
+use Rattle.std.proofs.Math.Seq.{take-append-add, drop-append-add}
 use Rattle.std.proofs.lemmas.Bool.{cases_lt}
 use Rattle.std.proofs.lemmas.Bool.Decides.{eqb_tells}
 use Rattle.sector_disk.specs.Image.{sector, written}
@@ -160,16 +161,6 @@ settled_only n seen image size is = same_sectors n image seen is.size size (λ i
     same i (inr e) = sym e
 
 -- moments
-take_over : (xs ys : List Event) (j n : ℕ) → n ≡ length xs + j → take n (xs ++ ys) ≡ xs ++ take j ys
-take_over [] ys j n e = ap (λ (m : ℕ). take m ys) (omega arith)
-take_over (x ∷ xs) ys j zero e = absurd (omega arith)
-take_over (x ∷ xs) ys j (suc n) e = ap (λ (l : List Event). x ∷ l) (take_over xs ys j n (omega arith))
-
-drop_over : (xs ys : List Event) (j n : ℕ) → n ≡ length xs + j → drop n (xs ++ ys) ≡ drop j ys
-drop_over [] ys j n e = ap (λ (m : ℕ). drop m ys) (omega arith)
-drop_over (x ∷ xs) ys j zero e = absurd (omega arith)
-drop_over (x ∷ xs) ys j (suc n) e = drop_over xs ys j n (omega arith)
-
 module _ (n : ℕ) (start : Disk) (events more : List Event) (calls : ℕ) where
   pub left_before : (from m : ℕ) (image : List ℕ) → MightHaveLeft n start events calls from m image → MightHaveLeft n start (events ++ more) (calls + finished more) from m image
   left_before from m image left = record {
@@ -187,8 +178,8 @@ module _ (n : ℕ) (start : Disk) (events more : List Event) (calls : ℕ) where
     moment = length events + j;
     begun = omega (arith, le);
     reached = omega (arith, lt, length-append events more);
-    count = ap (λ (l : List Event). m + finished l) (drop_over events more j (length events + j) refl) ∙ count;
-    is_image = subst (λ (l : List Event). IsImage n (run start l) image) (sym (take_over events more j (length events + j) refl)) (subst (λ (d : Disk). IsImage n d image) (sym (run-append start events (take j more))) is);
+    count = ap (λ (l : List Event). m + finished l) (drop-append-add events more j) ∙ count;
+    is_image = subst (λ (l : List Event). IsImage n (run start l) image) (sym (take-append-add events more j)) (subst (λ (d : Disk). IsImage n d image) (sym (run-append start events (take j more))) is);
   }
 
   pub left_cases : (from m : ℕ) (image : List ℕ) → MightHaveLeft n start (events ++ more) (calls + finished more) from m image
@@ -204,8 +195,8 @@ module _ (n : ℕ) (start : Disk) (events more : List Event) (calls : ℕ) where
       (λ (late : length events ≤ left.moment). let at : left.moment ≡ length events + (left.moment - length events) = omega arith in inr (
         left.moment - length events,
         omega (arith, left.reached, length-append events more),
-        ap (λ (l : List Event). m + finished l) (sym (drop_over events more (left.moment - length events) left.moment at)) ∙ left.count,
-        subst (λ (d : Disk). IsImage n d image) (run-append start events (take (left.moment - length events) more)) (subst (λ (l : List Event). IsImage n (run start l) image) (take_over events more (left.moment - length events) left.moment at) left.is_image),
+        ap (λ (l : List Event). m + finished l) (sym (ap (λ (k : ℕ). drop k (events ++ more)) at ∙ drop-append-add events more (left.moment - length events))) ∙ left.count,
+        subst (λ (d : Disk). IsImage n d image) (run-append start events (take (left.moment - length events) more)) (subst (λ (l : List Event). IsImage n (run start l) image) (ap (λ (k : ℕ). take k (events ++ more)) at ∙ take-append-add events more (left.moment - length events)) left.is_image),
       ))
       (cases_lt left.moment (length events))
     where

@@ -1,4 +1,4 @@
-use Rattle.std.proofs.Common.{◌≡◌, ◌∙◌, ◌*◌, ◌/◌, ◌%◌, ℕ, List, ◌++◌, length, take, drop, map, ap, sym, subst, arith}
+use Rattle.std.proofs.Common.{◌≡◌, ◌∙◌, ◌*◌, ◌/◌, ℕ, List, ◌++◌, length, take, drop, map, ap, sym, subst, arith}
 use Rattle.std.specs.Prelude.{slice_index}
 use Rattle.std.specs.List.{flat_map}
 use Rattle.std.proofs.lemmas.List.{take_at}
@@ -10,6 +10,7 @@ use Rattle.sector_disk.specs.Kept.{call_of}
 use Rattle.sector_disk.specs.declared.mem_device.Call.{Call as Kept}
 use Rattle.sector_disk.proofs.Keeps.{image_size}
 use Rattle.sector_disk.proofs.Contents.{disk_start, seen_start, only_start, chosen_image}
+use Rattle.sector_disk.proofs.mem_device.MemDevice.crash.Goals.{After-clear}
 use Rattle.sector_disk.proofs.mem_device.MemDevice.crash.Goals as goal
 
 pub copy_from_slice-requires : goal.copy_from_slice-requires
@@ -17,39 +18,33 @@ copy_from_slice-requires c =
     let d = c.args.self.now in
     d.image.ok.0 ∙ image_size d.start.items d.image.items d.history.items d.kept ∙ sym d.start.ok.0 ∙ sym c.deref-2.ensures.len
 
-pub returns-clause-stop : goal.returns-clause-stop
-returns-clause-stop c =
+-- what was chosen is possible, and is copied whole
+left : (c : After-clear) → (let d = c.args.self.now in let image = c.stop.new.image in (take d.start.len (image ++ drop (length image) d.start.items) ≡ image) × IsImage (len_of (memory d)) (disk_of (memory d)) image)
+left c =
     let d = c.args.self.now in
     let choices = λ (i : ℕ). slice_index c.args.choices.now i in
     let at_start = subst (λ (start : List ℕ). TakesChoices (length start / 512) (run (settled start) (flat_map events_of (map call_of c.deref.result.now))) choices c.stop.new.image) c.deref_mut.ensures.value c.stop.ensures in
     let takes : TakesChoices (len_of (memory d)) (disk_of (memory d)) choices c.stop.new.image =
     subst (λ (calls : List Kept). TakesChoices (len_of (memory d)) (run (settled d.start.items) (flat_map events_of (map call_of calls))) choices c.stop.new.image) c.deref.ensures.value at_start in
-    let size : length c.stop.new.image ≡ 512 * len_of (memory d) = omega (arith, c.stop.auto.image, ap length c.deref_mut.ensures.value, whole_sectors (length d.start.items) d.kept.whole) in
-    let image = chosen_image (len_of (memory d)) (disk_of (memory d)) choices c.stop.new.image (memory_reads_possible (memory d) d.kept.whole d.kept.fit) size takes in
-    let full : length c.stop.new.image ≡ d.start.len = c.stop.auto.image ∙ c.deref_mut.ensures.len in
-    let start = take d.start.len (c.stop.new.image ++ drop (length c.stop.new.image) d.start.items) in
-    let same : start ≡ c.stop.new.image = take_at c.stop.new.image (drop (length c.stop.new.image) d.start.items) d.start.len full in
-    (start, subst (IsImage (len_of (memory d)) (disk_of (memory d))) (sym same) image, disk_start start (map call_of c.clear.new.self.items) (ap (map call_of) c.clear.ensures.items))
+    let size : length c.stop.new.image ≡ 512 * len_of (memory d) = omega (arith, c.stop.auto.image, ap length c.deref_mut.ensures.value, whole_sectors (length d.start.items) d.kept.whole) in (
+      take_at c.stop.new.image (drop (length c.stop.new.image) d.start.items) d.start.len (c.stop.auto.image ∙ c.deref_mut.ensures.len),
+      chosen_image (len_of (memory d)) (disk_of (memory d)) choices c.stop.new.image (memory_reads_possible (memory d) d.kept.whole d.kept.fit) size takes,
+    )
+
+pub returns-clause-stop : goal.returns-clause-stop
+returns-clause-stop c =
+    let d = c.args.self.now in
+    let is = left (goal.at.returns-clause-stop c).After-clear in
+    (_, subst (IsImage (len_of (memory d)) (disk_of (memory d))) (sym is.0) is.1, disk_start _ (map call_of c.clear.new.self.items) (ap (map call_of) c.clear.ensures.items))
 
 pub returns-clause-possible : goal.returns-clause-possible
 returns-clause-possible c =
     let d = c.args.self.now in
-    let choices = λ (i : ℕ). slice_index c.args.choices.now i in
-    let at_start = subst (λ (start : List ℕ). TakesChoices (length start / 512) (run (settled start) (flat_map events_of (map call_of c.deref.result.now))) choices c.stop.new.image) c.deref_mut.ensures.value c.stop.ensures in
-    let takes : TakesChoices (len_of (memory d)) (disk_of (memory d)) choices c.stop.new.image =
-    subst (λ (calls : List Kept). TakesChoices (len_of (memory d)) (run (settled d.start.items) (flat_map events_of (map call_of calls))) choices c.stop.new.image) c.deref.ensures.value at_start in
-    let size : length c.stop.new.image ≡ 512 * len_of (memory d) = omega (arith, c.stop.auto.image, ap length c.deref_mut.ensures.value, whole_sectors (length d.start.items) d.kept.whole) in
-    let image = chosen_image (len_of (memory d)) (disk_of (memory d)) choices c.stop.new.image (memory_reads_possible (memory d) d.kept.whole d.kept.fit) size takes in
-    let full : length c.stop.new.image ≡ d.start.len = c.stop.auto.image ∙ c.deref_mut.ensures.len in
-    let start = take d.start.len (c.stop.new.image ++ drop (length c.stop.new.image) d.start.items) in
-    let same : start ≡ c.stop.new.image = take_at c.stop.new.image (drop (length c.stop.new.image) d.start.items) d.start.len full in
-    subst (IsImage (len_of (memory d)) (disk_of (memory d))) (sym (seen_start start (map call_of c.clear.new.self.items) (ap (map call_of) c.clear.ensures.items) ∙ same)) image
+    let is = left (goal.at.returns-clause-possible c).After-clear in
+    subst (IsImage (len_of (memory d)) (disk_of (memory d))) (sym (seen_start _ (map call_of c.clear.new.self.items) (ap (map call_of) c.clear.ensures.items) ∙ is.0)) is.1
 
 pub returns-clause-only : goal.returns-clause-only
 returns-clause-only c =
-    let d = c.args.self.now in
-    let full : length c.stop.new.image ≡ d.start.len = c.stop.auto.image ∙ c.deref_mut.ensures.len in
-    let start = take d.start.len (c.stop.new.image ++ drop (length c.stop.new.image) d.start.items) in
-    let same : start ≡ c.stop.new.image = take_at c.stop.new.image (drop (length c.stop.new.image) d.start.items) d.start.len full in
-    let whole : length start % 512 ≡ 0 = omega (arith, ap length same, c.stop.auto.image, ap length c.deref_mut.ensures.value, d.kept.whole) in
-    only_start start (map call_of c.clear.new.self.items) (ap (map call_of) c.clear.ensures.items) whole
+    let same = (left (goal.at.returns-clause-only c).After-clear).0 in
+    only_start _ (map call_of c.clear.new.self.items) (ap (map call_of) c.clear.ensures.items)
+    (omega (arith, ap length same, c.stop.auto.image, ap length c.deref_mut.ensures.value, c.args.self.now.kept.whole))
