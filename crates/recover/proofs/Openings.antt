@@ -1,51 +1,23 @@
 -- What is read of a device and repeated is what opening promises.
-use Rattle.std.proofs.Common.{◌≡◌, inl, inr, ⊎_elim, ℕ, List, refl, sym, ◌∙◌, ap, subst}
+use Rattle.std.proofs.Common.{◌≡◌, ⊎_elim, ℕ, List, sym, ◌∙◌, ap, subst}
 use Rattle.std.specs.Prelude.{Result, Ok, Err, MatchResult}
 use Rattle.command_core.specs.Runs.{after, AreAccepted}
 use Rattle.command_core.specs.declared.states.State.{State}
-use Rattle.command_core.specs.declared.commands.Command.{Command}
-use Rattle.state_codec.specs.declared.fault.CodecFault.TheVariants as codec
 use Rattle.state_codec.specs.declared.version.Version.{Version}
 use Rattle.checkpoint.specs.declared.faults.StoreFault.{StoreFault}
 use Rattle.checkpoint.specs.declared.faults.StoreFault.TheVariants.{NotFormatted, BadVersion, Codec, Spent, OutOfMemory, DeviceFault}
 use Rattle.checkpoint.specs.declared.places.Place.{Place}
-use Rattle.checkpoint.specs.Holds.{Holds}
-use Rattle.checkpoint.specs.Holdless.{UnlessUnread, HoldsNothing}
+use Rattle.checkpoint.specs.Holdless.{UnlessUnread}
 use Rattle.checkpoint.specs.Laws.{HoldAtMostOne, NeverBoth}
 use Rattle.recover.specs.StandsFor.{StandsFor}
-use Rattle.recover.specs.Opening.{Opens, StandsForNone, IsReplayed}
-use Rattle.recover.specs.Repeating.{IsOfRepeating, IsRepeated}
+use Rattle.recover.specs.Opening.{Opens, StandsForNone}
+use Rattle.recover.specs.Repeating.{IsRepeated}
 
 module _ (version : Version) where
-  -- what holds nothing stands for nothing
-  pub stands_for_none : (image : List ℕ) (fault : StoreFault) → UnlessUnread (HoldsNothing version image) fault → UnlessUnread (StandsForNone version image) fault
-  stands_for_none image DeviceFault h = tt
-  stands_for_none image OutOfMemory h = tt
-  stands_for_none image NotFormatted h = inl h
-  stands_for_none image BadVersion h = inl h
-  stands_for_none image (Codec fault) h = inl h
-  stands_for_none image Spent h = inl h
-
-  -- nor does what holds commands that are refused
-  pub refused_record : (image : List ℕ) (snapshot : State) (commands : List Command) (place : Place) → Holds version image snapshot commands place
-      → (fault : StoreFault) → IsOfRepeating snapshot commands fault → UnlessUnread (StandsForNone version image) fault
-  refused_record image snapshot commands place holds OutOfMemory h = tt
-  refused_record image snapshot commands place holds (Codec codec.BadField) h = inr (refl, record { snapshot = snapshot; commands = commands; place = place; holds = holds; refused = h })
-  refused_record image snapshot commands place holds (Codec codec.Truncated) h = elim h [ ]
-  refused_record image snapshot commands place holds (Codec (codec.PlanRefused rule)) h = elim h [ ]
-  refused_record image snapshot commands place holds (Codec codec.OutOfMemory) h = elim h [ ]
-  refused_record image snapshot commands place holds NotFormatted h = elim h [ ]
-  refused_record image snapshot commands place holds BadVersion h = elim h [ ]
-  refused_record image snapshot commands place holds Spent h = elim h [ ]
-  refused_record image snapshot commands place holds DeviceFault h = elim h [ ]
-
   -- what was repeated is what the image stands for
   module _ (image : List ℕ) (state : State) (place : Place) (replayed : ℕ) (found : IsRepeated version image state place replayed) where
     pub stands : StandsFor version image state
     stands = record { snapshot = found.snapshot; commands = found.commands; place = place; holds = found.holds; accepted = found.accepted; leads = found.leads }
-
-    pub is_replayed : IsReplayed version image state place replayed
-    is_replayed = record { snapshot = found.snapshot; commands = found.commands; holds = found.holds; steps = found.steps; searched = found.searched; most = found.most }
 
   module _ (one : HoldAtMostOne) (never : NeverBoth) (image : List ℕ) where
     -- an image stands for one state

@@ -39,14 +39,6 @@ module _ {D : Type 0} (s : SessionValue D) (command : Command) where
       from false e = refl
       from true e = cc e
 
-  pub is_unrefused : denial s command ≡ None → refusal s.state command ≡ None
-  is_unrefused none = from s.is_broken (refusal s.state command) none
-    where
-      from : (b : Bool) (r : Option Refusal) → (if b then Some Broken else option_or (option_map Core r) (spent s.place command)) ≡ None → r ≡ None
-      from false None e = refl
-      from false (Some x) e = cc e
-      from true r e = cc e
-
   pub is_unspent : denial s command ≡ None → spent s.place command ≡ None
   is_unspent none = from s.is_broken (refusal s.state command) none
     where

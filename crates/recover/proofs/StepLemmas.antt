@@ -1,6 +1,9 @@
 -- What a commit does to what images hold and stand for.
 use Rattle.std.proofs.Common.{◌≡◌, ℕ, List, [], ◌∷◌, ◌++◌, refl, sym, ◌∙◌, ap, subst}
-use Rattle.std.specs.Prelude.{Result, Ok, Err, OnOk}
+use Rattle.std.specs.Prelude.{Result}
+use Rattle.std.proofs.lemmas.Result.{on_ok_weaker}
+use Rattle.sector_disk.specs.declared.sectors.Sectors as sectors
+use Rattle.sector_disk.specs.Throughout.{weakened}
 use Rattle.command_core.specs.Effects.{effect}
 use Rattle.command_core.specs.Runs.{after, AreAccepted}
 use Rattle.command_core.specs.declared.states.State.{State}
@@ -8,18 +11,14 @@ use Rattle.command_core.specs.declared.commands.Command.{Command}
 use Rattle.state_codec.specs.declared.version.Version.TheVariants.{Two}
 use Rattle.checkpoint.specs.declared.places.Place.{Place}
 use Rattle.checkpoint.specs.Holds.{Holds, HoldsAt}
-use Rattle.sector_disk.specs.Calls.{IsInCommit}
+use Rattle.sector_disk.specs.Calls.{Commits}
 use Rattle.sector_disk.specs.CommitLaws.{within_by, unquiet}
 use Rattle.recover.specs.StandsFor.{StandsFor}
 use Rattle.recover.specs.Sessions.{AllHold}
 use Rattle.checkpoint.specs.declared.faults.StoreFault.{StoreFault}
 use Rattle.checkpoint.specs.declared.faults.StoreFault.TheVariants.{NotFormatted, BadVersion, Codec, Spent, OutOfMemory, DeviceFault}
-use Rattle.recover.specs.Committing.{IsInStep, IsOfChange, LeavesDevice, cause, faults_of_commit}
-use Rattle.checkpoint.specs.Refused.{IsRefusedCommit, faults_of_store}
-
-pub on_ok : {T E : Type 0} (result : Result T E) (A B : Type 0) → (A → B) → OnOk result A → OnOk result B
-on_ok (Ok x) A B so h = so h
-on_ok (Err e) A B so h = h
+use Rattle.recover.specs.Committing.{CommitsState, LeavesDevice, cause}
+use Rattle.checkpoint.specs.Refused.{IsRefusedCommit}
 
 pub after-append : (state : State) (first more : List Command) → after state (first ++ more) ≡ after (after state first) more
 after-append state [] more = refl
@@ -55,14 +54,21 @@ module _ (images : List ℕ → Type 0) (state : State) (place : Place) (all : A
     pub all_more : (after_it : List ℕ → Type 0) → ((image : List ℕ) → after_it image → Holds Two image all.snapshot (all.commands ++ command ∷ []) next) → AllHold after_it (effect state command) next
     all_more after_it each = record { snapshot = all.snapshot; commands = all.commands ++ command ∷ []; accepted = accepted_more; leads = leads_on; each = each }
 
-    pub in_record : (calls m : ℕ) (image : List ℕ) → IsInCommit (HoldsAt all.snapshot all.commands place) (HoldsAt all.snapshot (all.commands ++ command ∷ []) next) 2 0 calls m image
-        → IsInStep state (effect state command) calls 2 m image
-    in_record = within_by _ _ _ _ held held_more 2 0
+    -- a commit of its record
+    pub commits_record : {D T E : Type 0} (on : sectors.Ghosts D) (result : Result T E) (start end : D) → Commits on result 2 0 (HoldsAt all.snapshot all.commands place) (HoldsAt all.snapshot (all.commands ++ command ∷ []) next) start end
+        → CommitsState on result 2 state (effect state command) next start end
+    commits_record on result start end is = record {
+      moments = weakened on.clock on.possible_since start end _ _ (within_by _ _ _ _ held held_more 2 0 (on.calls start)) is.moments;
+      after = on_ok_weaker result (all_more (on.possible end)) is.after;
+    }
 
   module _ (new : State) (next : Place) where
-    pub in_commit : (calls m : ℕ) (image : List ℕ) → IsInCommit (HoldsAt all.snapshot all.commands place) (HoldsAt new [] next) 4 2 calls m image
-        → IsInStep state new calls 4 m image
-    in_commit calls m image within = unquiet _ _ 4 2 calls m image (within_by _ _ _ _ held (held_new new next) 4 2 calls m image within)
+    -- a commit of its snapshot
+    pub commits_snapshot : {D T E : Type 0} (on : sectors.Ghosts D) (result : Result T E) (start end : D) → Commits on result 4 2 (HoldsAt all.snapshot all.commands place) (HoldsAt new [] next) start end → CommitsState on result 4 state new next start end
+    commits_snapshot on result start end is = record {
+      moments = weakened on.clock on.possible_since start end _ _ (λ m image within. unquiet _ _ 4 2 (on.calls start) m image (within_by _ _ _ _ held (held_new new next) 4 2 (on.calls start) m image within)) is.moments;
+      after = on_ok_weaker result (all_new new next (on.possible end)) is.after;
+    }
 
 -- the cause of a refusal leaves what the refusal does
 module _ {D : Type 0} (old new : D) where
@@ -73,20 +79,3 @@ module _ {D : Type 0} (old new : D) where
   left NotFormatted h = absurd h
   left BadVersion h = absurd h
   left (Codec fault) h = absurd h
-
--- a snapshot's commit that had a place
-pub of_change : {D : Type 0} (old new : D) (fault : StoreFault) → IsRefusedCommit fault old new → (fault ≡ Spent → ⊥) → IsOfChange fault
-of_change old new Spent h unspent = unspent refl
-of_change old new OutOfMemory h unspent = tt
-of_change old new DeviceFault h unspent = tt
-of_change old new NotFormatted h unspent = h
-of_change old new BadVersion h unspent = h
-of_change old new (Codec fault) h unspent = h
-
-pub same_faults : (fault : StoreFault) (faults : ℕ) → faults_of_store fault faults ≡ faults_of_commit (cause fault) faults
-same_faults Spent faults = refl
-same_faults OutOfMemory faults = refl
-same_faults DeviceFault faults = refl
-same_faults NotFormatted faults = refl
-same_faults BadVersion faults = refl
-same_faults (Codec fault) faults = refl

@@ -94,8 +94,8 @@ ReadsAgain (Ok x) possible before after = after ≡ before
 ReadsAgain (Err fault) possible before after = ReadsAfter fault possible before after
 
 module _ {D : Type 0} (on : sectors.Ghosts D) where
-  -- A device was synced and read: after Ok what reads gave is durable; what a stop leaves at any moment was possible before; reads give
-  -- again what they gave, or after a failed call what was possible.
+  -- What a sync and the reads behind it leave, or as many of these calls as were made: after Ok what reads gave is durable; what a stop leaves
+  -- at any moment was possible before; reads give again what they gave, or after a failed call an image that was possible.
   pub record Settles {T : Type 0} (result : Result T StoreFault) (old new : D) : Type 0 where
     pub only : OnOk result (Only (on.seen old) (on.possible new))
     pub again : ReadsAgain result (on.possible old) (on.seen old) (on.seen new)

@@ -1,6 +1,7 @@
 use Rattle.std.proofs.Common.{rules, ◌≡◌, ◌+◌, ◌≤◌, List, [], ◌∷◌, ◌++◌, length, refl, sym, ap, subst, ◌∙◌, append_assoc, append-nil, length-append, arith}
 use Rattle.std.specs.Prelude.{is_ok, if◌then◌else◌}
 use Rattle.std.specs.Vec.{vec_capacity}
+use Rattle.std.proofs.lemmas.List.{nil_from_length}
 use Rattle.std.specs.Vec.Iter.{into_iter_items}
 use Rattle.recover.specs.declared.replies.Run.{Run}
 use Rattle.recover.specs.declared.rounds.Round.{Round}
@@ -8,10 +9,6 @@ use Rattle.recover.specs.Rounds.{AreRounds, CutsRounds, EndsRounds}
 use Rattle.recover.proofs.FoldLemmas.{is_fold}
 use Rattle.recover.proofs.RoundLemmas.{rounds_more, cuts_rounds, passed_up}
 use Rattle.recover.proofs.rounds.run_rounds.Goals as goal
-
-nothing_left : {X : Type 0} (l : List X) → length l ≡ 0 → l ≡ []
-nothing_left [] h = refl
-nothing_left (x ∷ xs) h = absurd (omega arith)
 
 pub returns-in_default-clause-refused : goal.returns-in_default-clause-refused
 returns-in_default-clause-refused c = record { runs = []; mid = c.args.device; done = refl; unbegun = refl }
@@ -57,7 +54,7 @@ ends : (c : goal.In_ok-session) → EndsRounds c.args.device c.args.rounds.items
 ends c =
     let at = c.loop-round in
     let none = c.in-None.ensures.steps in
-    let empty : into_iter_items at.round-iterator ≡ [] = nothing_left _ (sym at.invariant.2 ∙ none.0) in
+    let empty : into_iter_items at.round-iterator ≡ [] = nil_from_length _ (sym at.invariant.2 ∙ none.0) in
     let all = sym (append-nil at.yielded) ∙ rw empty at at.invariant.0 ∙ c.into_iter-round-iterator.ensures.into_iter_gives.0 in record {
       left = at.left;
       done = subst (λ (rounds : List Round). AreRounds c.args.device rounds at.runs.items at.left) all at.invariant.1;

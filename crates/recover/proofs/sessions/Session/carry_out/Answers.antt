@@ -1,30 +1,63 @@
-use Rattle.std.proofs.Common.{◌≡◌, ◌∙◌, ℕ, ◌+◌, ◌≤◌, [], ◌∷◌, sym, subst}
-use Rattle.std.specs.Prelude.{None, Ok, Err}
+use Rattle.std.proofs.Common.{◌≡◌, ◌∙◌, ℕ, ◌+◌, ◌≤◌, List, [], ◌∷◌, false, ap, sym, subst}
+use Rattle.std.specs.Prelude.{None, Result, Ok, Err}
 use Rattle.sector_disk.specs.Sectors.{Throughout}
 use Rattle.sector_disk.specs.Throughout.{weakened}
 use Rattle.command_core.specs.declared.states.State.{State}
 use Rattle.checkpoint.specs.declared.places.Place.{Place}
+use Rattle.recover.specs.declared.denials.Denial.{Denial}
 use Rattle.recover.specs.declared.denials.Denial.TheVariants.{OutOfMemory, DeviceFault}
 use Rattle.recover.specs.Moments.{RunLeaves}
 use Rattle.recover.specs.Sessions.{SessionValue, AllHold, IsSession}
-use Rattle.recover.specs.Applying.{denial, calls_of, place_after, IsDone, IsBetween}
-use Rattle.recover.specs.Committing.{IsInStep, LeavesDevice}
-use Rattle.recover.proofs.SessionLemmas.{is_whole, is_unspent, place_fits, stands_of, leaves_ok, leaves_fault, still, still_between}
-use Rattle.recover.proofs.sessions.Session.carry_out.Goals.{in-Whole+in-Loaded-1, in-Whole+in-Empty-1, in-Within+in-Pinned-1, in-Within+in-Working-1, in-Within+in-Plans-1, in-Within+in-Nothing-1}
+use Rattle.recover.specs.Applying.{calls_of, place_after, spent, IsDone, IsBetween}
+use Rattle.recover.specs.Committing.{IsInStep, CommitsState, LeavesDevice}
+use Rattle.recover.proofs.SessionLemmas.{is_whole, is_unspent, place_fits, stands_of, leaves_ok, leaves_fault, still}
+use Rattle.recover.proofs.sessions.Session.carry_out.Goals.{After-change, After-commit, in-Whole+in-Loaded-1, in-Whole+in-Empty-1, in-Within+in-Pinned-1, in-Within+in-Working-1, in-Within+in-Plans-1, in-Within+in-Nothing-1}
 use Rattle.recover.proofs.sessions.Session.carry_out.Goals as goal
 use Rattle.recover.proofs.sessions.Session.carry_out.Given as given
 
--- want of memory for the state after the command
-pub returns-in_default-clause-moments : goal.returns-in_default-clause-moments
-returns-in_default-clause-moments g c =
+-- the session that is not denied
+whole : (g : given.Over) (c : After-change g) → c.self.inside.is_broken ≡ false
+whole g c = ap (λ (s : SessionValue _). s.is_broken) c.self.view_is ∙ is_whole c.args.self.now c.args.command.now c.requires
+
+-- want of memory leaves what was there
+stays : (g : given.Over) (c : After-change g) → (let d = g.D.Sectors in let i = c.self.inside in d.honest i.device
+    → Throughout d.clock d.possible_since c.args.self.now.device i.device (RunLeaves c.args.self.now.state (c.args.command.now ∷ []) (record { answer = Err OutOfMemory; calls = d.calls i.device } ∷ [])))
+stays g c =
     let d = g.D.Sectors in
     let i = c.self.inside in
     let command = c.args.command.now in
-    let none : denial (record { device = i.device; state = i.planner; place = i.place; is_broken = i.is_broken }) command ≡ None = subst (λ (s : SessionValue _). denial s command ≡ None) (sym c.self.view_is) c.requires in
     subst (λ (s : SessionValue _). d.honest i.device → Throughout d.clock d.possible_since s.device i.device (RunLeaves s.state (command ∷ []) (record { answer = Err OutOfMemory; calls = d.calls i.device } ∷ []))) c.self.view_is
     (λ honest. still d.calls d.honest d.clock d.possible_since d.possible g.met.D.Sectors.only_now i.device honest i.planner
-    (stands_of (d.possible i.device) i.planner i.place (c.self.invariant.durable (is_whole (record { device = i.device; state = i.planner; place = i.place; is_broken = i.is_broken }) command none) honest))
-    command OutOfMemory (d.calls i.device))
+    (stands_of (d.possible i.device) i.planner i.place (c.self.invariant.durable (whole g c) honest)) command OutOfMemory (d.calls i.device))
+
+-- the commit
+steps : (g : given.Over) (c : After-commit g) → g.D.Sectors.honest c.commit.new.device
+    → CommitsState g.D.Sectors c.commit.result (calls_of c.self.inside.place c.args.command.now) c.self.inside.planner c.state.result.now (place_after c.self.inside.place c.args.command.now) c.self.inside.device c.commit.new.device
+steps g c honest = c.commit.ensures.leads c.self.inside.planner c.in-Ok.ensures.ok.accepted (c.state.ensures ∙ c.in-Ok.ensures.ok.effect) honest
+    (c.self.invariant.durable (whole g (goal.at.After-commit g c).After-change) (c.commit.ensures.called.honest_before honest))
+
+leaves : (g : given.Over) (c : After-commit g) (answer : Result (Unit {0}) Denial) → (let d = g.D.Sectors in let i = c.self.inside in let end = c.commit.new.device in let command = c.args.command.now in
+    ((m : ℕ) (image : List ℕ) → IsInStep i.planner c.state.result.now (d.calls i.device) (calls_of i.place command) m image → RunLeaves i.planner (command ∷ []) (record { answer = answer; calls = d.calls end } ∷ []) m image) → d.honest end
+    → Throughout d.clock d.possible_since c.args.self.now.device end (RunLeaves c.args.self.now.state (command ∷ []) (record { answer = answer; calls = d.calls end } ∷ [])))
+leaves g c answer each =
+    let d = g.D.Sectors in
+    let i = c.self.inside in
+    let end = c.commit.new.device in
+    let command = c.args.command.now in
+    subst (λ (s : SessionValue _). d.honest end → Throughout d.clock d.possible_since s.device end (RunLeaves s.state (command ∷ []) (record { answer = answer; calls = d.calls end } ∷ []))) c.self.view_is
+    (λ honest. weakened d.clock d.possible_since i.device end _ _ each (steps g c honest).moments)
+
+between : (g : given.Over) (c : After-commit g) → (let d = g.D.Sectors in let s = c.args.self.now in d.honest c.commit.new.device
+    → Throughout d.clock d.possible_since s.device c.commit.new.device (IsBetween (d.calls s.device) (d.calls s.device + calls_of s.place c.args.command.now)))
+between g c =
+    let d = g.D.Sectors in
+    let end = c.commit.new.device in
+    let command = c.args.command.now in
+    subst (λ (s : SessionValue _). d.honest end → Throughout d.clock d.possible_since s.device end (IsBetween (d.calls s.device) (d.calls s.device + calls_of s.place command))) c.self.view_is
+    (λ honest. weakened d.clock d.possible_since c.self.inside.device end _ _ (λ m image step. (step.from, step.to)) (steps g c honest).moments)
+
+pub returns-in_default-clause-moments : goal.returns-in_default-clause-moments
+returns-in_default-clause-moments g c = stays g (goal.at.returns-in_default-clause-moments g c).After-change
 
 pub commit-requires-clause-fits : goal.commit-requires-clause-fits
 commit-requires-clause-fits g c recorded = c.accepted_commands_fit_records.ensures c.self.inside.planner c.args.command.now c.in-Ok.ensures.ok.accepted.1 recorded
@@ -34,8 +67,7 @@ invariant_of-self-in-Ok-commit g c =
     let d = g.D.Sectors in
     let i = c.self.inside in
     let command = c.args.command.now in
-    let none : denial (record { device = i.device; state = i.planner; place = i.place; is_broken = i.is_broken }) command ≡ None = subst (λ (s : SessionValue _). denial s command ≡ None) (sym c.self.view_is) c.requires in
-    let unspent = is_unspent (record { device = i.device; state = i.planner; place = i.place; is_broken = i.is_broken }) command none in
+    let unspent : spent i.place command ≡ None = subst (λ (s : SessionValue _). spent s.place command ≡ None) (sym c.self.view_is) (is_unspent c.args.self.now command c.requires) in
     let fits = place_fits i.place command unspent c.self.invariant.first c.self.invariant.last c.self.invariant.used in
     subst (λ (p : Place). IsSession d.len d.honest d.possible (record { device = c.commit.new.device; state = c.change.new.self; place = p; is_broken = i.is_broken })) (sym c.in-Ok-commit.ensures.place) (record {
       state = c.in-Ok.ensures.ok.facts;
@@ -43,7 +75,7 @@ invariant_of-self-in-Ok-commit g c =
       first = fits.0;
       last = fits.1;
       used = fits.2;
-      durable = λ whole honest. subst (λ (s : State). AllHold (d.possible c.commit.new.device) s (place_after i.place command)) c.state.ensures (c.in-Ok-commit.ensures.leads i.planner c.in-Ok.ensures.ok.accepted (c.state.ensures ∙ c.in-Ok.ensures.ok.effect) honest (c.self.invariant.durable whole (c.commit.ensures.called.honest_before honest))).after;
+      durable = λ whole honest. subst (λ (s : State). AllHold (d.possible c.commit.new.device) s (place_after i.place command)) c.state.ensures (rw c.in-Ok-commit.is at (steps g (goal.at.invariant_of-self-in-Ok-commit g c).After-commit honest).after);
     })
 
 -- the session after a commit, whatever the change was that is dropped then
@@ -59,94 +91,49 @@ committed g c = elim c.match-before.branch [
 
 pub returns-in-Ok-commit-clause-makes : goal.returns-in-Ok-commit-clause-makes
 returns-in-Ok-commit-clause-makes g c =
-    let i = c.self.inside in
     let command = c.args.command.now in
-    let none : denial (record { device = i.device; state = i.planner; place = i.place; is_broken = i.is_broken }) command ≡ None = subst (λ (s : SessionValue _). denial s command ≡ None) (sym c.self.view_is) c.requires in
     subst (λ (new : SessionValue _). IsDone c.args.self.now command new) (sym (committed g c))
-    (subst (λ (old : SessionValue _). IsDone old command (record { device = c.commit.new.device; state = c.change.new.self; place = c.in-Ok-commit.place; is_broken = i.is_broken })) c.self.view_is (record {
+    (subst (λ (old : SessionValue _). IsDone old command (record { device = c.commit.new.device; state = c.change.new.self; place = c.in-Ok-commit.place; is_broken = c.self.inside.is_broken })) c.self.view_is (record {
       accepted = c.in-Ok.ensures.ok.accepted;
       state = c.in-Ok.ensures.ok.effect;
       place = c.in-Ok-commit.ensures.place;
-      is_broken = is_whole (record { device = i.device; state = i.planner; place = i.place; is_broken = i.is_broken }) command none;
+      is_broken = whole g (goal.at.returns-in-Ok-commit-clause-makes g c).After-change;
     }))
 
 pub returns-in-Ok-commit-clause-moments : goal.returns-in-Ok-commit-clause-moments
 returns-in-Ok-commit-clause-moments g c =
     let d = g.D.Sectors in
     let i = c.self.inside in
-    let end = c.commit.new.device in
     let command = c.args.command.now in
-    let none : denial (record { device = i.device; state = i.planner; place = i.place; is_broken = i.is_broken }) command ≡ None = subst (λ (s : SessionValue _). denial s command ≡ None) (sym c.self.view_is) c.requires in
     subst (λ (new : SessionValue _). d.honest new.device → Throughout d.clock d.possible_since c.args.self.now.device new.device (RunLeaves c.args.self.now.state (command ∷ []) (record { answer = Ok tt; calls = d.calls new.device } ∷ []))) (sym (committed g c))
-    (subst (λ (s : SessionValue _). d.honest end → Throughout d.clock d.possible_since s.device end (RunLeaves s.state (command ∷ []) (record { answer = Ok tt; calls = d.calls end } ∷ []))) c.self.view_is
-    (λ honest. weakened d.clock d.possible_since i.device end (IsInStep i.planner c.state.result.now (d.calls i.device) (calls_of i.place command)) _
-    (λ m image step. leaves_ok i.planner command c.in-Ok.ensures.ok.accepted c.state.result.now (c.state.ensures ∙ c.in-Ok.ensures.ok.effect) (d.calls i.device) (calls_of i.place command) (d.calls end) m image step tt c.in-Ok-commit.ensures.called.finished)
-    (c.commit.ensures.leads i.planner c.in-Ok.ensures.ok.accepted (c.state.ensures ∙ c.in-Ok.ensures.ok.effect) honest
-    (c.self.invariant.durable (is_whole (record { device = i.device; state = i.planner; place = i.place; is_broken = i.is_broken }) command none) (c.commit.ensures.called.honest_before honest))).moments))
+    (leaves g (goal.at.returns-in-Ok-commit-clause-moments g c).After-commit (Ok tt)
+    (λ m image step. leaves_ok i.planner command c.in-Ok.ensures.ok.accepted c.state.result.now (c.state.ensures ∙ c.in-Ok.ensures.ok.effect) (d.calls i.device) (calls_of i.place command) (d.calls c.commit.new.device) m image step tt c.in-Ok-commit.ensures.called.finished))
 
 pub returns-in-Ok-commit-clause-counts : goal.returns-in-Ok-commit-clause-counts
 returns-in-Ok-commit-clause-counts g c =
     let d = g.D.Sectors in
-    let i = c.self.inside in
-    let end = c.commit.new.device in
-    let command = c.args.command.now in
-    let none : denial (record { device = i.device; state = i.planner; place = i.place; is_broken = i.is_broken }) command ≡ None = subst (λ (s : SessionValue _). denial s command ≡ None) (sym c.self.view_is) c.requires in
-    subst (λ (new : SessionValue _). d.honest new.device → Throughout d.clock d.possible_since c.args.self.now.device new.device (IsBetween (d.calls c.args.self.now.device) (d.calls c.args.self.now.device + calls_of c.args.self.now.place command))) (sym (committed g c))
-    (subst (λ (s : SessionValue _). d.honest end → Throughout d.clock d.possible_since s.device end (IsBetween (d.calls s.device) (d.calls s.device + calls_of s.place command))) c.self.view_is
-    (λ honest. weakened d.clock d.possible_since i.device end (IsInStep i.planner c.state.result.now (d.calls i.device) (calls_of i.place command)) (IsBetween (d.calls i.device) (d.calls i.device + calls_of i.place command))
-    (λ m image step. (step.from, step.to))
-    (c.commit.ensures.leads i.planner c.in-Ok.ensures.ok.accepted (c.state.ensures ∙ c.in-Ok.ensures.ok.effect) honest
-    (c.self.invariant.durable (is_whole (record { device = i.device; state = i.planner; place = i.place; is_broken = i.is_broken }) command none) (c.commit.ensures.called.honest_before honest))).moments))
+    let s = c.args.self.now in
+    subst (λ (new : SessionValue _). d.honest new.device → Throughout d.clock d.possible_since s.device new.device (IsBetween (d.calls s.device) (d.calls s.device + calls_of s.place c.args.command.now))) (sym (committed g c))
+    (between g (goal.at.returns-in-Ok-commit-clause-counts g c).After-commit)
 
 -- want of memory for a snapshot
 pub returns-in-Err-OutOfMemory-clause-moments : goal.returns-in-Err-OutOfMemory-clause-moments
 returns-in-Err-OutOfMemory-clause-moments g c =
     let d = g.D.Sectors in
-    let i = c.self.inside in
-    let end = c.commit.new.device in
-    let command = c.args.command.now in
-    let none : denial (record { device = i.device; state = i.planner; place = i.place; is_broken = i.is_broken }) command ≡ None = subst (λ (s : SessionValue _). denial s command ≡ None) (sym c.self.view_is) c.requires in
-    let same : end ≡ i.device = subst (λ fault. LeavesDevice fault i.device end) c.in-Err-OutOfMemory.field-0-is c.in-Err-OutOfMemory.ensures.left in
-    subst (λ (s : SessionValue _). d.honest end → Throughout d.clock d.possible_since s.device end (RunLeaves s.state (command ∷ []) (record { answer = Err OutOfMemory; calls = d.calls end } ∷ []))) c.self.view_is
-    (subst (λ device. d.honest device → Throughout d.clock d.possible_since i.device device (RunLeaves i.planner (command ∷ []) (record { answer = Err OutOfMemory; calls = d.calls device } ∷ []))) (sym same)
-    (λ honest. still d.calls d.honest d.clock d.possible_since d.possible g.met.D.Sectors.only_now i.device honest i.planner
-    (stands_of (d.possible i.device) i.planner i.place (c.self.invariant.durable (is_whole (record { device = i.device; state = i.planner; place = i.place; is_broken = i.is_broken }) command none) honest))
-    command OutOfMemory (d.calls i.device)))
+    let same : c.commit.new.device ≡ c.self.inside.device = subst (λ fault. LeavesDevice fault c.self.inside.device c.commit.new.device) c.in-Err-OutOfMemory.field-0-is c.in-Err-OutOfMemory.ensures.left in
+    subst (λ device. d.honest device → Throughout d.clock d.possible_since c.args.self.now.device device (RunLeaves c.args.self.now.state (c.args.command.now ∷ []) (record { answer = Err OutOfMemory; calls = d.calls device } ∷ []))) (sym same)
+    (stays g (goal.at.returns-in-Err-OutOfMemory-clause-moments g c).After-change)
 
 pub returns-in-Err-OutOfMemory-clause-counts : goal.returns-in-Err-OutOfMemory-clause-counts
-returns-in-Err-OutOfMemory-clause-counts g c =
-    let d = g.D.Sectors in
-    let i = c.self.inside in
-    let end = c.commit.new.device in
-    let command = c.args.command.now in
-    let same : end ≡ i.device = subst (λ fault. LeavesDevice fault i.device end) c.in-Err-OutOfMemory.field-0-is c.in-Err-OutOfMemory.ensures.left in
-    subst (λ (s : SessionValue _). d.honest end → Throughout d.clock d.possible_since s.device end (IsBetween (d.calls s.device) (d.calls s.device + calls_of s.place command))) c.self.view_is
-    (subst (λ device. d.honest device → Throughout d.clock d.possible_since i.device device (IsBetween (d.calls i.device) (d.calls i.device + calls_of i.place command))) (sym same)
-    (λ honest. still_between d.calls d.honest d.clock d.possible_since d.possible g.met.D.Sectors.only_now i.device honest (calls_of i.place command)))
+returns-in-Err-OutOfMemory-clause-counts g c = between g (goal.at.returns-in-Err-OutOfMemory-clause-counts g c).After-commit
 
 -- the device failed
 pub returns-in-Err-DeviceFault-clause-moments : goal.returns-in-Err-DeviceFault-clause-moments
 returns-in-Err-DeviceFault-clause-moments g c =
     let d = g.D.Sectors in
     let i = c.self.inside in
-    let end = c.commit.new.device in
-    let command = c.args.command.now in
-    let none : denial (record { device = i.device; state = i.planner; place = i.place; is_broken = i.is_broken }) command ≡ None = subst (λ (s : SessionValue _). denial s command ≡ None) (sym c.self.view_is) c.requires in
-    subst (λ (s : SessionValue _). d.honest end → Throughout d.clock d.possible_since s.device end (RunLeaves s.state (command ∷ []) (record { answer = Err DeviceFault; calls = d.calls end } ∷ []))) c.self.view_is
-    (λ honest. weakened d.clock d.possible_since i.device end (IsInStep i.planner c.state.result.now (d.calls i.device) (calls_of i.place command)) _
-    (λ m image step. leaves_fault i.planner command c.in-Ok.ensures.ok.accepted c.state.result.now (c.state.ensures ∙ c.in-Ok.ensures.ok.effect) (d.calls i.device) (calls_of i.place command) (d.calls end) m image step)
-    (c.commit.ensures.leads i.planner c.in-Ok.ensures.ok.accepted (c.state.ensures ∙ c.in-Ok.ensures.ok.effect) honest
-    (c.self.invariant.durable (is_whole (record { device = i.device; state = i.planner; place = i.place; is_broken = i.is_broken }) command none) (c.commit.ensures.called.honest_before honest))).moments)
+    leaves g (goal.at.returns-in-Err-DeviceFault-clause-moments g c).After-commit (Err DeviceFault)
+    (λ m image step. leaves_fault i.planner c.args.command.now c.in-Ok.ensures.ok.accepted c.state.result.now (c.state.ensures ∙ c.in-Ok.ensures.ok.effect) (d.calls i.device) (calls_of i.place c.args.command.now) (d.calls c.commit.new.device) m image step)
 
 pub returns-in-Err-DeviceFault-clause-counts : goal.returns-in-Err-DeviceFault-clause-counts
-returns-in-Err-DeviceFault-clause-counts g c =
-    let d = g.D.Sectors in
-    let i = c.self.inside in
-    let end = c.commit.new.device in
-    let command = c.args.command.now in
-    let none : denial (record { device = i.device; state = i.planner; place = i.place; is_broken = i.is_broken }) command ≡ None = subst (λ (s : SessionValue _). denial s command ≡ None) (sym c.self.view_is) c.requires in
-    subst (λ (s : SessionValue _). d.honest end → Throughout d.clock d.possible_since s.device end (IsBetween (d.calls s.device) (d.calls s.device + calls_of s.place command))) c.self.view_is
-    (λ honest. weakened d.clock d.possible_since i.device end (IsInStep i.planner c.state.result.now (d.calls i.device) (calls_of i.place command)) (IsBetween (d.calls i.device) (d.calls i.device + calls_of i.place command))
-    (λ m image step. (step.from, step.to))
-    (c.commit.ensures.leads i.planner c.in-Ok.ensures.ok.accepted (c.state.ensures ∙ c.in-Ok.ensures.ok.effect) honest
-    (c.self.invariant.durable (is_whole (record { device = i.device; state = i.planner; place = i.place; is_broken = i.is_broken }) command none) (c.commit.ensures.called.honest_before honest))).moments)
+returns-in-Err-DeviceFault-clause-counts g c = between g (goal.at.returns-in-Err-DeviceFault-clause-counts g c).After-commit

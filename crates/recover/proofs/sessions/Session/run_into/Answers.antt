@@ -1,16 +1,13 @@
-use Rattle.std.proofs.Common.{rules, ◌≡◌, ◌+◌, ◌≤◌, List, [], ◌∷◌, ◌++◌, length, refl, sym, ap, subst, ◌∙◌, append_assoc, append-nil, length-append, arith}
+use Rattle.std.proofs.Common.{rules, ◌≡◌, ◌+◌, ◌≤◌, List, [], ◌∷◌, ◌++◌, length, sym, ap, subst, ◌∙◌, append_assoc, append-nil, length-append, arith}
 use Rattle.std.specs.Prelude.{is_ok, if◌then◌else◌}
 use Rattle.std.specs.Vec.{vec_capacity}
+use Rattle.std.proofs.lemmas.List.{nil_from_length}
 use Rattle.std.specs.Vec.Iter.{into_iter_items}
 use Rattle.command_core.specs.declared.commands.Command.{Command}
 use Rattle.recover.specs.declared.replies.Reply.{Reply}
 use Rattle.recover.specs.Applying.{IsRun}
 use Rattle.recover.proofs.RunLemmas.{run_more, honest_back, run_leaves}
 use Rattle.recover.proofs.sessions.Session.run_into.Goals as goal
-
-nothing_left : {X : Type 0} (l : List X) → length l ≡ 0 → l ≡ []
-nothing_left [] h = refl
-nothing_left (x ∷ xs) h = absurd (omega arith)
 
 pub loop-command-preserved : goal.loop-command-preserved
 loop-command-preserved g c =
@@ -38,7 +35,7 @@ returns-clause-moments g c whole honest =
     let d = g.D.Sectors in
     let at = c.loop-command in
     let none = c.in-None.ensures.steps in
-    let empty : into_iter_items at.command-iterator ≡ [] = nothing_left _ (sym at.invariant.2 ∙ none.0) in
+    let empty : into_iter_items at.command-iterator ≡ [] = nil_from_length _ (sym at.invariant.2 ∙ none.0) in
     let all = sym (append-nil at.yielded) ∙ rw empty at at.invariant.0 ∙ c.into_iter-command-iterator.ensures.into_iter_gives.0 in
     let run = subst (λ (commands : List Command). IsRun d.len d.calls d.faults d.honest d.clock d.possible_since d.possible c.args.self.now commands at.replies.items at.self) all at.invariant.1 in
     let before = honest_back d.len d.calls d.faults d.honest d.clock d.possible_since d.possible c.args.commands.items at.replies.items c.args.self.now at.self run honest in
