@@ -1,12 +1,10 @@
-//! A list of the files that were read or made, which only clauses read. It takes no memory, and its methods do nothing at run
-//! time. Since it has no bytes, these methods are proved by hand.
-ghost use Rattle.std.specs.Prelude.{◌≡◌, List, [], ◌∷◌};
-ghost use Rattle.std.specs.Borrow.{ftrue};
-ghost use Rattle.auditor_cli.specs.Reads.{FileEntry};
+//! A list of the files that were read or made, which only clauses read.
+ghost use Rattle.std.specs.Prelude.{◌≡◌, [], ◌∷◌};
 ghost use Rattle.auditor_cli.specs.Noted.{given};
 
+use ghost_values::{Ghost, ListOf};
 use std::io::ErrorKind;
-use std::marker::{Model, PhantomData};
+use std::marker::Model;
 
 /// What came of reading or making a file.
 #[derive(Clone, Copy)]
@@ -15,27 +13,36 @@ pub(crate) enum Outcome {
     Failed(ErrorKind),
 }
 
+/// A file by its path, and the bytes that were moved or what kind of error it was.
+type Entry = (ListOf<u8>, Result<ListOf<u8>, ErrorKind>);
+
 /// The files that were read or made, the newest first.
 #[derive(Drop)]
 pub(crate) struct FileRecord {
-    marker: PhantomData<u8>,
-    pub(crate) ghost entries: { List FileEntry },
+    entries: Ghost<ListOf<Entry>>,
 }
 
 impl Model for FileRecord {
-    ghost also_owns = { λ _. ftrue };
+    ghost use Rattle.std.specs.Prelude.{List};
+    ghost use Rattle.auditor_cli.specs.Reads.{FileEntry};
+
+    ghost Value = { List FileEntry };
+
+    ghost view = { λ r. r.entries.value };
 }
 
 impl FileRecord {
     pub(crate) fn new() -> FileRecord
-        ensures { result.entries ≡ [] }
+        ensures { result ≡ [] }
     {
         FileRecord {
-            marker: PhantomData,
+            entries: Ghost::of(),
         }
     }
 
-    pub(crate) fn note(&mut self, _path: &[u8], _outcome: &Outcome, _text: &[u8])
-        ensures { self.new.entries ≡ (_path.now, given _outcome.now _text.now) ∷ self.old.entries }
-    {}
+    pub(crate) fn note(&mut self, path: &[u8], outcome: Outcome, text: &[u8])
+        ensures { self.new ≡ (path.now, given outcome text.now) ∷ self.old }
+    {
+        self.entries = self.entries.after((path, outcome, text));
+    }
 }

@@ -70,7 +70,7 @@ pub struct HostFiles<'a, R> {
 impl<'a, R> HostFiles<'a, R> {
     /// None has been read yet.
     pub fn new(rt: &'a R) -> HostFiles<'a, R>
-        ensures { result.noted.entries ≡ [] }
+        ensures { result.noted ≡ [] }
     {
         HostFiles {
             rt,
@@ -82,25 +82,24 @@ impl<'a, R> HostFiles<'a, R> {
 impl<'a, R: Eprint> HostFiles<'a, R> {
     // Tells and notes why a file can't be read.
     fn fail(&mut self, path: &str, error: &io::Error)
-        ensures { self.new.noted.entries
-            ≡ (path.now, Err (error_kind error.now)) ∷ self.old.noted.entries }
+        ensures { self.new.noted
+            ≡ (path.now, Err (error_kind error.now)) ∷ self.old.noted }
     {
         let _ = eprintln!(self.rt; "planner: {path}: {error}");
         let kind = error.kind();
-        self.noted
-            .note(path.as_bytes(), &Outcome::Failed(kind), &[]);
+        self.noted.note(path.as_bytes(), Outcome::Failed(kind), &[]);
     }
 }
 
 impl<'a, R: Files + Eprint + AllocGlobal> ReadFiles for HostFiles<'a, R> {
     type Opened = BufReader<R::File>;
 
-    ghost reads = { λ f. f.noted.entries };
+    ghost reads = { λ f. f.noted };
 
     fn read(&mut self, path: &str) -> io::Result<Vec<u8>> {
         match fs::read(self.rt, source_of(path)) {
             Ok(text) => {
-                self.noted.note(path.as_bytes(), &Outcome::Done, &text);
+                self.noted.note(path.as_bytes(), Outcome::Done, &text);
                 Ok(text)
             }
             Err(error) => {
@@ -124,7 +123,7 @@ impl<'a, R: Files + Eprint + AllocGlobal> ReadFiles for HostFiles<'a, R> {
         let mut line = Vec::new(self.rt.alloc());
         match opened.read_until(b'\n', &mut line) {
             Ok(_) => {
-                self.noted.note(path.as_bytes(), &Outcome::Done, &line);
+                self.noted.note(path.as_bytes(), Outcome::Done, &line);
                 Ok(line)
             }
             Err(error) => {
@@ -156,7 +155,7 @@ pub struct HostNewFiles<'a, R> {
 impl<'a, R> HostNewFiles<'a, R> {
     /// None has been made yet.
     pub fn new(rt: &'a R) -> HostNewFiles<'a, R>
-        ensures { result.noted.entries ≡ [] }
+        ensures { result.noted ≡ [] }
     {
         HostNewFiles {
             rt,
@@ -168,20 +167,19 @@ impl<'a, R> HostNewFiles<'a, R> {
 impl<'a, R: Eprint> HostNewFiles<'a, R> {
     // Tells and notes why there is no new file.
     fn fail(&mut self, path: &str, error: &io::Error)
-        ensures { self.new.noted.entries
-            ≡ (path.now, Err (error_kind error.now)) ∷ self.old.noted.entries }
+        ensures { self.new.noted
+            ≡ (path.now, Err (error_kind error.now)) ∷ self.old.noted }
     {
         let kind = error.kind();
         if kind != ErrorKind::AlreadyExists {
             let _ = eprintln!(self.rt; "planner: {path}: {error}");
         }
-        self.noted
-            .note(path.as_bytes(), &Outcome::Failed(kind), &[]);
+        self.noted.note(path.as_bytes(), Outcome::Failed(kind), &[]);
     }
 }
 
 impl<'a, R: Files<File = File> + Eprint> WriteFiles for HostNewFiles<'a, R> {
-    ghost writes = { λ f. f.noted.entries };
+    ghost writes = { λ f. f.noted };
 
     fn look(&mut self, path: &str) -> io::Result<()> {
         match look_under(self.rt, path) {
@@ -196,7 +194,7 @@ impl<'a, R: Files<File = File> + Eprint> WriteFiles for HostNewFiles<'a, R> {
     fn write_new(&mut self, path: &str, text: &[u8]) -> io::Result<()> {
         match write_under(self.rt, path, text) {
             Ok(()) => {
-                self.noted.note(path.as_bytes(), &Outcome::Done, text);
+                self.noted.note(path.as_bytes(), Outcome::Done, text);
                 Ok(())
             }
             Err(error) => {
