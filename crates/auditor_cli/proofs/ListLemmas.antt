@@ -20,12 +20,6 @@ tabs i s a = append_assoc i (9 ∷ (s ++ 9 ∷ [])) a ∙ ap (λ (x : List ℕ).
 pub grown_twice : (was next now : List FileEntry) → IsGrown was next → IsGrown next now → IsGrown was now
 grown_twice was next now a b = (b.0 ++ a.0, b.1 ∙ ap (λ (x : List FileEntry). b.0 ++ x) a.1 ∙ sym (append_assoc b.0 a.0 was))
 
-pub not_grown : (was now : List FileEntry) → now ≡ was → IsGrown was now
-not_grown was now same = ([], same)
-
-pub grown_by : (was now : List FileEntry) (entry : FileEntry) → now ≡ entry ∷ was → IsGrown was now
-grown_by was now entry noted = (entry ∷ [], noted)
-
 pub read_in_turn : (instance solution : List ℕ) (was now : List FileRead) → AreReadInTurn instance solution was now → IsGrown was now
 read_in_turn instance solution was now (inl both) = ((solution, Ok both.1) ∷ (instance, Ok both.0) ∷ [], both.2)
 read_in_turn instance solution was now (inr unread) = first_unread unread.2

@@ -1,10 +1,9 @@
 -- A text spells one value at most, and none where it has a fault.
-use Rattle.std.proofs.Common.{◌≡◌, ◌≤◌, ◌∙◌, ℕ, List, ◌∷◌, sym, ap, subst, inl, inr, arith, refl}
+use Rattle.std.proofs.Common.{◌≡◌, ◌≤◌, ◌∙◌, ℕ, List, ◌∷◌, sym, ap, subst, inl, inr, arith}
 use Rattle.plan_audit.specs.Laws.{AreAllPlanned, IsSoundPlan, SolutionsPassWhereSound}
 use Rattle.plan_audit.specs.Verdict.{IsVerdict, printed}
 use Rattle.plan_audit.specs.declared.rules.Verdict.{Verdict}
 use Rattle.plan_audit.specs.declared.rules.Verdict.TheVariants.{Broken, Pass}
-use Rattle.plan_types.specs.declared.plans.Cost.{Cost}
 use Rattle.route_sched.specs.Cost.{cost_of, total_length, used_count}
 use Rattle.plan_types.specs.Instance.{Instance, IsInstance}
 use Rattle.plan_types.specs.declared.requests.Kind.{Kind}
@@ -44,9 +43,6 @@ judges_spelled kind instance solution answer (inr (inr judges)) p s a b =
 
 abbrev IsVerdictOf : Instance → Solution → Verdict → Type 0
 IsVerdictOf p s v = IsVerdict p (printed s.routes s.cost) v
-
-pass_is_0 : (cost : Cost) → (verdict_answer (Pass cost)).status ≡ 0
-pass_is_0 cost = refl
 
 says_by : (law : SolutionsPassWhereSound) (kind : Kind) (instance solution : List ℕ) (answer : AuditAnswer) (p : Instance) (s : Solution) (v : Verdict) → SpellsInstance kind instance p → Spells solution s → IsInstance p
     → IsVerdictOf p s v → answer ≡ verdict_answer v → SaysSound kind instance solution answer

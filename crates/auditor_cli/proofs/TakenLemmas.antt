@@ -1,5 +1,5 @@
 -- A list that is read line by line.
-use Rattle.std.proofs.Common.{◌≡◌, ◌≢◌, ◌∙◌, inl, inr, ℕ, ◌+◌, ◌-◌, ◌<◌, true, false, List, [], ◌∷◌, ◌++◌, Option, Result, Ok, Err, ◌⊎◌, length, get_or, take, drop, refl, sym, ap, subst, arith, append_assoc, append-nil, length-take, get_or-take}
+use Rattle.std.proofs.Common.{◌≡◌, ◌≢◌, ◌∙◌, inl, inr, ℕ, ◌+◌, ◌-◌, true, false, List, [], ◌∷◌, ◌++◌, Option, Result, Ok, Err, ◌⊎◌, length, get_or, take, drop, refl, sym, ap, subst, arith, append_assoc, append-nil, length-take, get_or-take}
 use Rattle.std.specs.Prelude.{All, max}
 use Rattle.std.specs.List.{concat, flat_map}
 use Rattle.std.specs.Io.{StopsAt}
@@ -106,10 +106,6 @@ module _ (path : List ℕ) (was : List FileRead) where
 
   pub first_on : (later now : List FileRead) → IsReadFirst path was later → IsGrown later now → IsReadFirst path was now
   first_on later now first grown = (first.0, grown_twice ((path, first.0) ∷ was) later now first.1 grown)
-
-  pub first_at_last : (turns : ℕ) (next : List FileRead) → 0 < turns → IsFirstIn turns next → IsReadFirst path was next
-  first_at_last turns next some (inl none) = absurd (omega (arith, some, none.0))
-  first_at_last turns next some (inr first) = first
 
 -- ---- the list so far
 
