@@ -19,7 +19,7 @@ use Rattle.instance_read.specs.Drafts.{FitsSection, IsDraft, TakesLine, TakesVal
 use Rattle.instance_read.specs.Fields.{field, has_no_number, is_no_number, value_at}
 use Rattle.instance_read.specs.Rows.{Row}
 use Rattle.instance_read.specs.Vrp.{key_fault, place_fault}
-use Rattle.instance_read.specs.VrpLines.{Placed, coordinates_left, demands_left, depots_after, end_from, key_of, nodes_after, nodes_in_key, place_after, place_after_key, placed_from, value_of, value_words}
+use Rattle.instance_read.specs.VrpLines.{Placed, coordinates_left, demands_left, depots_after, end_from, lines_left, key_of, nodes_after, nodes_in_key, place_after, place_after_key, placed_from, value_of, value_words}
 use Rattle.instance_read.specs.VrpWalk.{HasNoLineFault, IsFirstFaultyLine, Knows, TellsLine, placed_rows}
 use Rattle.instance_read.specs.Walk.{HasNoKind, IsFirstKind}
 use Rattle.instance_read.proofs.KnowLemmas.{placed}
@@ -100,19 +100,18 @@ nodes_step before row (DepotLine n) old new known none takes = nodes_section old
 nodes_step before row AfterEnd old new known none takes = nodes_section old.nodes row AfterEnd (λ _. refl) ∙ sym (ap (λ (d : Draft). d.nodes) takes)
 
 -- the place after a line finds what it needs
-fits_coordinates : (n : ℕ) (d : Draft) → length d.coordinates.items ≡ nodes_in d → FitsSection (coordinates_left n) d
-fits_coordinates n d long = by (eqb n 0) refl
+fits_left : (line : ℕ → Section) (n : ℕ) (d : Draft) → ((k : ℕ) → 1 ≤ k → FitsSection (line k) d) → FitsSection (lines_left line n) d
+fits_left line n d fits = by (eqb n 0) refl
   where
-    by : (b : Bool) → eqb n 0 ≡ b → FitsSection (cond b Outside (CoordinateLine n)) d
+    by : (b : Bool) → eqb n 0 ≡ b → FitsSection (cond b Outside (line n)) d
     by true e = tt
-    by false e = let ne = eqb-false n 0 e in (omega (arith, ne), long)
+    by false e = let ne = eqb-false n 0 e in fits n (omega (arith, ne))
+
+fits_coordinates : (n : ℕ) (d : Draft) → length d.coordinates.items ≡ nodes_in d → FitsSection (coordinates_left n) d
+fits_coordinates n d long = fits_left (λ k. CoordinateLine k) n d (λ k some. (some, long))
 
 fits_demands : (n : ℕ) (d : Draft) → length d.demands.items ≡ nodes_in d → FitsSection (demands_left n) d
-fits_demands n d long = by (eqb n 0) refl
-  where
-    by : (b : Bool) → eqb n 0 ≡ b → FitsSection (cond b Outside (DemandLine n)) d
-    by true e = tt
-    by false e = let ne = eqb-false n 0 e in (omega (arith, ne), long)
+fits_demands n d long = fits_left (λ k. DemandLine k) n d (λ k some. (some, long))
 
 fits_depots : (n : ℕ) (d : Draft) → FitsSection (depots_after n) d
 fits_depots n d = by (nat_lt n 2) refl
@@ -128,24 +127,15 @@ fits_key row old new (Some n) Demands is takes =
     fits_demands n new (ap length takes.1 ∙ length-replicate {A = Option ℤ} (nodes_in old) None ∙ sym (ap (λ (d : Draft). nodes_in d) takes.0))
 fits_key row old new None Coordinates is takes = tt
 fits_key row old new None Demands is takes = tt
-fits_key row old new (Some n) Depots is takes = omega arith
-fits_key row old new None Depots is takes = omega arith
-fits_key row old new (Some n) End is takes = tt
-fits_key row old new None End is takes = tt
-fits_key row old new (Some n) Dimension is takes = tt
-fits_key row old new None Dimension is takes = tt
-fits_key row old new (Some n) Capacity is takes = tt
-fits_key row old new None Capacity is takes = tt
-fits_key row old new (Some n) ProblemType is takes = tt
-fits_key row old new None ProblemType is takes = tt
-fits_key row old new (Some n) WeightType is takes = tt
-fits_key row old new None WeightType is takes = tt
-fits_key row old new (Some n) Refused is takes = tt
-fits_key row old new None Refused is takes = tt
-fits_key row old new (Some n) StrayNumber is takes = tt
-fits_key row old new None StrayNumber is takes = tt
-fits_key row old new (Some n) Ignored is takes = tt
-fits_key row old new None Ignored is takes = tt
+fits_key row old new nodes Depots is takes = omega arith
+fits_key row old new nodes End is takes = tt
+fits_key row old new nodes Dimension is takes = tt
+fits_key row old new nodes Capacity is takes = tt
+fits_key row old new nodes ProblemType is takes = tt
+fits_key row old new nodes WeightType is takes = tt
+fits_key row old new nodes Refused is takes = tt
+fits_key row old new nodes StrayNumber is takes = tt
+fits_key row old new nodes Ignored is takes = tt
 
 fits_next : (row : Row) (place : Section) (old new : Draft) → FitsSection place old → TakesLine old row place new → FitsSection (place_after old.nodes row place) new
 fits_next row Outside old new fits takes = fits_key row old new old.nodes (key_of row) refl takes

@@ -13,34 +13,30 @@ use Rattle.instance_read.specs.declared.vrp_lines.Section.TheVariants.{Outside, 
 use Rattle.instance_read.specs.Fields.{field}
 use Rattle.instance_read.specs.Rows.{Row, rows_of}
 use Rattle.instance_read.specs.Vrp.{first_key, has_key, key_number}
-use Rattle.instance_read.specs.VrpLaws.{DepotsAreTwoWords, DimensionAloneAnnounces, EndIsTheEnd, LeavesOutside, OtherLinesStayOutside, SectionsHaveALineForEachNode, after_end, coordinate_lines, demand_lines, depot_line, is_keyed, outside, rows_in}
-use Rattle.instance_read.specs.VrpLines.{Placed, begins_as_number, coordinates_left, demands_left, depots_after, ends_in, key_of, key_text, nodes_after, nodes_in_key, place_after, place_after_key, placed_from, trimmed, value_words}
+use Rattle.instance_read.specs.VrpLaws.{DepotsAreTwoWords, DimensionAloneAnnounces, EndIsTheEnd, LeavesOutside, OtherLinesStayOutside, SectionsHaveALineForEachNode, after_end, coordinate_lines, demand_lines, depot_line, section_lines, is_keyed, outside, rows_in}
+use Rattle.instance_read.specs.VrpLines.{Placed, begins_as_number, coordinates_left, demands_left, depots_after, lines_left, ends_in, key_of, key_text, nodes_after, nodes_in_key, place_after, place_after_key, placed_from, trimmed, value_words}
 use Rattle.instance_read.proofs.LilimLemmas.{cons_head, cons_tail}
 use Rattle.instance_read.proofs.ReadingLemmas.{nodes_other, placed_none, placed_step}
 
-left_is : (k : ℕ) → coordinates_left (suc k) ≡ CoordinateLine (suc k)
-left_is k = ap (λ b. cond b Outside (CoordinateLine (suc k))) (ne_eqb (suc k) 0 (omega arith))
+-- A section of nodes whose lines have this place.
+module _ (line : ℕ → Section) (goes : (n : ℕ) (row : Row) (k : ℕ) → place_after (Some n) row (line k) ≡ lines_left line (k - 1)) where
+  left_is : (k : ℕ) → lines_left line (suc k) ≡ line (suc k)
+  left_is k = ap (λ b. cond b Outside (line (suc k))) (ne_eqb (suc k) 0 (omega arith))
 
-demand_left_is : (k : ℕ) → demands_left (suc k) ≡ DemandLine (suc k)
-demand_left_is k = ap (λ b. cond b Outside (DemandLine (suc k))) (ne_eqb (suc k) 0 (omega arith))
+  block : (n k : ℕ) (rows : List Row) → placed_from (Some n) (lines_left line k) rows ≡ section_lines line k rows ++ placed_from (Some n) Outside (drop k rows)
+  block n zero rows = refl
+  block n (suc k) [] = placed_none (Some n) (lines_left line (suc k)) ∙ sym (placed_none (Some n) Outside)
+  block n (suc k) (row ∷ rows) =
+      let back : suc k - 1 ≡ k = omega arith in
+      ap (λ p. placed_from (Some n) p (row ∷ rows)) (left_is k) ∙ placed_step (Some n) (line (suc k)) row rows
+      ∙ ap (λ p. record { row = row; place = line (suc k) } ∷ placed_from (Some n) p rows) (goes n row (suc k) ∙ ap (lines_left line) back)
+      ∙ ap (λ ps. record { row = row; place = line (suc k) } ∷ ps) (block n k rows)
 
 coordinate_block : (n k : ℕ) (rows : List Row) → placed_from (Some n) (coordinates_left k) rows ≡ coordinate_lines k rows ++ placed_from (Some n) Outside (drop k rows)
-coordinate_block n zero rows = refl
-coordinate_block n (suc k) [] = placed_none (Some n) (coordinates_left (suc k)) ∙ sym (placed_none (Some n) Outside)
-coordinate_block n (suc k) (row ∷ rows) =
-    let back : suc k - 1 ≡ k = omega arith in
-    ap (λ p. placed_from (Some n) p (row ∷ rows)) (left_is k) ∙ placed_step (Some n) (CoordinateLine (suc k)) row rows
-    ∙ ap (λ j. record { row = row; place = CoordinateLine (suc k) } ∷ placed_from (Some n) (coordinates_left j) rows) back
-    ∙ ap (λ ps. record { row = row; place = CoordinateLine (suc k) } ∷ ps) (coordinate_block n k rows)
+coordinate_block n k rows = block (λ j. CoordinateLine j) (λ n row j. refl) n k rows
 
 demand_block : (n k : ℕ) (rows : List Row) → placed_from (Some n) (demands_left k) rows ≡ demand_lines k rows ++ placed_from (Some n) Outside (drop k rows)
-demand_block n zero rows = refl
-demand_block n (suc k) [] = placed_none (Some n) (demands_left (suc k)) ∙ sym (placed_none (Some n) Outside)
-demand_block n (suc k) (row ∷ rows) =
-    let back : suc k - 1 ≡ k = omega arith in
-    ap (λ p. placed_from (Some n) p (row ∷ rows)) (demand_left_is k) ∙ placed_step (Some n) (DemandLine (suc k)) row rows
-    ∙ ap (λ j. record { row = row; place = DemandLine (suc k) } ∷ placed_from (Some n) (demands_left j) rows) back
-    ∙ ap (λ ps. record { row = row; place = DemandLine (suc k) } ∷ ps) (demand_block n k rows)
+demand_block n k rows = block (λ j. DemandLine j) (λ n row j. refl) n k rows
 
 -- a line outside the sections, by its key
 key_step : (nodes : Option ℕ) (row : Row) (rows : List Row) (key : Key) → key_of row ≡ key → nodes_in_key row key ≡ None → placed_from nodes Outside (row ∷ rows) ≡ outside row ∷ placed_from nodes (place_after_key nodes key) rows
@@ -170,8 +166,7 @@ clash : {X : Type 0} {b : Bool} → b ≡ false → b ≡ true → X
 clash not_so so = absurd (false≢true (sym not_so ∙ so))
 
 stays : (nodes : Option ℕ) (row : Row) → LeavesOutside row → place_after_key nodes (key_of row) ≡ Outside
-stays None row leaves = key_holds (λ key. place_after_key None key ≡ Outside) row refl refl refl refl refl refl (λ _. refl) (clash leaves.0) (clash leaves.1) (clash leaves.2) (clash leaves.3)
-stays (Some n) row leaves = key_holds (λ key. place_after_key (Some n) key ≡ Outside) row refl refl refl refl refl refl (λ _. refl) (clash leaves.0) (clash leaves.1) (clash leaves.2) (clash leaves.3)
+stays nodes row leaves = key_holds (λ key. place_after_key nodes key ≡ Outside) row refl refl refl refl refl refl (λ _. refl) (clash leaves.0) (clash leaves.1) (clash leaves.2) (clash leaves.3)
 
 pub others : OtherLinesStayOutside
 others nodes row rows leaves = placed_step nodes Outside row rows ∙ ap (λ place. outside row ∷ placed_from (nodes_after nodes row Outside) place rows) (stays nodes row leaves)
@@ -198,12 +193,8 @@ depot_step nodes seen row rows place goes =
 over : (n : ℕ) → 2 ≤ n → depots_after n ≡ Outside
 over n l = ap (λ b. cond b (DepotLine n) Outside) (le-ltb n 2 l)
 
-depots_key : (nodes : Option ℕ) → place_after_key nodes Depots ≡ DepotLine 0
-depots_key None = refl
-depots_key (Some n) = refl
-
 opened : (nodes : Option ℕ) (row : Row) (rows : List Row) → key_of row ≡ Depots → placed_from nodes Outside (row ∷ rows) ≡ outside row ∷ placed_from nodes (DepotLine 0) rows
-opened nodes row rows is = key_step nodes row rows Depots is refl ∙ ap (λ p. outside row ∷ placed_from nodes p rows) (depots_key nodes)
+opened nodes row rows is = key_step nodes row rows Depots is refl
 
 pub depots : DepotsAreTwoWords
 depots nodes row first second rows is = (
@@ -220,9 +211,5 @@ all_after nodes [] = placed_none nodes AfterEnd
 all_after nodes (row ∷ rows) =
     placed_step nodes AfterEnd row rows ∙ ap (λ o. after_end row ∷ placed_from o AfterEnd rows) (same_nodes_after nodes row) ∙ ap (λ ps. after_end row ∷ ps) (all_after nodes rows)
 
-end_key : (nodes : Option ℕ) → place_after_key nodes End ≡ AfterEnd
-end_key None = refl
-end_key (Some n) = refl
-
 pub end : EndIsTheEnd
-end nodes row rows is = key_step nodes row rows End is refl ∙ ap (λ p. outside row ∷ placed_from nodes p rows) (end_key nodes) ∙ ap (λ ps. outside row ∷ ps) (all_after nodes rows)
+end nodes row rows is = key_step nodes row rows End is refl ∙ ap (λ ps. outside row ∷ ps) (all_after nodes rows)

@@ -3,6 +3,7 @@ use Rattle.std.specs.Prelude.{◌≡◌, ◌≤◌, ℕ, zero, suc, Bool, false,
 use Rattle.std.specs.Str.{str_eq_ignore_ascii_case}
 use Rattle.text_lines.specs.Words.{words_of}
 use Rattle.instance_read.specs.declared.vrp_lines.Key.TheVariants.{Dimension, Coordinates, Demands, Depots, End}
+use Rattle.instance_read.specs.declared.vrp_lines.Section.{Section}
 use Rattle.instance_read.specs.declared.vrp_lines.Section.TheVariants.{Outside, CoordinateLine, DemandLine, DepotLine, AfterEnd}
 use Rattle.instance_read.specs.Fields.{field}
 use Rattle.instance_read.specs.Rows.{Row}
@@ -12,17 +13,17 @@ use Rattle.instance_read.specs.VrpLines.{Placed, key_of, key_text, nodes_after, 
 abbrev pub outside : Row → Placed
 outside row = record { row = row; place = Outside }
 
--- the first so many of these lines, as lines of a section of coordinates
-abbrev pub coordinate_lines : ℕ → List Row → List Placed
-coordinate_lines zero rows = []
-coordinate_lines (suc left) [] = []
-coordinate_lines (suc left) (row ∷ rows) = record { row = row; place = CoordinateLine (suc left) } ∷ coordinate_lines left rows
+-- the first so many of these lines, as lines of a section of nodes
+abbrev pub section_lines : (ℕ → Section) → ℕ → List Row → List Placed
+section_lines line zero rows = []
+section_lines line (suc left) [] = []
+section_lines line (suc left) (row ∷ rows) = record { row = row; place = line (suc left) } ∷ section_lines line left rows
 
--- the same of a section of demands
+abbrev pub coordinate_lines : ℕ → List Row → List Placed
+coordinate_lines left rows = section_lines (λ k. CoordinateLine k) left rows
+
 abbrev pub demand_lines : ℕ → List Row → List Placed
-demand_lines zero rows = []
-demand_lines (suc left) [] = []
-demand_lines (suc left) (row ∷ rows) = record { row = row; place = DemandLine (suc left) } ∷ demand_lines left rows
+demand_lines left rows = section_lines (λ k. DemandLine k) left rows
 
 abbrev pub depot_line : ℕ → Row → Placed
 depot_line seen row = record { row = row; place = DepotLine seen }

@@ -68,21 +68,29 @@ pub record Placed : Type 0 where
   pub row : Row
   pub place : Section
 
--- a section of nodes is over with its last line
+-- the place with so many lines of a section of nodes left: it is over with its last line
+abbrev pub lines_left : (ℕ → Section) → ℕ → Section
+lines_left line n = if n == 0 then Outside else line n
+
 abbrev pub coordinates_left : ℕ → Section
-coordinates_left n = if n == 0 then Outside else CoordinateLine n
+coordinates_left n = lines_left (λ k. CoordinateLine k) n
 
 abbrev pub demands_left : ℕ → Section
-demands_left n = if n == 0 then Outside else DemandLine n
+demands_left n = lines_left (λ k. DemandLine k) n
 
 -- the list of depots is over with its second word
 abbrev pub depots_after : ℕ → Section
 depots_after seen = if nat_lt seen 2 then DepotLine seen else Outside
 
+-- a section of nodes begins where their number is announced
+abbrev pub if_announced : Option ℕ → (ℕ → Section) → Section
+if_announced None section = Outside
+if_announced (Some nodes) section = section nodes
+
 -- the place after a line with this key, where so many nodes are announced, or none yet
 abbrev pub place_after_key : Option ℕ → Key → Section
-place_after_key (Some n) Coordinates = coordinates_left n
-place_after_key (Some n) Demands = demands_left n
+place_after_key nodes Coordinates = if_announced nodes coordinates_left
+place_after_key nodes Demands = if_announced nodes demands_left
 place_after_key nodes Depots = DepotLine 0
 place_after_key nodes End = AfterEnd
 place_after_key nodes _ = Outside
