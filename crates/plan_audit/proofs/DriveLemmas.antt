@@ -45,20 +45,25 @@ legs_of_route p route =
 -- what all of them keep
 pub kept_visits : (p : Instance) (route : List ℕ) (visits : List Visit) → visits ≡ visits_from p route 0 → AllByRecursion (λ v. breaks_limits p v ≡ false) visits → KeepsLimits p route
 unfolding KeepsLimits
-kept_visits p route visits all kept = subst (AllByRecursion (λ v. breaks_limits p v ≡ false)) all kept
+kept_visits p route visits all kept some = subst (AllByRecursion (λ v. breaks_limits p v ≡ false)) all kept
+
+-- an idle vehicle keeps them, and drives nowhere
+pub kept_idle : (p : Instance) (route : List ℕ) → length route ≡ 0 → KeepsLimits p route
+unfolding KeepsLimits
+kept_idle p route none some = absurd (omega arith)
 
 neither : (a b : Bool) → (a || b) ≡ false → (a ≡ false) × (b ≡ false)
 neither true b is = absurd (false≢true (sym is))
 neither false b is = (refl, is)
 
 -- what is kept behind place k of such a route
-module _ (p : Instance) (route : List ℕ) (kept : KeepsLimits p route) (k : ℕ) (le : k ≤ length route) where
+module _ (p : Instance) (route : List ℕ) (kept : KeepsLimits p route) (some : 0 < length route) (k : ℕ) (le : k ≤ length route) where
   limits_at : breaks_limits p (visit_after p route k) ≡ false
   unfolding KeepsLimits
   limits_at =
       let at : slice_get (visits_from p route 0) k ≡ Some (visit_after p route k) =
       nth-range (visit_after p route) 0 (length route + 1 - 0) k (omega arith) ∙ ap (λ i. Some (visit_after p route i)) (let e : 0 + k ≡ k = omega arith in e) in
-      all_items (λ v. breaks_limits p v ≡ false) (visits_from p route 0) (All-from_recursion (λ v. breaks_limits p v ≡ false) (visits_from p route 0) kept) (suc k) (visit_after p route k) at
+      all_items (λ v. breaks_limits p v ≡ false) (visits_from p route 0) (All-from_recursion (λ v. breaks_limits p v ≡ false) (visits_from p route 0) (kept some)) (suc k) (visit_after p route k) at
 
   light : int_lt (pos p.capacity) (load p route (k + 1)) ≡ true → ⊥
   light heavy = false≢true (sym (neither (is_overloaded p (visit_after p route k)) _ limits_at).0 ∙ heavy)
@@ -78,7 +83,7 @@ module _ (p : Instance) (routes : List (List ℕ)) (each : (k : ℕ) → k < len
       let t = standing_in routes b.0 r i n b.1 b.2 in
       let within = slice_get_within b.0 t.1 n t.5 in
       let behind : i ≡ t.1 + 1 = t.3 ∙ sym (add-one t.1) in
-      light p b.0 (kept_at t.0 b.0 t.4) t.1 (omega arith) (true_from _ (subst (λ i. T (int_lt (pos p.capacity) (load p b.0 i))) behind (b.3.lt)))
+      light p b.0 (kept_at t.0 b.0 t.4) (omega arith) t.1 (omega arith) (true_from _ (subst (λ i. T (int_lt (pos p.capacity) (load p b.0 i))) behind (b.3.lt)))
 
   none_late : (r i n : ℕ) → IsLate p routes r i n → ⊥
   none_late r i n b =
@@ -86,14 +91,14 @@ module _ (p : Instance) (routes : List (List ℕ)) (each : (k : ℕ) → k < len
       let t = standing_in routes route r i n b.1.1 b.1.2 in
       let within = slice_get_within route t.1 n t.5 in
       let behind : i ≡ t.1 + 1 = t.3 ∙ sym (add-one t.1) in
-      in_time p route (kept_at t.0 route t.4) t.1 (omega arith) b.0 (subst (λ i. (place p route i).latest < start p route i) behind b.1.3)
+      in_time p route (kept_at t.0 route t.4) (omega arith) t.1 (omega arith) b.0 (subst (λ i. (place p route i).latest < start p route i) behind b.1.3)
 
   none_back_late : (r i n : ℕ) → IsLateReturn p routes r i n → ⊥
   none_back_late r i n b =
       let route = b.1.0 in
       let t = route_in routes route r b.1.1 in
       let late : p.depot.latest < start p route (length route + 1) = subst (λ i. p.depot.latest < start p route i) b.1.3 b.1.5 in
-      in_time p route (kept_at t.0 route t.2) (length route) (omega arith) b.0
+      in_time p route (kept_at t.0 route t.2) b.1.2 (length route) (omega arith) b.0
       (subst (λ (s : Stop). s.latest < start p route (length route + 1)) (sym (place-return p route (length route) (omega arith))) late)
 
   pub driven : (s : Subject) → routes_of s ≡ routes → KeepsRules 6 8 p s

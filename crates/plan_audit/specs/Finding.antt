@@ -1,5 +1,5 @@
 -- How the auditor looks for the first place that breaks a rule. Here routes and places count from 0, as in the code.
-use Rattle.std.specs.Prelude.{◌≡◌, ℕ, ◌+◌, ◌-◌, nat_lt, ◌==◌, ◌&&◌, ◌||◌, not, List, [], ◌∷◌, Option, Some, None, is_some, if◌then◌else◌, Bool, int_lt, pos, length, false, slice_get, unwrap_or}
+use Rattle.std.specs.Prelude.{◌≡◌, ℕ, ◌+◌, ◌-◌, ◌<◌, nat_lt, ◌==◌, ◌&&◌, ◌||◌, not, List, [], ◌∷◌, Option, Some, None, is_some, if◌then◌else◌, Bool, int_lt, pos, length, false, slice_get, unwrap_or}
 use Rattle.route_sched.specs.Schedule.{start}
 use Rattle.route_sched.specs.Visiting.{visit_after, visits_from}
 use Rattle.route_sched.specs.declared.visits.Visit.{Visit}
@@ -83,9 +83,9 @@ breaks_window Vrp v = false
 abbrev pub breaks_limits : Instance → Visit → Bool
 breaks_limits p v = is_overloaded p v || breaks_window p.kind v
 
--- no visit of a route does
+-- no visit of a route does, where it has stops
 unfoldable pub KeepsLimits : Instance → List ℕ → Type 0
-KeepsLimits p route = AllByRecursion (λ v. breaks_limits p v ≡ false) (visits_from p route 0)
+KeepsLimits p route = 0 < length route → AllByRecursion (λ v. breaks_limits p v ≡ false) (visits_from p route 0)
 
 -- the name of a request that is not planned
 abbrev pub unserved_in : List (List ℕ) → ℕ × Request → Option ℕ

@@ -36,12 +36,15 @@ pub(crate) fn kept_cost(problem: &Problem, routes: &[Route], unplanned: u64) -> 
 }
 
 // How far a vehicle drives that keeps the rules on loads and times. The return is judged as a stop is: the depot has
-// neither demand nor service, so that refuses no more than the rules do.
+// neither demand nor service, so that refuses no more than the rules do. An idle vehicle drives nowhere.
 fn kept_length(problem: &Problem, route: &[u32]) -> Option<u64>
     requires { AreLiveOnce problem.now route.now }
     ensures kept { IfSome result (λ _. KeepsLimits problem.now route.now) }
     ensures length { IfSome result (λ length. length ≡ route_length problem.now route.now) }
 {
+    if route.is_empty() {
+        return Some(0);
+    }
     let mut length: u64 = 0;
     for visit in Visits::new(problem, route) {
         if breaks_limits(problem, &visit) {

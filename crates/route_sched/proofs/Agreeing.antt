@@ -1,5 +1,5 @@
 -- Problems that agree on the stops of a route give it the same schedule.
-use Rattle.std.proofs.Common.{◌≡◌, ℕ, zero, suc, ◌+◌, ◌-◌, List, ◌∷◌, length, Option, get_or, map, sum, fold, pos, ◌+ℤ◌, unwrap_or, cond, eqb, sym, ap, ◌∙◌, subst, inl, inr}
+use Rattle.std.proofs.Common.{◌≡◌, ℕ, zero, suc, ◌+◌, ◌-◌, List, length, Option, get_or, map, sum, fold, pos, ◌+ℤ◌, unwrap_or, cond, eqb, sym, ap, ◌∙◌, subst, inl, inr}
 use Rattle.std.specs.List.{range_with_len}
 use Rattle.std.proofs.lemmas.Bool.{cases_lt}
 use Rattle.std.proofs.lemmas.List.{get_or_past}

@@ -41,6 +41,9 @@ pub fn route_distance(problem: &Problem, route: &[u32]) -> u64
     ensures value { result ≡ route_length problem.now route.now }
     ensures bound { result ≤ 5656854 * length route.now }
 {
+    if route.is_empty() {
+        return 0;
+    }
     let mut distance = 0;
     let mut last = &problem.depot;
     for k in 0..=route.len() {

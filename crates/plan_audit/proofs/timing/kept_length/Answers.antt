@@ -1,7 +1,16 @@
-use Rattle.std.proofs.Common.{ap, ◌∙◌, arith}
+use Rattle.std.proofs.Common.{rules, ◌≡◌, length, sym, ap, ◌∙◌, arith}
+use Rattle.route_sched.proofs.Steps.{route_length-empty}
 use Rattle.route_sched.proofs.Visited.{all_visits}
-use Rattle.plan_audit.proofs.DriveLemmas.{legs, legs_of_route, kept_visits}
+use Rattle.plan_audit.proofs.DriveLemmas.{legs, legs_of_route, kept_visits, kept_idle}
 use Rattle.plan_audit.proofs.timing.kept_length.Goals as goal
+
+pub returns-then-is_empty-clause-kept : goal.returns-then-is_empty-clause-kept
+returns-then-is_empty-clause-kept c =
+    let none : length c.args.route.now ≡ 0 = search rules in kept_idle c.args.problem.now c.args.route.now none
+
+pub returns-then-is_empty-clause-length : goal.returns-then-is_empty-clause-length
+returns-then-is_empty-clause-length c =
+    let none : length c.args.route.now ≡ 0 = search rules in sym (route_length-empty c.args.problem.now c.args.route.now none)
 
 pub loop-visit-init : goal.loop-visit-init
 loop-visit-init c =

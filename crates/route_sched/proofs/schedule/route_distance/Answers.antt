@@ -1,7 +1,7 @@
-use Rattle.std.proofs.Common.{◌≡◌, ◌∙◌, ◌+◌, ◌≤◌, length, sym, ap, subst, arith}
+use Rattle.std.proofs.Common.{rules, ◌≡◌, ◌∙◌, ◌+◌, ◌≤◌, length, sym, ap, subst, arith}
 use Rattle.plan_types.specs.Instance.{IsInstance}
 use Rattle.route_sched.proofs.LiveStops.{few_stops, place-first}
-use Rattle.route_sched.proofs.Steps.{length_before, length_before-first, length_before-leg, route_length_is, route_length_le}
+use Rattle.route_sched.proofs.Steps.{length_before, length_before-first, length_before-leg, route_length_is, route_length-empty, route_length_le}
 use Rattle.route_sched.proofs.schedule.route_distance.Goals as goal
 
 pub loop-k-init : goal.loop-k-init
@@ -27,16 +27,21 @@ loop-k-preserved c =
       bound = omega (arith, c.dist.ensures.bound);
     }
 
-pub returns-2-clause-value : goal.returns-2-clause-value
-returns-2-clause-value c =
+pub returns-then-is_empty-clause-value : goal.returns-then-is_empty-clause-value
+returns-then-is_empty-clause-value c =
+    let none : length c.args.route.now ≡ 0 = search rules in
+    sym (route_length-empty c.args.problem.now c.args.route.now none)
+
+pub returns-else-is_empty-2-clause-value : goal.returns-else-is_empty-2-clause-value
+returns-else-is_empty-2-clause-value c =
     let is = c.loop-k.invariant in
     let next = c.stop_behind-stop.ensures in
     let end : c.loop-k.k ≡ length c.args.route.now = omega arith in
     length_before-leg c.args.problem.now c.args.route.now c.loop-k.k _ _ _ _ is.last next.value is.sum (c.from-distance.ensures ∙ c.dist.ensures.value)
     ∙ (ap (λ k. length_before c.args.problem.now c.args.route.now (k + 1)) end ∙ sym (route_length_is c.args.problem.now c.args.route.now))
 
-pub returns-2-clause-bound : goal.returns-2-clause-bound
-returns-2-clause-bound c =
+pub returns-else-is_empty-2-clause-bound : goal.returns-else-is_empty-2-clause-bound
+returns-else-is_empty-2-clause-bound c =
     let end : c.loop-k.k ≡ length c.args.route.now = omega arith in
     let short : c.from-distance.result ≤ 2828427 = omega (arith, c.dist.ensures.bound) in
-    route_length_le c.args.problem.now c.args.route.now c.loop-k.k c.loop-k.distance c.from-distance.result end (returns-2-clause-value c) c.loop-k.invariant.bound short
+    route_length_le c.args.problem.now c.args.route.now c.loop-k.k c.loop-k.distance c.from-distance.result end (returns-else-is_empty-2-clause-value c) c.loop-k.invariant.bound short
