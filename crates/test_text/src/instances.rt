@@ -1,7 +1,7 @@
 //! Instances as texts, of both formats.
 
 use crate::builders::{Form, ONE_PAIR, Part, read_instance, text_of};
-use instance_read::{ReadFault, ReadFaultKind, read_vrp};
+use instance_read::{ReadFault, ReadFaultKind, read_vrp, split_key};
 use plan_types::{Kind, Problem, limits};
 use std::alloc::Global;
 use std::test::Fail;
@@ -382,4 +382,20 @@ fn reads_the_most_tasks(rt: HostRuntime) -> Result<(), Fail> {
         assert!(rt; is_read_as(rt.alloc(), *kind, &text, *figures, spots));
     }
     Ok(())
+}
+
+/// Lines, and the key and the value of each.
+const KEY_LINES: [(&[u8], &[u8], &[u8]); 4] = [
+    (b"DIMENSION : 5", b"DIMENSION", b"5"),
+    (b"\tType:CVRP \t", b"Type", b"CVRP"),
+    (b"COMMENT : (best: 9)", b"COMMENT", b"(best: 9)"),
+    (b" EOF ", b"EOF", b""),
+];
+
+#[test]
+fn splits_keys(rt: HostRuntime) {
+    for (line, key, value) in &KEY_LINES {
+        let split = split_key(line);
+        assert!(rt; split.0 == *key && split.1 == *value);
+    }
 }

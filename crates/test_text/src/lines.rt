@@ -1,7 +1,8 @@
 //! Lines, words and numbers of a text.
 
 use text_lines::{
-    Lines, Number, Words, digits_len, digits_to_u32, is_blank_line, trim_blanks_start,
+    Lines, Number, Words, digits_len, digits_to_u32, is_blank_line, number_to_u64,
+    trim_blanks_start,
 };
 
 // Whether the lines of a text are these and no more.
@@ -102,12 +103,14 @@ fn is_u64(number: Option<Number>, value: Option<u64>) -> bool {
 // Whether this is the answer of a word.
 fn answers(word: &[u8], answer: &Answer) -> bool {
     match answer {
-        Answer::NoNumber => Number::parse(word).is_none(),
+        Answer::NoNumber => Number::parse(word).is_none() && number_to_u64(word).is_none(),
         Answer::Within(least, most, value) => {
             is_within(Number::parse(word), *least, *most, *value)
         }
         Answer::Above(limit, is) => is_above(Number::parse(word), *limit, *is),
-        Answer::U64(value) => is_u64(Number::parse(word), *value),
+        Answer::U64(value) => {
+            is_u64(Number::parse(word), *value) && number_to_u64(word) == *value
+        }
         Answer::NoInteger => Number::parse_integer(word).is_none(),
         Answer::IntegerWithin(least, most, value) => {
             is_within(Number::parse_integer(word), *least, *most, *value)

@@ -5,7 +5,7 @@ ghost use Rattle.route_sched.specs.Route.{IsPlan};
 use crate::builders::{Form, Part, text_of};
 use plan_audit::{Verdict, audit, routes_that_pass_are_a_plan};
 use plan_types::{Kind, Pins, Plan, Problem, Request, Routes, Stop, limits};
-use sol_text::{SolFault, SolFaultKind, WriteSolFault, read_sol, write_sol};
+use sol_text::{SolFault, SolFaultKind, WriteSolFault, cost_tail, cost_word, read_sol, write_sol};
 use std::alloc::{AllocError, Global};
 use std::test::Fail;
 use test_examples::routes_of;
@@ -303,4 +303,21 @@ fn reads_and_writes_the_most_customers(rt: HostRuntime) -> Result<(), Fail> {
         assert!(rt; writes_most(rt.alloc(), most)?);
     }
     Ok(())
+}
+
+/// Lines, what follows `Cost` and its separator in each, and the word of a cost line.
+const COST_LINES: [(&[u8], Option<&[u8]>, Option<&[u8]>); 5] = [
+    (b"Cost 784", Some(b"784"), Some(b"784")),
+    (b"COST\t: 7 ", Some(b" 7 "), Some(b"7")),
+    (b"cost:1 2", Some(b"1 2"), None),
+    (b"Costs 3", None, None),
+    (b" Cost 3", None, None),
+];
+
+#[test]
+fn splits_cost_lines(rt: HostRuntime) {
+    for (line, tail, word) in &COST_LINES {
+        assert!(rt; cost_tail(line) == *tail);
+        assert!(rt; cost_word(line) == *word);
+    }
 }
