@@ -6,7 +6,7 @@ use Rattle.std.proofs.lemmas.List.Elements.{All-from_recursion, recursion_from_A
 use Rattle.std.proofs.lemmas.List.Sums.{AllPass-from_list_all, list_all-from_AllPass}
 use Rattle.plan_types.specs.Instance.{Instance, stop_at}
 use Rattle.route_sched.specs.Route.{IsLive, AreLiveOnce, IsPlan}
-use Rattle.plan_audit.specs.Rules.{item_at, Stands, IsUnknown, IsRepeated, IsMissing}
+use Rattle.plan_audit.specs.Rules.{item_at, Stands, IsUnknown, IsRepeated}
 use Rattle.plan_audit.specs.Verdict.{planned, KeepsRules}
 use Rattle.plan_audit.specs.Alone.{IsFeasibleAlone}
 use Rattle.plan_audit.specs.Laws.{KeepsPins}
@@ -196,9 +196,6 @@ module _ (p : Instance) (routes : List (List ℕ)) where
     anywhere route r at zero j n t = absurd (none_some t.0 t.1)
     anywhere route r at (suc zero) j n t = (route, at, subst (λ (l : List ℕ). item_at l j ≡ Some n) (sym (some_same route t.0 t.1)) t.2)
     anywhere route r at (suc (suc q)) j n t = absurd (none_some t.0 t.1)
-
-    whole : (r i n m : ℕ) → Stands routes r i n → (route : List ℕ) → item_at routes r ≡ Some route → IsMissing p (route ∷ []) 1 i m → ⊥
-    whole r i n m t route at b = feasible r route at Missing 1 i m (omega arith) (omega arith) b
 
     here : (r : ℕ) (route other : List ℕ) → item_at routes r ≡ Some route → item_at routes r ≡ Some other → other ≡ route
     here r route other at on = some_same other route (sym on ∙ at)

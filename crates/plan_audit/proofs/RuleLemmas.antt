@@ -34,14 +34,18 @@ partner_test routes o = option_and_then (λ m. cond (is_some (seat_of routes m))
 abbrev split_seat : ℕ → ℕ → Option Seat → Option ℕ
 split_seat r n o = option_and_then (λ s. cond (eqb s.route r) None (Some n)) o
 
-abbrev split_test : List (List ℕ) → ℕ → ℕ → Option ℕ → Option ℕ
-split_test routes r n o = option_and_then (λ m. split_seat r n (seat_of routes m)) o
-
 abbrev delivered_seat : ℕ → ℕ → Option Seat → Option ℕ
 delivered_seat i n o = option_and_then (λ s. cond (nat_lt i s.place) (Some n) None) o
 
-abbrev delivered_test : List (List ℕ) → ℕ → ℕ → Option ℕ → Option ℕ
-delivered_test routes i n o = option_and_then (λ m. delivered_seat i n (seat_of routes m)) o
+-- what a test of its seat tells of another stop
+seat_told : (routes : List (List ℕ)) (test : Seat → Option ℕ) (other : Option ℕ) (s : ℕ) → option_and_then (λ m. option_and_then test (seat_of routes m)) other ≡ Some s
+    → (m : ℕ) × (u : Seat) × (other ≡ Some m) × Sits routes u.route u.place m × (test u ≡ Some s)
+seat_told routes test None s told = absurd (none_some s told)
+seat_told routes test (Some m) s told = by (seat_of routes m) refl told
+  where
+    by : (o : Option Seat) → seat_of routes m ≡ o → option_and_then test o ≡ Some s → (k : ℕ) × (u : Seat) × (Some m ≡ Some k) × Sits routes u.route u.place k × (test u ≡ Some s)
+    by None e told = absurd (none_some s told)
+    by (Some u) e told = (m, u, refl, (seat_of-found routes m u e).sits, told)
 
 -- the pickup of a delivery is its partner
 partner_from_pickup : (p : Instance) (n m : ℕ) → pickup_at p n ≡ Some m → partner_at p n ≡ Some m
@@ -153,23 +157,18 @@ module _ (p : Instance) (routes : List (List ℕ)) where
       ]
 
   pub split_rule : ((r i n : ℕ) → IsRepeated p routes r i n → ⊥) → IsTestOf (IsSplit p routes) (λ r _ _ n. split_at p routes r n) routes
-  split_rule once = record { to = λ r i s t. to r i s t (partner_at p t.1) refl; from = from }
+  split_rule once = record { to = to; from = from }
     where
-      to : (r i s : ℕ) (t : Spot (λ r _ _ n. split_at p routes r n) routes r i s) (o : Option ℕ) → partner_at p (t.1) ≡ o → IsSplit p routes (suc r) (suc i) s
-      to r i s t None e = absurd (none_some s (let h : split_test routes r t.1 (partner_at p t.1) ≡ Some s = t.4 in rw e at h))
-      to r i s t (Some m) e = by (seat_of routes m) refl (let h : split_test routes r t.1 (partner_at p t.1) ≡ Some s = t.4 in rw e at h)
+      to : (r i s : ℕ) (t : Spot (λ r _ _ n. split_at p routes r n) routes r i s) → IsSplit p routes (suc r) (suc i) s
+      to r i s t =
+          let found = seat_told routes (λ u. cond (eqb u.route r) None (Some t.1)) (partner_at p t.1) s t.4 in
+          away found.0 found.1 found.2 found.3 (eqb_tells found.1.route r) found.4
         where
-          by : (o : Option Seat) → seat_of routes m ≡ o → split_seat r (t.1) (seat_of routes m) ≡ Some s → IsSplit p routes (suc r) (suc i) s
-          by None f told = absurd (none_some s (rw f at told))
-          by (Some u) f told =
-              let told' : split_seat r (t.1) (Some u) ≡ Some s = (rw f at told) in
-              away (eqb_tells u.route r) told' (seat_of-found routes m u f).sits
-            where
-              away : ((eqb u.route r ≡ true) × (u.route ≡ r)) ⊎ ((eqb u.route r ≡ false) × (u.route ≢ r)) → cond (eqb u.route r) None (Some (t.1)) ≡ Some s → Sits routes u.route u.place m → IsSplit p routes (suc r) (suc i) s
-              away (inl a) told sits = absurd (none_some s (rw (a.0) at told))
-              away (inr a) told sits =
-                  let same : t.1 ≡ s = some_same _ _ (rw (a.0) at told) in
-                  ((t.0, t.2, subst (λ n. slice_get t.0 i ≡ Some n) same t.3), (m, subst (λ n. partner_at p n ≡ Some m) same e, (suc u.route, suc u.place, (λ h. a.1 (omega arith)), sits)))
+          away : (m : ℕ) (u : Seat) → partner_at p (t.1) ≡ Some m → Sits routes u.route u.place m → ((eqb u.route r ≡ true) × (u.route ≡ r)) ⊎ ((eqb u.route r ≡ false) × (u.route ≢ r)) → cond (eqb u.route r) None (Some (t.1)) ≡ Some s → IsSplit p routes (suc r) (suc i) s
+          away m u e sits (inl a) told = absurd (none_some s (rw (a.0) at told))
+          away m u e sits (inr a) told =
+              let same : t.1 ≡ s = some_same _ _ (rw (a.0) at told) in
+              ((t.0, t.2, subst (λ n. slice_get t.0 i ≡ Some n) same t.3), (m, subst (λ n. partner_at p n ≡ Some m) same e, (suc u.route, suc u.place, (λ h. a.1 (omega arith)), sits)))
 
       from : (r i s : ℕ) → IsSplit p routes r i s → (q : ℕ) × (j : ℕ) × (r ≡ suc q) × (i ≡ suc j) × Spot (λ r _ _ n. split_at p routes r n) routes q j s
       from r i s b =
@@ -189,26 +188,21 @@ module _ (p : Instance) (routes : List (List ℕ)) where
               away (inr a) ne = rw (a.0) refl
 
   pub delivered_rule : ((r i n : ℕ) → IsRepeated p routes r i n → ⊥) → ((r i n : ℕ) → IsSplit p routes r i n → ⊥) → IsTestOf (IsDeliveredFirst p routes) (λ _ _ i n. delivered_at p routes i n) routes
-  delivered_rule once whole = record { to = λ r i s t. to r i s t (pickup_at p t.1) refl; from = from }
+  delivered_rule once whole = record { to = to; from = from }
     where
-      to : (r i s : ℕ) (t : Spot (λ _ _ i n. delivered_at p routes i n) routes r i s) (o : Option ℕ) → pickup_at p (t.1) ≡ o → IsDeliveredFirst p routes (suc r) (suc i) s
-      to r i s t None e = absurd (none_some s (let h : delivered_test routes i t.1 (pickup_at p t.1) ≡ Some s = t.4 in rw e at h))
-      to r i s t (Some m) e = by (seat_of routes m) refl (let h : delivered_test routes i t.1 (pickup_at p t.1) ≡ Some s = t.4 in rw e at h)
+      to : (r i s : ℕ) (t : Spot (λ _ _ i n. delivered_at p routes i n) routes r i s) → IsDeliveredFirst p routes (suc r) (suc i) s
+      to r i s t =
+          let found = seat_told routes (λ u. cond (nat_lt i u.place) (Some t.1) None) (pickup_at p t.1) s t.4 in
+          later found.0 found.1 found.2 found.3 (nat_lt i found.1.place) refl found.4 (eqb_tells found.1.route r)
         where
-          by : (o : Option Seat) → seat_of routes m ≡ o → delivered_seat i (t.1) (seat_of routes m) ≡ Some s → IsDeliveredFirst p routes (suc r) (suc i) s
-          by None f told = absurd (none_some s (rw f at told))
-          by (Some u) f told =
-              let told' : delivered_seat i (t.1) (Some u) ≡ Some s = (rw f at told) in
-              later (nat_lt i u.place) refl told' (seat_of-found routes m u f).sits (eqb_tells u.route r)
-            where
-              later : (b : Bool) → nat_lt i u.place ≡ b → cond (nat_lt i u.place) (Some (t.1)) None ≡ Some s → Sits routes u.route u.place m → ((eqb u.route r ≡ true) × (u.route ≡ r)) ⊎ ((eqb u.route r ≡ false) × (u.route ≢ r)) → IsDeliveredFirst p routes (suc r) (suc i) s
-              later false lt told sits where_to = absurd (none_some s (rw lt at told))
-              later true lt told sits (inr a) =
-                  absurd (whole (suc r) (suc i) t.1 ((t.0, t.2, t.3), (m, partner_from_pickup p t.1 m e, (suc u.route, suc u.place, (λ h. a.1 (omega arith)), sits))))
-              later true lt told sits (inl a) =
-                  let same : t.1 ≡ s = some_same _ _ (rw lt at told) in
-                  let after : i < u.place = ltb-true i u.place lt in
-                  ((t.0, t.2, subst (λ n. slice_get t.0 i ≡ Some n) same t.3), (m, subst (λ n. pickup_at p n ≡ Some m) same e, (suc u.place, omega arith, subst (λ q. Sits routes q u.place m) (a.1) sits)))
+          later : (m : ℕ) (u : Seat) → pickup_at p (t.1) ≡ Some m → Sits routes u.route u.place m → (b : Bool) → nat_lt i u.place ≡ b → cond (nat_lt i u.place) (Some (t.1)) None ≡ Some s → ((eqb u.route r ≡ true) × (u.route ≡ r)) ⊎ ((eqb u.route r ≡ false) × (u.route ≢ r)) → IsDeliveredFirst p routes (suc r) (suc i) s
+          later m u e sits false lt told where_to = absurd (none_some s (rw lt at told))
+          later m u e sits true lt told (inr a) =
+              absurd (whole (suc r) (suc i) t.1 ((t.0, t.2, t.3), (m, partner_from_pickup p t.1 m e, (suc u.route, suc u.place, (λ h. a.1 (omega arith)), sits))))
+          later m u e sits true lt told (inl a) =
+              let same : t.1 ≡ s = some_same _ _ (rw lt at told) in
+              let after : i < u.place = ltb-true i u.place lt in
+              ((t.0, t.2, subst (λ n. slice_get t.0 i ≡ Some n) same t.3), (m, subst (λ n. pickup_at p n ≡ Some m) same e, (suc u.place, omega arith, subst (λ q. Sits routes q u.place m) (a.1) sits)))
 
       from : (r i s : ℕ) → IsDeliveredFirst p routes r i s → (q : ℕ) × (j : ℕ) × (r ≡ suc q) × (i ≡ suc j) × Spot (λ _ _ i n. delivered_at p routes i n) routes q j s
       from r i s b =

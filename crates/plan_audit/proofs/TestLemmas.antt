@@ -30,7 +30,7 @@ true_all test [] each = refl
 true_all test (y ∷ xs) each = and_from (test y) (list_all test xs) (each zero y refl) (true_all test xs (λ k x at. each (suc k) x at))
 
 -- and of the numbers of a range
-range_true : (test : ℕ → Bool) (a n : ℕ) → list_all test (range_with_len a n) ≡ true → (i : ℕ) → a ≤ i → i < a + n → test i ≡ true
+pub range_true : (test : ℕ → Bool) (a n : ℕ) → list_all test (range_with_len a n) ≡ true → (i : ℕ) → a ≤ i → i < a + n → test i ≡ true
 range_true test a zero all i from to = absurd (omega arith)
 range_true test a (suc n) all i from to =
     let both = and_parts (test a) (list_all test (range_with_len (a + 1) n)) all in
@@ -39,7 +39,7 @@ range_true test a (suc n) all i from to =
       | inr ge ↦ (let same : a ≡ i = omega arith in subst (λ k. test k ≡ true) same both.0)
     ]
 
-true_range : (test : ℕ → Bool) (a n : ℕ) → ((i : ℕ) → a ≤ i → i < a + n → test i ≡ true) → list_all test (range_with_len a n) ≡ true
+pub true_range : (test : ℕ → Bool) (a n : ℕ) → ((i : ℕ) → a ≤ i → i < a + n → test i ≡ true) → list_all test (range_with_len a n) ≡ true
 true_range test a zero each = refl
 true_range test a (suc n) each =
     and_from (test a) (list_all test (range_with_len (a + 1) n)) (each a (omega arith) (omega arith))

@@ -1,5 +1,5 @@
 -- How the auditor looks for the first place that breaks a rule. Here routes and places count from 0, as in the code.
-use Rattle.std.specs.Prelude.{◌≡◌, ℕ, ◌+◌, ◌-◌, ◌<◌, nat_lt, ◌==◌, ◌&&◌, ◌||◌, not, List, [], ◌∷◌, Option, Some, None, is_some, if◌then◌else◌, Bool, int_lt, pos, length, false, slice_get, unwrap_or}
+use Rattle.std.specs.Prelude.{◌≡◌, ℕ, ◌+◌, ◌-◌, ◌^◌, ◌<◌, nat_lt, IfSome, ◌==◌, ◌&&◌, ◌||◌, not, List, [], ◌∷◌, Option, Some, None, is_some, if◌then◌else◌, Bool, int_lt, pos, length, false, slice_get, unwrap_or}
 use Rattle.route_sched.specs.Schedule.{start}
 use Rattle.route_sched.specs.Visiting.{visit_after, visits_from}
 use Rattle.route_sched.specs.declared.visits.Visit.{Visit}
@@ -24,6 +24,12 @@ first_place test k (n ∷ ns) = option_or (option_map (λ s. record { place = k;
 abbrev pub first_route : (ℕ → List ℕ → Option Told) → ℕ → List (List ℕ) → Option Fault
 first_route test k [] = None
 first_route test k (r ∷ rs) = option_or (option_map (λ t. record { route = k; place = t.place; stop = t.stop }) (test k r)) (first_route test (k + 1) rs)
+
+-- it is what is told first; routes and places can be counted from 1 as well
+pub record IsFirstTold (test : ℕ → List ℕ → Option Told) (routes : List (List ℕ)) (o : Option Fault) : Type 0 where
+  pub told : o ≡ first_route test 0 routes
+  pub route : IfSome o (λ f. f.route + 1 < 2 ^ 64)
+  pub place : IfSome o (λ f. f.place + 1 < 2 ^ 64)
 
 -- what a test of places tells of each route
 abbrev pub told_by : (ℕ → List ℕ → ℕ → ℕ → Option ℕ) → ℕ → List ℕ → Option Told

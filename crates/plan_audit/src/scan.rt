@@ -2,7 +2,7 @@
 //! without one.
 ghost use Rattle.std.specs.Prelude.{◌≡◌, ℕ, ◌^◌, ◌+◌, ◌<◌, ◌≤◌, length, List, None, Option, All, IfSome, slice_index_or, slice_get};
 ghost use Rattle.std.specs.Option.{option_and_then};
-ghost use Rattle.plan_audit.specs.Finding.{first_place, first_route, told_by, first_unserved, unserved_in, seat_of, unknown_at, repeated_at, missing_at, split_at, delivered_at};
+ghost use Rattle.plan_audit.specs.Finding.{first_place, IsFirstTold, told_by, first_unserved, unserved_in, seat_of, unknown_at, repeated_at, missing_at, split_at, delivered_at};
 ghost use Rattle.route_sched.specs.Cost.{has_stop, is_planned, unplanned_count};
 ghost use Rattle.plan_types.specs.Laws.{IsBelowNext};
 
@@ -32,11 +32,9 @@ impl Scan<'_> {
 
     /// The first stop of the plan that is of no request.
     pub(crate) fn first_unknown(&self) -> Option<Fault>
-        ensures told { result ≡ first_route
-            (told_by (λ _ _ _ n. unknown_at self.now.problem.now self.now.routes.now n)) 0
-            self.now.routes.now }
-        ensures route { IfSome result (λ f. f.route + 1 < 2 ^ 64) }
-        ensures place { IfSome result (λ f. f.place + 1 < 2 ^ 64) }
+        ensures { IsFirstTold
+            (told_by (λ _ _ _ n. unknown_at self.now.problem.now self.now.routes.now n))
+            self.now.routes.now result }
     {
         first_fault(self.routes, |_, route| self.unknown(route))
     }
@@ -45,44 +43,36 @@ impl Scan<'_> {
     pub(crate) fn first_repeated(&self) -> Option<Fault>
         requires { All (λ route. All (λ n. n < self.now.problem.now.next_number) route)
             self.now.routes.now }
-        ensures told { result ≡ first_route
-            (told_by (λ r _ i n. repeated_at self.now.problem.now self.now.routes.now r i n)) 0
-            self.now.routes.now }
-        ensures route { IfSome result (λ f. f.route + 1 < 2 ^ 64) }
-        ensures place { IfSome result (λ f. f.place + 1 < 2 ^ 64) }
+        ensures { IsFirstTold
+            (told_by (λ r _ i n. repeated_at self.now.problem.now self.now.routes.now r i n))
+            self.now.routes.now result }
     {
         first_fault(self.routes, |number, route| self.repeated(number, route))
     }
 
     /// The first stop of the plan whose partner is in no route; the partner is told.
     pub(crate) fn first_missing(&self) -> Option<Fault>
-        ensures told { result ≡ first_route
-            (told_by (λ _ _ _ n. missing_at self.now.problem.now self.now.routes.now n)) 0
-            self.now.routes.now }
-        ensures route { IfSome result (λ f. f.route + 1 < 2 ^ 64) }
-        ensures place { IfSome result (λ f. f.place + 1 < 2 ^ 64) }
+        ensures { IsFirstTold
+            (told_by (λ _ _ _ n. missing_at self.now.problem.now self.now.routes.now n))
+            self.now.routes.now result }
     {
         first_fault(self.routes, |_, route| self.missing(route))
     }
 
     /// The first stop of the plan whose partner is in another route.
     pub(crate) fn first_split(&self) -> Option<Fault>
-        ensures told { result ≡ first_route
-            (told_by (λ r _ _ n. split_at self.now.problem.now self.now.routes.now r n)) 0
-            self.now.routes.now }
-        ensures route { IfSome result (λ f. f.route + 1 < 2 ^ 64) }
-        ensures place { IfSome result (λ f. f.place + 1 < 2 ^ 64) }
+        ensures { IsFirstTold
+            (told_by (λ r _ _ n. split_at self.now.problem.now self.now.routes.now r n))
+            self.now.routes.now result }
     {
         first_fault(self.routes, |number, route| self.split(number, route))
     }
 
     /// The first delivery of the plan whose pickup stands later in its route.
     pub(crate) fn first_delivered(&self) -> Option<Fault>
-        ensures told { result ≡ first_route
-            (told_by (λ _ _ i n. delivered_at self.now.problem.now self.now.routes.now i n)) 0
-            self.now.routes.now }
-        ensures route { IfSome result (λ f. f.route + 1 < 2 ^ 64) }
-        ensures place { IfSome result (λ f. f.place + 1 < 2 ^ 64) }
+        ensures { IsFirstTold
+            (told_by (λ _ _ i n. delivered_at self.now.problem.now self.now.routes.now i n))
+            self.now.routes.now result }
     {
         first_fault(self.routes, |_, route| self.delivered(route))
     }

@@ -7,7 +7,7 @@ ghost use Rattle.route_sched.specs.Cost.{cost_of, unplanned_count};
 ghost use Rattle.route_sched.specs.Route.{AreLiveOnce};
 ghost use Rattle.route_sched.specs.Schedule.{start, route_length};
 ghost use Rattle.route_sched.specs.declared.visits.Visit.{Visit};
-ghost use Rattle.plan_audit.specs.Finding.{first_place, first_route, told_by, return_told, visit_told, is_overloaded, is_late, breaks_window, breaks_limits, KeepsLimits};
+ghost use Rattle.plan_audit.specs.Finding.{first_place, IsFirstTold, told_by, return_told, visit_told, is_overloaded, is_late, breaks_window, breaks_limits, KeepsLimits};
 ghost use Rattle.plan_audit.specs.Verdict.{Subject, routes_of, KeepsRules};
 
 use crate::faults::{Fault, Told, first_fault};
@@ -75,11 +75,9 @@ fn breaks_window(kind: Kind, visit: &Visit) -> bool
 /// The first stop of the plan after which a vehicle carries more than it can.
 pub(crate) fn first_overload(problem: &Problem, routes: &[Route]) -> Option<Fault>
     requires { All (AreLiveOnce problem.now) routes.now }
-    ensures told { result ≡ first_route
-        (told_by (λ _ route i n. visit_told problem.now (is_overloaded problem.now) route i n)) 0
-        routes.now }
-    ensures route { IfSome result (λ f. f.route + 1 < 2 ^ 64) }
-    ensures place { IfSome result (λ f. f.place + 1 < 2 ^ 64) }
+    ensures { IsFirstTold
+        (told_by (λ _ route i n. visit_told problem.now (is_overloaded problem.now) route i n))
+        routes.now result }
 {
     first_fault(routes, |_, route| overload(problem, route))
 }
@@ -87,10 +85,8 @@ pub(crate) fn first_overload(problem: &Problem, routes: &[Route]) -> Option<Faul
 /// The first stop of the plan whose service starts too late.
 pub(crate) fn first_late(problem: &Problem, routes: &[Route]) -> Option<Fault>
     requires { All (AreLiveOnce problem.now) routes.now }
-    ensures told { result ≡ first_route
-        (told_by (λ _ route i n. visit_told problem.now is_late route i n)) 0 routes.now }
-    ensures route { IfSome result (λ f. f.route + 1 < 2 ^ 64) }
-    ensures place { IfSome result (λ f. f.place + 1 < 2 ^ 64) }
+    ensures { IsFirstTold
+        (told_by (λ _ route i n. visit_told problem.now is_late route i n)) routes.now result }
 {
     first_fault(routes, |_, route| late_stop(problem, route))
 }
@@ -98,9 +94,7 @@ pub(crate) fn first_late(problem: &Problem, routes: &[Route]) -> Option<Fault>
 /// The first vehicle of the plan that is back too late; the place behind its last stop is told.
 pub(crate) fn first_late_return(problem: &Problem, routes: &[Route]) -> Option<Fault>
     requires { All (AreLiveOnce problem.now) routes.now }
-    ensures told { result ≡ first_route (λ _ route. return_told problem.now route) 0 routes.now }
-    ensures route { IfSome result (λ f. f.route + 1 < 2 ^ 64) }
-    ensures place { IfSome result (λ f. f.place + 1 < 2 ^ 64) }
+    ensures { IsFirstTold (λ _ route. return_told problem.now route) routes.now result }
 {
     first_fault(routes, |_, route| late_return(problem, route))
 }
