@@ -2,6 +2,7 @@
 use Rattle.std.proofs.Common.{◌≡◌, ◌⊎◌, inl, inr, ℕ, zero, suc, ◌+◌, ◌*◌, ◌%◌, ◌<◌, ◌≤◌, List, [], ◌∷◌, length, take, drop, refl, sym, ◌∙◌, ap, subst, arith, length-take}
 use Rattle.std.specs.Prelude.{◌^◌, slice_index, slice_index_or, All}
 use Rattle.std.proofs.lemmas.List.{take-take, drop-take, get_or_read}
+use Rattle.std.proofs.lemmas.List.Elements.{All-nil, All-cons}
 use Rattle.std.proofs.Math.Nat.{mod-eq_of_lt}
 use Rattle.std.proofs.lemmas.Bool.{cases_lt}
 use Rattle.sector_disk.specs.Image.{sector}
@@ -63,13 +64,9 @@ slice_index-tabulate zero f i lt = absurd (omega arith)
 slice_index-tabulate (suc n) f zero lt = refl
 slice_index-tabulate (suc n) f (suc i) lt = slice_index-tabulate n (λ i. f (suc i)) i (omega arith)
 
-All-cons : (P : ℕ → Type 0) (x : ℕ) (xs : List ℕ) → P x → All P xs → All P (x ∷ xs)
-All-cons P x xs first rest zero d lt = first
-All-cons P x xs first rest (suc i) d lt = rest i d (omega arith)
-
 All-tabulate : (P : ℕ → Type 0) (n : ℕ) (f : ℕ → ℕ) → ((i : ℕ) → i < n → P (f i)) → All P (tabulate n f)
 unfolding tabulate
-All-tabulate P zero f each = λ i d lt. absurd (omega arith)
+All-tabulate P zero f each = All-nil P
 All-tabulate P (suc n) f each = All-cons P (f 0) (tabulate n (λ i. f (suc i))) (each 0 (omega arith)) (All-tabulate P n (λ i. f (suc i)) (λ i lt. each (suc i) (omega arith)))
 
 pub has_choices : HasChoices

@@ -1,7 +1,7 @@
 -- No call of an opening tells a bad length.
-use Rattle.std.proofs.Common.{◌≡◌, Bool, true, false, cond, List, [], ◌∷◌, Option, Some, None, refl, sym, ◌∙◌, ap}
+use Rattle.std.proofs.Common.{◌≡◌, Bool, true, false, List, [], ◌∷◌, Option, Some, None, refl, sym, ◌∙◌, ap}
 use Rattle.std.specs.Option.{option_or}
-use Rattle.std.proofs.lemmas.Bool.{false≢true}
+use Rattle.std.proofs.lemmas.Bool.{cond_both, false≢true}
 use Rattle.std.specs.declared.io.ErrorKind.{ErrorKind}
 use Rattle.sector_disk.specs.declared.file_device.FileFault.{FileFault}
 use Rattle.sector_disk.specs.declared.file_device.FileFault.TheVariants as faults
@@ -18,25 +18,13 @@ is_length (Some faults.OutOfMemory) = false
 is_length (Some faults.InUse) = false
 
 of_kind : (kind : ErrorKind) → is_length (Some (fault_of kind)) ≡ false
-of_kind kind = by_test (is_memory kind)
-  where
-    by_test : (b : Bool) → is_length (Some (cond b faults.OutOfMemory faults.NoFile)) ≡ false
-    by_test true = refl
-    by_test false = refl
+of_kind kind = cond_both (is_memory kind) faults.OutOfMemory faults.NoFile (λ fault. is_length (Some fault) ≡ false) (λ _. refl) (λ _. refl)
 
 of_lock : (kind : ErrorKind) → is_length (Some (lock_fault kind)) ≡ false
-of_lock kind = by_test (is_in_use kind)
-  where
-    by_test : (b : Bool) → is_length (Some (cond b faults.InUse (fault_of kind))) ≡ false
-    by_test true = refl
-    by_test false = of_kind kind
+of_lock kind = cond_both (is_in_use kind) faults.InUse (fault_of kind) (λ fault. is_length (Some fault) ≡ false) (λ _. refl) (λ _. of_kind kind)
 
 of_folder : (kind : ErrorKind) → is_length (folder_fault kind) ≡ false
-of_folder kind = by_test (is_not_offered kind)
-  where
-    by_test : (b : Bool) → is_length (cond b None (Some (fault_of kind))) ≡ false
-    by_test true = refl
-    by_test false = of_kind kind
+of_folder kind = cond_both (is_not_offered kind) None (Some (fault_of kind)) (λ fault. is_length fault ≡ false) (λ _. refl) (λ _. of_kind kind)
 
 of_call : (call : SystemCall) → is_length (fault_in call) ≡ false
 of_call (Open None) = refl
