@@ -1,7 +1,7 @@
 -- Records of commands.
-use Rattle.std.proofs.Common.{◌≡◌, ℕ, zero, suc, ◌+◌, ◌-◌, ◌^◌, ◌<◌, ◌≤◌, List, [], ◌∷◌, ◌++◌, length, replicate, refl, sym, ◌∙◌, ap, subst, arith, append_assoc, length-append, get_or}
+use Rattle.std.proofs.Common.{◌≡◌, ℕ, suc, ◌+◌, ◌-◌, ◌^◌, ◌<◌, ◌≤◌, List, [], ◌∷◌, ◌++◌, length, replicate, refl, sym, ◌∙◌, ap, subst, arith, append_assoc, length-append}
 use Rattle.std.proofs.Math.Nat.{mod-eq_of_lt}
-use Rattle.std.proofs.lemmas.List.Elements.{All-append}
+use Rattle.std.proofs.lemmas.List.Elements.{All-push}
 use Rattle.byteorder.specs.Endian.{big_bytes}
 use Rattle.byteorder.specs.Numbers.{big_from-bytes}
 use Rattle.command_core.specs.declared.states.State.{State}
@@ -46,7 +46,7 @@ holds_more image state commands command place known held recorded stored =
       used = omega (arith, held.used, length-append commands (command ∷ []));
       facts = held.facts;
       told = held.told;
-      recorded = All-append (IsRecorded Two) commands (command ∷ []) held.recorded (λ k d below. elim k as (λ k. k < 1 → IsRecorded Two (get_or (command ∷ []) k d)) [ zero ↦ λ h. recorded | suc k ↦ λ h. absurd (omega (arith, h)) ] below);
+      recorded = All-push (IsRecorded Two) commands command held.recorded recorded;
       numbers = tt;
     }
 

@@ -1,6 +1,6 @@
 -- The records of a front, one after the other.
-use Rattle.std.proofs.Common.{◌≡◌, ◌≢◌, ℕ, zero, suc, ◌+◌, ◌<◌, List, [], ◌∷◌, ◌++◌, length, get_or, All, refl, sym, ◌∙◌, ap, subst, arith, length-append}
-use Rattle.std.proofs.lemmas.List.Elements.{All-append}
+use Rattle.std.proofs.Common.{◌≡◌, ◌≢◌, ℕ, suc, ◌+◌, ◌<◌, List, [], ◌∷◌, ◌++◌, length, refl, sym, ◌∙◌, ap, subst, arith, length-append}
+use Rattle.std.proofs.lemmas.List.Elements.{All-push}
 use Rattle.sector_disk.specs.Image.{sector}
 use Rattle.command_core.specs.declared.commands.Command.{Command}
 use Rattle.state_codec.specs.declared.version.Version.{Version}
@@ -16,9 +16,6 @@ module _ (version : Version) (image : List ℕ) (sequence : ℕ) where
   pub none_led : IsLed version image sequence []
   none_led = record { records = refl; recorded = λ k d below. absurd (omega (arith, below)) }
 
-  pub one : (command : Command) → IsRecorded version command → All (IsRecorded version) (command ∷ [])
-  one command recorded = λ k d below. elim k as (λ k. k < 1 → IsRecorded version (get_or (command ∷ []) k d)) [ zero ↦ λ h. recorded | suc k ↦ λ h. absurd (omega (arith, h)) ] below
-
   pub more_led : (commands : List Command) (command : Command) (index : ℕ) → length commands ≡ index → IsLed version image sequence commands → IsRecorded version command
       → sector (2 + index) image ≡ record_bytes version sequence index command → IsLed version image sequence (commands ++ command ∷ [])
   more_led commands command index count led recorded is =
@@ -30,7 +27,7 @@ module _ (version : Version) (image : List ℕ) (sequence : ℕ) where
         records = ap (λ (n : ℕ). record_sectors 0 n image) long ∙ record_sectors-more 0 (length commands) image
             ∙ ap (λ (l : List (List ℕ)). l ++ sector (2 + (0 + length commands)) image ∷ []) led.records ∙ ap (λ (s : List ℕ). journal version sequence 0 commands ++ s ∷ []) same
             ∙ sym (journal-more version sequence 0 commands command);
-        recorded = All-append (IsRecorded version) commands (command ∷ []) led.recorded (one command recorded);
+        recorded = All-push (IsRecorded version) commands command led.recorded recorded;
       }
 
   pub led_to : (commands : List Command) (index : ℕ) → length commands ≡ index → index < 256 → IsLed version image sequence commands

@@ -1,12 +1,13 @@
 -- What the parts that are read make of an image.
-use Rattle.std.proofs.Common.{◌≡◌, inl, inr, ℕ, zero, suc, ◌+◌, ◌*◌, ◌<◌, ◌≤◌, ◌^◌, List, [], ◌∷◌, length, drop, Result, Ok, Err, IfErr, MatchResult, refl, sym, ◌∙◌, ap, subst, arith, length-take, length-drop}
+use Rattle.std.proofs.Common.{◌≡◌, inl, inr, ℕ, zero, suc, ◌+◌, ◌*◌, ◌<◌, ◌≤◌, ◌^◌, List, [], ◌∷◌, length, drop, All, Result, Ok, Err, IfErr, MatchResult, refl, sym, ◌∙◌, ap, subst, arith, length-take, length-drop}
+use Rattle.std.proofs.lemmas.List.Elements.{All-head, All-tail}
 use Rattle.sector_disk.specs.Image.{sector}
 use Rattle.command_core.specs.Runs.{IsState}
 use Rattle.command_core.specs.declared.states.State.{State}
 use Rattle.command_core.specs.declared.commands.Command.{Command}
 use Rattle.state_codec.specs.declared.version.Version.{Version}
 use Rattle.state_codec.specs.Bytes.{state_bytes, record_bytes}
-use Rattle.state_codec.specs.Limits.{IsStateOf}
+use Rattle.state_codec.specs.Limits.{IsStateOf, IsRecorded}
 use Rattle.checkpoint.specs.declared.headers.Header.{Header}
 use Rattle.checkpoint.specs.Numbers.{HaveNumbers}
 use Rattle.checkpoint.specs.Layouts.{half_at}
@@ -25,16 +26,18 @@ use Rattle.checkpoint.proofs.Carried.{half_inside}
 use Rattle.checkpoint.proofs.Journals.{record_begins, length-journal}
 use Rattle.checkpoint.proofs.Heads.{in_front}
 
--- the records begin with their sequence
-pub marked : (version : Version) (image : List ℕ) (sequence index : ℕ) (commands : List Command) → sequence < 2 ^ 64 → record_sectors index (length commands) image ≡ journal version sequence index commands
-    → (i : ℕ) → i < length commands → begins_with (sector (2 + (index + i)) image) ≡ sequence
-marked version image sequence index [] fits same i below = absurd (omega (arith, below))
-marked version image sequence index (command ∷ commands) fits same zero below =
+-- a sector of the records, by its command
+pub record_there : (version : Version) (image : List ℕ) (sequence index : ℕ) (commands : List Command) → All (IsRecorded version) commands
+    → record_sectors index (length commands) image ≡ journal version sequence index commands → (i : ℕ) → i < length commands
+    → (command : Command) × IsRecorded version command × (sector (2 + (index + i)) image ≡ record_bytes version sequence (index + i) command)
+record_there version image sequence index [] recorded same i below = absurd (omega (arith, below))
+record_there version image sequence index (command ∷ commands) recorded same zero below =
     let first : sector (2 + index) image ≡ record_bytes version sequence index command = cc in
-    ap (λ (k : ℕ). begins_with (sector (2 + k) image)) (let e : index + 0 ≡ index = omega arith in e) ∙ ap begins_with first ∙ record_begins version sequence index command fits
-marked version image sequence index (command ∷ commands) fits same (suc i) below =
+    (command, All-head (IsRecorded version) command commands recorded, subst (λ (k : ℕ). sector (2 + k) image ≡ record_bytes version sequence k command) (let e : index ≡ index + 0 = omega arith in e) first)
+record_there version image sequence index (command ∷ commands) recorded same (suc i) below =
     let rest : record_sectors (suc index) (length commands) image ≡ journal version sequence (suc index) commands = cc in
-    ap (λ (k : ℕ). begins_with (sector (2 + k) image)) (let e : index + suc i ≡ suc index + i = omega arith in e) ∙ marked version image sequence (suc index) commands fits rest i (omega (arith, below))
+    let found = record_there version image sequence (suc index) commands (All-tail (IsRecorded version) command commands recorded) rest i (omega (arith, below)) in
+    (found.0, found.1, subst (λ (k : ℕ). sector (2 + k) image ≡ record_bytes version sequence k found.0) (let e : suc index + i ≡ index + suc i = omega arith in e) found.2)
 
 -- what an image holds, by its parts
 module _ (version : Version) (image : List ℕ) (header : Header) (counts : Counts (layout_of version) image header) where
@@ -54,7 +57,9 @@ module _ (version : Version) (image : List ℕ) (header : Header) (counts : Coun
           snapshot = ap (λ (n : ℕ). snapshot_in (layout_of version) image header.sequence n) (sym size) ∙ snapshot;
           count = omega (arith, long, has.count);
           records = ap (λ (n : ℕ). record_sectors 0 n image) long ∙ has.led.records;
-          marked = λ i below. ap (λ (k : ℕ). begins_with (sector (2 + k) image)) (let e : i ≡ 0 + i = omega arith in e) ∙ marked version image header.sequence 0 commands fits has.led.records i (omega (arith, below, long));
+          marked = λ i below.
+              let found = record_there version image header.sequence 0 commands has.led.recorded has.led.records i (omega (arith, below, long)) in
+              ap (λ (k : ℕ). begins_with (sector (2 + k) image)) (let e : i ≡ 0 + i = omega arith in e) ∙ ap begins_with found.2 ∙ record_begins version header.sequence (0 + i) found.0 fits;
           rest = λ i from to. clear i (omega (arith, from, long)) to;
         };
         used = is_used;

@@ -1,5 +1,5 @@
 -- An image holds at most one thing, and never beside a cause to hold nothing.
-use Rattle.std.proofs.Common.{◌^◌, ◌≡◌, ◌≢◌, ◌⊎◌, ⊎_elim, inl, inr, ℕ, zero, suc, ◌+◌, ◌%◌, ◌<◌, ◌≤◌, List, [], ◌∷◌, length, All, Err, refl, sym, ◌∙◌, ap, subst, arith}
+use Rattle.std.proofs.Common.{◌^◌, ◌≡◌, ◌≢◌, ◌⊎◌, ⊎_elim, inl, inr, ℕ, suc, ◌+◌, ◌%◌, ◌<◌, ◌≤◌, List, [], ◌∷◌, length, All, Err, refl, sym, ◌∙◌, ap, subst, arith}
 use Rattle.std.proofs.lemmas.Bool.{cases_lt}
 use Rattle.std.proofs.lemmas.List.Elements.{All-head, All-tail}
 use Rattle.sector_disk.specs.Image.{sector}
@@ -22,6 +22,7 @@ use Rattle.checkpoint.specs.Stores.{Counts, snapshot_in, record_sectors, begins_
 use Rattle.checkpoint.specs.Holds.{Holds, layout_of, journal}
 use Rattle.checkpoint.specs.Reads.{HasRecords, HasStrayFrom}
 use Rattle.checkpoint.specs.Holdless.{HasBadJournal, IsAstray, IsRefusedFor, IsBroken, HoldsNothing}
+use Rattle.checkpoint.proofs.Loading.{record_there}
 use Rattle.checkpoint.proofs.HeaderBytes.{small_half, read_of, read_back}
 use Rattle.checkpoint.proofs.Journals.{record_begins, length-journal}
 
@@ -36,19 +37,6 @@ same_counting version image a b counts_a counts_b =
     ∙ ap read_of bytes ∙ read_back (layout_of version).version b (omega (arith, counts_b.valid.last)) (omega (arith, counts_b.valid.fits, small_half version))
 
 -- ---- records
-
--- a sector of the records, by its command
-record_there : (version : Version) (image : List ℕ) (sequence index : ℕ) (commands : List Command) → All (IsRecorded version) commands
-    → record_sectors index (length commands) image ≡ journal version sequence index commands → (i : ℕ) → i < length commands
-    → (command : Command) × IsRecorded version command × (sector (2 + (index + i)) image ≡ record_bytes version sequence (index + i) command)
-record_there version image sequence index [] recorded same i below = absurd (omega (arith, below))
-record_there version image sequence index (command ∷ commands) recorded same zero below =
-    let first : sector (2 + index) image ≡ record_bytes version sequence index command = cc in
-    (command, All-head (IsRecorded version) command commands recorded, subst (λ (k : ℕ). sector (2 + k) image ≡ record_bytes version sequence k command) (let e : index ≡ index + 0 = omega arith in e) first)
-record_there version image sequence index (command ∷ commands) recorded same (suc i) below =
-    let rest : record_sectors (suc index) (length commands) image ≡ journal version sequence (suc index) commands = cc in
-    let found = record_there version image sequence (suc index) commands (All-tail (IsRecorded version) command commands recorded) rest i (omega (arith, below)) in
-    (found.0, found.1, subst (λ (k : ℕ). sector (2 + k) image ≡ record_bytes version sequence k found.0) (let e : suc index + i ≡ index + suc i = omega arith in e) found.2)
 
 abbrev place_of : ℕ → ℕ → Place
 place_of sequence used = record { sequence = sequence; used = used }
