@@ -1,5 +1,5 @@
 -- What a command makes of a session, by what its commit did.
-use Rattle.std.proofs.Common.{◌≡◌, ⊎_elim, ℕ, ◌+◌, ◌<◌, ◌≤◌, Bool, true, false, ◌&&◌, ◌||◌, not, List, [], ◌∷◌, refl, subst, arith}
+use Rattle.std.proofs.Common.{◌≡◌, ◌≢◌, ⊎_elim, ℕ, ◌+◌, ◌<◌, ◌≤◌, Bool, true, false, ◌&&◌, ◌||◌, not, List, [], ◌∷◌, refl, subst, arith}
 use Rattle.std.specs.Prelude.{◌^◌, ◌==◌, Ok, Err, Option, Some, None, if◌then◌else◌}
 use Rattle.std.specs.Option.{option_map, option_or}
 use Rattle.std.proofs.lemmas.Bool.{le-leb, lt-leb, cases_lt}
@@ -30,57 +30,32 @@ use Rattle.recover.proofs.StepLemmas.{held}
 pub stands_of : (images : List ℕ → Type 0) (state : State) (place : Place) → AllHold images state place → (image : List ℕ) → images image → StandsFor Two image state
 stands_of images state place all image left = held images state place all image (all.each image left)
 
--- why there is no denial
-module _ {D : Type 0} (s : SessionValue D) (command : Command) where
-  pub is_whole : denial s command ≡ None → s.is_broken ≡ false
-  is_whole none = from s.is_broken none
-    where
-      from : (b : Bool) → (if b then Some Broken else option_or (option_map Core (refusal s.state command)) (spent s.place command)) ≡ None → b ≡ false
-      from false e = refl
-      from true e = cc e
-
-  pub is_unspent : denial s command ≡ None → spent s.place command ≡ None
-  is_unspent none = from s.is_broken (refusal s.state command) none
-    where
-      from : (b : Bool) (r : Option Refusal) → (if b then Some Broken else option_or (option_map Core r) (spent s.place command)) ≡ None → spent s.place command ≡ None
-      from false None e = e
-      from false (Some x) e = cc e
-      from true r e = cc e
-
--- where a snapshot is due, and a sequence is left, there is one more
-pub sequence_left : (place : Place) (command : Command) → is_snapshot_due place command ≡ true → spent place command ≡ None → place.sequence ≤ 2 ^ 60 → place.sequence < 2 ^ 60
-sequence_left place command due unspent last = ⊎_elim
-    (λ (same : ((place.sequence == 2 ^ 60) ≡ true) × (place.sequence ≡ 2 ^ 60)). absurd (there (is_snapshot_due place command) (place.sequence == 2 ^ 60) due same.0 unspent))
-    (λ other. omega (arith, last, other.1))
-    (eqb_tells place.sequence (2 ^ 60))
+-- where there is no denial, the session is not broken, and has a sequence left
+pub undenied : {D : Type 0} (s : SessionValue D) (command : Command) → denial s command ≡ None → (s.is_broken ≡ false) × (spent s.place command ≡ None)
+undenied s command none = from s.is_broken (refusal s.state command) none
   where
-    there : (a b : Bool) → a ≡ true → b ≡ true → (if a && b then Some Spent else None) ≡ None → ⊥
-    there true true x y e = cc e
-    there false b x y e = cc x
-    there true false x y e = cc y
+    from : (b : Bool) (r : Option Refusal) → (if b then Some Broken else option_or (option_map Core r) (spent s.place command)) ≡ None → (b ≡ false) × (spent s.place command ≡ None)
+    from false None e = (refl, e)
+    from false (Some x) e = cc e
+    from true r e = cc e
+
+less_unless : (a b : ℕ) → a ≤ b → (a == b) ≡ false → a < b
+less_unless a b most off = ⊎_elim (λ (same : ((a == b) ≡ true) × (a ≡ b)). cc (same.0, off)) (λ (other : ((a == b) ≡ false) × (a ≢ b)). omega (arith, most, other.1)) (eqb_tells a b)
 
 -- the place after a command is one that a session may have
 pub place_fits : (place : Place) (command : Command) → spent place command ≡ None → 1 ≤ place.sequence → place.sequence ≤ 2 ^ 60 → place.used ≤ 256
     → (1 ≤ (place_after place command).sequence) × ((place_after place command).sequence ≤ 2 ^ 60) × ((place_after place command).used ≤ 256)
-place_fits place command unspent first last used = from (is_snapshot_due place command) refl
+place_fits place command unspent first last used =
+    from (is_recorded command) (place.used == 256) (place.sequence == 2 ^ 60) (less_unless place.used 256 used) (less_unless place.sequence (2 ^ 60) last) unspent
   where
-    full : (a b : Bool) → b ≡ true → (not a || b) ≡ false → ⊥
-    full true true x e = cc e
-    full false true x e = cc e
-    full a false x e = cc x
-
-    from : (due : Bool) → is_snapshot_due place command ≡ due
-        → (let next : Place = if due then record { sequence = place.sequence + 1; used = 0 } else record { sequence = place.sequence; used = place.used + 1 } in
+    from : (recorded full end : Bool) → (full ≡ false → place.used < 256) → (end ≡ false → place.sequence < 2 ^ 60) → (if (not recorded || full) && end then Some Spent else None) ≡ None
+        → (let next : Place = if not recorded || full then record { sequence = place.sequence + 1; used = 0 } else record { sequence = place.sequence; used = place.used + 1 } in
         (1 ≤ next.sequence) × (next.sequence ≤ 2 ^ 60) × (next.used ≤ 256))
-    from true e = (omega arith, omega (arith, sequence_left place command e unspent last), omega arith)
-    from false e = (
-      omega (arith, first),
-      omega (arith, last),
-      ⊎_elim
-          (λ (all_used : ((place.used == 256) ≡ true) × (place.used ≡ 256)). absurd (full (is_recorded command) (place.used == 256) all_used.0 e))
-          (λ room. omega (arith, used, room.1))
-          (eqb_tells place.used 256),
-    )
+    from true false end room more e = (first, last, omega (arith, room refl))
+    from true true false room more e = (omega arith, omega (arith, more refl), omega arith)
+    from false full false room more e = (omega arith, omega (arith, more refl), omega arith)
+    from true true true room more e = cc e
+    from false full true room more e = cc e
 
 -- moments of a command that was carried out, and of one within which the device failed
 module _ (state : State) (command : Command) (accepted : AreAccepted state (command ∷ [])) (next : State) (same : next ≡ effect state command) (calls steps n m : ℕ) (image : List ℕ) (step : IsInStep state next calls steps m image) where

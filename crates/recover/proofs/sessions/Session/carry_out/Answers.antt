@@ -10,14 +10,14 @@ use Rattle.recover.specs.Moments.{RunLeaves}
 use Rattle.recover.specs.Sessions.{SessionValue, AllHold, IsSession}
 use Rattle.recover.specs.Applying.{calls_of, place_after, spent, IsDone, IsBetween}
 use Rattle.recover.specs.Committing.{IsInStep, CommitsState, LeavesDevice}
-use Rattle.recover.proofs.SessionLemmas.{is_whole, is_unspent, place_fits, stands_of, leaves_ok, leaves_fault, still}
+use Rattle.recover.proofs.SessionLemmas.{undenied, place_fits, stands_of, leaves_ok, leaves_fault, still}
 use Rattle.recover.proofs.sessions.Session.carry_out.Goals.{After-change, After-commit, in-Whole+in-Loaded-1, in-Whole+in-Empty-1, in-Within+in-Pinned-1, in-Within+in-Working-1, in-Within+in-Plans-1, in-Within+in-Nothing-1}
 use Rattle.recover.proofs.sessions.Session.carry_out.Goals as goal
 use Rattle.recover.proofs.sessions.Session.carry_out.Given as given
 
 -- the session that is not denied
 whole : (g : given.Over) (c : After-change g) → c.self.inside.is_broken ≡ false
-whole g c = ap (λ (s : SessionValue _). s.is_broken) c.self.view_is ∙ is_whole c.args.self.now c.args.command.now c.requires
+whole g c = ap (λ (s : SessionValue _). s.is_broken) c.self.view_is ∙ (undenied c.args.self.now c.args.command.now c.requires).0
 
 -- want of memory leaves what was there
 stays : (g : given.Over) (c : After-change g) → (let d = g.D.Sectors in let i = c.self.inside in d.honest i.device
@@ -67,7 +67,7 @@ invariant_of-self-in-Ok-commit g c =
     let d = g.D.Sectors in
     let i = c.self.inside in
     let command = c.args.command.now in
-    let unspent : spent i.place command ≡ None = subst (λ (s : SessionValue _). spent s.place command ≡ None) (sym c.self.view_is) (is_unspent c.args.self.now command c.requires) in
+    let unspent : spent i.place command ≡ None = subst (λ (s : SessionValue _). spent s.place command ≡ None) (sym c.self.view_is) (undenied c.args.self.now command c.requires).1 in
     let fits = place_fits i.place command unspent c.self.invariant.first c.self.invariant.last c.self.invariant.used in
     subst (λ (p : Place). IsSession d.len d.honest d.possible (record { device = c.commit.new.device; state = c.change.new.self; place = p; is_broken = i.is_broken })) (sym c.in-Ok-commit.ensures.place) (record {
       state = c.in-Ok.ensures.ok.facts;
