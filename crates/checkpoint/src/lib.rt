@@ -1,6 +1,6 @@
 //! A store on a device: two headers, a journal of 256 records, and two halves for snapshots in turn.
 //!
-//! `format` and `format_with` make a store, `load_latest` and `load_latest_v1` read one, `commit_record` and
+//! `format` and `format_with` make a store, `load_latest` and `load_latest_v1` read one, as `load` does by its version, `commit_record` and
 //! `commit_snapshot` change it. `recover` calls them, and `planner_cli` calls `format`.
 //!
 //! A snapshot goes into the half of the next sequence, which is not the one that counts, and is synced; then its header is
@@ -54,6 +54,6 @@ pub use changes::{commit_record, commit_snapshot};
 pub use faults::{FormatFault, StoreFault};
 pub use laws::{images_hold_one_thing, images_hold_or_have_a_cause};
 pub use layouts::{LAST_SEQUENCE, LEAST_SECTORS, RECORDS, SECTORS};
-pub use loads::{Loaded, load_latest, load_latest_v1};
+pub use loads::{Loaded, load, load_latest, load_latest_v1};
 pub use making::{format, format_with};
 pub use places::Place;

@@ -228,6 +228,42 @@ pub(crate) fn interpreted(
     }
 }
 
+// The state of these bytes of a version.
+fn decode(alloc: Global, version: Version, bytes: &[u8]) -> Result<State, CodecFault>
+    ensures { Decodes version bytes.now result }
+{
+    match version {
+        Version::One => decode_state_v1(alloc, bytes),
+        Version::Two => decode_state(alloc, bytes),
+    }
+}
+
+/// `load_latest` for a store of this version, by its layout, bytes and limits.
+pub fn load<D: Sectors>(
+    alloc: Global,
+    device: &mut D,
+    version: Version,
+) -> Result<Loaded, StoreFault>
+    ensures small { D.len device.old < least_sectors
+        → (device.new ≡ device.old) × IsErrOf result StoreFault.NotFormatted }
+    ensures fails { IfErr result IsOfLoad }
+    ensures standing { IfOk result
+        (λ loaded. IsStanding (sectors_in (layout_of version)) (D.len device.old)
+        loaded.state loaded.place) }
+    ensures found { D.honest device.new
+        → MatchResult result (λ loaded.
+        Holds version (D.seen device.old) loaded.state loaded.commands.items loaded.place)
+        (UnlessUnread (HoldsNothing version (D.seen device.old))) }
+    ensures reads { ReadsOnly D.Sectors (faults_after_reading result) device.old device.new }
+{
+    let parts = match read_parts(alloc, device, version) {
+        Ok(parts) => parts,
+        Err(fault) => return Err(fault),
+    };
+    let decoded = decode(alloc, version, &parts.bytes);
+    interpreted(alloc, version, &parts.opened, &parts.bytes, decoded)
+}
+
 /// What the image that reads give holds. It reads only: at each moment of the call each image is one that was possible before it.
 ///
 /// Else the first cause, in this order, why it holds nothing: `NotFormatted` or `BadVersion` by the headers, `Codec` by the snapshot, and then by the
@@ -246,12 +282,7 @@ pub fn load_latest<D: Sectors>(alloc: Global, device: &mut D) -> Result<Loaded, 
         (UnlessUnread (HoldsNothing Two (D.seen device.old))) }
     ensures reads { ReadsOnly D.Sectors (faults_after_reading result) device.old device.new }
 {
-    let parts = match read_parts(alloc, device, Version::Two) {
-        Ok(parts) => parts,
-        Err(fault) => return Err(fault),
-    };
-    let decoded = decode_state(alloc, &parts.bytes);
-    interpreted(alloc, Version::Two, &parts.opened, &parts.bytes, decoded)
+    load(alloc, device, Version::Two)
 }
 
 /// The same for a store of version 1, by its layout, bytes and limits. Records that add a stop past number 4,000 are `Codec(BadField)`: the numbers
@@ -268,10 +299,5 @@ pub fn load_latest_v1<D: Sectors>(alloc: Global, device: &mut D) -> Result<Loade
         (UnlessUnread (HoldsNothing One (D.seen device.old))) }
     ensures reads { ReadsOnly D.Sectors (faults_after_reading result) device.old device.new }
 {
-    let parts = match read_parts(alloc, device, Version::One) {
-        Ok(parts) => parts,
-        Err(fault) => return Err(fault),
-    };
-    let decoded = decode_state_v1(alloc, &parts.bytes);
-    interpreted(alloc, Version::One, &parts.opened, &parts.bytes, decoded)
+    load(alloc, device, Version::One)
 }

@@ -9,7 +9,7 @@ ghost use Rattle.command_core.specs.Runs.{IsState};
 ghost use Rattle.sector_disk.specs.Sectors.{Throughout, more};
 ghost use Rattle.sector_disk.specs.Calls.{Calls};
 ghost use Rattle.state_codec.specs.declared.version.Version.TheVariants.{Two};
-ghost use Rattle.checkpoint.specs.Reads.{IsStanding, ReadsOnly};
+ghost use Rattle.checkpoint.specs.Reads.{IsStanding};
 ghost use Rattle.checkpoint.specs.Layouts.{least_sectors, sectors_in};
 ghost use Rattle.checkpoint.specs.Holds.{Holds, layout_of};
 ghost use Rattle.checkpoint.specs.Holdless.{HoldsNothing, IsOfLoad, UnlessUnread};
@@ -21,9 +21,7 @@ ghost use Rattle.recover.specs.Repeating.{IsRepeated};
 
 use crate::repeating::{repeat, steps_among, steps_in};
 use crate::sessions::Session;
-use checkpoint::{
-    LEAST_SECTORS, Loaded, Place, StoreFault, images_hold_one_thing, load_latest, load_latest_v1,
-};
+use checkpoint::{LEAST_SECTORS, Loaded, Place, StoreFault, images_hold_one_thing, load};
 use command_core::State;
 use sector_disk::{DeviceFault, Sectors};
 use state_codec::version::Version;
@@ -39,27 +37,8 @@ pub(crate) struct Recovered {
     pub replayed: u64,
 }
 
-// What the image that reads give holds, by the layout, bytes and limits of a version. It reads only.
-fn load<D: Sectors>(alloc: Global, device: &mut D, version: Version) -> Result<Loaded, StoreFault>
-    ensures small { D.len device.old < least_sectors
-        → (device.new ≡ device.old) × IsErrOf result StoreFault.NotFormatted }
-    ensures fails { IfErr result IsOfLoad }
-    ensures standing { IfOk result
-        (λ loaded. IsStanding (sectors_in (layout_of version)) (D.len device.old)
-        loaded.state loaded.place) }
-    ensures found { D.honest device.new
-        → MatchResult result (λ loaded.
-        Holds version (D.seen device.old) loaded.state loaded.commands.items loaded.place)
-        (UnlessUnread (HoldsNothing version (D.seen device.old))) }
-    ensures reads { ReadsOnly D.Sectors (faults_after_reading result) device.old device.new }
-{
-    match version {
-        Version::One => load_latest_v1(alloc, device),
-        Version::Two => load_latest(alloc, device),
-    }
-}
-
-// The same once that image is durable: one call that finishes, and none on a device that is smaller than any store.
+// What the image that reads give holds by a version, once that image is durable: one call that finishes, and none on a device that is smaller
+// than any store.
 fn read_settled<D: Sectors>(
     alloc: Global,
     device: &mut D,
