@@ -214,11 +214,6 @@ unless_named true b = []
 unless_named false true = []
 unless_named false false = kind.InvalidValue ∷ []
 
-named_by : Bool → Bool → Option Kind
-named_by true b = Some LiLim
-named_by false true = Some Vrp
-named_by false false = None
-
 accepted_by : (a b : Bool) → or_else (if (a || (b || false)) then [] else kind.InvalidValue ∷ []) [] ≡ unless_named a b
 accepted_by true b = refl
 accepted_by false true = refl
@@ -241,9 +236,6 @@ mistakes_by false false = (refl, tt)
 
 kind_mistakes : (fault : Kinds) (k : Text) → fault ≡ fault_of_kind k → AreMistakes fault
 kind_mistakes fault k is = subst AreMistakes (sym is) (mistakes_by (bytes_eq (codes "lilim") k) (bytes_eq (codes "vrp") k))
-
-mistakes_nil : (a : Kinds) → AreMistakes a → AreMistakes (or_else a [])
-mistakes_nil a h = subst AreMistakes (sym (or_else-nil a)) h
 
 -- words of the right number are judged by their kind
 judged_kind : (Help : Type 0) (a b : Bool) (faults : Kinds) (asked told : Option Asked) → faults ≡ unless_named a b → ((if a then Some LiLim else (if b then Some Vrp else None)) ≡ None → asked ≡ None)
@@ -668,19 +660,10 @@ module _ (f : Found) where
   load_is w k i ew ek ei = rw (value_is f (codes "STORE") w ew, value_is f (codes "KIND") k ek, value_is f (codes "INSTANCE") i ei) refl
 
 -- words that ask for no task
-pub no_task_kind : (i n s d : Option Text) → task_with None i n s d ≡ None
-no_task_kind i n s d = refl
-
 pub no_kind_of_task : (k : Text) (i n s d : Option Text) → kind_named k ≡ None → task_with (Some k) i n s d ≡ None
 no_kind_of_task k None n s d e = refl
 no_kind_of_task k (Some i) None s d e = refl
 no_kind_of_task k (Some i) (Some n) s d e = ap (λ o. task_from o i (steps_named n) (seed_or_none s) (deviation_or_none d)) e
-
-pub no_task_instance : (k : Text) (n s d : Option Text) → task_with (Some k) None n s d ≡ None
-no_task_instance k n s d = refl
-
-pub no_task_steps : (k i : Text) (s d : Option Text) → task_with (Some k) (Some i) None s d ≡ None
-no_task_steps k i s d = refl
 
 no_steps_from : (o : Option Kind) (i : Text) (s : Option ℕ) (d : Option (Option ℕ)) → task_from o i None s d ≡ None
 no_steps_from None i s d = refl
@@ -715,19 +698,10 @@ task_found k i n s d kind steps seed deviation ek en es ed =
     ∙ (ap (λ o. task_from (Some kind) i (Some steps) o (deviation_or_none d)) es ∙ ap (task_from (Some kind) i (Some steps) (Some seed)) ed))
 
 -- words that ask for no solving of a list
-pub no_tasks_kind : (l n s : Option Text) → tasks_with None l n s ≡ None
-no_tasks_kind l n s = refl
-
 pub no_kind_of_tasks : (k : Text) (l n s : Option Text) → kind_named k ≡ None → tasks_with (Some k) l n s ≡ None
 no_kind_of_tasks k None n s e = refl
 no_kind_of_tasks k (Some l) None s e = refl
 no_kind_of_tasks k (Some l) (Some n) s e = ap (λ o. tasks_from o l (steps_named n) (seed_or_none s)) e
-
-pub no_tasks_list : (k : Text) (n s : Option Text) → tasks_with (Some k) None n s ≡ None
-no_tasks_list k n s = refl
-
-pub no_tasks_steps : (k l : Text) (s : Option Text) → tasks_with (Some k) (Some l) None s ≡ None
-no_tasks_steps k l s = refl
 
 no_listed_steps : (o : Option Kind) (l : Text) (s : Option ℕ) → tasks_from o l None s ≡ None
 no_listed_steps None l s = refl
@@ -762,18 +736,9 @@ pub strict_mode : (w m : Text) → m ≡ codes "strict" → run_with (Some w) (S
 strict_mode w m is = ap (λ (x : Text). run_from w x) is
 
 -- words that load nothing
-pub no_load_store : (k i s : Option Text) → load_with None k i s ≡ None
-no_load_store k i s = refl
-
-pub no_load_kind : (w : Text) (i s : Option Text) → load_with (Some w) None i s ≡ None
-no_load_kind w i s = refl
-
 pub no_kind_of_load : (w k : Text) (i s : Option Text) → kind_named k ≡ None → load_with (Some w) (Some k) i s ≡ None
 no_kind_of_load w k None s e = refl
 no_kind_of_load w k (Some i) s e = ap (λ o. load_from w o i (seed_or_none s)) e
-
-pub no_load_instance : (w k : Text) (s : Option Text) → load_with (Some w) (Some k) None s ≡ None
-no_load_instance w k s = refl
 
 no_seed_to_load : (w : Text) (o : Option Kind) (i : Text) → load_from w o i None ≡ None
 no_seed_to_load w None i = refl

@@ -1,58 +1,37 @@
 -- Each value is the first of its entry; a missing one, or one that is no kind or number, leaves nothing to ask for.
-use Rattle.std.proofs.Common.{◌∙◌, Some, None, codes, refl, sym}
-use Rattle.clap.specs.Words.{first_of, first_value, found_of, rows_of}
-use Rattle.command_line.proofs.CommandLemmas.{bad_load_seed, load_found, load_is, no_kind_of_load, no_load_instance, no_load_kind, no_load_store}
+use Rattle.std.proofs.Common.{◌∙◌, None, codes, refl, sym}
+use Rattle.clap.specs.Words.{first_of, found_of, rows_of}
+use Rattle.command_line.proofs.CommandLemmas.{bad_load_seed, load_found, load_is, no_kind_of_load}
 use Rattle.command_line.proofs.words.loading_words.Goals as goal
 
 pub returns-in_err-store : goal.returns-in_err-store
 returns-in_err-store c =
-    let f = found_of c.args.matches.now in
-    let s = first_of (codes "SEED") (rows_of f) in
-    let k = first_value f (codes "KIND") in
-    let i = first_value f (codes "INSTANCE") in
-    rw c.from_residual.ensures (sym (load_is f None k i c.in_err-store.ensures refl refl ∙ no_load_store k i s))
+    rw c.from_residual.ensures (sym (load_is (found_of c.args.matches.now) None _ _ c.in_err-store.ensures refl refl))
 
 pub returns-in_err-get_str : goal.returns-in_err-get_str
 returns-in_err-get_str c =
-    let f = found_of c.args.matches.now in
-    let s = first_of (codes "SEED") (rows_of f) in
-    let w = c.in_ok-store.store.now in
-    let i = first_value f (codes "INSTANCE") in
-    rw c.from_residual-in_err-get_str.ensures (sym (load_is f (Some w) None i c.in_ok-store.ensures c.in_err-get_str.ensures refl ∙ no_load_kind w i s))
+    rw c.from_residual-in_err-get_str.ensures (sym (load_is (found_of c.args.matches.now) _ None _ c.in_ok-store.ensures c.in_err-get_str.ensures refl))
 
 pub returns-in_err-kind : goal.returns-in_err-kind
 returns-in_err-kind c =
     let f = found_of c.args.matches.now in
     let s = first_of (codes "SEED") (rows_of f) in
-    let w = c.in_ok-store.store.now in
-    let k = c.in_ok-get_str.field-0.now in
-    let i = first_value f (codes "INSTANCE") in
-    rw c.from_residual-in_err-kind.ensures (sym (load_is f (Some w) (Some k) i c.in_ok-store.ensures c.in_ok-get_str.ensures refl ∙ no_kind_of_load w k i s (sym c.in_err-kind.ensures)))
+    rw c.from_residual-in_err-kind.ensures (sym (load_is f _ _ _ c.in_ok-store.ensures c.in_ok-get_str.ensures refl ∙ no_kind_of_load c.in_ok-store.store.now c.in_ok-get_str.field-0.now _ s (sym c.in_err-kind.ensures)))
 
 pub returns-in_err-instance : goal.returns-in_err-instance
 returns-in_err-instance c =
-    let f = found_of c.args.matches.now in
-    let s = first_of (codes "SEED") (rows_of f) in
-    let w = c.in_ok-store.store.now in
-    let k = c.in_ok-get_str.field-0.now in
-    rw c.from_residual-in_err-instance.ensures (sym (load_is f (Some w) (Some k) None c.in_ok-store.ensures c.in_ok-get_str.ensures c.in_err-instance.ensures ∙ no_load_instance w k s))
+    rw c.from_residual-in_err-instance.ensures (sym (load_is (found_of c.args.matches.now) _ _ None c.in_ok-store.ensures c.in_ok-get_str.ensures c.in_err-instance.ensures))
 
 pub returns-in_err-seed : goal.returns-in_err-seed
 returns-in_err-seed c =
     let f = found_of c.args.matches.now in
     let s = first_of (codes "SEED") (rows_of f) in
-    let w = c.in_ok-store.store.now in
-    let k = c.in_ok-get_str.field-0.now in
-    let i = c.in_ok-instance.instance.now in
     rw c.from_residual-in_err-seed.ensures
-    (sym (load_is f (Some w) (Some k) (Some i) c.in_ok-store.ensures c.in_ok-get_str.ensures c.in_ok-instance.ensures ∙ bad_load_seed w k i s (sym c.in_err-seed.ensures)))
+    (sym (load_is f _ _ _ c.in_ok-store.ensures c.in_ok-get_str.ensures c.in_ok-instance.ensures ∙ bad_load_seed c.in_ok-store.store.now c.in_ok-get_str.field-0.now c.in_ok-instance.instance.now s (sym c.in_err-seed.ensures)))
 
 pub returns : goal.returns
 returns c =
     let f = found_of c.args.matches.now in
     let s = first_of (codes "SEED") (rows_of f) in
-    let w = c.in_ok-store.store.now in
-    let k = c.in_ok-get_str.field-0.now in
-    let i = c.in_ok-instance.instance.now in
-    sym (load_is f (Some w) (Some k) (Some i) c.in_ok-store.ensures c.in_ok-get_str.ensures c.in_ok-instance.ensures
-    ∙ load_found w k i s c.in_ok-kind.kind c.in_ok-seed.seed (sym c.in_ok-kind.ensures) (sym c.in_ok-seed.ensures))
+    sym (load_is f _ _ _ c.in_ok-store.ensures c.in_ok-get_str.ensures c.in_ok-instance.ensures
+    ∙ load_found c.in_ok-store.store.now c.in_ok-get_str.field-0.now c.in_ok-instance.instance.now s c.in_ok-kind.kind c.in_ok-seed.seed (sym c.in_ok-kind.ensures) (sym c.in_ok-seed.ensures))
