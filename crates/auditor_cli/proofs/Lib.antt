@@ -1,3 +1,4 @@
+pub mod FileLemmas
 pub mod ListLemmas
 pub mod SpelledLemmas
 pub mod TakenLemmas
