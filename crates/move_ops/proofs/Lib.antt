@@ -12,6 +12,7 @@ pub mod Drafting
 pub mod Exchanged
 pub mod Exchanging
 pub mod Fitting
+pub mod Foreseeing
 pub mod Gathering
 pub mod Inserting
 pub mod Installing
@@ -28,6 +29,7 @@ pub mod Putting
 pub mod PuttingBack
 pub mod Refreshing
 pub mod Removing
+pub mod Rerouting
 pub mod Replacing
 pub mod Restoring
 pub mod Rooming

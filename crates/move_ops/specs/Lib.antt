@@ -1,5 +1,6 @@
 -- what public contracts say
 pub mod Drafts
+pub mod Foreseen
 pub mod Insertion
 pub mod Laws
 pub mod Moves

@@ -31,6 +31,7 @@ ghost use Rattle.move_ops.specs.Choosing.{IsReach};
 ghost use Rattle.move_ops.specs.Drafts.{AreIdleBehind, Drafted, undone, draft_of, base_of, IsDraftOf};
 ghost use Rattle.move_ops.specs.Logged.{is_logged, IsEntry};
 
+mod foreseeing;
 mod installing;
 mod placing;
 mod rearranging;

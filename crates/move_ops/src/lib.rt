@@ -9,7 +9,7 @@
 //! Modules, in reading order:
 //! - `plan_moves`: the moves from plan to plan.
 //! - `draft`: the draft; in `draft/` its moves: `removing`, `rearranging` (exchange and 2-opt*), `placing`,
-//!   and `installing`, which they share.
+//!   and `installing`, which they share; `foreseeing`, what an exchange or 2-opt* would cost.
 //! - `lists`, `insert`, `removal`, `swap`: routes and pins by vehicle, and the stops of new routes.
 //! - `pairing`, `tour`, `tours`, `changes`: a route with its table, and what is asked of a new one.
 //! - `seats`, `naming`: where to look for a stop, and the request of a name.
@@ -36,7 +36,8 @@
 //!   old ones;
 //! - `Draft`: `remove`, `exchange`, `cross` and `place` make a candidate by the same definitions (`IsMade`,
 //!   `placed`), `cost` is what it costs, `take` makes it the base and `drop_draft` forgets it, without
-//!   memory;
+//!   memory; `cost_exchanged` and `cost_crossed`, where they tell, are what the plan of the move costs, if it
+//!   makes one;
 //! - the laws: the best insertion is the least and the only one; the list of insertions holds those that can
 //!   be put in and no others; a request that is taken out fits where it was, and relocated the plan costs no
 //!   more; a plan that passes with its pins passes without them; the limits of which tables speak are the
@@ -67,5 +68,6 @@ pub use laws::{
     requests_keep_their_places,
 };
 pub use lists::{has_stop, of_vehicle};
+pub use naming::request_named;
 pub use plan_moves::{best_insertion, exchange, insert_at, remove, two_opt_star};
 pub use tables::Tables;

@@ -6,7 +6,7 @@ ghost use Rattle.move_ops.specs.Insertion.{request_named};
 use plan_types::{Problem, Request, requests_are_found_by_stop, requests_stand_by_name};
 
 /// The live request of this name.
-pub(crate) fn request_named(problem: &Problem, name: u32) -> Option<Request>
+pub fn request_named(problem: &Problem, name: u32) -> Option<Request>
     ensures { result ≡ request_named problem.now name }
 {
     requests_are_found_by_stop();

@@ -1,5 +1,5 @@
 -- What the steps of a search keep, proved.
-use Rattle.std.proofs.Common.{◌≡◌, ℕ, zero, suc, ◌+◌, ◌-◌, ◌<◌, ◌≤◌, Bool, true, false, cond, ◌&&◌, nat_lt, nat_le, List, [], ◌∷◌, ◌++◌, length, slice_index, Option, Some, None, unwrap_or, IsTrue, refl, sym, ap, subst, ◌∙◌, inl, inr, arith, eqb}
+use Rattle.std.proofs.Common.{◌≡◌, ℕ, zero, suc, ◌+◌, ◌-◌, ◌<◌, ◌≤◌, Bool, true, false, cond, ◌&&◌, nat_lt, nat_le, List, [], ◌∷◌, ◌++◌, length, slice_index, Option, Some, None, unwrap_or, IfSome, IsSomeAnd, IsTrue, refl, sym, ap, subst, ◌∙◌, inl, inr, arith, eqb}
 use Rattle.std.specs.Option.{option_map, option_and_then}
 use Rattle.std.proofs.lemmas.Bool.{cond_both, cases_lt, cases_order, eqb-true, eq-eqb, leb-true, le-leb, lt-ltb, not_from_true, or_cases, or_left, or_right, and_parts, and_from, both_ways}
 use Rattle.plan_types.specs.Cost.{cost_below, cost_at_most, CostsAreTotal, CostsAreTransitive, BelowIsAtMost}
@@ -13,8 +13,9 @@ use Rattle.move_ops.specs.Moves.{removed, exchanged, crossed}
 use Rattle.move_ops.proofs.Times.{none_some, some_same}
 use Rattle.seeded_search.specs.Words.{pick, step_words}
 use Rattle.seeded_search.specs.Steps.{picked, movable_names, unplanned_names, placed_all, relocated, exchanged_by, used_vehicles, cut_by, crossed_by, ruined_names, recreated_by, candidate, Walked, has_less_pair, has_same_pair, is_near, moved_on, moved_on_by, step, steps, walked}
-use Rattle.move_ops.specs.Drafts.{placed, AreIdleBehind, Drafted, base_of, draft_of, IsMade}
-use Rattle.seeded_search.specs.Working.{AreListsOf, IsWalk, HasTaken}
+use Rattle.move_ops.specs.Foreseen.{IsCostIfMade}
+use Rattle.move_ops.specs.Drafts.{placed, AreIdleBehind, Drafted, base_of, draft_of, IsDraftOf, IsMade}
+use Rattle.seeded_search.specs.Working.{AreListsOf, IsMadeIfNear, IsWalk, HasTaken}
 use Rattle.seeded_search.specs.declared.walk.Walk.{Walk}
 use Rattle.plan_types.specs.declared.plans.Plan.{Plan}
 use Rattle.seeded_search.specs.StepLaws.{RelocatedNeverCostMore, StepsAddUp, BothPass, StepsKeepPassing, IncumbentsNeverCostMore, WorksNear, WorkingStaysNear}
@@ -273,20 +274,8 @@ steps_keep_passing p pins deviation seed n count s both = steps_pass p pins devi
 pub incumbents_never_cost_more : CostsAreTotal → CostsAreTransitive → IncumbentsNeverCostMore
 incumbents_never_cost_more total transitive p pins deviation seed n count s = steps_cost p pins deviation seed total transitive count n s
 
--- what a step does of the three
+-- a candidate that is far changes nothing
 module _ (p : Instance) (deviation : ℕ) (s : Walked) (c : List (List ℕ)) where
-  pub best_moved : cost_at_most (cost_of p c) (cost_of p s.incumbent) ≡ true → walked c c ≡ moved_on p deviation s c
-  best_moved most = by (cost_at_most (cost_of p c) (cost_of p s.incumbent)) (is_near deviation (cost_of p c) (cost_of p s.incumbent)) most (at_most_is_near deviation (cost_of p c) (cost_of p s.incumbent) most)
-    where
-      by : (b t : Bool) → b ≡ true → t ≡ true → walked c c ≡ walked (cond b c s.incumbent) (cond t c s.working)
-      by b t e f = rw e (rw f refl)
-
-  pub near_moved : cost_at_most (cost_of p c) (cost_of p s.incumbent) ≡ false → is_near deviation (cost_of p c) (cost_of p s.incumbent) ≡ true → walked s.incumbent c ≡ moved_on p deviation s c
-  near_moved above near = by (cost_at_most (cost_of p c) (cost_of p s.incumbent)) (is_near deviation (cost_of p c) (cost_of p s.incumbent)) above near
-    where
-      by : (b t : Bool) → b ≡ false → t ≡ true → walked s.incumbent c ≡ walked (cond b c s.incumbent) (cond t c s.working)
-      by b t e f = rw e (rw f refl)
-
   pub none_moved : cost_at_most (cost_of p c) (cost_of p s.incumbent) ≡ false → is_near deviation (cost_of p c) (cost_of p s.incumbent) ≡ false → s ≡ moved_on p deviation s c
   none_moved above far = by (cost_at_most (cost_of p c) (cost_of p s.incumbent)) (is_near deviation (cost_of p c) (cost_of p s.incumbent)) above far
     where
@@ -328,6 +317,54 @@ noted_walk p pins w at is same = record {
 pub made_some : (answer : Option (List (List ℕ))) (made : Bool) (old new : Drafted) → IsMade answer made old new → made ≡ true → answer ≡ Some (draft_of new)
 made_some None made old new h is = absurd (both_ways made h.0 is)
 made_some (Some routes) made old new h is = ap (λ x. Some x) (sym h.1)
+
+-- the draft is the base again
+pub stayed_walk : (p : Instance) (pins : List (List ℕ)) (w : Walk) (draft : Drafted) → IsWalk p pins w → IsDraftOf p pins draft → base_of draft ≡ base_of w.draft → draft_of draft ≡ draft_of w.draft → IsWalk p pins (record w { draft = draft })
+stayed_walk p pins w draft is drafted base same = record {
+  keeps = record {
+    draft = drafted;
+    incumbent = is.keeps.incumbent;
+    best = is.keeps.best;
+    idle = is.keeps.idle;
+    lists = subst (λ routes. AreListsOf p pins routes w.lists) (sym base) is.keeps.lists;
+    at = λ yes. is.keeps.at yes ∙ sym base;
+  };
+  settled = same ∙ (is.settled ∙ sym base);
+}
+
+-- ---- a candidate that is made only if it is near
+module _ (p : Instance) (deviation : ℕ) (best : Cost) where
+  pub made_near : (answer : Option (List (List ℕ))) (made : Bool) (old new : Drafted) → IsMade answer made old new → IsMadeIfNear p deviation best answer made old new
+  made_near None made old new h = h
+  made_near (Some routes) made old new h = record { is = λ yes. h.1; stays = λ none. absurd (both_ways made none h.0); far = λ none. absurd (both_ways made none h.0) }
+
+  pub foreseen_far : (answer : Option (List (List ℕ))) (old new : Drafted) (cost : Option Cost) → IfSome cost (λ k. IsCostIfMade p answer k) → IsSomeAnd cost (λ k. is_near deviation k best ≡ false) → draft_of new ≡ draft_of old
+      → IsMadeIfNear p deviation best answer false old new
+  foreseen_far None old new cost priced far same = (refl, same)
+  foreseen_far (Some routes) old new None priced far same = absurd far
+  foreseen_far (Some routes) old new (Some k) priced far same = record {
+    is = λ yes. absurd (let h : false ≡ true = yes in cc);
+    stays = λ none. same;
+    far = λ none. subst (λ (c : Cost). is_near deviation c best ≡ false) (priced routes refl) far;
+  }
+
+  pub made_then : (answer : Option (List (List ℕ))) (made : Bool) (old new : Drafted) → IsMadeIfNear p deviation best answer made old new → made ≡ true → answer ≡ Some (draft_of new)
+  made_then None made old new h is = absurd (both_ways made h.0 is)
+  made_then (Some routes) made old new h is = ap (λ x. Some x) (sym (h.is is))
+
+  pub stays_then : (answer : Option (List (List ℕ))) (made : Bool) (old new : Drafted) → IsMadeIfNear p deviation best answer made old new → made ≡ false → draft_of new ≡ draft_of old
+  stays_then None made old new h is = h.1
+  stays_then (Some routes) made old new h is = h.stays is
+
+  pub far_then : (answer : Option (List (List ℕ))) (made : Bool) (old new : Drafted) → IsMadeIfNear p deviation best answer made old new → made ≡ false → (s : Walked) → best ≡ cost_of p s.incumbent → s ≡ moved_on_by p deviation s answer
+  far_then None made old new h is s cost = refl
+  far_then (Some routes) made old new h is s cost =
+      let far : is_near deviation (cost_of p routes) (cost_of p s.incumbent) ≡ false = subst (λ (k : Cost). is_near deviation (cost_of p routes) k ≡ false) cost (h.far is) in
+      none_moved p deviation s routes (above (cost_at_most (cost_of p routes) (cost_of p s.incumbent)) refl far) far
+    where
+      above : (t : Bool) → cost_at_most (cost_of p routes) (cost_of p s.incumbent) ≡ t → is_near deviation (cost_of p routes) (cost_of p s.incumbent) ≡ false → cost_at_most (cost_of p routes) (cost_of p s.incumbent) ≡ false
+      above false e far = e
+      above true e far = absurd (both_ways (is_near deviation (cost_of p routes) (cost_of p s.incumbent)) far (at_most_is_near deviation (cost_of p routes) (cost_of p s.incumbent) e))
 
 pub relocated_never_cost_more : RelocationsNeverCostMore → RelocatedNeverCostMore
 relocated_never_cost_more law p pins routes new word valid good is = relocated_cost p pins law valid routes word new good is

@@ -1,10 +1,11 @@
 -- What a search keeps of its plans.
-use Rattle.std.specs.Prelude.{◌≡◌, ℕ, true, false, List, IsTrue}
+use Rattle.std.specs.Prelude.{◌≡◌, ℕ, Bool, true, false, List, Option, MatchOption, IsTrue}
 use Rattle.plan_types.specs.Instance.{Instance}
+use Rattle.plan_types.specs.declared.plans.Cost.{Cost}
 use Rattle.route_sched.specs.Cost.{cost_of}
 use Rattle.plan_audit.specs.Passes.{passes}
-use Rattle.move_ops.specs.Drafts.{base_of, draft_of, AreIdleBehind, IsDraftOf}
-use Rattle.seeded_search.specs.Steps.{movable_names, unplanned_names, Walked, walked}
+use Rattle.move_ops.specs.Drafts.{base_of, draft_of, AreIdleBehind, Drafted, IsDraftOf}
+use Rattle.seeded_search.specs.Steps.{movable_names, unplanned_names, is_near, Walked, walked}
 use Rattle.seeded_search.specs.declared.lists.Lists.{Lists}
 use Rattle.seeded_search.specs.declared.walk.Walk.{Walk}
 
@@ -25,6 +26,17 @@ pub record KeepsWalk (p : Instance) (pins : List (List ℕ)) (w : Walk) : Type 0
   pub idle : AreIdleBehind w.front w.incumbent.routes
   pub lists : AreListsOf p pins (base_of w.draft) w.lists
   pub at : IsTrue w.is_at_incumbent → w.incumbent.routes ≡ base_of w.draft
+
+-- the draft is this plan, or it stays, since the plan is not near an incumbent of that cost
+pub record IsMadeOrFar (p : Instance) (deviation : ℕ) (best : Cost) (routes : List (List ℕ)) (made : Bool) (old new : Drafted) : Type 0 where
+  pub is : made ≡ true → draft_of new ≡ routes
+  pub stays : made ≡ false → draft_of new ≡ draft_of old
+  pub far : made ≡ false → is_near deviation (cost_of p routes) best ≡ false
+
+-- the same of the plan that was asked for; without one the draft stays
+abbrev pub IsMadeIfNear : Instance → ℕ → Cost → Option (List (List ℕ)) → Bool → Drafted → Drafted → Type 0
+IsMadeIfNear p deviation best answer made old new =
+    MatchOption answer ((made ≡ false) × (draft_of new ≡ draft_of old)) (λ routes. IsMadeOrFar p deviation best routes made old new)
 
 -- a walk between two steps, without a candidate
 pub record IsWalk (p : Instance) (pins : List (List ℕ)) (w : Walk) : Type 0 where

@@ -3,23 +3,26 @@
 //! By the definition a request that is removed and has no insertion stays unplanned. Where one request alone
 //! is taken out, its old place is always one, so that a relocated request is put in again, and the plan costs
 //! no more (`relocated_never_cost_more`).
-ghost use Rattle.std.specs.Prelude.{◌≡◌, ◌+◌, IfOk, OnOk, take, drop, slice_index};
+ghost use Rattle.std.specs.Prelude.{◌≡◌, ◌+◌, false, IfOk, OnOk, IsTrue, IsSomeAnd, take, drop, slice_index};
 ghost use Rattle.seeded_search.specs.Words.{pick};
 ghost use Rattle.move_ops.specs.Drafts.{base_of, draft_of, IsDraftOf, IsMade};
-ghost use Rattle.seeded_search.specs.Working.{AreListsOf};
-ghost use Rattle.seeded_search.specs.Steps.{candidate, drawn, movable_names, placed_all, relocated, exchanged_by, crossed_by, cut_by, recreated_by};
+ghost use Rattle.move_ops.specs.Moves.{exchanged, crossed};
+ghost use Rattle.seeded_search.specs.Working.{AreListsOf, IsMadeIfNear};
+ghost use Rattle.seeded_search.specs.Steps.{candidate, is_near, drawn, movable_names, placed_all, relocated, exchanged_by, crossed_by, cut_by, recreated_by};
 
 use crate::draws::{drawn, picked, picked_vehicle, place};
 use crate::lists::{Lists, used_vehicles};
 use crate::pick;
+use crate::walk::is_near;
 use move_ops::{Draft, of_vehicle};
 use plan_audit::passes_are_local;
-use plan_types::{OutOfMemory, Pins, Problem};
+use plan_types::{Cost, OutOfMemory, Pins, Problem};
 use std::alloc::Global;
 
 /// Makes of the draft what the words of a step make of it, if anything: a request is relocated, two are exchanged, two routes exchange
-/// their ends, or up to eight requests are removed and put in again.
-#[tactic(auto, unfolding(crate::specs::Steps::candidate))]
+/// their ends, or up to eight requests are removed and put in again. An exchange or a crossing that is seen to be far from the incumbent
+/// before it is judged is not made.
+#[tactic(auto, unfolding(crate::specs::Steps::candidate), using(crate::proofs::WalkLemmas::made_near))]
 pub(crate) fn make(
     alloc: Global,
     problem: &Problem,
@@ -27,19 +30,30 @@ pub(crate) fn make(
     draft: &mut Draft,
     lists: &Lists,
     words: &[u32; 16],
+    deviation: u32,
+    best: &Cost,
 ) -> Result<bool, OutOfMemory>
     requires draft { IsDraftOf problem.now pins.now.routes draft.old }
     requires lists { AreListsOf problem.now pins.now.routes (draft_of draft.old) lists.now }
     ensures is { OnOk result (IsDraftOf problem.now pins.now.routes draft.new) }
     ensures base { OnOk result (base_of draft.new ≡ base_of draft.old) }
-    ensures made { IfOk result (λ made.
-        IsMade (candidate problem.now pins.now.routes (draft_of draft.old) words.now) made
+    ensures made { IfOk result (λ made. IsMadeIfNear problem.now deviation best.now
+        (candidate problem.now pins.now.routes (draft_of draft.old) words.now) made
         draft.old draft.new) }
 {
     match pick(words[0], 4) {
         0 => relocate(problem, pins, draft, &lists.movable, words[1]),
-        1 => exchange(problem, pins, draft, &lists.movable, words[1], words[2]),
-        2 => cross(alloc, problem, pins, draft, words),
+        1 => exchange(
+            problem,
+            pins,
+            draft,
+            &lists.movable,
+            words[1],
+            words[2],
+            deviation,
+            best,
+        ),
+        2 => cross(alloc, problem, pins, draft, words, deviation, best),
         _ => recreate(alloc, problem, pins, draft, lists, words),
     }
 }
@@ -71,7 +85,7 @@ fn relocate(
     Ok(true)
 }
 
-// Two requests take one another's places.
+// Two requests take one another's places, unless the draft is seen to be far from the incumbent then.
 fn exchange(
     problem: &Problem,
     pins: &Pins,
@@ -79,14 +93,16 @@ fn exchange(
     movable: &[u32],
     first: u32,
     second: u32,
+    deviation: u32,
+    best: &Cost,
 ) -> Result<bool, OutOfMemory>
     requires draft { IsDraftOf problem.now pins.now.routes draft.old }
     requires movable { movable.now
         ≡ movable_names problem.now pins.now.routes (draft_of draft.old) }
     ensures is { OnOk result (IsDraftOf problem.now pins.now.routes draft.new) }
     ensures base { OnOk result (base_of draft.new ≡ base_of draft.old) }
-    ensures made { IfOk result (λ made.
-        IsMade (exchanged_by problem.now pins.now.routes (draft_of draft.old) first second) made
+    ensures made { IfOk result (λ made. IsMadeIfNear problem.now deviation best.now
+        (exchanged_by problem.now pins.now.routes (draft_of draft.old) first second) made
         draft.old draft.new) }
 {
     let Some(a) = picked(first, movable) else {
@@ -95,22 +111,47 @@ fn exchange(
     let Some(b) = picked(second, movable) else {
         return Ok(false);
     };
+    exchange_if_near(problem, pins, draft, a, b, deviation, best)
+}
+
+#[tactic(auto, using(crate::proofs::WalkLemmas::made_near, crate::proofs::WalkLemmas::foreseen_far))]
+fn exchange_if_near(
+    problem: &Problem,
+    pins: &Pins,
+    draft: &mut Draft,
+    a: u32,
+    b: u32,
+    deviation: u32,
+    best: &Cost,
+) -> Result<bool, OutOfMemory>
+    requires { IsDraftOf problem.now pins.now.routes draft.old }
+    ensures is { OnOk result (IsDraftOf problem.now pins.now.routes draft.new) }
+    ensures base { OnOk result (base_of draft.new ≡ base_of draft.old) }
+    ensures made { IfOk result (λ made. IsMadeIfNear problem.now deviation best.now
+        (exchanged problem.now pins.now.routes (draft_of draft.old) a b) made
+        draft.old draft.new) }
+{
+    if is_far(deviation, draft.cost_exchanged(problem, pins, a, b), best) {
+        return Ok(false);
+    }
     draft.exchange(problem, pins, a, b)
 }
 
-// Two routes exchange what stands behind their cuts.
+// Two routes exchange what stands behind their cuts, unless the draft is seen to be far from the incumbent then.
 fn cross(
     alloc: Global,
     problem: &Problem,
     pins: &Pins,
     draft: &mut Draft,
     words: &[u32; 16],
+    deviation: u32,
+    best: &Cost,
 ) -> Result<bool, OutOfMemory>
     requires draft { IsDraftOf problem.now pins.now.routes draft.old }
     ensures is { OnOk result (IsDraftOf problem.now pins.now.routes draft.new) }
     ensures base { OnOk result (base_of draft.new ≡ base_of draft.old) }
-    ensures made { IfOk result (λ made.
-        IsMade (crossed_by problem.now pins.now.routes (draft_of draft.old) words.now) made
+    ensures made { IfOk result (λ made. IsMadeIfNear problem.now deviation best.now
+        (crossed_by problem.now pins.now.routes (draft_of draft.old) words.now) made
         draft.old draft.new) }
 {
     passes_are_local();
@@ -123,7 +164,46 @@ fn cross(
     };
     let a_cut = cut(pins, draft, a, words[3]);
     let b_cut = cut(pins, draft, b, words[4]);
+    cross_if_near(problem, pins, draft, a, a_cut, b, b_cut, deviation, best)
+}
+
+#[tactic(auto, using(crate::proofs::WalkLemmas::made_near, crate::proofs::WalkLemmas::foreseen_far))]
+fn cross_if_near(
+    problem: &Problem,
+    pins: &Pins,
+    draft: &mut Draft,
+    a: u64,
+    a_cut: u64,
+    b: u64,
+    b_cut: u64,
+    deviation: u32,
+    best: &Cost,
+) -> Result<bool, OutOfMemory>
+    requires { IsDraftOf problem.now pins.now.routes draft.old }
+    ensures is { OnOk result (IsDraftOf problem.now pins.now.routes draft.new) }
+    ensures base { OnOk result (base_of draft.new ≡ base_of draft.old) }
+    ensures made { IfOk result (λ made. IsMadeIfNear problem.now deviation best.now
+        (crossed problem.now pins.now.routes (draft_of draft.old) a a_cut b b_cut) made
+        draft.old draft.new) }
+{
+    if is_far(
+        deviation,
+        draft.cost_crossed(problem, pins, a, a_cut, b, b_cut),
+        best,
+    ) {
+        return Ok(false);
+    }
     draft.cross(problem, pins, a, a_cut, b, b_cut)
+}
+
+// Whether a draft of this cost, where it is foreseen, is not near the incumbent.
+fn is_far(deviation: u32, cost: Option<Cost>, best: &Cost) -> bool
+    ensures { IsTrue result → IsSomeAnd cost (λ k. is_near deviation k best.now ≡ false) }
+{
+    match cost {
+        Some(cost) => !is_near(deviation, &cost, best),
+        None => false,
+    }
 }
 
 // Behind how many stops the word cuts the route of a vehicle; never within its pin.

@@ -83,7 +83,16 @@ impl Walk {
             (candidate problem.now pins.now.routes (base_of self.old.draft) words.now)) }
         ensures walk { OnOk result (IsWalk problem.now pins.now.routes self.new) }
     {
-        if !make(alloc, problem, pins, &mut self.draft, &self.lists, words)? {
+        if !make(
+            alloc,
+            problem,
+            pins,
+            &mut self.draft,
+            &self.lists,
+            words,
+            deviation,
+            &self.best,
+        )? {
             return Ok(());
         }
         self.settle(alloc, problem, pins, deviation)

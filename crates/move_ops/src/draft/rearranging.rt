@@ -216,7 +216,7 @@ impl Draft {
     }
 
     // Whether the route of this vehicle can be cut behind so many stops.
-    fn is_cut(&self, pins: &[Route], vehicle: u64, cut: u64) -> bool
+    pub(super) fn is_cut(&self, pins: &[Route], vehicle: u64, cut: u64) -> bool
         ensures { result ≡ is_cut pins.now (draft_of self.now) vehicle cut }
     {
         if vehicle < 1 || (self.tours.len() as u64) < vehicle {
