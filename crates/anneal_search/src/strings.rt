@@ -12,7 +12,7 @@ ghost use Rattle.anneal_search.specs.Going.{IsCutOf, IsInRoute};
 
 use crate::draws::{Drawn, draw};
 use crate::routes::{Near, nearest_routes};
-use move_ops::Draft;
+use move_ops::{Draft, request_named};
 use plan_types::{OutOfMemory, Pins, Problem, Stop};
 use std::alloc::Global;
 
@@ -242,8 +242,8 @@ fn movable_at(problem: &Problem, pins: &Pins, draft: &Draft, stop: u32) -> Optio
     ensures { result ≡ movable_at problem.now pins.now.routes (draft_of draft.now) stop }
 {
     let name = problem.name_of(stop)?;
-    let request = problem.requests.get(&name)?;
-    if draft.is_movable(problem, pins, request) {
+    let request = request_named(problem, name)?;
+    if draft.is_movable(problem, pins, &request) {
         Some(name)
     } else {
         None
