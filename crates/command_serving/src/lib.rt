@@ -15,7 +15,6 @@
 //! Modules, in reading order:
 //! - `streams`: `Source`, `Sink`, and `Watched`, which makes one of each reader and writer of std
 //! - `log`: what was done to a sink, and what reads of a source gave, for clauses alone
-//! - `since`: what a writer held at a moment, for clauses alone
 //! - `strict`: `Strict`, a sink whose `flush` fails behind a line that tells a refusal or a failed device
 //! - `ahead`: what was read and not yet taken
 //! - `input`: an input as lines and the bytes that follow a line
@@ -67,7 +66,6 @@ mod input;
 mod laws;
 mod lent;
 mod log;
-mod since;
 mod streams;
 mod strict;
 

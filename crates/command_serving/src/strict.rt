@@ -5,9 +5,9 @@ ghost use Rattle.std.specs.Io.KnownBytes.{Keeps, WriteAppends};
 ghost use Rattle.command_serving.specs.Streams.{Flushes, Puts, began_with};
 ghost use Rattle.command_serving.specs.Strict.{Follows, HasNoLine, IsLastLine, IsLastLineBehind, TellsLast, is_stopped, stop_of};
 
-use crate::since::Since;
 use crate::streams::{Failed, Sink, Watched};
 use arrayvec::ArrayVec;
+use ghost_values::{Ghost, ListOf};
 use recover::Session;
 use sector_disk::Sectors;
 use std::io;
@@ -92,7 +92,8 @@ impl LastLines {
 pub struct Strict<W: Write> {
     writer: Watched<W>,
     last_lines: LastLines,
-    since: Since,
+    // What the writer held when it was made strict, where that is known.
+    since: Ghost<Option<ListOf<u8>>>,
 }
 
 impl<W: Write> Model for Strict<W> {
@@ -102,11 +103,11 @@ impl<W: Write> Model for Strict<W> {
 
     ghost view = { λ s. record {
       writer = s.writer;
-      before = s.since.before;
+      before = s.since.value;
       told = s.last_lines.told;
     } };
 
-    ghost invariant = { λ s. IsStrict W.contents s.writer s.since.before s.last_lines };
+    ghost invariant = { λ s. IsStrict W.contents s.writer s.since.value s.last_lines };
 }
 
 impl<W: Write> Strict<W> {
@@ -130,7 +131,7 @@ impl<W: Write> Strict<W> {
         Strict {
             writer,
             last_lines: LastLines::new(),
-            since: Since::moment(),
+            since: Ghost::of(),
         }
     }
 

@@ -1,5 +1,5 @@
 -- What it holds.
 use Rattle.command_serving.proofs.strict.Strict.since.Given as goal
 
-abbrev pub ghost-moment : goal.ghost-moment
-ghost-moment g a = g.held
+abbrev pub ghost-of : goal.ghost-of
+ghost-of g a = g.held
