@@ -10,10 +10,9 @@ use Rattle.command_text.specs.Asking.{asked}
 use Rattle.command_text.specs.Cutting.{announced, ends, pieces_of}
 use Rattle.command_text.specs.Laws.{PiecesEnd, PiecesFollow, cut_at, piece_at}
 use Rattle.command_text.specs.declared.asked.Asked.{Asked}
-use Rattle.command_serving.specs.Input.{Counts, CountsAll, CountsExactly, CountsTaken, Cuts, CutsLine, CutsNext, IsLast, IsLineSoFar, IsPartOf, IsTextPart, Loads, Moves, MovesShown, TakesMore, TakesPart, TakesShown, TakesText, left_of}
+use Rattle.command_serving.specs.Input.{Counts, CountsAll, CountsExactly, CountsTaken, Cuts, CutsLine, CutsNext, IsLast, IsLineSoFar, IsPartOf, IsTextPart, Moves, MovesShown, TakesMore, TakesPart, TakesShown, left_of}
 use Rattle.command_serving.specs.Knowing.{Beforehand, ByReads, Fits, How, left_by}
 use Rattle.command_serving.specs.Served.{IsInputOf}
-use Rattle.command_serving.specs.declared.input.LoadText.TheVariants.{Short}
 use Rattle.command_serving.specs.declared.input.Part.{Part}
 use Rattle.command_serving.specs.declared.input.LineSoFar.{LineSoFar}
 use Rattle.command_serving.specs.declared.input.TextSoFar.{TextSoFar}
@@ -152,10 +151,6 @@ counts_part rest known all behind before after part n left later keeps t (inr is
     let more : length (t.bytes ++ 10 ∷ []) ≡ length t.bytes + 1 = length-append t.bytes (10 ∷ []) in
     counts_by rest known all (t.bytes ++ 10 ∷ []) behind left later keeps moves.0 (omega (arith, most, moves.1, more))
 
-pub counts_end : (rest known : Option (List ℕ)) (all behind : List ℕ) (before after : LineSoFar) (left : ℕ) → Keeps known (prepend_known all rest) → TakesShown all behind before after End
-    → CountsTaken known left (prepend_known behind rest) left
-counts_end rest known all behind before after left keeps t = counts_by rest known all [] behind left left keeps (t.moves.1 ∙ sym t.moves.2) (omega arith)
-
 -- so they are counted exactly
 all_by : (rest known : Option (List ℕ)) (all front behind : List ℕ) (left later : ℕ) → Keeps known (prepend_known all rest) → all ≡ front ++ behind → left ≡ later + length front → (0 < left → 0 < later)
     → CountsAll known left (prepend_known behind rest) later
@@ -177,10 +172,6 @@ all_part rest known all behind before after part n left later keeps t (inr is) c
     let moves = subst (λ p. MovesShown p all behind t.bytes) is t.moves in
     let more : length (t.bytes ++ 10 ∷ []) ≡ length t.bytes + 1 = length-append t.bytes (10 ∷ []) in
     all_by rest known all (t.bytes ++ 10 ∷ []) behind left later keeps moves.0 (omega (arith, count, moves.1, more)) (λ _. some)
-
-pub all_end : (rest known : Option (List ℕ)) (all behind : List ℕ) (before after : LineSoFar) (left : ℕ) → Keeps known (prepend_known all rest) → TakesShown all behind before after End
-    → CountsAll known left (prepend_known behind rest) left
-all_end rest known all behind before after left keeps t = all_by rest known all [] behind left left keeps (t.moves.1 ∙ sym t.moves.2) (omega arith) (λ some. some)
 
 -- nothing was taken
 pub counts_kept : (known later : Option (List ℕ)) (left : ℕ) → Keeps known later → CountsTaken known left later left
@@ -245,40 +236,5 @@ module _ {R : Type 0} (on : sources.Ghosts R) where
 
 -- ---- the bytes of a text
 
-pub more_taken : (rest known : Option (List ℕ)) (all behind : List ℕ) (before after : TextSoFar) (n : ℕ) (some : Bool) → Keeps known (prepend_known all rest) → (all ≡ [] → IsAtEnd rest)
-    → TakesText all behind before after n → (some ≡ true → 0 < n) → (some ≡ false → n ≡ 0) → TakesMore known (prepend_known behind rest) before after some
-more_taken rest known all behind before after n some keeps end t more none = record {
-  bytes = t.bytes;
-  moves = front_taken rest known all t.bytes behind keeps t.moves;
-  text = t.text;
-  less = λ is. omega (arith, t.left, more is);
-  end = λ is wanted.
-      let zero : n ≡ 0 = none is in
-      let empty : all ≡ [] = no_item all (omega (arith, t.most, zero, wanted)) in
-      let nothing : t.bytes ≡ [] = no_item t.bytes (t.count ∙ zero) in
-      let same : behind ≡ [] = sym (t.moves ∙ ap (λ l. l ++ behind) nothing) ∙ empty in
-      (nothing, none_behind rest known all keeps (end empty) behind same);
-}
-  where
-    no_item : (xs : List ℕ) → length xs ≡ 0 → xs ≡ []
-    no_item [] e = refl
-    no_item (x ∷ xs) e = absurd (omega (arith, e))
-
-pub counts_text : (rest known : Option (List ℕ)) (all behind : List ℕ) (before after : TextSoFar) (n left later : ℕ) → Keeps known (prepend_known all rest) → TakesText all behind before after n
-    → left ≤ later + n → CountsTaken known left (prepend_known behind rest) later
-counts_text rest known all behind before after n left later keeps t most = counts_by rest known all t.bytes behind left later keeps t.moves (omega (arith, most, t.count))
-
-pub all_text : (rest known : Option (List ℕ)) (all behind : List ℕ) (before after : TextSoFar) (n left later : ℕ) → Keeps known (prepend_known all rest) → TakesText all behind before after n
-    → left ≡ later + n → (0 < left → 0 < later) → CountsAll known left (prepend_known behind rest) later
-all_text rest known all behind before after n left later keeps t count some = all_by rest known all t.bytes behind left later keeps t.moves (omega (arith, count, t.count)) some
-
 pub text_more : (len : ℕ) (old mid new : Option (List ℕ)) (before after : TextSoFar) → IsTextPart len old mid before → TakesMore mid new before after true → IsTextPart len old new after
 text_more len old mid new before after p t = record { seen = p.seen ++ t.bytes; moves = Consumes-trans old mid new p.seen t.bytes p.moves t.moves; kept = t.text len p.seen p.kept }
-
--- the input ended before the text did
-pub text_short : (len : ℕ) (old mid new : Option (List ℕ)) (before after : TextSoFar) → IsTextPart len old mid before → 0 < before.left → TakesMore mid new before after false → Loads len old new Short
-text_short len old mid new before after p wanted t =
-    let ended = t.end refl wanted in
-    let all : Consumes old new (p.seen ++ t.bytes) = Consumes-trans old mid new p.seen t.bytes p.moves t.moves in
-    let same : p.seen ++ t.bytes ≡ p.seen = ap (λ b. p.seen ++ b) ended.0 ∙ append-nil p.seen in
-    (p.seen, subst (Consumes old new) same all, omega (arith, p.kept.0, wanted), known_before old mid new p.seen p.moves ended.1)

@@ -1,10 +1,10 @@
 -- What is answered to a line that asks something of a job.
-use Rattle.std.proofs.Common.{◌≡◌, ◌∙◌, true, false, ◌++◌, ◌∷◌, Option, Some, None, ap}
+use Rattle.std.proofs.Common.{◌≡◌, ◌∙◌, false, ◌++◌, ◌∷◌, Option, Some, None, ap}
 use Rattle.command_core.specs.Job.{JobValue}
 use Rattle.command_core.specs.declared.refusals.Refusal.{Refusal}
 use Rattle.command_core.specs.declared.refusals.Refusal.TheVariants as core
 use Rattle.command_core.specs.declared.states.State.TheVariants.{Loaded}
-use Rattle.command_text.specs.Answering.{Done, NoMemory, Serving, answered, informed, next_fate, told, told_unless, tried, unless_broken}
+use Rattle.command_text.specs.Answering.{Done, NoMemory, Serving, informed, told_unless, unless_broken}
 use Rattle.command_text.specs.Answers.{answer_text, line}
 use Rattle.command_text.specs.Questions.{question_refusal, question_text}
 use Rattle.command_text.specs.declared.answers.Answer.TheVariants as answer

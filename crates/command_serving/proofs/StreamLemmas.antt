@@ -1,9 +1,9 @@
 -- Texts that are put one after another, and handed on.
-use Rattle.std.proofs.Common.{◌≡◌, ◌∙◌, ◌<◌, ℕ, ◌+◌, List, [], ◌∷◌, ◌++◌, inl, Result, Ok, Err, length, map, take, drop, refl, sym, ap, subst, append_assoc, append-nil, take-append-drop}
-use lib.Seq.{drop-nil, take-append_seam}
+use Rattle.std.proofs.Common.{◌≡◌, ◌∙◌, ℕ, ◌+◌, List, [], ◌∷◌, ◌++◌, inl, Result, Ok, Err, length, map, take, drop, refl, sym, ap, subst, append_assoc, append-nil, take-append-drop}
+use lib.Seq.{take-append_seam}
 use Rattle.std.proofs.Math.Seq.{take-append-add}
 use Rattle.std.proofs.KnownBytes.{Appends-kept, Appends-nil, Appends-trans}
-use Rattle.command_serving.specs.Streams.{Event, Extends, Flushed, Flushes, GaveText, HandsOn, IsPart, IsPutInPart, Put, Stays, Stream, left_behind}
+use Rattle.command_serving.specs.Streams.{Event, Extends, Flushed, Flushes, HandsOn, IsPart, IsPutInPart, Put, Stays, Stream}
 
 pub extends_none : (x : Stream) → Extends x x [] []
 extends_none x = record { written = Appends-nil x.contents; noted = sym (append-nil x.events) }
@@ -50,18 +50,3 @@ extends_kept x y e p = record { written = Appends-kept x.contents x.contents y.c
 pub hands_nothing : {T E : Type 0} (r : Result T E) (x y : Stream) (n : ℕ) → Flushes x y r n → HandsOn x y r n []
 hands_nothing (Ok done) x y n p = record { texts = []; whole = refl; extends = extends_kept x y (Flushed n ∷ []) p }
 hands_nothing (Err fault) x y n p = record { len = 0; texts = []; part = refl; last = p.0; few = p.1; extends = extends_kept x y p.0 p.2 }
-
--- ---- what a read gave
-
--- it is noted, and the text goes on behind it
-pub read_noted : (old new : List (List ℕ)) (block : List ℕ) (n : ℕ) → new ≡ take n block ∷ old → (text : List ℕ) → GaveText new text
-    → (left_behind old text ≡ take n block ++ left_behind new text) × (n ≡ 0 → 0 < length block → left_behind new text ≡ [])
-read_noted old new block n is text gave =
-    let known = subst (λ r. GaveText r text) is gave in
-    let behind : left_behind new text ≡ drop (length (take n block)) (left_behind old text) = ap (λ r. left_behind r text) is in (
-      known.1 ∙ ap (λ r. take n block ++ left_behind r text) (sym is),
-      λ none some. behind ∙ ap (drop (length (take n block))) (known.2 (ap (λ k. take k block) none)) ∙ drop-nil (length (take n block)),
-    )
-
-pub gave_before : (old new : List (List ℕ)) (piece : List ℕ) → new ≡ piece ∷ old → (text : List ℕ) → GaveText new text → GaveText old text
-gave_before old new piece is text gave = (subst (λ r. GaveText r text) is gave).0
