@@ -6,9 +6,7 @@ use Rattle.std.proofs.Math.ListN.{get_or-map, length-map}
 use Rattle.std.proofs.lemmas.List.Elements.{All-get_or}
 use Rattle.std.proofs.lemmas.Bool.{cases_lt}
 use Rattle.std.proofs.lemmas.Option.{slice_get-get_or, slice_get_within}
-use Rattle.plan_types.specs.Cost.{BelowTells, AtMostTells, CostsAreTotal, CostsAreTransitive, BelowThenAtMost, AtMostThenBelow, BelowIsAtMost}
 use Rattle.plan_types.specs.Instance.{Instance, IsInstance}
-use Rattle.plan_types.specs.Laws.{NamedAreFound, RequestsStandByName}
 use Rattle.plan_types.specs.Request.{request_name, IsRequest}
 use Rattle.plan_types.specs.declared.requests.Request.{Request}
 use Rattle.route_sched.specs.Route.{AreLiveOnce}
@@ -18,11 +16,13 @@ use Rattle.plan_audit.specs.Passes.{passes}
 use Rattle.plan_audit.specs.Rules.{Stands}
 use Rattle.slack_tables.specs.Course.{Course, course_of, route_of, IsCourseIn}
 use Rattle.slack_tables.specs.Insertion.{KeepsLimits}
+use Rattle.slack_tables.specs.RequestFloors.{AreWays}
+use Rattle.slack_tables.specs.declared.request.RequestWays.{RequestWays}
 use Rattle.move_ops.specs.Insertion.{of_vehicle, best_insertion}
-use Rattle.move_ops.specs.Laws.{BestInsertionsAreLeast, BestInsertionsAreUnique, PlansPassWithoutPins}
+use Rattle.move_ops.specs.Laws.{PlansPassWithoutPins}
 use Rattle.move_ops.specs.Refreshing.{AreWithin}
 use Rattle.move_ops.specs.Tables.{plan_of, AreTablesIn}
-use Rattle.move_ops.specs.Choosing.{place_found, IsAsked, IsBestAmongThese, IsEntryOf, IsLookedAt, IsNamed, IsNamedOrUpTo, HasIdle, IsBetter, IsReach}
+use Rattle.move_ops.specs.Choosing.{place_found, InsertionLaws, IsAsked, IsBestAmongThese, IsEntryOf, IsLookable, IsLookedAt, IsNamed, IsNamedOrUpTo, HasIdle, IsBetter, IsReach}
 use Rattle.move_ops.specs.declared.tables.Found.{Found}
 use Rattle.move_ops.proofs.Fitting.{route_limits}
 use Rattle.move_ops.proofs.Inserting.{valid_request}
@@ -54,10 +54,13 @@ module _ (courses : List Course) (k : ℕ) (c : Course) (is : c ≡ get_or cours
   pub stops_long : length (route_of c) ≡ length c.stops
   stops_long = length-map c.stops (λ s. s.number)
 
+no_entry : (k : ℕ) (e : ℕ × Course) → slice_get [] k ≡ Some e → ⊥
+no_entry zero e at = none_some e at
+no_entry (suc k) e at = none_some e at
+
 -- each entry is of a vehicle
 pub within_at : (n : ℕ) (entries : List (ℕ × Course)) (j : ℕ) (e : ℕ × Course) → AreWithin n entries → slice_get entries j ≡ Some e → (1 ≤ e.0) × (e.0 ≤ n)
-within_at n [] zero e all at = absurd (none_some e at)
-within_at n [] (suc k) e all at = absurd (none_some e at)
+within_at n [] k e all at = absurd (no_entry k e at)
 within_at n (x ∷ xs) zero e all at = subst (λ (f : ℕ × Course). (1 ≤ f.0) × (f.0 ≤ n)) (some_same x e at) all.0
 within_at n (x ∷ xs) (suc k) e all at = within_at n xs k e all.1 at
 
@@ -72,15 +75,9 @@ entry_at n entries j d v all below is =
 pub idle_more : (routes : List (List ℕ)) (k : ℕ) → HasIdle routes k → HasIdle routes (k + 1)
 idle_more routes k idle = (idle.0, idle.1, (let h = idle.2 in omega arith), idle.3, idle.4)
 
-module _ (law : NamedAreFound) (stand : RequestsStandByName) (local : PassesAreLocal) (says : TestsSayFeasible) (below_tells : BelowTells) (at_most_tells : AtMostTells)
-    (costs_total : CostsAreTotal) (costs_transitive : CostsAreTransitive) (below_at_most : BelowThenAtMost) (at_most_below : AtMostThenBelow) (weaken : BelowIsAtMost)
-    (p : Instance) (pins : List (List ℕ)) (courses : List Course) (r : Request) (asked : IsAsked p pins courses r) where
+module _ (laws : InsertionLaws) {p : Instance} {pins : List (List ℕ)} {courses : List Course} {r : Request} (asked : IsAsked p pins courses r) where
   pub request_valid : IsRequest r
   request_valid = valid_request p.requests (request_name r) r (asked.valid.valid) (asked.named)
-
-  pub said_otherwise : (These Others : ℕ → Type 0) → ((u : ℕ) → These u → Others u) → ((u : ℕ) → Others u → These u) → (best : Option Found)
-      → IsBestAmongThese p pins (plan_of courses) r These best → IsBestAmongThese p pins (plan_of courses) r Others best
-  said_otherwise = these_same law stand local says below_tells at_most_tells costs_total costs_transitive below_at_most at_most_below weaken p pins (plan_of courses) (asked.valid) (asked.good) (request_name r) r (asked.named) (asked.free)
 
   module _ (entries : List (ℕ × Course)) where
     abbrev Looked : ℕ → ℕ → Type 0
@@ -98,13 +95,12 @@ module _ (law : NamedAreFound) (stand : RequestsStandByName) (local : PassesAreL
 
     -- before the first vehicle those are looked at that are named
     pub from_named : (best : Option Found) → IsBestAmongThese p pins (plan_of courses) r (IsNamed (plan_of courses) entries (length entries)) best → IsBestAmongThese p pins (plan_of courses) r (Looked 0) best
-    from_named best first = said_otherwise (IsNamed (plan_of courses) entries (length entries)) (Looked 0) (λ u named. inr named) (λ u seen. elim seen [ inl none ↦ absurd (let low = none.0 in let high = none.1 in omega arith) | inr named ↦ named ]) best first
+    from_named best first = these_same p pins (plan_of courses) r (IsNamed (plan_of courses) entries (length entries)) (Looked 0) (λ u named. inr named) (λ u seen. elim seen [ inl none ↦ absurd (let low = none.0 in let high = none.1 in omega arith) | inr named ↦ named ]) best first
 
-    pub answered : BestInsertionsAreLeast → BestInsertionsAreUnique → (answer : Option Found) → IsBestAmongThese p pins (plan_of courses) r (Looked (length courses)) answer
+    pub answered : (answer : Option Found) → IsBestAmongThese p pins (plan_of courses) r (Looked (length courses)) answer
         → option_map place_found answer ≡ best_insertion p pins (plan_of courses) (request_name r)
-    answered least unique answer up =
-        answer_is law stand local says below_tells at_most_tells costs_total costs_transitive below_at_most at_most_below weaken p pins (plan_of courses) (asked.valid) (asked.good) (request_name r) r (asked.named) (asked.free)
-        least unique (Looked (length courses)) (λ v from high. inl (from, (let e = length-map courses route_of in omega arith))) answer up
+    answered answer up =
+        answer_is laws asked (Looked (length courses)) (λ v from high. inl (from, (let e = length-map courses route_of in omega arith))) answer up
 
     -- vehicles that are not looked at, all as one that was
     rest_skipped : (left k : ℕ) → k + left ≡ length (plan_of courses)
@@ -116,8 +112,7 @@ module _ (law : NamedAreFound) (stand : RequestsStandByName) (local : PassesAreL
     rest_skipped (suc left) k all idle best old =
         let here = idle (k + 1) (omega arith) (omega arith) in
         rest_skipped left (k + 1) (omega arith) (λ v above within. let h = idle v (omega arith) within in (idle_more (plan_of courses) k h.0, h.1)) best
-        (skipped law stand local says below_tells at_most_tells costs_total costs_transitive below_at_most at_most_below weaken p pins (plan_of courses) (asked.valid) (asked.good) (request_name r) r (asked.named) (asked.free)
-        (Looked k) (Looked (k + 1)) (k + 1) (omega arith) (omega arith) (one_on k) (one_off k) (inl (omega arith, omega arith)) here.1 k (omega arith) (λ u from le. inl (from, le)) here.0 best old)
+        (skipped laws asked (Looked k) (Looked (k + 1)) (k + 1) (omega arith) (omega arith) (one_on k) (one_off k) (inl (omega arith, omega arith)) here.1 k (omega arith) (λ u from le. inl (from, le)) here.0 best old)
 
     pub beyond : (end : ℕ) → end ≤ length courses → IsReach (plan_of courses) end → (best : Option Found) → IsBestAmongThese p pins (plan_of courses) r (Looked end) best
         → IsBestAmongThese p pins (plan_of courses) r (Looked (length courses)) best
@@ -126,13 +121,23 @@ module _ (law : NamedAreFound) (stand : RequestsStandByName) (local : PassesAreL
         rest_skipped (length (plan_of courses) - end) end (omega arith) reach best old
 
   module _ (k : ℕ) (c : Course) (is : c ≡ get_or courses k c) (in_range : k < length courses) where
-    pub pin_fits : (pin : List ℕ) → pin ≡ of_vehicle pins (k + 1) → length pin ≤ length c.stops
-    pin_fits pin is_pin =
-        let e = ap length is_pin in
-        let f = pin_within local p pins (plan_of courses) (asked.good) (k + 1) in
+    pin_fits : length (of_vehicle pins (k + 1)) ≤ length c.stops
+    pin_fits =
+        let f = pin_within laws.local p pins (plan_of courses) asked.good (k + 1) in
         let g = ap length (route_at courses k c is in_range) in
         let h = stops_long courses k c is in_range in
         omega arith
+
+    -- what is known where its vehicle is looked at
+    pub lookable : (ways : RequestWays) → AreWays p.depot r ways → IsLookable p pins r ways (k + 1) c
+    lookable ways are = record {
+      problem = asked.valid;
+      course = course_at courses k c is in_range p asked.tables;
+      request = asked.named;
+      valid = request_valid;
+      ways = are;
+      pin = pin_fits;
+    }
 
     high : k + 1 ≤ length (plan_of courses)
     high = let e = length-map courses route_of in omega arith
@@ -147,64 +152,52 @@ module _ (law : NamedAreFound) (stand : RequestsStandByName) (local : PassesAreL
     few_stops few = let g = ap length (route_at courses k c is in_range) in let h = stops_long courses k c is in_range in omega arith
 
     -- what is said by the table, said by the plan
-    by_plan : (pin : List ℕ) → pin ≡ of_vehicle pins (k + 1) → (best result : Option Found) → IsBetter p (route_of c) r (length pin) (k + 1) best result
+    by_plan : (best result : Option Found) → IsBetter p (route_of c) r (length (of_vehicle pins (k + 1))) (k + 1) best result
         → IsBetter p (of_vehicle (plan_of courses) (k + 1)) r (length (of_vehicle pins (k + 1))) (k + 1) best result
-    by_plan pin is_pin best result better =
-        subst (λ (l : List ℕ). IsBetter p l r (length (of_vehicle pins (k + 1))) (k + 1) best result) (sym (route_at courses k c is in_range))
-        (subst (λ (l : List ℕ). IsBetter p (route_of c) r (length l) (k + 1) best result) is_pin better)
+    by_plan best result better = subst (λ (l : List ℕ). IsBetter p l r (length (of_vehicle pins (k + 1))) (k + 1) best result) (sym (route_at courses k c is in_range)) better
 
     module _ (entries : List (ℕ × Course)) where
+      named_on : (n u : ℕ) → IsNamed (plan_of courses) entries n u → IsNamed (plan_of courses) entries (n + 1) u
+      named_on n u was = record { place = was.place; entry = was.entry; below = (let h = was.below in omega arith); at = was.at; same = was.same; some = was.some }
+
+      named_off : (n : ℕ) (e : ℕ × Course) → slice_get entries n ≡ Some e → e.0 ≡ k + 1 → (u : ℕ) → IsNamed (plan_of courses) entries (n + 1) u → (u ≡ k + 1) ⊎ IsNamed (plan_of courses) entries n u
+      named_off n e at same u was = elim (cases_lt was.place n) [
+        | inl less ↦ inr (record { place = was.place; entry = was.entry; below = less; at = was.at; same = was.same; some = was.some })
+        | inr more ↦ inl (
+            let last : was.place ≡ n = (let h = was.below in omega arith) in
+            let one : was.entry ≡ e = some_same was.entry e (sym was.at ∙ (ap (slice_get entries) last ∙ at)) in
+            sym was.same ∙ (ap (λ (x : ℕ × Course). x.0) one ∙ same))
+      ]
+
       -- a vehicle of the list more
-      pub named_more : (n : ℕ) (e : ℕ × Course) → slice_get entries n ≡ Some e → e.0 ≡ k + 1 → 1 ≤ length c.stops → (pin : List ℕ) → pin ≡ of_vehicle pins (k + 1) → length c.stops ≤ 40001 → (best result : Option Found)
-          → IsBestAmongThese p pins (plan_of courses) r (IsNamed (plan_of courses) entries n) best → IsBetter p (route_of c) r (length pin) (k + 1) best result
+      pub named_more : (n : ℕ) (e : ℕ × Course) → slice_get entries n ≡ Some e → e.0 ≡ k + 1 → 1 ≤ length c.stops → length c.stops ≤ 40001 → (best result : Option Found)
+          → IsBestAmongThese p pins (plan_of courses) r (IsNamed (plan_of courses) entries n) best → IsLookedAt p (route_of c) r (length (of_vehicle pins (k + 1))) [] (k + 1) best result
           → IsBestAmongThese p pins (plan_of courses) r (IsNamed (plan_of courses) entries (n + 1)) result
-      named_more n e at same some pin is_pin few best result old better =
-          bettered law stand local says below_tells at_most_tells costs_total costs_transitive below_at_most at_most_below weaken p pins (plan_of courses) (asked.valid) (asked.good) (request_name r) r (asked.named) (asked.free)
-          (IsNamed (plan_of courses) entries n) (IsNamed (plan_of courses) entries (n + 1)) (k + 1) (omega arith) high grow split (record { place = n; entry = e; below = omega arith; at = at; same = same; some = long }) (few_stops few) best result old (by_plan pin is_pin best result better)
-        where
-          long : 1 ≤ length (of_vehicle (plan_of courses) (k + 1))
-          long = let g = ap length (route_at courses k c is in_range) in let h = stops_long courses k c is in_range in omega arith
-
-          grow : (u : ℕ) → IsNamed (plan_of courses) entries n u → IsNamed (plan_of courses) entries (n + 1) u
-          grow u was = record { place = was.place; entry = was.entry; below = (let h = was.below in omega arith); at = was.at; same = was.same; some = was.some }
-
-          split : (u : ℕ) → IsNamed (plan_of courses) entries (n + 1) u → (u ≡ k + 1) ⊎ IsNamed (plan_of courses) entries n u
-          split u was = elim (cases_lt was.place n) [
-            | inl less ↦ inr (record { place = was.place; entry = was.entry; below = less; at = was.at; same = was.same; some = was.some })
-            | inr more ↦ inl (
-                let last : was.place ≡ n = (let h = was.below in omega arith) in
-                let one : was.entry ≡ e = some_same was.entry e (sym was.at ∙ (ap (slice_get entries) last ∙ at)) in
-                sym was.same ∙ (ap (λ (x : ℕ × Course). x.0) one ∙ same))
-          ]
+      named_more n e at same some few best result old looked =
+          let g = ap length (route_at courses k c is in_range) in
+          let h = stops_long courses k c is in_range in
+          bettered laws asked (IsNamed (plan_of courses) entries n) (IsNamed (plan_of courses) entries (n + 1)) (k + 1) (omega arith) high (named_on n) (named_off n e at same)
+          (record { place = n; entry = e; below = omega arith; at = at; same = same; some = omega arith }) (few_stops few) best result old
+          (by_plan best result (elim looked [ inl better ↦ better | inr known ↦ absurd (no_entry known.1.0 known.1.1 known.1.2) ]))
 
       -- one without stops
       pub named_idle : (n : ℕ) (e : ℕ × Course) → slice_get entries n ≡ Some e → e.0 ≡ k + 1 → length c.stops ≡ 0 → (best : Option Found)
           → IsBestAmongThese p pins (plan_of courses) r (IsNamed (plan_of courses) entries n) best → IsBestAmongThese p pins (plan_of courses) r (IsNamed (plan_of courses) entries (n + 1)) best
       named_idle n e at same none best old =
-          said_otherwise (IsNamed (plan_of courses) entries n) (IsNamed (plan_of courses) entries (n + 1)) grow back best old
+          these_same p pins (plan_of courses) r (IsNamed (plan_of courses) entries n) (IsNamed (plan_of courses) entries (n + 1)) (named_on n) back best old
         where
-          grow : (u : ℕ) → IsNamed (plan_of courses) entries n u → IsNamed (plan_of courses) entries (n + 1) u
-          grow u was = record { place = was.place; entry = was.entry; below = (let h = was.below in omega arith); at = was.at; same = was.same; some = was.some }
-
           back : (u : ℕ) → IsNamed (plan_of courses) entries (n + 1) u → IsNamed (plan_of courses) entries n u
-          back u was = elim (cases_lt was.place n) [
-            | inl less ↦ record { place = was.place; entry = was.entry; below = less; at = was.at; same = was.same; some = was.some }
-            | inr more ↦ absurd (
-                let last : was.place ≡ n = (let h = was.below in omega arith) in
-                let one : was.entry ≡ e = some_same was.entry e (sym was.at ∙ (ap (slice_get entries) last ∙ at)) in
-                let here : u ≡ k + 1 = sym was.same ∙ (ap (λ (x : ℕ × Course). x.0) one ∙ same) in
-                let f = ap (λ w. length (of_vehicle (plan_of courses) w)) here in
-                let g = empty_at none in
-                omega arith)
+          back u was = elim (named_off n e at same u was) [
+            | inl here ↦ absurd (let some = was.some in let f = ap (λ w. length (of_vehicle (plan_of courses) w)) here in let g = empty_at none in omega arith)
+            | inr before ↦ before
           ]
 
-      pub one_more : (pin : List ℕ) → pin ≡ of_vehicle pins (k + 1) → length c.stops ≤ 40001 → (best result : Option Found) → IsBestAmongThese p pins (plan_of courses) r (Looked entries k) best
-          → IsLookedAt p (route_of c) r (length pin) entries (k + 1) best result → IsBestAmongThese p pins (plan_of courses) r (Looked entries (k + 1)) result
-      one_more pin is_pin few best result old looked = elim looked [
-        | inl better ↦ bettered law stand local says below_tells at_most_tells costs_total costs_transitive below_at_most at_most_below weaken p pins (plan_of courses) (asked.valid) (asked.good) (request_name r) r (asked.named) (asked.free)
-            (Looked entries k) (Looked entries (k + 1)) (k + 1) (omega arith) high (one_on entries k) (one_off entries k) (inl (omega arith, omega arith)) (few_stops few) best result old (by_plan pin is_pin best result better)
+      pub one_more : length c.stops ≤ 40001 → (best result : Option Found) → IsBestAmongThese p pins (plan_of courses) r (Looked entries k) best
+          → IsLookedAt p (route_of c) r (length (of_vehicle pins (k + 1))) entries (k + 1) best result → IsBestAmongThese p pins (plan_of courses) r (Looked entries (k + 1)) result
+      one_more few best result old looked = elim looked [
+        | inl better ↦ bettered laws asked (Looked entries k) (Looked entries (k + 1)) (k + 1) (omega arith) high (one_on entries k) (one_off entries k) (inl (omega arith, omega arith)) (few_stops few) best result old (by_plan best result better)
         | inr known ↦ subst (IsBestAmongThese p pins (plan_of courses) r (Looked entries (k + 1))) (sym known.2)
-            (said_otherwise (Looked entries k) (Looked entries (k + 1)) (one_on entries k) (λ u seen. elim (one_off entries k u seen) [ inl here ↦ subst (Looked entries k) (sym here) (inr (there known.0 known.1)) | inr before ↦ before ]) best old)
+            (these_same p pins (plan_of courses) r (Looked entries k) (Looked entries (k + 1)) (one_on entries k) (λ u seen. elim (one_off entries k u seen) [ inl here ↦ subst (Looked entries k) (sym here) (inr (there known.0 known.1)) | inr before ↦ before ]) best old)
       ]
         where
           there : 1 ≤ length (route_of c) → IsEntryOf entries (k + 1) → IsNamed (plan_of courses) entries (length entries) (k + 1)
@@ -212,8 +205,7 @@ module _ (law : NamedAreFound) (stand : RequestsStandByName) (local : PassesAreL
 
       pub one_skipped : length c.stops ≡ 0 → HasIdle (plan_of courses) k → (best : Option Found) → IsBestAmongThese p pins (plan_of courses) r (Looked entries k) best → IsBestAmongThese p pins (plan_of courses) r (Looked entries (k + 1)) best
       one_skipped none idle best old =
-          skipped law stand local says below_tells at_most_tells costs_total costs_transitive below_at_most at_most_below weaken p pins (plan_of courses) (asked.valid) (asked.good) (request_name r) r (asked.named) (asked.free)
-          (Looked entries k) (Looked entries (k + 1)) (k + 1) (omega arith) high (one_on entries k) (one_off entries k) (inl (omega arith, omega arith)) (empty_at none) k (omega arith) (λ u from le. inl (from, le)) idle best old
+          skipped laws asked (Looked entries k) (Looked entries (k + 1)) (k + 1) (omega arith) high (one_on entries k) (one_off entries k) (inl (omega arith, omega arith)) (empty_at none) k (omega arith) (λ u from le. inl (from, le)) idle best old
 
 -- a table can be built of each route of a plan that passes
 module _ (local : PassesAreLocal) (plans : PlansAreLocal) (says : TestsSayFeasible) (p : Instance) (pins routes : List (List ℕ)) (good : passes p pins routes ≡ true) (k : ℕ) (route : List ℕ) (is : route ≡ get_or routes k route) (in_range : k < length routes) where

@@ -2,7 +2,7 @@
 use Rattle.std.proofs.Common.{◌≡◌, ℕ, zero, suc, ◌<◌, ◌≤◌, ◌⊎◌, ◌&&◌, ◌||◌, Bool, true, false, not, eqb, ltb, leb, List, [], ◌∷◌, length, Option, Some, None, refl, sym, ap, subst, ◌∙◌, inl, inr, arith}
 use Rattle.std.specs.List.{Contains}
 use Rattle.std.specs.Option.{MatchOption}
-use Rattle.std.proofs.lemmas.Bool.{and_from, and_parts, or_cases, cases_order, cases_lt, eq-eqb, eqb-true, ltb-true, lt-ltb, leb-true, le-leb}
+use Rattle.std.proofs.lemmas.Bool.{and_from, and_parts, or_cases, cases_order, cases_lt, eq-eqb, eqb-true, ltb-true, lt-ltb, leb-true, le-leb, or_left, or_right, not-true, both_ways}
 use Rattle.plan_types.specs.Cost.{cost_below, cost_at_most, CostsAreTotal, CostsAreTransitive, BelowThenAtMost, AtMostThenBelow, BelowIsAtMost}
 use Rattle.plan_types.specs.declared.plans.Cost.{Cost}
 use Rattle.move_ops.specs.Insertion.{Insertion, insertions, insertions_of, is_no_later, is_no_worse, cost_with, better, least_by, best_insertion}
@@ -50,13 +50,6 @@ module _ {X : Type 0} (at_most : X → X → Bool) (total : (x y : X) → (at_mo
               | inr there ↦ best.1 y there
             ],
           )
-
-or_left : (a b : Bool) → a ≡ true → (a || b) ≡ true
-or_left a b h = rw h refl
-
-or_right : (a b : Bool) → b ≡ true → (a || b) ≡ true
-or_right true b h = refl
-or_right false b h = h
 
 not_cases : (b : Bool) → (b ≡ true) ⊎ (not b ≡ true)
 not_cases true = inl refl
@@ -175,10 +168,6 @@ same_place x y s t = elim s [
   ]
 ]
 
-not_both : (b : Bool) → b ≡ true → not b ≡ true → ⊥
-not_both true h k = let e : false ≡ true = k in cc
-not_both false h k = let e : false ≡ true = h in cc
-
 -- by cost, and then by place
 module _ (costs_total : CostsAreTotal) (costs_transitive : CostsAreTransitive) (below_at_most : BelowThenAtMost) (at_most_below : AtMostThenBelow) (weaken : BelowIsAtMost) where
   abbrev by_both : Cost → Cost → Insertion → Insertion → Bool
@@ -217,11 +206,11 @@ module _ (costs_total : CostsAreTotal) (costs_transitive : CostsAreTransitive) (
   both_antisymmetric : (a b : Cost) (x y : Insertion) → by_both a b x y ≡ true → by_both b a y x ≡ true → x ≡ y
   both_antisymmetric a b x y h k = elim (or_cases (cost_below a b) (cost_at_most a b && is_no_later x y) h) [
     | inl less ↦ elim (or_cases (cost_below b a) (cost_at_most b a && is_no_later y x) k) [
-      | inl more ↦ absurd (not_both (cost_below a b) less (weaken b a more))
-      | inr two ↦ absurd (not_both (cost_below a b) less (and_parts (cost_at_most b a) (is_no_later y x) two).0)
+      | inl more ↦ absurd (both_ways (cost_below a b) (not-true (cost_below a b) (weaken b a more)) less)
+      | inr two ↦ absurd (both_ways (cost_below a b) (not-true (cost_below a b) (and_parts (cost_at_most b a) (is_no_later y x) two).0) less)
     ]
     | inr one ↦ elim (or_cases (cost_below b a) (cost_at_most b a && is_no_later y x) k) [
-      | inl more ↦ absurd (not_both (cost_below b a) more (and_parts (cost_at_most a b) (is_no_later x y) one).0)
+      | inl more ↦ absurd (both_ways (cost_below b a) (not-true (cost_below b a) (and_parts (cost_at_most a b) (is_no_later x y) one).0) more)
       | inr two ↦ same_place x y (later_said x y (and_parts (cost_at_most a b) (is_no_later x y) one).1) (later_said y x (and_parts (cost_at_most b a) (is_no_later y x) two).1)
     ]
   ]

@@ -9,9 +9,8 @@ use Rattle.std.specs.Option.{option_map, option_map_or, option_or}
 use Rattle.std.proofs.lemmas.Bool.{cases_lt, and_from, and_parts, eq-eqb, eqb-true, ltb-true, lt-ltb, leb-true, le-leb}
 use Rattle.std.proofs.lemmas.Bool.Decides.{eqb_tells, leb_tells}
 use Rattle.std.proofs.lemmas.Int.{ints, by_lt_z}
-use Rattle.std.proofs.lemmas.List.{length-map, take-append-drop}
+use Rattle.std.proofs.lemmas.List.{length-map, nil_from_length, take-append-drop}
 use Rattle.std.proofs.lemmas.Option.{slice_get-get_or}
-use Rattle.plan_types.specs.Cost.{BelowTells, AtMostTells, CostsAreTotal, CostsAreTransitive, BelowThenAtMost, AtMostThenBelow, BelowIsAtMost}
 use Rattle.plan_types.specs.Instance.{Instance, IsInstance}
 use Rattle.plan_types.specs.Laws.{NamedAreFound, RequestsStandByName}
 use Rattle.plan_types.specs.Request.{request_name}
@@ -29,15 +28,16 @@ use Rattle.slack_tables.specs.FitsNowhere.{FitsNowhere}
 use Rattle.slack_tables.specs.Insertion.{request_named, KeepsLimits, ArePlaces, inserted}
 use Rattle.slack_tables.specs.declared.scan.Addition.{Addition}
 use Rattle.move_ops.specs.Insertion.{Insertion, is_no_later, of_vehicle, are_places, is_place_of, insertions_of, insertions, best_insertion, cost_with, is_no_worse}
-use Rattle.move_ops.specs.Laws.{IsBest, BestInsertionsAreLeast, BestInsertionsAreUnique}
-use Rattle.move_ops.specs.Choosing.{opens, bound_beside, bound_of, place_found, found_at, IsBestAmong, IsBestAmongThese, IsLoose, HasIdle, IsBetterBelow, IsBetter}
+use Rattle.move_ops.specs.Laws.{IsBest}
+use Rattle.move_ops.specs.Choosing.{opens, bound_beside, bound_of, place_found, found_at, InsertionLaws, IsAsked, IsBestAmong, IsBestAmongThese, IsLoose, HasIdle, IsBetterBelow, IsBetter}
+use Rattle.move_ops.specs.Tables.{plan_of}
 use Rattle.move_ops.specs.declared.tables.Found.{Found}
 use Rattle.move_ops.proofs.Times.{none_some, some_same, times}
 use Rattle.move_ops.proofs.Inserting.{numbers_of, nowhere, passes_where_feasible}
 use Rattle.move_ops.proofs.BestLemmas.{said_later, both_transitive}
 use Rattle.move_ops.proofs.Replacing.{parts, all_at, times_in_vehicle, within_list, in_vehicle}
 use Rattle.move_ops.proofs.Places.{contained, within, listed, to_list}
-use Rattle.move_ops.proofs.Fitting.{fits, some_new, limits_alone}
+use Rattle.move_ops.proofs.Fitting.{fits, some_new, route_limits}
 use Rattle.move_ops.proofs.Costs.{IsPriced, Ahead, no_worse}
 use Rattle.move_ops.proofs.Bounds.{route_small}
 
@@ -109,7 +109,7 @@ module _ (law : NamedAreFound) (stand : RequestsStandByName) (local : PassesAreL
         within = high;
         places = at.0;
         behind = at.1;
-        keeps = limits_alone p (inserted r x.1 x.2 (of_vehicle routes x.0)) (some_at x low high at.0) feasible;
+        keeps = route_limits p valid (inserted r x.1 x.2 (of_vehicle routes x.0)) feasible;
       }
 
   pub fits_insertion : (x : Insertion) → Fits x → Contains (insertions_of p pins routes r) x
@@ -207,37 +207,38 @@ passed_by p r c kept v best valid course named out = by (bound_of v (opens p.kin
     by None = refl
     by (Some below) = (None, out below p (request_name r) kept valid course named, refl)
 
-no_stops : (xs ys : List ℕ) → length xs ≡ 0 → length ys ≡ 0 → xs ≡ ys
-no_stops [] [] none also = refl
-no_stops [] (y ∷ ys) none some = absurd (omega arith)
-no_stops (x ∷ xs) ys some none = absurd (omega arith)
+-- the same vehicles, said otherwise
+pub these_same : (p : Instance) (pins routes : List (List ℕ)) (r : Request) (These Others : ℕ → Type 0) → ((u : ℕ) → These u → Others u) → ((u : ℕ) → Others u → These u)
+    → (best : Option Found) → IsBestAmongThese p pins routes r These best → IsBestAmongThese p pins routes r Others best
+these_same p pins routes r These Others there back None none = λ y c others. none y c (back y.0 others)
+these_same p pins routes r These Others there back (Some g) was = record { among = was.among; seen = there g.vehicle was.seen; opens = was.opens; added = was.added; least = λ y c others. was.least y c (back y.0 others) }
 
 -- ---- one vehicle more
-module _ (law : NamedAreFound) (stand : RequestsStandByName) (local : PassesAreLocal) (says : TestsSayFeasible) (below_tells : BelowTells) (at_most_tells : AtMostTells)
-    (costs_total : CostsAreTotal) (costs_transitive : CostsAreTransitive) (below_at_most : BelowThenAtMost) (at_most_below : AtMostThenBelow) (weaken : BelowIsAtMost)
-    (p : Instance) (pins routes : List (List ℕ)) (valid : IsInstance p)
-    (good : passes p pins routes ≡ true) (name : ℕ) (r : Request) (named : lookup (nat_eq name) p.requests ≡ Some r) (free : is_planned routes r ≡ false) where
+module _ (laws : InsertionLaws) {p : Instance} {pins : List (List ℕ)} {courses : List Course} {r : Request} (asked : IsAsked p pins courses r) where
+  abbrev routes : List (List ℕ)
+  routes = plan_of courses
+
   abbrev IsFit : Insertion → Type 0
-  IsFit x = Fits law stand local says p pins routes valid good name r named free x
+  IsFit x = Fits laws.found laws.stand laws.local laws.says p pins routes asked.valid asked.good (request_name r) r asked.named asked.free x
 
   abbrev adds : Insertion → ℤ
-  adds x = gain law stand local says p pins routes valid good name r named free x
+  adds x = gain laws.found laws.stand laws.local laws.says p pins routes asked.valid asked.good (request_name r) r asked.named asked.free x
 
   fit : (x : Insertion) → Contains (insertions_of p pins routes r) x → IsFit x
-  fit x c = insertion_fits law stand local says p pins routes valid good name r named free x c
+  fit x c = insertion_fits laws.found laws.stand laws.local laws.says p pins routes asked.valid asked.good (request_name r) r asked.named asked.free x c
 
   listed_fit : (x : Insertion) → IsFit x → Contains (insertions_of p pins routes r) x
-  listed_fit x f = fits_insertion law stand local says p pins routes valid good name r named free x f
+  listed_fit x f = fits_insertion laws.found laws.stand laws.local laws.says p pins routes asked.valid asked.good (request_name r) r asked.named asked.free x f
 
   price : (x : Insertion) → IsFit x → IsPriced p routes r x (opens p.kind (of_vehicle routes x.0)) (adds x)
-  price x f = priced law stand local says p pins routes valid good name r named free x f
+  price x f = priced laws.found laws.stand laws.local laws.says p pins routes asked.valid asked.good (request_name r) r asked.named asked.free x f
 
   no_worse_than : (x y : Insertion) (a b : Bool) (d e : ℤ) → IsPriced p routes r x a d → IsPriced p routes r y b e → Ahead p routes r x a d y b e → is_no_worse p routes r x y ≡ true
-  no_worse_than x y a b d e one two ahead = no_worse p routes r below_tells at_most_tells x y a b d e one two ahead
+  no_worse_than x y a b d e one two ahead = no_worse p routes r laws.below_tells laws.at_most_tells x y a b d e one two ahead
 
   follow : (x y z : Insertion) → is_no_worse p routes r x y ≡ true → is_no_worse p routes r y z ≡ true → is_no_worse p routes r x z ≡ true
   follow x y z h k =
-      both_transitive costs_total costs_transitive below_at_most at_most_below weaken (cost_with p routes r x) (cost_with p routes r y) (cost_with p routes r z) x y z h k
+      both_transitive laws.total laws.transitive laws.below_then_at_most laws.at_most_then_below laws.below_is_at_most (cost_with p routes r x) (cost_with p routes r y) (cost_with p routes r z) x y z h k
 
   price_found : (These : ℕ → Type 0) (f : Found) → IsBestAmong p pins routes r These f → IsPriced p routes r (place_found f) f.opens f.addition.distance
   price_found These f best =
@@ -294,6 +295,17 @@ module _ (law : NamedAreFound) (stand : RequestsStandByName) (local : PassesAreL
         let plain = price y f in
         record { from = f.from; within = f.within; some = plain.some; opens = ap (λ u. opens p.kind (of_vehicle routes u)) same ∙ is_open; added = plain.added }
 
+    -- what was found stays the best, where it is no worse than those at this vehicle
+    keeps : (g : Found) → IsBestAmong p pins routes r These g → ((y : Insertion) → Contains (insertions_of p pins routes r) y → y.0 ≡ v → is_no_worse p routes r (place_found g) y ≡ true)
+        → IsBestAmong p pins routes r More g
+    keeps g was no_better = record {
+      among = was.among;
+      seen = grow g.vehicle was.seen;
+      opens = was.opens;
+      added = was.added;
+      least = λ y c these. elim (split y.0 these) [ inl same ↦ no_better y c same | inr before ↦ was.least y c before ];
+    }
+
     -- with a bound that tells what is better than the best so far
     module _ (few : length old_route ≤ 40001) (o : Bool) (is_open : opens p.kind old_route ≡ o) (best : Option Found) (old : IsBestAmongThese p pins routes r These best) (below : ℤ)
         (beats : (f : Found) → best ≡ Some f → (d : ℤ) → d <ℤ below → (x : Insertion) → x.0 ≡ v → Ahead p routes r x o d (place_found f) f.opens f.addition.distance)
@@ -303,7 +315,7 @@ module _ (law : NamedAreFound) (stand : RequestsStandByName) (local : PassesAreL
       small y f same =
           let e = few_more r y.1 y.2 (of_vehicle routes y.0) in
           let g = ap (λ u. length (of_vehicle routes u)) same in
-          gain_small law stand local says p pins routes valid good name r named free y (omega arith)
+          gain_small laws.found laws.stand laws.local laws.says p pins routes asked.valid asked.good (request_name r) r asked.named asked.free y (omega arith)
 
       -- nothing below the bound here
       stays : (b : Option Found) → best ≡ b → IsBestAmongThese p pins routes r These b → ((a : Addition) → Adds p old_route r pinned below a → ⊥) → IsBestAmongThese p pins routes r More b
@@ -311,23 +323,14 @@ module _ (law : NamedAreFound) (stand : RequestsStandByName) (local : PassesAreL
         | inl same ↦ (let f = fit y c in empty (record { distance = adds y; pickup = y.1; delivery = y.2 }) (here y below f same (all_below is y (small y f same))))
         | inr before ↦ none y c before
       ]
-      stays (Some g) is was empty = record {
-        among = was.among;
-        seen = grow g.vehicle was.seen;
-        opens = was.opens;
-        added = was.added;
-        least = λ y c these. elim (split y.0 these) [
-          | inl same ↦ elim (eqb_tells v g.vehicle) [
-            | inl t ↦ was.least y c (subst These (sym (same ∙ t.1)) was.seen)
-            | inr t ↦ (
-                let f = fit y c in
-                by_lt_z {P = is_no_worse p routes r (place_found g) y ≡ true} (adds y) below
-                (λ cheap. absurd (empty (record { distance = adds y; pickup = y.1; delivery = y.2 }) (here y below f same cheap)))
-                (λ dear. no_worse_than (place_found g) y g.opens o g.addition.distance (adds y) (price_found These g was) (price_at y o is_open f same) (keeps_up g is y same t.1 (small y f same) dear)))
-          ]
-          | inr before ↦ was.least y c before
-        ];
-      }
+      stays (Some g) is was empty = keeps g was (λ y c same. elim (eqb_tells v g.vehicle) [
+        | inl t ↦ was.least y c (subst These (sym (same ∙ t.1)) was.seen)
+        | inr t ↦ (
+            let f = fit y c in
+            by_lt_z {P = is_no_worse p routes r (place_found g) y ≡ true} (adds y) below
+            (λ cheap. absurd (empty (record { distance = adds y; pickup = y.1; delivery = y.2 }) (here y below f same cheap)))
+            (λ dear. no_worse_than (place_found g) y g.opens o g.addition.distance (adds y) (price_found These g was) (price_at y o is_open f same) (keeps_up g is y same t.1 (small y f same) dear)))
+      ])
 
       -- the first below the bound here
       changes : (b : Option Found) → best ≡ b → IsBestAmongThese p pins routes r These b → (a : Addition) → Adds p old_route r pinned below a
@@ -421,31 +424,20 @@ module _ (law : NamedAreFound) (stand : RequestsStandByName) (local : PassesAreL
               (λ is. absurd (none_some f (sym is))) better.0 better.1)
           by false true is_c is_o better =
               subst (IsBestAmongThese p pins routes r More) (sym better)
-              (record {
-                among = old.among;
-                seen = grow f.vehicle old.seen;
-                opens = old.opens;
-                added = old.added;
-                least = λ y c these. elim (split y.0 these) [
-                  | inl same ↦ (
-                      let g = fit y c in
-                      no_worse_than (place_found f) y f.opens true f.addition.distance (adds y) (price_found These f old) (price_at y true is_o g same) (inl (is_c, refl)))
-                  | inr before ↦ old.least y c before
-                ];
-              })
+              (keeps f old (λ y c same. no_worse_than (place_found f) y f.opens true f.addition.distance (adds y) (price_found These f old) (price_at y true is_o (fit y c) same) (inl (is_c, refl))))
 
     -- an empty vehicle, where one was looked at before
     pub skipped : length old_route ≡ 0 → (k : ℕ) → k < v → ((u : ℕ) → 1 ≤ u → u ≤ k → These u) → HasIdle routes k → (best : Option Found) → IsBestAmongThese p pins routes r These best → IsBestAmongThese p pins routes r More best
     skipped none k ahead known idle best old = by best old
       where
         alike : of_vehicle routes idle.0 ≡ old_route
-        alike = no_stops (of_vehicle routes idle.0) old_route idle.4 none
+        alike = nil_from_length (of_vehicle routes idle.0) idle.4 ∙ sym (nil_from_length old_route none)
 
         -- the same places at the earlier vehicle
         other : (y : Insertion) → IsFit y → y.0 ≡ v → IsFit (idle.0, y.1, y.2)
         other y f same =
             let one : of_vehicle routes y.0 ≡ of_vehicle routes idle.0 = ap (of_vehicle routes) same ∙ sym alike in
-            let pin = pin_within local p pins routes good idle.0 in
+            let pin = pin_within laws.local p pins routes asked.good idle.0 in
             let empty = idle.4 in
             let low = from_one r (length (of_vehicle routes y.0)) y.1 y.2 (f.places) in
             let from = low.0 in
@@ -470,42 +462,27 @@ module _ (law : NamedAreFound) (stand : RequestsStandByName) (local : PassesAreL
           | inl same ↦ (let f = fit y c in empty (idle.0, y.1, y.2) (listed_fit (idle.0, y.1, y.2) (other y f same)) (known idle.0 idle.1 idle.2))
           | inr before_it ↦ empty y c before_it
         ]
-        by (Some g) was = record {
-          among = was.among;
-          seen = grow g.vehicle was.seen;
-          opens = was.opens;
-          added = was.added;
-          least = λ y c these. elim (split y.0 these) [
-            | inl same ↦ (
-                let f = fit y c in
-                follow (place_found g) (idle.0, y.1, y.2) y (was.least (idle.0, y.1, y.2) (listed_fit (idle.0, y.1, y.2) (other y f same)) (known idle.0 idle.1 idle.2)) (before y f same))
-            | inr before_it ↦ was.least y c before_it
-          ];
-        }
-
-  -- the same vehicles, said otherwise
-  pub these_same : (These Others : ℕ → Type 0) → ((u : ℕ) → These u → Others u) → ((u : ℕ) → Others u → These u) → (best : Option Found) → IsBestAmongThese p pins routes r These best → IsBestAmongThese p pins routes r Others best
-  these_same These Others there back None none = λ y c others. none y c (back y.0 others)
-  these_same These Others there back (Some g) was = record { among = was.among; seen = there g.vehicle was.seen; opens = was.opens; added = was.added; least = λ y c others. was.least y c (back y.0 others) }
+        by (Some g) was = keeps g was (λ y c same.
+            follow (place_found g) (idle.0, y.1, y.2) y (was.least (idle.0, y.1, y.2) (listed_fit (idle.0, y.1, y.2) (other y (fit y c) same)) (known idle.0 idle.1 idle.2)) (before y (fit y c) same))
 
   -- among all vehicles
-  pub answer_is : BestInsertionsAreLeast → BestInsertionsAreUnique → (These : ℕ → Type 0) → ((v : ℕ) → 1 ≤ v → v ≤ length routes → These v) → (answer : Option Found) → IsBestAmongThese p pins routes r These answer
-      → option_map place_found answer ≡ best_insertion p pins routes name
-  answer_is least unique These all answer up = by_best (best_insertion p pins routes name) refl (least p pins routes name r named)
+  pub answer_is : (These : ℕ → Type 0) → ((v : ℕ) → 1 ≤ v → v ≤ length routes → These v) → (answer : Option Found) → IsBestAmongThese p pins routes r These answer
+      → option_map place_found answer ≡ best_insertion p pins routes (request_name r)
+  answer_is These all answer up = by_best (best_insertion p pins routes (request_name r)) refl (laws.least p pins routes (request_name r) r asked.named)
     where
       all_seen : (x : Insertion) → Contains (insertions_of p pins routes r) x → These x.0
       all_seen x c = let f = fit x c in all x.0 f.from f.within
 
-      nothing : insertions p pins routes name ≡ [] → (x : Insertion) → Contains (insertions_of p pins routes r) x → ⊥
+      nothing : insertions p pins routes (request_name r) ≡ [] → (x : Insertion) → Contains (insertions_of p pins routes r) x → ⊥
       nothing none x c =
-          let same : insertions p pins routes name ≡ insertions_of p pins routes r = ap (λ (o : Option Request). option_map_or (insertions_of p pins routes) o []) named in
+          let same : insertions p pins routes (request_name r) ≡ insertions_of p pins routes r = ap (λ (o : Option Request). option_map_or (insertions_of p pins routes) o []) asked.named in
           within [] x (subst (λ (l : List Insertion). Contains l x) (sym same ∙ none) c)
 
-      by : (a : Option Found) (o : Option Insertion) → IsBestAmongThese p pins routes r These a → best_insertion p pins routes name ≡ o → MatchOption o (insertions p pins routes name ≡ []) (IsBest p pins routes r) → option_map place_found a ≡ o
+      by : (a : Option Found) (o : Option Insertion) → IsBestAmongThese p pins routes r These a → best_insertion p pins routes (request_name r) ≡ o → MatchOption o (insertions p pins routes (request_name r) ≡ []) (IsBest p pins routes r) → option_map place_found a ≡ o
       by None None up is best = refl
       by None (Some x) up is best = absurd (up x (best.among) (all_seen x (best.among)))
       by (Some f) None up is none = absurd (nothing none (place_found f) (up.among))
-      by (Some f) (Some x) up is best = ap Some (unique p pins routes r (place_found f) x (record { among = up.among; least = λ y c. up.least y c (all_seen y c) }) best)
+      by (Some f) (Some x) up is best = ap Some (laws.unique p pins routes r (place_found f) x (record { among = up.among; least = λ y c. up.least y c (all_seen y c) }) best)
 
-      by_best : (o : Option Insertion) → best_insertion p pins routes name ≡ o → MatchOption o (insertions p pins routes name ≡ []) (IsBest p pins routes r) → option_map place_found answer ≡ best_insertion p pins routes name
+      by_best : (o : Option Insertion) → best_insertion p pins routes (request_name r) ≡ o → MatchOption o (insertions p pins routes (request_name r) ≡ []) (IsBest p pins routes r) → option_map place_found answer ≡ best_insertion p pins routes (request_name r)
       by_best o is best = by answer o up is best ∙ sym is

@@ -1,6 +1,8 @@
 -- The changes that make a plan of another one, route by route.
-use Rattle.std.proofs.Common.{◌≡◌, ℕ, zero, suc, ◌-◌, ◌≤◌, Bool, true, false, List, [], ◌∷◌, All, length, take, map, set, Some, slice_get, refl, sym, ap, subst, ◌∙◌, inl, inr, arith}
+use Rattle.std.proofs.Common.{◌≡◌, ℕ, zero, suc, ◌-◌, ◌≤◌, Bool, true, false, List, [], ◌∷◌, All, length, map, set, Some, slice_get, refl, sym, ap, subst, ◌∙◌, inl, inr, arith}
 use Rattle.std.specs.List.{AllByRecursion, list_all}
+use Rattle.std.specs.Option.{option_map}
+use Rattle.std.proofs.lemmas.Option.{slice_get-map}
 use Rattle.std.proofs.lemmas.Bool.{cases_Bool, and_parts, and_from}
 use Rattle.std.proofs.lemmas.List.{length-map}
 use Rattle.std.proofs.lemmas.List.Elements.{All-from_recursion}
@@ -10,17 +12,6 @@ use Rattle.move_ops.specs.declared.changes.Change.{Change}
 use Rattle.move_ops.proofs.Times.{none_some, some_same}
 use Rattle.move_ops.proofs.Replacing.{at_vehicle, all_at}
 
-pub take_long : {X : Type 0} (xs : List X) (k : ℕ) → length xs ≤ k → take k xs ≡ xs
-take_long [] zero long = refl
-take_long [] (suc k) long = refl
-take_long (x ∷ xs) zero long = absurd (omega arith)
-take_long (x ∷ xs) (suc k) long = ap (λ l. x ∷ l) (take_long xs k (omega arith))
-
-get_map : (f : List ℕ → List ℕ) (xs : List (List ℕ)) (k : ℕ) (x : List ℕ) → slice_get xs k ≡ Some x → slice_get (map f xs) k ≡ Some (f x)
-get_map f [] k x at = absurd (none_some x at)
-get_map f (y ∷ xs) zero x at = ap (λ l. Some (f l)) (some_same y x at)
-get_map f (y ∷ xs) (suc k) x at = get_map f xs k x at
-
 -- ---- routes that are changed one by one
 module _ (f : List ℕ → List ℕ) (old : List (List ℕ)) where
   pub of_map : (v : ℕ) → 1 ≤ v → v ≤ length old → of_vehicle (map f old) v ≡ f (of_vehicle old v)
@@ -29,7 +20,7 @@ module _ (f : List ℕ → List ℕ) (old : List (List ℕ)) where
       let e : suc k - 1 ≡ k = omega arith in
       some_same (of_vehicle (map f old) (suc k)) (f (of_vehicle old (suc k)))
       (sym (subst (λ j. slice_get (map f old) j ≡ Some (of_vehicle (map f old) (suc k))) e (at_vehicle (map f old) (suc k) (omega arith) (let m = length-map old f in omega arith)))
-      ∙ get_map f old k (of_vehicle old (suc k)) (subst (λ j. slice_get old j ≡ Some (of_vehicle old (suc k))) e (at_vehicle old (suc k) (omega arith) within)))
+      ∙ (slice_get-map f old k ∙ ap (option_map f) (subst (λ j. slice_get old j ≡ Some (of_vehicle old (suc k))) e (at_vehicle old (suc k) (omega arith) within))))
 
 -- ---- what the changes say of the plan
 module _ (old new : List (List ℕ)) (cs : List Change) (is : AreChanges old new cs) (long : length new ≡ length old) where

@@ -1,7 +1,7 @@
 -- What a request put into a plan does to its cost, and which of two insertions is no worse.
 use Rattle.std.proofs.Common.{◌≡◌, ℕ, ◌+◌, ◌-◌, ◌<◌, ◌≤◌, ◌⊎◌, ℤ, pos, ◌+ℤ◌, ◌<ℤ◌, eqb, cond, ◌&&◌, ◌||◌, Bool, true, false, not, List, [], length, refl, sym, ap, ◌∙◌, inl, inr, arith, nat_eq}
 use Rattle.std.specs.List.{concat, list_any, count_by, sum_by}
-use Rattle.std.proofs.lemmas.Bool.{and_from}
+use Rattle.std.proofs.lemmas.Bool.{and_from, or_left, or_right}
 use Rattle.std.proofs.lemmas.Bool.Decides.{eqb_tells}
 use Rattle.std.proofs.lemmas.Int.{ints}
 use Rattle.std.proofs.lemmas.List.Sums.{sum_by-set}
@@ -85,13 +85,6 @@ vehicles_with LiLim routes v new from within some =
 -- ---- the order of insertions
 pub same_cost : (a b : Cost) → a.unplanned ≡ b.unplanned → a.vehicles ≡ b.vehicles → a.distance ≡ b.distance → a ≡ b
 same_cost a b e f g = λ i. record { unplanned = e i; vehicles = f i; distance = g i }
-
-or_left : (a b : Bool) → a ≡ true → (a || b) ≡ true
-or_left a b h = rw h refl
-
-or_right : (a b : Bool) → b ≡ true → (a || b) ≡ true
-or_right true b h = refl
-or_right false b h = h
 
 module _ (p : Instance) (routes : List (List ℕ)) (r : Request) where
   abbrev pub new_route : Insertion → List ℕ

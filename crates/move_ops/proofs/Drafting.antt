@@ -1,10 +1,10 @@
 -- A draft and what it keeps.
-use Rattle.std.proofs.Common.{◌≡◌, ℕ, zero, suc, ◌+◌, ◌-◌, ◌<◌, ◌≤◌, ◌||◌, not, Bool, true, false, List, [], ◌∷◌, ◌++◌, length, drop, map, set, get_or, Option, Some, None, slice_get, refl, sym, ap, subst, ◌∙◌, inl, inr, arith, nat_eq, ◌⊎◌, filter}
+use Rattle.std.proofs.Common.{◌≡◌, add-one, ℕ, zero, suc, ◌+◌, ◌-◌, ◌<◌, ◌≤◌, ◌||◌, not, Bool, true, false, List, [], ◌∷◌, ◌++◌, length, drop, map, set, get_or, Option, Some, slice_get, refl, sym, ap, subst, ◌∙◌, inl, inr, arith, nat_eq, ◌⊎◌, filter}
 use Rattle.std.specs.Prelude.{unwrap_or}
 use Rattle.std.specs.List.{concat}
-use Rattle.std.proofs.lemmas.Bool.{cases_Bool, cases_lt}
+use Rattle.std.proofs.lemmas.Bool.{cases_Bool, cases_lt, or_left, or_right, or_parts, or_from}
 use Rattle.std.proofs.lemmas.Bool.Decides.{eqb_tells}
-use Rattle.std.proofs.lemmas.List.{drop_more, length-set}
+use Rattle.std.proofs.lemmas.List.{drop_more, length-set, map-set}
 use Rattle.std.proofs.lemmas.List.Folds.{list_any-append}
 use Rattle.route_sched.specs.Cost.{has_stop}
 use Rattle.plan_audit.specs.Passes.{has}
@@ -19,10 +19,10 @@ use Rattle.move_ops.specs.Tables.{AreTablesIn}
 use Rattle.move_ops.specs.Drafts.{Drafted, undone, draft_of, AreIdleBehind, IsDraftOf}
 use Rattle.move_ops.specs.Kept.{AreSeats}
 use Rattle.move_ops.specs.Refreshing.{AreWithin}
-use Rattle.move_ops.proofs.Asked.{course_at}
+use Rattle.move_ops.proofs.Asked.{course_at, route_at}
 use Rattle.move_ops.proofs.Times.{some_same}
 use Rattle.move_ops.proofs.Replacing.{get_set, get_set_other, item_set_other}
-use Rattle.std.proofs.lemmas.Option.{slice_get_within}
+use Rattle.std.proofs.lemmas.Option.{slice_get_past, slice_get_within}
 
 -- ---- seats
 -- the number of a seat 0 has stayed, and is no stop seated now
@@ -43,32 +43,20 @@ pub has_more : (xs : List ℕ) (k n : ℕ) → k < length xs → has (drop k xs)
 has_more xs k n below = ap (λ ys. has ys n) (drop_more xs k 0 below)
 
 -- ---- routes of which one changes
-pub or_false : (a b : Bool) → (a || b) ≡ false → (a ≡ false) × (b ≡ false)
-or_false true b h = absurd (let k : true ≡ false = h in cc)
-or_false false b h = (refl, h)
-
-pub both_false : (a b : Bool) → a ≡ false → b ≡ false → (a || b) ≡ false
-both_false a b h k = rw (h, k) refl
-
 append_false : (n : ℕ) (xs ys : List ℕ) → has (xs ++ ys) n ≡ false → (has xs n ≡ false) × (has ys n ≡ false)
-append_false n xs ys none = or_false (has xs n) (has ys n) (sym (list_any-append (nat_eq n) xs ys) ∙ none)
+append_false n xs ys none = or_parts (has xs n) (has ys n) (sym (list_any-append (nat_eq n) xs ys) ∙ none)
 
 -- a number that no route has, and the new route neither
 pub none_with : (n : ℕ) (routes : List (List ℕ)) (k : ℕ) (new : List ℕ) → has_stop routes n ≡ false → has new n ≡ false → has_stop (set routes k new) n ≡ false
 none_with n [] k new none out = none
-none_with n (r ∷ routes) zero new none out = let h = append_false n r (concat routes) none in list_any-append (nat_eq n) new (concat routes) ∙ both_false (has new n) (has_stop routes n) out h.1
+none_with n (r ∷ routes) zero new none out = let h = append_false n r (concat routes) none in list_any-append (nat_eq n) new (concat routes) ∙ or_from (has new n) (has_stop routes n) out h.1
 none_with n (r ∷ routes) (suc k) new none out =
     let h = append_false n r (concat routes) none in
-    list_any-append (nat_eq n) r (concat (set routes k new)) ∙ both_false (has r n) (has_stop (set routes k new) n) h.0 (none_with n routes k new h.1 out)
-
-map_set : {X Y : Type 0} (f : X → Y) (xs : List X) (k : ℕ) (x : X) → map f (set xs k x) ≡ set (map f xs) k (f x)
-map_set f [] k x = refl
-map_set f (y ∷ xs) zero x = refl
-map_set f (y ∷ xs) (suc k) x = ap (λ l. f y ∷ l) (map_set f xs k x)
+    list_any-append (nat_eq n) r (concat (set routes k new)) ∙ or_from (has r n) (has_stop (set routes k new) n) h.0 (none_with n routes k new h.1 out)
 
 -- the plan of tables, with another one for a vehicle
 pub plan_with : (tables : List Course) (k : ℕ) (c : Course) → plan_of (set tables k c) ≡ set (plan_of tables) k (route_of c)
-plan_with tables k c = map_set route_of tables k c
+plan_with tables k c = map-set route_of tables k c
 
 pub seats_with : (old new : List ℕ) (tables : List Course) (k : ℕ) (c : Course) → AreSeats old (plan_of tables) → ((n : ℕ) → slice_get new n ≡ Some 0 → has (route_of c) n ≡ false)
     → ((n : ℕ) → slice_get new n ≡ Some 0 → slice_get old n ≡ Some 0) → AreSeats new (plan_of (set tables k c))
@@ -87,12 +75,7 @@ front_with tours set_tours v tour old new is from idle more within =
 -- behind all vehicles there is none
 pub idle_behind_all : (routes : List (List ℕ)) (k : ℕ) → length routes ≤ k → AreIdleBehind k routes
 idle_behind_all routes k all zero above = refl
-idle_behind_all routes k all (suc u) above = ap (λ (o : Option (List ℕ)). length (unwrap_or o [])) (none_at routes u (omega arith))
-  where
-    none_at : (xs : List (List ℕ)) (i : ℕ) → length xs ≤ i → slice_get xs i ≡ None
-    none_at [] i out = refl
-    none_at (x ∷ xs) zero out = absurd (omega arith)
-    none_at (x ∷ xs) (suc i) out = none_at xs i (omega arith)
+idle_behind_all routes k all (suc u) above = ap (λ (o : Option (List ℕ)). length (unwrap_or o [])) (slice_get_past routes u (omega arith))
 
 -- one vehicle less, which has no stops
 pub idle_before : (routes : List (List ℕ)) (k : ℕ) → AreIdleBehind (k + 1) routes → length (of_vehicle routes (k + 1)) ≡ 0 → AreIdleBehind k routes
@@ -122,18 +105,10 @@ within_more n (e ∷ log) v c low high all = (all.0, within_more n log v c low h
 -- ---- a vehicle's route
 pub vehicle_route : (tours : List Course) (v : ℕ) (c : Course) → (v ≡ 0 → ⊥) → v - 1 < length tours → c ≡ get_or tours (v - 1) c → route_of c ≡ of_vehicle (plan_of tours) v
 vehicle_route tours zero c some below at = absurd (some refl)
-vehicle_route tours (suc k) c some below at = let e : suc k - 1 ≡ k = omega arith in go tours k (omega arith) (rw e at at)
-  where
-    go : (tours : List Course) (k : ℕ) → k < length tours → c ≡ get_or tours k c → route_of c ≡ unwrap_or (slice_get (plan_of tours) k) []
-    go [] k below at = absurd (omega arith)
-    go (t ∷ tours) zero below at = ap route_of at
-    go (t ∷ tours) (suc k) below at = go tours k (omega arith) at
+vehicle_route tours (suc k) c some below at =
+    let e : suc k - 1 ≡ k = omega arith in sym (route_at tours k c (rw e at at) (omega arith)) ∙ ap (of_vehicle (plan_of tours)) (add-one k)
 
 -- ---- the log gets shorter
-pub within_front : (n : ℕ) (log : List (ℕ × Course)) (v : ℕ) (c : Course) → AreWithin n (log ++ (v, c) ∷ []) → AreWithin n log × ((1 ≤ v) × (v ≤ n))
-within_front n [] v c all = (tt, all.0)
-within_front n (e ∷ log) v c all = let rest = within_front n log v c all.1 in ((all.0, rest.0), rest.1)
-
 pub undone_none : (tours : List Course) (log : List (ℕ × Course)) → length log ≡ 0 → undone tours log ≡ tours
 undone_none tours [] none = refl
 undone_none tours (e ∷ log) none = absurd (omega arith)
@@ -195,24 +170,17 @@ module _ (p : Instance) (pins : List (List ℕ)) (old new : Drafted) (is : IsDra
   }
 
 -- ---- the stops of tours
-true_or : (a b : Bool) → a ≡ true → (a || b) ≡ true
-true_or a b h = rw h refl
-
-pub or_true : (a b : Bool) → b ≡ true → (a || b) ≡ true
-or_true true b h = refl
-or_true false b h = h
-
 pub has_in_vehicle : (routes : List (List ℕ)) (v n : ℕ) → has (of_vehicle routes v) n ≡ true → has_stop routes n ≡ true
 has_in_vehicle routes zero n had = absurd (let h : false ≡ true = had in cc)
 has_in_vehicle [] (suc k) n had = absurd (let h : false ≡ true = had in cc)
-has_in_vehicle (r ∷ routes) (suc zero) n had = list_any-append (nat_eq n) r (concat routes) ∙ true_or (has r n) (has_stop routes n) had
-has_in_vehicle (r ∷ routes) (suc (suc k)) n had = list_any-append (nat_eq n) r (concat routes) ∙ or_true (has r n) (has_stop routes n) (has_in_vehicle routes (suc k) n had)
+has_in_vehicle (r ∷ routes) (suc zero) n had = list_any-append (nat_eq n) r (concat routes) ∙ or_left (has r n) (has_stop routes n) had
+has_in_vehicle (r ∷ routes) (suc (suc k)) n had = list_any-append (nat_eq n) r (concat routes) ∙ or_right (has r n) (has_stop routes n) (has_in_vehicle routes (suc k) n had)
 
 -- ---- tables with another one
 pub tables_with : (p : Instance) (tours : List Course) (k : ℕ) (tour : Course) → AreTablesIn p tours → course_of p (route_of tour) ≡ tour → AreTablesIn p (set tours k tour)
 tables_with p tours k tour are is =
     ap (tables_of p) (plan_with tours k tour)
-    ∙ (map_set (course_of p) (plan_of tours) k (route_of tour)
+    ∙ (map-set (course_of p) (plan_of tours) k (route_of tour)
     ∙ (ap (λ l. set l k (course_of p (route_of tour))) are ∙ ap (λ t. set tours k t) is))
 
 -- ---- stops that no route has any more
@@ -235,7 +203,7 @@ gone_in keep n out (x ∷ xs) = elim (eqb_tells n x) [
 gone : (keep : ℕ → Bool) (n : ℕ) → keep n ≡ false → (routes : List (List ℕ)) → has_stop (map (filter keep) routes) n ≡ false
 gone keep n out [] = refl
 gone keep n out (r ∷ routes) =
-    list_any-append (nat_eq n) (filter keep r) (concat (map (filter keep) routes)) ∙ both_false (has (filter keep r) n) (has_stop (map (filter keep) routes) n) (gone_in keep n out r) (gone keep n out routes)
+    list_any-append (nat_eq n) (filter keep r) (concat (map (filter keep) routes)) ∙ or_from (has (filter keep r) n) (has_stop (map (filter keep) routes) n) (gone_in keep n out r) (gone keep n out routes)
 
 pub named_gone : (p : Instance) (names : List ℕ) (routes given : List (List ℕ)) → given ≡ without_named p names routes → (n : ℕ) → is_of_named p names n ≡ true → has_stop given n ≡ false
 named_gone p names routes given are n named = ap (λ (l : List (List ℕ)). has_stop l n) are ∙ gone (λ m. not (is_of_named p names m)) n (rw named refl) routes

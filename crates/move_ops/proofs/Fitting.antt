@@ -1,16 +1,15 @@
 -- A request put into a route that is feasible alone: the new route is feasible alone too exactly where it keeps the limits of load and time.
-use Rattle.std.proofs.Common.{◌≡◌, ℕ, zero, suc, ◌+◌, ◌-◌, ◌<◌, ◌≤◌, ◌≤ℤ◌, ◌<ℤ◌, ℤ, pos, ◌-ℤ◌, nat_le, nat_eq, eqb, ◌&&◌, ◌||◌, Bool, true, false, not, int_lt, List, [], ◌∷◌, ◌++◌, length, length-append, take, drop, Option, Some, None, IsSome, refl, sym, ap, subst, ◌∙◌, inl, inr, arith, rules, T}
-use Rattle.std.specs.Prelude.{unsigned_abs, ◌↔◌}
+use Rattle.std.proofs.Common.{◌≡◌, ℕ, zero, suc, ◌+◌, ◌-◌, ◌<◌, ◌≤◌, ◌≤ℤ◌, ◌<ℤ◌, ℤ, pos, nat_le, nat_eq, eqb, ◌&&◌, Bool, true, false, not, int_lt, List, [], ◌∷◌, ◌++◌, length, length-append, take, drop, Option, Some, None, IsSome, refl, sym, ap, subst, ◌∙◌, inl, inr, arith, rules, T}
+use Rattle.std.specs.Prelude.{◌↔◌}
 use Rattle.std.specs.List.{list_all, range_with_len, insert}
 use Rattle.std.specs.Option.{option_map_or}
 use Rattle.std.specs.Map.{lookup}
-use Rattle.std.proofs.lemmas.Bool.{cases_lt, and_from, and_parts, or_cases, not-true, both_ways, eq-eqb, eqb-true, leb-true, le-leb}
+use Rattle.std.proofs.lemmas.Bool.{cases_lt, and_from, and_parts, or_cases, not-true, both_ways, eq-eqb, eqb-true, leb-true, le-leb, or_right}
 use Rattle.std.proofs.lemmas.Bool.Decides.{eqb_tells}
 use Rattle.std.proofs.lemmas.Int.{ints, by_lt_z}
 use Rattle.plan_types.specs.Instance.{Instance, IsInstance, request_with, partner_at, pickup_at}
 use Rattle.plan_types.specs.Laws.{NamedAreFound, RequestsStandByName}
 use Rattle.plan_types.specs.Request.{request_name, stop_in, partner_in, pickup_in}
-use Rattle.plan_types.specs.declared.requests.Stop.{Stop}
 use Rattle.plan_types.specs.declared.requests.Request.{Request}
 use Rattle.plan_types.specs.declared.requests.Request.TheVariants.{Single, Pair}
 use Rattle.plan_types.specs.declared.requests.Kind.{Kind}
@@ -19,9 +18,8 @@ use Rattle.route_sched.specs.Route.{place}
 use Rattle.route_sched.specs.Schedule.{start, load}
 use Rattle.plan_audit.specs.Passes.{has, has_whole_pairs, picks_up_first, keeps_capacity, keeps_windows, is_back_in_time, keeps_times, feasible_alone}
 use Rattle.move_ops.specs.Pairing.{are_paired}
-use Rattle.nint_dist.specs.Distance.{distance}
-use Rattle.nint_dist.specs.NearestRoot.{nearest_root, whole_root}
 use Rattle.slack_tables.specs.Insertion.{KeepsLimits, ArePlaces, inserted}
+use Rattle.slack_tables.proofs.IdleLemmas.{idle_limits}
 use Rattle.move_ops.proofs.Times.{none_some, some_same, times, one_here, none_here, times-append, times_split}
 use Rattle.move_ops.proofs.Inserting.{numbers_of, times_put, times_inserted, in_numbers}
 
@@ -123,10 +121,6 @@ module _ (p : Instance) (route : List ℕ) where
           | inr e ↦ leb-true (start p route (length route + 1)) p.depot.latest e
         ];
       }
-
-  or_right : (a b : Bool) → b ≡ true → (a || b) ≡ true
-  or_right true b h = refl
-  or_right false b h = h
 
   pub kept_limits : KeepsLimits p route → keeps ≡ true
   kept_limits limits = and_from (keeps_capacity p route) (keeps_times p.kind p route) capacity (times_of p.kind refl)
@@ -313,28 +307,13 @@ kept_alone p route feasible =
     let one = and_parts (has_whole_pairs p route) (picks_up_first p route && (keeps_capacity p route && keeps_times p.kind p route)) feasible in
     (and_parts (picks_up_first p route) (keeps_capacity p route && keeps_times p.kind p route) one.1).1
 
-pub limits_alone : (p : Instance) (route : List ℕ) → (length route ≡ 0 → ⊥) → feasible_alone p route ≡ true → KeepsLimits p route
-limits_alone p route some feasible = limits_kept p route (λ lilim none. absurd (some none)) (kept_alone p route feasible)
-
--- ---- a vehicle that stays at the depot
-still : (x : ℤ) → unsigned_abs (x -ℤ x) ≡ 0
-still x = omega (arith, ints)
-
-no_way : (s : Stop) → distance s s ≡ 0
-unfolding distance nearest_root whole_root
-no_way s = rw (still s.x, still s.y) refl
-
-idle_start : (p : Instance) → p.depot.service ≡ 0 → start p [] 1 ≡ p.depot.earliest
-unfolding start place
-idle_start p none = let e = no_way p.depot in omega arith
-
-pub idle_limits : (p : Instance) → IsInstance p → (route : List ℕ) → length route ≡ 0 → start p route (length route + 1) ≤ p.depot.latest
-idle_limits p valid [] none = let e = idle_start p (valid.depot.service) in let w = valid.depot.visit.window in omega arith
-idle_limits p valid (n ∷ ns) none = absurd (omega arith)
+pub back_in_time : (p : Instance) → IsInstance p → (route : List ℕ) → p.kind ≡ LiLim → length route ≡ 0 → start p route (length route + 1) ≤ p.depot.latest
+back_in_time p valid [] lilim none = (idle_limits p valid).return lilim
+back_in_time p valid (n ∷ ns) lilim none = absurd (omega arith)
 
 -- a route that is feasible alone keeps the limits
 pub route_limits : (p : Instance) → IsInstance p → (route : List ℕ) → feasible_alone p route ≡ true → KeepsLimits p route
-route_limits p valid route feasible = limits_kept p route (λ lilim none. idle_limits p valid route none) (kept_alone p route feasible)
+route_limits p valid route feasible = limits_kept p route (back_in_time p valid route) (kept_alone p route feasible)
 
 -- ---- a route is judged by its pairs and by the limits
 not_both : (a x y k : Bool) → a ≡ (x && y) → a ≡ false → a ≡ (x && (y && k))

@@ -1,9 +1,9 @@
 -- The changes of the vehicles that have some stops.
-use Rattle.std.proofs.Common.{rules, ◌≡◌, ℕ, zero, suc, ◌+◌, ◌-◌, ◌<◌, ◌≤◌, ◌||◌, ◌⊎◌, not, Bool, true, false, eqb, List, [], ◌∷◌, ◌++◌, length, map, filter, set, Option, Some, None, IsSome, slice_get, refl, sym, ap, subst, ◌∙◌, inl, inr, arith, nat_eq}
+use Rattle.std.proofs.Common.{rules, ◌≡◌, ℕ, zero, suc, ◌+◌, ◌-◌, ◌<◌, ◌≤◌, ◌⊎◌, not, Bool, true, false, eqb, List, [], ◌∷◌, ◌++◌, length, map, filter, set, Option, Some, None, IsSome, slice_get, refl, sym, ap, subst, ◌∙◌, inl, inr, arith, nat_eq}
 use Rattle.std.specs.List.{AllByRecursion, IsDistinct, concat}
 use Rattle.std.specs.Map.{lookup}
 use Rattle.std.specs.Option.{option_map, option_map_or}
-use Rattle.std.proofs.lemmas.Bool.{cases_Bool, or_cases, eqb-true, eq-eqb}
+use Rattle.std.proofs.lemmas.Bool.{cases_Bool, or_cases, eqb-true, eq-eqb, or_left, or_right, false≢true}
 use Rattle.std.proofs.lemmas.Bool.Decides.{eqb_tells}
 use Rattle.std.proofs.lemmas.List.{length-map, length-set}
 use Rattle.std.proofs.lemmas.List.Elements.{All-append, All-from_recursion, recursion_from_All}
@@ -29,13 +29,10 @@ use Rattle.move_ops.proofs.Drafting.{has_in_vehicle}
 use Rattle.move_ops.proofs.Removing.{found_has}
 
 -- ---- a stop that stands once is in one route alone
-false_true : {X : Type 0} → false ≡ true → X
-false_true h = absurd (let k : false ≡ true = h in cc)
-
 one_vehicle : (n : ℕ) (routes : List (List ℕ)) (u v : ℕ) → times n (concat routes) ≤ 1 → has (of_vehicle routes u) n ≡ true → has (of_vehicle routes v) n ≡ true → u ≡ v
-one_vehicle n routes zero v few one two = false_true one
-one_vehicle n routes (suc i) zero few one two = false_true two
-one_vehicle n [] (suc i) (suc j) few one two = false_true one
+one_vehicle n routes zero v few one two = absurd (false≢true one)
+one_vehicle n routes (suc i) zero few one two = absurd (false≢true two)
+one_vehicle n [] (suc i) (suc j) few one two = absurd (false≢true one)
 one_vehicle n (r ∷ routes) (suc zero) (suc zero) few one two = refl
 one_vehicle n (r ∷ routes) (suc zero) (suc (suc j)) few one two =
     let e = times-append n r (concat routes) in
@@ -53,24 +50,17 @@ one_vehicle n (r ∷ routes) (suc (suc i)) (suc (suc j)) few one two =
 
 in_fleet : (n : ℕ) (routes : List (List ℕ)) (v : ℕ) → has (of_vehicle routes v) n ≡ true → v ≤ length routes
 in_fleet n routes zero had = omega arith
-in_fleet n [] (suc i) had = false_true had
+in_fleet n [] (suc i) had = absurd (false≢true had)
 in_fleet n (r ∷ routes) (suc zero) had = omega arith
 in_fleet n (r ∷ routes) (suc (suc i)) had = let h = in_fleet n routes (suc i) had in omega arith
 
 -- ---- one stop's vehicle
-or_left : (a b : Bool) → a ≡ true → (a || b) ≡ true
-or_left a b h = rw h refl
-
-or_right : (a b : Bool) → b ≡ true → (a || b) ≡ true
-or_right true b h = refl
-or_right false b h = h
-
 module _ (routes : List (List ℕ)) (stop : ℕ) (before : List ℕ) where
   pub noted_none : has_stop routes stop ≡ false → Notes routes (λ n. n ≡ stop) before before
   noted_none none = record {
     within = λ all. all;
     stays = λ v h. h;
-    found = λ v n is had. false_true (sym none ∙ has_in_vehicle routes v stop (subst (λ (m : ℕ). has (of_vehicle routes v) m ≡ true) is had));
+    found = λ v n is had. absurd (false≢true (sym none ∙ has_in_vehicle routes v stop (subst (λ (m : ℕ). has (of_vehicle routes v) m ≡ true) is had)));
   }
 
   module _ (once : IsDistinct nat_eq (concat routes)) (vehicle : ℕ) (there : has (of_vehicle routes vehicle) stop ≡ true) where
@@ -108,7 +98,7 @@ module _ (routes : List (List ℕ)) where
       | inl t ↦ two.stays v (one.found v n (sym t.1) had)
       | inr t ↦ elim (eqb_tells b.number n) [
         | inl u ↦ two.found v n (sym u.1) had
-        | inr u ↦ false_true (rw (t.0, u.0) at some)
+        | inr u ↦ absurd (false≢true (rw (t.0, u.0) at some))
       ]
     ];
   }
@@ -119,10 +109,10 @@ module _ (routes : List (List ℕ)) where
     asked_of n = by (request_with p n) refl
       where
         by : (o : Option Request) → request_with p n ≡ o → option_map_or (has (name ∷ [])) (option_map request_name o) false ≡ true → (q : Request) × (lookup (nat_eq name) p.requests ≡ Some q) × (IsSome (stop_in n q))
-        by None e named = false_true named
+        by None e named = absurd (false≢true named)
         by (Some q) e named = elim (or_cases (eqb (request_name q) name) false named) [
           | inl t ↦ (q, subst (λ (k : ℕ). lookup (nat_eq k) p.requests ≡ Some q) (eqb-true (request_name q) name t) (by_name p n q valid e), in_numbers n q (found_has n q p.requests e))
-          | inr f ↦ false_true f
+          | inr f ↦ absurd (false≢true f)
         ]
 
     pub noted_named : (r : Request) → lookup (nat_eq name) p.requests ≡ Some r → (before after : List ℕ) → Notes routes (λ n. IsSome (stop_in n r)) before after → Notes routes (λ n. is_of_named p (name ∷ []) n ≡ true) before after
@@ -138,7 +128,7 @@ module _ (routes : List (List ℕ)) where
     first_or_later name rest n = by (name_at p n)
       where
         by : (o : Option ℕ) → option_map_or (has (name ∷ rest)) o false ≡ true → (option_map_or (has (name ∷ [])) o false ≡ true) ⊎ (option_map_or (has rest) o false ≡ true)
-        by None named = false_true named
+        by None named = absurd (false≢true named)
         by (Some k) named = elim (or_cases (eqb k name) (has rest k) named) [
           | inl t ↦ inl (or_left (eqb k name) false t)
           | inr t ↦ inr t
@@ -183,7 +173,7 @@ module _ (f : List ℕ → List ℕ) (old : List (List ℕ)) where
   reached : (vs : List ℕ) (cur : List (List ℕ)) (k : ℕ) → k < length cur → AllByRecursion (λ v. (1 ≤ v) × (v ≤ length old)) vs
       → (has vs (k + 1) ≡ true) ⊎ (slice_get cur k ≡ Some (f (of_vehicle old (k + 1)))) → slice_get (with_routes cur (map change_at vs)) k ≡ Some (f (of_vehicle old (k + 1)))
   reached [] cur k below all told = elim told [
-    | inl had ↦ false_true had
+    | inl had ↦ absurd (false≢true had)
     | inr at ↦ at
   ]
   reached (v ∷ vs) cur k below all told =
@@ -237,7 +227,7 @@ pub named_changes : (p : Instance) (names : List ℕ) (old : List (List ℕ)) (v
 named_changes p names old vs within found =
     gathered (filter (λ n. not (is_of_named p names n))) old vs within
     (λ v out. kept_whole (λ n. not (is_of_named p names n)) (of_vehicle old v) (λ n had. elim (cases_Bool (is_of_named p names n)) [
-      | inl named ↦ false_true (sym out ∙ found v n named had)
+      | inl named ↦ absurd (false≢true (sym out ∙ found v n named had))
       | inr free ↦ rw free refl
     ]))
 
@@ -290,7 +280,7 @@ pub exchanged_changes : (r s : Request) (old : List (List ℕ)) (vs : List ℕ) 
 exchanged_changes r s old vs within found =
     gathered (map (counterpart r s)) old vs within
     (λ v out. mapped_whole (counterpart r s) (of_vehicle old v) (λ n had. elim (counterpart_stays r s n) [
-      | inl asked ↦ false_true (sym out ∙ found v n asked had)
+      | inl asked ↦ absurd (false≢true (sym out ∙ found v n asked had))
       | inr same ↦ same
     ]))
 

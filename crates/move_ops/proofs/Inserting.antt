@@ -2,7 +2,7 @@
 use Rattle.std.proofs.Common.{◌≡◌, ℕ, zero, suc, ◌+◌, ◌-◌, ◌<◌, ◌≤◌, ◌||◌, Bool, true, false, cond, eqb, ltb, leb, ◌&&◌, List, [], ◌∷◌, ◌++◌, length, take, drop, Some, None, IsSome, slice_get, refl, sym, subst, ◌∙◌, inl, inr, arith, rules, nat_eq}
 use Rattle.std.specs.List.{concat, AllByRecursion}
 use Rattle.std.specs.Map.{lookup}
-use Rattle.std.proofs.lemmas.Bool.{cases_lt, cases_Bool, and_parts, eq-eqb, eqb-true, ltb-true, leb-true}
+use Rattle.std.proofs.lemmas.Bool.{cases_lt, cases_Bool, and_parts, eq-eqb, eqb-true, ltb-true, leb-true, or_parts}
 use Rattle.std.proofs.lemmas.Bool.Decides.{eqb_tells}
 use Rattle.std.proofs.lemmas.List.{length-set}
 use Rattle.std.proofs.lemmas.List.Elements.{All-set}
@@ -91,21 +91,17 @@ few_numbers n (Pair a b) valid = elim (eqb_tells n a.number) [
   ]
 ]
 
-or_false : (a b : Bool) → (a || b) ≡ false → (a ≡ false) × (b ≡ false)
-or_false true b h = absurd (let k : true ≡ false = h in cc)
-or_false false b h = (refl, h)
-
 pub nowhere : (routes : List (List ℕ)) (r : Request) → is_planned routes r ≡ false → (n : ℕ) → 1 ≤ times n (numbers_of r) → times n (concat routes) ≡ 0
 nowhere routes (Single s) free n some = elim (eqb_tells n s.number) [
-  | inl t ↦ rw t.1 (none_anywhere s.number (concat routes) (or_false (has_stop routes s.number) false free).0)
+  | inl t ↦ rw t.1 (none_anywhere s.number (concat routes) (or_parts (has_stop routes s.number) false free).0)
   | inr t ↦ (let e = none_here n s.number t.0 in absurd (omega arith))
 ]
 nowhere routes (Pair a b) free n some =
-    let both = or_false (has_stop routes a.number) (has_stop routes b.number || false) free in
+    let both = or_parts (has_stop routes a.number) (has_stop routes b.number || false) free in
     elim (eqb_tells n a.number) [
       | inl t ↦ rw t.1 (none_anywhere a.number (concat routes) both.0)
       | inr t ↦ elim (eqb_tells n b.number) [
-        | inl u ↦ rw u.1 (none_anywhere b.number (concat routes) (or_false (has_stop routes b.number) false both.1).0)
+        | inl u ↦ rw u.1 (none_anywhere b.number (concat routes) (or_parts (has_stop routes b.number) false both.1).0)
         | inr u ↦ (let e = none_here n a.number t.0 in let f = none_here n b.number u.0 in absurd (omega arith))
       ]
     ]

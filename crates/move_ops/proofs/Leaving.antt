@@ -3,7 +3,7 @@ use Rattle.std.proofs.Common.{◌≡◌, ℕ, zero, suc, ◌+◌, ◌<◌, ◌�
 use Rattle.std.specs.List.{AllByRecursion, list_all, concat}
 use Rattle.std.specs.Map.{lookup}
 use Rattle.std.specs.Option.{option_map, option_map_or}
-use Rattle.std.proofs.lemmas.Bool.{cases_Bool, and_parts, eq-eqb}
+use Rattle.std.proofs.lemmas.Bool.{cases_Bool, and_parts, eq-eqb, or_right}
 use Rattle.std.proofs.lemmas.Bool.Decides.{eqb_tells}
 use Rattle.std.proofs.lemmas.List.Sums.{count_by-le-length}
 use Rattle.std.proofs.lemmas.Map.Steps.{length-le_from_distinct_below}
@@ -21,7 +21,7 @@ use Rattle.move_ops.proofs.Times.{none_some, some_same, times, one_here, none_he
 use Rattle.move_ops.proofs.Inserting.{numbers_of, in_numbers}
 use Rattle.move_ops.proofs.Costs.{any_same, unplanned_same}
 use Rattle.move_ops.proofs.Counting.{one_more_planned}
-use Rattle.move_ops.proofs.Drafting.{named_gone, or_true}
+use Rattle.move_ops.proofs.Drafting.{named_gone}
 use Rattle.move_ops.proofs.Exchanging.{named_so, counterpart_other, times_exchanged, first_for_second, second_for_first}
 use Rattle.move_ops.proofs.Removing.{found_has}
 
@@ -29,7 +29,7 @@ use Rattle.move_ops.proofs.Removing.{found_has}
 pub has_item : (ns : List ℕ) (k : ℕ) → k < length ns → has ns (get_or ns k 0) ≡ true
 has_item [] k below = absurd (omega arith)
 has_item (n ∷ ns) zero below = elim (eqb_tells n n) [ inl t ↦ rw t.0 refl | inr t ↦ absurd (t.1 refl) ]
-has_item (n ∷ ns) (suc k) below = or_true (eqb (get_or ns k 0) n) (has ns (get_or ns k 0)) (has_item ns k (omega arith))
+has_item (n ∷ ns) (suc k) below = or_right (eqb (get_or ns k 0) n) (has ns (get_or ns k 0)) (has_item ns k (omega arith))
 
 pub named_stop : NamedAreFound → (p : Instance) → IsInstance p → (names : List ℕ) (name : ℕ) (r : Request) → has names name ≡ true → lookup (nat_eq name) p.requests ≡ Some r → (n : ℕ) → IsSome (stop_in n r) → is_of_named p names n ≡ true
 named_stop found p valid names name r there at n some = ap (λ (o : Option ℕ). option_map_or (has names) o false) ((found p n name r valid at some).name) ∙ (ap (has names) (sym (named_so p.requests name r (valid.named) at)) ∙ there)

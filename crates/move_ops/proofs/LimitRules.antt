@@ -1,53 +1,39 @@
 -- What keeps the limits breaks none of the auditor's rules on load and time as the only route, and the other way round.
-use Rattle.std.proofs.Common.{◌≡◌, ℕ, zero, suc, ◌+◌, ◌-◌, ◌<◌, ◌≤◌, ◌≤ℤ◌, ◌<ℤ◌, pos, List, [], ◌∷◌, length, get_or, Some, refl, sym, subst, inl, inr, arith}
+use Rattle.std.proofs.Common.{◌≡◌, ℕ, ◌+◌, ◌<◌, ◌≤ℤ◌, ◌<ℤ◌, pos, List, [], ◌∷◌, length, Some, refl, sym, subst, inl, inr, arith}
 use Rattle.std.proofs.lemmas.Bool.{cases_lt}
 use Rattle.std.proofs.lemmas.Int.{ints, by_lt_z}
-use Rattle.std.proofs.lemmas.Option.{slice_get-get_or}
 use Rattle.plan_types.specs.Instance.{Instance, IsInstance}
 use Rattle.route_sched.specs.Route.{place}
 use Rattle.route_sched.specs.Schedule.{start, load}
 use Rattle.plan_audit.specs.Rules.{item_at, IsOverloaded, IsLate, IsLateReturn}
+use Rattle.plan_audit.proofs.AloneLemmas.{only_route}
+use Rattle.plan_audit.proofs.SoundLemmas.{stop_there, stop_within}
 use Rattle.slack_tables.specs.Insertion.{KeepsLimits}
 use Rattle.move_ops.specs.Laws.{LimitsAreRules}
-use Rattle.move_ops.proofs.Fitting.{idle_limits}
-use Rattle.move_ops.proofs.Replacing.{within_list}
-use Rattle.move_ops.proofs.Times.{none_some, some_same}
-
-only_route : (route other : List ℕ) (r : ℕ) → item_at (route ∷ []) r ≡ Some other → other ≡ route
-only_route route other zero at = absurd (none_some other at)
-only_route route other (suc zero) at = sym (some_same route other at)
-only_route route other (suc (suc k)) at = absurd (none_some other at)
-
-from_one : (route : List ℕ) (i n : ℕ) → item_at route i ≡ Some n → 1 ≤ i
-from_one route zero n at = absurd (none_some n at)
-from_one route (suc k) n at = omega arith
-
-stop_there : (route : List ℕ) (i : ℕ) → 1 ≤ i → i ≤ length route → item_at route i ≡ Some (get_or route (i - 1) 0)
-stop_there route zero low high = absurd (omega arith)
-stop_there route (suc k) low high = let e : suc k - 1 ≡ k = omega arith in subst (λ (j : ℕ). item_at route (suc k) ≡ Some (get_or route j 0)) (sym e) (slice_get-get_or route k 0 (omega arith))
+use Rattle.move_ops.proofs.Fitting.{back_in_time}
 
 module _ (p : Instance) (route : List ℕ) where
   not_overloaded : KeepsLimits p route → (r i n : ℕ) → IsOverloaded p (route ∷ []) r i n → ⊥
   not_overloaded limits r i n broken =
-      let same = only_route route broken.0 r broken.1 in
+      let same = sym (only_route route broken.0 r broken.1).1 in
       let at : item_at route i ≡ Some n = subst (λ (l : List ℕ). item_at l i ≡ Some n) same broken.2 in
       let above : pos p.capacity <ℤ load p route i = subst (λ (l : List ℕ). pos p.capacity <ℤ load p l i) same broken.3 in
-      let most = limits.load i (from_one route i n at) (within_list route i n at) in
+      let most = limits.load i (stop_within route i n at).0 (stop_within route i n at).1 in
       omega (arith, ints)
 
   not_late : KeepsLimits p route → (r i n : ℕ) → IsLate p (route ∷ []) r i n → ⊥
   not_late limits r i n broken =
       let late = broken.1 in
-      let same = only_route route late.0 r late.1 in
+      let same = sym (only_route route late.0 r late.1).1 in
       let at : item_at route i ≡ Some n = subst (λ (l : List ℕ). item_at l i ≡ Some n) same late.2 in
       let above : (place p route i).latest < start p route i = subst (λ (l : List ℕ). (place p l i).latest < start p l i) same late.3 in
-      let most = limits.window broken.0 i (from_one route i n at) (within_list route i n at) in
+      let most = limits.window broken.0 i (stop_within route i n at).0 (stop_within route i n at).1 in
       omega arith
 
   not_back_late : KeepsLimits p route → (r i n : ℕ) → IsLateReturn p (route ∷ []) r i n → ⊥
   not_back_late limits r i n broken =
       let late = broken.1 in
-      let same = only_route route late.0 r late.1 in
+      let same = sym (only_route route late.0 r late.1).1 in
       let behind : i ≡ length route + 1 = subst (λ (l : List ℕ). i ≡ length l + 1) same late.3 in
       let above : p.depot.latest < start p route i = subst (λ (l : List ℕ). p.depot.latest < start p l i) same late.5 in
       let behind_last : p.depot.latest < start p route (length route + 1) = subst (λ (j : ℕ). p.depot.latest < start p route j) behind above in
@@ -55,9 +41,9 @@ module _ (p : Instance) (route : List ℕ) where
 
   keeps_limits : IsInstance p → ((r i n : ℕ) → (IsOverloaded p (route ∷ []) r i n → ⊥) × (IsLate p (route ∷ []) r i n → ⊥) × (IsLateReturn p (route ∷ []) r i n → ⊥)) → KeepsLimits p route
   keeps_limits valid rules = record {
-    load = λ i from to. by_lt_z {P = load p route i ≤ℤ pos p.capacity} (pos p.capacity) (load p route i) (λ above. absurd ((rules 1 i (get_or route (i - 1) 0)).0 (route, refl, stop_there route i from to, above))) (λ le. le);
+    load = λ i from to. by_lt_z {P = load p route i ≤ℤ pos p.capacity} (pos p.capacity) (load p route i) (λ above. absurd ((rules 1 i (stop_there route i from to).0).0 (route, refl, (stop_there route i from to).1, above))) (λ le. le);
     window = λ lilim i from to. elim (cases_lt (place p route i).latest (start p route i)) [
-      | inl above ↦ absurd ((rules 1 i (get_or route (i - 1) 0)).1 (lilim, (route, refl, stop_there route i from to, above)))
+      | inl above ↦ absurd ((rules 1 i (stop_there route i from to).0).1 (lilim, (route, refl, (stop_there route i from to).1, above)))
       | inr within ↦ omega arith
     ];
     return = λ lilim. elim (cases_lt 0 (length route)) [
@@ -65,7 +51,7 @@ module _ (p : Instance) (route : List ℕ) where
         | inl above ↦ absurd ((rules 1 (length route + 1) 0).2 (lilim, (route, refl, some, refl, refl, above)))
         | inr within ↦ omega arith
       ]
-      | inr none ↦ idle_limits p valid route (omega arith)
+      | inr none ↦ back_in_time p valid route lilim (omega arith)
     ];
   }
 

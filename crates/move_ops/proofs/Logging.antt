@@ -1,11 +1,11 @@
 -- The log of a draft, in which no vehicle stands twice.
-use Rattle.std.proofs.Common.{◌≡◌, ℕ, ℤ, zero, suc, ◌+◌, ◌-◌, ◌<◌, ◌≤◌, ◌||◌, Bool, true, false, eqb, List, [], ◌∷◌, ◌++◌, length, drop, map, set, get_or, Option, None, Some, slice_get, refl, sym, ap, subst, ◌∙◌, inl, inr, arith}
+use Rattle.std.proofs.Common.{◌≡◌, ℕ, ℤ, zero, suc, ◌+◌, ◌-◌, ◌<◌, ◌≤◌, ◌||◌, true, false, eqb, List, [], ◌∷◌, ◌++◌, length, drop, map, set, get_or, Option, None, Some, slice_get, refl, sym, ap, subst, ◌∙◌, inl, inr, arith}
 use Rattle.std.specs.Prelude.{MatchOption, vec_capacity}
 use Rattle.std.specs.List.{list_any, remove, AllByRecursion, IsDistinct}
 use Rattle.std.specs.Option.{is_none, is_some}
-use Rattle.std.proofs.lemmas.Bool.{or_cases}
+use Rattle.std.proofs.lemmas.Bool.{or_cases, or_left, or_right, or_parts, or_from, eq-eqb}
 use Rattle.std.proofs.lemmas.Bool.Decides.{eqb_tells}
-use Rattle.std.proofs.lemmas.List.{drop_more, length-map, length-set}
+use Rattle.std.proofs.lemmas.List.{drop_more, length-map, length-set, set-set, set_comm}
 use Rattle.std.proofs.lemmas.Map.Steps.{length-le_from_distinct_below}
 use Rattle.plan_audit.specs.Passes.{has}
 use Rattle.slack_tables.specs.Course.{Course, route_of}
@@ -16,35 +16,22 @@ use Rattle.move_ops.specs.Logged.{is_logged, AreOnce, IsEntry}
 use Rattle.move_ops.specs.Tables.{plan_of}
 use Rattle.move_ops.specs.Refreshing.{AreWithin}
 use Rattle.move_ops.specs.Rooms.{AreRooms, IsRoomSet}
-use Rattle.move_ops.proofs.Drafting.{base_first, base_later, both_false, front_with, or_false, or_true, seats_with}
+use Rattle.move_ops.proofs.Drafting.{base_first, base_later, front_with, seats_with}
 use Rattle.move_ops.proofs.Rooming.{set_rooms}
 use Rattle.move_ops.proofs.Times.{none_some, some_same}
 
--- ---- places of a list that are set
-set_twice : {X : Type 0} (xs : List X) (k : ℕ) (x y : X) → set (set xs k x) k y ≡ set xs k y
-set_twice [] k x y = refl
-set_twice (z ∷ xs) zero x y = refl
-set_twice (z ∷ xs) (suc k) x y = ap (λ l. z ∷ l) (set_twice xs k x y)
-
-set_apart : {X : Type 0} (xs : List X) (k j : ℕ) (x y : X) → (j ≡ k → ⊥) → set (set xs j y) k x ≡ set (set xs k x) j y
-set_apart [] k j x y apart = refl
-set_apart (z ∷ xs) zero zero x y apart = absurd (apart refl)
-set_apart (z ∷ xs) zero (suc j) x y apart = refl
-set_apart (z ∷ xs) (suc k) zero x y apart = refl
-set_apart (z ∷ xs) (suc k) (suc j) x y apart = ap (λ l. z ∷ l) (set_apart xs k j x y (λ same. apart (ap suc same)))
-
 -- ---- a vehicle that the log has
 set_over : (tours : List Course) (log : List (ℕ × Course)) (k : ℕ) (c x : Course) → set (undone (set tours k c) log) k x ≡ set (undone tours log) k x
-set_over tours [] k c x = set_twice tours k c x
+set_over tours [] k c x = set-set tours k c x
 set_over tours (e ∷ log) k c x = elim (eqb_tells (e.0 - 1) k) [
   | inl t ↦ (
       let same : set (undone (set tours k c) (e ∷ log)) k x ≡ set (undone (set tours k c) log) k x =
-      ap (λ j. set (set (undone (set tours k c) log) j e.1) k x) (t.1) ∙ set_twice (undone (set tours k c) log) k e.1 x in
-      let there : set (undone tours (e ∷ log)) k x ≡ set (undone tours log) k x = ap (λ j. set (set (undone tours log) j e.1) k x) (t.1) ∙ set_twice (undone tours log) k e.1 x in
+      ap (λ j. set (set (undone (set tours k c) log) j e.1) k x) (t.1) ∙ set-set (undone (set tours k c) log) k e.1 x in
+      let there : set (undone tours (e ∷ log)) k x ≡ set (undone tours log) k x = ap (λ j. set (set (undone tours log) j e.1) k x) (t.1) ∙ set-set (undone tours log) k e.1 x in
       same ∙ (set_over tours log k c x ∙ sym there))
   | inr t ↦
-      set_apart (undone (set tours k c) log) k (e.0 - 1) x e.1 (t.1)
-      ∙ (ap (λ l. set l (e.0 - 1) e.1) (set_over tours log k c x) ∙ sym (set_apart (undone tours log) k (e.0 - 1) x e.1 (t.1)))
+      set_comm (undone (set tours k c) log) (e.0 - 1) k e.1 x (t.1)
+      ∙ (ap (λ l. set l (e.0 - 1) e.1) (set_over tours log k c x) ∙ sym (set_comm (undone tours log) (e.0 - 1) k e.1 x (t.1)))
 ]
 
 -- another tour of it changes nothing in the base
@@ -61,10 +48,10 @@ undone_same tours (e ∷ log) v c had = elim (or_cases (eqb e.0 v) (is_logged lo
 set_below : (tours : List Course) (log : List (ℕ × Course)) (n v : ℕ) (c : Course) → 1 ≤ v → AreWithin n log → is_logged log v ≡ false → undone (set tours (v - 1) c) log ≡ set (undone tours log) (v - 1) c
 set_below tours [] n v c from all none = refl
 set_below tours (e ∷ log) n v c from all none =
-    let parts = or_false (eqb e.0 v) (is_logged log v) none in
+    let parts = or_parts (eqb e.0 v) (is_logged log v) none in
     let apart : e.0 ≡ v → ⊥ = λ same. elim (eqb_tells e.0 v) [ inl t ↦ absurd (let k : true ≡ false = sym (t.0) ∙ parts.0 in cc) | inr t ↦ t.1 same ] in
     ap (λ l. set l (e.0 - 1) e.1) (set_below tours log n v c from all.1 parts.1)
-    ∙ sym (set_apart (undone tours log) (v - 1) (e.0 - 1) c e.1 (λ same. apart (omega arith)))
+    ∙ sym (set_comm (undone tours log) (e.0 - 1) (v - 1) e.1 c (λ same. apart (omega arith)))
 
 -- ---- one entry less
 pub undone_without : (tours : List Course) (log : List (ℕ × Course)) (n k : ℕ) (e : ℕ × Course) → slice_get log k ≡ Some e → AreWithin n log → AreOnce log → undone (set tours (e.0 - 1) e.1) (remove log k) ≡ undone tours log
@@ -82,8 +69,8 @@ within_without n (x ∷ log) (suc k) e at all = let rest = within_without n log 
 logged_without : (log : List (ℕ × Course)) (k v : ℕ) → is_logged log v ≡ false → is_logged (remove log k) v ≡ false
 logged_without [] zero v none = none
 logged_without [] (suc k) v none = none
-logged_without (x ∷ log) zero v none = (or_false (eqb x.0 v) (is_logged log v) none).1
-logged_without (x ∷ log) (suc k) v none = let parts = or_false (eqb x.0 v) (is_logged log v) none in both_false (eqb x.0 v) (is_logged (remove log k) v) parts.0 (logged_without log k v parts.1)
+logged_without (x ∷ log) zero v none = (or_parts (eqb x.0 v) (is_logged log v) none).1
+logged_without (x ∷ log) (suc k) v none = let parts = or_parts (eqb x.0 v) (is_logged log v) none in or_from (eqb x.0 v) (is_logged (remove log k) v) parts.0 (logged_without log k v parts.1)
 
 pub once_without : (log : List (ℕ × Course)) (k : ℕ) → AreOnce log → AreOnce (remove log k)
 once_without [] zero once = tt
@@ -93,32 +80,21 @@ once_without (x ∷ log) (suc k) once = (logged_without log k x.0 once.0, once_w
 
 -- ---- the newest entry
 logged_more : (log : List (ℕ × Course)) (v : ℕ) (c : Course) (u : ℕ) → is_logged log u ≡ false → (v ≡ u → ⊥) → is_logged (log ++ (v, c) ∷ []) u ≡ false
-logged_more [] v c u none apart = both_false (eqb v u) false (elim (eqb_tells v u) [ inl t ↦ absurd (apart (t.1)) | inr t ↦ t.0 ]) refl
-logged_more (x ∷ log) v c u none apart = let parts = or_false (eqb x.0 u) (is_logged log u) none in both_false (eqb x.0 u) (is_logged (log ++ (v, c) ∷ []) u) parts.0 (logged_more log v c u parts.1 apart)
+logged_more [] v c u none apart = or_from (eqb v u) false (elim (eqb_tells v u) [ inl t ↦ absurd (apart (t.1)) | inr t ↦ t.0 ]) refl
+logged_more (x ∷ log) v c u none apart = let parts = or_parts (eqb x.0 u) (is_logged log u) none in or_from (eqb x.0 u) (is_logged (log ++ (v, c) ∷ []) u) parts.0 (logged_more log v c u parts.1 apart)
 
 pub once_more : (log : List (ℕ × Course)) (v : ℕ) (c : Course) → is_logged log v ≡ false → AreOnce log → AreOnce (log ++ (v, c) ∷ [])
 once_more [] v c none once = (refl, tt)
 once_more (x ∷ log) v c none once =
-    let parts = or_false (eqb x.0 v) (is_logged log v) none in
+    let parts = or_parts (eqb x.0 v) (is_logged log v) none in
     let apart : v ≡ x.0 → ⊥ = λ same. elim (eqb_tells x.0 v) [ inl t ↦ absurd (let k : true ≡ false = sym (t.0) ∙ parts.0 in cc) | inr t ↦ t.1 (sym same) ] in
     (logged_more log v c x.0 once.0 apart, once_more log v c parts.1 once.1)
-
-logged_front : (log : List (ℕ × Course)) (e : ℕ × Course) (u : ℕ) → is_logged (log ++ e ∷ []) u ≡ false → is_logged log u ≡ false
-logged_front [] e u none = refl
-logged_front (x ∷ log) e u none = let parts = or_false (eqb x.0 u) (is_logged (log ++ e ∷ []) u) none in both_false (eqb x.0 u) (is_logged log u) parts.0 (logged_front log e u parts.1)
-
-pub once_front : (log : List (ℕ × Course)) (e : ℕ × Course) → AreOnce (log ++ e ∷ []) → AreOnce log
-once_front [] e once = tt
-once_front (x ∷ log) e once = (logged_front log e x.0 once.0, once_front log e once.1)
 
 -- ---- what a vehicle had in the base
 has_at : (log : List (ℕ × Course)) (k : ℕ) (e : ℕ × Course) → slice_get log k ≡ Some e → is_logged log e.0 ≡ true
 has_at [] k e at = absurd (none_some e at)
-has_at (x ∷ log) zero e at = subst (λ (y : ℕ × Course). is_logged (x ∷ log) y.0 ≡ true) (some_same x e at) (here x.0 (is_logged log x.0))
-  where
-    here : (v : ℕ) (b : Bool) → (eqb v v || b) ≡ true
-    here v b = elim (eqb_tells v v) [ inl t ↦ rw (t.0) refl | inr t ↦ absurd (t.1 refl) ]
-has_at (x ∷ log) (suc k) e at = or_true (eqb x.0 e.0) (is_logged log e.0) (has_at log k e at)
+has_at (x ∷ log) zero e at = subst (λ (y : ℕ × Course). is_logged (x ∷ log) y.0 ≡ true) (some_same x e at) (or_left (eqb x.0 x.0) (is_logged log x.0) (eq-eqb x.0 x.0 refl))
+has_at (x ∷ log) (suc k) e at = or_right (eqb x.0 e.0) (is_logged log e.0) (has_at log k e at)
 
 pub base_at : (tours : List Course) (log : List (ℕ × Course)) (n k : ℕ) (e : ℕ × Course) → slice_get log k ≡ Some e → AreWithin n log → AreOnce log → e.0 ≤ length tours → slice_get (undone tours log) (e.0 - 1) ≡ Some e.1
 base_at tours [] n k e at all once within = absurd (none_some e at)
@@ -149,7 +125,7 @@ logged (Some k) log v told some = has_at log k (v, told.0) told.1
 apart_from : (log : List (ℕ × Course)) (v : ℕ) → is_logged log v ≡ false → AllByRecursion (λ u. eqb v u ≡ false) (map (λ e. e.0) log)
 apart_from [] v none = tt
 apart_from (e ∷ log) v none =
-    let parts = or_false (eqb e.0 v) (is_logged log v) none in
+    let parts = or_parts (eqb e.0 v) (is_logged log v) none in
     let other : eqb v e.0 ≡ false = elim (eqb_tells v e.0) [
       | inl t ↦ elim (eqb_tells e.0 v) [ inl u ↦ absurd (let k : true ≡ false = sym u.0 ∙ parts.0 in cc) | inr u ↦ absurd (u.1 (sym t.1)) ]
       | inr t ↦ t.0

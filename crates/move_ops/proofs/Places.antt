@@ -3,6 +3,7 @@ use Rattle.std.proofs.Common.{◌≡◌, ◌↔◌, ℕ, zero, suc, ◌+◌, ◌
 use Rattle.std.specs.List.{Contains, flat_map, range_with_len}
 use Rattle.std.specs.Option.{option_and_then, option_map_or}
 use Rattle.std.proofs.lemmas.Bool.{and_from, and_parts, cases_Bool, cases_order, eq-eqb, eqb-true, ltb-true, lt-ltb, leb-true, le-leb}
+use Rattle.std.proofs.lemmas.List.Elements.{All-contains, All-contains_itself, All-filter, Contains-append_cases, Contains-append_left, Contains-append_right, filter_passes}
 use Rattle.plan_types.specs.Instance.{Instance}
 use Rattle.plan_types.specs.declared.requests.Request.{Request}
 use Rattle.plan_types.specs.declared.requests.Request.TheVariants.{Single, Pair}
@@ -27,18 +28,13 @@ within (y ∷ ys) x (zero, less, at) = inl at
 within (y ∷ ys) x (suc k, less, at) = inr (within ys x (k, omega arith, at))
 
 in_left : {X : Type 0} (xs ys : List X) (x : X) → In xs x → In (xs ++ ys) x
-in_left [] ys x i = absurd i
-in_left (y ∷ xs) ys x (inl same) = inl same
-in_left (y ∷ xs) ys x (inr there) = inr (in_left xs ys x there)
+in_left xs ys x i = within (xs ++ ys) x (Contains-append_left xs ys x (contained xs x i))
 
 in_right : {X : Type 0} (xs ys : List X) (x : X) → In ys x → In (xs ++ ys) x
-in_right [] ys x i = i
-in_right (y ∷ xs) ys x i = inr (in_right xs ys x i)
+in_right xs ys x i = within (xs ++ ys) x (Contains-append_right xs ys x (contained ys x i))
 
 in_either : {X : Type 0} (xs ys : List X) (x : X) → In (xs ++ ys) x → In xs x ⊎ In ys x
-in_either [] ys x i = inr i
-in_either (y ∷ xs) ys x (inl same) = inl (inl same)
-in_either (y ∷ xs) ys x (inr there) = elim (in_either xs ys x there) [ inl h ↦ inl (inr h) | inr h ↦ inr h ]
+in_either xs ys x i = elim (Contains-append_cases xs ys x (contained (xs ++ ys) x i)) [ inl c ↦ inl (within xs x c) | inr c ↦ inr (within ys x c) ]
 
 in_map : {X Y : Type 0} (f : X → Y) (xs : List X) (x : X) → In xs x → In (map f xs) (f x)
 in_map f [] x i = absurd i
@@ -83,14 +79,9 @@ in_filter test (y ∷ xs) x (inr there) good = elim (cases_Bool (test y)) [
 ]
 
 of_filter : {X : Type 0} (test : X → Bool) (xs : List X) (x : X) → In (filter test xs) x → In xs x × (test x ≡ true)
-of_filter test [] x i = absurd i
-of_filter test (y ∷ xs) x i = elim (cases_Bool (test y)) [
-  | inl e ↦ elim (rw e at i) [
-    | inl same ↦ (inl same, ap test (sym same) ∙ e)
-    | inr there ↦ (let t = of_filter test xs x there in (inr t.0, t.1))
-  ]
-  | inr e ↦ (let t = of_filter test xs x (rw e at i) in (inr t.0, t.1))
-]
+of_filter test xs x i =
+    let c = contained (filter test xs) x i in
+    (within xs x (All-contains (Contains xs) (filter test xs) x (All-filter test (Contains xs) xs (All-contains_itself xs)) c), All-contains (λ y. test y ≡ true) (filter test xs) x (filter_passes test xs) c)
 
 abbrev twice : ℕ → ℕ × ℕ
 twice m = (m, m)

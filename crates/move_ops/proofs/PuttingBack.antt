@@ -2,11 +2,11 @@
 use Rattle.std.proofs.Common.{◌≡◌, ℕ, zero, suc, ◌-◌, ◌<◌, ◌≤◌, ◌||◌, ◌&&◌, Bool, true, false, not, leb, List, [], ◌∷◌, map, filter, length, set, get_or, Option, Some, None, slice_get, refl, sym, ap, subst, ◌∙◌, inl, inr, arith}
 use Rattle.std.specs.Prelude.{unwrap_or, IsTrue, MatchOption}
 use Rattle.std.specs.List.{concat, insert, list_all, Contains}
-use Rattle.std.specs.Option.{option_and_then, option_map_or}
+use Rattle.std.specs.Option.{option_and_then, option_map, option_map_or}
 use Rattle.std.proofs.lemmas.Bool.{and_from, and_parts, cases_Bool, cases_lt, le-leb, or_cases}
 use Rattle.std.proofs.lemmas.Bool.Decides.{eqb_tells}
 use Rattle.std.proofs.lemmas.List.{length-map}
-use Rattle.std.proofs.lemmas.Option.{slice_get-get_or, slice_get_within}
+use Rattle.std.proofs.lemmas.Option.{slice_get-get_or, slice_get-map, slice_get_within}
 use Rattle.plan_types.specs.Cost.{cost_at_most, cost_below, BelowIsAtMost}
 use Rattle.plan_types.specs.Instance.{Instance, IsInstance}
 use Rattle.plan_types.specs.Laws.{NamedAreFound, RequestsStandByName}
@@ -88,11 +88,6 @@ routes_back f (x ∷ xs) (suc w) route at stay =
     ap (λ (y : List ℕ). y ∷ set (map f xs) w route) (stay zero x refl (λ e. omega arith))
     ∙ ap (λ (ys : List (List ℕ)). x ∷ ys) (routes_back f xs w route at (λ u other there apart. stay (suc u) other there (λ e. apart (omega arith))))
 
-get_map : (f : List ℕ → List ℕ) (routes : List (List ℕ)) (w : ℕ) (route : List ℕ) → slice_get routes w ≡ Some route → slice_get (map f routes) w ≡ Some (f route)
-get_map f [] w route at = absurd (none_some route at)
-get_map f (x ∷ xs) zero route at = ap (λ (y : List ℕ). Some (f y)) (some_same x route at)
-get_map f (x ∷ xs) (suc w) route at = get_map f xs w route at
-
 -- a stop that is not pinned stands behind the pin
 behind_pin : (pins routes : List (List ℕ)) → KeepsPins routes pins → (w k n : ℕ) (route : List ℕ) → slice_get routes w ≡ Some route → slice_get route k ≡ Some n → times n (concat pins) ≡ 0
     → length (of_vehicle pins (suc w)) ≤ k
@@ -154,7 +149,7 @@ module _ (keep : ℕ → Bool) (pins routes : List (List ℕ)) (pinned : KeepsPi
 
   module _ (w : ℕ) (route : List ℕ) (at : slice_get routes w ≡ Some route) where
     left_at : of_vehicle left (suc w) ≡ filter keep route
-    left_at = ap (λ (o : Option (List ℕ)). unwrap_or o []) (get_map (filter keep) routes w route at)
+    left_at = ap (λ (o : Option (List ℕ)). unwrap_or o []) (slice_get-map (filter keep) routes w ∙ ap (option_map (filter keep)) at)
 
     old_place : (r : Request) (i j : ℕ) → are_places r (length (of_vehicle pins (suc w))) (length (filter keep route)) i j ≡ true → inserted r i j (filter keep route) ≡ route
         → ((u m : ℕ) → (u ≡ suc w → ⊥) → (k : ℕ) → Stands routes u k m → keep m ≡ true) → IsOldPlace r (suc w, i, j)

@@ -1,5 +1,5 @@
 -- Tables of which some were built anew.
-use Rattle.std.proofs.Common.{◌≡◌, ℕ, zero, suc, ◌+◌, ◌-◌, ◌<◌, ◌≤◌, ◌⊎◌, eqb, Bool, true, false, List, [], ◌∷◌, length, map, set, get_or, Option, Some, None, IsSome, refl, sym, ap, subst, ◌∙◌, inl, inr, arith}
+use Rattle.std.proofs.Common.{◌≡◌, ℕ, zero, suc, ◌+◌, ◌-◌, ◌<◌, ◌≤◌, ◌⊎◌, Bool, true, false, List, [], ◌∷◌, length, map, set, get_or, refl, sym, ap, subst, ◌∙◌, inl, inr, arith}
 use Rattle.std.specs.List.{AllByRecursion}
 use Rattle.std.proofs.Math.ListN.{get_or-map, length-map}
 use Rattle.std.proofs.lemmas.Bool.Decides.{eqb_tells}
@@ -7,62 +7,23 @@ use Rattle.std.proofs.lemmas.List.{length-set, same_lists, get_or-set_other}
 use Rattle.std.proofs.lemmas.Grind.{get_or-set_at}
 use Rattle.std.proofs.lemmas.List.Elements.{recursion_from_All}
 use Rattle.std.proofs.lemmas.Option.{get_or_from_slice_get}
-use Rattle.plan_types.specs.Instance.{Instance, IsInstance, first_some, stop_at}
-use Rattle.plan_types.specs.Request.{stop_in}
-use Rattle.plan_types.specs.declared.requests.Stop.{Stop}
-use Rattle.plan_types.specs.declared.requests.Request.{Request}
-use Rattle.plan_types.specs.declared.requests.Request.TheVariants.{Single, Pair}
-use Rattle.route_sched.specs.Route.{IsLive, AreLiveOnce, stop_numbered}
+use Rattle.plan_types.specs.Instance.{Instance, IsInstance}
+use Rattle.route_sched.specs.Route.{AreLiveOnce}
 use Rattle.plan_audit.specs.Locality.{PassesAreLocal, PlansAreLocal}
 use Rattle.plan_audit.specs.Passes.{has, passes}
 use Rattle.slack_tables.specs.Course.{Course, course_of, route_of}
+use Rattle.slack_tables.proofs.TableLemmas.{numbers-are}
 use Rattle.move_ops.specs.Insertion.{of_vehicle}
 use Rattle.move_ops.specs.Tables.{plan_of, tables_of, AreTablesIn, AreVehicles, DifferOnlyAt}
 use Rattle.move_ops.specs.Refreshing.{fresh_of, replaced, AreWithin}
-use Rattle.move_ops.proofs.Times.{none_some, some_same}
 use Rattle.move_ops.proofs.Replacing.{at_vehicle, parts}
 
--- ---- the numbers of a course's stops
-number_in : (n : ℕ) (r : Request) (s : Stop) → stop_in n r ≡ Some s → s.number ≡ n
-number_in n (Single a) s is = elim (eqb_tells a.number n) [
-  | inl t ↦ (let e : Some a ≡ Some s = rw t.0 at is in ap (λ (x : Stop). x.number) (sym (some_same a s e)) ∙ t.1)
-  | inr t ↦ absurd (let e : None ≡ Some s = rw t.0 at is in none_some s e)
-]
-number_in n (Pair a b) s is = elim (eqb_tells a.number n) [
-  | inl t ↦ (let e : Some a ≡ Some s = rw t.0 at is in ap (λ (x : Stop). x.number) (sym (some_same a s e)) ∙ t.1)
-  | inr t ↦ elim (eqb_tells b.number n) [
-    | inl u ↦ (let e : Some b ≡ Some s = rw (t.0, u.0) at is in ap (λ (x : Stop). x.number) (sym (some_same b s e)) ∙ u.1)
-    | inr u ↦ absurd (let e : None ≡ Some s = rw (t.0, u.0) at is in none_some s e)
-  ]
-]
-
-number_among : (n : ℕ) (es : List (ℕ × Request)) (s : Stop) → first_some (stop_in n) es ≡ Some s → s.number ≡ n
-number_among n [] s is = absurd (none_some s is)
-number_among n (e ∷ es) s is = by (stop_in n e.1) refl (λ there. number_among n es s there)
-  where
-    by : (o : Option Stop) → stop_in n e.1 ≡ o → (first_some (stop_in n) es ≡ Some s → s.number ≡ n) → s.number ≡ n
-    by (Some t) at later = number_in n e.1 s (at ∙ (let h : Some t ≡ Some s = rw at at is in h))
-    by None at later = later (rw at at is)
-
+-- ---- the routes of tables
 module _ (p : Instance) (valid : IsInstance p) where
-  number_kept : (n : ℕ) → IsLive p n → (stop_numbered p n).number ≡ n
-  number_kept n live = elim (eqb_tells n 0) [
-    | inl t ↦ (let e : stop_numbered p n ≡ p.depot = rw t.0 refl in ap (λ (s : Stop). s.number) e ∙ (valid.depot.number ∙ sym t.1))
-    | inr t ↦ by (stop_at p n) refl t.0
-  ]
-    where
-      by : (o : Option Stop) → stop_at p n ≡ o → eqb n 0 ≡ false → (stop_numbered p n).number ≡ n
-      by None at apart = absurd (let h : IsSome {T = Stop} None = subst (λ (o : Option Stop). IsSome o) at live in let k : false ≡ true = h in cc)
-      by (Some s) at apart = rw (apart, at) (number_among n p.requests s at)
-
-  numbers_kept : (ns : List ℕ) → AllByRecursion (IsLive p) ns → route_of (course_of p ns) ≡ ns
-  numbers_kept [] live = refl
-  numbers_kept (n ∷ ns) live = ap (λ (m : ℕ). m ∷ route_of (course_of p ns)) (number_kept n live.0) ∙ ap (λ (l : List ℕ). n ∷ l) (numbers_kept ns live.1)
-
   routes_kept : (routes : List (List ℕ)) → AllByRecursion (AreLiveOnce p) routes → plan_of (tables_of p routes) ≡ routes
   routes_kept [] once = refl
   routes_kept (r ∷ routes) once =
-      ap (λ (l : List ℕ). l ∷ plan_of (tables_of p routes)) (numbers_kept r (recursion_from_All (IsLive p) r (once.0.live))) ∙ ap (λ (l : List (List ℕ)). r ∷ l) (routes_kept routes once.1)
+      ap (λ (l : List ℕ). l ∷ plan_of (tables_of p routes)) (numbers-are p r valid once.0) ∙ ap (λ (l : List (List ℕ)). r ∷ l) (routes_kept routes once.1)
 
   pub plan_kept : PassesAreLocal → PlansAreLocal → (pins routes : List (List ℕ)) → passes p pins routes ≡ true → plan_of (tables_of p routes) ≡ routes
   plan_kept local plans pins routes good = routes_kept routes (recursion_from_All (AreLiveOnce p) routes ((plans p routes).0 ((parts local p pins routes good).plan)).0)

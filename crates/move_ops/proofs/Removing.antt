@@ -2,7 +2,7 @@
 use Rattle.std.proofs.Common.{◌≡◌, ℕ, zero, suc, ◌≤◌, not, Bool, true, false, cond, eqb, List, [], ◌∷◌, All, map, filter, Option, Some, None, slice_get, refl, sym, ap, subst, ◌∙◌, inl, inr, arith}
 use Rattle.std.specs.List.{list_all, concat}
 use Rattle.std.specs.Option.{option_map, option_map_or, option_or}
-use Rattle.std.proofs.lemmas.Bool.{cases_Bool, and_parts, or_cases, eqb-true}
+use Rattle.std.proofs.lemmas.Bool.{cases_Bool, and_parts, or_cases, eqb-true, not-true}
 use Rattle.std.proofs.lemmas.Bool.Decides.{eqb_tells}
 use Rattle.std.proofs.lemmas.List.{length-map}
 use Rattle.plan_types.specs.Instance.{Instance, IsInstance, first_some, request_with}
@@ -81,16 +81,12 @@ module _ (n : ℕ) (r : Request) where
   found_has [] at = absurd (none_some r at)
   found_has (e ∷ es) at = found_in e.1 (first_some (λ q. option_map (λ _. q) (stop_in n q)) es) (found_has es) at
 
-pub not_true : (b : Bool) → not b ≡ true → b ≡ false
-not_true true h = absurd (let k : false ≡ true = h in cc)
-not_true false h = refl
-
 -- no stop of a movable request is pinned
 pub unpinned : (pins routes : List (List ℕ)) (r : Request) → is_movable pins routes r ≡ true → (n : ℕ) → 1 ≤ times n (concat pins) → times n (numbers_of r) ≡ 0
 unpinned pins routes r movable n pinned = elim (eqb_tells (times n (numbers_of r)) 0) [
   | inl t ↦ t.1
   | inr t ↦ (
-      let free = not_true (is_planned pins r) (and_parts (is_planned routes r) (not (is_planned pins r)) movable).1 in
+      let free = not-true (is_planned pins r) (and_parts (is_planned routes r) (not (is_planned pins r)) movable).1 in
       let h = nowhere pins r free n (omega arith) in
       absurd (omega arith))
 ]

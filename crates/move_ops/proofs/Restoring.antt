@@ -4,8 +4,7 @@ use Rattle.std.proofs.lemmas.Option.{slice_get_read, slice_get_within}
 use Rattle.plan_types.specs.Instance.{Instance}
 use Rattle.slack_tables.specs.Course.{Course, course_of, route_of}
 use Rattle.move_ops.specs.declared.draft.Draft.TheInside.{Inside}
-use Rattle.move_ops.specs.Drafts.{Drafted, undone, draft_of}
-use Rattle.move_ops.specs.Insertion.{with_route}
+use Rattle.move_ops.specs.Drafts.{Drafted, undone}
 use Rattle.move_ops.specs.Kept.{IsKept}
 use Rattle.move_ops.specs.Logged.{AreOnce}
 use Rattle.move_ops.specs.Refreshing.{AreWithin}
@@ -36,17 +35,9 @@ module _ (p : Instance) (d : Drafted) (old : Inside) (kept : IsKept old) (view :
   read_course e at = subst (λ (y : ℕ × Course). course_of p (route_of y.1) ≡ y.1) (sym (read e at)) is_course
 
   -- and where its stops are those of a route, so is the table
-  module _ (first : ℕ × Course) (at_first : first ≡ get_or old.log.items k first) (stops route : List ℕ) (of_first : stops ≡ route_of first.1) (same : stops ≡ route) where
-    of_base : route_of x ≡ route
-    of_base = sym (of_first ∙ ap (λ (y : ℕ × Course). route_of y.1) (read first at_first)) ∙ same
-
+  module _ (e : ℕ × Course) (at : e ≡ get_or old.log.items k e) (route : List ℕ) (same : route_of e.1 ≡ route) where
     pub base_is : x ≡ course_of p route
-    base_is = sym is_course ∙ ap (course_of p) of_base
+    base_is = sym is_course ∙ ap (course_of p) (ap (λ (y : ℕ × Course). route_of y.1) (sym (read e at)) ∙ same)
 
     pub base_stops : route_of (course_of p route) ≡ route
-    base_stops = ap route_of (sym base_is) ∙ of_base
-
-    pub same_plan : (second : ℕ × Course) → second ≡ get_or old.log.items k second → (u : ℕ) → u ≡ v → with_route (draft_of d) u (route_of second.1) ≡ with_route (draft_of d) v route
-    same_plan second at u is =
-        ap (λ (w : ℕ). with_route (draft_of d) w (route_of second.1)) is
-        ∙ (ap (λ (y : ℕ × Course). with_route (draft_of d) v (route_of y.1)) (read second at) ∙ ap (λ (r : List ℕ). with_route (draft_of d) v r) of_base)
+    base_stops = ap route_of (sym base_is) ∙ (ap (λ (y : ℕ × Course). route_of y.1) (sym (read e at)) ∙ same)

@@ -4,17 +4,23 @@ use Rattle.std.specs.List.{Contains}
 use Rattle.std.specs.Map.{lookup}
 use Rattle.std.specs.Option.{option_map, option_or}
 use Rattle.plan_types.specs.Instance.{Instance, IsInstance}
-use Rattle.plan_types.specs.Request.{request_name}
+use Rattle.plan_types.specs.Cost.{BelowTells, AtMostTells, CostsAreTotal, CostsAreTransitive, BelowThenAtMost, AtMostThenBelow, BelowIsAtMost}
+use Rattle.plan_types.specs.Laws.{NamedAreFound, RequestsStandByName}
+use Rattle.plan_types.specs.Request.{request_name, IsRequest}
 use Rattle.plan_types.specs.declared.requests.Request.{Request}
 use Rattle.plan_types.specs.declared.requests.Kind.{Kind}
 use Rattle.plan_types.specs.declared.requests.Kind.TheVariants.{LiLim, Vrp}
 use Rattle.route_sched.specs.Cost.{is_planned}
+use Rattle.plan_audit.specs.Locality.{PassesAreLocal, TestsSayFeasible}
 use Rattle.plan_audit.specs.Passes.{passes}
 use Rattle.slack_tables.specs.Best.{IsBestAddition}
-use Rattle.slack_tables.specs.Course.{Course}
+use Rattle.slack_tables.specs.Course.{Course, IsCourseIn}
 use Rattle.slack_tables.specs.Insertion.{inserted, IsAdded}
+use Rattle.slack_tables.specs.RequestFloors.{AreWays}
+use Rattle.slack_tables.specs.declared.request.RequestWays.{RequestWays}
 use Rattle.slack_tables.specs.declared.scan.Addition.{Addition}
-use Rattle.move_ops.specs.Insertion.{Insertion, of_vehicle, insertions_of, is_no_worse}
+use Rattle.move_ops.specs.Insertion.{Insertion, request_named, of_vehicle, insertions_of, is_no_worse}
+use Rattle.move_ops.specs.Laws.{BestInsertionsAreLeast, BestInsertionsAreUnique}
 use Rattle.move_ops.specs.Tables.{plan_of, AreTablesIn}
 use Rattle.move_ops.specs.declared.tables.Found.{Found}
 
@@ -29,6 +35,22 @@ place_found f = (f.vehicle, f.addition.pickup, f.addition.delivery)
 abbrev pub found_at : ℕ → Bool → Addition → Found
 found_at v o a = record { vehicle = v; opens = o; addition = a }
 
+-- the laws by which insertions are told apart
+pub record InsertionLaws : Type 0 where
+  pub found : NamedAreFound
+  pub stand : RequestsStandByName
+  pub local : PassesAreLocal
+  pub says : TestsSayFeasible
+  pub below_tells : BelowTells
+  pub at_most_tells : AtMostTells
+  pub total : CostsAreTotal
+  pub transitive : CostsAreTransitive
+  pub below_then_at_most : BelowThenAtMost
+  pub at_most_then_below : AtMostThenBelow
+  pub below_is_at_most : BelowIsAtMost
+  pub least : BestInsertionsAreLeast
+  pub unique : BestInsertionsAreUnique
+
 -- the tables are of a plan that passes, and the request is live and unplanned
 pub record IsAsked (p : Instance) (pins : List (List ℕ)) (courses : List Course) (r : Request) : Type 0 where
   pub valid : IsInstance p
@@ -36,6 +58,15 @@ pub record IsAsked (p : Instance) (pins : List (List ℕ)) (courses : List Cours
   pub good : passes p pins (plan_of courses) ≡ true
   pub named : lookup (nat_eq (request_name r)) p.requests ≡ Some r
   pub free : is_planned (plan_of courses) r ≡ false
+
+-- the table is one of the problem, the request is live and has these ways, and the vehicle's pin is no longer than the route
+pub record IsLookable (p : Instance) (pins : List (List ℕ)) (r : Request) (w : RequestWays) (v : ℕ) (c : Course) : Type 0 where
+  pub problem : IsInstance p
+  pub course : IsCourseIn p c
+  pub request : request_named p (request_name r) ≡ Some r
+  pub valid : IsRequest r
+  pub ways : AreWays p.depot r w
+  pub pin : length (of_vehicle pins v) ≤ length c.stops
 
 -- what was found is an insertion at one of these vehicles, and no worse than any other there
 pub record IsBestAmong (p : Instance) (pins routes : List (List ℕ)) (r : Request) (These : ℕ → Type 0) (f : Found) : Type 0 where

@@ -19,7 +19,8 @@
 //!   counts once; one that is placed is one less.
 //!
 //! Problem and pins are given in each call and tied to the draft by `IsDraftOf`, so the type borrows nothing.
-ghost use Rattle.std.specs.Prelude.{◌≡◌, ◌≤◌, ◌<◌, ◌-◌, ◌==◌, not, true, false, ℕ, List, Some, IfOk, MatchOption, IsTrue, length, slice_get, slice_set, slice_index_or};
+ghost use Rattle.std.specs.Prelude.{◌≡◌, ◌≤◌, ◌<◌, ◌-◌, ◌==◌, not, true, false, ℕ, List, Some, IfOk, MatchOption, IsTrue, length, slice_get, slice_set, slice_index_or, vec_capacity};
+ghost use Rattle.std.specs.List.{remove};
 ghost use Rattle.slack_tables.specs.Course.{Course, route_of, IsCourseIn};
 ghost use Rattle.plan_types.specs.Instance.{Instance};
 ghost use Rattle.plan_audit.specs.Passes.{passes};
@@ -30,6 +31,7 @@ ghost use Rattle.move_ops.specs.Changes.{IsVehicleWith};
 ghost use Rattle.move_ops.specs.Choosing.{IsReach};
 ghost use Rattle.move_ops.specs.Drafts.{AreIdleBehind, Drafted, undone, draft_of, base_of, IsDraftOf};
 ghost use Rattle.move_ops.specs.Logged.{is_logged, IsEntry};
+ghost use Rattle.move_ops.specs.Refreshing.{AreWithin};
 
 mod foreseeing;
 mod installing;
@@ -129,7 +131,8 @@ impl Draft {
             → IsDraftOf p pins self.new }
     {
         while self.is_changed() {
-            self.forget();
+            let newest = self.log.len() - 1;
+            self.forget(newest);
         }
         self.base_cost = self.cost;
         self.front = front_of(&self.tours, self.front);
@@ -342,7 +345,7 @@ impl Draft {
         ensures cost { self.new.cost ≡ self.old.cost }
         ensures base_cost { self.new.base_cost ≡ self.old.base_cost }
     {
-        let (vehicle, tour) = self.log.remove(entry);
+        let (vehicle, tour) = take_entry(&mut self.log, entry);
         seat(&mut self.seats, tour.stops(), vehicle);
         set_room(&mut self.rooms, vehicle, &tour);
         let tried = swap(&mut self.tours, (vehicle - 1) as usize, tour);
@@ -350,18 +353,31 @@ impl Draft {
         keep(&mut self.spare, tried);
     }
 
-    // What the vehicle had that was changed last is not needed any more.
-    fn forget(&mut self)
+    // What the vehicle of an entry of the log had in the base is not needed any more.
+    fn forget(&mut self, entry: usize)
+        requires { entry < length self.old.log }
         ensures tours { self.new.tours ≡ self.old.tours }
         ensures log { length self.new.log ≡ length self.old.log - 1 }
         ensures pinned { self.new.pinned ≡ self.old.pinned }
         ensures cost { self.new.cost ≡ self.old.cost }
         ensures base_cost { self.new.base_cost ≡ self.old.base_cost }
     {
-        if let Some((_, tour)) = self.log.pop() {
-            keep(&mut self.spare, tour);
-        }
+        let (_, tour) = take_entry(&mut self.log, entry);
+        keep(&mut self.spare, tour);
     }
+}
+
+// Takes an entry out of a log.
+fn take_entry(log: &mut Vec<(u32, Tour)>, entry: usize) -> (u32, Tour)
+    requires { entry < length log.old.items }
+    ensures at { slice_get log.old.items entry ≡ Some result }
+    ensures rest { log.new.items ≡ remove log.old.items entry }
+    ensures len { length log.new.items ≡ length log.old.items - 1 }
+    ensures room { vec_capacity log.new ≡ vec_capacity log.old }
+    ensures within { (n : ℕ) → AreWithin n log.old.items → AreWithin n (remove log.old.items entry)
+        × ((1 ≤ result.0) × (result.0 ≤ n)) }
+{
+    log.remove(entry)
 }
 
 // The front, where this vehicle has another route.

@@ -1,9 +1,13 @@
 //! What the best insertion is: the least by a test that compares costs and then places. The list of insertions rises, but
 //! nothing rests on that. A request that is taken out has one, since it fits where it was.
+ghost use Rattle.move_ops.specs.Choosing.{InsertionLaws};
 ghost use Rattle.move_ops.specs.Laws.{BestInsertionsAreLeast, BestInsertionsAreUnique, InsertionsCanBePutIn, LimitsAreRules, PlansPassWithoutPins, RelocationsNeverCostMore, RequestsKeepTheirPlaces};
 
-use plan_audit::{a_passing_plan_is_sound, passes_are_local, tests_say_pass};
-use plan_types::{costs_are_in_order, requests_are_found_by_stop, requests_stand_by_name};
+use plan_audit::{a_passing_plan_is_sound, passes_are_local, tests_say_feasible, tests_say_pass};
+use plan_types::{
+    costs_are_in_order, costs_compare_part_by_part, requests_are_found_by_stop,
+    requests_stand_by_name,
+};
 
 /// The best insertion of a request is one of its insertions, and no other costs less, or as much at an earlier vehicle, pickup place or
 /// delivery place. There is none exactly where the request has no insertion.
@@ -61,3 +65,17 @@ pub fn plans_pass_without_pins()
 pub fn limits_are_rules()
     ensures { LimitsAreRules }
 {}
+
+/// The laws by which insertions are told apart, as one.
+pub(crate) fn insertion_laws()
+    ensures { InsertionLaws }
+{
+    requests_are_found_by_stop();
+    requests_stand_by_name();
+    passes_are_local();
+    tests_say_feasible();
+    costs_compare_part_by_part();
+    costs_are_in_order();
+    best_insertions_are_least();
+    best_insertions_are_unique();
+}

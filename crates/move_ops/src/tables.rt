@@ -10,27 +10,24 @@
 ghost use Rattle.std.specs.Prelude.{◌≡◌, ◌+◌, ◌≤◌, ◌<ℤ◌, pos, true, false, [], map, Some, IfOk, IsSome, length};
 ghost use Rattle.std.specs.Option.{option_map};
 ghost use Rattle.plan_types.specs.Instance.{IsInstance};
-ghost use Rattle.plan_types.specs.Request.{request_name, IsRequest};
-ghost use Rattle.slack_tables.specs.Course.{route_of, IsCourseIn};
+ghost use Rattle.plan_types.specs.Request.{request_name};
+ghost use Rattle.slack_tables.specs.Course.{route_of};
 ghost use Rattle.slack_tables.specs.RequestFloors.{AreWays};
 ghost use Rattle.move_ops.specs.Insertion.{request_named, of_vehicle, best_insertion};
 ghost use Rattle.plan_audit.specs.Passes.{passes};
 ghost use Rattle.move_ops.specs.Refreshing.{fresh_of, AreWithin};
 ghost use Rattle.move_ops.specs.Tables.{plan_of, AreVehicles};
 ghost use Rattle.move_ops.specs.Rooms.{AreRooms};
-ghost use Rattle.move_ops.specs.Choosing.{opens, bound_of, place_found, IsAsked, IsBestAmongThese, IsLookedAt, IsLoose, bound_beside, IsBetter, IsEntryOf, IsNamed, IsReach, IsShort};
+ghost use Rattle.move_ops.specs.Choosing.{opens, bound_of, place_found, IsAsked, IsBestAmongThese, IsLookable, IsLookedAt, IsLoose, bound_beside, IsBetter, IsEntryOf, IsNamed, IsReach, IsShort};
 
 use crate::facts::problem_keeps_limits;
-use crate::laws::{best_insertions_are_least, best_insertions_are_unique};
+use crate::laws::insertion_laws;
 use crate::lists::of_vehicle;
 use crate::rooms::is_full;
 use crate::tour::Tour;
 use crate::tours::tours_of;
 use plan_audit::{passes_are_local, plans_are_local, tests_say_feasible};
-use plan_types::{
-    Kind, OutOfMemory, Pins, Plan, Problem, Request, Route, costs_are_in_order,
-    costs_compare_part_by_part, requests_are_found_by_stop, requests_stand_by_name,
-};
+use plan_types::{Kind, OutOfMemory, Pins, Plan, Problem, Request, Route};
 use slack_tables::{Addition, RequestWays};
 use std::alloc::Global;
 use std::marker::Model;
@@ -226,14 +223,7 @@ fn best_by_rooms(
     ensures { option_map place_found result
         ≡ best_insertion problem.now pins.now (plan_of tables.now) (request_name request.now) }
 {
-    best_insertions_are_least();
-    best_insertions_are_unique();
-    requests_are_found_by_stop();
-    requests_stand_by_name();
-    passes_are_local();
-    tests_say_feasible();
-    costs_compare_part_by_part();
-    costs_are_in_order();
+    insertion_laws();
     let ways = RequestWays::of(&problem.depot, request);
     let mut best = best_of_first(problem, pins, tables, first, request, &ways);
     let mut below = bound_from(&best, 1);
@@ -275,12 +265,7 @@ fn best_of_first(
         (IsNamed (plan_of tables.now) first.now (length first.now)) result }
     ensures short { IsShort result }
 {
-    requests_are_found_by_stop();
-    requests_stand_by_name();
-    passes_are_local();
-    tests_say_feasible();
-    costs_compare_part_by_part();
-    costs_are_in_order();
+    insertion_laws();
     let mut best = None;
     for j in 0..first.len() {
         let vehicle = u64::from(first[j].0);
@@ -288,8 +273,16 @@ fn best_of_first(
         let table = &tables[index];
         if table.stop_count() != 0 {
             let below = bound_from(&best, vehicle);
-            look_past(
-                problem, request, ways, table, pins, vehicle, below, &mut best,
+            look_at(
+                problem,
+                request,
+                ways,
+                table,
+                pins,
+                &[],
+                vehicle,
+                below,
+                &mut best,
             );
         }
     }
@@ -311,12 +304,7 @@ fn look_at(
     below: i64,
     best: &mut Option<Found>,
 ) -> i64
-    requires problem { IsInstance problem.now }
-    requires course { IsCourseIn problem.now table.now }
-    requires request { request_named problem.now (request_name request.now) ≡ Some request.now }
-    requires valid { IsRequest request.now }
-    requires ways { AreWays problem.now.depot request.now ways.now }
-    requires pin { length (of_vehicle pins.now vehicle) ≤ length table.now.stops }
+    requires vehicle { IsLookable problem.now pins.now request.now ways.now vehicle table.now }
     requires below { IsLoose vehicle best.old below }
     requires short { IsShort best.old }
     ensures looked { IsLookedAt problem.now (route_of table.now) request.now
@@ -336,35 +324,6 @@ fn look_at(
     bound_from(best, vehicle)
 }
 
-// The same, of a vehicle with stops that isn't known.
-fn look_past(
-    problem: &Problem,
-    request: &Request,
-    ways: &RequestWays,
-    table: &Tour,
-    pins: &[Route],
-    vehicle: u64,
-    below: i64,
-    best: &mut Option<Found>,
-)
-    requires problem { IsInstance problem.now }
-    requires course { IsCourseIn problem.now table.now }
-    requires request { request_named problem.now (request_name request.now) ≡ Some request.now }
-    requires valid { IsRequest request.now }
-    requires ways { AreWays problem.now.depot request.now ways.now }
-    requires pin { length (of_vehicle pins.now vehicle) ≤ length table.now.stops }
-    requires below { IsLoose vehicle best.old below }
-    requires short { IsShort best.old }
-    ensures better { IsBetter problem.now (route_of table.now) request.now
-        (length (of_vehicle pins.now vehicle)) vehicle best.old best.new }
-    ensures short { IsShort best.new }
-{
-    if table.stop_count() != 0 && table.table().rules_out_by(request, ways, below) {
-        return;
-    }
-    look_closer(problem, request, ways, table, pins, vehicle, best);
-}
-
 // The same, at each place of a vehicle that isn't ruled out. It is written in its place, and the pin is looked up of such vehicles alone.
 #[inline(never)]
 fn look_closer(
@@ -376,12 +335,7 @@ fn look_closer(
     vehicle: u64,
     best: &mut Option<Found>,
 )
-    requires problem { IsInstance problem.now }
-    requires course { IsCourseIn problem.now table.now }
-    requires request { request_named problem.now (request_name request.now) ≡ Some request.now }
-    requires valid { IsRequest request.now }
-    requires ways { AreWays problem.now.depot request.now ways.now }
-    requires pin { length (of_vehicle pins.now vehicle) ≤ length table.now.stops }
+    requires vehicle { IsLookable problem.now pins.now request.now ways.now vehicle table.now }
     requires short { IsShort best.old }
     ensures better { IsBetter problem.now (route_of table.now) request.now
         (length (of_vehicle pins.now vehicle)) vehicle best.old best.new }

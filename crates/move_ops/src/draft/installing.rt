@@ -97,7 +97,7 @@ impl Draft {
         let mut vehicles = self.cost.vehicles;
         let mut driven = u128::from(self.cost.distance);
         for (vehicle, tour) in tours {
-            vehicles = self.vehicles_with(problem, u64::from(vehicle), &tour, vehicles);
+            vehicles = self.vehicles_with(problem, vehicle, &tour, vehicles);
             driven += u128::from(tour.table().distance());
             driven -= u128::from(self.distance_of(problem, vehicle));
             self.set_tour(vehicle, tour);
@@ -109,7 +109,7 @@ impl Draft {
     pub(crate) fn vehicles_with(
         &self,
         problem: &Problem,
-        vehicle: u64,
+        vehicle: u32,
         tour: &Tour,
         now: u64,
     ) -> u64
@@ -171,8 +171,8 @@ impl Draft {
         }
     }
 
-    // How far a vehicle drives.
-    fn distance_of(&self, problem: &Problem, vehicle: u32) -> u64
+    /// How far a vehicle drives.
+    pub(crate) fn distance_of(&self, problem: &Problem, vehicle: u32) -> u64
         requires tables { AreTablesIn problem.now self.now.tours }
         requires from_one { 1 ≤ vehicle }
         requires within { vehicle ≤ length self.now.tours }

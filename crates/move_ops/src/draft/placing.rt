@@ -223,25 +223,21 @@ impl Draft {
         ensures err { OnErr result (self.new ≡ self.old) }
     {
         if let Some(entry) = self.entry_of(vehicle) {
-            if self.log[entry].1.stops() == route {
-                let cost = self.cost_with(
-                    problem,
-                    u64::from(vehicle),
-                    &self.log[entry].1,
-                    unplanned,
-                );
+            let base = &self.log[entry].1;
+            if base.stops() == route {
+                let cost = self.cost_with(problem, vehicle, base, unplanned);
                 self.undo(entry);
                 return Ok(cost);
             }
         }
         let tour = self.new_tour(problem, vehicle, route)?;
-        let cost = self.cost_with(problem, u64::from(vehicle), &tour, unplanned);
+        let cost = self.cost_with(problem, vehicle, &tour, unplanned);
         self.set_tour(vehicle, tour);
         Ok(cost)
     }
 
     // What the draft costs with another tour for this vehicle, where it then leaves so many requests out.
-    fn cost_with(&self, problem: &Problem, vehicle: u64, tour: &Tour, unplanned: u64) -> Cost
+    fn cost_with(&self, problem: &Problem, vehicle: u32, tour: &Tour, unplanned: u64) -> Cost
         requires tables { AreTablesIn problem.now self.now.tours }
         requires cost { self.now.cost ≡ cost_of problem.now (draft_of self.now) }
         requires from_one { 1 ≤ vehicle }
@@ -254,11 +250,11 @@ impl Draft {
         ensures { result ≡ cost_of problem.now
             (with_route (draft_of self.now) vehicle (route_of tour.now)) }
     {
-        let old = &self.tours[(vehicle - 1) as usize];
+        let old = self.distance_of(problem, vehicle);
         Cost {
             unplanned,
             vehicles: self.vehicles_with(problem, vehicle, tour, self.cost.vehicles),
-            distance: self.cost.distance - old.table().distance() + tour.table().distance(),
+            distance: self.cost.distance - old + tour.table().distance(),
         }
     }
 }

@@ -1,22 +1,20 @@
 use mir.Val.{SFits}
 use Rattle.std.proofs.lemmas.Int.{to_z-of_z}
 use Rattle.std.proofs.Common.{inl, length, ◌≡◌, ◌+◌, rules, w64, true, false, refl, sym, ◌∙◌, arith, subst}
+use Rattle.slack_tables.specs.RequestFloors.{AreWays}
 use Rattle.move_ops.specs.Insertion.{of_vehicle}
 use Rattle.move_ops.specs.Tables.{plan_of}
 use Rattle.move_ops.specs.Choosing.{IsBestAmongThese, IsLoose, IsNamedOrUpTo}
 use Rattle.std.proofs.lemmas.Option.{slice_get_read}
 use Rattle.move_ops.proofs.Choosing.{passed_by}
-use Rattle.move_ops.proofs.Asked.{course_at, request_valid, from_named, pin_fits, idle_here, idle_more, one_more, one_skipped, beyond, answered}
+use Rattle.move_ops.proofs.Asked.{course_at, request_valid, from_named, lookable, idle_here, idle_more, one_more, one_skipped, beyond, answered}
 use Rattle.move_ops.proofs.tables.best_by_rooms.Goals as goal
 use Rattle.move_ops.proofs.tables.best_by_rooms.Goals.{then-stop_count-eq0+else-has_idle, else-stop_count-eq0}
 
 pub loop-k-init : goal.loop-k-init
 loop-k-init c =
     record {
-      best = from_named c.requests_are_found_by_stop.ensures c.requests_stand_by_name.ensures c.passes_are_local.ensures c.tests_say_feasible.ensures c.costs_compare_part_by_part.ensures.below_tells
-          c.costs_compare_part_by_part.ensures.at_most_tells c.costs_are_in_order.ensures.total c.costs_are_in_order.ensures.transitive c.costs_are_in_order.ensures.below_then_at_most
-          c.costs_are_in_order.ensures.at_most_then_below c.costs_are_in_order.ensures.below_is_at_most c.args.problem.now c.args.pins.now c.args.tables.now c.args.request.now c.requires.asked
-          c.args.first.now c.best_of_first-best.result c.best_of_first-best.ensures.best;
+      best = from_named c.insertion_laws.ensures c.requires.asked c.args.first.now c.best_of_first-best.result c.best_of_first-best.ensures.best;
       below = let fits : SFits w64 c.bound_from-below.result = search rules in subst (IsLoose 1 c.best_of_first-best.result) (sym (to_z-of_z w64 c.bound_from-below.result fits)) c.bound_from-below.ensures;
       short = c.best_of_first-best.ensures.short;
       idle = λ h. absurd (let k : false ≡ true = h in cc);
@@ -27,15 +25,11 @@ loop-k-preserved-then-is_full c =
     let p = c.args.problem.now in
     let tables = c.args.tables.now in
     let table = c.index-tables-k.result in
-    let pin = of_vehicle c.args.pins.now (c.loop-k.k + 1) in
     let at = slice_get_read tables (length tables) c.loop-k.k table refl (omega arith) c.index-tables-k.is in
     let out = c.is_full.ensures c.if-is_full.true tables c.requires.rooms table at in
-    let stays = passed_by p c.args.request.now table (length pin) (c.loop-k.k + 1) c.loop-k.best c.requires.asked.valid (course_at tables c.loop-k.k table c.index-tables-k.is (omega arith) p c.requires.asked.tables) c.requires.asked.named out in
+    let stays = passed_by p c.args.request.now table (length (of_vehicle c.args.pins.now (c.loop-k.k + 1))) (c.loop-k.k + 1) c.loop-k.best c.requires.asked.valid (course_at tables c.loop-k.k table c.index-tables-k.is (omega arith) p c.requires.asked.tables) c.requires.asked.named out in
     record {
-      best = one_more c.requests_are_found_by_stop.ensures c.requests_stand_by_name.ensures c.passes_are_local.ensures c.tests_say_feasible.ensures c.costs_compare_part_by_part.ensures.below_tells
-          c.costs_compare_part_by_part.ensures.at_most_tells c.costs_are_in_order.ensures.total c.costs_are_in_order.ensures.transitive c.costs_are_in_order.ensures.below_then_at_most
-          c.costs_are_in_order.ensures.at_most_then_below c.costs_are_in_order.ensures.below_is_at_most c.args.problem.now c.args.pins.now c.args.tables.now c.args.request.now c.requires.asked
-          c.loop-k.k table c.index-tables-k.is (omega arith) c.args.first.now pin refl c.stops_are_few.ensures c.loop-k.best c.loop-k.best c.loop-k.invariant.best (inl stays);
+      best = one_more c.insertion_laws.ensures c.requires.asked c.loop-k.k table c.index-tables-k.is (omega arith) c.args.first.now c.stops_are_few.ensures c.loop-k.best c.loop-k.best c.loop-k.invariant.best (inl stays);
       below = λ u from. c.loop-k.invariant.below u (omega arith);
       short = c.loop-k.invariant.short;
       idle = λ h. idle_more (plan_of tables) c.loop-k.k (c.loop-k.invariant.idle h);
@@ -44,50 +38,28 @@ loop-k-preserved-then-is_full c =
 pub loop-k-preserved-then-has_idle : goal.loop-k-preserved-then-has_idle
 loop-k-preserved-then-has_idle c =
     record {
-      best = one_skipped c.requests_are_found_by_stop.ensures c.requests_stand_by_name.ensures c.passes_are_local.ensures c.tests_say_feasible.ensures c.costs_compare_part_by_part.ensures.below_tells
-          c.costs_compare_part_by_part.ensures.at_most_tells c.costs_are_in_order.ensures.total c.costs_are_in_order.ensures.transitive c.costs_are_in_order.ensures.below_then_at_most
-          c.costs_are_in_order.ensures.at_most_then_below c.costs_are_in_order.ensures.below_is_at_most c.args.problem.now c.args.pins.now c.args.tables.now c.args.request.now c.requires.asked
-          c.loop-k.k c.index-tables-k.result c.index-tables-k.is (omega arith) c.args.first.now (omega arith) (c.loop-k.invariant.idle c.if-has_idle.true) c.loop-k.best c.loop-k.invariant.best;
+      best = one_skipped c.insertion_laws.ensures c.requires.asked c.loop-k.k c.index-tables-k.result c.index-tables-k.is (omega arith) c.args.first.now (omega arith) (c.loop-k.invariant.idle c.if-has_idle.true) c.loop-k.best c.loop-k.invariant.best;
       below = λ u from. c.loop-k.invariant.below u (omega arith);
       short = c.loop-k.invariant.short;
       idle = λ h. idle_more (plan_of c.args.tables.now) c.loop-k.k (c.loop-k.invariant.idle h);
     }
 
-pub look_at-below-requires-clause-course : goal.look_at-below-requires-clause-course
-look_at-below-requires-clause-course c = course_at c.args.tables.now c.loop-k.k c.index-tables-k.result c.index-tables-k.is (omega arith) c.args.problem.now c.requires.asked.tables
-
 pub of-ways-requires : goal.of-ways-requires
-of-ways-requires c =
-    request_valid c.requests_are_found_by_stop.ensures c.requests_stand_by_name.ensures c.passes_are_local.ensures c.tests_say_feasible.ensures c.costs_compare_part_by_part.ensures.below_tells
-    c.costs_compare_part_by_part.ensures.at_most_tells c.costs_are_in_order.ensures.total c.costs_are_in_order.ensures.transitive c.costs_are_in_order.ensures.below_then_at_most
-    c.costs_are_in_order.ensures.at_most_then_below c.costs_are_in_order.ensures.below_is_at_most c.args.problem.now c.args.pins.now c.args.tables.now c.args.request.now c.requires.asked
+of-ways-requires c = request_valid c.insertion_laws.ensures c.requires.asked
 
-pub look_at-below-requires-clause-valid : goal.look_at-below-requires-clause-valid
-look_at-below-requires-clause-valid c =
-    request_valid c.requests_are_found_by_stop.ensures c.requests_stand_by_name.ensures c.passes_are_local.ensures c.tests_say_feasible.ensures c.costs_compare_part_by_part.ensures.below_tells
-    c.costs_compare_part_by_part.ensures.at_most_tells c.costs_are_in_order.ensures.total c.costs_are_in_order.ensures.transitive c.costs_are_in_order.ensures.below_then_at_most
-    c.costs_are_in_order.ensures.at_most_then_below c.costs_are_in_order.ensures.below_is_at_most c.args.problem.now c.args.pins.now c.args.tables.now c.args.request.now c.requires.asked
-
-pub look_at-below-requires-clause-pin : goal.look_at-below-requires-clause-pin
-look_at-below-requires-clause-pin c =
-    pin_fits c.requests_are_found_by_stop.ensures c.requests_stand_by_name.ensures c.passes_are_local.ensures c.tests_say_feasible.ensures c.costs_compare_part_by_part.ensures.below_tells
-    c.costs_compare_part_by_part.ensures.at_most_tells c.costs_are_in_order.ensures.total c.costs_are_in_order.ensures.transitive c.costs_are_in_order.ensures.below_then_at_most
-    c.costs_are_in_order.ensures.at_most_then_below c.costs_are_in_order.ensures.below_is_at_most c.args.problem.now c.args.pins.now c.args.tables.now c.args.request.now c.requires.asked
-    c.loop-k.k c.index-tables-k.result c.index-tables-k.is (omega arith) (of_vehicle c.args.pins.now (c.loop-k.k + 1)) refl
+pub look_at-below-requires-clause-vehicle : goal.look_at-below-requires-clause-vehicle
+look_at-below-requires-clause-vehicle c =
+    let ways : AreWays c.args.problem.now.depot c.args.request.now c.of-ways.result = search rules in
+    lookable c.insertion_laws.ensures c.requires.asked c.loop-k.k c.index-tables-k.result c.index-tables-k.is (omega arith) c.of-ways.result ways
 
 pub loop-k-preserved : goal.loop-k-preserved
 loop-k-preserved c =
     record {
-      best = one_more c.requests_are_found_by_stop.ensures c.requests_stand_by_name.ensures c.passes_are_local.ensures c.tests_say_feasible.ensures c.costs_compare_part_by_part.ensures.below_tells
-          c.costs_compare_part_by_part.ensures.at_most_tells c.costs_are_in_order.ensures.total c.costs_are_in_order.ensures.transitive c.costs_are_in_order.ensures.below_then_at_most
-          c.costs_are_in_order.ensures.at_most_then_below c.costs_are_in_order.ensures.below_is_at_most c.args.problem.now c.args.pins.now c.args.tables.now c.args.request.now c.requires.asked
-          c.loop-k.k c.index-tables-k.result c.index-tables-k.is (omega arith) c.args.first.now (of_vehicle c.args.pins.now (c.loop-k.k + 1)) refl (omega arith) c.loop-k.best c.look_at-below.new.best c.loop-k.invariant.best c.look_at-below.ensures.looked;
+      best = one_more c.insertion_laws.ensures c.requires.asked c.loop-k.k c.index-tables-k.result c.index-tables-k.is (omega arith) c.args.first.now (omega arith) c.loop-k.best c.look_at-below.new.best c.loop-k.invariant.best c.look_at-below.ensures.looked;
       below = λ u from. (let fits : SFits w64 c.look_at-below.result = search rules in subst (IsLoose (c.loop-k.k + 1) c.look_at-below.new.best) (sym (to_z-of_z w64 c.look_at-below.result fits)) c.look_at-below.ensures.below u (omega arith));
       short = c.look_at-below.ensures.short;
       idle = λ h. elim c.if-stop_count-eq0.branch [
-        | then-stop_count-eq0+else-has_idle w ↦ (let none = w.if-stop_count-eq0 in idle_here c.requests_are_found_by_stop.ensures c.requests_stand_by_name.ensures c.passes_are_local.ensures c.tests_say_feasible.ensures c.costs_compare_part_by_part.ensures.below_tells
-            c.costs_compare_part_by_part.ensures.at_most_tells c.costs_are_in_order.ensures.total c.costs_are_in_order.ensures.transitive c.costs_are_in_order.ensures.below_then_at_most
-            c.costs_are_in_order.ensures.at_most_then_below c.costs_are_in_order.ensures.below_is_at_most c.args.problem.now c.args.pins.now c.args.tables.now c.args.request.now c.requires.asked c.loop-k.k c.index-tables-k.result c.index-tables-k.is (omega arith) (omega arith))
+        | then-stop_count-eq0+else-has_idle w ↦ (let none = w.if-stop_count-eq0 in idle_here c.insertion_laws.ensures c.requires.asked c.loop-k.k c.index-tables-k.result c.index-tables-k.is (omega arith) (omega arith))
         | else-stop_count-eq0 w ↦ idle_more (plan_of c.args.tables.now) c.loop-k.k (c.loop-k.invariant.idle (sym w.has_idle-is ∙ h))
       ];
     }
@@ -95,12 +67,6 @@ loop-k-preserved c =
 pub returns : goal.returns
 returns c =
     let end : c.loop-k.k ≡ c.args.end = search rules in
-    answered c.requests_are_found_by_stop.ensures c.requests_stand_by_name.ensures c.passes_are_local.ensures c.tests_say_feasible.ensures c.costs_compare_part_by_part.ensures.below_tells
-    c.costs_compare_part_by_part.ensures.at_most_tells c.costs_are_in_order.ensures.total c.costs_are_in_order.ensures.transitive c.costs_are_in_order.ensures.below_then_at_most
-    c.costs_are_in_order.ensures.at_most_then_below c.costs_are_in_order.ensures.below_is_at_most c.args.problem.now c.args.pins.now c.args.tables.now c.args.request.now c.requires.asked c.args.first.now
-    c.best_insertions_are_least.ensures c.best_insertions_are_unique.ensures c.loop-k.best
-    (beyond c.requests_are_found_by_stop.ensures c.requests_stand_by_name.ensures c.passes_are_local.ensures c.tests_say_feasible.ensures c.costs_compare_part_by_part.ensures.below_tells
-    c.costs_compare_part_by_part.ensures.at_most_tells c.costs_are_in_order.ensures.total c.costs_are_in_order.ensures.transitive c.costs_are_in_order.ensures.below_then_at_most
-    c.costs_are_in_order.ensures.at_most_then_below c.costs_are_in_order.ensures.below_is_at_most c.args.problem.now c.args.pins.now c.args.tables.now c.args.request.now c.requires.asked
-    c.args.first.now c.args.end c.requires.within c.requires.reach c.loop-k.best
+    answered c.insertion_laws.ensures c.requires.asked c.args.first.now c.loop-k.best
+    (beyond c.insertion_laws.ensures c.requires.asked c.args.first.now c.args.end c.requires.within c.requires.reach c.loop-k.best
     (subst (λ k. IsBestAmongThese c.args.problem.now c.args.pins.now (plan_of c.args.tables.now) c.args.request.now (IsNamedOrUpTo (plan_of c.args.tables.now) c.args.first.now k) c.loop-k.best) end c.loop-k.invariant.best))

@@ -1,9 +1,10 @@
-use Rattle.std.proofs.Common.{rules, ◌≡◌, ◌≤◌, List, length, ap, sym, subst, ◌∙◌}
+use Rattle.std.proofs.Common.{rules, ◌≡◌, ◌≤◌, ◌-◌, List, length, ap, sym, subst, ◌∙◌, arith}
 use Rattle.route_sched.specs.Schedule.{route_length}
 use Rattle.slack_tables.specs.Course.{Course, route_of}
 use Rattle.move_ops.specs.Insertion.{of_vehicle}
 use Rattle.move_ops.specs.Tables.{plan_of, AreTablesIn}
-use Rattle.move_ops.proofs.Pricing.{is_course, of_old}
+use Rattle.move_ops.proofs.Asked.{course_at}
+use Rattle.move_ops.proofs.Drafting.{vehicle_route}
 use Rattle.move_ops.proofs.draft.Draft.distance_of.Goals as goal
 
 pub returns : goal.returns
@@ -14,6 +15,7 @@ returns c =
     let old = c.index.result.now in
     let viewed : c.args.self.now.tours ≡ tours = search rules in
     let within : v ≤ length tours = subst (λ (l : List Course). v ≤ length l) viewed c.requires.within in
+    let low = c.requires.from_one in
     let tables : AreTablesIn p tours = subst (AreTablesIn p) viewed c.requires.tables in
-    c.distance.ensures p (route_of old) (is_course tours v c.requires.from_one within old c.index.ensures p tables ∙ sym c.table.ensures)
-    ∙ (ap (route_length p) (of_old tours v c.requires.from_one within old c.index.ensures) ∙ ap (λ (l : List Course). route_length p (of_vehicle (plan_of l) v)) (sym viewed))
+    c.distance.ensures p (route_of old) (course_at tours (v - 1) old c.index.ensures (omega arith) p tables ∙ sym c.table.ensures)
+    ∙ (ap (route_length p) (vehicle_route tours v old (λ none. absurd (omega arith)) (omega arith) c.index.ensures) ∙ ap (λ (l : List Course). route_length p (of_vehicle (plan_of l) v)) (sym viewed))

@@ -3,15 +3,11 @@ use Rattle.route_sched.specs.Cost.{cost_of, total_length, unplanned_count}
 use Rattle.slack_tables.specs.Course.{Course, route_of}
 use Rattle.move_ops.specs.Drafts.{Drafted, draft_of}
 use Rattle.move_ops.specs.Insertion.{with_route}
-use Rattle.move_ops.proofs.Restoring.{in_log, read_course, base_is, base_stops, same_plan}
+use Rattle.move_ops.proofs.Restoring.{in_log, read_course, base_is, base_stops}
 use Rattle.move_ops.proofs.draft.Draft.set_route.Goals as goal
 
 pub index-requires : goal.index-requires
 index-requires c =
-    subst (λ (n : ℕ). c.in-Some.entry < n) (search rules) (in_log c.args.problem.now c.args.self.now c.self.inside c.self.invariant (search rules) c.requires.base c.args.vehicle c.in-Some.entry c.requires.within c.in-Some.ensures.0 c.in-Some.ensures.1)
-
-pub index-requires-then-eq : goal.index-requires-then-eq
-index-requires-then-eq c =
     subst (λ (n : ℕ). c.in-Some.entry < n) (search rules) (in_log c.args.problem.now c.args.self.now c.self.inside c.self.invariant (search rules) c.requires.base c.args.vehicle c.in-Some.entry c.requires.within c.in-Some.ensures.0 c.in-Some.ensures.1)
 
 pub undo-requires : goal.undo-requires
@@ -21,40 +17,34 @@ undo-requires c =
 
 pub cost_with-cost-requires-clause-course : goal.cost_with-cost-requires-clause-course
 cost_with-cost-requires-clause-course c =
-    read_course c.args.problem.now c.args.self.now c.self.inside c.self.invariant (search rules) c.requires.base c.args.vehicle c.in-Some.entry c.requires.within c.in-Some.ensures.0 c.in-Some.ensures.1 c.index-then-eq.result.now c.index-then-eq.ensures
+    read_course c.args.problem.now c.args.self.now c.self.inside c.self.invariant (search rules) c.requires.base c.args.vehicle c.in-Some.entry c.requires.within c.in-Some.ensures.0 c.in-Some.ensures.1 c.index.result.now c.index.ensures
 
 pub cost_with-cost-requires-clause-small : goal.cost_with-cost-requires-clause-small
 cost_with-cost-requires-clause-small c =
-    let route : c.stops.result.now ≡ c.args.route.now = search rules in
-    let plan = same_plan c.args.problem.now c.args.self.now c.self.inside c.self.invariant (search rules) c.requires.base c.args.vehicle c.in-Some.entry c.requires.within c.in-Some.ensures.0 c.in-Some.ensures.1
-    c.index.result.now c.index.ensures c.stops.result.now c.args.route.now c.stops.ensures route c.index-then-eq.result.now c.index-then-eq.ensures c.from.result c.from.ensures in
-    subst (λ (l : List (List ℕ)). total_length c.args.problem.now l ≤ 2 ^ 63) (sym plan) c.requires.small
+    let same : c.args.route.now ≡ route_of c.index.result.now.1 = sym (search rules) ∙ c.stops.ensures in
+    subst (λ (r : List ℕ). total_length c.args.problem.now (with_route (draft_of c.args.self.now) c.args.vehicle r) ≤ 2 ^ 63) same c.requires.small
 
 pub cost_with-cost-requires-clause-unplanned : goal.cost_with-cost-requires-clause-unplanned
 cost_with-cost-requires-clause-unplanned c =
-    let route : c.stops.result.now ≡ c.args.route.now = search rules in
-    let plan = same_plan c.args.problem.now c.args.self.now c.self.inside c.self.invariant (search rules) c.requires.base c.args.vehicle c.in-Some.entry c.requires.within c.in-Some.ensures.0 c.in-Some.ensures.1
-    c.index.result.now c.index.ensures c.stops.result.now c.args.route.now c.stops.ensures route c.index-then-eq.result.now c.index-then-eq.ensures c.from.result c.from.ensures in
-    c.requires.unplanned ∙ ap (unplanned_count c.args.problem.now) (sym plan)
+    let same : c.args.route.now ≡ route_of c.index.result.now.1 = sym (search rules) ∙ c.stops.ensures in
+    c.requires.unplanned ∙ ap (λ (r : List ℕ). unplanned_count c.args.problem.now (with_route (draft_of c.args.self.now) c.args.vehicle r)) same
 
 pub returns-then-eq-clause-cost : goal.returns-then-eq-clause-cost
 returns-then-eq-clause-cost c =
-    let route : c.stops.result.now ≡ c.args.route.now = search rules in
-    let plan = same_plan c.args.problem.now c.args.self.now c.self.inside c.self.invariant (search rules) c.requires.base c.args.vehicle c.in-Some.entry c.requires.within c.in-Some.ensures.0 c.in-Some.ensures.1
-    c.index.result.now c.index.ensures c.stops.result.now c.args.route.now c.stops.ensures route c.index-then-eq.result.now c.index-then-eq.ensures c.from.result c.from.ensures in
-    c.cost_with-cost.ensures ∙ ap (cost_of c.args.problem.now) plan
+    let same : c.args.route.now ≡ route_of c.index.result.now.1 = sym (search rules) ∙ c.stops.ensures in
+    c.cost_with-cost.ensures ∙ ap (λ (r : List ℕ). cost_of c.args.problem.now (with_route (draft_of c.args.self.now) c.args.vehicle r)) (sym same)
 
 pub returns-then-eq-clause-set : goal.returns-then-eq-clause-set
 returns-then-eq-clause-set c =
+    let p = c.args.problem.now in
     let view : c.self.inside.log.items ≡ c.args.self.now.log = search rules in
-    let route : c.stops.result.now ≡ c.args.route.now = search rules in
-    let course = base_is c.args.problem.now c.args.self.now c.self.inside c.self.invariant view c.requires.base c.args.vehicle c.in-Some.entry c.requires.within c.in-Some.ensures.0 c.in-Some.ensures.1
-    c.index.result.now c.index.ensures c.stops.result.now c.args.route.now c.stops.ensures route in
+    let same : c.args.route.now ≡ route_of c.index.result.now.1 = sym (search rules) ∙ c.stops.ensures in
+    let base = base_is p c.args.self.now c.self.inside c.self.invariant view c.requires.base c.args.vehicle c.in-Some.entry c.requires.within c.in-Some.ensures.0 c.in-Some.ensures.1 c.index.result.now c.index.ensures c.args.route.now (sym same) in
+    let stops = base_stops p c.args.self.now c.self.inside c.self.invariant view c.requires.base c.args.vehicle c.in-Some.entry c.requires.within c.in-Some.ensures.0 c.in-Some.ensures.1 c.index.result.now c.index.ensures c.args.route.now (sym same) in
     let made = c.undo.ensures in
     record {
-      tours = made.tours (c.args.vehicle, c.in-Some.ensures.0) c.in-Some.ensures.1 ∙ ap (λ (t : Course). set c.args.self.now.tours (c.args.vehicle - 1) t) course;
-      stops = base_stops c.args.problem.now c.args.self.now c.self.inside c.self.invariant view c.requires.base c.args.vehicle c.in-Some.entry c.requires.within c.in-Some.ensures.0 c.in-Some.ensures.1
-          c.index.result.now c.index.ensures c.stops.result.now c.args.route.now c.stops.ensures route;
+      tours = made.tours (c.args.vehicle, c.in-Some.ensures.0) c.in-Some.ensures.1 ∙ ap (λ (t : Course). set c.args.self.now.tours (c.args.vehicle - 1) t) base;
+      stops = stops;
       base = made.base;
       pinned = made.pinned;
       base_cost = made.base_cost;
@@ -66,6 +56,5 @@ returns-clause-cost c =
     let tour = c.in_ok-tour.tour in
     let same : c.new_tour.new.self ≡ c.args.self.now = search rules in
     c.cost_with-cost-2.ensures
-    ∙ (ap (λ (d : Drafted). cost_of p (with_route (draft_of d) c.from-2.result (route_of tour))) same
-    ∙ (ap (λ (u : ℕ). cost_of p (with_route (draft_of c.args.self.now) u (route_of tour))) c.from-2.ensures
-    ∙ ap (λ (r : List ℕ). cost_of p (with_route (draft_of c.args.self.now) c.args.vehicle r)) c.in_ok-tour.ensures.route))
+    ∙ (ap (λ (d : Drafted). cost_of p (with_route (draft_of d) c.args.vehicle (route_of tour))) same
+    ∙ ap (λ (r : List ℕ). cost_of p (with_route (draft_of c.args.self.now) c.args.vehicle r)) c.in_ok-tour.ensures.route)

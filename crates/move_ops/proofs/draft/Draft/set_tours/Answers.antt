@@ -1,13 +1,13 @@
 use Rattle.std.proofs.Common.{rules, ◌≡◌, ◌-◌, ◌∷◌, [], length, sym, ap, subst, ◌∙◌, arith, length-append}
 use Rattle.std.specs.Vec.Iter.{into_iter_items}
 use Rattle.std.proofs.lemmas.List.{length-set}
-use Rattle.move_ops.proofs.Pricing.{length_moved, length_within}
+use Rattle.move_ops.proofs.Pricing.{length_moved, part}
 use Rattle.slack_tables.specs.Course.{route_of, IsCourseIn}
 use Rattle.move_ops.specs.Changes.{changes_of, with_routes, AreCourses}
 use Rattle.move_ops.specs.Drafts.{draft_of}
-use Rattle.move_ops.specs.Insertion.{with_route}
 use Rattle.move_ops.specs.Refreshing.{AreWithin}
 use Rattle.route_sched.specs.Cost.{vehicle_count}
+use Rattle.route_sched.specs.Schedule.{route_length}
 use Rattle.move_ops.specs.Tables.{plan_of, AreTablesIn}
 use Rattle.move_ops.proofs.Drafting.{tables_with, plan_with}
 use Rattle.move_ops.proofs.Touring.{routes_with}
@@ -20,7 +20,7 @@ overflow_sub-driven c =
     let inv = c.loop-vehicle.invariant in
     let rest : into_iter_items c.loop-vehicle.vehicle-iterator ≡ (c.in-Some.vehicle, c.in-Some.tour) ∷ into_iter_items c.next.new.self = search rules in
     let all : AreWithin (length old.tours) ((c.in-Some.vehicle, c.in-Some.tour) ∷ into_iter_items c.next.new.self) = subst (AreWithin (length old.tours)) rest inv.within in
-    let part = length_within p old.tours c.in-Some.vehicle all.0.0 all.0.1 in
+    let part = part (route_length p) old.tours c.in-Some.vehicle all.0.0 all.0.1 in
     omega arith
 
 pub loop-vehicle-preserved : goal.loop-vehicle-preserved
@@ -42,8 +42,7 @@ loop-vehicle-preserved c =
     let few = inv.few in
     let more = length-append c.loop-vehicle.yielded ((v, tour) ∷ []) in
     record {
-      vehicles = subst (λ n. c.vehicles_with-vehicles.result ≡ vehicle_count p.kind (with_route (draft_of old) n (route_of tour))) c.from.ensures c.vehicles_with-vehicles.ensures
-          ∙ ap (vehicle_count p.kind) (sym (ap plan_of made.tours ∙ plan_with old.tours (v - 1) tour));
+      vehicles = c.vehicles_with-vehicles.ensures ∙ ap (vehicle_count p.kind) (sym (ap plan_of made.tours ∙ plan_with old.tours (v - 1) tour));
       driven = omega arith;
       few = omega arith;
       tables = subst (AreTablesIn p) (sym made.tours) (tables_with p old.tours (v - 1) tour inv.tables is_course);
