@@ -1,8 +1,11 @@
 -- A vehicle that goes on along the places of a table with a pickup on board.
-use Rattle.std.specs.Prelude.{◌≡◌, ℕ, ◌+◌, ◌-◌, ◌*◌, ◌^◌, ◌≤◌, unsigned_abs, List, slice_index_or, Some}
+use Rattle.std.specs.Prelude.{◌≡◌, ℕ, ◌+◌, ◌-◌, ◌*◌, ◌^◌, ◌≤◌, unsigned_abs, All, List, length, slice_index_or, Some}
 use Rattle.plan_types.specs.Limits.{IsVisit}
 use Rattle.plan_types.specs.declared.requests.Stop.{Stop}
 use Rattle.nint_dist.specs.Distance.{distance}
+use Rattle.slack_tables.specs.Closed.{AreTight}
+use Rattle.slack_tables.specs.Driven.{IsSmallRow}
+use Rattle.slack_tables.specs.Legs.{AreLinked, AreRising}
 use Rattle.slack_tables.specs.Ride.{ride_at}
 use Rattle.slack_tables.specs.declared.progress.Limits.{Limits}
 use Rattle.slack_tables.specs.declared.progress.Row.{Row}
@@ -16,6 +19,15 @@ pub record IsTrip (t : Trip) : Type 0 where
   pub delivery : IsVisit t.delivery
   pub across : t.across ≡ distance t.pickup t.delivery
   pub bound : t.across ≤ 2 ^ 32
+
+-- it is put into a route of these places
+pub record IsScan (t : Trip) (places : List Row) : Type 0 where
+  pub trip : IsTrip t
+  pub small : All IsSmallRow places
+  pub linked : AreLinked places
+  pub rising : AreRising places
+  pub tight : AreTight t.limits.kind places
+  pub few : length places ≤ 40003
 
 -- before place j - 1 of the table, with the pickup on board
 pub record IsUnderway (limits : Limits) (places : List Row) (p q : Stop) (i j : ℕ) (d : Row) (on : Underway) : Type 0 where

@@ -19,8 +19,8 @@ ghost use Rattle.slack_tables.specs.declared.progress.Row.{Row};
 ghost use Rattle.slack_tables.specs.Best.{IsFirstOf, BestIsOne};
 ghost use Rattle.slack_tables.specs.Closed.{AreTight};
 ghost use Rattle.slack_tables.specs.Driven.{IsSmall, IsSmallRow};
-ghost use Rattle.slack_tables.specs.Legs.{AreLeast, AreLinked, AreRising};
-ghost use Rattle.slack_tables.specs.Walk.{IsTrip, IsUnderway, IsNearWay};
+ghost use Rattle.slack_tables.specs.Legs.{AreLeast, AreLinked, AreRising, IsNearBy};
+ghost use Rattle.slack_tables.specs.Walk.{IsTrip, IsScan, IsUnderway, IsNearWay};
 ghost use Rattle.slack_tables.specs.Span.{IsSmallSpan, RulesOut};
 ghost use Rattle.slack_tables.specs.Ride.{IsSmallRide, IsNearRide};
 ghost use Rattle.slack_tables.specs.Scan.{AddsSingle, AddsPair, AddsDelivery, AreDear, IsNearUnderway, served_single, picked_up, gone_on, none_below, offered, accepted};
@@ -151,14 +151,7 @@ fn single_at(
 ) -> Option<i64>
     requires places { All IsSmallRow places.now }
     requires stop { IsVisit stop.now }
-    requires from_one { 1 ≤ i }
-    requires within { i < length places.now }
-    requires to { (d : Row) → near.to
-        ≤ distance (slice_index_or places.now (i - 1) d).at.stop stop.now }
-    requires from { (d : Row) → near.from
-        ≤ distance (slice_index_or places.now i d).at.stop stop.now }
-    requires to_small { near.to ≤ 2 ^ 33 }
-    requires from_small { near.from ≤ 2 ^ 33 }
+    requires near { IsNearBy places.now stop.now i near }
     ensures { (d : Row) → result ≡ served_single below limits places.now stop.now i d }
 {
     let before = small_row(places, i - 1);
@@ -232,12 +225,7 @@ fn best_with_room(
     first: usize,
     below: i64,
 ) -> Option<Addition>
-    requires trip { IsTrip trip.now }
-    requires places { All IsSmallRow places.now }
-    requires ways { AreLinked places.now }
-    requires rising { AreRising places.now }
-    requires tight { AreTight trip.now.limits.kind places.now }
-    requires few { length places.now ≤ 40003 }
+    requires scan { IsScan trip.now places.now }
     requires from_one { 1 ≤ first }
     requires within { first < length places.now }
     requires room { length places.now ≤ length room.old }
@@ -267,12 +255,7 @@ fn best_from(
     first: usize,
     below: i64,
 ) -> Option<Addition>
-    requires trip { IsTrip trip.now }
-    requires places { All IsSmallRow places.now }
-    requires ways { AreLinked places.now }
-    requires rising { AreRising places.now }
-    requires tight { AreTight trip.now.limits.kind places.now }
-    requires few { length places.now ≤ 40003 }
+    requires scan { IsScan trip.now places.now }
     requires least { AreLeast first least.now places.now trip.now.delivery }
     requires from_one { 1 ≤ first }
     requires within { first < length places.now }
@@ -304,20 +287,9 @@ fn best_at(
     near: Detour,
     below: i64,
 ) -> Option<Addition>
-    requires trip { IsTrip trip.now }
-    requires places { All IsSmallRow places.now }
-    requires ways { AreLinked places.now }
-    requires tight { AreTight trip.now.limits.kind places.now }
-    requires few { length places.now ≤ 40003 }
+    requires scan { IsScan trip.now places.now }
     requires least { AreLeast i least.now places.now trip.now.delivery }
-    requires from_one { 1 ≤ i }
-    requires within { i < length places.now }
-    requires to { (d : Row) → near.to
-        ≤ distance (slice_index_or places.now (i - 1) d).at.stop trip.now.pickup }
-    requires from { (d : Row) → near.from
-        ≤ distance (slice_index_or places.now i d).at.stop trip.now.pickup }
-    requires to_small { near.to ≤ 2 ^ 33 }
-    requires from_small { near.from ≤ 2 ^ 33 }
+    requires near { IsNearBy places.now trip.now.pickup i near }
     ensures { (d : Row) → IsFirstOf
         (AddsDelivery trip.now.limits places.now trip.now.pickup trip.now.delivery i below d)
         result }
@@ -340,18 +312,9 @@ fn best_at(
 // Whether prices from below show that each place of the delivery adds `below` or more, where the
 // pickup stands at place `i`.
 fn are_dear(trip: &Trip, places: &[Row], least: &[i64], i: usize, near: Detour, below: i64) -> bool
-    requires trip { IsTrip trip.now }
-    requires places { All IsSmallRow places.now }
-    requires ways { AreLinked places.now }
+    requires scan { IsScan trip.now places.now }
     requires least { AreLeast i least.now places.now trip.now.delivery }
-    requires from_one { 1 ≤ i }
-    requires within { i < length places.now }
-    requires to { (d : Row) → near.to
-        ≤ distance (slice_index_or places.now (i - 1) d).at.stop trip.now.pickup }
-    requires from { (d : Row) → near.from
-        ≤ distance (slice_index_or places.now i d).at.stop trip.now.pickup }
-    requires to_small { near.to ≤ 2 ^ 33 }
-    requires from_small { near.from ≤ 2 ^ 33 }
+    requires near { IsNearBy places.now trip.now.pickup i near }
     ensures { IsTrue result → AreDear trip.now.limits places.now trip.now.pickup
         trip.now.delivery i below }
 {
@@ -454,10 +417,7 @@ fn best_delivery(
     first: Underway,
     below: i64,
 ) -> Option<Addition>
-    requires trip { IsTrip trip.now }
-    requires places { All IsSmallRow places.now }
-    requires ways { AreLinked places.now }
-    requires few { length places.now ≤ 40003 }
+    requires scan { IsScan trip.now places.now }
     requires least { AreLeast i least.now places.now trip.now.delivery }
     requires from_one { 1 ≤ i }
     requires within { i < length places.now }

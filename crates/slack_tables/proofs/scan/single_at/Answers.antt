@@ -16,7 +16,7 @@ returns-then-price-below c = λ d.
     let before = ap (λ (e : Row). e.at.distance) (c.small_row-before.ensures.place d) in
     let end = ap (λ (e : Row). e.at.distance) (c.small_row-tail.ensures.place d) in
     let dear : c.args.below ≤ℤ price (ride_of (get_or c.args.places.now (c.args.i - 1) d).at) c.args.near.to c.args.near.from (get_or c.args.places.now c.args.i d) = omega (arith, ints) in
-    served-dear c.args.below c.args.limits (ride_of (get_or c.args.places.now (c.args.i - 1) d).at) (get_or c.args.places.now (c.args.i - 1) d).at.stop.service (distance (get_or c.args.places.now (c.args.i - 1) d).at.stop c.args.stop.now) c.args.stop.now (distance (get_or c.args.places.now c.args.i d).at.stop c.args.stop.now) (get_or c.args.places.now c.args.i d) c.args.near.to c.args.near.from (c.requires.to d) (c.requires.from d) dear)
+    served-dear c.args.below c.args.limits (ride_of (get_or c.args.places.now (c.args.i - 1) d).at) (get_or c.args.places.now (c.args.i - 1) d).at.stop.service (distance (get_or c.args.places.now (c.args.i - 1) d).at.stop c.args.stop.now) c.args.stop.now (distance (get_or c.args.places.now c.args.i d).at.stop c.args.stop.now) (get_or c.args.places.now c.args.i d) c.args.near.to c.args.near.from (c.requires.near.to d) (c.requires.near.from d) dear)
 
 pub returns-then-price-below-2 : goal.returns-then-price-below-2
 returns-then-price-below-2 c = λ d.
