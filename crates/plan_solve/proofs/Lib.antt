@@ -1,6 +1,5 @@
 mod AuditedLemmas
 mod SearchLemmas
-mod SolveLemmas
 mod StageLemmas
 mod StoreLemmas
 mod TryLemmas

@@ -6,23 +6,30 @@ use Rattle.std.specs.Io.KnownBytes.{Appends}
 use Rattle.std.proofs.KnownBytes.{Appends-trans}
 use Rattle.std.proofs.Math.Nat.{mul-le-mul_right}
 use Rattle.std.proofs.lemmas.Bool.{lt-ltb, ltb-true}
-use Rattle.command_core.specs.Effects.{searched}
+use Rattle.command_core.specs.Effects.{effect, searched}
 use Rattle.command_core.specs.Job.{JobValue}
 use Rattle.command_core.specs.RunLaws.{RunsAreOneSearch, SearchesAddUp}
-use Rattle.command_core.specs.declared.states.State.TheVariants.{Loaded}
+use Rattle.command_core.specs.declared.commands.Command.TheVariants.{Search}
+use Rattle.command_core.specs.declared.states.State.{State}
+use Rattle.command_core.specs.declared.states.State.TheVariants.{Empty, Loaded}
 use Rattle.command_text.specs.Answers.{at_text, line}
 use Rattle.plan_solve.specs.Solved.{above, marks, twentieths}
 use Rattle.plan_solve.specs.Telling.{marks_left, told}
 
-same_job : (a b : JobValue) → Loaded a ≡ Loaded b → a ≡ b
+pub same_job : (a b : JobValue) → Loaded a ≡ Loaded b → a ≡ b
 same_job a b h = cc
 
 module _ (add_up : SearchesAddUp) (many : RunsAreOneSearch) where
-  pub none_made : (j : JobValue) → searched j 0 ≡ j
-  none_made j = sym (same_job j (searched j 0) (many j [] refl))
+  none_searched : (j : JobValue) → searched j 0 ≡ j
+  none_searched j = sym (same_job j (searched j 0) (many j [] refl))
 
-  pub more_made : (j : JobValue) (a b n : ℕ) → a + b ≡ n → searched (searched j a) b ≡ searched j n
-  more_made j a b n e = add_up j a b ∙ ap (searched j) e
+  pub none_made : (s : State) → effect s (Search 0) ≡ s
+  none_made Empty = refl
+  none_made (Loaded j) = ap Loaded (none_searched j)
+
+  pub more_made : (s : State) (a b n : ℕ) → a + b ≡ n → effect (effect s (Search a)) (Search b) ≡ effect s (Search n)
+  more_made Empty a b n e = refl
+  more_made (Loaded j) a b n e = ap Loaded (add_up j a b ∙ ap (searched j) e)
 
 -- ---- the marks
 
@@ -50,30 +57,34 @@ marks_passed n done k less within = by (nat_lt done (twentieths n (k + 1))) refl
 
 -- ---- the search, line by line
 
--- After so many parts: the job is that after the last mark, and the lines so far and those that are left are all; they are written unless one
--- could not be.
-pub record IsTelling (begun : JobValue) (steps : ℕ) (before now : Option (List ℕ)) (is_told : Bool) (j : JobValue) (d k : ℕ) : Type 0 where
+-- After so many parts: the planner has the job after the last mark, and the lines so far and those that are left are all; they are written
+-- unless one could not be.
+pub record IsTelling (begun : JobValue) (steps : ℕ) (before now : Option (List ℕ)) (is_told : Bool) (planner : State) (d k : ℕ) : Type 0 where
   pub lines : List ℕ
   pub written : is_told ≡ true → Appends before now lines
   pub whole : lines ++ told begun (marks_left steps d k) ≡ told begun (marks steps)
-  pub made : j ≡ searched begun d
+  pub made : planner ≡ Loaded (searched begun d)
   pub done : d ≡ twentieths steps k
   pub parts : k ≤ 20
 
 module _ (add_up : SearchesAddUp) (many : RunsAreOneSearch) (begun : JobValue) (steps : ℕ) (before : Option (List ℕ)) where
-  pub begins : (now : Option (List ℕ)) (is_told : Bool) → (is_told ≡ true → Appends before now (line (at_text begun))) → IsTelling begun steps before now is_told begun 0 0
-  begins now is_told written = record {
-    lines = line (at_text begun);
-    written = written;
-    whole = ap (λ j. line (at_text j) ++ told begun (marks_left steps 0 0)) (sym (none_made add_up many begun));
-    made = sym (none_made add_up many begun);
-    done = omega arith;
-    parts = omega arith;
-  }
+  pub begins : (now : Option (List ℕ)) (is_told : Bool) (planner : State) (j : JobValue) → planner ≡ Loaded begun → planner ≡ Loaded j → (is_told ≡ true → Appends before now (line (at_text j)))
+      → IsTelling begun steps before now is_told planner 0 0
+  begins now is_told planner j is holds written =
+      let none : begun ≡ searched begun 0 = sym (none_searched add_up many begun) in
+      let same : j ≡ searched begun 0 = same_job j begun (sym holds ∙ is) ∙ none in
+      record {
+        lines = line (at_text j);
+        written = written;
+        whole = ap (λ i. line (at_text i) ++ told begun (marks_left steps 0 0)) same;
+        made = is ∙ ap Loaded none;
+        done = omega arith;
+        parts = omega arith;
+      }
 
-  pub passes : (now : Option (List ℕ)) (is_told : Bool) (j : JobValue) (done parts : ℕ) → IsTelling begun steps before now is_told j done parts → parts < 20 → twentieths steps (parts + 1) ≤ done
-      → IsTelling begun steps before now is_told j done (parts + 1)
-  passes now is_told j done parts h less within = record {
+  pub passes : (now : Option (List ℕ)) (is_told : Bool) (planner : State) (done parts : ℕ) → IsTelling begun steps before now is_told planner done parts → parts < 20 → twentieths steps (parts + 1) ≤ done
+      → IsTelling begun steps before now is_told planner done (parts + 1)
+  passes now is_told planner done parts h less within = record {
     lines = h.lines;
     written = h.written;
     whole = ap (λ ms. h.lines ++ told begun ms) (sym (marks_passed steps done parts less within)) ∙ h.whole;
@@ -82,31 +93,32 @@ module _ (add_up : SearchesAddUp) (many : RunsAreOneSearch) (begun : JobValue) (
     parts = omega (arith, less);
   }
 
-  pub tells : (now next : Option (List ℕ)) (is_told later : Bool) (j found : JobValue) (done parts : ℕ) → IsTelling begun steps before now is_told j done parts → parts < 20 → done < twentieths steps (parts + 1)
-      → found ≡ searched j (twentieths steps (parts + 1) - done) → (later ≡ true → (is_told ≡ true) × Appends now next (line (at_text found)))
-      → IsTelling begun steps before next later found (twentieths steps (parts + 1)) (parts + 1)
-  tells now next is_told later j found done parts h less above_it makes written =
+  pub tells : (now next : Option (List ℕ)) (is_told later : Bool) (planner new : State) (j : JobValue) (done parts : ℕ) → IsTelling begun steps before now is_told planner done parts → parts < 20
+      → done < twentieths steps (parts + 1) → new ≡ effect planner (Search (twentieths steps (parts + 1) - done)) → new ≡ Loaded j
+      → (later ≡ true → (is_told ≡ true) × Appends now next (line (at_text j)))
+      → IsTelling begun steps before next later new (twentieths steps (parts + 1)) (parts + 1)
+  tells now next is_told later planner new j done parts h less above_it makes holds written =
       let mark = twentieths steps (parts + 1) in
       let adds : done + (mark - done) ≡ mark = omega (arith, above_it) in
-      let is : found ≡ searched begun mark = makes ∙ ap (λ s. searched s (mark - done)) h.made ∙ more_made add_up many begun done (mark - done) mark adds in
+      let is : new ≡ Loaded (searched begun mark) = makes ∙ ap (λ s. effect s (Search (mark - done))) h.made ∙ more_made add_up many (Loaded begun) done (mark - done) mark adds in
       record {
-        lines = h.lines ++ line (at_text found);
-        written = λ t. Appends-trans before now next h.lines (line (at_text found)) (h.written (written t).0) (written t).1;
+        lines = h.lines ++ line (at_text j);
+        written = λ t. Appends-trans before now next h.lines (line (at_text j)) (h.written (written t).0) (written t).1;
         whole =
-            append_assoc h.lines (line (at_text found)) (told begun (marks_left steps mark (parts + 1)))
-            ∙ ap (λ s. h.lines ++ (line (at_text s) ++ told begun (marks_left steps mark (parts + 1)))) is
+            append_assoc h.lines (line (at_text j)) (told begun (marks_left steps mark (parts + 1)))
+            ∙ ap (λ i. h.lines ++ (line (at_text i) ++ told begun (marks_left steps mark (parts + 1)))) (same_job j (searched begun mark) (sym holds ∙ is))
             ∙ ap (λ ms. h.lines ++ told begun ms) (sym (marks_told steps done parts less above_it)) ∙ h.whole;
         made = is;
         done = refl;
         parts = omega (arith, less);
       }
 
-  pub ends : (now : Option (List ℕ)) (is_told : Bool) (j : JobValue) (done parts : ℕ) → IsTelling begun steps before now is_told j done parts → 20 ≤ parts
+  pub ends : (now : Option (List ℕ)) (is_told : Bool) (planner : State) (j : JobValue) (done parts : ℕ) → IsTelling begun steps before now is_told planner done parts → 20 ≤ parts → planner ≡ Loaded j
       → (j ≡ searched begun steps) × (is_told ≡ true → Appends before now (told begun (marks steps)))
-  ends now is_told j done parts h all =
+  ends now is_told planner j done parts h all holds =
       let last : parts ≡ 20 = let most = h.parts in omega (arith, most, all) in
       let is : done ≡ steps = h.done ∙ ap (twentieths steps) last ∙ twenty steps in (
-        h.made ∙ ap (searched begun) is,
+        same_job j (searched begun done) (sym holds ∙ h.made) ∙ ap (searched begun) is,
         λ t. subst (Appends before now) (sym (append-nil h.lines) ∙ ap (λ k. h.lines ++ told begun (marks_left steps done k)) (sym last) ∙ h.whole) (h.written t),
       )
     where

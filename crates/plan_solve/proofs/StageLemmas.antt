@@ -3,7 +3,7 @@ use Rattle.std.proofs.Common.{◌≡◌, ◌∙◌, ℕ, zero, suc, ◌+◌, ◌
 use Rattle.std.specs.Prelude.{if◌then◌else◌}
 use Rattle.std.specs.Io.KnownBytes.{Appends}
 use Rattle.std.proofs.KnownBytes.{Appends-trans}
-use Rattle.std.proofs.lemmas.Bool.{lt-ltb, le-ltb, ne_eqb}
+use Rattle.std.proofs.lemmas.Bool.{lt-ltb, ne_eqb}
 use Rattle.command_core.specs.Job.{JobValue}
 use Rattle.command_text.specs.Answers.{at_text, line}
 use Rattle.plan_solve.specs.Staged.{Stand, annealed, annealed_on, by_stages, parts_made, staged, staged_from, told_behind, with_share}
@@ -22,13 +22,6 @@ module _ (before now next : Option (List ℕ)) (steps : ℕ) (job : JobValue) (s
         walked = record { made = made; told = λ t. Appends-trans before now next s.lines (line (at_text job)) (so_far (tells t).0) (tells t).1 };
         parts = parts;
       })
-
-  pub passed_here : (walk.is_told ≡ true → Appends before now s.lines) → parts_made steps job ≤ s.parts → walk.job ≡ job → walk.parts ≡ s.parts
-      → Stands before now (told_behind steps s job) walk
-  passed_here so_far no_more made parts =
-      let is : told_behind steps s job ≡ record s { job = job } =
-      ap (λ b. if b then record { job = job; lines = s.lines ++ line (at_text job); parts = parts_made steps job } else record s { job = job }) (le-ltb s.parts (parts_made steps job) no_more) in
-      subst (λ stand. Stands before now stand walk) (sym is) (record { walked = record { made = made; told = so_far }; parts = parts })
 
 -- ---- so many steps
 

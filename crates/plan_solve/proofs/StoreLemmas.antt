@@ -1,5 +1,5 @@
 -- Annealing by stages is what the commands of a store's line make.
-use Rattle.std.proofs.Common.{◌≡◌, ◌∙◌, ℕ, zero, suc, ◌+◌, ◌-◌, ◌<◌, ◌≤◌, true, false, Option, Some, None, refl, sym, ap, subst, inl, inr, arith}
+use Rattle.std.proofs.Common.{◌≡◌, ◌∙◌, ℕ, zero, suc, ◌+◌, ◌-◌, ◌<◌, ◌≤◌, false, Option, Some, None, refl, sym, ap, subst, inl, inr, arith}
 use Rattle.std.specs.Prelude.{nat_lt, ◌==◌}
 use Rattle.std.proofs.lemmas.Bool.{cases_Bool, cases_lt, cases_order, eqb-true, eq-eqb, ne_eqb}
 use Rattle.anneal_stages.specs.Stages.{boundary, hundredths_of, stage_of, StagesCoverAllSteps, StagesHoldTheirSteps}
@@ -112,13 +112,6 @@ module _ (hold : StagesHoldTheirSteps) (cover : StagesCoverAllSteps) (add_up : A
       (rest : (v : Stand) → v.job.steps ≡ boundary from to (k + 1) → Makes (k + 1) n v) where
     abbrev count : ℕ
     count = boundary from to (k + 1) - boundary from to k
-
-    one_passed : (count == 0) ≡ true → Makes (k + 1) n (staged from to k s)
-    one_passed none =
-        let empty = eqb-true count 0 none in
-        let up = climbs k 1 in
-        let same : s.job.steps ≡ boundary from to (k + 1) = omega (arith, empty, up, first) in
-        rw none (rest s same)
 
     one_made : (count == 0) ≡ false → after (Loaded s.job) (stage_commands from to s.job) ≡ Loaded (staged_from from to (k + 1) n (staged from to k s)).job
     one_made some =

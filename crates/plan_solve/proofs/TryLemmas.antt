@@ -1,50 +1,115 @@
 -- One try, and tries one after another.
 use Rattle.std.proofs.Common.{◌≡◌, ◌∙◌, ℕ, zero, suc, ◌+◌, ◌-◌, ◌<◌, ◌≤◌, Bool, true, false, List, [], length, replicate, Option, refl, sym, ap, subst, inl, inr, arith}
-use Rattle.std.specs.Prelude.{min, if◌then◌else◌}
-use Rattle.std.proofs.lemmas.Bool.{and_parts, cases_Bool, ltb-true}
+use Rattle.std.specs.Prelude.{min, nat_lt, not, if◌then◌else◌}
+use Rattle.std.proofs.lemmas.Bool.{and_parts, cases_Bool, lt-ltb, ltb-true}
 use Rattle.std.proofs.lemmas.List.{length-replicate}
 use Rattle.plan_types.specs.Instance.{Instance, IsInstance}
 use Rattle.plan_audit.specs.Passes.{passes}
 use Rattle.plan_audit.proofs.FleetLemmas.{used-most}
 use Rattle.plan_audit.proofs.LocalLemmas.{passes_are_local}
+use Rattle.command_core.specs.Effects.{effect}
 use Rattle.command_core.specs.Job.{IsJob, JobValue}
+use Rattle.command_core.specs.declared.commands.Command.TheVariants.{Anneal}
+use Rattle.command_core.specs.declared.states.State.{State}
+use Rattle.command_core.specs.declared.states.State.TheVariants.{Empty, Loaded}
 use Rattle.fleet_tries.specs.Fleets.{longest_routes, with_fleet}
 use Rattle.fleet_tries.specs.Laws.{LongestRoutesPass, NoPinsAreFeasible, SmallerFleetsPass}
 use Rattle.plan_solve.specs.Staged.{Stand, annealed, told_behind}
-use Rattle.plan_solve.specs.Telling.{Stands}
+use Rattle.plan_solve.specs.Telling.{Stands, lacks_some}
 use Rattle.plan_solve.specs.Tried.{after_try, all_tries, behind_try, fewer_after, first_fewer, goes_on, half, in_pieces, in_vain, is_whole, limit_of, may_try, taken_over, tried, tries_from, vehicles_of, with_fewer}
 use Rattle.plan_solve.specs.declared.staging.Walk.{Walk}
+use Rattle.plan_solve.proofs.SearchLemmas.{same_job}
 
 -- ---- the pieces of a try
 
--- what is left of the pieces makes what all make
-abbrev pub AtPiece : ℕ → JobValue → JobValue → Type 0
-AtPiece limit j all = (n : ℕ) × (limit - j.steps ≤ n) × (in_pieces limit n j ≡ all)
+-- what is left of the pieces of a planner's job makes what all make
+pub record AtPiece (limit left : ℕ) (planner : State) (all : JobValue) : Type 0 where
+  pub steps : (j : JobValue) → planner ≡ Loaded j → left ≡ limit - j.steps
+  pub rest : ℕ
+  pub enough : left ≤ rest
+  pub makes : (j : JobValue) → planner ≡ Loaded j → in_pieces limit rest j ≡ all
 
-pub steps_left : (limit : ℕ) (j : JobValue) → goes_on limit j ≡ true → j.steps < limit
-steps_left limit j on = ltb-true j.steps limit (and_parts _ _ on).1
+pub pieces_begin : (most : ℕ) (begun : JobValue) → AtPiece (begun.steps + most) most (Loaded begun) (in_pieces (begun.steps + most) most begun)
+pieces_begin most begun = record {
+  steps = λ j is. let same = ap (λ (i : JobValue). i.steps) (same_job begun j is) in omega (arith, same);
+  rest = most;
+  enough = omega arith;
+  makes = λ j is. ap (in_pieces (begun.steps + most) most) (sym (same_job begun j is));
+}
 
-pub piece_made : (limit count : ℕ) (j all : JobValue) → goes_on limit j ≡ true → count ≡ min 256 (limit - j.steps) → AtPiece limit j all → AtPiece limit (annealed j count) all
+goes : (limit left : ℕ) (j : JobValue) → 0 < left → left ≡ limit - j.steps → not (is_whole j) ≡ true → goes_on limit j ≡ true
+goes limit left j some is lacks = rw lacks (lt-ltb j.steps limit (omega (arith, some, is)))
+
+one_piece : (limit left count rest : ℕ) (j all : JobValue) → left ≡ limit - j.steps → 0 < left → not (is_whole j) ≡ true → count ≡ min 256 left → in_pieces limit (suc rest) j ≡ all
+    → in_pieces limit rest (annealed j count) ≡ all
 unfolding in_pieces
-piece_made limit count j all on counted (zero, few, is) = let less = steps_left limit j on in absurd (omega (arith, few, less))
-piece_made limit count j all on counted (suc n, few, is) =
-    let less = steps_left limit j on in
-    let same : in_pieces limit (suc n) j ≡ in_pieces limit n (annealed j (min 256 (limit - j.steps))) =
-    ap (λ (b : Bool). if b then in_pieces limit n (annealed j (min 256 (limit - j.steps))) else j) on in
-    (n, omega (arith, few, less, counted), ap (λ k. in_pieces limit n (annealed j k)) counted ∙ sym same ∙ is)
+one_piece limit left count rest j all is some lacks counted makes =
+    let same : in_pieces limit (suc rest) j ≡ in_pieces limit rest (annealed j (min 256 (limit - j.steps))) =
+    ap (λ (b : Bool). if b then in_pieces limit rest (annealed j (min 256 (limit - j.steps))) else j) (goes limit left j some is lacks) in
+    ap (λ k. in_pieces limit rest (annealed j k)) (counted ∙ ap (min 256) is) ∙ sym same ∙ makes
 
-pub pieces_end : (limit : ℕ) (j all : JobValue) → goes_on limit j ≡ false → AtPiece limit j all → j ≡ all
+pub piece_made : (limit left count : ℕ) (planner new : State) (all : JobValue) → 0 < left → lacks_some planner ≡ true → count ≡ min 256 left → new ≡ effect planner (Anneal count)
+    → AtPiece limit left planner all → AtPiece limit (left - count) new all
+piece_made limit left count Empty new all some lacks counted made at = absurd (let h : false ≡ true = lacks in cc)
+piece_made limit left count (Loaded j) new all some lacks counted made at = by at.rest at.enough (at.makes j refl)
+  where
+    behind : (i : JobValue) → new ≡ Loaded i → i ≡ annealed j count
+    behind i is = same_job i (annealed j count) (sym is ∙ made)
+
+    by : (n : ℕ) → left ≤ n → in_pieces limit n j ≡ all → AtPiece limit (left - count) new all
+    by zero few makes = absurd (omega (arith, few, some))
+    by (suc n) few makes = record {
+      steps = λ i is. let steps = ap (λ (k : JobValue). k.steps) (behind i is) in let so_far = at.steps j refl in omega (arith, steps, so_far, counted);
+      rest = n;
+      enough = omega (arith, few, counted, some);
+      makes = λ i is. ap (in_pieces limit n) (behind i is) ∙ one_piece limit left count n j all (at.steps j refl) some lacks counted makes;
+    }
+
+off_now : (limit left : ℕ) (j : JobValue) → left ≡ limit - j.steps → (0 < left → not (is_whole j) ≡ false) → goes_on limit j ≡ false
+off_now limit left j is stops = by (goes_on limit j) refl
+  where
+    by : (b : Bool) → goes_on limit j ≡ b → goes_on limit j ≡ false
+    by false e = e
+    by true e =
+        let lacks : not (is_whole j) ≡ true = (and_parts (not (is_whole j)) (nat_lt j.steps limit) e).0 in
+        let below : j.steps < limit = ltb-true j.steps limit (and_parts (not (is_whole j)) (nat_lt j.steps limit) e).1 in
+        let off : not (is_whole j) ≡ false = stops (omega (arith, is, below)) in
+        absurd cc
+
+none_next : (limit n : ℕ) (j all : JobValue) → goes_on limit j ≡ false → in_pieces limit n j ≡ all → j ≡ all
 unfolding in_pieces
-pieces_end limit j all off (zero, few, is) = is
-pieces_end limit j all off (suc n, few, is) =
-    sym (ap (λ (b : Bool). if b then in_pieces limit n (annealed j (min 256 (limit - j.steps))) else j) off) ∙ is
+none_next limit zero j all off makes = makes
+none_next limit (suc n) j all off makes = sym (ap (λ (b : Bool). if b then in_pieces limit n (annealed j (min 256 (limit - j.steps))) else j) off) ∙ makes
 
-pub pieces_begin : (most fewer limit : ℕ) (j found : JobValue) → found ≡ with_fewer j (vehicles_of j - fewer) → limit ≡ limit_of most fewer j.steps → AtPiece limit found (tried most fewer j)
-pieces_begin most fewer limit j found is limited = (
-  limit - found.steps,
-  omega arith,
-  ap (λ (f : JobValue). in_pieces limit (limit - f.steps) f) is ∙ ap (λ l. in_pieces l (l - j.steps) (with_fewer j (vehicles_of j - fewer))) limited,
-)
+pub pieces_end : (limit left : ℕ) (planner : State) (all found : JobValue) → (0 < left → lacks_some planner ≡ false) → planner ≡ Loaded found → AtPiece limit left planner all → found ≡ all
+pieces_end limit left planner all found stops is at =
+    none_next limit at.rest found all (off_now limit left found (at.steps found is) (λ some. subst (λ s. lacks_some s ≡ false) is (stops some))) (at.makes found is)
+
+-- pieces leave the problem as it is, and make no step too many
+pub record AreKept (limit : ℕ) (j found : JobValue) : Type 0 where
+  pub problem : found.problem ≡ j.problem
+  pub steps : found.steps ≤ limit
+
+pub pieces_keep : (limit n : ℕ) (j : JobValue) → j.steps ≤ limit → AreKept limit j (in_pieces limit n j)
+unfolding in_pieces
+pieces_keep limit zero j few = record { problem = refl; steps = few }
+pieces_keep limit (suc n) j few = elim (cases_Bool (goes_on limit j)) [
+  | inl t ↦ rw t (
+      let kept = pieces_keep limit n (annealed j (min 256 (limit - j.steps))) (omega (arith, few)) in
+      record { problem = kept.problem; steps = kept.steps })
+  | inr f ↦ rw f (record { problem = refl; steps = few })
+]
+
+-- the pieces of a try begin with the longest routes
+pub tried_is : (most fewer limit : ℕ) (j begun found : JobValue) → begun ≡ with_fewer j (vehicles_of j - fewer) → limit ≡ limit_of most fewer j.steps → j.steps ≤ limit
+    → found ≡ in_pieces (begun.steps + (limit - j.steps)) (limit - j.steps) begun → (found ≡ tried most fewer j) × AreKept limit begun found
+tried_is most fewer limit j begun found is limited least made =
+    let steps : begun.steps ≡ j.steps = ap (λ (i : JobValue). i.steps) is in
+    let whole : begun.steps + (limit - j.steps) ≡ limit = omega (arith, steps, least) in
+    let pieces : found ≡ in_pieces limit (limit - j.steps) begun = made ∙ ap (λ l. in_pieces l (limit - j.steps) begun) whole in (
+      pieces ∙ ap (in_pieces limit (limit - j.steps)) is ∙ ap (λ l. in_pieces l (l - j.steps) (with_fewer j (vehicles_of j - fewer))) limited,
+      subst (AreKept limit begun) (sym pieces) (pieces_keep limit (limit - j.steps) begun (omega (arith, steps, least))),
+    )
 
 -- ---- the jobs before and behind a try
 
@@ -115,10 +180,8 @@ taken_over_is_job whole none j found is also same few =
 
 -- ---- one try
 
-pub try_is : (to fewer : ℕ) (s : Stand) (begun found job : JobValue) → begun ≡ s.job → found ≡ tried (half to) fewer begun → job ≡ after_try begun found
-    → behind_try to fewer s ≡ told_behind to s job
-try_is to fewer s begun found job from_job made is =
-    ap (told_behind to s) (sym (is ∙ ap (after_try begun) made ∙ ap (λ j. after_try j (tried (half to) fewer j)) from_job))
+pub try_is : (to fewer : ℕ) (s : Stand) (begun job : JobValue) → begun ≡ s.job → job ≡ after_try begun (tried (half to) fewer begun) → behind_try to fewer s ≡ told_behind to s job
+try_is to fewer s begun job from_job is = ap (told_behind to s) (sym (is ∙ ap (λ j. after_try j (tried (half to) fewer j)) from_job))
 
 pub steps_after : (j found new : JobValue) → new ≡ after_try j found → new.steps ≡ found.steps
 steps_after j found new is = ap (λ (i : JobValue). i.steps) is ∙ by (is_whole found)

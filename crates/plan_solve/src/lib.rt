@@ -12,6 +12,7 @@
 //!
 //! Modules, in reading order:
 //! - `faults`: why there is no plan
+//! - `carrying`: commands that a planner carries out
 //! - `marks`: at which steps a search tells a line
 //! - `telling`: a line of progress
 //! - `searching`: the search, with its lines
@@ -35,6 +36,7 @@
 //! `OutOfMemory` may come at any time. A line that can't be written ends no solving; behind it none is told.
 #![tactic(auto)]
 
+mod carrying;
 mod faults;
 mod laws;
 mod marks;

@@ -1,16 +1,17 @@
 //! The search, with a line before its steps and at each twentieth of them.
-ghost use Rattle.std.specs.Prelude.{◌≡◌, Ok, IfOk};
-ghost use Rattle.command_core.specs.Effects.{job_after, searched};
+ghost use Rattle.std.specs.Prelude.{◌≡◌, IfOk, OnOk};
+ghost use Rattle.command_core.specs.Effects.{effect};
 ghost use Rattle.plan_solve.specs.Solved.{search_lines, searched_with};
 ghost use Rattle.plan_solve.specs.Telling.{HasWalked};
 
+use crate::carrying::{carry_out, into_job, job_of};
 use crate::marks::{PARTS, twentieths};
 use crate::staging::Walk;
 use crate::telling::tell;
-use command_core::{Command, Job, Refusal, State, apply, searches_add_up};
+use command_core::{Command, Job, Planner, State, searches_add_up};
 use command_text::next_count;
 use plan_types::OutOfMemory;
-use std::alloc::{AllocError, Global};
+use std::alloc::Global;
 use std::io::Write;
 
 /// So many steps of the search with this deviation, in the unit of distance.
@@ -26,20 +27,21 @@ pub(crate) fn search_telling<W: Write>(
         (searched_with deviation begun steps) (search_lines deviation begun steps)) }
 {
     searches_add_up();
-    let begun = carried_out(alloc, begun, &Command::Deviation(deviation))?;
-    let mut is_told = tell(true, &begun, progress);
-    let mut job = begun;
+    let mut planner = Planner::new(State::Loaded(begun));
+    carry_out(alloc, &mut planner, &Command::Deviation(deviation))?;
+    let mut is_told = tell(true, job_of(&planner)?, progress);
     let mut done = 0;
     let mut parts = 0;
     while parts < PARTS {
         parts += 1;
         let mark = twentieths(steps, parts);
         if done < mark {
-            job = search(alloc, job, mark - done)?;
-            is_told = tell(is_told, &job, progress);
+            search(alloc, &mut planner, mark - done)?;
+            is_told = tell(is_told, job_of(&planner)?, progress);
             done = mark;
         }
     }
+    let job = into_job(planner)?;
     Ok(Walk {
         job,
         is_told,
@@ -48,35 +50,15 @@ pub(crate) fn search_telling<W: Write>(
 }
 
 // So many more steps of the search, piece by piece.
-fn search(alloc: Global, job: Job, steps: u32) -> Result<Job, OutOfMemory>
-    ensures { IfOk result (λ found. found ≡ searched job steps) }
+fn search(alloc: Global, planner: &mut Planner, steps: u32) -> Result<(), OutOfMemory>
+    ensures { OnOk result (planner.new ≡ effect planner.old (Command.Search steps)) }
 {
     searches_add_up();
-    let mut job = job;
     let mut left = steps;
     while left > 0 {
         let count = next_count(left);
-        job = carried_out(alloc, job, &Command::Search(count))?;
+        carry_out(alloc, planner, &Command::Search(count))?;
         left -= u32::from(count);
     }
-    Ok(job)
-}
-
-/// What a command makes of the job. Those of a solving are never refused but for want of memory.
-pub(crate) fn carried_out(alloc: Global, job: Job, command: &Command) -> Result<Job, OutOfMemory>
-    ensures { IfOk result (λ next. next ≡ job_after job command.now) }
-{
-    let state = State::Loaded(job);
-    job_in(apply(alloc, &state, command))
-}
-
-// The job of a state that was made. No arm has to drop the state before it.
-fn job_in(made: Result<State, Refusal>) -> Result<Job, OutOfMemory>
-    ensures { IfOk result (λ job. made ≡ Ok (State.Loaded job)) }
-{
-    match made {
-        Ok(State::Loaded(job)) => Ok(job),
-        Ok(State::Empty) => Err(AllocError),
-        Err(_) => Err(AllocError),
-    }
+    Ok(())
 }

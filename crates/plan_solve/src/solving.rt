@@ -1,20 +1,21 @@
 //! From an instance's text to a plan's.
-ghost use Rattle.std.specs.Prelude.{◌≡◌, IfErr, IfOk, MatchResult};
+ghost use Rattle.std.specs.Prelude.{◌≡◌, ◌<◌, ◌^◌, IfErr, IfOk, MatchResult};
 ghost use Rattle.instance_read.specs.Faults.{TellsFirstFault};
 ghost use Rattle.command_text.specs.Readings.{InstanceFault, SpellsInstance};
 ghost use Rattle.plan_solve.specs.Solved.{Fails, IsSolved, begun, by_annealing, deviation_of, lines_from, solved_from};
 ghost use Rattle.plan_solve.specs.Staged.{first_stand};
-ghost use Rattle.plan_solve.specs.Telling.{HasWalked, IsBegun, IsOfText, refused};
+ghost use Rattle.plan_solve.specs.Telling.{HasWalked, IsBegun, IsOfText, Leads, refused};
 
+use crate::carrying::{carry_out, into_job};
 use crate::faults::SolveFault;
 use crate::printing::answer;
-use crate::searching::{carried_out, search_telling};
-use crate::staging::{Walk, anneal_telling};
+use crate::searching::search_telling;
+use crate::staging::{Walk, first_told, stages_telling};
 use crate::trying::try_telling;
-use command_core::{Command, Job, MAX_DEVIATION, State, apply};
+use command_core::{Command, Job, MAX_DEVIATION, Planner, State};
 use instance_read::{ReadFault, ReadFaultKind, read_lilim, read_vrp};
 use plan_types::{Kind, OutOfMemory, Problem};
-use std::alloc::{AllocError, Global};
+use std::alloc::Global;
 use std::io::Write;
 
 /// The plan that is found of an instance, as text.
@@ -76,11 +77,10 @@ fn begin(alloc: Global, kind: Kind, instance: &[u8], seed: u64) -> Result<Job, S
 fn build(alloc: Global, problem: Problem, seed: u64) -> Result<Job, OutOfMemory>
     ensures { IfOk result (λ job. job ≡ begun problem seed) }
 {
-    match apply(alloc, &State::Empty, &Command::Load(problem, seed)) {
-        Ok(State::Loaded(job)) => carried_out(alloc, job, &Command::Build),
-        Ok(State::Empty) => Err(AllocError),
-        Err(_) => Err(AllocError),
-    }
+    let mut planner = Planner::new(State::Empty);
+    carry_out(alloc, &mut planner, &Command::Load(problem, seed))?;
+    carry_out(alloc, &mut planner, &Command::Build)?;
+    into_job(planner)
 }
 
 fn read(alloc: Global, kind: Kind, text: &[u8]) -> Result<Problem, ReadFault>
@@ -142,8 +142,32 @@ fn annealed<W: Write>(
     ensures { let stand = by_annealing begun.problem.kind steps (first_stand begun) in IfOk result
         (HasWalked (W.contents progress.old) (W.contents progress.new) stand.job stand.lines) }
 {
-    match begun.problem.kind {
-        Kind::LiLim => try_telling(alloc, begun, steps, progress),
-        Kind::Vrp => anneal_telling(alloc, begun, steps, progress),
+    let kind = kind_of(&begun);
+    let walk = first_told(begun, progress);
+    annealed_from(alloc, kind, walk, u64::from(steps), progress)
+}
+
+fn kind_of(job: &Job) -> Kind
+    ensures { result ≡ job.now.problem.kind }
+{
+    job.problem.kind
+}
+
+// The same from a solving that has made no step.
+fn annealed_from<W: Write>(
+    alloc: Global,
+    kind: Kind,
+    walk: Walk,
+    to: u64,
+    progress: &mut W,
+) -> Result<Walk, OutOfMemory>
+    requires few { to < 2 ^ 32 }
+    requires none { walk.job.steps ≡ 0 }
+    ensures { IfOk result
+        (Leads (W.contents progress.old) (W.contents progress.new) (by_annealing kind to) walk) }
+{
+    match kind {
+        Kind::LiLim => try_telling(alloc, walk, to, progress),
+        Kind::Vrp => stages_telling(alloc, walk, to, progress),
     }
 }

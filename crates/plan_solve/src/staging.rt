@@ -4,7 +4,7 @@ ghost use Rattle.std.specs.Io.KnownBytes.{Appends};
 ghost use Rattle.anneal_stages.specs.Stages.{boundary};
 ghost use Rattle.command_core.specs.Job.{IsJob};
 ghost use Rattle.plan_solve.specs.Staged.{Stand, annealed, annealed_on, by_stages, first_stand, staged, told_behind, with_share};
-ghost use Rattle.plan_solve.specs.Telling.{HasWalked, Leads, Stands};
+ghost use Rattle.plan_solve.specs.Telling.{Leads, Stands};
 
 use crate::telling::tell;
 use anneal_search::anneal_steps;
@@ -26,24 +26,17 @@ pub(crate) struct Walk {
     pub parts: u64,
 }
 
-/// All stages of so many steps, from a job that has made none.
-pub(crate) fn anneal_telling<W: Write>(
-    alloc: Global,
-    begun: Job,
-    steps: u32,
-    progress: &mut W,
-) -> Result<Walk, OutOfMemory>
-    requires { begun.steps ≡ 0 }
-    ensures { let stand = by_stages steps (first_stand begun) in IfOk result
-        (HasWalked (W.contents progress.old) (W.contents progress.new) stand.job stand.lines) }
+/// A solving before its first step, which a line tells.
+pub(crate) fn first_told<W: Write>(begun: Job, progress: &mut W) -> Walk
+    ensures { Stands (W.contents progress.old) (W.contents progress.new)
+        (first_stand begun) result }
 {
     let is_told = tell(true, &begun, progress);
-    let walk = Walk {
+    Walk {
         job: begun,
         is_told,
         parts: 0,
-    };
-    stages_telling(alloc, walk, u64::from(steps), progress)
+    }
 }
 
 /// All stages of the steps to before this number that the job has not made.
@@ -182,8 +175,8 @@ fn at_incumbent(plan: &Plan) -> Result<Found, OutOfMemory>
     })
 }
 
-/// The job after so many annealing steps.
-pub(crate) fn annealed(alloc: Global, job: &Job, count: u64) -> Result<Job, OutOfMemory>
+// The job after so many annealing steps.
+fn annealed(alloc: Global, job: &Job, count: u64) -> Result<Job, OutOfMemory>
     requires first { job.now.steps < 2 ^ 60 }
     requires last { job.now.steps + count ≤ 2 ^ 60 }
     ensures { IfOk result (λ new. new ≡ annealed job.now count) }

@@ -1,15 +1,14 @@
 //! Tries of smaller fleets, with a line behind each that makes another twentieth of the steps.
 ghost use Rattle.std.specs.Prelude.{◌≡◌, ◌+◌, ◌-◌, ◌<◌, ◌≤◌, ◌^◌, true, [], replicate, IfOk};
 ghost use Rattle.fleet_tries.specs.Fleets.{longest_routes, with_fleet, with_vehicles};
-ghost use Rattle.plan_solve.specs.Staged.{first_stand};
 ghost use Rattle.route_sched.specs.Cost.{used_count};
-ghost use Rattle.plan_solve.specs.Telling.{HasWalked, Leads};
-ghost use Rattle.plan_solve.specs.Tried.{after_try, all_tries, behind_try, by_tries, fewer_after, first_fewer, goes_on, half, in_vain, is_whole, limit_of, may_try, taken_over, tried, vehicles_of, with_fewer};
+ghost use Rattle.plan_solve.specs.Telling.{IsOutcome, Leads, lacks_some};
+ghost use Rattle.plan_solve.specs.Tried.{after_try, all_tries, behind_try, by_tries, fewer_after, first_fewer, half, in_pieces, in_vain, is_whole, limit_of, may_try, taken_over, tried, vehicles_of, with_fewer};
 
-use crate::staging::{Frame, Walk, annealed, annealed_on, behind, stages_telling};
-use crate::telling::tell;
+use crate::carrying::{carry_out, into_job};
+use crate::staging::{Frame, Walk, annealed_on, behind, stages_telling};
 use anneal_stages::share;
-use command_core::Job;
+use command_core::{Command, Job, Planner, State};
 use fleet_tries::{longest_routes, smaller_fleets_pass, with_fleet, with_vehicles};
 use plan_audit::passes_are_local;
 use plan_types::{OutOfMemory, Pins, Plan, Problem, Route, Routes};
@@ -35,24 +34,18 @@ struct Tries {
     fewer: u64,
 }
 
-/// The first search, tries of smaller fleets, and all stages of the steps that are left, from a job that has made none.
+/// The first search, tries of smaller fleets, and all stages of the steps that are left to before this number.
 pub(crate) fn try_telling<W: Write>(
     alloc: Global,
-    begun: Job,
-    steps: u32,
+    walk: Walk,
+    to: u64,
     progress: &mut W,
 ) -> Result<Walk, OutOfMemory>
-    requires { begun.steps ≡ 0 }
-    ensures { let stand = by_tries steps (first_stand begun) in IfOk result
-        (HasWalked (W.contents progress.old) (W.contents progress.new) stand.job stand.lines) }
+    requires few { to < 2 ^ 32 }
+    requires none { walk.job.steps ≡ 0 }
+    ensures { IfOk result
+        (Leads (W.contents progress.old) (W.contents progress.new) (by_tries to) walk) }
 {
-    let to = u64::from(steps);
-    let is_told = tell(true, &begun, progress);
-    let walk = Walk {
-        job: begun,
-        is_told,
-        parts: 0,
-    };
     let searched = annealed_on(alloc, walk, to, FIRST_HUNDREDTHS, to / 2 / 20, progress)?;
     let tried = tries_telling(alloc, searched, to, progress)?;
     stages_telling(alloc, tried, to, progress)
@@ -98,11 +91,30 @@ fn try_fewer<W: Write>(
     ensures most { IfOk result (λ new. new.walk.job.steps ≤ half to) }
 {
     let Tries { walk, fewer } = tries;
-    let found = tried(alloc, &walk.job, to / 2, fewer)?;
-    let job = after_try(alloc, &walk.job, &found)?;
-    let fewer = fewer_after(&found, fewer);
+    let outcome = outcome_of(alloc, &walk.job, to / 2, fewer)?;
+    let Outcome { job, fewer } = outcome;
     let walk = behind(job, walk.is_told, walk.parts, to, progress);
     Ok(Tries { walk, fewer })
+}
+
+/// What comes of a try.
+#[derive(Drop)]
+pub(crate) struct Outcome {
+    pub job: Job,
+    /// How many vehicles fewer the next try has.
+    pub fewer: u64,
+}
+
+// What comes of a try with so many vehicles fewer.
+fn outcome_of(alloc: Global, job: &Job, most: u64, fewer: u64) -> Result<Outcome, OutOfMemory>
+    requires few { most < 2 ^ 32 }
+    requires may { may_try most fewer job.now ≡ true }
+    ensures { IfOk result (IsOutcome most fewer job.now) }
+{
+    let found = tried(alloc, job, most, fewer)?;
+    let fewer = fewer_after(&found, fewer);
+    let job = after_try(alloc, job, &found)?;
+    Ok(Outcome { job, fewer })
 }
 
 // The job of a try with so many vehicles fewer.
@@ -116,12 +128,32 @@ fn tried(alloc: Global, job: &Job, most: u64, fewer: u64) -> Result<Job, OutOfMe
     ensures most { IfOk result (λ found. found.steps ≤ most) }
 {
     let limit = limit_of(most, fewer, job.steps);
-    let mut found = with_fewer(alloc, job, vehicles_of(job) - fewer)?;
-    while goes_on(&found, limit) {
-        let count = PIECE.min(limit - found.steps);
-        found = annealed(alloc, &found, count)?;
+    let begun = with_fewer(alloc, job, vehicles_of(job) - fewer)?;
+    in_pieces(alloc, begun, limit - job.steps)
+}
+
+// The job after at most so many annealing steps, in pieces, as long as a request is unplanned.
+fn in_pieces(alloc: Global, begun: Job, most: u64) -> Result<Job, OutOfMemory>
+    ensures { IfOk result (λ found. found ≡ in_pieces (begun.steps + most) most begun) }
+{
+    let mut planner = Planner::new(State::Loaded(begun));
+    let mut left = most;
+    while left > 0 && lacks_some(planner.state()) {
+        let count = PIECE.min(left);
+        carry_out(alloc, &mut planner, &Command::Anneal(count as u32))?;
+        left -= count;
     }
-    Ok(found)
+    into_job(planner)
+}
+
+// Whether there is a job, and a request of it is unplanned.
+fn lacks_some(state: &State) -> bool
+    ensures { result ≡ lacks_some state.now }
+{
+    match state {
+        State::Loaded(job) => !is_whole(job),
+        State::Empty => false,
+    }
 }
 
 // The longest routes of the job's plan, for as many vehicles.
@@ -269,18 +301,12 @@ fn limit_of(most: u64, fewer: u64, made: u64) -> u64
     requires made { made < most }
     ensures limit { result ≡ limit_of most fewer made }
     ensures most { result ≤ most }
+    ensures least { made ≤ result }
 {
     if 1 < fewer {
         return most.min(made + most / 8);
     }
     most
-}
-
-// Whether a request is unplanned and steps are left.
-fn goes_on(job: &Job, limit: u64) -> bool
-    ensures { result ≡ goes_on limit job.now }
-{
-    !is_whole(job) && job.steps < limit
 }
 
 // Whether no request is unplanned.

@@ -1,6 +1,7 @@
 -- What a piece makes and what is left of the search is all of it.
 use Rattle.std.proofs.Common.{◌≡◌, ◌∙◌, ◌+◌, ◌-◌, ap, sym, rules, arith}
-use Rattle.command_core.specs.Effects.{searched}
+use Rattle.command_core.specs.Effects.{effect}
+use Rattle.command_core.specs.declared.commands.Command.TheVariants.{Search}
 use Rattle.plan_solve.proofs.SearchLemmas.{more_made, none_made}
 use Rattle.plan_solve.proofs.searching.search.Goals as goal
 
@@ -9,12 +10,11 @@ loop-left-preserved c =
     let l = c.loop-left in
     let count = c.next_count-count.result in
     let left = l.left - c.from-left.result in
-    let made : c.in_ok-job.job ≡ searched l.job count = c.in_ok-job.ensures in
     let adds : count + left ≡ l.left = omega (arith, c.from-left.ensures, c.next_count-count.ensures.most) in
-    ap (λ j. searched j left) made ∙ more_made c.searches_add_up.ensures.two c.searches_add_up.ensures.many l.job count left l.left adds ∙ l.invariant
+    ap (λ s. effect s (Search left)) c.in_ok-carry_out.ensures ∙ more_made c.searches_add_up.ensures.two c.searches_add_up.ensures.many l.planner count left l.left adds ∙ l.invariant
 
 pub returns : goal.returns
 returns c =
     let none : c.loop-left.left ≡ 0 = search rules in
-    sym (none_made c.searches_add_up.ensures.two c.searches_add_up.ensures.many c.loop-left.job)
-    ∙ ap (λ n. searched c.loop-left.job n) (sym none) ∙ c.loop-left.invariant
+    sym (none_made c.searches_add_up.ensures.two c.searches_add_up.ensures.many c.loop-left.planner)
+    ∙ ap (λ n. effect c.loop-left.planner (Search n)) (sym none) ∙ c.loop-left.invariant

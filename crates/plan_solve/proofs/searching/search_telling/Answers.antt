@@ -1,6 +1,7 @@
 -- Each part of the search goes on from the last mark, and behind the last part all is told.
 use Rattle.std.proofs.Common.{◌≡◌, ◌∙◌, ◌+◌, ◌-◌, ◌<◌, ◌≤◌, ap, subst, sym}
-use Rattle.command_core.specs.Effects.{searched, with_deviation}
+use Rattle.command_core.specs.Effects.{effect, with_deviation}
+use Rattle.command_core.specs.declared.commands.Command.TheVariants.{Deviation, Search}
 use Rattle.plan_solve.specs.Solved.{twentieths}
 use Rattle.plan_solve.proofs.SearchLemmas.{IsTelling, begins, ends, passes, tells}
 use Rattle.plan_solve.proofs.searching.search_telling.Goals as goal
@@ -8,11 +9,10 @@ use Rattle.plan_solve.proofs.searching.search_telling.Goals as goal
 pub loop-parts-init : goal.loop-parts-init
 loop-parts-init g c =
     let law = c.searches_add_up.ensures in
-    let begun = c.in_ok-begun.begun in
+    let begun = with_deviation c.args.begun c.args.deviation in
     let before = g.W.Write.contents c.args.progress.now in
     let now = g.W.Write.contents c.tell-is_told.new.progress in
-    subst (λ b. IsTelling b c.args.steps before now c.tell-is_told.result begun 0 0) c.in_ok-begun.ensures
-    (begins law.two law.many begun c.args.steps before now c.tell-is_told.result (λ t. (c.tell-is_told.ensures t).1))
+    begins law.two law.many begun c.args.steps before now c.tell-is_told.result _ _ (c.in_ok-carry_out.ensures ∙ ap (λ s. effect s (Deviation c.args.deviation)) c.new-planner.ensures) c.in_ok-job_of.ensures (λ t. (c.tell-is_told.ensures t).1)
 
 pub loop-parts-preserved-then-done-mark : goal.loop-parts-preserved-then-done-mark
 loop-parts-preserved-then-done-mark g c =
@@ -24,10 +24,9 @@ loop-parts-preserved-then-done-mark g c =
     let next = g.W.Write.contents c.tell-is_told-then-done-mark.new.progress in
     let later = c.tell-is_told-then-done-mark.result in
     let is : c.twentieths-mark.result ≡ twentieths c.args.steps (l.parts + 1) = c.twentieths-mark.ensures in
-    let found : c.in_ok-job.job ≡ searched l.job (c.twentieths-mark.result - l.done) = c.in_ok-job.ensures in
-    subst (λ m. IsTelling begun c.args.steps before next later c.in_ok-job.job m (l.parts + 1)) (sym is)
-    (tells law.two law.many begun c.args.steps before now next l.is_told later l.job c.in_ok-job.job l.done l.parts l.invariant c.loop-parts-test.true (subst (λ m. l.done < m) is c.if-done-mark.true)
-    (found ∙ ap (λ m. searched l.job (m - l.done)) is) c.tell-is_told-then-done-mark.ensures)
+    subst (λ m. IsTelling begun c.args.steps before next later c.search.new.planner m (l.parts + 1)) (sym is)
+    (tells law.two law.many begun c.args.steps before now next l.is_told later l.planner _ _ l.done l.parts l.invariant c.loop-parts-test.true (subst (λ m. l.done < m) is c.if-done-mark.true)
+    (c.in_ok-search.ensures ∙ ap (λ m. effect l.planner (Search (m - l.done))) is) c.in_ok-job_of-2.ensures c.tell-is_told-then-done-mark.ensures)
 
 pub loop-parts-preserved : goal.loop-parts-preserved
 loop-parts-preserved g c =
@@ -35,7 +34,7 @@ loop-parts-preserved g c =
     let l = c.loop-parts in
     let begun = with_deviation c.args.begun c.args.deviation in
     let is : c.twentieths-mark.result ≡ twentieths c.args.steps (l.parts + 1) = c.twentieths-mark.ensures in
-    passes law.two law.many begun c.args.steps (g.W.Write.contents c.args.progress.now) (g.W.Write.contents l.progress) l.is_told l.job l.done l.parts l.invariant c.loop-parts-test.true
+    passes law.two law.many begun c.args.steps (g.W.Write.contents c.args.progress.now) (g.W.Write.contents l.progress) l.is_told l.planner l.done l.parts l.invariant c.loop-parts-test.true
     (subst (λ m. m ≤ l.done) is c.if-done-mark.false)
 
 pub returns : goal.returns
@@ -43,5 +42,5 @@ returns g c =
     let law = c.searches_add_up.ensures in
     let l = c.loop-parts in
     let begun = with_deviation c.args.begun c.args.deviation in
-    let all = ends law.two law.many begun c.args.steps (g.W.Write.contents c.args.progress.now) (g.W.Write.contents l.progress) l.is_told l.job l.done l.parts l.invariant c.loop-parts-test.false in
+    let all = ends law.two law.many begun c.args.steps (g.W.Write.contents c.args.progress.now) (g.W.Write.contents l.progress) l.is_told l.planner _ l.done l.parts l.invariant c.loop-parts-test.false c.in_ok-job.ensures in
     record { made = all.0; told = all.1 }
