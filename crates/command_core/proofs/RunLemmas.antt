@@ -21,11 +21,25 @@ pub runs_keep_facts : EffectsKeepFacts → RunsKeepFacts
 runs_keep_facts keep s [] is accepted = is
 runs_keep_facts keep s (c ∷ cs) is accepted = runs_keep_facts keep (effect s c) cs (keep s c is accepted.0 accepted.1) accepted.2
 
+clash : {X : Type 0} → true ≡ false → X
+clash h = absurd (let g = h in cc)
+
 refused : {X : Type 0} (r : Refusal) → Some r ≡ None → X
 refused r h = absurd (let g = h in cc)
 
-clash : {X : Type 0} → true ≡ false → X
-clash h = absurd (let g = h in cc)
+-- before the first Load no other command is accepted
+not_loaded : {X : Type 0} (c : Command) → refusal Empty c ≡ None → changes_requests c ≡ false → X
+not_loaded (Load p seed) none kept = clash kept
+not_loaded (Add q a b) none kept = refused _ none
+not_loaded (Add1 q s) none kept = refused _ none
+not_loaded (Withdraw name) none kept = refused _ none
+not_loaded (Pin v k) none kept = refused _ none
+not_loaded (Unpin v) none kept = refused _ none
+not_loaded Build none kept = refused _ none
+not_loaded (Search count) none kept = refused _ none
+not_loaded Checkpoint none kept = refused _ none
+not_loaded (Deviation d) none kept = refused _ none
+not_loaded (Anneal count) none kept = refused _ none
 
 module _ (total : CostsAreTotal) (transitive : CostsAreTransitive) (below : BelowIsAtMost) (search : IncumbentsNeverCostMore) (anneal : AnnealedNeverCostMore) where
   pub costs_never_rise : CostsNeverRise
@@ -42,17 +56,7 @@ module _ (total : CostsAreTotal) (transitive : CostsAreTransitive) (below : Belo
   costs_never_rise (Loaded j) (Deviation d) none kept = record { problem = refl; cost = same_cost total transitive below j.problem j.pins j.plan }
   costs_never_rise (Loaded j) (Anneal count) none kept =
       record { problem = refl; cost = anneal j.problem j.pins j.deviation j.seed j.steps count (record { incumbent = j.plan; working = j.work }) }
-  costs_never_rise Empty (Load p seed) none kept = clash kept
-  costs_never_rise Empty (Add q a b) none kept = refused _ none
-  costs_never_rise Empty (Add1 q s) none kept = refused _ none
-  costs_never_rise Empty (Withdraw name) none kept = refused _ none
-  costs_never_rise Empty (Pin v k) none kept = refused _ none
-  costs_never_rise Empty (Unpin v) none kept = refused _ none
-  costs_never_rise Empty Build none kept = refused _ none
-  costs_never_rise Empty (Search count) none kept = refused _ none
-  costs_never_rise Empty Checkpoint none kept = refused _ none
-  costs_never_rise Empty (Deviation d) none kept = refused _ none
-  costs_never_rise Empty (Anneal count) none kept = refused _ none
+  costs_never_rise Empty c none kept = not_loaded c none kept
 
   -- as good, with the same pins
   abbrev IsAsGood : State → State → Type 0
@@ -77,6 +81,10 @@ module _ (total : CostsAreTotal) (transitive : CostsAreTransitive) (below : Belo
         b.1 ∙ a.1,
       )
 
+  neither : (a b : Bool) → (a || b) ≡ false → (a ≡ false) × (b ≡ false)
+  neither false b none = (refl, none)
+  neither true b none = clash none
+
   -- a command that is no change
   pins_kept : (s : State) (c : Command) → refusal s c ≡ None → is_change c ≡ false → HaveSamePins s (effect s c)
   pins_kept (Loaded j) (Load p seed) none kept = clash kept
@@ -90,21 +98,7 @@ module _ (total : CostsAreTotal) (transitive : CostsAreTransitive) (below : Belo
   pins_kept (Loaded j) Checkpoint none kept = refl
   pins_kept (Loaded j) (Deviation d) none kept = refl
   pins_kept (Loaded j) (Anneal count) none kept = refl
-  pins_kept Empty (Load p seed) none kept = clash kept
-  pins_kept Empty (Add q a b) none kept = refused _ none
-  pins_kept Empty (Add1 q s) none kept = refused _ none
-  pins_kept Empty (Withdraw name) none kept = refused _ none
-  pins_kept Empty (Pin v k) none kept = refused _ none
-  pins_kept Empty (Unpin v) none kept = refused _ none
-  pins_kept Empty Build none kept = refused _ none
-  pins_kept Empty (Search count) none kept = refused _ none
-  pins_kept Empty Checkpoint none kept = refused _ none
-  pins_kept Empty (Deviation d) none kept = refused _ none
-  pins_kept Empty (Anneal count) none kept = refused _ none
-
-  neither : (a b : Bool) → (a || b) ≡ false → (a ≡ false) × (b ≡ false)
-  neither false b none = (refl, none)
-  neither true b none = clash none
+  pins_kept Empty c none kept = not_loaded c none (neither (changes_requests c) (changes_pins c) kept).0
 
   one_kept : (s : State) (c : Command) → refusal s c ≡ None → is_change c ≡ false → IsAsGood s (effect s c)
   one_kept s c none kept = (costs_never_rise s c none (neither (changes_requests c) (changes_pins c) kept).0, pins_kept s c none kept)

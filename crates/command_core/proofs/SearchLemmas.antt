@@ -1,16 +1,19 @@
 -- Searches join: so many steps and then so many more are all of them at once. So do annealings.
-use Rattle.std.proofs.Common.{◌≡◌, ℕ, ◌+◌, true, false, [], ◌∷◌, sym, ap, ◌∙◌, arith}
+use Rattle.std.proofs.Common.{◌≡◌, ℕ, ◌+◌, Bool, true, false, List, [], ◌∷◌, refl, sym, ap, ◌∙◌, arith}
 use Rattle.std.specs.Prelude.{sum_by}
+use Rattle.std.specs.List.{list_all}
+use Rattle.std.proofs.lemmas.Bool.{and_parts}
 use Rattle.std.proofs.lemmas.List.Sums.{sum_by-cons}
 use Rattle.seeded_search.specs.Steps.{Walked, steps}
 use Rattle.seeded_search.specs.StepLaws.{StepsAddUp}
 use Rattle.anneal_search.specs.AnnealLaws.{AnnealStepsAddUp}
 use Rattle.anneal_search.specs.Annealing.{anneal_steps}
 use Rattle.command_core.specs.Job.{JobValue}
-use Rattle.command_core.specs.Effects.{searched, annealed}
-use Rattle.command_core.specs.Runs.{steps_of}
+use Rattle.command_core.specs.Effects.{searched, annealed, job_after}
+use Rattle.command_core.specs.Runs.{after, is_annealing, is_searching, steps_of}
 use Rattle.command_core.specs.RunLaws.{SearchesAddUp, RunsAreOneSearch, AnnealingsAddUp, RunsAreOneAnnealing}
 use Rattle.command_core.specs.declared.states.State.TheVariants.{Loaded}
+use Rattle.command_core.specs.declared.commands.Command.{Command}
 use Rattle.command_core.specs.declared.commands.Command.TheVariants.{Load, Add, Add1, Withdraw, Pin, Unpin, Build, Search, Checkpoint, Deviation, Anneal}
 
 -- a job with other plans and another number of steps
@@ -31,24 +34,6 @@ pub no_search : (j : JobValue) → searched j 0 ≡ j
 unfolding steps
 no_search j = let e : j.steps + 0 ≡ j.steps = omega arith in ap (λ n. walked_on j (walked j) n) e
 
-pub runs_are_one_search : StepsAddUp → RunsAreOneSearch
-runs_are_one_search add_up j [] all = ap Loaded (sym (no_search j))
-runs_are_one_search add_up j (Search count ∷ cs) all =
-    runs_are_one_search add_up (searched j count) cs all ∙ ap Loaded (searches_add_up add_up j count (sum_by steps_of cs))
-    ∙ ap (λ n. Loaded (searched j n)) (sym (sum_by-cons steps_of (Search count) cs))
-runs_are_one_search add_up j (Checkpoint ∷ cs) all =
-    let e : 0 + sum_by steps_of cs ≡ sum_by steps_of cs = omega arith in
-    runs_are_one_search add_up j cs all ∙ ap (λ n. Loaded (searched j n)) (sym (sum_by-cons steps_of Checkpoint cs ∙ e))
-runs_are_one_search add_up j (Load p seed ∷ cs) all = absurd (let h : false ≡ true = all in cc)
-runs_are_one_search add_up j (Add q a b ∷ cs) all = absurd (let h : false ≡ true = all in cc)
-runs_are_one_search add_up j (Add1 q s ∷ cs) all = absurd (let h : false ≡ true = all in cc)
-runs_are_one_search add_up j (Withdraw name ∷ cs) all = absurd (let h : false ≡ true = all in cc)
-runs_are_one_search add_up j (Pin v k ∷ cs) all = absurd (let h : false ≡ true = all in cc)
-runs_are_one_search add_up j (Unpin v ∷ cs) all = absurd (let h : false ≡ true = all in cc)
-runs_are_one_search add_up j (Build ∷ cs) all = absurd (let h : false ≡ true = all in cc)
-runs_are_one_search add_up j (Deviation d ∷ cs) all = absurd (let h : false ≡ true = all in cc)
-runs_are_one_search add_up j (Anneal count ∷ cs) all = absurd (let h : false ≡ true = all in cc)
-
 pub annealings_add_up : AnnealStepsAddUp → AnnealingsAddUp
 annealings_add_up add_up j a b =
     let e : j.steps + a + b ≡ j.steps + (a + b) = omega arith in
@@ -60,20 +45,39 @@ no_annealing : (j : JobValue) → annealed j 0 ≡ j
 unfolding anneal_steps
 no_annealing j = let e : j.steps + 0 ≡ j.steps = omega arith in ap (λ n. walked_on j (walked j) n) e
 
+-- ---- many commands
+
+clash : {X : Type 0} → false ≡ true → X
+clash h = absurd (let g = h in cc)
+
+-- what the one command makes of a job is what so many steps make of it
+abbrev Makes : Command → (Command → Bool) → (JobValue → ℕ → JobValue) → Type 0
+Makes c is_one made = is_one c ≡ true → (j : JobValue) → job_after j c ≡ made j (steps_of c)
+
+makes : (c : Command) → Makes c is_searching searched × Makes c is_annealing annealed
+makes (Load p seed) = (λ no. clash no, λ no. clash no)
+makes (Add q a b) = (λ no. clash no, λ no. clash no)
+makes (Add1 q s) = (λ no. clash no, λ no. clash no)
+makes (Withdraw name) = (λ no. clash no, λ no. clash no)
+makes (Pin v k) = (λ no. clash no, λ no. clash no)
+makes (Unpin v) = (λ no. clash no, λ no. clash no)
+makes Build = (λ no. clash no, λ no. clash no)
+makes (Search count) = (λ yes j. refl, λ no. clash no)
+makes Checkpoint = (λ yes j. sym (no_search j), λ yes j. sym (no_annealing j))
+makes (Deviation d) = (λ no. clash no, λ no. clash no)
+makes (Anneal count) = (λ no. clash no, λ yes j. refl)
+
+module _ (is_one : Command → Bool) (made : JobValue → ℕ → JobValue) (one : (c : Command) → Makes c is_one made) (none : (j : JobValue) → made j 0 ≡ j)
+    (add_up : (j : JobValue) (a b : ℕ) → made (made j a) b ≡ made j (a + b)) where
+  runs_are_one : (j : JobValue) (cs : List Command) → list_all is_one cs ≡ true → after (Loaded j) cs ≡ Loaded (made j (sum_by steps_of cs))
+  runs_are_one j [] all = ap Loaded (sym (none j))
+  runs_are_one j (c ∷ cs) all =
+      let both = and_parts (is_one c) (list_all is_one cs) all in
+      ap (λ i. after (Loaded i) cs) (one c both.0 j) ∙ runs_are_one (made j (steps_of c)) cs both.1 ∙ ap Loaded (add_up j (steps_of c) (sum_by steps_of cs))
+      ∙ ap (λ n. Loaded (made j n)) (sym (sum_by-cons steps_of c cs))
+
+pub runs_are_one_search : StepsAddUp → RunsAreOneSearch
+runs_are_one_search add_up = runs_are_one is_searching searched (λ c. (makes c).0) no_search (searches_add_up add_up)
+
 pub runs_are_one_annealing : AnnealStepsAddUp → RunsAreOneAnnealing
-runs_are_one_annealing add_up j [] all = ap Loaded (sym (no_annealing j))
-runs_are_one_annealing add_up j (Anneal count ∷ cs) all =
-    runs_are_one_annealing add_up (annealed j count) cs all ∙ ap Loaded (annealings_add_up add_up j count (sum_by steps_of cs))
-    ∙ ap (λ n. Loaded (annealed j n)) (sym (sum_by-cons steps_of (Anneal count) cs))
-runs_are_one_annealing add_up j (Checkpoint ∷ cs) all =
-    let e : 0 + sum_by steps_of cs ≡ sum_by steps_of cs = omega arith in
-    runs_are_one_annealing add_up j cs all ∙ ap (λ n. Loaded (annealed j n)) (sym (sum_by-cons steps_of Checkpoint cs ∙ e))
-runs_are_one_annealing add_up j (Load p seed ∷ cs) all = absurd (let h : false ≡ true = all in cc)
-runs_are_one_annealing add_up j (Add q a b ∷ cs) all = absurd (let h : false ≡ true = all in cc)
-runs_are_one_annealing add_up j (Add1 q s ∷ cs) all = absurd (let h : false ≡ true = all in cc)
-runs_are_one_annealing add_up j (Withdraw name ∷ cs) all = absurd (let h : false ≡ true = all in cc)
-runs_are_one_annealing add_up j (Pin v k ∷ cs) all = absurd (let h : false ≡ true = all in cc)
-runs_are_one_annealing add_up j (Unpin v ∷ cs) all = absurd (let h : false ≡ true = all in cc)
-runs_are_one_annealing add_up j (Build ∷ cs) all = absurd (let h : false ≡ true = all in cc)
-runs_are_one_annealing add_up j (Search count ∷ cs) all = absurd (let h : false ≡ true = all in cc)
-runs_are_one_annealing add_up j (Deviation d ∷ cs) all = absurd (let h : false ≡ true = all in cc)
+runs_are_one_annealing add_up = runs_are_one is_annealing annealed (λ c. (makes c).1) no_annealing (annealings_add_up add_up)

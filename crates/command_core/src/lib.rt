@@ -1,7 +1,7 @@
 //! The state of a planner, and what each command makes of it. No bytes, no device, no text.
 //!
 //! Entry functions: `check` tells whether a state accepts a command, `apply` gives the state that it makes, and a
-//! `Planner` is a state that commands change in its place: a session's (`recover`). `plan_solve` calls `apply`.
+//! `Planner` is a state that commands change in its place: a session's (`recover`), and a solving's (`plan_solve`).
 //! `state_codec` and `checkpoint` write and read the types, `command_text` the answers (`unplanned_names`).
 //!
 //! Source: this project's own. Requests come in (`Add`, `Add1`), go (`Withdraw`) and are planned (`Build`, `Search`,
