@@ -12,7 +12,7 @@ use Rattle.command_text.specs.Readings.{Reading}
 use Rattle.command_text.specs.declared.asked.Asked.{Asked}
 use Rattle.command_text.specs.declared.asked.Asked.TheVariants.{Load, Nothing}
 use Rattle.recover.specs.Sessions.{SessionValue}
-use Rattle.command_serving.specs.Input.{CountsTaken, Cuts, Loads}
+use Rattle.command_serving.specs.Input.{CountsTaken, Cuts, CutsNext, Loads}
 use Rattle.command_serving.specs.Acts.{Turn, carried_of, events_by, fates_of, kept_of, unfailed}
 use Rattle.command_serving.specs.Streams.{Extends, Stream}
 use Rattle.command_serving.specs.Served.{AreAnswered, AreTold, HasCause, IsCutShort, IsServed, Leads, Tells, as_serving, preceded, still}
@@ -289,13 +289,19 @@ module _ {D E : Type 0} (on : sectors.Ghosts D) (reading : Reading) (a : Asked) 
       subst (λ r. GoesOn on r reading old (cut_at a rest) x y new known) (sym is)
       (subst (λ qs. IsCutShort on reading old qs x y new) (sym cut) (asked_cut on reading old new (record { asked = a; text = [] }) ps x y answers))
 
-  pub line_on : (told : Result ⊤ E) → MatchResult told (λ _. r ≡ Ok On) (λ _. r ≡ Err fault.WriteFault) → cut_at a rest ≡ record { asked = a; text = [] } ∷ pieces_of rest → known ≡ Some rest
-      → Answers on told old (λ s. asked_reply reading s a [] (is_short (record { asked = a; text = [] }))) x y new silent → GoesOn on r reading old (cut_at a rest) x y new known
-  line_on told is cut known_is answers = once_told told On (pieces_of rest) is cut answers (line_served_on reading a rest old new x y known cut known_is)
+-- by what the line asks for
+module _ {D E : Type 0} {line a : Asked} {known : Option (List ℕ)} (on : sectors.Ghosts D) (old new : SessionValue D) (x y : Stream) (r : Result Goes ServeFault) (reading : Reading) (rest : List ℕ) (asks_for : line ≡ a) (told : Result ⊤ E) where
+  pub line_on : MatchResult told (λ _. r ≡ Ok On) (λ _. r ≡ Err fault.WriteFault) → cut_at a rest ≡ record { asked = a; text = [] } ∷ pieces_of rest → known ≡ Some rest
+      → Answers on told old (λ s. asked_reply reading s a [] (is_short (record { asked = a; text = [] }))) x y new silent → GoesOn on r reading old (cut_at line rest) x y new known
+  line_on is cut known_is answers =
+      subst (λ b. GoesOn on r reading old (cut_at b rest) x y new known) (sym asks_for)
+      (once_told on reading a rest old new x y known r told On (pieces_of rest) is cut answers (line_served_on reading a rest old new x y known cut known_is))
 
-  pub line_ends : (told : Result ⊤ E) → MatchResult told (λ _. r ≡ Ok ToEnd) (λ _. r ≡ Err fault.WriteFault) → cut_at a rest ≡ record { asked = a; text = [] } ∷ [] → known ≡ Some rest
-      → Answers on told old (λ s. asked_reply reading s a [] (is_short (record { asked = a; text = [] }))) x y new silent → GoesOn on r reading old (cut_at a rest) x y new known
-  line_ends told is cut known_is answers = once_told told ToEnd [] is cut answers (line_served_last reading a rest old new x y known cut known_is)
+  pub line_ends : MatchResult told (λ _. r ≡ Ok ToEnd) (λ _. r ≡ Err fault.WriteFault) → cut_at a rest ≡ record { asked = a; text = [] } ∷ [] → known ≡ Some rest
+      → Answers on told old (λ s. asked_reply reading s a [] (is_short (record { asked = a; text = [] }))) x y new silent → GoesOn on r reading old (cut_at line rest) x y new known
+  line_ends is cut known_is answers =
+      subst (λ b. GoesOn on r reading old (cut_at b rest) x y new known) (sym asks_for)
+      (once_told on reading a rest old new x y known r told ToEnd [] is cut answers (line_served_last reading a rest old new x y known cut known_is))
 
 -- ---- a load
 
@@ -460,12 +466,6 @@ module _ {D : Type 0} {on : sectors.Ghosts D} (reading : Reading) (old mid new :
       at some others (inr c) =
           answered_behind reading old mid pieces (pieces_of p.left) (others ++ pieces_behind goes q.left) p.serves.text p.serves.leads q.serves.leads.turns (q.lines c.0 others c.2)
 
-  pub line_served : CutLaws → (a : Asked) (known next behind : Option (List ℕ)) (goes : Goes) → ServesOn on reading old pieces x y mid On known → Cuts a known next
-      → ((rest : List ℕ) → next ≡ Some rest → ServesOn on reading mid (cut_at a rest) y z new goes behind) → ServesOn on reading old pieces x z new goes behind
-  line_served laws a known next behind goes p cuts more =
-      let cut = cut_known laws a p.left known next p.is_known cuts in
-      joined known behind goes p (subst (λ ps. ServesOn on reading mid ps y z new goes behind) (sym cut.2) (more cut.0 cut.1))
-
   -- there was no further line
   pub input_ended : (known : Option (List ℕ)) → pieces_of [] ≡ [] → ServesOn on reading old pieces x y mid On known → IfSome known (λ left. left ≡ []) → ServesOn on reading old pieces x y mid ToEnd known
   unfolding leads_to
@@ -556,11 +556,19 @@ module _ {D : Type 0} {on : sectors.Ghosts D} (reading : Reading) (old mid new :
       at some others next (inr e) =
           answered_behind reading old mid pieces (pieces_of p.left) (next ∷ (others ++ c.behind)) p.serves.text p.serves.leads c.answered.turns (c.lines e.0 others next e.2)
 
-  pub line_cut : CutLaws → (a : Asked) (known next : Option (List ℕ)) → ServesOn on reading old pieces x y mid On known → Cuts a known next
-      → ((rest : List ℕ) → next ≡ Some rest → IsCutShort on reading mid (cut_at a rest) y z new) → IsCutShort on reading old pieces x z new
-  line_cut laws a known next p cuts more =
-      let cut = cut_known laws a p.left known next p.is_known cuts in
-      cut_behind known p (subst (λ ps. IsCutShort on reading mid ps y z new) (sym cut.2) (more cut.0 cut.1))
+-- behind a line that is the next one
+module _ {D : Type 0} {on : sectors.Ghosts D} {reading : Reading} {old mid new : SessionValue D} {pieces : List Piece} {x y z : Stream} {a : Asked} {found : Option Asked} {known next : Option (List ℕ)} (laws : CutLaws) (is : found ≡ Some a)
+    (p : ServesOn on reading old pieces x y mid On known) (cuts : CutsNext found known next) where
+  pub line_served : {behind : Option (List ℕ)} {to goes : Goes} → to ≡ goes → ((rest : List ℕ) → next ≡ Some rest → ServesOn on reading mid (cut_at a rest) y z new to behind) → ServesOn on reading old pieces x z new goes behind
+  line_served {behind = behind} {goes = goes} same more =
+      let cut = cut_known laws a p.left known next p.is_known (subst (λ b. CutsNext b known next) is cuts) in
+      joined reading old mid new pieces x y z known behind goes p
+      (subst (λ ps. ServesOn on reading mid ps y z new goes behind) (sym cut.2) (subst (λ g. ServesOn on reading mid (cut_at a cut.0) y z new g behind) same (more cut.0 cut.1)))
+
+  pub line_cut : ((rest : List ℕ) → next ≡ Some rest → IsCutShort on reading mid (cut_at a rest) y z new) → IsCutShort on reading old pieces x z new
+  line_cut more =
+      let cut = cut_known laws a p.left known next p.is_known (subst (λ b. CutsNext b known next) is cuts) in
+      cut_behind reading old mid new pieces x y z known p (subst (λ ps. IsCutShort on reading mid ps y z new) (sym cut.2) (more cut.0 cut.1))
 
 -- ---- causes
 

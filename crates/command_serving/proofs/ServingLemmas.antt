@@ -136,26 +136,28 @@ serves_told {on = on} a b f g t x y p handed = record {
     turn : Turn
     turn = record { acts = p.acts; texts = handed.texts; calls = on.calls b.device }
 
-pub answers_told : {D T E : Type 0} {on : sectors.Ghosts D} (r : Result T E) (a b : SessionValue D) (f : Serving → Reply) (later : Option (List Command)) (t : List ℕ) (x y : Stream) → Tells on a f t b (still_carried later) → HandsOn x y r (on.calls b.device) t
-    → Answers on r a f x y b (still_carried later)
-answers_told (Ok done) a b f later t x y p handed = serves_told a b f (still_carried later) t x y p handed
-answers_told (Err fault) a b f later t x y p part = inl (record { last = t; later = later; tells = p; part = part })
+pub answers_told : {D T E : Type 0} {on : sectors.Ghosts D} {a b : SessionValue D} {f : Serving → Reply} {t : List ℕ} (r : Result T E) (x y : Stream) → Tells on a f t b silent → HandsOn x y r (on.calls b.device) t → Answers on r a f x y b silent
+answers_told {a = a} {b = b} {f = f} {t = t} (Ok done) x y tells handed = serves_told a b f silent t x y tells handed
+answers_told {t = t} (Err fault) x y tells part = inl (record { last = t; later = None; tells = tells; part = part })
 
--- behind what a search has told so far
-pub answers_behind : {D T E : Type 0} {on : sectors.Ghosts D} (r : Result T E) (a b c : SessionValue D) (f : Serving → Reply) (later : Option (List Command)) (commands : List Command) (t : List ℕ) (x y z : Stream) → Serves on a f x y b (λ s. carried_all s commands)
+-- behind what steps have told so far
+pub serves_further : {D : Type 0} {on : sectors.Ghosts D} {a b c : SessionValue D} {f g h : Serving → Reply} {t : List ℕ} {x y z : Stream} → Serves on a f x y b g → Tells on b g t c h → IsHandedOn y z (on.calls c.device) t → Serves on a f x z c h
+serves_further {a = a} {b = b} {c = c} {f = f} {g = g} {h = h} {t = t} {x = x} {y = y} {z = z} so_far tells handed =
+    serves_on a b c f g h x y z so_far (serves_told b c g h t y z tells handed)
+
+pub answers_behind : {D T E : Type 0} {on : sectors.Ghosts D} {a b c : SessionValue D} {f : Serving → Reply} {t : List ℕ} {x y : Stream} (r : Result T E) (later : Option (List Command)) (commands : List Command) (z : Stream) → Serves on a f x y b (λ s. carried_all s commands)
     → Tells on b (λ s. carried_all s commands) t c (still_carried later) → HandsOn y z r (on.calls c.device) t → Answers on r a f x z c (still_carried later)
-answers_behind (Ok done) a b c f later commands t x y z p q handed =
-    serves_on a b c f (λ s. carried_all s commands) (still_carried later) x y z p (serves_told b c (λ s. carried_all s commands) (still_carried later) t y z q handed)
-answers_behind (Err fault) a b c f later commands t x y z p q part = inr (record {
+answers_behind (Ok done) later commands z so_far tells handed = serves_further so_far tells handed
+answers_behind {b = b} {t = t} {y = y} (Err fault) later commands z so_far tells part = inr (record {
   commands = commands;
   told = b;
-  text = p.text;
-  answered = p.leads;
+  text = so_far.text;
+  answered = so_far.leads;
   last = t;
   later = later;
-  tells = q;
+  tells = tells;
   handed = y;
-  written = p.written;
+  written = so_far.written;
   part = part;
 })
 
@@ -371,25 +373,32 @@ next_done {on = on} old mid command all rest reply x is applied ok =
     (λ fates. ap (carried_all (as_serving old fates)) is ∙ carried_cons (as_serving old fates) command rest) (goes_on on old mid command reply applied done x ok) in
     record { acts = p.acts; run = p.run; says = λ later. p.says later; asked = p.asked; asks = p.asks; state = p.state; few = p.few }
 
--- the same of the first command of steps, where it is told as the code does
-pub step_done : {D : Type 0} {on : sectors.Ghosts D} (old mid : SessionValue D) (steps rest : StepsLeft) (command : Command) (is_told : Bool) (reply : SessionReply) (x : Unit {0})
-    → commands_of steps old.state ≡ command ∷ commands_of rest (effect old.state command) → is_told ≡ makes_steps command → IsAppliedOn on old command reply mid → reply.answer ≡ Ok x
-    → Tells on old (λ s. carried_all s (commands_of steps old.state)) (progress_of is_told mid) mid (λ s. carried_all s (commands_of rest mid.state))
-step_done {on = on} old mid steps rest command is_told reply x follows told applied ok =
-    let left : mid.state ≡ effect old.state command = state_done on old mid command reply x applied ok in
-    let text : told_behind command mid.state ≡ progress_of is_told mid = ap (λ (b : Bool). if b then at_line mid.state else []) (sym told) in
-    let tells = next_done old mid command (commands_of steps old.state) (commands_of rest (effect old.state command)) reply x follows applied ok in
-    let here : Tells on old (λ s. carried_all s (commands_of steps old.state)) (told_behind command mid.state) mid (λ s. carried_all s (commands_of rest mid.state)) =
-    subst (λ (s : State). Tells on old (λ t. carried_all t (commands_of steps old.state)) (told_behind command mid.state) mid (λ t. carried_all t (commands_of rest s))) (sym left) tells in
-    subst (λ (t : List ℕ). Tells on old (λ s. carried_all s (commands_of steps old.state)) t mid (λ s. carried_all s (commands_of rest mid.state))) text here
+-- what is left of steps, in the session's own state
+follows_as : {state now : State} (steps rest : StepsLeft) (command : Command) → state ≡ now → commands_of steps state ≡ command ∷ commands_of rest (effect state command) → commands_of steps now ≡ command ∷ commands_of rest (effect now command)
+follows_as steps rest command same follows = subst (λ (s : State). commands_of steps s ≡ command ∷ commands_of rest (effect s command)) same follows
 
--- a command is not carried out
-pub next_denied : {D : Type 0} {on : sectors.Ghosts D} (old new : SessionValue D) (command : Command) (all rest : List Command) (reply : SessionReply) (d : Denial) → all ≡ command ∷ rest
-    → IsAppliedOn on old command reply new → reply.answer ≡ Err d → Tells on old (λ s. carried_all s all) (line (answer_text (denied d))) new silent
-next_denied {on = on} old new command all rest reply d is applied err =
-    let done : Serving → Reply = λ t. with_text (told_behind command t.state) (carried_all t rest) in
-    tells_as old new (λ s. carried s command done) (λ s. carried_all s all) silent (line (answer_text (denied d)))
-    (λ fates. ap (carried_all (as_serving old fates)) is ∙ carried_cons (as_serving old fates) command rest) (ends_with on old new command reply applied done d err)
+module _ {D : Type 0} {on : sectors.Ghosts D} {state : State} (old mid : SessionValue D) (steps rest : StepsLeft) (command : Command) (reply : SessionReply) (same : state ≡ old.state)
+    (first : commands_of steps state ≡ command ∷ commands_of rest (effect state command)) (applied : IsAppliedOn on old command reply mid) where
+  -- the same of the first command of steps, where it is told as the code does
+  pub step_done : (is_told : Bool) (x : Unit {0}) → is_told ≡ makes_steps command → reply.answer ≡ Ok x → Tells on old (λ s. carried_all s (commands_of steps old.state)) (progress_of is_told mid) mid (λ s. carried_all s (commands_of rest mid.state))
+  step_done is_told x told ok =
+      let all : List Command = commands_of steps old.state in
+      let left : mid.state ≡ effect old.state command = state_done on old mid command reply x applied ok in
+      let text : told_behind command mid.state ≡ progress_of is_told mid = ap (λ (b : Bool). if b then at_line mid.state else []) (sym told) in
+      let tells = next_done old mid command all (commands_of rest (effect old.state command)) reply x (follows_as steps rest command same first) applied ok in
+      let here : Tells on old (λ s. carried_all s all) (told_behind command mid.state) mid (λ s. carried_all s (commands_of rest mid.state)) =
+      subst (λ (s : State). Tells on old (λ t. carried_all t all) (told_behind command mid.state) mid (λ t. carried_all t (commands_of rest s))) (sym left) tells in
+      subst (λ (t : List ℕ). Tells on old (λ s. carried_all s all) t mid (λ s. carried_all s (commands_of rest mid.state))) text here
+
+  -- a command is not carried out, and that is told
+  pub step_denied : (a : Answer) (d : Denial) → a ≡ denied d → reply.answer ≡ Err d → Tells on old (λ s. carried_all s (commands_of steps old.state)) (line (answer_text a)) mid silent
+  step_denied a d told err =
+      let all : List Command = commands_of steps old.state in
+      let done : Serving → Reply = λ t. with_text (told_behind command t.state) (carried_all t (commands_of rest (effect old.state command))) in
+      let is : all ≡ command ∷ commands_of rest (effect old.state command) = follows_as steps rest command same first in
+      subst (λ b. Tells on old (λ s. carried_all s all) (line (answer_text b)) mid silent) (sym told)
+      (tells_as old mid (λ s. carried s command done) (λ s. carried_all s all) silent (line (answer_text (denied d)))
+      (λ fates. ap (carried_all (as_serving old fates)) is ∙ carried_cons (as_serving old fates) command (commands_of rest (effect old.state command))) (ends_with on old mid command reply applied done d err))
 
 -- all are carried out
 pub all_done : {D : Type 0} {on : sectors.Ghosts D} (s : SessionValue D) (all : List Command) → all ≡ [] → Tells on s (λ t. carried_all t all) (line (answer_text answer.Ok)) s silent

@@ -144,13 +144,13 @@ module _ {R : Type 0} (on : sources.Ghosts R) where
   once_takes (Ok done) r to Takes is takes = subst (λ o. IfOk o Takes) (sym is) takes
   once_takes (Err failed) r to Takes is takes = subst (λ o. IfOk o Takes) (sym is) tt
 
-  pub told_on : {E : Type 0} (told : Result ⊤ E) (r : Result Goes ServeFault) (a : Asked) (input : Input) (reader : R) → MatchResult told (λ _. r ≡ Ok On) (λ _. r ≡ Err fault.WriteFault) → announced a ≡ 0 → is_end a false ≡ false
-      → IfOk r (TakesBehind on a input reader input reader)
-  told_on told r a input reader is none goes = once_takes told r On (TakesBehind on a input reader input reader) is (line_takes a input reader none goes)
+  module _ {E : Type 0} {line a : Asked} (r : Result Goes ServeFault) (input : Input) (reader : R) (asks_for : line ≡ a) (told : Result ⊤ E) where
+    pub told_on : MatchResult told (λ _. r ≡ Ok On) (λ _. r ≡ Err fault.WriteFault) → announced a ≡ 0 → is_end a false ≡ false → IfOk r (TakesBehind on line input reader input reader)
+    told_on is none goes =
+        once_takes told r On (TakesBehind on line input reader input reader) is (line_takes line input reader (ap announced asks_for ∙ none) (ap (λ b. is_end b false) asks_for ∙ goes))
 
-  pub told_to_end : {E : Type 0} (told : Result ⊤ E) (r : Result Goes ServeFault) (a : Asked) (input : Input) (reader : R) → MatchResult told (λ _. r ≡ Ok ToEnd) (λ _. r ≡ Err fault.WriteFault) → is_end a false ≡ true
-      → IfOk r (TakesBehind on a input reader input reader)
-  told_to_end told r a input reader is ends = once_takes told r ToEnd (TakesBehind on a input reader input reader) is (line_ends a input reader ends)
+    pub told_to_end : MatchResult told (λ _. r ≡ Ok ToEnd) (λ _. r ≡ Err fault.WriteFault) → is_end a false ≡ true → IfOk r (TakesBehind on line input reader input reader)
+    told_to_end is ends = once_takes told r ToEnd (TakesBehind on line input reader input reader) is (line_ends line input reader (ap (λ b. is_end b false) asks_for ∙ ends))
 
   loads_takes : (kind : Kind) (seed len : ℕ) (text : LoadText) (old new : Option (List ℕ)) → Loads len old new text → TakesKnown (Load kind seed len) (goes_behind text) old new
   loads_takes kind seed len (Whole text) None new l = tt

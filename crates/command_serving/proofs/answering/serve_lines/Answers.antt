@@ -3,11 +3,9 @@ use Rattle.std.proofs.Common.{◌<◌, ◌∙◌, arith, refl, subst, sym}
 use Rattle.std.proofs.lemmas.Result.{err_from_is_err_and}
 use Rattle.std.specs.Prelude.{MatchResult, OnSome}
 use Rattle.command_text.specs.Cutting.{pieces_of}
-use Rattle.command_text.specs.Laws.{cut_at}
 use Rattle.command_serving.specs.Input.{CutsNext, left_of}
 use Rattle.command_serving.specs.Served.{IsCutShort, IsServed}
-use Rattle.command_serving.specs.Serving.{ServesOn, TakesKnown}
-use Rattle.command_serving.specs.declared.answering.Goes.TheVariants.{On, ToEnd}
+use Rattle.command_serving.specs.Serving.{TakesKnown}
 use Rattle.command_serving.proofs.AskedLemmas.{all_served, cut_between, input_begun, input_ended, line_cut, line_served}
 use Rattle.command_serving.proofs.CutLemmas.{CutLaws, all_behind, all_nothing, counts_behind, counts_nothing}
 use Rattle.command_serving.proofs.TakenLemmas.{known_on, none_taken_yet, taken_to_end, taken_whole}
@@ -49,58 +47,31 @@ pub returns-in_err-serve_asked-clause-serves : goal.returns-in_err-serve_asked-c
 returns-in_err-serve_asked-clause-serves g c = λ reading bytes how is fits known.
     let laws : CutLaws = record { ended = c.pieces_follow.ensures.ended; last = c.pieces_follow.ensures.last; none = c.pieces_follow.ensures.none } in
     let old = c.args.session.now in
-    let mid = c.loop-asked.session in
     let new = c.serve_asked.new.session in
     let before = g.W.Sink.stream c.args.writer.now in
-    let sofar = g.W.Sink.stream c.loop-asked.writer in
     let after = g.W.Sink.stream c.serve_asked.new.writer in
-    let left = left_of g.R.Source how c.loop-asked.input c.loop-asked.reader in
-    let next = left_of g.R.Source how c.next_asked.new.self c.next_asked.new.reader in
     let mid_fits = (c.serve_asked.ensures.counted how fits).0 in
-    let left_fits = (c.next_asked.ensures.counted how mid_fits).0 in
-    let cuts = subst (λ asked. CutsNext asked left next) c.in-Some.is (c.in_ok-asked.ensures.cuts how mid_fits) in
+    let so_far = c.loop-asked.invariant.0 reading bytes how is (c.next_asked.ensures.counted how mid_fits).0 known in
     let told = err_from_is_err_and c.from_residual-in_err-serve_asked.result c.from_residual-in_err-serve_asked.ensures.1 in
     subst (λ r. MatchResult r (λ _. IsServed g.D.Sectors reading old bytes before after new) (λ _. IsCutShort g.D.Sectors reading old (pieces_of bytes) before after new)) (sym told.1)
-    (line_cut reading old mid new (pieces_of bytes) before sofar after laws c.in-Some.asked left next (c.loop-asked.invariant.0 reading bytes how is left_fits known) cuts
-    (λ rest q. c.in_err-serve_asked.ensures.serves reading rest how is fits q))
+    (line_cut laws c.in-Some.is so_far (c.in_ok-asked.ensures.cuts how mid_fits) (λ rest q. c.in_err-serve_asked.ensures.serves reading rest how is fits q))
 
 pub returns-in-ToEnd-clause-serves : goal.returns-in-ToEnd-clause-serves
 returns-in-ToEnd-clause-serves g c = λ reading bytes how is fits known.
     let laws : CutLaws = record { ended = c.pieces_follow.ensures.ended; last = c.pieces_follow.ensures.last; none = c.pieces_follow.ensures.none } in
-    let old = c.args.session.now in
-    let mid = c.loop-asked.session in
-    let new = c.serve_asked.new.session in
-    let before = g.W.Sink.stream c.args.writer.now in
-    let sofar = g.W.Sink.stream c.loop-asked.writer in
-    let after = g.W.Sink.stream c.serve_asked.new.writer in
-    let left = left_of g.R.Source how c.loop-asked.input c.loop-asked.reader in
-    let next = left_of g.R.Source how c.next_asked.new.self c.next_asked.new.reader in
     let behind = left_of g.R.Source how c.serve_asked.new.input c.serve_asked.new.reader in
     let mid_fits = (c.serve_asked.ensures.counted how fits).0 in
-    let left_fits = (c.next_asked.ensures.counted how mid_fits).0 in
-    let cuts = subst (λ asked. CutsNext asked left next) c.in-Some.is (c.in_ok-asked.ensures.cuts how mid_fits) in
-    let served = line_served reading old mid new (pieces_of bytes) before sofar after laws c.in-Some.asked left next behind ToEnd (c.loop-asked.invariant.0 reading bytes how is left_fits known) cuts
-    (λ rest q. subst (λ goes. ServesOn g.D.Sectors reading mid (cut_at c.in-Some.asked rest) sofar after new goes behind) c.in-ToEnd.is (c.in_ok-serve_asked.ensures.serves reading rest how is fits q)) in
-    all_served c.states_follow.ensures reading old new bytes before after behind served
+    let so_far = c.loop-asked.invariant.0 reading bytes how is (c.next_asked.ensures.counted how mid_fits).0 known in
+    let served = line_served laws c.in-Some.is so_far (c.in_ok-asked.ensures.cuts how mid_fits) c.in-ToEnd.is (λ rest q. c.in_ok-serve_asked.ensures.serves reading rest how is fits q) in
+    all_served c.states_follow.ensures reading c.args.session.now c.serve_asked.new.session bytes (g.W.Sink.stream c.args.writer.now) (g.W.Sink.stream c.serve_asked.new.writer) behind served
 
 pub loop-asked-preserved : goal.loop-asked-preserved
 loop-asked-preserved g c =
-    let laws : CutLaws = record { ended = c.pieces_follow.ensures.ended; last = c.pieces_follow.ensures.last; none = c.pieces_follow.ensures.none } in
-    let old = c.args.session.now in
-    let mid = c.loop-asked.session in
-    let new = c.serve_asked.new.session in
-    let before = g.W.Sink.stream c.args.writer.now in
-    let sofar = g.W.Sink.stream c.loop-asked.writer in
-    let after = g.W.Sink.stream c.serve_asked.new.writer in (
+    let laws : CutLaws = record { ended = c.pieces_follow.ensures.ended; last = c.pieces_follow.ensures.last; none = c.pieces_follow.ensures.none } in (
       λ reading bytes how is fits known.
-          let left = left_of g.R.Source how c.loop-asked.input c.loop-asked.reader in
-          let next = left_of g.R.Source how c.next_asked.new.self c.next_asked.new.reader in
-          let behind = left_of g.R.Source how c.serve_asked.new.input c.serve_asked.new.reader in
           let mid_fits = (c.serve_asked.ensures.counted how fits).0 in
-          let left_fits = (c.next_asked.ensures.counted how mid_fits).0 in
-          let cuts = subst (λ asked. CutsNext asked left next) c.in-Some.is (c.in_ok-asked.ensures.cuts how mid_fits) in
-          line_served reading old mid new (pieces_of bytes) before sofar after laws c.in-Some.asked left next behind On (c.loop-asked.invariant.0 reading bytes how is left_fits known) cuts
-          (λ rest q. subst (λ goes. ServesOn g.D.Sectors reading mid (cut_at c.in-Some.asked rest) sofar after new goes behind) c.in-On.is (c.in_ok-serve_asked.ensures.serves reading rest how is fits q)),
+          let so_far = c.loop-asked.invariant.0 reading bytes how is (c.next_asked.ensures.counted how mid_fits).0 known in
+          line_served laws c.in-Some.is so_far (c.in_ok-asked.ensures.cuts how mid_fits) c.in-On.is (λ rest q. c.in_ok-serve_asked.ensures.serves reading rest how is fits q),
       c.serve_asked.ensures.origin ∙ c.loop-asked.invariant.1,
       counts_behind g.R.Source c.args.input.now c.next_asked.new.self c.serve_asked.new.input c.args.reader.now c.next_asked.new.reader c.serve_asked.new.reader
           (counts_behind g.R.Source c.args.input.now c.loop-asked.input c.next_asked.new.self c.args.reader.now c.loop-asked.reader c.next_asked.new.reader c.loop-asked.invariant.2 c.next_asked.ensures.counted)

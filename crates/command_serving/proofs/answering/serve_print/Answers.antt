@@ -1,7 +1,6 @@
 -- By whether there is a job, whether all is planned, and whether memory was found for the text.
-use Rattle.std.proofs.Common.{rules, ◌≡◌, ◌++◌, Err, refl, subst, None}
-use Rattle.command_core.specs.declared.refusals.Refusal.TheVariants as core
-use Rattle.command_text.specs.Answering.{printed, unless_broken}
+use Rattle.std.proofs.Common.{rules, ◌≡◌, ◌++◌, Err, refl, subst}
+use Rattle.command_text.specs.Answering.{printed}
 use Rattle.command_text.specs.Answers.{answer_text, line}
 use Rattle.command_text.specs.Showing.{print_text}
 use Rattle.command_text.specs.declared.answers.Answer.TheVariants as answer
@@ -13,10 +12,7 @@ use Rattle.command_serving.proofs.ServingLemmas.{answers_told}
 use Rattle.command_serving.proofs.answering.serve_print.Goals as goal
 
 pub returns-in-Err-clause-answers : goal.returns-in-Err-clause-answers
-returns-in-Err-clause-answers g c =
-    let session = c.args.session.now in
-    answers_told c.tell.result session session (λ s. unless_broken s (printed s s.state)) None (line (answer_text c.in-Err.answer)) (g.W.Sink.stream c.args.writer.now) (g.W.Sink.stream c.tell.new.writer)
-    (tells_none printed session c.in-Err.answer (λ t. refl) c.in-Err.ensures.none) c.tell.ensures.told
+returns-in-Err-clause-answers g c = answers_told c.tell.result _ _ (tells_none printed c.args.session.now c.in-Err.answer (λ t. refl) c.in-Err.ensures.none) c.tell.ensures.told
 
 pub returns-in-Ok-print-clause-answers : goal.returns-in-Ok-print-clause-answers
 returns-in-Ok-print-clause-answers g c =
@@ -25,9 +21,9 @@ returns-in-Ok-print-clause-answers g c =
     let before = g.W.Sink.stream c.args.writer.now in
     let after = g.W.Sink.stream c.tell_text.new.writer in
     let bytes : c.as_bytes.result.now ≡ print_text job = search rules in
+    let told = subst (λ t. HandsOn before after c.tell_text.result (g.D.Sectors.calls session.device) (t ++ line (answer_text answer.Ok))) bytes c.tell_text.ensures.told in
     let planned = planned_ok (unplanned_count job.problem job.plan) c.print.result c.print.ensures.unplanned c.print.ensures.planned c.in-Ok-print.text c.in-Ok-print.is in
-    answers_told c.tell_text.result session session (λ s. unless_broken s (printed s s.state)) None (print_text job ++ line (answer_text answer.Ok)) before after
-    (print_done session job c.in-Ok.ensures.job.0 c.in-Ok.ensures.job.1 planned) (subst (λ t. HandsOn before after c.tell_text.result (g.D.Sectors.calls session.device) (t ++ line (answer_text answer.Ok))) bytes c.tell_text.ensures.told)
+    answers_told c.tell_text.result _ _ (print_done session job c.in-Ok.ensures.job.0 c.in-Ok.ensures.job.1 planned) told
 
 pub returns-in-Err-Unplanned-clause-answers : goal.returns-in-Err-Unplanned-clause-answers
 returns-in-Err-Unplanned-clause-answers g c =
@@ -35,8 +31,7 @@ returns-in-Err-Unplanned-clause-answers g c =
     let job = c.in-Ok.job.now in
     let is : c.print.result ≡ Err (write.Unplanned c.in-Err-Unplanned.field-0-0) = search rules in
     let unplanned = unplanned_told (unplanned_count job.problem job.plan) c.print.result c.print.ensures.unplanned c.print.ensures.planned c.in-Err-Unplanned.field-0-0 is in
-    answers_told c.tell-in-Err-Unplanned.result session session (λ s. unless_broken s (printed s s.state)) None (line (answer_text answer.Unplanned)) (g.W.Sink.stream c.args.writer.now) (g.W.Sink.stream c.tell-in-Err-Unplanned.new.writer)
-    (print_unplanned session job c.in-Ok.ensures.job.0 c.in-Ok.ensures.job.1 unplanned) c.tell-in-Err-Unplanned.ensures.told
+    answers_told c.tell-in-Err-Unplanned.result _ _ (print_unplanned session job c.in-Ok.ensures.job.0 c.in-Ok.ensures.job.1 unplanned) c.tell-in-Err-Unplanned.ensures.told
 
 pub returns-in-Err-OutOfMemory-clause-answers : goal.returns-in-Err-OutOfMemory-clause-answers
 returns-in-Err-OutOfMemory-clause-answers g c =
@@ -44,5 +39,4 @@ returns-in-Err-OutOfMemory-clause-answers g c =
     let job = c.in-Ok.job.now in
     let is : c.print.result ≡ Err write.OutOfMemory = search rules in
     let planned = planned_unmade (unplanned_count job.problem job.plan) c.print.result c.print.ensures.unplanned c.print.ensures.planned is in
-    answers_told c.tell-in-Err-OutOfMemory.result session session (λ s. unless_broken s (printed s s.state)) None (line (answer_text (answer.Refused core.OutOfMemory))) (g.W.Sink.stream c.args.writer.now) (g.W.Sink.stream c.tell-in-Err-OutOfMemory.new.writer)
-    (print_unmade session job c.in-Ok.ensures.job.0 c.in-Ok.ensures.job.1 planned) c.tell-in-Err-OutOfMemory.ensures.told
+    answers_told c.tell-in-Err-OutOfMemory.result _ _ (print_unmade session job c.in-Ok.ensures.job.0 c.in-Ok.ensures.job.1 planned) c.tell-in-Err-OutOfMemory.ensures.told

@@ -1,7 +1,6 @@
 -- By whether there is a job, whether it refuses to tell, and whether memory was found for the text.
-use Rattle.std.proofs.Common.{rules, ◌≡◌, ◌∙◌, ◌++◌, refl, subst, sym, None}
-use Rattle.command_core.specs.declared.refusals.Refusal.TheVariants as core
-use Rattle.command_text.specs.Answering.{informed, unless_broken}
+use Rattle.std.proofs.Common.{rules, ◌≡◌, ◌∙◌, ◌++◌, refl, subst, sym}
+use Rattle.command_text.specs.Answering.{informed}
 use Rattle.command_text.specs.Answers.{answer_text, line}
 use Rattle.command_text.specs.Questions.{question_text}
 use Rattle.command_text.specs.declared.answers.Answer.TheVariants as answer
@@ -12,34 +11,25 @@ use Rattle.command_serving.proofs.ServingLemmas.{answers_told}
 use Rattle.command_serving.proofs.answering.serve_question.Goals as goal
 
 pub returns-in-Err-clause-answers : goal.returns-in-Err-clause-answers
-returns-in-Err-clause-answers g c =
-    let session = c.args.session.now in
-    let asks = informed c.args.question in
-    answers_told c.tell.result session session (λ s. unless_broken s (asks s s.state)) None (line (answer_text c.in-Err.answer)) (g.W.Sink.stream c.args.writer.now) (g.W.Sink.stream c.tell.new.writer)
-    (tells_none asks session c.in-Err.answer (λ t. refl) c.in-Err.ensures.none) c.tell.ensures.told
+returns-in-Err-clause-answers g c = answers_told c.tell.result _ _ (tells_none (informed c.args.question) c.args.session.now c.in-Err.answer (λ t. refl) c.in-Err.ensures.none) c.tell.ensures.told
 
 pub returns-in-Some-clause-answers : goal.returns-in-Some-clause-answers
 returns-in-Some-clause-answers g c =
-    let session = c.args.session.now in
-    let asks = informed c.args.question in
-    answers_told c.tell-in-Some.result session session (λ s. unless_broken s (asks s s.state)) None (line (answer_text (answer.Refused c.in-Some.refusal))) (g.W.Sink.stream c.args.writer.now) (g.W.Sink.stream c.tell-in-Some.new.writer)
-    (question_refused session c.in-Ok.job.now c.args.question c.in-Ok.ensures.job.0 c.in-Ok.ensures.job.1 c.in-Some.refusal (sym c.question_refusal.ensures ∙ c.in-Some.is)) c.tell-in-Some.ensures.told
+    let refused = question_refused c.args.session.now c.in-Ok.job.now c.args.question c.in-Ok.ensures.job.0 c.in-Ok.ensures.job.1 c.in-Some.refusal (sym c.question_refusal.ensures ∙ c.in-Some.is) in
+    answers_told c.tell-in-Some.result _ _ refused c.tell-in-Some.ensures.told
 
 pub returns-in-Ok-question_text-clause-answers : goal.returns-in-Ok-question_text-clause-answers
 returns-in-Ok-question_text-clause-answers g c =
     let session = c.args.session.now in
     let job = c.in-Ok.job.now in
-    let asks = informed c.args.question in
     let before = g.W.Sink.stream c.args.writer.now in
     let after = g.W.Sink.stream c.tell_text.new.writer in
     let bytes : c.as_bytes.result.now ≡ question_text job c.args.question = search rules in
-    answers_told c.tell_text.result session session (λ s. unless_broken s (asks s s.state)) None (question_text job c.args.question ++ line (answer_text answer.Ok)) before after
-    (question_done session job c.args.question c.in-Ok.ensures.job.0 c.in-Ok.ensures.job.1 (sym c.question_refusal.ensures ∙ c.in-None.is))
-    (subst (λ t. HandsOn before after c.tell_text.result (g.D.Sectors.calls session.device) (t ++ line (answer_text answer.Ok))) bytes c.tell_text.ensures.told)
+    let told = subst (λ t. HandsOn before after c.tell_text.result (g.D.Sectors.calls session.device) (t ++ line (answer_text answer.Ok))) bytes c.tell_text.ensures.told in
+    let done = question_done session job c.args.question c.in-Ok.ensures.job.0 c.in-Ok.ensures.job.1 (sym c.question_refusal.ensures ∙ c.in-None.is) in
+    answers_told c.tell_text.result _ _ done told
 
 pub returns-in-Err-question_text-clause-answers : goal.returns-in-Err-question_text-clause-answers
 returns-in-Err-question_text-clause-answers g c =
-    let session = c.args.session.now in
-    let asks = informed c.args.question in
-    answers_told c.tell-in-Err-question_text.result session session (λ s. unless_broken s (asks s s.state)) None (line (answer_text (answer.Refused core.OutOfMemory))) (g.W.Sink.stream c.args.writer.now) (g.W.Sink.stream c.tell-in-Err-question_text.new.writer)
-    (question_unmade session c.in-Ok.job.now c.args.question c.in-Ok.ensures.job.0 c.in-Ok.ensures.job.1 (sym c.question_refusal.ensures ∙ c.in-None.is)) c.tell-in-Err-question_text.ensures.told
+    let unmade = question_unmade c.args.session.now c.in-Ok.job.now c.args.question c.in-Ok.ensures.job.0 c.in-Ok.ensures.job.1 (sym c.question_refusal.ensures ∙ c.in-None.is) in
+    answers_told c.tell-in-Err-question_text.result _ _ unmade c.tell-in-Err-question_text.ensures.told

@@ -1,8 +1,6 @@
 -- By why the session refuses it, or by which steps it makes.
-use Rattle.std.proofs.Common.{◌≡◌, ◌∙◌, false, true, sym, ap, Ok, Err, None}
-use Rattle.command_text.specs.Answering.{made_or, steps_to_make, unless_broken}
-use Rattle.command_text.specs.Answers.{answer_text, line}
-use Rattle.command_text.specs.declared.answers.Answer.TheVariants as answer
+use Rattle.std.proofs.Common.{◌≡◌, ◌∙◌, false, true, sym, ap, Ok, Err}
+use Rattle.command_text.specs.Answering.{steps_to_make}
 use Rattle.command_serving.proofs.ServingLemmas.{answers_told, steps_begun, steps_broken, steps_refused}
 use Rattle.command_serving.proofs.answering.serve_steps.Goals as goal
 
@@ -10,8 +8,7 @@ pub returns-then-is_broken-clause-answers : goal.returns-then-is_broken-clause-a
 returns-then-is_broken-clause-answers g c =
     let session = c.args.session.now in
     let broken : session.is_broken ≡ true = sym c.is_broken.ensures.broken ∙ c.if-is_broken.true in
-    answers_told c.tell.result session session (λ s. unless_broken s (made_or s (steps_to_make s.state c.args.goal))) None (line (answer_text answer.Broken)) (g.W.Sink.stream c.args.writer.now) (g.W.Sink.stream c.tell.new.writer)
-    (steps_broken c.args.goal session broken) c.tell.ensures.told
+    answers_told c.tell.result _ _ (steps_broken c.args.goal session broken) c.tell.ensures.told
 
 pub returns-in-Ok-clause-answers : goal.returns-in-Ok-clause-answers
 returns-in-Ok-clause-answers g c =
@@ -27,5 +24,4 @@ returns-in-Err-clause-answers g c =
     let whole : session.is_broken ≡ false = sym c.is_broken.ensures.broken ∙ c.if-is_broken.false in
     let is : steps_to_make session.state c.args.goal ≡ Err c.in-Err.refusal =
     ap (λ state. steps_to_make state c.args.goal) (sym c.state.ensures.state) ∙ sym c.steps_to_make.ensures ∙ c.in-Err.is in
-    answers_told c.tell-in-Err.result session session (λ s. unless_broken s (made_or s (steps_to_make s.state c.args.goal))) None (line (answer_text (answer.Refused c.in-Err.refusal))) (g.W.Sink.stream c.args.writer.now) (g.W.Sink.stream c.tell-in-Err.new.writer)
-    (steps_refused c.args.goal session c.in-Err.refusal whole is) c.tell-in-Err.ensures.told
+    answers_told c.tell-in-Err.result _ _ (steps_refused c.args.goal session c.in-Err.refusal whole is) c.tell-in-Err.ensures.told
