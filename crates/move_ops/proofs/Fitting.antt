@@ -1,7 +1,7 @@
 -- A request put into a route that is feasible alone: the new route is feasible alone too exactly where it keeps the limits of load and time.
-use Rattle.std.proofs.Common.{◌≡◌, ℕ, zero, suc, ◌+◌, ◌-◌, ◌<◌, ◌≤◌, ◌≤ℤ◌, ◌<ℤ◌, ℤ, pos, nat_le, nat_eq, eqb, ◌&&◌, Bool, true, false, not, int_lt, List, [], ◌∷◌, ◌++◌, length, length-append, take, drop, Option, Some, None, IsSome, refl, sym, ap, subst, ◌∙◌, inl, inr, arith, rules, T}
-use Rattle.std.specs.Prelude.{◌↔◌}
-use Rattle.std.specs.List.{list_all, range_with_len, insert}
+use Rattle.std.proofs.Common.{◌≡◌, ℕ, zero, suc, ◌+◌, ◌-◌, ◌<◌, ◌≤◌, ◌≤ℤ◌, ◌<ℤ◌, ℤ, pos, ◌-ℤ◌, nat_le, nat_eq, eqb, ◌&&◌, Bool, true, false, not, int_lt, List, [], ◌∷◌, ◌++◌, length, length-append, take, drop, Option, Some, None, IsSome, refl, sym, ap, subst, ◌∙◌, inl, inr, arith, rules, T}
+use Rattle.std.specs.Prelude.{unsigned_abs, ◌↔◌}
+use Rattle.std.specs.List.{list_all, insert}
 use Rattle.std.specs.Option.{option_map_or}
 use Rattle.std.specs.Map.{lookup}
 use Rattle.std.proofs.lemmas.Bool.{cases_lt, and_from, and_parts, or_cases, not-true, both_ways, eq-eqb, eqb-true, leb-true, le-leb, or_right}
@@ -10,6 +10,7 @@ use Rattle.std.proofs.lemmas.Int.{ints, by_lt_z}
 use Rattle.plan_types.specs.Instance.{Instance, IsInstance, request_with, partner_at, pickup_at}
 use Rattle.plan_types.specs.Laws.{NamedAreFound, RequestsStandByName}
 use Rattle.plan_types.specs.Request.{request_name, stop_in, partner_in, pickup_in}
+use Rattle.plan_types.specs.declared.requests.Stop.{Stop}
 use Rattle.plan_types.specs.declared.requests.Request.{Request}
 use Rattle.plan_types.specs.declared.requests.Request.TheVariants.{Single, Pair}
 use Rattle.plan_types.specs.declared.requests.Kind.{Kind}
@@ -17,9 +18,11 @@ use Rattle.plan_types.specs.declared.requests.Kind.TheVariants.{LiLim, Vrp}
 use Rattle.route_sched.specs.Route.{place}
 use Rattle.route_sched.specs.Schedule.{start, load}
 use Rattle.plan_audit.specs.Passes.{has, has_whole_pairs, picks_up_first, keeps_capacity, keeps_windows, is_back_in_time, keeps_times, feasible_alone}
+use Rattle.plan_audit.proofs.TestLemmas.{range_true, true_range}
 use Rattle.move_ops.specs.Pairing.{are_paired}
+use Rattle.nint_dist.specs.Distance.{distance}
+use Rattle.nint_dist.specs.NearestRoot.{nearest_root, whole_root}
 use Rattle.slack_tables.specs.Insertion.{KeepsLimits, ArePlaces, inserted}
-use Rattle.slack_tables.proofs.IdleLemmas.{idle_limits}
 use Rattle.move_ops.proofs.Times.{none_some, some_same, times, one_here, none_here, times-append, times_split}
 use Rattle.move_ops.proofs.Inserting.{numbers_of, times_put, times_inserted, in_numbers}
 
@@ -51,21 +54,6 @@ times_by_all test (m ∷ ns) n all some =
       | inl t ↦ subst (λ k. test k ≡ true) (sym t.1) both.0
       | inr t ↦ (let e = none_here n m t.0 in times_by_all test ns n both.1 (omega arith))
     ]
-
-range_true : (test : ℕ → Bool) (a n : ℕ) → list_all test (range_with_len a n) ≡ true → (i : ℕ) → a ≤ i → i < a + n → test i ≡ true
-range_true test a zero all i from to = absurd (omega arith)
-range_true test a (suc n) all i from to =
-    let both = and_parts (test a) (list_all test (range_with_len (a + 1) n)) all in
-    elim (cases_lt a i) [
-      | inl lt ↦ range_true test (a + 1) n both.1 i (omega arith) (omega arith)
-      | inr ge ↦ (let same : a ≡ i = omega arith in subst (λ k. test k ≡ true) same both.0)
-    ]
-
-true_range : (test : ℕ → Bool) (a n : ℕ) → ((i : ℕ) → a ≤ i → i < a + n → test i ≡ true) → list_all test (range_with_len a n) ≡ true
-true_range test a zero each = refl
-true_range test a (suc n) each =
-    and_from (test a) (list_all test (range_with_len (a + 1) n)) (each a (omega arith) (omega arith))
-    (true_range test (a + 1) n (λ i from to. each i (omega arith) (omega arith)))
 
 -- ---- what is told of a number that may be there
 pub there_whole : (ns : List ℕ) (o : Option ℕ) → ((m : ℕ) → o ≡ Some m → has ns m ≡ true) → option_map_or (has ns) o true ≡ true
@@ -307,13 +295,25 @@ kept_alone p route feasible =
     let one = and_parts (has_whole_pairs p route) (picks_up_first p route && (keeps_capacity p route && keeps_times p.kind p route)) feasible in
     (and_parts (picks_up_first p route) (keeps_capacity p route && keeps_times p.kind p route) one.1).1
 
-pub back_in_time : (p : Instance) → IsInstance p → (route : List ℕ) → p.kind ≡ LiLim → length route ≡ 0 → start p route (length route + 1) ≤ p.depot.latest
-back_in_time p valid [] lilim none = (idle_limits p valid).return lilim
-back_in_time p valid (n ∷ ns) lilim none = absurd (omega arith)
+-- ---- a vehicle that stays at the depot
+still : (x : ℤ) → unsigned_abs (x -ℤ x) ≡ 0
+still x = omega (arith, ints)
+
+no_way : (s : Stop) → distance s s ≡ 0
+unfolding distance nearest_root whole_root
+no_way s = rw (still s.x, still s.y) refl
+
+idle_start : (p : Instance) → p.depot.service ≡ 0 → start p [] 1 ≡ p.depot.earliest
+unfolding start place
+idle_start p none = let e = no_way p.depot in omega arith
+
+pub idle_limits : (p : Instance) → IsInstance p → (route : List ℕ) → length route ≡ 0 → start p route (length route + 1) ≤ p.depot.latest
+idle_limits p valid [] none = let e = idle_start p (valid.depot.service) in let w = valid.depot.visit.window in omega arith
+idle_limits p valid (n ∷ ns) none = absurd (omega arith)
 
 -- a route that is feasible alone keeps the limits
 pub route_limits : (p : Instance) → IsInstance p → (route : List ℕ) → feasible_alone p route ≡ true → KeepsLimits p route
-route_limits p valid route feasible = limits_kept p route (back_in_time p valid route) (kept_alone p route feasible)
+route_limits p valid route feasible = limits_kept p route (λ lilim none. idle_limits p valid route none) (kept_alone p route feasible)
 
 -- ---- a route is judged by its pairs and by the limits
 not_both : (a x y k : Bool) → a ≡ (x && y) → a ≡ false → a ≡ (x && (y && k))

@@ -10,7 +10,7 @@ use Rattle.plan_audit.proofs.AloneLemmas.{only_route}
 use Rattle.plan_audit.proofs.SoundLemmas.{stop_there, stop_within}
 use Rattle.slack_tables.specs.Insertion.{KeepsLimits}
 use Rattle.move_ops.specs.Laws.{LimitsAreRules}
-use Rattle.move_ops.proofs.Fitting.{back_in_time}
+use Rattle.move_ops.proofs.Fitting.{idle_limits}
 
 module _ (p : Instance) (route : List ℕ) where
   not_overloaded : KeepsLimits p route → (r i n : ℕ) → IsOverloaded p (route ∷ []) r i n → ⊥
@@ -51,7 +51,7 @@ module _ (p : Instance) (route : List ℕ) where
         | inl above ↦ absurd ((rules 1 (length route + 1) 0).2 (lilim, (route, refl, some, refl, refl, above)))
         | inr within ↦ omega arith
       ]
-      | inr none ↦ back_in_time p valid route lilim (omega arith)
+      | inr none ↦ idle_limits p valid route (omega arith)
     ];
   }
 

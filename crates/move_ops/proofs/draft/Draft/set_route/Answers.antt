@@ -50,6 +50,19 @@ returns-then-eq-clause-set c =
       base_cost = made.base_cost;
     }
 
+pub cost_with-cost-requires-2-clause-cost : goal.cost_with-cost-requires-2-clause-cost
+cost_with-cost-requires-2-clause-cost c =
+    let same : c.new_tour.new.self ≡ c.args.self.now = search rules in
+    subst (λ (d : Drafted). d.cost ≡ cost_of c.args.problem.now (draft_of d)) (sym same) c.requires.cost
+
+pub cost_with-cost-requires-2-clause-unplanned : goal.cost_with-cost-requires-2-clause-unplanned
+cost_with-cost-requires-2-clause-unplanned c =
+    let p = c.args.problem.now in
+    let same : c.new_tour.new.self ≡ c.args.self.now = search rules in
+    c.requires.unplanned
+    ∙ sym (ap (λ (d : Drafted). unplanned_count p (with_route (draft_of d) c.args.vehicle (route_of c.in_ok-tour.tour))) same
+    ∙ ap (λ (r : List ℕ). unplanned_count p (with_route (draft_of c.args.self.now) c.args.vehicle r)) c.in_ok-tour.ensures.route)
+
 pub returns-clause-cost : goal.returns-clause-cost
 returns-clause-cost c =
     let p = c.args.problem.now in
