@@ -6,7 +6,9 @@ instance, where `build`, `deviation` and `search` or `anneal` are said, so what 
 `gen KIND STOPS SEED`, `search KIND INSTANCE STEPS SEED DEVIATION` and `anneal` with the same words, as in `bench/search_speed.py`. The program is built by
 `./planner`; another one can be named, so that two builds are compared.
 
-    bench/step_counts.py OTHER [--program PATH] [search|anneal] [STOPS..]
+    bench/step_counts.py OTHER [--program PATH] [search|anneal|memory] [STOPS..]
+
+`memory` sets the steps of a store's search beside those of `planner solve`, which has none.
 """
 
 import pathlib
@@ -62,6 +64,22 @@ def compare(other, program, folder, kind, stops, word):
     return cost == other_cost
 
 
+def solved(program, folder, kind, instance, steps):
+    """The same of ours without a store."""
+    count, _ = instructions(folder, [program, "solve", kind, instance, steps, SEED, DEVIATION])
+    return count, None
+
+
+def beside_memory(other, program, folder, kind, stops):
+    """Counts a search over a store and one in memory, and prints a line."""
+    instance = folder / f"{kind}-{stops}"
+    instance.write_text(output(other, "gen", kind, stops, SEED))
+    stored, _ = per_step(lambda steps: ours(program, folder, kind, instance, steps, "search"))
+    free, _ = per_step(lambda steps: solved(program, folder, kind, instance, steps))
+    print(f"store {kind} {stops}: {stored}, in memory {free}, ratio {free / stored:.2f}", flush=True)
+    return True
+
+
 def main():
     """Counts each kind at each size, and fails where a final cost differs."""
     words = sys.argv[1:]
@@ -75,7 +93,12 @@ def main():
     sizes = [int(word) for word in words if word.isdigit()] or SIZES
     with tempfile.TemporaryDirectory() as name:
         folder = pathlib.Path(name)
-        same = [compare(other, program, folder, kind, stops, word) for word in steps for kind in ("lilim", "vrp") for stops in sizes]
+        same = [
+            beside_memory(other, program, folder, kind, stops) if word == "memory" else compare(other, program, folder, kind, stops, word)
+            for word in steps
+            for kind in ("lilim", "vrp")
+            for stops in sizes
+        ]
     sys.exit(not all(same))
 
 
