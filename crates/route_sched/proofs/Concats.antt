@@ -4,7 +4,7 @@ use Rattle.std.specs.List.{All, AllByRecursion, IsDistinct, list_any, concat}
 use Rattle.std.proofs.lemmas.Bool.{false≢true, ne_eqb, eq-eqb}
 use Rattle.std.proofs.lemmas.Bool.Decides.{eqb_tells}
 use Rattle.std.proofs.lemmas.List.{append_assoc, append-nil, take_at, drop_at, take-append-drop, drop_more, take_more, length-append}
-use Rattle.std.proofs.lemmas.List.Elements.{All-drop, All-take}
+use Rattle.std.proofs.lemmas.List.Elements.{All-drop, All-from_get_or, All-take}
 use Rattle.std.proofs.lemmas.List.Folds.{list_any-append}
 use Rattle.plan_types.specs.Instance.{Instance}
 use Rattle.route_sched.specs.Route.{AreLiveOnce, IsLive, IsPlan}
@@ -48,6 +48,9 @@ live_part p xs ys zs once = record {
 pub route_of_plan : (p : Instance) (routes : List (List ℕ)) (k : ℕ) → k < length routes → IsPlan p routes → AreLiveOnce p (get_or routes k [])
 route_of_plan p routes k h plan =
     live_part p (concat (take k routes)) (get_or routes k []) (concat (drop (k + 1) routes)) (subst (λ ns. AreLiveOnce p ns) (concat_split routes k h) plan)
+
+pub routes_of_plan : (p : Instance) (routes : List (List ℕ)) → IsPlan p routes → All (AreLiveOnce p) routes
+routes_of_plan p routes plan = All-from_get_or (AreLiveOnce p) routes [] (λ k h. route_of_plan p routes k h plan)
 
 -- ---- stops by number
 or_right : (a b : Bool) → b ≡ true → (a || b) ≡ true

@@ -1,12 +1,12 @@
 -- Which stop stands at a place, and how many places a route has.
-use Rattle.std.proofs.Common.{◌≡◌, ℕ, ◌+◌, ◌≤◌, true, false, cond, eqb, List, [], ◌∷◌, length, get_or, Option, Some, None, inl, inr, refl, sym, arith, add-one}
+use Rattle.std.proofs.Common.{◌≡◌, ℕ, zero, suc, ◌+◌, ◌≤◌, true, false, cond, eqb, List, [], ◌∷◌, length, take, get_or, Option, Some, None, inl, inr, refl, sym, arith, add-one}
 use Rattle.std.specs.Prelude.{IsSome}
-use Rattle.std.specs.List.{All, Any, AllByRecursion, list_any}
+use Rattle.std.specs.List.{All, Any, AllByRecursion, IsDistinct, list_any}
 use Rattle.std.specs.Option.{option_or}
 use Rattle.std.proofs.lemmas.Bool.{false≢true, ne_eqb, eqb-true}
 use Rattle.std.proofs.lemmas.Bool.Decides.{eqb_tells}
 use Rattle.std.proofs.lemmas.List.{get_or_past}
-use Rattle.std.proofs.lemmas.List.Elements.{recursion_from_All}
+use Rattle.std.proofs.lemmas.List.Elements.{All-take, recursion_from_All}
 use Rattle.std.proofs.lemmas.List.Folds.{Any-from_list_any}
 use Rattle.std.proofs.lemmas.Map.Steps.{length-le_from_distinct_below}
 use Rattle.plan_types.specs.Limits.{IsStop}
@@ -84,3 +84,18 @@ pub live_numbers : (p : Instance) (numbers : List ℕ) → IsInstance p → AreL
 unfolding IsNumber
 live_numbers p numbers valid once =
     recursion_from_All (λ n. n ≤ 40000) numbers (λ k d h. (live_number p (get_or numbers k d) valid (once.live k d h)).1)
+
+all_front : {X : Type 0} (P : X → Type 0) (xs : List X) (k : ℕ) → AllByRecursion P xs → AllByRecursion P (take k xs)
+all_front P xs zero all = tt
+all_front P [] (suc k) all = tt
+all_front P (x ∷ xs) (suc k) all = (all.0, all_front P xs k all.1)
+
+distinct_front : (xs : List ℕ) (k : ℕ) → IsDistinct eqb xs → IsDistinct eqb (take k xs)
+unfolding IsDistinct
+distinct_front xs zero once = tt
+distinct_front [] (suc k) once = tt
+distinct_front (x ∷ xs) (suc k) once = (all_front (λ y. eqb x y ≡ false) xs k once.0, distinct_front xs k once.1)
+
+-- the first stops of a route are live, each once
+pub front_once : (p : Instance) (xs : List ℕ) (k : ℕ) → AreLiveOnce p xs → AreLiveOnce p (take k xs)
+front_once p xs k once = record { live = All-take (IsLive p) k xs (once.live); distinct = distinct_front xs k (once.distinct) }

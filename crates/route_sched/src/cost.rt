@@ -1,14 +1,14 @@
 //! What a plan costs.
 
-ghost use Rattle.std.specs.Prelude.{◌≡◌, ◌==◌, ◌+◌, ◌≤◌, length};
-ghost use Rattle.std.specs.List.{AllByRecursion, concat, list_any};
+ghost use Rattle.std.specs.Prelude.{◌≡◌, ◌==◌, ◌+◌, ◌*◌, ◌≤◌, length};
+ghost use Rattle.std.specs.List.{All, AllByRecursion, concat, list_any};
 ghost use Rattle.plan_types.specs.Instance.{IsInstance};
-ghost use Rattle.route_sched.specs.Route.{IsPlan};
-ghost use Rattle.route_sched.specs.Cost.{has_stop, used_count, vehicle_count, total_length, unplanned_count, cost_of};
+ghost use Rattle.route_sched.specs.Route.{AreLiveOnce, IsPlan};
+ghost use Rattle.route_sched.specs.Cost.{has_stop, is_planned, used_count, vehicle_count, total_length, unplanned_count, cost_of};
 ghost use Rattle.route_sched.specs.Counted.{counts, counted_among, IsPart};
 
 use crate::schedule::route_distance;
-use plan_types::{Cost, Kind, Plan, Problem, Route};
+use plan_types::{Cost, Kind, Plan, Problem, Request, Route};
 
 /// What a plan costs: its unplanned requests, its nonempty routes (0 in a problem of kind `Vrp`) and its
 /// distance. Takes no memory.
@@ -32,7 +32,8 @@ pub fn routes_cost(problem: &Problem, routes: &[Route], unplanned: u64) -> Cost
     Cost {
         unplanned,
         vehicles: vehicle_count(problem.kind, routes),
-        distance: total_distance(problem, routes),
+        // A plan's routes share no stop, so it fits.
+        distance: total_distance(problem, routes) as u64,
     }
 }
 
@@ -72,7 +73,8 @@ fn is_counted_at(problem: &Problem, routes: &[Route], route: &[u32], number: u32
     }
 }
 
-fn has_stop(routes: &[Route], number: u32) -> bool
+/// Whether one of the routes has the stop with this number.
+pub fn has_stop(routes: &[Route], number: u32) -> bool
     ensures { result ≡ has_stop routes.now number }
 {
     routes.iter().any(|route| is_in(route, number))
@@ -82,6 +84,18 @@ fn is_in(route: &Route, number: u32) -> bool
     ensures { result ≡ list_any (λ n. n == number) route.now }
 {
     route.as_slice().contains(&number)
+}
+
+/// Whether a stop of the request is in one of the routes. Takes no memory, and so looks through all routes.
+pub fn is_planned(routes: &[Route], request: &Request) -> bool
+    ensures { result ≡ is_planned routes.now request.now }
+{
+    match request {
+        Request::Single(stop) => has_stop(routes, stop.number),
+        Request::Pair(pickup, delivery) => {
+            has_stop(routes, pickup.number) || has_stop(routes, delivery.number)
+        }
+    }
 }
 
 /// How many vehicles count: those of the nonempty routes, none in a problem of kind `Vrp`.
@@ -94,7 +108,8 @@ pub fn vehicle_count(kind: Kind, routes: &[Route]) -> u64
     }
 }
 
-fn used_count(routes: &[Route]) -> u64
+/// How many routes are not empty.
+pub fn used_count(routes: &[Route]) -> u64
     ensures { result ≡ used_count routes.now }
 {
     routes
@@ -103,14 +118,15 @@ fn used_count(routes: &[Route]) -> u64
         .count() as u64
 }
 
-fn total_distance(problem: &Problem, routes: &[Route]) -> u64
-    requires problem { IsInstance problem.now }
-    requires plan { IsPlan problem.now routes.now }
-    ensures { result ≡ total_length problem.now routes.now }
+/// How far the vehicles drive together. Routes that are no plan may share their stops, so many that no smaller number holds it.
+pub fn total_distance(problem: &Problem, routes: &[Route]) -> u128
+    requires { All (AreLiveOnce problem.now) routes.now }
+    ensures value { result ≡ total_length problem.now routes.now }
+    ensures bound { result ≤ 5656854 * length (concat routes.now) }
 {
     let mut total = 0;
     for route in routes {
-        total += route_distance(problem, route.as_slice());
+        total += u128::from(route_distance(problem, route.as_slice()));
     }
     total
 }

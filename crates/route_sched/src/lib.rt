@@ -2,7 +2,8 @@
 //!
 //! Called by the auditor (`plan_audit`), the moves and the search, and by all that prints figures of a plan.
 //! `starts`, `loads` and `route_distance` tell of one route, `Visits` walks along it without memory,
-//! `plan_cost` and `routes_cost` price a plan, `vehicle_count` says how many vehicles count in it. The tables
+//! `plan_cost` and `routes_cost` price a plan; `vehicle_count`, `used_count` and `total_distance` are the parts of
+//! a price, and `has_stop` and `is_planned` look for a stop and for a request. The tables
 //! of routes (`slack_tables`) are proved against these definitions.
 //!
 //! Modules, in reading order:
@@ -30,7 +31,8 @@
 //!
 //! Proved:
 //! - `starts`, `loads` and `route_distance` are `starts_of`, `loads_of` and `route_length`; `plan_cost` and
-//!   `routes_cost` are `cost_of`, `vehicle_count` is the definition of the same name;
+//!   `routes_cost` are `cost_of`, `vehicle_count`, `used_count`, `has_stop` and `is_planned` are
+//!   the definitions of these names, `total_distance` is `total_length`;
 //! - `Visits` gives `visits_from` each place on, and its size hints are exact;
 //! - `schedules_agree`: problems with the same depot and the same stops for a route's numbers give the route
 //!   the same starts, loads and length.
@@ -42,7 +44,10 @@ mod places;
 mod schedule;
 mod visits;
 
-pub use cost::{plan_cost, routes_cost, vehicle_count};
+pub use cost::{
+    has_stop, is_planned, plan_cost, routes_cost, total_distance, used_count, vehicle_count,
+};
 pub use laws::schedules_agree;
+pub use places::live_stop;
 pub use schedule::{loads, route_distance, starts};
-pub use visits::{Visit, Visits};
+pub use visits::{Visit, Visits, load_behind};

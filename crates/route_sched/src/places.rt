@@ -20,8 +20,8 @@ pub(crate) fn stop_behind<'a>(problem: &'a Problem, route: &[u32], k: usize) -> 
     }
 }
 
-// The stop with a live number.
-fn live_stop(problem: &Problem, number: u32) -> &Stop
+/// The stop with a live number.
+pub fn live_stop(problem: &Problem, number: u32) -> &Stop
     requires { IsLive problem.now number }
     ensures found { stop_at problem.now number ≡ Some result.now }
     ensures number { result.now.number ≡ number }

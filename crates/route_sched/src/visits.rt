@@ -124,8 +124,8 @@ fn visit_behind(last: &Visit, stop: &Stop) -> Visit
     }
 }
 
-// What the vehicle carries after a stop with this demand.
-fn load_behind(load: i64, demand: i32) -> i64
+/// What the vehicle carries after a stop with this demand.
+pub fn load_behind(load: i64, demand: i32) -> i64
     requires { unsigned_abs load ≤ 2 ^ 60 }
     ensures value { result ≡ load +ℤ demand }
     ensures bound { unsigned_abs result ≤ unsigned_abs load + 2 ^ 31 }
