@@ -4,20 +4,10 @@ use Rattle.std.specs.List.{AllByRecursion, IsDistinct}
 use Rattle.std.proofs.lemmas.List.Elements.{All-take, All-nil, recursion_from_All}
 use Rattle.plan_types.specs.Instance.{Instance}
 use Rattle.route_sched.specs.Route.{IsLive, AreLiveOnce}
+use Rattle.route_sched.proofs.LiveStops.{front_once}
 use Rattle.plan_audit.specs.Passes.{passes}
 use Rattle.plan_audit.specs.Locality.{PassesAreLocal, PlansAreLocal}
 use Rattle.move_ops.specs.Insertion.{of_vehicle}
-
-all_front : {X : Type 0} (P : X → Type 0) (xs : List X) (k : ℕ) → AllByRecursion P xs → AllByRecursion P (take k xs)
-all_front P xs zero all = tt
-all_front P [] (suc k) all = tt
-all_front P (x ∷ xs) (suc k) all = (all.0, all_front P xs k all.1)
-
-distinct_front : (xs : List ℕ) (k : ℕ) → IsDistinct nat_eq xs → IsDistinct nat_eq (take k xs)
-unfolding IsDistinct
-distinct_front xs zero once = tt
-distinct_front [] (suc k) once = tt
-distinct_front (x ∷ xs) (suc k) once = (all_front (λ y. nat_eq x y ≡ false) xs k once.0, distinct_front xs k once.1)
 
 -- what holds of each list, and of none, holds of a vehicle's
 pub of_vehicle_has : (P : List ℕ → Type 0) → P [] → (lists : List (List ℕ)) → AllByRecursion P lists → (v : ℕ) → P (of_vehicle lists v)
@@ -29,9 +19,6 @@ of_vehicle_has P none (r ∷ rs) all (suc (suc v)) = of_vehicle_has P none rs al
 no_stops_once : (p : Instance) → AreLiveOnce p []
 unfolding IsDistinct
 no_stops_once p = record { live = All-nil (IsLive p); distinct = tt }
-
-front_once : (p : Instance) (xs : List ℕ) (k : ℕ) → AreLiveOnce p xs → AreLiveOnce p (take k xs)
-front_once p xs k once = record { live = All-take (IsLive p) k xs (once.live); distinct = distinct_front xs k (once.distinct) }
 
 -- the first stops of a route of a passing plan are live, each once
 pub front_of_route_once : PassesAreLocal → PlansAreLocal → (p : Instance) (pins routes : List (List ℕ)) → passes p pins routes ≡ true → (v k : ℕ) (front route : List ℕ)

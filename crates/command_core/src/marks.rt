@@ -1,12 +1,11 @@
 //! Which requests are unplanned, by marks at the stops that are planned.
-ghost use Rattle.std.specs.Prelude.{◌≡◌, ℕ, ◌<◌, ◌||◌, false, not, IfOk, length, slice_get, slice_index_or};
+ghost use Rattle.std.specs.Prelude.{◌≡◌, ◌<◌, ◌||◌, false, not, IfOk, slice_get, slice_index_or};
 ghost use Rattle.std.specs.Option.{option_and_then};
-ghost use Rattle.plan_audit.specs.Passes.{has};
-ghost use Rattle.route_sched.specs.Cost.{has_stop};
 ghost use Rattle.seeded_search.specs.Names.{name_where, names_where};
 ghost use Rattle.seeded_search.specs.Steps.{unplanned_names};
 ghost use Rattle.command_core.specs.Marks.{is_marked};
 
+use move_ops::marks;
 use plan_types::{OutOfMemory, Problem, Request, Route, numbers_are_below_the_next};
 use std::alloc::Global;
 
@@ -68,28 +67,4 @@ fn mark(marks: &[bool], stop: u32) -> bool
     ensures { result ≡ slice_index_or marks.now stop false }
 {
     marks.get(stop as usize).copied().unwrap_or(false)
-}
-
-// For each number below `len` whether it is a stop of one of the routes.
-fn marks(alloc: Global, routes: &[Route], len: usize) -> Result<Vec<bool>, OutOfMemory>
-    ensures { IfOk result (λ marks. (n : ℕ) → n < len
-        → slice_index_or marks.items n false ≡ has_stop routes.now n) }
-{
-    let mut marks = vec![in alloc; false; len]?;
-    for route in routes {
-        mark_stops(&mut marks, route.as_slice());
-    }
-    Ok(marks)
-}
-
-fn mark_stops(marks: &mut [bool], stops: &[u32])
-    ensures { (n : ℕ) → n < length marks.old
-        → slice_index_or marks.new n false ≡ (slice_index_or marks.old n false || has stops.now n) }
-{
-    for stop in stops {
-        let stop = *stop as usize;
-        if stop < marks.len() {
-            marks[stop] = true;
-        }
-    }
 }

@@ -8,10 +8,10 @@ ghost use Rattle.command_core.specs.Refusing.{job_refusal};
 
 use crate::commands::Command;
 use crate::laws::effects_keep_facts;
-use crate::lists::{JobLists, is_feasible};
+use crate::lists::JobLists;
 use crate::refusals::Refusal;
 use crate::states::Job;
-use plan_audit::{passes_are_local, plans_are_local};
+use plan_audit::{is_feasible, passes_are_local, plans_are_local};
 use plan_types::{OutOfMemory, Plan, Problem, Route, Routes, take_removes_one_request};
 use std::alloc::Global;
 

@@ -40,14 +40,14 @@ mod rearranging;
 mod removing;
 
 use crate::laws::plans_pass_without_pins;
-use crate::lists::{has_stop, is_in};
+use crate::lists::is_in;
 use crate::rooms::{rooms_of, set_room};
 use crate::seats::{marks, seat};
 use crate::tour::{Tour, swap};
 use crate::tours::{front_of, routes_of, seats_of, tours_of, vehicle_with};
 use plan_audit::passes_are_local;
 use plan_types::{Cost, OutOfMemory, Pins, Plan, Problem, Request};
-use route_sched::plan_cost;
+use route_sched::{has_stop, plan_cost};
 use slack_tables::RouteTable;
 use std::alloc::Global;
 use std::marker::Model;

@@ -67,7 +67,8 @@ pub use laws::{
     limits_are_rules, plans_pass_without_pins, relocations_never_cost_more,
     requests_keep_their_places,
 };
-pub use lists::{has_stop, of_vehicle};
+pub use lists::of_vehicle;
 pub use naming::request_named;
 pub use plan_moves::{best_insertion, exchange, insert_at, remove, two_opt_star};
+pub use seats::marks;
 pub use tables::Tables;

@@ -1,6 +1,5 @@
-//! Routes and pins of vehicles, and whether they have a stop.
+//! Routes and pins of vehicles.
 ghost use Rattle.std.specs.Prelude.{◌≡◌};
-ghost use Rattle.route_sched.specs.Cost.{has_stop};
 ghost use Rattle.plan_audit.specs.Passes.{has};
 ghost use Rattle.move_ops.specs.Insertion.{of_vehicle};
 
@@ -17,19 +16,6 @@ pub fn of_vehicle(lists: &[Route], vehicle: u64) -> &[u32]
         Some(route) => route.as_slice(),
         None => &[],
     }
-}
-
-/// Whether one of the lists has the stop.
-#[tactic(auto, using(crate::proofs::Times::has_stop_more))]
-pub fn has_stop(lists: &[Route], number: u32) -> bool
-    ensures { result ≡ has_stop lists.now number }
-{
-    for list in lists {
-        if is_in(list.as_slice(), number) {
-            return true;
-        }
-    }
-    false
 }
 
 /// Whether the list has the number.

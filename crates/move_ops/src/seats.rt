@@ -47,7 +47,8 @@ pub(crate) fn unseat(seats: &mut [u32], stop: u32)
 }
 
 /// For each number below `len` whether it is a stop of one of the routes.
-pub(crate) fn marks(alloc: Global, routes: &[Route], len: usize) -> Result<Vec<bool>, OutOfMemory>
+pub fn marks(alloc: Global, routes: &[Route], len: usize) -> Result<Vec<bool>, OutOfMemory>
+    ensures len { IfOk result (λ marks. length marks.items ≡ len) }
     ensures marks { IfOk result (λ marks. (n : ℕ) → n < length marks.items
         → slice_index_or marks.items n false ≡ has_stop routes.now n) }
 {

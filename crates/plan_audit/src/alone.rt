@@ -2,12 +2,14 @@
 //!
 //! Without memory there is nowhere to keep the places of the stops, since a problem that is borrowed can't be
 //! marked; so each partner is looked for in the list. The auditor makes a list of seats instead.
-ghost use Rattle.std.specs.Prelude.{◌≡◌, ◌∷◌, [], ◌+◌, ◌<◌, ◌^◌, IfSome, MatchOption};
+ghost use Rattle.std.specs.Prelude.{◌≡◌, ◌∷◌, [], ◌<◌, MatchOption};
 ghost use Rattle.route_sched.specs.Route.{AreLiveOnce};
 ghost use Rattle.plan_audit.specs.Finding.{first_place, seat_of, missing_at, delivered_at};
+ghost use Rattle.plan_audit.specs.Passes.{feasible_alone};
 ghost use Rattle.plan_audit.specs.Alone.{IsFeasibleAlone, IsFaultAlone, IsLeastAlone};
 
 use crate::faults::{Told, first_place};
+use crate::laws::tests_say_feasible;
 use crate::pairs::{early_delivery, missing_partner};
 use crate::rules::Rule;
 use crate::seats::Seat;
@@ -26,6 +28,16 @@ pub fn route_fault(problem: &Problem, route: &[u32]) -> Option<u32>
         Some(rule) => Some(rule.number()),
         None => None,
     }
+}
+
+/// Whether the list is a feasible route by itself: it breaks none of the rules 3 to 8 as the only route. The same time and memory as for
+/// `route_fault`.
+pub fn is_feasible(problem: &Problem, route: &[u32]) -> bool
+    requires { AreLiveOnce problem.now route.now }
+    ensures { result ≡ feasible_alone problem.now route.now }
+{
+    tests_say_feasible();
+    route_fault(problem, route).is_none()
 }
 
 // The first rule that the list breaks as the only route. No pair is split there.

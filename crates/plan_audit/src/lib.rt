@@ -61,7 +61,7 @@ mod scan;
 mod seats;
 mod timing;
 
-pub use alone::route_fault;
+pub use alone::{is_feasible, route_fault};
 pub use audits::{audit, audit_solution};
 pub use laws::{
     a_passing_plan_is_sound, an_unsound_plan_does_not_pass, each_plan_has_a_verdict,

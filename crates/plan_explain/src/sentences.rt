@@ -10,9 +10,9 @@ ghost use Rattle.plan_explain.specs.Sentences.{beside_text, cost_sentence, deman
 use crate::phrases::Phrase;
 use crate::rows::{Row, visit_behind};
 use crate::seats::{Seat, first_seat};
-use crate::summaries::total_distance;
 use crate::told::Told;
 use plan_types::{Problem, Route, Stop};
+use route_sched::{total_distance, used_count};
 use sol_text::Solution;
 
 /// Appends words, and the number behind them.
@@ -233,13 +233,4 @@ pub(crate) fn put_cost(text: &mut Told, problem: &Problem, solution: &Solution)
     put_named(text, Phrase::WrongCost, solution.cost);
     put_phrase(text, Phrase::Driven);
     text.push_number(distance);
-}
-
-fn used_count(routes: &[Route]) -> u64
-    ensures { result ≡ used_count routes.now }
-{
-    routes
-        .iter()
-        .filter(|route| !route.as_slice().is_empty())
-        .count() as u64
 }

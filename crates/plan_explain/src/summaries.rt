@@ -2,9 +2,7 @@
 ghost use Rattle.std.specs.Prelude.{◌≡◌, ◌++◌, ◌<◌, ◌^◌, All, IfOk, OnOk, fold, map, pos, sum_by};
 ghost use Rattle.std.specs.Int.{int_max};
 ghost use Rattle.route_sched.specs.Route.{AreLiveOnce};
-ghost use Rattle.route_sched.specs.Cost.{total_length};
 ghost use Rattle.plan_explain.specs.Summaries.{day_text, summary_line, summary_of, summary_text, sums_text, wait, waiting, way_text};
-ghost use Rattle.plan_explain.specs.Phrases.{phrase};
 ghost use Rattle.plan_explain.specs.Rows.{lines_from};
 ghost use Rattle.plan_explain.specs.Tables.{rows_of};
 
@@ -13,7 +11,7 @@ use crate::rows::{Row, rows_of, visit_behind};
 use crate::sentences::put_phrase;
 use crate::told::Told;
 use plan_types::{OutOfMemory, Problem, Route};
-use route_sched::route_distance;
+use route_sched::{route_distance, total_distance};
 use std::alloc::Global;
 
 /// What a route comes to.
@@ -183,18 +181,6 @@ fn waiting_in(summaries: &[Summary]) -> u128
         waiting += u128::from(summary.waiting);
     }
     waiting
-}
-
-/// How far the vehicles drive together.
-pub(crate) fn total_distance(problem: &Problem, routes: &[Route]) -> u128
-    requires { All (AreLiveOnce problem.now) routes.now }
-    ensures { result ≡ total_length problem.now routes.now }
-{
-    let mut total = 0;
-    for route in routes {
-        total += u128::from(route_distance(problem, route.as_slice()));
-    }
-    total
 }
 
 fn put_sums(text: &mut Told, sums: &Sums)

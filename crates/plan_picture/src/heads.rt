@@ -1,7 +1,7 @@
 //! What stands over the map: the cost, or the broken rule in words with its figures, and how many stops are unserved.
-ghost use Rattle.std.specs.Prelude.{◌≡◌, ◌≤◌, ◌*◌, ◌^◌, ◌++◌, [], All};
+ghost use Rattle.std.specs.Prelude.{◌≡◌, ◌++◌, [], All};
 ghost use Rattle.std.specs.Option.{option_map_or};
-ghost use Rattle.route_sched.specs.Cost.{total_length, used_count};
+ghost use Rattle.route_sched.specs.Cost.{used_count};
 ghost use Rattle.route_sched.specs.Route.{AreLiveOnce};
 ghost use Rattle.plan_audit.specs.Rules.{item_at};
 ghost use Rattle.plan_picture.specs.Heads.{broken_place, broken_text, cost_text, figures_of, fleet_figures, head_text, key_text, load_figures, one_route, pair_key, partner_figures, rule_name, scope_text, shapes_text, start_figures, style_text, title_head, title_text, unserved_text, vehicles_text, verdict_text, visit_figures, visit_told};
@@ -11,7 +11,7 @@ use crate::svg::Svg;
 use crate::texts::Text;
 use plan_audit::Verdict;
 use plan_types::{Cost, Kind, Problem, Route};
-use route_sched::{Visit, Visits, route_distance};
+use route_sched::{Visit, Visits, total_distance, used_count};
 
 impl Svg {
     /// Appends the size of the picture, its shapes, and what they mean.
@@ -302,24 +302,4 @@ fn visit_at(problem: &Problem, route: &[u32], place: u64) -> Option<Visit>
         return None;
     }
     Visits::new(problem, route).nth(place as usize - 1)
-}
-
-fn used_count(routes: &[Route]) -> u64
-    ensures { result ≡ used_count routes.now }
-{
-    routes
-        .iter()
-        .filter(|route| !route.as_slice().is_empty())
-        .count() as u64
-}
-
-fn total_distance(problem: &Problem, routes: &[Route]) -> u128
-    requires { All (AreLiveOnce problem.now) routes.now }
-    ensures { result ≡ total_length problem.now routes.now }
-{
-    let mut total = 0;
-    for route in routes {
-        total += u128::from(route_distance(problem, route.as_slice()));
-    }
-    total
 }

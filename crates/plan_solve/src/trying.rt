@@ -12,7 +12,7 @@ use command_core::{Command, Job, Planner, State};
 use fleet_tries::{longest_routes, smaller_fleets_pass, with_fleet, with_vehicles};
 use plan_audit::passes_are_local;
 use plan_types::{OutOfMemory, Pins, Plan, Problem, Route, Routes};
-use route_sched::plan_cost;
+use route_sched::{plan_cost, used_count};
 use seeded_search::Found;
 use std::alloc::Global;
 use std::io::Write;
@@ -324,13 +324,4 @@ fn vehicles_of(job: &Job) -> u64
     ensures most { job.now.problem.fleet ≤ 40000 }
 {
     used_count(job.plan.routes.as_slice())
-}
-
-fn used_count(routes: &[Route]) -> u64
-    ensures { result ≡ used_count routes.now }
-{
-    routes
-        .iter()
-        .filter(|route| !route.as_slice().is_empty())
-        .count() as u64
 }

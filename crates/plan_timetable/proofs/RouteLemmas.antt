@@ -1,4 +1,4 @@
--- Fronts of routes, and the limits of a route that is feasible alone.
+-- The limits of a route that is feasible alone.
 use Rattle.std.proofs.Common.{◌≡◌, ℕ, zero, suc, ◌+◌, ◌<◌, ◌≤◌, ◌≤ℤ◌, ℤ, pos, int_lt, ◌&&◌, Bool, true, false, not, T, List, [], ◌∷◌, length, slice_index_or, take, refl, sym, ap, subst, ◌∙◌, arith, inl, inr, nat_eq, nat_le, eqb}
 use Rattle.std.specs.List.{AllByRecursion, IsDistinct, list_all, range_with_len}
 use Rattle.std.proofs.lemmas.Bool.{and_parts, cases_lt, eqb-true, leb-true, or_cases}
@@ -15,21 +15,6 @@ use Rattle.slack_tables.specs.Insertion.{KeepsLimits}
 use Rattle.plan_explain.specs.Tables.{row_behind, rows_of}
 use Rattle.plan_explain.specs.declared.rows.Row.{Row}
 use Rattle.plan_timetable.specs.Timed.{IsRowIn}
-
-all_front : {X : Type 0} (P : X → Type 0) (xs : List X) (k : ℕ) → AllByRecursion P xs → AllByRecursion P (take k xs)
-all_front P xs zero all = tt
-all_front P [] (suc k) all = tt
-all_front P (x ∷ xs) (suc k) all = (all.0, all_front P xs k all.1)
-
-distinct_front : (xs : List ℕ) (k : ℕ) → IsDistinct nat_eq xs → IsDistinct nat_eq (take k xs)
-unfolding IsDistinct
-distinct_front xs zero once = tt
-distinct_front [] (suc k) once = tt
-distinct_front (x ∷ xs) (suc k) once = (all_front (λ y. nat_eq x y ≡ false) xs k once.0, distinct_front xs k once.1)
-
--- the first stops of a route are live, each once
-pub front_once : (p : Instance) (xs : List ℕ) (k : ℕ) → AreLiveOnce p xs → AreLiveOnce p (take k xs)
-front_once p xs k once = record { live = All-take (IsLive p) k xs (once.live); distinct = distinct_front xs k (once.distinct) }
 
 -- ---- tests of all places
 range_true : (test : ℕ → Bool) (a n : ℕ) → list_all test (range_with_len a n) ≡ true → (i : ℕ) → a ≤ i → i < a + n → test i ≡ true

@@ -6,7 +6,7 @@ ghost use Rattle.route_sched.specs.Route.{AreLiveOnce};
 ghost use Rattle.plan_timetable.specs.Entries.{latest_start, latest_told};
 ghost use Rattle.plan_timetable.specs.Timed.{IsRowIn, IsTableOf, IsTimed};
 
-use crate::fronts::is_feasible;
+use plan_audit::is_feasible;
 use plan_explain::Row;
 use plan_types::{Kind, OutOfMemory, Problem};
 use slack_tables::RouteTable;

@@ -13,10 +13,11 @@ use crate::missed::{Miss, miss_of};
 use crate::sentences::{put_alone, put_fleet, put_service, put_trial};
 use crate::trials::{Trial, best_trial};
 use crate::words::{Word, put_word};
-use move_ops::{has_stop, of_vehicle};
+use move_ops::of_vehicle;
 use plan_audit::{passes_are_local, plans_are_local};
 use plan_explain::{Row, rows_of};
 use plan_types::{OutOfMemory, Pins, Plan, Problem, Request, Route, requests_are_found_by_stop};
+use route_sched::is_planned;
 use std::alloc::Global;
 
 /// Why the request of this name is where it is, or in no route, in whole lines; none where no live request has the name. Of a planned
@@ -110,18 +111,6 @@ fn unplanned_text(
     match miss {
         Some(miss) => alone_text(alloc, lead, &miss),
         None => tried_text(alloc, lead, problem, pins, routes, request),
-    }
-}
-
-// Whether a stop of the request is in a route.
-fn is_planned(routes: &[Route], request: &Request) -> bool
-    ensures { result ≡ is_planned routes.now request.now }
-{
-    match request {
-        Request::Single(stop) => has_stop(routes, stop.number),
-        Request::Pair(pickup, delivery) => {
-            has_stop(routes, pickup.number) || has_stop(routes, delivery.number)
-        }
     }
 }
 

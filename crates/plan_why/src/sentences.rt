@@ -8,6 +8,7 @@ use crate::trials::Trial;
 use crate::words::{Word, put_named, put_word};
 use plan_explain::Row;
 use plan_types::{Kind, OutOfMemory, Problem, Route};
+use route_sched::used_count;
 
 /// Appends the limit that a vehicle exceeds which serves nothing else.
 pub(crate) fn put_alone(text: &mut String, lead: &str, miss: &Miss) -> Result<(), OutOfMemory>
@@ -130,15 +131,6 @@ pub(crate) fn put_fleet(
     put_named(text, Word::Of, u64::from(problem.fleet))?;
     put_word(text, Word::VehiclesUsed)?;
     text.push_str("\n")
-}
-
-fn used_count(routes: &[Route]) -> u64
-    ensures { result ≡ used_count routes.now }
-{
-    routes
-        .iter()
-        .filter(|route| !route.as_slice().is_empty())
-        .count() as u64
 }
 
 /// Appends where a vehicle serves a stop, and when, where times are asked.

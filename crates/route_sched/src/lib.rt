@@ -48,6 +48,6 @@ pub use cost::{
     has_stop, is_planned, plan_cost, routes_cost, total_distance, used_count, vehicle_count,
 };
 pub use laws::schedules_agree;
-pub use places::live_stop;
+pub use places::stop_behind;
 pub use schedule::{loads, route_distance, starts};
 pub use visits::{Visit, Visits, load_behind};

@@ -7,8 +7,8 @@ ghost use Rattle.route_sched.specs.Route.{AreLiveOnce, IsLive, place};
 
 use plan_types::{Problem, Stop};
 
-/// The stop at the place behind this one.
-pub(crate) fn stop_behind<'a>(problem: &'a Problem, route: &[u32], k: usize) -> &'a Stop
+/// The stop at the place behind this one, of which 0 is where the vehicle leaves; the depot where that is the return.
+pub fn stop_behind<'a>(problem: &'a Problem, route: &[u32], k: usize) -> &'a Stop
     requires route { AreLiveOnce problem.now route.now }
     requires within { k ≤ length route.now }
     ensures value { result.now ≡ place problem.now route.now (k + 1) }
@@ -20,8 +20,8 @@ pub(crate) fn stop_behind<'a>(problem: &'a Problem, route: &[u32], k: usize) -> 
     }
 }
 
-/// The stop with a live number.
-pub fn live_stop(problem: &Problem, number: u32) -> &Stop
+// The stop with a live number.
+fn live_stop(problem: &Problem, number: u32) -> &Stop
     requires { IsLive problem.now number }
     ensures found { stop_at problem.now number ≡ Some result.now }
     ensures number { result.now.number ≡ number }

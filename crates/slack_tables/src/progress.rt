@@ -36,15 +36,6 @@ pub(crate) struct Row {
     pub most_load: i64,
 }
 
-/// What the vehicle carries after a stop with this demand.
-pub(crate) fn load_behind(load: i64, demand: i32) -> i64
-    requires { unsigned_abs load ≤ 2 ^ 60 }
-    ensures value { result ≡ load +ℤ demand }
-    ensures bound { unsigned_abs result ≤ unsigned_abs load + 2 ^ 31 }
-{
-    load + i64::from(demand)
-}
-
 /// Whether service may start so, where it may start so late; in a problem of kind `Vrp` it always may.
 pub(crate) fn is_in_time(kind: Kind, start: u64, latest: u64) -> bool
     ensures { result ≡ is_in_time kind start latest }

@@ -10,9 +10,10 @@ ghost use Rattle.slack_tables.specs.Driven.{driven_on, IsNear, IsSmall, IsSmallR
 ghost use Rattle.slack_tables.specs.Legs.{AreLinked};
 ghost use Rattle.slack_tables.specs.Ride.{ride_of, driven, is_kept, ridden, is_borne, goes_on, is_served, price, served_below, IsSmallRide, IsNearRide};
 
-use crate::progress::{Limits, Progress, Row, difference, is_in_time, load_behind, moved_load};
+use crate::progress::{Limits, Progress, Row, difference, is_in_time, moved_load};
 use crate::ways::way;
 use plan_types::Stop;
+use route_sched::load_behind;
 
 /// When and with what a vehicle is somewhere, and how far it has come.
 #[derive(Clone, Copy, Debug, PartialEq, Eq)]

@@ -7,12 +7,11 @@
 //! the only times that mean something.
 
 ghost use Rattle.std.specs.Prelude.{◌≡◌, ◌↔◌, ◌+◌, ◌-◌, ◌<◌, ◌≤◌, ℕ, Some, true, IsSome, IsTrue, IfOk, OnOk, OnErr, length, slice_index_or};
-ghost use Rattle.plan_types.specs.Limits.{IsStop, IsVisit};
 ghost use Rattle.plan_types.specs.declared.requests.Stop.{Stop};
 ghost use Rattle.plan_types.specs.Request.{IsRequest};
-ghost use Rattle.plan_types.specs.Instance.{IsInstance, stop_at};
+ghost use Rattle.plan_types.specs.Instance.{IsInstance};
 ghost use Rattle.nint_dist.specs.Distance.{IsPlaced, distance};
-ghost use Rattle.route_sched.specs.Route.{AreLiveOnce, IsLive, place};
+ghost use Rattle.route_sched.specs.Route.{AreLiveOnce, place};
 ghost use Rattle.slack_tables.specs.Insertion.{request_named, KeepsLimits};
 ghost use Rattle.slack_tables.specs.declared.progress.Row.{Row};
 ghost use Rattle.slack_tables.specs.Opened.{leaving, open_row, AreOpen};
@@ -34,6 +33,7 @@ use plan_types::{
     Kind, OutOfMemory, Problem, Request, Stop, numbers_are_below_the_next,
     requests_are_found_by_stop,
 };
+use route_sched::stop_behind;
 use std::alloc::Global;
 use std::marker::Model;
 
@@ -435,19 +435,6 @@ fn drive_route(places: &mut [Row], problem: &Problem, known: &[Row], route: &[u3
     true
 }
 
-// The stop behind place `k` of a route, which is the depot behind the last one.
-fn stop_behind<'a>(problem: &'a Problem, route: &[u32], k: usize) -> &'a Stop
-    requires route { AreLiveOnce problem.now route.now }
-    requires within { k ≤ length route.now }
-    ensures stop { result.now ≡ place problem.now route.now (k + 1) }
-    ensures visit { IsVisit result.now }
-{
-    if k == route.len() {
-        return &problem.depot;
-    }
-    live_stop(problem, route[k])
-}
-
 // The law that a route has at most as many stops as there are numbers.
 fn stops_are_few(problem: &Problem, route: &[u32])
     requires { AreLiveOnce problem.now route.now }
@@ -465,16 +452,6 @@ fn live_request(problem: &Problem, name: u32) -> &Request
     ensures problem { IsInstance problem.now }
 {
     problem.requests.get(&name).unwrap()
-}
-
-// The stop with a live number.
-fn live_stop(problem: &Problem, number: u32) -> &Stop
-    requires { IsLive problem.now number }
-    ensures found { stop_at problem.now number ≡ Some result.now }
-    ensures number { result.now.number ≡ number }
-    ensures stop { IsStop result.now }
-{
-    problem.stop(number).unwrap()
 }
 
 // What the vehicles of a problem must keep.

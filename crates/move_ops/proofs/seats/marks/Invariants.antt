@@ -4,4 +4,7 @@ use Rattle.move_ops.proofs.seats.marks.Given as goal
 
 -- the marks so far, and those of the routes left
 abbrev pub invariant-loop-route : goal.invariant-loop-route
-invariant-loop-route l = (n : ℕ) → n < length l.marks.items → (get_or l.marks.items n false || has_stop (drop l.route-index l.routes) n) ≡ has_stop l.routes n
+invariant-loop-route l = record {
+  len : length l.marks.items ≡ l.len;
+  marked : (n : ℕ) → n < length l.marks.items → (get_or l.marks.items n false || has_stop (drop l.route-index l.routes) n) ≡ has_stop l.routes n;
+}

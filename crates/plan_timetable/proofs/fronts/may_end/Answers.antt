@@ -1,4 +1,4 @@
-use Rattle.plan_timetable.proofs.RouteLemmas.{front_once}
+use Rattle.route_sched.proofs.LiveStops.{front_once}
 use Rattle.plan_timetable.proofs.fronts.may_end.Goals as goal
 
 pub is_feasible-requires : goal.is_feasible-requires

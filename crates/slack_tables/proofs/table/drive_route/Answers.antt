@@ -27,7 +27,7 @@ pub returns-then-not-is_kept-clause-kept : goal.returns-then-not-is_kept-clause-
 returns-then-not-is_kept-clause-kept c =
     let p = c.args.problem.now in
     let k = c.loop-k.k in
-    let at = at-more (place p c.args.route.now) k _ _ _ c.loop-k.invariant.come.at c.stop_behind.ensures.stop c.driven_on-at.ensures.value in
+    let at = at-more (place p c.args.route.now) k _ _ _ c.loop-k.invariant.come.at c.stop_behind.ensures.value c.driven_on-at.ensures.value in
     let never : is_kept (limits_of p) (ride_of c.driven_on-at.result) c.driven_on-at.result.stop ≡ false = search rules in (
       λ e. absurd (cc),
       λ keep. absurd (keeps-false (limits_of p) (place p c.args.route.now) (k + 1) c.driven_on-at.result at never
@@ -40,7 +40,7 @@ loop-k-preserved c =
     let stops = place p c.args.route.now in
     let k = c.loop-k.k in
     let is = c.loop-k.invariant in
-    let at = at-more stops k _ _ _ is.come.at c.stop_behind.ensures.stop c.driven_on-at.ensures.value in
+    let at = at-more stops k _ _ _ is.come.at c.stop_behind.ensures.value c.driven_on-at.ensures.value in
     let within = within-next k _ _ is.come.within c.driven_on-at.ensures.near in
     record {
       long = ap length c.put-in-loop-k.ensures ∙ (length-set c.loop-k.places (c.loop-k.k + 1) _ ∙ is.long);

@@ -1,7 +1,0 @@
-use Rattle.std.proofs.Common.{◌≡◌, ℕ, ◌<◌, ◌||◌, false, length, drop, get_or}
-use Rattle.plan_audit.specs.Passes.{has}
-use Rattle.command_core.proofs.marks.mark_stops.Given as goal
-
--- the marks so far, and those of the stops left
-abbrev pub invariant-loop-stop : goal.invariant-loop-stop
-invariant-loop-stop l = (n : ℕ) → n < length l.marks → (get_or l.marks n false || has (drop l.stop-index l.stops) n) ≡ (get_or l.fn.marks n false || has l.stops n)
