@@ -12,5 +12,5 @@ returns c =
     let are : c.as_slice-summaries.result.now ≡ map (summary_of p) routes = c.as_slice-summaries.ensures.value ∙ c.in_ok-summaries.ensures in
     let lines = c.put_lines.ensures ∙ ap (λ t. c.put_phrase.new.text ++ t) (ap (lines_from 1) are ∙ lines_are p 1 routes) in
     let sums = sums_are p routes _ _ c.as_slice-summaries.result.now are c.stops_in.ensures c.waiting_in.ensures in
-    let last = c.put_sums.ensures ∙ ap (λ t. c.put_lines.new.text ++ t) (ap (λ d. sums_text (record { stops = c.stops_in.result; distance = d; waiting = c.waiting_in.result })) c.total_distance.ensures ∙ sums) in
+    let last = c.put_sums.ensures ∙ ap (λ t. c.put_lines.new.text ++ t) (ap (λ d. sums_text (record { stops = c.stops_in.result; distance = d; waiting = c.waiting_in.result })) c.total_distance.ensures.value ∙ sums) in
     behind_two _ _ _ _ _ _ _ c.put_phrase.ensures lines last
