@@ -98,42 +98,14 @@ impl Span {
     {
         let stop = &here.at.stop;
         Span {
-            west: self.west_of(stop),
-            east: self.east_of(stop),
-            south: self.south_of(stop),
-            north: self.north_of(stop),
+            west: lesser(&self.west, &stop.x),
+            east: greater(&self.east, &stop.x),
+            south: lesser(&self.south, &stop.y),
+            north: greater(&self.north, &stop.y),
             longest: self.longer(before, here),
             tips: self.tips,
             load: self.load,
         }
-    }
-
-    fn west_of(&self, stop: &Stop) -> i32
-        ensures here { result ≤ℤ stop.now.x }
-        ensures before { result ≤ℤ self.now.west }
-    {
-        self.west.min(stop.x)
-    }
-
-    fn east_of(&self, stop: &Stop) -> i32
-        ensures here { stop.now.x ≤ℤ result }
-        ensures before { self.now.east ≤ℤ result }
-    {
-        self.east.max(stop.x)
-    }
-
-    fn south_of(&self, stop: &Stop) -> i32
-        ensures here { result ≤ℤ stop.now.y }
-        ensures before { result ≤ℤ self.now.south }
-    {
-        self.south.min(stop.y)
-    }
-
-    fn north_of(&self, stop: &Stop) -> i32
-        ensures here { stop.now.y ≤ℤ result }
-        ensures before { self.now.north ≤ℤ result }
-    {
-        self.north.max(stop.y)
     }
 
     fn longer(&self, before: &Row, here: &Row) -> i64
@@ -355,4 +327,20 @@ fn least_way(dx: u64, dy: u64) -> u64
     let flat = (long * 251 + short * 50) / 256;
     let steep = (long * 213 + short * 142) / 256;
     flat.max(steep)
+}
+
+// The lesser of two coordinates. By reference, so that callers' goals speak of the numbers alone.
+fn lesser(a: &i32, b: &i32) -> i32
+    ensures first { result ≤ℤ a.now }
+    ensures second { result ≤ℤ b.now }
+{
+    (*a).min(*b)
+}
+
+// The greater of two coordinates.
+fn greater(a: &i32, b: &i32) -> i32
+    ensures first { a.now ≤ℤ result }
+    ensures second { b.now ≤ℤ result }
+{
+    (*a).max(*b)
 }
