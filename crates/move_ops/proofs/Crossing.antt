@@ -1,5 +1,5 @@
 -- Two routes of a plan that passes exchange their ends.
-use Rattle.std.proofs.Common.{◌≡◌, ℕ, zero, suc, ◌+◌, ◌-◌, ◌≤◌, ◌&&◌, Bool, true, false, cond, eqb, leb, List, length, take, drop, Some, None, refl, sym, ap, subst, ◌∙◌, inl, inr, arith}
+use Rattle.std.proofs.Common.{◌≡◌, ℕ, zero, suc, ◌+◌, ◌-◌, ◌≤◌, ◌&&◌, not, Bool, true, false, cond, eqb, leb, List, length, take, drop, Some, None, refl, sym, ap, subst, ◌∙◌, inl, inr, arith}
 use Rattle.std.specs.List.{concat}
 use Rattle.std.proofs.lemmas.Bool.{cases_Bool, and_parts, and_from, eq-eqb, leb-true}
 use Rattle.std.proofs.lemmas.Bool.Decides.{eqb_tells}
@@ -113,8 +113,8 @@ module _ (local : PassesAreLocal) (p : Instance) (pins routes : List (List ℕ))
   pub second_feasible : passes p pins others ≡ true → IsFeasibleAlone p y
   second_feasible passed = feasible_at y b b_from b_within at_b passed
 
-module _ (local : PassesAreLocal) (says : TestsSayFeasible) (p : Instance) (pins routes : List (List ℕ)) (good : passes p pins routes ≡ true) (a ca b cb : ℕ) (apart : eqb a b ≡ false)
-    (a_cut : is_cut pins routes a ca ≡ true) (b_cut : is_cut pins routes b cb ≡ true) where
+module _ (local : PassesAreLocal) (says : TestsSayFeasible) (p : Instance) (pins routes : List (List ℕ)) (good : passes p pins routes ≡ true) (a ca b cb : ℕ)
+    (can : true ≡ (not (eqb a b) && (is_cut pins routes a ca && is_cut pins routes b cb))) where
   -- what the test of a cut says
   cut_parts : (v c : ℕ) → is_cut pins routes v c ≡ true → (1 ≤ v) × (v ≤ length routes) × (length (of_vehicle pins v) ≤ c)
   cut_parts v c t =
@@ -123,14 +123,17 @@ module _ (local : PassesAreLocal) (says : TestsSayFeasible) (p : Instance) (pins
       let three = and_parts (leb (length (of_vehicle pins v)) c) (leb c (length (of_vehicle routes v))) two.1 in
       (leb-true 1 v one.0, leb-true v (length routes) two.0, leb-true (length (of_vehicle pins v)) c three.0)
 
+  both_cut : (is_cut pins routes a ca ≡ true) × (is_cut pins routes b cb ≡ true)
+  both_cut = and_parts (is_cut pins routes a ca) (is_cut pins routes b cb) (and_parts (not (eqb a b)) (is_cut pins routes a ca && is_cut pins routes b cb) (sym can)).1
+
   differ : b ≡ a → ⊥
-  differ same = let h : true ≡ false = sym (eq-eqb a b (sym same)) ∙ apart in cc
+  differ same = let h : not (eqb a b) ≡ true = (and_parts (not (eqb a b)) (is_cut pins routes a ca && is_cut pins routes b cb) (sym can)).0 in let e : false ≡ true = rw (eq-eqb a b (sym same)) at h in cc
 
-  of_a : (1 ≤ a) × (a ≤ length routes) × (length (of_vehicle pins a) ≤ ca)
-  of_a = cut_parts a ca a_cut
+  pub of_a : (1 ≤ a) × (a ≤ length routes) × (length (of_vehicle pins a) ≤ ca)
+  of_a = cut_parts a ca both_cut.0
 
-  of_b : (1 ≤ b) × (b ≤ length routes) × (length (of_vehicle pins b) ≤ cb)
-  of_b = cut_parts b cb b_cut
+  pub of_b : (1 ≤ b) × (b ≤ length routes) × (length (of_vehicle pins b) ≤ cb)
+  of_b = cut_parts b cb both_cut.1
 
   pub first_route_once : AreLiveOnce p (joined (of_vehicle routes a) ca (of_vehicle routes b) cb)
   first_route_once = first_once local p pins routes good a ca b cb differ of_a.0 of_a.1 of_b.0 of_b.1
@@ -159,37 +162,7 @@ module _ (local : PassesAreLocal) (says : TestsSayFeasible) (p : Instance) (pins
 
   pub crossed_is : (f s : Bool) → f ≡ feasible_alone p (joined (of_vehicle routes a) ca (of_vehicle routes b) cb) → s ≡ feasible_alone p (joined (of_vehicle routes b) cb (of_vehicle routes a) ca)
       → crossed p pins routes a ca b cb ≡ cond (f && s) (Some (with_ends_exchanged routes a ca b cb)) None
-  crossed_is f s e g = rw (apart, a_cut, b_cut, passes_where_both f s e g) refl
+  crossed_is f s e g = rw (sym can, passes_where_both f s e g) refl
 
--- the same of what the code has: its lists and its answers
-module _ (local : PassesAreLocal) (says : TestsSayFeasible) (p : Instance) (pins routes : List (List ℕ)) (good : passes p pins routes ≡ true) (a ca b cb : ℕ) (apart : a ≡ b → ⊥)
-    (kept given : List (List ℕ)) (is_pins : kept ≡ pins) (is_routes : given ≡ routes) (a_cut : true ≡ is_cut kept given a ca) (b_cut : true ≡ is_cut kept given b cb)
-    (first second a_front b_back b_front a_back : List ℕ) (is_first : first ≡ joined a_front ca b_back cb) (is_second : second ≡ joined b_front cb a_back ca)
-    (is_a_front : a_front ≡ of_vehicle given a) (is_b_back : b_back ≡ of_vehicle given b) (is_b_front : b_front ≡ of_vehicle given b) (is_a_back : a_back ≡ of_vehicle given a) where
-  two : eqb a b ≡ false
-  two = elim (eqb_tells a b) [ inl t ↦ absurd (apart t.1) | inr t ↦ t.0 ]
-
-  cut_at : (v c : ℕ) → true ≡ is_cut kept given v c → is_cut pins routes v c ≡ true
-  cut_at v c t = ap (λ k. is_cut k routes v c) (sym is_pins) ∙ (ap (λ g. is_cut kept g v c) (sym is_routes) ∙ sym t)
-
-  joined_same : (x y : List ℕ) (v c w d : ℕ) → x ≡ of_vehicle given v → y ≡ of_vehicle given w → joined x c y d ≡ joined (of_vehicle routes v) c (of_vehicle routes w) d
-  joined_same x y v c w d e f =
-      ap (λ l. joined l c y d) (e ∙ ap (λ g. of_vehicle g v) is_routes) ∙ ap (λ l. joined (of_vehicle routes v) c l d) (f ∙ ap (λ g. of_vehicle g w) is_routes)
-
-  first_is : first ≡ joined (of_vehicle routes a) ca (of_vehicle routes b) cb
-  first_is = is_first ∙ joined_same a_front b_back a ca b cb is_a_front is_b_back
-
-  second_is : second ≡ joined (of_vehicle routes b) cb (of_vehicle routes a) ca
-  second_is = is_second ∙ joined_same b_front a_back b cb a ca is_b_front is_a_back
-
-  pub first_asked : AreLiveOnce p first
-  first_asked = subst (AreLiveOnce p) (sym first_is) (first_route_once local says p pins routes good a ca b cb two (cut_at a ca a_cut) (cut_at b cb b_cut))
-
-  pub second_asked : AreLiveOnce p second
-  second_asked = subst (AreLiveOnce p) (sym second_is) (second_route_once local says p pins routes good a ca b cb two (cut_at a ca a_cut) (cut_at b cb b_cut))
-
-  pub crossed_answer : (f s : Bool) → f ≡ feasible_alone p first → s ≡ feasible_alone p second → cond (f && s) (Some (with_route (with_route routes a first) b second)) None ≡ crossed p pins routes a ca b cb
-  crossed_answer f s e g =
-      ap (λ l. cond (f && s) (Some (with_route (with_route routes a l) b second)) None) first_is
-      ∙ (ap (λ l. cond (f && s) (Some (with_route (with_route routes a (joined (of_vehicle routes a) ca (of_vehicle routes b) cb)) b l)) None) second_is
-      ∙ sym (crossed_is local says p pins routes good a ca b cb two (cut_at a ca a_cut) (cut_at b cb b_cut) f s (e ∙ ap (feasible_alone p) first_is) (g ∙ ap (feasible_alone p) second_is)))
+  pub as_often : (n : ℕ) → times n (concat (with_ends_exchanged routes a ca b cb)) ≡ times n (concat routes)
+  as_often = same_times local p pins routes good a ca b cb differ of_a.0 of_a.1 of_b.0 of_b.1

@@ -29,17 +29,26 @@ apart_eqb : (m n : ℕ) → (m ≡ n → ⊥) → eqb m n ≡ false
 apart_eqb m n apart = elim (eqb_tells m n) [ inl t ↦ absurd (apart t.1) | inr t ↦ t.0 ]
 
 -- one of two numbers for the other
-swap_left : (a b : ℕ) → swapped a b a ≡ b
+pub swap_left : (a b : ℕ) → swapped a b a ≡ b
 swap_left a b = rw (eq-eqb a a refl) refl
 
-swap_right : (a b : ℕ) → swapped a b b ≡ a
+pub swap_right : (a b : ℕ) → swapped a b b ≡ a
 swap_right a b = elim (eqb_tells b a) [
   | inl t ↦ rw t.0 t.1
   | inr t ↦ rw (t.0, eq-eqb b b refl) refl
 ]
 
-swap_other : (a b n : ℕ) → (n ≡ a → ⊥) → (n ≡ b → ⊥) → swapped a b n ≡ n
+pub swap_other : (a b n : ℕ) → (n ≡ a → ⊥) → (n ≡ b → ⊥) → swapped a b n ≡ n
 swap_other a b n left right = rw (apart_eqb n a left, apart_eqb n b right) refl
+
+swap_turned : (a b n : ℕ) → swapped a b n ≡ swapped b a n
+swap_turned a b n = elim (eqb_tells n a) [
+  | inl t ↦ subst (λ m. swapped a b m ≡ swapped b a m) (sym t.1) (swap_left a b ∙ sym (swap_right b a))
+  | inr t ↦ elim (eqb_tells n b) [
+    | inl u ↦ rw (t.0, u.0) refl
+    | inr u ↦ rw (t.0, u.0) refl
+  ]
+]
 
 swap_back : (a b n : ℕ) → swapped a b (swapped a b n) ≡ n
 swap_back a b n = elim (eqb_tells n a) [
@@ -156,6 +165,19 @@ counterpart_back (Pair a b) (Pair c d) valid too apart n =
     (λ same. apart c.number (second_among c.number b.number a.number same) (first_among c.number c.number (d.number ∷ []) refl))
     (too.2) n
 
+-- it doesn't matter which of the two is named first
+counterpart_turned : (r s : Request) (n : ℕ) → counterpart r s n ≡ counterpart s r n
+counterpart_turned (Single s) (Single t) n = swap_turned s.number t.number n
+counterpart_turned (Single s) (Pair c d) n = refl
+counterpart_turned (Pair a b) (Single t) n = refl
+counterpart_turned (Pair a b) (Pair c d) n = ap (swapped a.number c.number) (swap_turned b.number d.number n) ∙ swap_turned a.number c.number (swapped d.number b.number n)
+
+same_form_turned : (r s : Request) → have_same_form r s ≡ have_same_form s r
+same_form_turned (Single s) (Single t) = refl
+same_form_turned (Single s) (Pair c d) = refl
+same_form_turned (Pair a b) (Single t) = refl
+same_form_turned (Pair a b) (Pair c d) = refl
+
 -- each request is planned where the other was
 any_two : (n m : ℕ) (xs ys : List ℕ) → times n xs ≡ times m ys → list_any (nat_eq n) xs ≡ list_any (nat_eq m) ys
 any_two n m xs ys same = by (list_any (nat_eq n) xs) (list_any (nat_eq m) ys) refl refl
@@ -177,17 +199,6 @@ module _ (routes others : List (List ℕ)) where
       let c_b = λ (same : c.number ≡ b.number). apart c.number (second_among c.number b.number a.number same) (first_among c.number c.number (d.number ∷ []) refl) in
       ap (λ h. h || (has_stop others b.number || false)) (had a.number ∙ ap (has_stop routes) (both_a a.number b.number c.number d.number (valid.2) a_d c_b (too.2)))
       ∙ ap (λ h. has_stop routes c.number || (h || false)) (had b.number ∙ ap (has_stop routes) (both_b a.number b.number c.number d.number (valid.2) a_d c_b (too.2)))
-
-  second_planned : (r s : Request) → IsRequest r → IsRequest s → ((n : ℕ) → 1 ≤ times n (numbers_of r) → 1 ≤ times n (numbers_of s) → ⊥) → have_same_form r s ≡ true
-      → ((n : ℕ) → has_stop others n ≡ has_stop routes (counterpart r s n)) → is_planned others s ≡ is_planned routes r
-  second_planned (Single s) (Single t) valid too apart form had = ap (λ h. h || false) (had t.number ∙ ap (has_stop routes) (swap_right s.number t.number))
-  second_planned (Single s) (Pair c d) valid too apart form had = absurd (let k : false ≡ true = form in cc)
-  second_planned (Pair a b) (Single t) valid too apart form had = absurd (let k : false ≡ true = form in cc)
-  second_planned (Pair a b) (Pair c d) valid too apart form had =
-      let a_d = λ (same : a.number ≡ d.number). apart a.number (first_among a.number a.number (b.number ∷ []) refl) (second_among a.number d.number c.number same) in
-      let c_b = λ (same : c.number ≡ b.number). apart c.number (second_among c.number b.number a.number same) (first_among c.number c.number (d.number ∷ []) refl) in
-      ap (λ h. h || (has_stop others d.number || false)) (had c.number ∙ ap (has_stop routes) (both_c a.number b.number c.number d.number (valid.2) a_d c_b (too.2)))
-      ∙ ap (λ h. has_stop routes a.number || (h || false)) (had d.number ∙ ap (has_stop routes) (both_d a.number b.number c.number d.number (valid.2) a_d c_b (too.2)))
 
 -- requests of two names share no number
 pub named_so : (es : List (ℕ × Request)) (name : ℕ) (r : Request) → AllByRecursion (λ e. e.0 ≡ request_name e.1) es → lookup (nat_eq name) es ≡ Some r → name ≡ request_name r
@@ -220,7 +231,8 @@ module _ (found : NamedAreFound) (p : Instance) (valid : IsInstance p) (a b : �
 
   pub second_for_first : (routes : List (List ℕ)) → have_same_form r s ≡ true → is_planned (map (map (counterpart r s)) routes) s ≡ is_planned routes r
   second_for_first routes form =
-      second_planned routes (map (map (counterpart r s)) routes) r s (valid_request p.requests a r (valid.valid) is_r) (valid_request p.requests b s (valid.valid) is_s) share_none form (had_exchanged routes)
+      first_planned routes (map (map (counterpart r s)) routes) s r (valid_request p.requests b s (valid.valid) is_s) (valid_request p.requests a r (valid.valid) is_r) (λ n two one. share_none n one two)
+      (same_form_turned s r ∙ form) (λ n. had_exchanged routes n ∙ ap (has_stop routes) (counterpart_turned r s n))
 
   stays_live : (n : ℕ) → IsLive p (counterpart r s n) → IsLive p n
   stays_live n live = elim (cases_lt 0 (times n (numbers_of r))) [

@@ -22,12 +22,15 @@ use Rattle.plan_audit.specs.Locality.{PassesAreLocal}
 use Rattle.plan_audit.specs.Passes.{passes}
 use Rattle.move_ops.specs.Changes.{AreVehiclesOf}
 use Rattle.move_ops.specs.Drafts.{Drafted, draft_of, IsDraftOf}
-use Rattle.move_ops.specs.Foreseen.{ways_over, way_across, IsCostIfMade, IsMoved, IsSeatOf}
+use Rattle.move_ops.specs.Foreseen.{IsCostIfMade}
+use Rattle.move_ops.specs.Ways.{ways_over, way_across, IsCutOf, IsMoved, IsSeatOf}
 use Rattle.move_ops.specs.Insertion.{request_named, of_vehicle, passing, with_route}
 use Rattle.move_ops.specs.Moves.{swapped, counterpart, are_exchangeable, exchange_of, exchanged, is_cut, joined, with_ends_exchanged, crossed}
 use Rattle.move_ops.specs.declared.draft.foreseeing.Seat.{Seat}
+use Rattle.move_ops.specs.declared.draft.rearranging.Cut.{Cut}
 use Rattle.move_ops.proofs.Costs.{same_cost, unplanned_same}
 use Rattle.move_ops.proofs.Crossing.{same_times}
+use Rattle.move_ops.proofs.Exchanging.{swap_left, swap_right, swap_other}
 use Rattle.move_ops.proofs.Fitting.{had_often}
 use Rattle.move_ops.proofs.Gathering.{exchanged_changes}
 use Rattle.move_ops.proofs.Inserting.{valid_request}
@@ -65,6 +68,9 @@ exchanged_plan p pins routes a b r s new is_r is_s e = elim (eqb_tells a b) [
 ]
 
 -- ---- what the plan costs
+abbrev pub cut : ℕ → ℕ → Cut
+cut v k = record { vehicle = v; stops = k }
+
 module _ (p : Instance) (pins : List (List ℕ)) (d : Drafted) (is : IsDraftOf p pins d) (vrp : p.kind ≡ Vrp) (before after : ℕ) (cost : Cost) (moved : IsMoved d.cost before after cost) where
   cost_is : (new : List (List ℕ)) → unplanned_count p (draft_of d) ≡ unplanned_count p new → total_length p new + before ≡ total_length p (draft_of d) + after → cost ≡ cost_of p new
   cost_is new left driven =
@@ -74,8 +80,7 @@ module _ (p : Instance) (pins : List (List ℕ)) (d : Drafted) (is : IsDraftOf p
       (moved.vehicles ∙ (ap (λ (k : Cost). k.vehicles) is.cost ∙ (ap (λ (k : Kind). vehicle_count k (draft_of d)) vrp ∙ sym (ap (λ (k : Kind). vehicle_count k new) vrp))))
       (omega arith)
 
-  module _ (local : PassesAreLocal) (a ca b cb : ℕ) (a_from : 1 ≤ a) (a_within : a ≤ length (draft_of d)) (a_cut : ca ≤ length (of_vehicle (draft_of d) a))
-      (b_from : 1 ≤ b) (b_within : b ≤ length (draft_of d)) (b_cut : cb ≤ length (of_vehicle (draft_of d) b))
+  module _ (local : PassesAreLocal) (a ca b cb : ℕ) (a_cut : IsCutOf (draft_of d) (cut a ca)) (b_cut : IsCutOf (draft_of d) (cut b cb))
       (was : before ≡ way_across p (of_vehicle (draft_of d) a) ca (of_vehicle (draft_of d) a) (ca + 1) + way_across p (of_vehicle (draft_of d) b) cb (of_vehicle (draft_of d) b) (cb + 1))
       (then : after ≡ way_across p (of_vehicle (draft_of d) a) ca (of_vehicle (draft_of d) b) (cb + 1) + way_across p (of_vehicle (draft_of d) b) cb (of_vehicle (draft_of d) a) (ca + 1)) where
     pub crossed_cost : IsCostIfMade p (crossed p pins (draft_of d) a ca b cb) cost
@@ -84,29 +89,34 @@ module _ (p : Instance) (pins : List (List ℕ)) (d : Drafted) (is : IsDraftOf p
         let apart = there.0 in
         let xs = of_vehicle (draft_of d) a in
         let ys = of_vehicle (draft_of d) b in
-        let left = unplanned_same (draft_of d) (with_ends_exchanged (draft_of d) a ca b cb) (λ n. sym (same_times local p pins (draft_of d) is.draft a ca b cb apart a_from a_within b_from b_within n)) p in
-        let total = lengths_of_two p (draft_of d) a b (joined (of_vehicle (draft_of d) a) ca (of_vehicle (draft_of d) b) cb) (joined (of_vehicle (draft_of d) b) cb (of_vehicle (draft_of d) a) ca) a_from a_within b_from b_within apart in
-        let ends = lengths_crossed p (of_vehicle (draft_of d) a) (of_vehicle (draft_of d) b) ca cb a_cut b_cut in
+        let left = unplanned_same (draft_of d) (with_ends_exchanged (draft_of d) a ca b cb) (λ n. sym (same_times local p pins (draft_of d) is.draft a ca b cb apart a_cut.from a_cut.within b_cut.from b_cut.within n)) p in
+        let total = lengths_of_two p (draft_of d) a b (joined (of_vehicle (draft_of d) a) ca (of_vehicle (draft_of d) b) cb) (joined (of_vehicle (draft_of d) b) cb (of_vehicle (draft_of d) a) ca) a_cut.from a_cut.within b_cut.from b_cut.within apart in
+        let ends = lengths_crossed p (of_vehicle (draft_of d) a) (of_vehicle (draft_of d) b) ca cb a_cut.stops b_cut.stops in
         let same = ap (total_length p) there.1 in
         cost_is new (left ∙ ap (unplanned_count p) there.1) (omega arith)
 
 -- ---- a single and its seat
-vehicle_there : (routes : List (List ℕ)) (u k n : ℕ) → slice_get (unwrap_or (slice_get routes u) []) k ≡ Some n → u < length routes
-vehicle_there [] u k n at = absurd (none_some n at)
-vehicle_there (r ∷ rs) zero k n at = omega arith
-vehicle_there (r ∷ rs) (suc u) k n at = let h = vehicle_there rs u k n at in omega arith
+some_there : (routes : List (List ℕ)) (u n : ℕ) → 1 ≤ times n (unwrap_or (slice_get routes u) []) → u < length routes
+some_there [] u n some = absurd (let h : 1 ≤ 0 = some in omega arith)
+some_there (r ∷ rs) zero n some = omega arith
+some_there (r ∷ rs) (suc u) n some = let h = some_there rs u n some in omega arith
 
-vehicle_in : (routes : List (List ℕ)) (v k n : ℕ) → slice_get (of_vehicle routes v) k ≡ Some n → (1 ≤ v) × (v ≤ length routes)
-vehicle_in routes zero k n at = absurd (none_some n at)
-vehicle_in routes (suc u) k n at = (omega arith, let h = vehicle_there routes u k n at in omega arith)
+some_in : (routes : List (List ℕ)) (v n : ℕ) → 1 ≤ times n (of_vehicle routes v) → (1 ≤ v) × (v ≤ length routes)
+some_in routes zero n some = absurd (let h : 1 ≤ 0 = some in omega arith)
+some_in routes (suc u) n some = (omega arith, let h = some_there routes u n some in omega arith)
 
 abbrev pub seat_at : Stop → ℕ → ℕ → Seat
 seat_at s v k = record { stop = s; vehicle = v; index = k }
 
 pub seat_is : (p : Instance) (routes : List (List ℕ)) (name : ℕ) (s : Stop) (v k : ℕ) → IsInstance p → request_named p name ≡ Some (Single s) → slice_get (of_vehicle routes v) k ≡ Some s.number → IsSeatOf p routes name (seat_at s v k)
 seat_is p routes name s v k valid named at =
-    let there = vehicle_in routes v k s.number at in
-    record { named = named; visit = (valid_request p.requests name (Single s) valid.valid named).0.visit; from = there.0; within = there.1; index = within_route (of_vehicle routes v) k s.number at; at = at }
+    let there = some_in routes v s.number (stands_once_more s.number k (of_vehicle routes v) at) in
+    record {
+      named = named;
+      visit = (valid_request p.requests name (Single s) valid.valid named).0.visit;
+      seat = record { from = there.0; within = there.1; index = within_route (of_vehicle routes v) k s.number at };
+      at = at;
+    }
 
 numbered : NamedAreFound → (p : Instance) (name : ℕ) (s : Stop) → IsInstance p → request_named p name ≡ Some (Single s) → stop_numbered p s.number ≡ s
 numbered found p name s valid named =
@@ -116,19 +126,7 @@ numbered found p name s valid named =
     let there : stop_at p s.number ≡ Some s = (found p s.number name (Single s) valid named (subst (λ (o : Option Stop). IsSome o) (sym own) refl)).stop ∙ own in
     rw (positive, there) refl
 
--- ---- two numbers that take one another's places
-first_swapped : (x y : ℕ) → swapped x y x ≡ y
-first_swapped x y = rw (eq-eqb x x refl) refl
-
-second_swapped : (x y : ℕ) → swapped x y y ≡ x
-second_swapped x y = elim (eqb_tells y x) [
-  | inl t ↦ rw t.0 t.1
-  | inr t ↦ rw (t.0, eq-eqb y y refl) refl
-]
-
-others_stay : (x y m : ℕ) → (m ≡ x → ⊥) → (m ≡ y → ⊥) → swapped x y m ≡ m
-others_stay x y m one two = rw (ne_eqb m x one, ne_eqb m y two) refl
-
+-- ---- the number of a single
 is_number : (s : Stop) (n : ℕ) → IsSome (stop_in n (Single s)) → n ≡ s.number
 is_number s n some = elim (eqb_tells s.number n) [
   | inl t ↦ sym t.1
@@ -144,15 +142,6 @@ both_have n routes v w v_from v_within w_from w_within apart =
     let g = ap (times n) (other_vehicle routes v w [] v_from apart) in
     let h : times n [] ≡ 0 = refl in
     omega arith
-
-some_there : (routes : List (List ℕ)) (u n : ℕ) → 1 ≤ times n (unwrap_or (slice_get routes u) []) → u < length routes
-some_there [] u n some = absurd (let h : 1 ≤ 0 = some in omega arith)
-some_there (r ∷ rs) zero n some = omega arith
-some_there (r ∷ rs) (suc u) n some = let h = some_there rs u n some in omega arith
-
-some_in : (routes : List (List ℕ)) (v n : ℕ) → 1 ≤ times n (of_vehicle routes v) → (1 ≤ v) × (v ≤ length routes)
-some_in routes zero n some = absurd (let h : 1 ≤ 0 = some in omega arith)
-some_in routes (suc u) n some = (omega arith, let h = some_there routes u n some in omega arith)
 
 -- ---- an exchange
 module _ (found : NamedAreFound) (by_name : RequestsStandByName) (local : PassesAreLocal) (p : Instance) (pins : List (List ℕ)) (d : Drafted) (is : IsDraftOf p pins d) (a b : ℕ) (one other : Seat)
@@ -177,7 +166,7 @@ module _ (found : NamedAreFound) (by_name : RequestsStandByName) (local : Passes
 
   both_few : (n : ℕ) → times n first + times n second ≤ 1
   both_few n =
-      let e = both_have n (draft_of d) one.vehicle other.vehicle is_one.from is_one.within is_other.from is_other.within (λ same. apart (sym same)) in
+      let e = both_have n (draft_of d) one.vehicle other.vehicle is_one.seat.from is_one.seat.within is_other.seat.from is_other.seat.within (λ same. apart (sym same)) in
       let g = few n in
       omega arith
 
@@ -190,16 +179,16 @@ module _ (found : NamedAreFound) (by_name : RequestsStandByName) (local : Passes
   first_length : route_length p (map f first) + ways_over p first one.index one.stop ≡ route_length p first + ways_over p first one.index other.stop
   first_length =
       length_exchanged p f first one.index x is_one.at (let e = both_few x in omega arith)
-      (λ m unlike there. others_stay x y m unlike (λ same. (let e = both_few y in let g = y_second in let h : 1 ≤ times y first = subst (λ k. 1 ≤ times k first) same there in omega arith)))
+      (λ m unlike there. swap_other x y m unlike (λ same. (let e = both_few y in let g = y_second in let h : 1 ≤ times y first = subst (λ k. 1 ≤ times k first) same there in omega arith)))
       one.stop other.stop (numbered found p a one.stop is.valid is_one.named)
-      (ap (stop_numbered p) (first_swapped x y) ∙ numbered found p b other.stop is.valid is_other.named)
+      (ap (stop_numbered p) (swap_left x y) ∙ numbered found p b other.stop is.valid is_other.named)
 
   second_length : route_length p (map f second) + ways_over p second other.index other.stop ≡ route_length p second + ways_over p second other.index one.stop
   second_length =
       length_exchanged p f second other.index y is_other.at (let e = both_few y in omega arith)
-      (λ m unlike there. others_stay x y m (λ same. (let e = both_few x in let g = x_first in let h : 1 ≤ times x second = subst (λ k. 1 ≤ times k second) same there in omega arith)) unlike)
+      (λ m unlike there. swap_other x y m (λ same. (let e = both_few x in let g = x_first in let h : 1 ≤ times x second = subst (λ k. 1 ≤ times k second) same there in omega arith)) unlike)
       other.stop one.stop (numbered found p b other.stop is.valid is_other.named)
-      (ap (stop_numbered p) (second_swapped x y) ∙ numbered found p a one.stop is.valid is_one.named)
+      (ap (stop_numbered p) (swap_right x y) ∙ numbered found p a one.stop is.valid is_one.named)
 
   -- where a stop of one of the two seats stands
   one_vehicle : (n v u : ℕ) → 1 ≤ v → v ≤ length (draft_of d) → 1 ≤ times n (of_vehicle (draft_of d) v) → 1 ≤ times n (of_vehicle (draft_of d) u) → u ≡ v
@@ -216,11 +205,11 @@ module _ (found : NamedAreFound) (by_name : RequestsStandByName) (local : Passes
   both_found u n asked had = elim asked [
     | inl some ↦ (
         let same = is_number one.stop n some in
-        let e : u ≡ one.vehicle = one_vehicle x one.vehicle u is_one.from is_one.within x_first (subst (λ k. 1 ≤ times k (of_vehicle (draft_of d) u)) same (had_often (of_vehicle (draft_of d) u) n had)) in
+        let e : u ≡ one.vehicle = one_vehicle x one.vehicle u is_one.seat.from is_one.seat.within x_first (subst (λ k. 1 ≤ times k (of_vehicle (draft_of d) u)) same (had_often (of_vehicle (draft_of d) u) n had)) in
         rw (eq-eqb u one.vehicle e) refl)
     | inr some ↦ (
         let same = is_number other.stop n some in
-        let e : u ≡ other.vehicle = one_vehicle y other.vehicle u is_other.from is_other.within y_second (subst (λ k. 1 ≤ times k (of_vehicle (draft_of d) u)) same (had_often (of_vehicle (draft_of d) u) n had)) in
+        let e : u ≡ other.vehicle = one_vehicle y other.vehicle u is_other.seat.from is_other.seat.within y_second (subst (λ k. 1 ≤ times k (of_vehicle (draft_of d) u)) same (had_often (of_vehicle (draft_of d) u) n had)) in
         elim (eqb_tells u one.vehicle) [
           | inl t ↦ rw t.0 refl
           | inr t ↦ rw (t.0, eq-eqb u other.vehicle e) refl
@@ -230,7 +219,7 @@ module _ (found : NamedAreFound) (by_name : RequestsStandByName) (local : Passes
   two_routes : with_route (with_route (draft_of d) one.vehicle (map f first)) other.vehicle (map f second) ≡ map (map f) (draft_of d)
   two_routes =
       (exchanged_changes (Single one.stop) (Single other.stop) (draft_of d) (one.vehicle ∷ other.vehicle ∷ [])
-      (All-from_recursion (λ (u : ℕ). (1 ≤ u) × (u ≤ length (draft_of d))) (one.vehicle ∷ other.vehicle ∷ []) ((is_one.from, is_one.within), ((is_other.from, is_other.within), tt)))
+      (All-from_recursion (λ (u : ℕ). (1 ≤ u) × (u ≤ length (draft_of d))) (one.vehicle ∷ other.vehicle ∷ []) ((is_one.seat.from, is_one.seat.within), ((is_other.seat.from, is_other.seat.within), tt)))
       both_found).plan
 
   module _ (vrp : p.kind ≡ Vrp) (before after : ℕ) (cost : Cost) (moved : IsMoved d.cost before after cost)
@@ -240,7 +229,7 @@ module _ (found : NamedAreFound) (by_name : RequestsStandByName) (local : Passes
     exchanged_cost new made =
         let there = exchanged_plan p pins (draft_of d) a b (Single one.stop) (Single other.stop) new is_one.named is_other.named made in
         let left = as_many found by_name p is.valid a b there.0 (Single one.stop) (Single other.stop) is_one.named is_other.named pins (draft_of d) there.1 in
-        let total = lengths_of_two p (draft_of d) one.vehicle other.vehicle (map f first) (map f second) is_one.from is_one.within is_other.from is_other.within (λ same. apart (sym same)) in
+        let total = lengths_of_two p (draft_of d) one.vehicle other.vehicle (map f first) (map f second) is_one.seat.from is_one.seat.within is_other.seat.from is_other.seat.within (λ same. apart (sym same)) in
         let same = ap (total_length p) (two_routes ∙ there.2) in
         let e = first_length in
         let g = second_length in

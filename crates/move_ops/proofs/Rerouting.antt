@@ -10,7 +10,7 @@ use Rattle.route_sched.specs.Schedule.{route_length}
 use Rattle.slack_tables.specs.Along.{length_along}
 use Rattle.slack_tables.proofs.AlongLemmas.{length-next, same-length, spliced-length}
 use Rattle.slack_tables.proofs.CourseLemmas.{length-is}
-use Rattle.move_ops.specs.Foreseen.{ways_over, way_across}
+use Rattle.move_ops.specs.Ways.{ways_over, way_across}
 use Rattle.move_ops.specs.Insertion.{of_vehicle, with_route}
 use Rattle.move_ops.specs.Moves.{joined}
 use Rattle.move_ops.proofs.Costs.{replaced}

@@ -11,6 +11,7 @@ use Rattle.slack_tables.specs.Course.{Course, course_of, route_of, IsCourseIn}
 use Rattle.slack_tables.specs.Insertion.{KeepsLimits}
 use Rattle.move_ops.specs.Insertion.{Insertion, with_route, with_request_at, of_vehicle, inserted, are_places, put_in}
 use Rattle.move_ops.specs.Moves.{is_of_named, without_named}
+use Rattle.move_ops.specs.Pairing.{are_paired}
 use Rattle.move_ops.specs.declared.changes.Change.{Change}
 
 -- how many names there are, one that stands twice counted once
@@ -47,6 +48,12 @@ AreCourses p tours = AllByRecursion (λ t. IsCourseIn p t.1) tours
 pub record AreToursOf (p : Instance) (cs : List Change) (tours : List (ℕ × Course)) : Type 0 where
   pub changes : changes_of tours ≡ cs
   pub courses : AreCourses p tours
+
+-- what is asked of a route before its limits are, beside a tour that has some of its stops
+pub record IsTried (p : Instance) (c : Course) (route : List ℕ) : Type 0 where
+  pub near : IsCourseIn p c
+  pub once : AreLiveOnce p route
+  pub pairs : are_paired p route ≡ true
 
 -- the tour of a route, or none where the route is not feasible alone
 abbrev pub IsTourIfFeasible : Instance → List ℕ → Option Course → Type 0

@@ -21,6 +21,8 @@ use Rattle.slack_tables.specs.declared.request.RequestWays.{RequestWays}
 use Rattle.slack_tables.specs.declared.scan.Addition.{Addition}
 use Rattle.move_ops.specs.Insertion.{Insertion, request_named, of_vehicle, insertions_of, is_no_worse}
 use Rattle.move_ops.specs.Laws.{BestInsertionsAreLeast, BestInsertionsAreUnique}
+use Rattle.move_ops.specs.Refreshing.{AreWithin}
+use Rattle.move_ops.specs.Rooms.{AreRooms}
 use Rattle.move_ops.specs.Tables.{plan_of, AreTablesIn}
 use Rattle.move_ops.specs.declared.tables.Found.{Found}
 
@@ -59,6 +61,22 @@ pub record IsAsked (p : Instance) (pins : List (List ℕ)) (courses : List Cours
   pub named : lookup (nat_eq (request_name r)) p.requests ≡ Some r
   pub free : is_planned (plan_of courses) r ≡ false
 
+-- one of the first k vehicles has no stops
+abbrev pub HasIdle : List (List ℕ) → ℕ → Type 0
+HasIdle routes k = (u : ℕ) × (1 ≤ u) × (u ≤ k) × (u ≤ length routes) × (length (of_vehicle routes u) ≡ 0)
+
+-- each vehicle behind the first so many has no stops, and one of those has none either
+abbrev pub IsReach : List (List ℕ) → ℕ → Type 0
+IsReach routes end = (v : ℕ) → end < v → v ≤ length routes → HasIdle routes end × (length (of_vehicle routes v) ≡ 0)
+
+-- and so are the vehicles that are asked, up to the last one and before the others those of these entries, with these rooms
+pub record IsAskedOver (p : Instance) (pins : List (List ℕ)) (courses : List Course) (most : List ℤ) (last : ℕ) (entries : List (ℕ × Course)) (r : Request) : Type 0 where
+  pub asked : IsAsked p pins courses r
+  pub within : last ≤ length courses
+  pub rooms : AreRooms courses most
+  pub reach : IsReach (plan_of courses) last
+  pub first : AreWithin (length courses) entries
+
 -- the table is one of the problem, the request is live and has these ways, and the vehicle's pin is no longer than the route
 pub record IsLookable (p : Instance) (pins : List (List ℕ)) (r : Request) (w : RequestWays) (v : ℕ) (c : Course) : Type 0 where
   pub problem : IsInstance p
@@ -96,14 +114,6 @@ pub record IsNamed (routes : List (List ℕ)) (entries : List (ℕ × Course)) (
 -- one of those, or of the first k vehicles
 abbrev pub IsNamedOrUpTo : List (List ℕ) → List (ℕ × Course) → ℕ → ℕ → Type 0
 IsNamedOrUpTo routes entries k v = ((1 ≤ v) × (v ≤ k)) ⊎ IsNamed routes entries (length entries) v
-
--- one of the first k vehicles has no stops
-abbrev pub HasIdle : List (List ℕ) → ℕ → Type 0
-HasIdle routes k = (u : ℕ) × (1 ≤ u) × (u ≤ k) × (u ≤ length routes) × (length (of_vehicle routes u) ≡ 0)
-
--- each vehicle behind the first so many has no stops, and one of those has none either
-abbrev pub IsReach : List (List ℕ) → ℕ → Type 0
-IsReach routes end = (v : ℕ) → end < v → v ≤ length routes → HasIdle routes end × (length (of_vehicle routes v) ≡ 0)
 
 -- the distance that an insertion at vehicle v must add less than, to be better than one that opens as many vehicles: of equals the first
 -- vehicle's is

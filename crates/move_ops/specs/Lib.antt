@@ -13,3 +13,4 @@ pub mod Logged
 pub mod Pairing
 pub mod Refreshing
 pub mod Rooms
+pub mod Ways

@@ -7,7 +7,7 @@
 //!
 //! Tables need a plan that passes with no pins, so `build` and `refresh` are given none; the law
 //! `plans_pass_without_pins` leads there from a plan that passes with its own.
-ghost use Rattle.std.specs.Prelude.{◌≡◌, ◌+◌, ◌≤◌, ◌<ℤ◌, pos, true, false, [], map, Some, IfOk, IsSome, length};
+ghost use Rattle.std.specs.Prelude.{◌≡◌, ◌+◌, ◌<ℤ◌, pos, true, false, [], map, Some, IfOk, IsSome, length};
 ghost use Rattle.std.specs.Option.{option_map};
 ghost use Rattle.plan_types.specs.Instance.{IsInstance};
 ghost use Rattle.plan_types.specs.Request.{request_name};
@@ -17,8 +17,7 @@ ghost use Rattle.move_ops.specs.Insertion.{request_named, of_vehicle, best_inser
 ghost use Rattle.plan_audit.specs.Passes.{passes};
 ghost use Rattle.move_ops.specs.Refreshing.{fresh_of, AreWithin};
 ghost use Rattle.move_ops.specs.Tables.{plan_of, AreVehicles};
-ghost use Rattle.move_ops.specs.Rooms.{AreRooms};
-ghost use Rattle.move_ops.specs.Choosing.{opens, bound_of, place_found, IsAsked, IsBestAmongThese, IsLookable, IsLookedAt, IsLoose, bound_beside, IsBetter, IsEntryOf, IsNamed, IsReach, IsShort};
+ghost use Rattle.move_ops.specs.Choosing.{opens, bound_of, place_found, IsAsked, IsAskedOver, IsBestAmongThese, IsLookable, IsLookedAt, IsLoose, bound_beside, IsBetter, IsEntryOf, IsNamed, IsShort};
 
 use crate::facts::problem_keeps_limits;
 use crate::laws::insertion_laws;
@@ -189,11 +188,7 @@ pub(crate) fn best_of(
     first: &[(u32, Tour)],
     request: &Request,
 ) -> Option<Found>
-    requires asked { IsAsked problem.now pins.now tables.now request.now }
-    requires within { end ≤ length tables.now }
-    requires rooms { AreRooms tables.now rooms.now }
-    requires reach { IsReach (plan_of tables.now) end }
-    requires first { AreWithin (length tables.now) first.now }
+    requires { IsAskedOver problem.now pins.now tables.now rooms.now end first.now request.now }
     ensures { option_map place_found result
         ≡ best_insertion problem.now pins.now (plan_of tables.now) (request_name request.now) }
 {
@@ -215,11 +210,7 @@ fn best_by_rooms(
     first: &[(u32, Tour)],
     request: &Request,
 ) -> Option<Found>
-    requires asked { IsAsked problem.now pins.now tables.now request.now }
-    requires within { end ≤ length tables.now }
-    requires rooms { AreRooms tables.now rooms.now }
-    requires reach { IsReach (plan_of tables.now) end }
-    requires first { AreWithin (length tables.now) first.now }
+    requires { IsAskedOver problem.now pins.now tables.now rooms.now end first.now request.now }
     ensures { option_map place_found result
         ≡ best_insertion problem.now pins.now (plan_of tables.now) (request_name request.now) }
 {

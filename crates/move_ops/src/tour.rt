@@ -1,12 +1,11 @@
 //! A route and its table.
-ghost use Rattle.std.specs.Prelude.{◌≡◌, ◌≤◌, ◌<◌, true, IfOk, Some, slice_get, slice_set, length};
+ghost use Rattle.std.specs.Prelude.{◌≡◌, ◌≤◌, ◌<◌, IfOk, Some, slice_get, slice_set, length};
 ghost use Rattle.route_sched.specs.Route.{AreLiveOnce};
 ghost use Rattle.slack_tables.specs.Insertion.{KeepsLimits};
 ghost use Rattle.slack_tables.specs.Course.{course_of, route_of, IsCourseIn};
 ghost use Rattle.plan_audit.specs.Passes.{feasible_alone};
-ghost use Rattle.move_ops.specs.Pairing.{are_paired};
 ghost use Rattle.move_ops.specs.Tables.{AreTablesIn};
-ghost use Rattle.move_ops.specs.Changes.{IsTourIfFeasible};
+ghost use Rattle.move_ops.specs.Changes.{IsTourIfFeasible, IsTried};
 ghost use Rattle.plan_types.specs.Instance.{Instance};
 
 use crate::facts::problem_keeps_limits;
@@ -94,9 +93,7 @@ impl Tour {
         near: &Tour,
         route: &[u32],
     ) -> Result<Option<Tour>, OutOfMemory>
-        requires near { IsCourseIn problem.now near.now }
-        requires once { AreLiveOnce problem.now route.now }
-        requires pairs { are_paired problem.now route.now ≡ true }
+        requires { IsTried problem.now near.now route.now }
         ensures { IfOk result (λ o. IsTourIfFeasible problem.now route.now o) }
     {
         problem_keeps_limits(problem);
@@ -116,9 +113,7 @@ impl Tour {
         near: &Tour,
         route: &[u32],
     ) -> Result<Option<Tour>, OutOfMemory>
-        requires near { IsCourseIn problem.now near.now }
-        requires once { AreLiveOnce problem.now route.now }
-        requires pairs { are_paired problem.now route.now ≡ true }
+        requires { IsTried problem.now near.now route.now }
         ensures { IfOk result (λ o. IsTourIfFeasible problem.now route.now o) }
     {
         problem_keeps_limits(problem);

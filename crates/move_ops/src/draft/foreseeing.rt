@@ -3,16 +3,17 @@
 //!
 //! A search takes few of these, and the few ways that change tell of most of the others that they are too
 //! dear. Where vehicles count nothing is foreseen, nor of pairs, nor of an exchange within one route.
-// What a draft would cost with two requests exchanged, or the ends of two routes.
-ghost use Rattle.std.specs.Prelude.{◌≡◌, ◌≤◌, ◌<◌, ◌+◌, ◌^◌, IfSome, Some, slice_get, length};
+ghost use Rattle.std.specs.Prelude.{◌≡◌, ◌≤◌, ◌+◌, ◌^◌, IfSome, Some, slice_get};
 ghost use Rattle.plan_types.specs.Limits.{IsVisit};
 ghost use Rattle.nint_dist.specs.Distance.{distance, IsPlaced};
 ghost use Rattle.move_ops.specs.Drafts.{draft_of, IsDraftOf};
-ghost use Rattle.move_ops.specs.Foreseen.{ways_over, way_across, IsCostIfMade, IsMoved, IsSeatOf};
+ghost use Rattle.move_ops.specs.Foreseen.{IsCostIfMade};
+ghost use Rattle.move_ops.specs.Ways.{ways_over, way_across, IsCutOf, IsMoved, IsSeat, IsSeatOf};
 ghost use Rattle.move_ops.specs.Insertion.{of_vehicle};
 ghost use Rattle.move_ops.specs.Moves.{exchanged, crossed};
 
 use super::Draft;
+use super::rearranging::Cut;
 use crate::naming::request_named;
 use nint_dist::dist;
 use plan_audit::passes_are_local;
@@ -73,15 +74,14 @@ impl Draft {
     // The way to a stop from the one before a seat, and on to the one behind it.
     fn ways_over(&self, problem: &Problem, pins: &Pins, seat: &Seat, stop: &Stop) -> u64
         requires is { IsDraftOf problem.now pins.now.routes self.now }
-        requires from { 1 ≤ seat.now.vehicle }
-        requires within { seat.now.vehicle ≤ length (draft_of self.now) }
-        requires index { seat.now.index < length (of_vehicle (draft_of self.now) seat.now.vehicle) }
+        requires seat { IsSeat (draft_of self.now) seat.now }
         requires stop { IsVisit stop.now }
         ensures value { result ≡ ways_over problem.now
             (of_vehicle (draft_of self.now) seat.now.vehicle) seat.now.index stop.now }
         ensures bound { result ≤ 2 ^ 33 }
     {
         let table = self.table(seat.vehicle);
+        // The law that its stops are few, so that the next place has a number.
         let _few = table.stop_count();
         let before = table.stop(seat.index);
         let behind = table.stop(seat.index + 2);
@@ -106,46 +106,40 @@ impl Draft {
         if problem.kind != Kind::Vrp {
             return None;
         }
-        let kept = pins.routes.as_slice();
-        if !self.is_cut(kept, a, a_cut) {
+        let first = Cut {
+            vehicle: a,
+            stops: a_cut,
+        };
+        let second = Cut {
+            vehicle: b,
+            stops: b_cut,
+        };
+        if !self.are_crossable(pins, first, second) {
             return None;
         }
-        if !self.is_cut(kept, b, b_cut) {
-            return None;
-        }
-        let before = self.way_across(problem, pins, a, a_cut, a, a_cut)
-            + self.way_across(problem, pins, b, b_cut, b, b_cut);
-        let after = self.way_across(problem, pins, a, a_cut, b, b_cut)
-            + self.way_across(problem, pins, b, b_cut, a, a_cut);
+        let before = self.way_across(problem, pins, first, first)
+            + self.way_across(problem, pins, second, second);
+        let after = self.way_across(problem, pins, first, second)
+            + self.way_across(problem, pins, second, first);
         self.cost_moved(before, after)
     }
 
     // The way from the last stop before a cut of one route to the first behind a cut of another.
-    fn way_across(
-        &self,
-        problem: &Problem,
-        pins: &Pins,
-        a: u64,
-        a_cut: u64,
-        b: u64,
-        b_cut: u64,
-    ) -> u64
+    fn way_across(&self, problem: &Problem, pins: &Pins, from: Cut, to: Cut) -> u64
         requires is { IsDraftOf problem.now pins.now.routes self.now }
-        requires a_from { 1 ≤ a }
-        requires a_within { a ≤ length (draft_of self.now) }
-        requires a_cut { a_cut ≤ length (of_vehicle (draft_of self.now) a) }
-        requires b_from { 1 ≤ b }
-        requires b_within { b ≤ length (draft_of self.now) }
-        requires b_cut { b_cut ≤ length (of_vehicle (draft_of self.now) b) }
-        ensures value { result ≡ way_across problem.now (of_vehicle (draft_of self.now) a) a_cut
-            (of_vehicle (draft_of self.now) b) (b_cut + 1) }
+        requires from { IsCutOf (draft_of self.now) from }
+        requires to { IsCutOf (draft_of self.now) to }
+        ensures value { result ≡ way_across problem.now
+            (of_vehicle (draft_of self.now) from.vehicle) from.stops
+            (of_vehicle (draft_of self.now) to.vehicle) (to.stops + 1) }
         ensures bound { result ≤ 2 ^ 32 }
     {
-        let from = self.table(a).stop(a_cut as usize);
-        let table = self.table(b);
+        let last = self.table(from.vehicle).stop(from.stops as usize);
+        let table = self.table(to.vehicle);
+        // The law that its stops are few, so that the next place has a number.
         let _few = table.stop_count();
-        let to = table.stop(b_cut as usize + 1);
-        way(from, to)
+        let next = table.stop(to.stops as usize + 1);
+        way(last, next)
     }
 
     // What the draft would cost with other ways in place of those before.
@@ -173,6 +167,7 @@ fn place_of(route: &[u32], stop: u32) -> Option<usize>
     None
 }
 
+// How far it is from stop to stop.
 fn way(from: &Stop, to: &Stop) -> u64
     requires from { IsPlaced from.now }
     requires to { IsPlaced to.now }

@@ -1,5 +1,4 @@
 //! Other routes for vehicles of a draft, in memory that others left; the cost goes with them.
-// Other routes for vehicles of a draft.
 ghost use Rattle.std.specs.Prelude.{◌≡◌, ◌≤◌, ◌^◌, true, All, IfSome, IfOk, OnOk, OnErr, length};
 ghost use Rattle.move_ops.specs.Pairing.{are_paired};
 ghost use Rattle.move_ops.specs.Refreshing.{AreWithin};
@@ -172,7 +171,7 @@ impl Draft {
     }
 
     /// How far a vehicle drives.
-    pub(crate) fn distance_of(&self, problem: &Problem, vehicle: u32) -> u64
+    pub(super) fn distance_of(&self, problem: &Problem, vehicle: u32) -> u64
         requires tables { AreTablesIn problem.now self.now.tours }
         requires from_one { 1 ≤ vehicle }
         requires within { vehicle ≤ length self.now.tours }

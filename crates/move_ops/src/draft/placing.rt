@@ -4,7 +4,6 @@
 //! these are large enough a request that is put in takes none. Where its vehicle then has its route of the
 //! base again, as when the request is put back where it was, the route and table in the log are put back, and
 //! nothing is computed.
-// Requests put into a draft.
 ghost use Rattle.std.specs.Prelude.{◌≡◌, ◌≤◌, ◌^◌, length, true, false, Some, None, IfSome, IfOk, OnOk, OnErr};
 ghost use Rattle.route_sched.specs.Cost.{cost_of, total_length, unplanned_count};
 ghost use Rattle.slack_tables.specs.Course.{course_of, route_of};

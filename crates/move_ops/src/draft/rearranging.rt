@@ -3,10 +3,11 @@
 //!
 //! Such moves are refused often, so their routes are judged before any table is made: the limits first, since
 //! they are broken more often, and then the pairs.
-// Stops of a draft that take one another's places.
-ghost use Rattle.std.specs.Prelude.{◌≡◌, ◌≤◌, ◌⊎◌, nat_eq, map, length, IsSome, IfSome, IfOk, OnOk, OnErr};
+ghost use Rattle.std.specs.Prelude.{◌≡◌, ◌==◌, ◌&&◌, ◌≤◌, ◌⊎◌, not, nat_eq, map, length, IsSome, IfSome, IfOk, OnOk, OnErr};
 ghost use Rattle.std.specs.List.{concat, IsDistinct};
 ghost use Rattle.plan_types.specs.Request.{stop_in};
+ghost use Rattle.move_ops.specs.Insertion.{of_vehicle};
+ghost use Rattle.move_ops.specs.Ways.{IsCutOf};
 ghost use Rattle.move_ops.specs.Changes.{with_routes, AreChanges, AreIn, AreVehiclesOf, IsChange};
 ghost use Rattle.move_ops.specs.Moves.{counterpart, exchanged, crossed, joined, is_cut, are_exchangeable};
 ghost use Rattle.std.specs.Option.{option_map};
@@ -22,7 +23,13 @@ use plan_audit::{passes_are_local, plans_are_local, tests_say_feasible};
 use plan_types::{
     OutOfMemory, Pins, Problem, Request, Route, requests_are_found_by_stop, requests_stand_by_name,
 };
-use std::alloc::Global;
+
+/// A vehicle, and behind how many stops its route is cut.
+#[derive(Clone, Copy)]
+pub(super) struct Cut {
+    pub(super) vehicle: u64,
+    pub(super) stops: u64,
+}
 
 impl Draft {
     /// Lets two requests of the draft take one another's places, as `exchange` does; answers whether it did.
@@ -160,7 +167,15 @@ impl Draft {
         ensures err { OnErr result (self.new ≡ self.old) }
     {
         let unplanned = self.cost.unplanned;
-        let changes = self.crossing(problem, pins, a, a_cut, b, b_cut)?;
+        let first = Cut {
+            vehicle: a,
+            stops: a_cut,
+        };
+        let second = Cut {
+            vehicle: b,
+            stops: b_cut,
+        };
+        let changes = self.crossing(problem, pins, first, second)?;
         self.apply(problem, pins, changes, unplanned)
     }
 
@@ -169,81 +184,78 @@ impl Draft {
         &self,
         problem: &Problem,
         pins: &Pins,
-        a: u64,
-        a_cut: u64,
-        b: u64,
-        b_cut: u64,
+        first: Cut,
+        second: Cut,
     ) -> Result<Option<Vec<Change>>, OutOfMemory>
         requires { IsDraftOf problem.now pins.now.routes self.now }
         ensures routes { IfOk result
             (λ o. option_map (λ cs. with_routes (draft_of self.now) cs.items) o
-            ≡ crossed problem.now pins.now.routes (draft_of self.now) a a_cut b b_cut) }
+            ≡ crossed problem.now pins.now.routes (draft_of self.now)
+            first.vehicle first.stops second.vehicle second.stops) }
         ensures change { IfOk result
             (λ o. IfSome o (λ cs. IsChange problem.now pins.now.routes
             (draft_of self.now) cs.items self.now.cost.unplanned)) }
     {
         passes_are_local();
         tests_say_feasible();
-        if a == b {
+        if !self.are_crossable(pins, first, second) {
             return Ok(None);
         }
-        let kept = pins.routes.as_slice();
-        if !self.is_cut(kept, a, a_cut) {
+        let first_route = self.joined(first, second)?;
+        let second_route = self.joined(second, first)?;
+        if !tour_of(&self.tours, first.vehicle).is_feasible(problem, first_route.as_slice()) {
             return Ok(None);
         }
-        if !self.is_cut(kept, b, b_cut) {
+        if !tour_of(&self.tours, second.vehicle).is_feasible(problem, second_route.as_slice()) {
             return Ok(None);
         }
-        let alloc = *self.tours.allocator();
-        let first = joined(alloc, self.route(a), a_cut, self.route(b), b_cut)?;
-        let second = joined(alloc, self.route(b), b_cut, self.route(a), a_cut)?;
-        if !tour_of(&self.tours, a).is_feasible(problem, first.as_slice()) {
-            return Ok(None);
-        }
-        if !tour_of(&self.tours, b).is_feasible(problem, second.as_slice()) {
-            return Ok(None);
-        }
-        let mut changes = Vec::with_capacity(alloc, 2)?;
+        let mut changes = Vec::with_capacity(*self.tours.allocator(), 2)?;
         changes.push(Change {
-            vehicle: a as u32,
-            route: first,
+            vehicle: first.vehicle as u32,
+            route: first_route,
         })?;
         changes.push(Change {
-            vehicle: b as u32,
-            route: second,
+            vehicle: second.vehicle as u32,
+            route: second_route,
         })?;
         Ok(Some(changes))
     }
 
-    // Whether the route of this vehicle can be cut behind so many stops.
-    pub(super) fn is_cut(&self, pins: &[Route], vehicle: u64, cut: u64) -> bool
-        ensures { result ≡ is_cut pins.now (draft_of self.now) vehicle cut }
+    /// Whether these are cuts of two routes.
+    pub(super) fn are_crossable(&self, pins: &Pins, first: Cut, second: Cut) -> bool
+        ensures { result ≡ (not (first.vehicle == second.vehicle)
+            && (is_cut pins.now.routes (draft_of self.now) first.vehicle first.stops
+            && is_cut pins.now.routes (draft_of self.now) second.vehicle second.stops)) }
     {
-        if vehicle < 1 || (self.tours.len() as u64) < vehicle {
+        let kept = pins.routes.as_slice();
+        first.vehicle != second.vehicle && self.is_cut(kept, first) && self.is_cut(kept, second)
+    }
+
+    // Whether the route can be cut there, behind what is pinned.
+    fn is_cut(&self, pins: &[Route], cut: Cut) -> bool
+        ensures { result ≡ is_cut pins.now (draft_of self.now) cut.vehicle cut.stops }
+    {
+        if cut.vehicle < 1 || (self.tours.len() as u64) < cut.vehicle {
             return false;
         }
-        let kept = of_vehicle(pins, vehicle).len() as u64;
-        let stops = self.route(vehicle).len() as u64;
-        kept <= cut && cut <= stops
+        let kept = of_vehicle(pins, cut.vehicle).len() as u64;
+        let stops = self.route(cut.vehicle).len() as u64;
+        kept <= cut.stops && cut.stops <= stops
     }
-}
 
-// The first stops of one route, and then the other from behind its first ones on.
-fn joined(
-    alloc: Global,
-    front: &[u32],
-    front_cut: u64,
-    back: &[u32],
-    back_cut: u64,
-) -> Result<Route, OutOfMemory>
-    requires front { front_cut ≤ length front.now }
-    requires back { back_cut ≤ length back.now }
-    ensures { IfOk result (λ new. new ≡ joined front.now front_cut back.now back_cut) }
-{
-    let front = &front[..front_cut as usize];
-    let back = &back[back_cut as usize..];
-    let mut new = Route::with_capacity(alloc, front.len() + back.len())?;
-    new.extend_from_slice(front)?;
-    new.extend_from_slice(back)?;
-    Ok(new)
+    // The stops of one route before its cut, and then those of the other behind its cut.
+    fn joined(&self, front: Cut, back: Cut) -> Result<Route, OutOfMemory>
+        requires front { IsCutOf (draft_of self.now) front }
+        requires back { IsCutOf (draft_of self.now) back }
+        ensures { IfOk result
+            (λ new. new ≡ joined (of_vehicle (draft_of self.now) front.vehicle) front.stops
+            (of_vehicle (draft_of self.now) back.vehicle) back.stops) }
+    {
+        let front = &self.route(front.vehicle)[..front.stops as usize];
+        let back = &self.route(back.vehicle)[back.stops as usize..];
+        let mut new = Route::with_capacity(*self.tours.allocator(), front.len() + back.len())?;
+        new.extend_from_slice(front)?;
+        new.extend_from_slice(back)?;
+        Ok(new)
+    }
 }

@@ -5,7 +5,6 @@
 //! asked. Hardly any removal breaks one, so a route is judged as its table is made in spare memory
 //! (`Tour::remade_if_feasible`), which drives it once; the memory of a table whose route is refused goes back
 //! to the allocator.
-// Requests taken out of a draft.
 ghost use Rattle.std.specs.Prelude.{◌≡◌, ◌≤◌, ◌+◌, ◌∷◌, [], length, nat_eq, true, false, ℕ, All, IsSome, IfSome, IfOk, OnOk, OnErr, MatchOption};
 ghost use Rattle.route_sched.specs.Cost.{has_stop};
 ghost use Rattle.move_ops.specs.Changes.{changes_of, distinct_count, removals, with_routes, AreCourses, AreIn, AreToursOf, AreVehiclesOf, IsChange, IsRemoval, Notes};

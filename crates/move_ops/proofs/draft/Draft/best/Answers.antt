@@ -6,9 +6,15 @@ use Rattle.move_ops.specs.Tables.{plan_of}
 use Rattle.move_ops.proofs.Putting.{best_put}
 use Rattle.move_ops.proofs.draft.Draft.best.Goals as goal
 
-pub best_of-requires-clause-reach : goal.best_of-requires-clause-reach
-best_of-requires-clause-reach c =
-    subst (λ (t : List Course). IsReach (plan_of t) c.reach.result) (sym (search rules)) c.reach.ensures.reach
+pub best_of-requires : goal.best_of-requires
+best_of-requires c =
+    record {
+      asked = search rules;
+      within = search rules;
+      rooms = search rules;
+      reach = subst (λ (t : List Course). IsReach (plan_of t) c.reach.result) (sym (search rules)) c.reach.ensures.reach;
+      first = search rules;
+    }
 
 pub returns-in-Some-clause-put : goal.returns-in-Some-clause-put
 returns-in-Some-clause-put c =

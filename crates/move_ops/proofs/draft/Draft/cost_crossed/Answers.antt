@@ -10,4 +10,4 @@ returns c =
     let d = c.args.self.now in
     let vrp : c.args.problem.now.kind ≡ Vrp = search rules in
     IfSome_then c.cost_moved.result c.cost_moved.ensures (λ cost moved. crossed_cost p c.args.pins.now.routes d c.requires vrp _ _ cost moved c.passes_are_local.ensures c.args.a c.args.a_cut c.args.b c.args.b_cut
-    (search rules) (search rules) (search rules) (search rules) (search rules) (search rules) (search rules) (search rules))
+    (search rules) (search rules) (search rules) (search rules))
